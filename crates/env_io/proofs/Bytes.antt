@@ -1,0 +1,32 @@
+-- What follows from the words on bytes and counts.
+use Rattle.std.proofs.Common.{◌≡◌, ◌≤◌, ℕ, List, [], ◌++◌, Option, None, Some, refl, sym, ◌∙◌, ap, inl, inr, append_assoc, append-nil, arith}
+use Rattle.std.specs.Option.{option_map}
+use Rattle.env_io.specs.Bytes.{Gives, Gains, Rose}
+
+-- no piece came, and nothing changed
+pub Gives-nil : (a : Option (List ℕ)) → Gives a [] a
+Gives-nil None = refl
+Gives-nil (Some x) = refl
+
+-- two pieces that came one after the other are one piece
+pub Gives-trans : (a b c : Option (List ℕ)) (p q : List ℕ) → Gives a p b → Gives b q c → Gives a (p ++ q) c
+Gives-trans a b None p q first second = first ∙ ap (option_map (λ rest. p ++ rest)) second
+Gives-trans a b (Some z) p q first second =
+    first ∙ ap (option_map (λ rest. p ++ rest)) second ∙ ap Some (sym (append_assoc p q z))
+
+-- no piece was taken, and nothing changed
+pub Gains-nil : (a : Option (List ℕ)) → Gains a [] a
+Gains-nil None told = refl
+Gains-nil (Some x) told = ap Some (sym (append-nil x))
+
+-- two pieces that were taken one after the other are one piece
+pub Gains-trans : (a b c : Option (List ℕ)) (p q : List ℕ) → Gains a p b → Gains b q c → Gains a (p ++ q) c
+Gains-trans a None c p q first second told = let lost : c ≡ None = second told in cc
+Gains-trans None (Some y) c p q first second told = let lost : Some y ≡ None = first refl in cc
+Gains-trans (Some x) (Some y) c p q first second told =
+    second told ∙ ap (option_map (λ held. held ++ q)) (first refl) ∙ ap Some (append_assoc x p q)
+
+-- what rose in the last of some calls rose in all of them together
+pub Rose-after : (a b c : ℕ) → a ≤ b → Rose b c → Rose a c
+Rose-after a b c before (inl above) = inl (omega arith)
+Rose-after a b c before (inr last) = inr last

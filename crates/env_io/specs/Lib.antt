@@ -1,0 +1,5 @@
+pub mod Bytes
+pub mod Elapsed
+pub mod Failing
+pub mod Memory
+pub mod Told

@@ -1,0 +1,23 @@
+//! The outside of the environment: where bytes come from and go to, the clock, and a gate before each task.
+//!
+//! A source is seen as the bytes that it still has to give, a sink as the bytes that it has taken, a clock as the
+//! readings still to come, each of them where the outside tells it, and a source or a sink also as a count of failures.
+#![tactic(auto)]
+
+mod clock;
+mod failed;
+mod failing;
+mod gate;
+mod real;
+mod sink;
+mod source;
+
+pub use clock::Clock;
+pub use failed::Failed;
+pub use gate::{Gate, OpenGate};
+pub use real::{RealClock, StdSink, StdSource};
+pub use sink::{CountSink, MemSink, Sink};
+pub use source::{MemSource, Source, SureSource};
+
+#[cfg(test)]
+mod tests;
