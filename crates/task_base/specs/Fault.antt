@@ -1,0 +1,14 @@
+-- The exit status of each fault.
+use Rattle.std.specs.Prelude.{ℕ}
+use Rattle.task_base.specs.declared.fault.Fault.{Fault}
+use Rattle.task_base.specs.declared.fault.Fault.TheVariants.{NotLegal, BadWords, BadScript, ReadFault, WriteFault, NoMemory, TooLarge}
+
+-- the status that a fault ends a run with (this project's own rule)
+abbrev pub status_of : Fault → ℕ
+status_of (NotLegal line) = 1
+status_of BadWords = 2
+status_of (BadScript line reason) = 3
+status_of ReadFault = 4
+status_of WriteFault = 5
+status_of NoMemory = 6
+status_of TooLarge = 7

@@ -1,0 +1,5 @@
+pub mod Plan
+pub mod Fault
+pub mod Steps
+pub mod Rows
+pub mod Policy

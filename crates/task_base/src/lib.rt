@@ -1,0 +1,26 @@
+//! The plain data of the task environment: lists with room, scripts, log entries, cells, policies, and the
+//! faults that a run may end with.
+#![tactic(auto)]
+
+mod cell;
+mod entry;
+mod fault;
+mod policy;
+mod rows;
+mod script;
+mod step;
+
+pub use cell::Cell;
+pub use entry::{Entry, Kind};
+pub use fault::Fault;
+pub use policy::Policy;
+pub use rows::Rows;
+pub use script::{
+    Action, JobId, Place, QueueId, Runner, RunnerId, RunnerKind, Script, SeatNo, SeqId, Task,
+    TaskId,
+};
+pub use step::{Step, apply};
+pub use task_traits::{Behaviour, Phase, Priority, Traits};
+
+#[cfg(test)]
+mod tests;

@@ -1,0 +1,112 @@
+ghost use Rattle.std.specs.Prelude.{◌≡◌, ◌<◌, length, slice_set};
+
+use super::*;
+use std::alloc::{AllocError, Global};
+use std::test::Fail;
+
+/// A caller of `at_mut` knows the whole list after its write.
+fn replace(rows: &mut Rows<u64>, place: usize, item: u64)
+    requires { place < length rows.old.items }
+    ensures items { rows.new.items ≡ slice_set rows.old.items place item }
+    ensures spare { rows.new.spare ≡ rows.old.spare }
+{
+    if let Some(there) = rows.at_mut(place) {
+        *there = item;
+    }
+}
+
+#[test]
+fn rows_of_numbers(rt: HostRuntime) -> Result<(), Fail> {
+    let mut rows = Rows::new(rt.alloc());
+    assert!(rt; rows.is_empty());
+    rows.push(7)?;
+    rows.reserve(2)?;
+    rows.push_spare(8);
+    rows.push_spare(9);
+    assert_eq!(rt; rows.as_slice(), [7, 8, 9].as_slice());
+    replace(&mut rows, 1, 6);
+    let copied = rows.copy(rt.alloc())?;
+    assert_eq!(rt; rows.pop(), Some(9));
+    assert_eq!(rt; rows.into_vec().as_slice(), [7, 6].as_slice());
+    assert_eq!(rt; copied.as_slice(), [7, 6, 9].as_slice());
+    assert_eq!(rt; copied.at(1), Some(&6));
+    assert_eq!(rt; copied.at(3), None);
+    Ok(())
+}
+
+#[test]
+fn rows_of_tasks(rt: HostRuntime) -> Result<(), Fail> {
+    let mut tasks = Rows::new(rt.alloc());
+    tasks.push(task(rt.alloc(), [Step::Add(3), Step::Mul(2)])?)?;
+    let last = tasks.pop().ok_or("a task was pushed")?;
+    assert_eq!(rt;
+        last.steps.as_slice(),
+        [Step::Add(3), Step::Mul(2)].as_slice()
+    );
+    assert!(rt; tasks.pop().is_none());
+    Ok(())
+}
+
+fn task(alloc: Global, steps: [Step; 2]) -> Result<Task, AllocError> {
+    let steps = Rows::from_vec(Vec::from_slice(alloc, &steps)?);
+    Ok(Task { steps })
+}
+
+fn script(alloc: Global) -> Result<Script, AllocError> {
+    let tasks = vec![in alloc; task(alloc, [Step::Add(1), Step::Set(6)])?]?;
+    let actions = vec![in alloc; Action::Flush]?;
+    Ok(Script {
+        workers: 1,
+        foreground: 3,
+        foreground_best: 4,
+        background: 5,
+        runners: Rows::new(alloc),
+        tasks: Rows::from_vec(tasks),
+        actions: Rows::from_vec(actions),
+    })
+}
+
+#[test]
+fn script_copies_are_equal(rt: HostRuntime) -> Result<(), Fail> {
+    let copied = script(rt.alloc())?.copy(rt.alloc())?;
+    assert_eq!(rt; copied.workers, 1);
+    assert_eq!(rt; copied.actions.as_slice(), [Action::Flush].as_slice());
+    assert_eq!(rt; copied.tasks.len(), 1);
+    for task in copied.tasks.as_slice() {
+        assert_eq!(rt;
+            task.steps.as_slice(),
+            [Step::Add(1), Step::Set(6)].as_slice()
+        );
+    }
+    Ok(())
+}
+
+#[test]
+fn steps_wrap(rt: HostRuntime) {
+    for (step, value, want) in [
+        (Step::Add(2), u64::MAX, 1),
+        (Step::Mul(2), 1 << 63, 0),
+        (Step::Mul(6), 7, 42),
+        (Step::Set(7), 3, 7),
+    ] {
+        assert_eq!(rt; apply(&step, value), want, "{step:?} at {value}");
+    }
+}
+
+#[test]
+fn faults(rt: HostRuntime) -> Result<(), Fail> {
+    for (fault, status, text) in [
+        (Fault::NotLegal { line: 3 }, 1, "not legal: line 3"),
+        (Fault::BadWords, 2, "bad words"),
+        (Fault::BadScript { line: 4, reason: 9 }, 3, "bad script"),
+        (Fault::ReadFault, 4, "read fault"),
+        (Fault::WriteFault, 5, "write fault"),
+        (Fault::NoMemory, 6, "no memory"),
+        (Fault::TooLarge, 7, "too large"),
+    ] {
+        assert_eq!(rt; fault.status(), status);
+        let shown = format!(in rt.alloc(); "{fault}")?;
+        assert_eq!(rt; shown.as_str(), text);
+    }
+    Ok(())
+}
