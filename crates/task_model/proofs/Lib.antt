@@ -1,0 +1,11 @@
+pub mod Lists
+pub mod ScriptLaws
+pub mod Growth
+pub mod Quiet
+pub mod Best
+pub mod WorkedRuns
+pub mod WorkedScripts
+pub mod Pieces
+pub mod LogLines
+pub mod LogTexts
+pub mod ShutdownLaws
