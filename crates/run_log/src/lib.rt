@@ -1,0 +1,13 @@
+//! The text of a log, written to a sink.
+//!
+//! What was written is a prefix of the log's text, and the whole of it where nothing failed.
+#![tactic(auto)]
+
+mod lines;
+mod writer;
+
+pub use lines::{Line, line};
+pub use writer::{put_all, write_log};
+
+#[cfg(test)]
+mod tests;
