@@ -1,0 +1,27 @@
+use Rattle.std.proofs.Common.{◌≡◌, ◌∙◌, [], refl, sym, vec_len, arith}
+use Rattle.std.proofs.lemmas.Bool.{eqb-true}
+use Rattle.std.proofs.lemmas.List.{nil_from_length}
+use Rattle.env_app.proofs.Events.{idled}
+use Rattle.env_app.proofs.Room.{some_to_do, wanted-same, not_finished, room_after_entry}
+use Rattle.env_app.proofs.engine.Engine.flush.Goals as goal
+
+pub serve-requires-clause-unfinished : goal.serve-requires-clause-unfinished
+serve-requires-clause-unfinished g c κs h =
+    not_finished c.args.script.now c.loop-self.self.log.items _ (wanted-same c.args.script.now c.args.self.now.log.items c.loop-self.self.log.items c.loop-self.invariant.1 ∙ c.requires.next)
+
+pub push_spare-requires : goal.push_spare-requires
+push_spare-requires g c =
+    let ahead = some_to_do c.args.script.now c.args.self.now.log.items _ c.requires.next in
+    omega (arith, ahead, c.loop-self.invariant.1, c.loop-self.invariant.0.room.entries)
+
+pub returns-clause-ready : goal.returns-clause-ready
+returns-clause-ready g c =
+    let self = c.loop-self.self in
+    let ready = c.loop-self.invariant.0 in
+    let next = wanted-same c.args.script.now c.args.self.now.log.items self.log.items c.loop-self.invariant.1 ∙ c.requires.next in
+    let none : vec_len self.queue ≡ 0 = eqb-true _ _ (sym c.loop-self-test.ensures) in
+    let empty : self.queue.items ≡ [] = nil_from_length self.queue.items (omega (arith, none, self.queue.ok.0)) in
+    record {
+      stands = rw (c.push_spare.ensures.items) (idled c.args.script.now self.log.items self.queue.items self.cells.items self.tracker empty ready.stands next);
+      room = room_after_entry c.args.script.now self _ _ ready.room (some_to_do c.args.script.now self.log.items _ next) c.push_spare.ensures.items c.push_spare.ensures.spare (omega arith) (omega arith) refl;
+    }

@@ -1,0 +1,33 @@
+use Rattle.std.proofs.Common.{◌∙◌, ◌≤◌, not, length, ap, arith}
+use Rattle.std.specs.Prelude.{filter}
+use Rattle.task_traits.specs.Behaviour.{forbids}
+use Rattle.task_traits.specs.declared.phase.Phase.{Phase}
+use Rattle.task_traits.specs.declared.phase.Phase.TheVariants.{Started}
+use Rattle.task_tracker.specs.Tracked.{Tracked}
+use Rattle.task_model.specs.Refusal.{effective_at}
+use Rattle.env_app.specs.declared.engine.Waiting.{Waiting}
+use Rattle.env_app.proofs.Shutdown.{still_running, started, filter_shorter}
+use Rattle.env_app.proofs.Room.{some_to_do, room_after_entry}
+use Rattle.env_app.proofs.engine.Engine.start_shutdown.Goals as goal
+
+pub start_shutdown-requires : goal.start_shutdown-requires
+start_shutdown-requires c =
+    let old = c.args.self.now in
+    still_running c.args.script.now old.log.items old.queue.items old.cells.items old.tracker c.requires.formed c.requires.ready.stands c.requires.next
+
+pub push_spare-requires : goal.push_spare-requires
+push_spare-requires c =
+    let ahead = some_to_do c.args.script.now c.args.self.now.log.items _ c.requires.next in
+    omega (arith, ahead, c.requires.ready.room.entries)
+
+pub returns-clause-ready : goal.returns-clause-ready
+returns-clause-ready c =
+    let script = c.args.script.now in
+    let old = c.args.self.now in
+    let ready = c.requires.ready in
+    let kept = c.drop_forbidden.ensures.kept ∙ ap (λ (p : Phase). filter (λ (w : Waiting). not (forbids p (effective_at script w.runner 0))) old.queue.items) (ap (λ (t : Tracked). t.phase) c.start_shutdown.ensures) in
+    let shorter : length c.drop_forbidden.new.queue.items ≤ length old.queue.items = omega (arith, ap length kept, filter_shorter (λ (w : Waiting). not (forbids Started (effective_at script w.runner 0))) old.queue.items) in
+    record {
+      stands = rw (c.push_spare.ensures.items) (started script old.log.items old.queue.items c.drop_forbidden.new.queue.items old.cells.items old.tracker c.start_shutdown.new.self c.requires.formed ready.stands c.requires.next kept c.start_shutdown.ensures);
+      room = room_after_entry script old _ _ ready.room (some_to_do script old.log.items _ c.requires.next) c.push_spare.ensures.items c.push_spare.ensures.spare shorter (omega (arith, shorter, c.drop_forbidden.new.queue.ok.0, old.queue.ok.0)) c.drop_forbidden.ensures.capacity;
+    }

@@ -1,0 +1,139 @@
+ghost use Rattle.std.specs.Prelude.{◌≡◌, ◌≢◌, ◌⊎◌, ◌↔◌, ◌<◌, ◌≤◌, ℕ, List, [], true, false, length, take, Some, None, Err, IfOk, IfErr, IfSome, OnOk, OnErr};
+ghost use Rattle.env_io.specs.Bytes.{Gains, Rose};
+ghost use Rattle.task_base.specs.Fault.{status_of};
+ghost use Rattle.task_model.specs.Grammar.{Reads, script_read};
+ghost use Rattle.env_app.specs.Outcome.{ends, accepts_run, HasRun, WroteAll, WroteFront, TookMore, TookWithin, LoadsScript, RunsTo, HasCause, note_of};
+
+use crate::engine::run_script;
+use crate::input::{InputFault, MOST_BYTES, read_input};
+use env_io::{Clock, Gate, Sink, Source};
+use run_log::{put_all, write_log};
+use std::alloc::Global;
+use std::sync::Wait;
+use std::thread::Threads;
+use task_base::{Fault, Script};
+use task_script::{ScriptFault, read_script};
+
+/// Whether the words ask for a run.
+fn asks_for_run(words: &[String]) -> bool
+    ensures { result ≡ accepts_run words.now }
+{
+    match words {
+        [_program, mode] => mode.as_str() == "run",
+        _ => false,
+    }
+}
+
+/// Reads a script from a source, to its end.
+fn load<S: Source>(alloc: Global, source: &mut S) -> Result<Script, Fault>
+    ensures outcome { LoadsScript (ends (S.left source.old) (S.left source.new) (S.faults source.old) (S.faults source.new)) result }
+    ensures took_more { result ≡ Err Fault.TooLarge → TookMore (ends (S.left source.old) (S.left source.new) (S.faults source.old) (S.faults source.new)) }
+    ensures took_within { result ≢ Err Fault.TooLarge → TookWithin (ends (S.left source.old) (S.left source.new) (S.faults source.old) (S.faults source.new)) }
+{
+    let bytes = match read_input(alloc, source) {
+        Ok(bytes) => bytes,
+        Err(InputFault::Read) => return Err(Fault::ReadFault),
+        Err(InputFault::Memory) => return Err(Fault::NoMemory),
+        Err(InputFault::TooLarge) => return Err(Fault::TooLarge),
+    };
+    match read_script(alloc, &bytes) {
+        Ok(script) => Ok(script),
+        Err(ScriptFault::Bad) => Err(Fault::BadScript { line: 0, reason: 0 }),
+        Err(ScriptFault::Memory) => Err(Fault::NoMemory),
+    }
+}
+
+/// Runs the script that the source gives, and writes the log of the run.
+fn run<S: Source, K: Sink, G: Gate>(
+    alloc: Global,
+    words: &[String],
+    source: &mut S,
+    sink: &mut K,
+    gate: &G,
+) -> Result<(), Fault>
+    ensures outcome { RunsTo (accepts_run words.now)
+        (ends (S.left source.old) (S.left source.new) (S.faults source.old) (S.faults source.new))
+        (ends (K.holds sink.old) (K.holds sink.new) (K.faults sink.old) (K.faults sink.new)) result }
+    ensures sink_kept { IfErr result (λ fault. fault ≢ Fault.WriteFault → sink.new ≡ sink.old) }
+    ensures took_more { result ≡ Err Fault.TooLarge → TookMore (ends (S.left source.old) (S.left source.new) (S.faults source.old) (S.faults source.new)) }
+    ensures took_within { result ≢ Err Fault.TooLarge → TookWithin (ends (S.left source.old) (S.left source.new) (S.faults source.old) (S.faults source.new)) }
+    ensures source_kept { result ≡ Err Fault.BadWords → source.new ≡ source.old }
+{
+    if !asks_for_run(words) {
+        return Err(Fault::BadWords);
+    }
+    let script = load(alloc, source)?;
+    let Ok(log) = run_script(alloc, &script, gate) else {
+        return Err(Fault::NoMemory);
+    };
+    match write_log(sink, &log) {
+        Ok(()) => Ok(()),
+        Err(_) => Err(Fault::WriteFault),
+    }
+}
+
+/// The note that goes with a fault, with its line feed.
+fn note(fault: &Fault) -> &'static [u8]
+    ensures { result.now ≡ note_of (status_of fault.now) }
+{
+    match fault {
+        Fault::NotLegal { .. } => b"",
+        Fault::BadWords => b"bad words\n",
+        Fault::BadScript { .. } => b"bad script\n",
+        Fault::ReadFault => b"read fault\n",
+        Fault::WriteFault => b"write fault\n",
+        Fault::NoMemory => b"no memory\n",
+        Fault::TooLarge => b"too large\n",
+    }
+}
+
+/// Puts the note of a fault, as far as the notes take it.
+fn tell<N: Sink>(notes: &mut N, fault: &Fault)
+    ensures written { Rose (N.faults notes.old) (N.faults notes.new) ⊎ Gains (N.holds notes.old) (note_of (status_of fault.now)) (N.holds notes.new) }
+    ensures front { WroteFront (N.holds notes.old) (N.holds notes.new) (note_of (status_of fault.now)) }
+{
+    let _ = put_all(notes, note(fault));
+}
+
+/// Does what the words ask for, and answers the exit status (this project's own rule).
+///
+/// The one command is `run`, behind the program's name: it reads a script from the source, to its end, runs it, and
+/// writes the text of the run's log to the sink. A status above 0 is that of a `Fault`, whose note goes to the notes.
+/// Want of memory comes before the first byte is written. The gate is called between each take of a task and the
+/// task's first step. This run has one thread: it starts none by the handle, and does not read the clock.
+pub fn run_words<R: Threads + Wait + Sync, S: Source, K: Sink, N: Sink, C: Clock, G: Gate>(
+    _rt: &R,
+    alloc: Global,
+    words: &[String],
+    source: &mut S,
+    sink: &mut K,
+    notes: &mut N,
+    _clock: &mut C,
+    gate: &G,
+) -> u8
+    // The run theorem: the bytes that came are a script, and what was added to the sink is the text of one
+    // history that is legal and whole for it.
+    ensures run_theorem { result ≡ 0 → (bytes : List ℕ) → S.left source.old ≡ Some bytes →
+        HasRun bytes (WroteAll (K.holds sink.old) (K.holds sink.new)) }
+
+    // Each status has its cause.
+    ensures cause { HasCause (accepts_run words.now)
+        (ends (S.left source.old) (S.left source.new) (S.faults source.old) (S.faults source.new))
+        (ends (K.holds sink.old) (K.holds sink.new) (K.faults sink.old) (K.faults sink.new)) result }
+
+    // Under any other status nothing is put to the sink, and bad words take nothing from the source.
+    ensures nothing_written { result ≢ 0 → result ≢ 5 → sink.new ≡ sink.old }
+    ensures nothing_taken { result ≡ 2 → source.new ≡ source.old }
+
+    // The notes get the status's note, where they do not fail, and else a front of it.
+    ensures note { Rose (N.faults notes.old) (N.faults notes.new) ⊎ Gains (N.holds notes.old) (note_of result) (N.holds notes.new) }
+    ensures note_front { WroteFront (N.holds notes.old) (N.holds notes.new) (note_of result) }
+{
+    match run(alloc, words, source, sink, gate) {
+        Ok(()) => 0,
+        Err(fault) => {
+            tell(notes, &fault);
+            fault.status()
+        }
+    }
+}

@@ -1,0 +1,14 @@
+//! The program behind the command line: from words and bytes to the log of a run.
+//!
+//! A run is seen by its words, its status, and what the outside tells before and after it: the bytes that the source
+//! has left, the bytes that the sink and the notes hold, and the count of failures of each.
+#![tactic(auto)]
+
+mod command;
+mod engine;
+mod input;
+
+pub use command::run_words;
+
+#[cfg(test)]
+mod tests;
