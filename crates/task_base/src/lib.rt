@@ -8,18 +8,20 @@ mod fault;
 mod policy;
 mod rows;
 mod script;
+mod source;
 mod step;
 
 pub use cell::Cell;
-pub use entry::{Entry, Kind};
+pub use entry::{Entry, JobReply, Kind};
 pub use fault::Fault;
 pub use policy::Policy;
 pub use rows::Rows;
 pub use script::{
-    Action, JobId, Place, QueueId, Runner, RunnerId, RunnerKind, Script, SeatNo, SeqId, Task,
-    TaskId,
+    Action, FenceAt, Job, JobId, Lane, MainQueue, Place, QueueId, Runner, RunnerId, RunnerKind,
+    Script, SeatNo, SeqId, Task, TaskId,
 };
-pub use step::{Step, apply};
+pub use source::{Key, NotYet, TaskSource};
+pub use step::{Scope, Step, apply};
 pub use task_traits::{Behaviour, Phase, Priority, Traits};
 
 #[cfg(test)]

@@ -1,10 +1,11 @@
 ghost use Rattle.std.specs.Prelude.{◌≡◌, IfOk};
 
+use crate::policy::Policy;
 use crate::rows::Rows;
 use crate::step::Step;
 use std::alloc::{AllocError, Global};
 use std::marker::Model;
-use task_traits::Traits;
+use task_traits::{Behaviour, Priority, Traits};
 
 /// The number of a task, from 0, in the order of declaration.
 pub type TaskId = u32;
@@ -29,6 +30,8 @@ pub enum RunnerKind {
     Parallel,
     /// All tasks are one sequence: they run singly, in order.
     Sequenced,
+    /// All tasks are one sequence, which only this worker seat takes.
+    Single(SeatNo),
 }
 
 /// A declared runner, to which tasks are posted (Chromium's `task_runner.h`).
@@ -38,6 +41,15 @@ pub struct Runner {
     pub kind: RunnerKind,
     /// What it asks for each of its tasks.
     pub traits: Traits,
+}
+
+/// A declared main queue (Chromium's `task_queue.h`).
+#[derive(Clone, Copy, Debug, PartialEq, Eq)]
+pub struct MainQueue {
+    /// Its priority class at opening, from 0, which goes first, to 7.
+    pub class: u8,
+    /// How many voters can switch it off, at most 16; all vote on at opening.
+    pub voters: u8,
 }
 
 /// A declared task: its steps, done in order. Contracts see it as that list.
@@ -66,6 +78,70 @@ impl Task {
     }
 }
 
+/// A declared job: items that several workers take one by one (Chromium's `post_job.h`). Contracts see it as the
+/// record of its numbers and its list of steps.
+#[derive(Debug, Drop)]
+pub struct Job {
+    /// How much it matters.
+    pub priority: Priority,
+    /// What shutdown does with it.
+    pub behaviour: Behaviour,
+    /// How many items it has, numbered from 0.
+    pub items: u32,
+    /// How many workers may be inside at once.
+    pub cap: u32,
+    /// What is applied to an item's number to give its value.
+    pub steps: Rows<Step>,
+}
+
+impl Model for Job {
+    ghost use Rattle.task_base.specs.Plan.{JobPlan};
+
+    ghost Value = { JobPlan };
+
+    ghost view = { λ job. record {
+      priority = job.priority;
+      behaviour = job.behaviour;
+      items = job.items;
+      cap = job.cap;
+      steps = job.steps.items;
+    } };
+}
+
+impl Job {
+    /// An equal job with room of its own. The error is want of memory.
+    pub fn copy(&self, alloc: Global) -> Result<Job, AllocError>
+        ensures { IfOk result (λ copied. copied ≡ self.now) }
+    {
+        let steps = self.steps.copy(alloc)?;
+        Ok(Job {
+            priority: self.priority,
+            behaviour: self.behaviour,
+            items: self.items,
+            cap: self.cap,
+            steps,
+        })
+    }
+}
+
+/// Where a new fence of a main queue stands (Chromium's `task_queue.h`).
+#[derive(Clone, Copy, Debug, PartialEq, Eq)]
+pub enum FenceAt {
+    /// Behind the tasks that are in the queue by now.
+    Now,
+    /// Before all tasks.
+    Start,
+}
+
+/// One of the two lists of a main queue.
+#[derive(Clone, Copy, Debug, PartialEq, Eq)]
+pub enum Lane {
+    /// The tasks that were posted without a delay.
+    Immediate,
+    /// The delayed tasks that are ripe.
+    Delayed,
+}
+
 /// One action of the driver, seat 0.
 #[derive(Clone, Copy, Debug, PartialEq, Eq)]
 pub enum Action {
@@ -75,8 +151,62 @@ pub enum Action {
         runner: RunnerId,
         delay: u64,
     },
+    /// Posts a task to a main queue, with a delay in microseconds.
+    Main {
+        task: TaskId,
+        queue: QueueId,
+        delay: u64,
+    },
+    /// Reads the clock this many times.
+    Tick {
+        count: u32,
+    },
+    /// Puts another policy in force.
+    Policy {
+        policy: Policy,
+    },
+    /// Sets a fence on a main queue.
+    Fence {
+        queue: QueueId,
+        at: FenceAt,
+    },
+    /// Removes the fence of a main queue.
+    Unfence {
+        queue: QueueId,
+    },
+    /// Votes on a main queue.
+    Vote {
+        queue: QueueId,
+        voter: u8,
+        on: bool,
+    },
+    /// Gives a main queue another priority class.
+    Rank {
+        queue: QueueId,
+        class: u8,
+    },
+    /// Closes a main queue.
+    Close {
+        queue: QueueId,
+    },
+    /// Runs up to this many main tasks, and stops where there is none to run.
+    Pump {
+        count: u32,
+    },
     /// Waits until nothing of the pool runs and nothing can be taken.
     Flush,
+    /// Posts a job.
+    StartJob {
+        job: JobId,
+    },
+    /// Works on a job, and waits until nobody is inside and it has a reply.
+    Join {
+        job: JobId,
+    },
+    /// Stops a job, and waits until nobody is inside.
+    Cancel {
+        job: JobId,
+    },
     /// Starts shutdown, and waits until it is done.
     Shutdown,
 }
@@ -93,10 +223,16 @@ pub struct Script {
     pub foreground_best: u32,
     /// How many tasks the background group runs at once; 0 where there is no such group.
     pub background: u32,
+    /// After how many microseconds a scope that may block counts as one that does.
+    pub threshold: u64,
     /// The runners: a `RunnerId` is a place in this list.
     pub runners: Rows<Runner>,
+    /// The main queues: a `QueueId` is a place in this list.
+    pub queues: Rows<MainQueue>,
     /// The tasks: a `TaskId` is a place in this list.
     pub tasks: Rows<Task>,
+    /// The jobs: a `JobId` is a place in this list.
+    pub jobs: Rows<Job>,
     /// What the driver does, first to last.
     pub actions: Rows<Action>,
 }
@@ -111,8 +247,11 @@ impl Model for Script {
       foreground = s.foreground;
       foreground_best = s.foreground_best;
       background = s.background;
+      threshold = s.threshold;
       runners = s.runners.items;
+      queues = s.queues.items;
       tasks = s.tasks.items;
+      jobs = s.jobs.items;
       actions = s.actions.items;
     } };
 }
@@ -123,15 +262,20 @@ impl Script {
         ensures { IfOk result (λ copied. copied ≡ self.now) }
     {
         let runners = self.runners.copy(alloc)?;
+        let queues = self.queues.copy(alloc)?;
         let tasks = copy_tasks(alloc, self.tasks.as_slice())?;
+        let jobs = copy_jobs(alloc, self.jobs.as_slice())?;
         let actions = self.actions.copy(alloc)?;
         Ok(Script {
             workers: self.workers,
             foreground: self.foreground,
             foreground_best: self.foreground_best,
             background: self.background,
+            threshold: self.threshold,
             runners,
+            queues,
             tasks,
+            jobs,
             actions,
         })
     }
@@ -145,6 +289,18 @@ fn copy_tasks(alloc: Global, tasks: &[Task]) -> Result<Rows<Task>, AllocError>
     copied.reserve(tasks.len())?;
     for task in tasks {
         copied.push_spare(task.copy(alloc)?);
+    }
+    Ok(copied)
+}
+
+/// A list of equal jobs, each with room of its own.
+fn copy_jobs(alloc: Global, jobs: &[Job]) -> Result<Rows<Job>, AllocError>
+    ensures { IfOk result (λ copied. copied.items ≡ jobs.now) }
+{
+    let mut copied = Rows::new(alloc);
+    copied.reserve(jobs.len())?;
+    for job in jobs {
+        copied.push_spare(job.copy(alloc)?);
     }
     Ok(copied)
 }

@@ -52,16 +52,36 @@ fn task(alloc: Global, steps: [Step; 2]) -> Result<Task, AllocError> {
     Ok(Task { steps })
 }
 
+fn job(alloc: Global) -> Result<Job, AllocError> {
+    Ok(Job {
+        priority: Priority::UserVisible,
+        behaviour: Behaviour::SkipOnShutdown,
+        items: 9,
+        cap: 10,
+        steps: task(alloc, [Step::Unblock, Step::Block(Scope::May)])?.steps,
+    })
+}
+
 fn script(alloc: Global) -> Result<Script, AllocError> {
+    let queues = vec![in alloc;
+        MainQueue {
+            class: 7,
+            voters: 8
+        },
+    ]?;
     let tasks = vec![in alloc; task(alloc, [Step::Add(1), Step::Set(6)])?]?;
+    let jobs = vec![in alloc; job(alloc)?]?;
     let actions = vec![in alloc; Action::Flush]?;
     Ok(Script {
         workers: 1,
         foreground: 3,
         foreground_best: 4,
         background: 5,
+        threshold: 6,
         runners: Rows::new(alloc),
+        queues: Rows::from_vec(queues),
         tasks: Rows::from_vec(tasks),
+        jobs: Rows::from_vec(jobs),
         actions: Rows::from_vec(actions),
     })
 }
@@ -78,7 +98,29 @@ fn script_copies_are_equal(rt: HostRuntime) -> Result<(), Fail> {
             [Step::Add(1), Step::Set(6)].as_slice()
         );
     }
+    assert_eq!(rt; copied.threshold, 6);
+    assert_eq!(rt;
+        copied.queues.as_slice(),
+        [MainQueue {
+            class: 7,
+            voters: 8
+        }]
+        .as_slice()
+    );
+    assert_eq!(rt; copied.jobs.len(), 1);
+    for job in copied.jobs.as_slice() {
+        assert_eq!(rt; (job.items, job.cap), (9, 10));
+        assert_eq!(rt; job.steps.len(), 2);
+    }
     Ok(())
+}
+
+#[test]
+fn keys_go_by_their_fields_in_order(rt: HostRuntime) {
+    let key = |place, ripe, post| Key { place, ripe, post };
+    assert!(rt; key(1, 9, 9) < key(2, 0, 0));
+    assert!(rt; key(2, 3, 9) < key(2, 4, 0));
+    assert!(rt; key(2, 3, 4) < key(2, 3, 5));
 }
 
 #[test]
@@ -88,6 +130,7 @@ fn steps_wrap(rt: HostRuntime) {
         (Step::Mul(2), 1 << 63, 0),
         (Step::Mul(6), 7, 42),
         (Step::Set(7), 3, 7),
+        (Step::Block(Scope::Will), 3, 3),
     ] {
         assert_eq!(rt; apply(&step, value), want, "{step:?} at {value}");
     }
