@@ -4,7 +4,7 @@ ghost use Rattle.task_base.specs.Fault.{status_of};
 use thiserror::Error;
 
 /// Why a run did not end with status 0.
-#[derive(Clone, Copy, Debug, PartialEq, Eq, Error)]
+#[derive(Debug, PartialEq, Eq, Error, Drop)]
 pub enum Fault {
     /// The log is not that of a legal, whole run; `line` counts from 1.
     #[error("not legal: line {line}")]
