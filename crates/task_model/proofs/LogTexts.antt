@@ -1,27 +1,28 @@
 -- The text of a log: it tells the history, and it grows by a line for each entry.
 use Rattle.std.proofs.Common.{◌≡◌, ◌<◌, ◌≤◌, ◌+◌, ℕ, suc, List, [], ◌∷◌, ◌++◌, All, length, get_or, take, drop, refl, sym, ap, ◌∙◌, arith, add-zero, add-one, append_assoc, append-nil, length-take-le, take-suc, take_all}
-use Rattle.std.specs.List.{join_with_byte}
 use Rattle.std.proofs.lemmas.List.{take-append-drop}
 use Rattle.std.proofs.lemmas.List.Elements.{All-head, All-tail}
 use Rattle.task_base.specs.declared.entry.Entry.{Entry}
 use Rattle.task_model.specs.Fits.{Fits}
 use Rattle.task_model.specs.LogText.{line_of, text_from, log_text}
 use Rattle.task_model.proofs.Pieces.{same_until, not_parted}
-use Rattle.task_model.proofs.LogLines.{line_words, line_lacks_feed, same_entry}
+use Rattle.task_model.proofs.LogLines.{line_words, line_lacks_feed, same_line}
 
 -- a text begins with the words of its first line and a line feed
-text_of_first : (place : ℕ) (e : Entry) (rest : List Entry) → text_from place (e ∷ rest) ≡ join_with_byte 32 (line_words place e) ++ 10 ∷ text_from (place + 1) rest
-text_of_first place e rest = append_assoc (join_with_byte 32 (line_words place e)) (10 ∷ []) (text_from (place + 1) rest)
+text_of_first : (place : ℕ) (e : Entry) (rest : List Entry) → text_from place (e ∷ rest) ≡ line_words place e ++ 10 ∷ text_from (place + 1) rest
+text_of_first place e rest = append_assoc (line_words place e) (10 ∷ []) (text_from (place + 1) rest)
 
 -- the text from a place on tells the entries from there on
 same_from : (place : ℕ) (a b : List Entry) → All Fits a → All Fits b → text_from place a ≡ text_from place b → a ≡ b
 same_from place [] [] p q e = refl
-same_from place [] (y ∷ b) p q e = absurd (not_parted 10 [] (join_with_byte 32 (line_words place y)) (text_from (place + 1) b) tt (e ∙ text_of_first place y b))
-same_from place (x ∷ a) [] p q e = absurd (not_parted 10 [] (join_with_byte 32 (line_words place x)) (text_from (place + 1) a) tt (sym e ∙ text_of_first place x a))
+same_from place [] (y ∷ b) p q e = absurd (not_parted 10 [] (line_words place y) (text_from (place + 1) b) tt (e ∙ text_of_first place y b))
+same_from place (x ∷ a) [] p q e = absurd (not_parted 10 [] (line_words place x) (text_from (place + 1) a) tt (sym e ∙ text_of_first place x a))
 same_from place (x ∷ a) (y ∷ b) p q e =
-    let cut = same_until 10 (join_with_byte 32 (line_words place x)) (join_with_byte 32 (line_words place y)) (text_from (place + 1) a) (text_from (place + 1) b)
-    (line_lacks_feed place x) (line_lacks_feed place y) (sym (text_of_first place x a) ∙ e ∙ text_of_first place y b) in
-    let first : x ≡ y = same_entry place x y (All-head Fits x a p) (All-head Fits y b q) cut.0 in
+    let fits : Fits x = All-head Fits x a p in
+    let fits' : Fits y = All-head Fits y b q in
+    let cut = same_until 10 (line_words place x) (line_words place y) (text_from (place + 1) a) (text_from (place + 1) b)
+    (line_lacks_feed place x fits) (line_lacks_feed place y fits') (sym (text_of_first place x a) ∙ e ∙ text_of_first place y b) in
+    let first : x ≡ y = same_line place x y fits fits' cut.0 in
     let rest : a ≡ b = same_from (place + 1) a b (All-tail Fits x a p) (All-tail Fits y b q) cut.1 in
     cc
 

@@ -1,42 +1,153 @@
--- How many tasks may run at once.
-use Rattle.std.specs.Prelude.{ℕ, ◌==◌, Bool, false, not, ◌&&◌, ◌||◌, nat_lt, if◌then◌else◌, List, slice_get, filter, length}
+-- How much work may run at once.
+use Rattle.std.specs.Prelude.{ℕ, ◌+◌, ◌==◌, Bool, true, false, not, ◌&&◌, ◌||◌, nat_lt, nat_le, if◌then◌else◌, List, slice_get, Option, Some, None, IsTrue}
 use Rattle.std.specs.Option.{option_map_or}
 use Rattle.task_base.specs.Plan.{Plan}
 use Rattle.task_base.specs.declared.entry.Entry.{Entry}
+use Rattle.task_base.specs.declared.entry.Kind.{Kind}
+use Rattle.task_base.specs.declared.entry.Kind.TheVariants.{Enter, Leave}
+use Rattle.task_base.specs.declared.step.Scope.{Scope}
+use Rattle.task_base.specs.declared.step.Scope.TheVariants.{May, Will}
 use Rattle.task_traits.specs.declared.traits.Priority.{Priority}
 use Rattle.task_traits.specs.declared.traits.Priority.TheVariants.{BestEffort, UserVisible, UserBlocking}
-use Rattle.task_model.specs.Seats.{running, worker_seats}
+use Rattle.task_model.specs.Lists.{count, holds_of}
+use Rattle.task_model.specs.Past.{fold_past}
+use Rattle.task_model.specs.Time.{now_of}
+use Rattle.task_model.specs.Seats.{Running, Holding, running, holding, worker_seats}
 
--- the importance of a priority, as a number
-abbrev pub rank_of : Priority → ℕ
-rank_of BestEffort = 0
-rank_of UserVisible = 1
-rank_of UserBlocking = 2
+-- the importance of a priority, as a number (`task_traits.h`)
+abbrev pub importance : Priority → ℕ
+importance BestEffort = 0
+importance UserVisible = 1
+importance UserBlocking = 2
 
--- the importance of a runner's tasks
-abbrev pub importance_of : Plan → ℕ → ℕ
-importance_of script runner = option_map_or (λ r. rank_of r.traits.priority) (slice_get script.runners runner) 0
+-- work of this priority is best-effort work
+abbrev pub is_best_effort : Priority → Bool
+is_best_effort priority = importance priority == 0
 
--- the tasks of a runner are best-effort work
-abbrev pub is_best_effort : Plan → ℕ → Bool
-is_best_effort script runner = importance_of script runner == 0
+-- the priority of a runner's tasks
+abbrev pub priority_of : Plan → ℕ → Priority
+priority_of script runner = option_map_or (λ r. r.traits.priority) (slice_get script.runners runner) BestEffort
 
--- the tasks of a runner belong to the background group, rather than to the foreground group (this
--- project's own form of the thread groups of `thread_pool.h`)
-abbrev pub in_background : Plan → ℕ → Bool
-in_background script runner = is_best_effort script runner && nat_lt 0 script.background
+-- the priority of a job
+abbrev pub priority_of_job : Plan → ℕ → Priority
+priority_of_job script j = option_map_or (λ job. job.priority) (slice_get script.jobs j) BestEffort
 
--- how many workers run a task whose runner passes a test
-abbrev pub count_running : Plan → List Entry → (ℕ → Bool) → ℕ
-count_running script past test = length (filter (λ seat. option_map_or (λ w. test w.runner) (running past seat) false) (worker_seats script))
+-- the two thread groups of the pool (the notion of `thread_pool.h`; the rules on them are this project's own)
+pub data Group : Type 0 where
+  Foreground : Group
+  Background : Group
 
-abbrev pub same_group : Plan → ℕ → ℕ → Bool
-same_group script r q = if in_background script r then in_background script q else not (in_background script q)
+-- best-effort work belongs to the background group where the script has one; all other work to the foreground group
+abbrev pub group_of : Plan → Priority → Group
+group_of script priority = if is_best_effort priority && nat_lt 0 script.background then Background else Foreground
 
--- the group of the runner runs fewer tasks than it may, and for best-effort work also fewer best-effort
--- tasks than it may (this project's own rule)
-unfoldable pub has_room : Plan → List Entry → ℕ → Bool
-has_room script past runner =
-    nat_lt (count_running script past (same_group script runner)) (if in_background script runner then script.background else script.foreground)
-    && (not (is_best_effort script runner)
-    || nat_lt (count_running script past (λ q. same_group script runner q && is_best_effort script q)) (if in_background script runner then script.background else script.foreground_best))
+-- the two groups are the same
+abbrev pub same_group : Group → Group → Bool
+same_group Foreground Foreground = true
+same_group Background Background = true
+same_group Foreground Background = false
+same_group Background Foreground = false
+
+-- how much work the group may run
+abbrev pub limit : Plan → Group → ℕ
+limit script Foreground = script.foreground
+limit script Background = script.background
+
+-- how much best-effort work the group may run
+abbrev pub best_limit : Plan → Group → ℕ
+best_limit script Foreground = script.foreground_best
+best_limit script Background = script.background
+
+-- the priority of a pool task that runs; a main task is no work of the pool
+abbrev pub priority_of_running : Plan → Running → Option Priority
+priority_of_running script w = if w.is_main then None else Some (priority_of script w.home)
+
+-- the priority of the item that a seat holds, if it holds one
+abbrev pub priority_of_holding : Plan → Option Holding → Option Priority
+priority_of_holding script None = None
+priority_of_holding script (Some h) = Some (priority_of_job script h.job)
+
+-- the priority of the pool's work that the seat does: a task, or an item of a job
+abbrev pub work_at : Plan → List Entry → ℕ → Option Priority
+work_at script past seat = option_map_or (priority_of_running script) (running past seat) (priority_of_holding script (holding past seat))
+
+-- work of the group
+abbrev pub is_in : Plan → Group → Priority → Bool
+is_in script group priority = same_group (group_of script priority) group
+
+-- best-effort work of the group
+abbrev pub is_best_in : Plan → Group → Priority → Bool
+is_best_in script group priority = is_in script group priority && is_best_effort priority
+
+-- how many workers do pool work that passes the test
+abbrev pub load_of : Plan → List Entry → (Priority → Bool) → ℕ
+load_of script past test = count (λ seat. holds_of test (work_at script past seat)) (worker_seats script)
+
+-- a blocking scope that is open, and the moment at which it was opened
+pub record OpenScope : Type 0 where
+  pub scope : Scope
+  pub since : ℕ
+
+-- the open scope of a task after an entry
+abbrev pub scope_after : ℕ → List Entry → Option OpenScope → Kind → Option OpenScope
+scope_after t before now (Enter task scope) = if task == t then Some (record { scope = scope; since = now_of before }) else now
+scope_after t before now (Leave task) = if task == t then None else now
+scope_after t before now kind = now
+
+-- the scope that the task opened last and has not closed (`scoped_blocking_call.h`)
+unfoldable pub open_scope : List Entry → ℕ → Option OpenScope
+open_scope past t = fold_past (λ before now e. scope_after t before now e.kind) None past
+
+-- a scope that will block counts at once, one that may block once it has been open for the threshold (this
+-- project's own rule)
+abbrev pub has_come : Scope → ℕ → ℕ → Bool
+has_come Will due now = true
+has_come May due now = nat_le due now
+
+-- the open scope counts by now
+abbrev pub scope_counts : Plan → List Entry → OpenScope → Bool
+scope_counts script past opened = has_come opened.scope (opened.since + script.threshold) (now_of past)
+
+-- the fact of it
+abbrev pub ScopeCounts : Plan → List Entry → OpenScope → Type 0
+ScopeCounts script past opened = IsTrue (scope_counts script past opened)
+
+-- the seat runs a pool task of a priority that passes the test, and its open scope counts
+abbrev pub is_blocked : Plan → List Entry → (Priority → Bool) → ℕ → Bool
+is_blocked script past test seat =
+    holds_of (λ w. not w.is_main && test (priority_of script w.home) && holds_of (scope_counts script past) (open_scope past w.task)) (running past seat)
+
+-- how many workers are blocked in such a task
+abbrev pub blocked_of : Plan → List Entry → (Priority → Bool) → ℕ
+blocked_of script past test = count (is_blocked script past test) (worker_seats script)
+
+-- how much work of the group runs
+unfoldable pub load : Plan → List Entry → Group → ℕ
+load script past group = load_of script past (is_in script group)
+
+-- how much may run: the limit, and one more for each task that is blocked
+unfoldable pub capacity : Plan → List Entry → Group → ℕ
+capacity script past group = limit script group + blocked_of script past (is_in script group)
+
+-- how much best-effort work of the group runs
+unfoldable pub best_load : Plan → List Entry → Group → ℕ
+best_load script past group = load_of script past (is_best_in script group)
+
+-- how much best-effort work may run
+unfoldable pub best_capacity : Plan → List Entry → Group → ℕ
+best_capacity script past group = best_limit script group + blocked_of script past (is_best_in script group)
+
+-- the group has room for work of the priority
+abbrev pub has_room_in : Plan → List Entry → Group → Priority → Bool
+has_room_in script past group priority =
+    nat_lt (load script past group) (capacity script past group)
+    && (not (is_best_effort priority) || nat_lt (best_load script past group) (best_capacity script past group))
+
+-- work of the priority may start: its group runs less than it may, and for best-effort work also less
+-- best-effort work than it may (this project's own rule)
+unfoldable pub has_room : Plan → List Entry → Priority → Bool
+has_room script past priority = has_room_in script past (group_of script priority) priority
+
+-- the fact of it
+abbrev pub HasRoom : Plan → List Entry → Priority → Type 0
+HasRoom script past priority = IsTrue (has_room script past priority)

@@ -1,17 +1,37 @@
--- The order in which the tasks of a sequence are taken, which also decides between sequences of one priority.
-use Rattle.std.specs.Prelude.{ℕ, Bool, ◌==◌, nat_lt, ◌&&◌, ◌||◌}
-use Rattle.task_model.specs.Posts.{Posted}
+-- The order in which the tasks of a sequence are taken, which also decides between sources of one priority.
+use Rattle.std.specs.Prelude.{ℕ, Bool, ◌==◌, nat_lt, ◌&&◌, ◌||◌, if◌then◌else◌, List, Option, Some, IsTrue}
+use Rattle.std.specs.Option.{option_map}
+use Rattle.std.specs.List.{filter_map}
+use Rattle.task_base.specs.declared.entry.Entry.{Entry}
+use Rattle.task_base.specs.declared.source.Key.{Key}
+use Rattle.task_model.specs.Time.{tick_from}
+use Rattle.task_model.specs.Posts.{Posted, is_delayed, posts}
 
--- a place, a moment and a place, compared in this order (this project's own rule)
-pub record Key : Type 0 where
-  pub place : ℕ
-  pub ripe : ℕ
-  pub post : ℕ
+-- the key of what is ready from its post on: where it was posted
+abbrev pub key_at : ℕ → Key
+key_at place = record { place = place; ripe = 0; post = place }
 
--- the key of an immediate task: where it was posted
-abbrev pub key_of : Posted → Key
-key_of p = record { place = p.place; ripe = 0; post = p.place }
+-- the key of an accepted task: of an immediate one where it was posted; of a delayed one the first tick at or past
+-- its ripe moment, that moment, and where it was posted. Before that tick it has none (this project's own rule)
+abbrev pub key_of : List Entry → Posted → Option Key
+key_of past p =
+    if is_delayed p
+    then option_map (λ place. record { place = place; ripe = p.ripe; post = p.place }) (tick_from past p.ripe)
+    else Some (key_at p.place)
 
--- the first key is below the second
+-- the first key is below the second: keys are compared from left to right
 abbrev pub key_below : Key → Key → Bool
 key_below a b = nat_lt a.place b.place || (a.place == b.place && (nat_lt a.ripe b.ripe || (a.ripe == b.ripe && nat_lt a.post b.post)))
+
+-- the fact of it
+abbrev pub KeyBelow : Key → Key → Type 0
+KeyBelow a b = IsTrue (key_below a b)
+
+-- an accepted task that has a key
+pub record Ready : Type 0 where
+  pub posted : Posted
+  pub key : Key
+
+-- the accepted tasks of the pool that have keys
+unfoldable pub ready : List Entry → List Ready
+ready past = filter_map (λ p. option_map (λ key. record { posted = p; key = key }) (key_of past p)) (posts past)

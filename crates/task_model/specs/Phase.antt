@@ -22,10 +22,7 @@ is_started Done = false
 abbrev pub phase_after : Phase → Kind → Phase
 phase_after now kinds.Shutdown = started_from now
 phase_after now kinds.Done = Done
-phase_after now (kinds.Post task runner delay ok) = now
-phase_after now (kinds.Take task runner found) = now
-phase_after now (kinds.End task left) = now
-phase_after now kinds.Idle = now
+phase_after now kind = now
 
 -- done where a done stands in the past, else started where a shutdown does, else running (this project's own
 -- three phases)

@@ -1,56 +1,111 @@
 -- Which tasks were posted, and where.
-use Rattle.std.specs.Prelude.{◌≢◌, ℕ, ◌<◌, Bool, false, if◌then◌else◌, ◌==◌, List, [], ◌∷◌, ◌++◌, length}
-use Rattle.std.specs.List.{list_any, AllByRecursion}
+use Rattle.std.specs.Prelude.{◌≢◌, ℕ, ◌+◌, ◌<◌, Bool, true, false, ◌==◌, nat_lt, List, [], ◌∷◌, ◌++◌, length, Option, IsTrue, IsSome}
+use Rattle.std.specs.List.{list_any, find, AllByRecursion}
+use Rattle.std.specs.Option.{option_map}
 use Rattle.task_base.specs.declared.entry.Entry.{Entry}
 use Rattle.task_base.specs.declared.entry.Kind.{Kind}
-use Rattle.task_base.specs.declared.entry.Kind.TheVariants.{Post, Take, End, Idle, Shutdown, Done}
+use Rattle.task_base.specs.declared.entry.Kind.TheVariants.{Post, Main, Take, End, MainTake}
 use Rattle.task_model.specs.Past.{fold_past}
+use Rattle.task_model.specs.Time.{now_of}
 
--- an accepted task: the place of its post, its number, its home, which is a runner, and its delay
+-- an accepted task: the place of its post, its number, its home, which is a runner or a main queue, its delay,
+-- and its ripe moment, which is the moment of its post plus the delay
 pub record Posted : Type 0 where
   pub place : ℕ
   pub task : ℕ
-  pub runner : ℕ
+  pub home : ℕ
   pub delay : ℕ
+  pub ripe : ℕ
 
--- what an entry at a place adds to the accepted tasks
-abbrev pub posted_by : ℕ → Kind → List Posted
-posted_by place (Post task runner delay ok) = if ok then record { place = place; task = task; runner = runner; delay = delay } ∷ [] else []
-posted_by place (Take task runner found) = []
-posted_by place (End task left) = []
-posted_by place Idle = []
-posted_by place Shutdown = []
-posted_by place Done = []
+-- its delay is above 0
+abbrev pub is_delayed : Posted → Bool
+is_delayed p = nat_lt 0 p.delay
 
--- the accepted tasks, in the order of their posts (`thread_pool.h`)
+-- the fact of it
+abbrev pub IsDelayed : Posted → Type 0
+IsDelayed p = IsTrue (is_delayed p)
+
+-- a post behind a past
+abbrev pub post_behind : List Entry → ℕ → ℕ → ℕ → Posted
+post_behind before task home delay = record { place = length before; task = task; home = home; delay = delay; ripe = now_of before + delay }
+
+-- what an entry behind a past adds to the accepted tasks of the pool
+abbrev pub posted_by : List Entry → Kind → List Posted
+posted_by before (Post task runner delay true) = post_behind before task runner delay ∷ []
+posted_by before kind = []
+
+-- the accepted tasks of the pool, in the order of their posts; a task of a legal history has one post
+-- (`thread_pool.h`)
 unfoldable pub posts : List Entry → List Posted
-posts past = fold_past (λ before known e. known ++ posted_by (length before) e.kind) [] past
+posts past = fold_past (λ before known e. known ++ posted_by before e.kind) [] past
 
--- the entry takes this task
+-- the accepted post of a task of the pool, if it has one
+abbrev pub post_of : List Entry → ℕ → Option Posted
+post_of past t = find (λ p. p.task == t) (posts past)
+
+-- where the task was posted
+abbrev pub post_place : List Entry → ℕ → Option ℕ
+post_place past t = option_map (λ p. p.place) (post_of past t)
+
+-- the runner that the task was posted to
+abbrev pub home_of : List Entry → ℕ → Option ℕ
+home_of past t = option_map (λ p. p.home) (post_of past t)
+
+-- the delay that the task was posted with
+abbrev pub delay_of : List Entry → ℕ → Option ℕ
+delay_of past t = option_map (λ p. p.delay) (post_of past t)
+
+-- the ripe moment of the task
+abbrev pub ripe_of : List Entry → ℕ → Option ℕ
+ripe_of past t = option_map (λ p. p.ripe) (post_of past t)
+
+-- the task of the pool was accepted
+abbrev pub IsAccepted : List Entry → ℕ → Type 0
+IsAccepted past t = IsSome (post_of past t)
+
+-- what an entry behind a past adds to the accepted main tasks
+abbrev pub main_posted_by : List Entry → Kind → List Posted
+main_posted_by before (Main task queue delay true) = post_behind before task queue delay ∷ []
+main_posted_by before kind = []
+
+-- the accepted main tasks, in the order of their posts (`sequence_manager.h`)
+unfoldable pub main_posts : List Entry → List Posted
+main_posts past = fold_past (λ before known e. known ++ main_posted_by before e.kind) [] past
+
+-- the accepted post of a main task, if it has one
+abbrev pub main_post_of : List Entry → ℕ → Option Posted
+main_post_of past t = find (λ p. p.task == t) (main_posts past)
+
+-- the main task was accepted
+abbrev pub IsMainAccepted : List Entry → ℕ → Type 0
+IsMainAccepted past t = IsSome (main_post_of past t)
+
+-- the entry takes this task of the pool
 abbrev pub takes : ℕ → Kind → Bool
 takes t (Take task runner found) = task == t
-takes t (Post task runner delay ok) = false
-takes t (End task left) = false
-takes t Idle = false
-takes t Shutdown = false
-takes t Done = false
+takes t kind = false
 
--- the task has been taken
+-- the task of the pool has been taken
 unfoldable pub is_taken : List Entry → ℕ → Bool
 is_taken past t = list_any (λ e. takes t e.kind) past
 
--- the entry ends this task
+-- the entry ends this task of the pool
 abbrev pub ends : ℕ → Kind → Bool
 ends t (End task left) = task == t
-ends t (Post task runner delay ok) = false
-ends t (Take task runner found) = false
-ends t Idle = false
-ends t Shutdown = false
-ends t Done = false
+ends t kind = false
 
--- the task has ended
+-- the task of the pool has ended
 unfoldable pub is_ended : List Entry → ℕ → Bool
 is_ended past t = list_any (λ e. ends t e.kind) past
+
+-- the entry takes this main task
+abbrev pub main_takes : ℕ → Kind → Bool
+main_takes t (MainTake task queue found) = task == t
+main_takes t kind = false
+
+-- the main task has been taken
+unfoldable pub is_main_taken : List Entry → ℕ → Bool
+is_main_taken past t = list_any (λ e. main_takes t e.kind) past
 
 -- the first was posted before the second, and is another task
 pub record Before (p q : Posted) : Type 0 where

@@ -1,33 +1,42 @@
 -- Which tasks form one sequence, and which of them may be taken next.
-use Rattle.std.specs.Prelude.{ℕ, ◌+◌, ◌==◌, Bool, true, false, not, ◌&&◌, if◌then◌else◌, List, length, filter, slice_get}
-use Rattle.std.specs.List.{list_all}
-use Rattle.std.specs.Option.{option_map_or}
+use Rattle.std.specs.Prelude.{ℕ, ◌+◌, ◌==◌, Bool, true, false, not, ◌&&◌, if◌then◌else◌, List, length, filter, Option, slice_get}
 use Rattle.task_base.specs.Plan.{Plan}
 use Rattle.task_base.specs.declared.entry.Entry.{Entry}
 use Rattle.task_base.specs.declared.script.RunnerKind.{RunnerKind}
-use Rattle.task_base.specs.declared.script.RunnerKind.TheVariants.{Parallel, Sequenced}
-use Rattle.task_model.specs.Posts.{Posted, posts, is_taken}
-use Rattle.task_model.specs.Keys.{key_of, key_below}
+use Rattle.task_base.specs.declared.script.RunnerKind.TheVariants.{Parallel, Sequenced, Single}
+use Rattle.task_model.specs.Lists.{least, holds_of}
+use Rattle.task_model.specs.Posts.{Posted, is_taken}
+use Rattle.task_model.specs.Keys.{Ready, ready, key_below}
 use Rattle.task_model.specs.Refusal.{is_forbidden}
 
+-- the runner makes a sequence of each task
 abbrev pub is_parallel : RunnerKind → Bool
 is_parallel Parallel = true
 is_parallel Sequenced = false
+is_parallel (Single seat) = false
 
 -- the sequence of a task on a runner: each task of a parallel runner is a sequence of its own, and all
 -- tasks of another runner are one (`thread_pool.h`; the numbering is this project's own)
 abbrev pub sequence_of : Plan → ℕ → ℕ → ℕ
 sequence_of script runner task =
-    if option_map_or (λ r. is_parallel r.kind) (slice_get script.runners runner) false then length script.runners + task else runner
+    if holds_of (λ r. is_parallel r.kind) (slice_get script.runners runner) then length script.runners + task else runner
+
+-- how many sequence numbers there are
+abbrev pub sequence_count : Plan → ℕ
+sequence_count script = length script.runners + length script.tasks
 
 -- the accepted task is of this sequence
 abbrev pub is_of : Plan → ℕ → Posted → Bool
-is_of script s p = sequence_of script p.runner p.task == s
+is_of script s p = sequence_of script p.home p.task == s
 
--- the accepted tasks that have not been taken and that the phase does not forbid, in the order of their posts
-unfoldable pub eligible : Plan → List Entry → List Posted
-eligible script past = filter (λ p. not (is_taken past p.task) && not (is_forbidden script past p)) (posts past)
+-- the accepted task has not been taken, and the phase does not forbid it to start
+abbrev pub may_start : Plan → List Entry → Posted → Bool
+may_start script past p = not (is_taken past p.task) && not (is_forbidden script past p)
 
--- no task of its sequence that may be taken has a lesser key
-abbrev pub is_head : Plan → List Entry → Posted → Bool
-is_head script past p = list_all (λ q. not (is_of script (sequence_of script p.runner p.task) q && key_below (key_of q) (key_of p))) (eligible script past)
+-- the accepted tasks of a sequence that have a key, have not been taken, and may start in the phase
+unfoldable pub eligible : Plan → List Entry → ℕ → List Ready
+eligible script past s = filter (λ r. is_of script s r.posted && may_start script past r.posted) (ready past)
+
+-- the head of a sequence: the eligible task of least key (`thread_pool.h`: a sequence's tasks run in order)
+unfoldable pub head_of : Plan → List Entry → ℕ → Option Ready
+head_of script past s = least (λ a b. key_below a.key b.key) (eligible script past s)

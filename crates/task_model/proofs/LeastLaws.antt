@@ -1,0 +1,234 @@
+-- What the heads, the fronts and the best sources are: one of their lists, and none of it goes before them.
+use Rattle.std.proofs.Common.{◌≡◌, ℕ, ◌-◌, ◌<◌, Bool, true, false, cond, eqb, List, [], ◌∷◌, refl, sym, ap, ◌∙◌, subst, Some, None, inl, inr, arith}
+use Rattle.std.specs.Prelude.{◌&&◌, ◌||◌, ◌⊎◌, nat_lt, filter, Contains}
+use Rattle.std.specs.List.{AllByRecursion}
+use Rattle.std.proofs.lemmas.Bool.{true≢false, lt-ltb, le-ltb, eq-eqb, ne_eqb, cases_order}
+use Rattle.std.proofs.lemmas.Option.{none-some}
+use Rattle.std.proofs.lemmas.List.Elements.{All-from_recursion, recursion_from_All, All-contains_itself}
+use Rattle.task_base.specs.declared.source.Key.{Key}
+use Rattle.task_traits.specs.declared.traits.Priority.{Priority}
+use Rattle.task_traits.specs.declared.traits.Priority.TheVariants.{BestEffort, UserVisible, UserBlocking}
+use Rattle.task_model.specs.Lists.{least, least_from}
+use Rattle.task_model.specs.Keys.{key_below}
+use Rattle.task_model.specs.Sequences.{eligible, head_of}
+use Rattle.task_model.specs.Capacity.{importance}
+use Rattle.task_model.specs.Sources.{Candidate, waiting, is_takeable, goes_before, best_of}
+use Rattle.task_model.specs.MainQueues.{order_below}
+use Rattle.task_model.specs.SequenceLaws.{ready_below}
+use Rattle.task_model.specs.OrderLaws.{lane_of}
+use Rattle.task_model.specs.LeastLaws.{IsLeast, IsBest, HeadIsLeast, NoHead, FrontIsFirst, NoFront, BestIsBest, NoBest, KeysTotal}
+use Rattle.task_model.proofs.Lists.{some-injective, least_from-is, filter_passes, AllByRecursion-map, AllByRecursion-filter, AllByRecursion-both}
+use Rattle.task_model.proofs.OrderLaws.{front_is_least}
+
+-- a test that ranks: nothing goes before itself, of two at most one goes before the other, and what does not go before
+-- one that does not go before a third does not go before that
+pub record Ranks {A : Type 0} (below : A → A → Bool) : Type 0 where
+  pub itself : (a : A) → below a a ≡ false
+  pub one_way : (a b : A) → below a b ≡ true → below b a ≡ false
+  pub through : (a b c : A) → below a b ≡ false → below b c ≡ false → below a c ≡ false
+
+-- none of a list goes before its least
+least_below : {A : Type 0} (below : A → A → Bool) → Ranks below → (x : A) (xs : List A) → AllByRecursion (λ y. below y (least_from below x xs) ≡ false) (x ∷ xs)
+least_below below ranks x [] = (ranks.itself x, tt)
+least_below {A = A} below ranks x (y ∷ ys) = by (below y x) refl (least_below below ranks y ys) (least_below below ranks x ys)
+  where
+    by : (b : Bool) → below y x ≡ b → AllByRecursion (λ z. below z (least_from below y ys) ≡ false) (y ∷ ys) → AllByRecursion (λ z. below z (least_from below x ys) ≡ false) (x ∷ ys)
+        → AllByRecursion (λ z. below z (least_from below (cond b y x) ys) ≡ false) (x ∷ y ∷ ys)
+    by true before of_y of_x = (ranks.through x y (least_from below y ys) (ranks.one_way y x before) of_y.0, of_y)
+    by false before of_y of_x = (of_x.0, (ranks.through y x (least_from below x ys) before of_x.0, of_x.1))
+
+pub least_is_least : {A : Type 0} (below : A → A → Bool) → Ranks below → (xs : List A) (x : A) → least below xs ≡ Some x → IsLeast below xs x
+least_is_least below ranks [] x is = absurd (none-some x is)
+least_is_least below ranks (y ∷ ys) x is =
+    subst (IsLeast below (y ∷ ys)) (some-injective is) (record {
+      member = least_from-is (Contains (y ∷ ys)) below y ys (all.0) (all.1);
+      none_below = All-from_recursion (λ z. below z (least_from below y ys) ≡ false) (y ∷ ys) (least_below below ranks y ys);
+    })
+  where
+    all : AllByRecursion (Contains (y ∷ ys)) (y ∷ ys)
+    all = recursion_from_All (Contains (y ∷ ys)) (y ∷ ys) (All-contains_itself (y ∷ ys))
+
+pub no_least : {A : Type 0} (below : A → A → Bool) (xs : List A) → least below xs ≡ None → xs ≡ []
+no_least below [] is = refl
+no_least below (x ∷ xs) is = absurd (none-some (least_from below x xs) (sym is))
+
+-- Tests that rank.
+
+-- by one number
+pub ranks_by : {A : Type 0} (f : A → ℕ) → Ranks (λ a b. nat_lt (f a) (f b))
+ranks_by {A = A} f = record { itself = itself; one_way = one_way; through = through }
+  where
+    itself : (a : A) → nat_lt (f a) (f a) ≡ false
+    itself a = le-ltb (f a) (f a) (omega arith)
+
+    one_way : (a b : A) → nat_lt (f a) (f b) ≡ true → nat_lt (f b) (f a) ≡ false
+    one_way a b h = grind arith
+
+    through : (a b c : A) → nat_lt (f a) (f b) ≡ false → nat_lt (f b) (f c) ≡ false → nat_lt (f a) (f c) ≡ false
+    through a b c h k = grind arith
+
+-- by a number, and by another test between equal numbers
+abbrev then_by : {A : Type 0} → (A → ℕ) → (A → A → Bool) → A → A → Bool
+then_by f below a b = nat_lt (f a) (f b) || (eqb (f a) (f b) && below a b)
+
+by_less : {A : Type 0} (f : A → ℕ) (below : A → A → Bool) (a b : A) → f a < f b → then_by f below a b ≡ true
+by_less f below a b lt = ap (λ t. t || (eqb (f a) (f b) && below a b)) (lt-ltb (f a) (f b) lt)
+
+by_same : {A : Type 0} (f : A → ℕ) (below : A → A → Bool) (a b : A) → f a ≡ f b → then_by f below a b ≡ below a b
+by_same f below a b same = ap (λ t. t || (eqb (f a) (f b) && below a b)) (le-ltb (f a) (f b) (omega (arith, same))) ∙ ap (λ t. t && below a b) (eq-eqb (f a) (f b) same)
+
+by_more : {A : Type 0} (f : A → ℕ) (below : A → A → Bool) (a b : A) → f b < f a → then_by f below a b ≡ false
+by_more f below a b lt = ap (λ t. t || (eqb (f a) (f b) && below a b)) (le-ltb (f a) (f b) (omega (arith, lt))) ∙ ap (λ t. t && below a b) (ne_eqb (f a) (f b) (λ same. omega (arith, lt, same)))
+
+pub ranks_then_by : {A : Type 0} (f : A → ℕ) (below : A → A → Bool) → Ranks below → Ranks (then_by f below)
+ranks_then_by {A = A} f below ranks = record { itself = itself; one_way = one_way; through = through }
+  where
+    itself : (a : A) → then_by f below a a ≡ false
+    itself a = by_same f below a a refl ∙ ranks.itself a
+
+    one_way : (a b : A) → then_by f below a b ≡ true → then_by f below b a ≡ false
+    one_way a b h = by (cases_order (f a) (f b))
+      where
+        by : (f a ≡ f b) ⊎ ((f a < f b) ⊎ (f b < f a)) → then_by f below b a ≡ false
+        by (inl same) = by_same f below b a (sym same) ∙ ranks.one_way a b (sym (by_same f below a b same) ∙ h)
+        by (inr (inl lt)) = by_more f below b a lt
+        by (inr (inr lt)) = absurd (true≢false (sym h ∙ by_more f below a b lt))
+
+    through : (a b c : A) → then_by f below a b ≡ false → then_by f below b c ≡ false → then_by f below a c ≡ false
+    through a b c h k = by (cases_order (f a) (f b)) (cases_order (f b) (f c))
+      where
+        by : (f a ≡ f b) ⊎ ((f a < f b) ⊎ (f b < f a)) → (f b ≡ f c) ⊎ ((f b < f c) ⊎ (f c < f b)) → then_by f below a c ≡ false
+        by (inr (inl lt)) other = absurd (true≢false (sym (by_less f below a b lt) ∙ h))
+        by (inl same) (inr (inl lt)) = absurd (true≢false (sym (by_less f below b c lt) ∙ k))
+        by (inr (inr more)) (inr (inl lt)) = absurd (true≢false (sym (by_less f below b c lt) ∙ k))
+        by (inl same) (inl equal) = by_same f below a c (same ∙ equal) ∙ ranks.through a b c (sym (by_same f below a b same) ∙ h) (sym (by_same f below b c equal) ∙ k)
+        by (inl same) (inr (inr more)) = by_more f below a c (omega (arith, same, more))
+        by (inr (inr more)) (inl equal) = by_more f below a c (omega (arith, more, equal))
+        by (inr (inr more)) (inr (inr less)) = by_more f below a c (omega (arith, more, less))
+
+-- a test with the same answers
+pub ranks_same : {A : Type 0} (p q : A → A → Bool) → ((a b : A) → q a b ≡ p a b) → Ranks p → Ranks q
+ranks_same p q same ranks = record {
+  itself = λ a. same a a ∙ ranks.itself a;
+  one_way = λ a b h. same b a ∙ ranks.one_way a b (sym (same a b) ∙ h);
+  through = λ a b c h k. same a c ∙ ranks.through a b c (sym (same a b) ∙ h) (sym (same b c) ∙ k);
+}
+
+-- by keys
+pub ranks_key : {A : Type 0} (key : A → Key) → Ranks (λ a b. key_below (key a) (key b))
+ranks_key key = ranks_then_by (λ a. (key a).place) (λ a b. nat_lt (key a).ripe (key b).ripe || (eqb (key a).ripe (key b).ripe && nat_lt (key a).post (key b).post))
+    (ranks_then_by (λ a. (key a).ripe) (λ a b. nat_lt (key a).post (key b).post) (ranks_by (λ a. (key a).post)))
+
+-- by importance, the greater first
+turned : (p q : Priority) → nat_lt (importance q) (importance p) ≡ nat_lt (2 - importance p) (2 - importance q)
+turned BestEffort BestEffort = refl
+turned BestEffort UserVisible = refl
+turned BestEffort UserBlocking = refl
+turned UserVisible BestEffort = refl
+turned UserVisible UserVisible = refl
+turned UserVisible UserBlocking = refl
+turned UserBlocking BestEffort = refl
+turned UserBlocking UserVisible = refl
+turned UserBlocking UserBlocking = refl
+
+turned_same : (p q : Priority) → eqb (importance q) (importance p) ≡ eqb (2 - importance p) (2 - importance q)
+turned_same BestEffort BestEffort = refl
+turned_same BestEffort UserVisible = refl
+turned_same BestEffort UserBlocking = refl
+turned_same UserVisible BestEffort = refl
+turned_same UserVisible UserVisible = refl
+turned_same UserVisible UserBlocking = refl
+turned_same UserBlocking BestEffort = refl
+turned_same UserBlocking UserVisible = refl
+turned_same UserBlocking UserBlocking = refl
+
+pub ranks_goes_before : Ranks goes_before
+ranks_goes_before = ranks_same (then_by (λ c. 2 - importance c.priority) inner) goes_before same
+    (ranks_then_by (λ c. 2 - importance c.priority) inner (ranks_then_by (λ c. c.inside) (λ a b. key_below a.key b.key) (ranks_key (λ c. c.key))))
+  where
+    inner : Candidate → Candidate → Bool
+    inner a b = nat_lt a.inside b.inside || (eqb a.inside b.inside && key_below a.key b.key)
+
+    same : (a b : Candidate) → goes_before a b ≡ then_by (λ c. 2 - importance c.priority) inner a b
+    same a b =
+        ap (λ t. t || (eqb (importance b.priority) (importance a.priority) && inner a b)) (turned a.priority b.priority)
+        ∙ ap (λ t. nat_lt (2 - importance a.priority) (2 - importance b.priority) || (t && inner a b)) (turned_same a.priority b.priority)
+
+-- Heads, fronts, and the best.
+
+pub head_is_least : HeadIsLeast
+unfolding head_of
+head_is_least script past s r is = least_is_least ready_below (ranks_key (λ x. x.key)) (eligible script past s) r is
+
+pub no_head : NoHead
+unfolding head_of
+no_head script past s is = no_least ready_below (eligible script past s) is
+
+pub front_is_first : FrontIsFirst
+front_is_first script past q lane f is = least_is_least order_below (ranks_by (λ x. x.order)) (lane_of script past q lane) f (sym (front_is_least script past q lane) ∙ is)
+
+pub no_front : NoFront
+no_front script past q lane is = no_least order_below (lane_of script past q lane) (sym (front_is_least script past q lane) ∙ is)
+
+-- what holds of the elements that pass a test
+unfiltered : {A : Type 0} (P : A → Type 0) (test : A → Bool) (xs : List A) → AllByRecursion P (filter test xs) → AllByRecursion (λ x. test x ≡ true → P x) xs
+unfiltered P test [] h = tt
+unfiltered {A = A} P test (x ∷ xs) h = by (test x) refl h (unfiltered P test xs)
+  where
+    by : (b : Bool) → test x ≡ b → AllByRecursion P (cond b (x ∷ filter test xs) (filter test xs)) → (AllByRecursion P (filter test xs) → AllByRecursion (λ y. test y ≡ true → P y) xs) → (test x ≡ true → P x) × AllByRecursion (λ y. test y ≡ true → P y) xs
+    by true is kept rest = ((λ same. kept.0), rest kept.1)
+    by false is kept rest = ((λ same. absurd (true≢false (sym same ∙ is))), rest kept)
+
+pub best_is_best : BestIsBest
+unfolding best_of
+best_is_best script past seat c is = of_least (least_is_least goes_before ranks_goes_before (filter (is_takeable script past seat) (waiting script past)) c is)
+  where
+    both : AllByRecursion (λ x. Contains (waiting script past) x × (is_takeable script past seat x ≡ true)) (filter (is_takeable script past seat) (waiting script past))
+    both = AllByRecursion-both (Contains (waiting script past)) (λ x. is_takeable script past seat x ≡ true) (filter (is_takeable script past seat) (waiting script past))
+        (AllByRecursion-filter (Contains (waiting script past)) (is_takeable script past seat) (waiting script past) (recursion_from_All (Contains (waiting script past)) (waiting script past) (All-contains_itself (waiting script past))))
+        (filter_passes (is_takeable script past seat) (waiting script past))
+
+    taken : (xs : List Candidate) → AllByRecursion (λ x. Contains (waiting script past) x × (is_takeable script past seat x ≡ true)) xs → least goes_before xs ≡ Some c → Contains (waiting script past) c × (is_takeable script past seat c ≡ true)
+    taken [] all none = absurd (none-some c none)
+    taken (x ∷ xs) all some = subst (λ y. Contains (waiting script past) y × (is_takeable script past seat y ≡ true)) (some-injective some) (least_from-is (λ y. Contains (waiting script past) y × (is_takeable script past seat y ≡ true)) goes_before x xs all.0 all.1)
+
+    of_least : IsLeast goes_before (filter (is_takeable script past seat) (waiting script past)) c → IsBest script past seat c
+    of_least l = record {
+      takeable = taken (filter (is_takeable script past seat) (waiting script past)) both is;
+      none_before = All-from_recursion (λ d. is_takeable script past seat d ≡ true → goes_before d c ≡ false) (waiting script past)
+          (unfiltered (λ d. goes_before d c ≡ false) (is_takeable script past seat) (waiting script past) (recursion_from_All (λ d. goes_before d c ≡ false) (filter (is_takeable script past seat) (waiting script past)) l.none_below));
+    }
+
+pub no_best : NoBest
+unfolding best_of
+no_best script past seat is = All-from_recursion (λ d. is_takeable script past seat d ≡ false) (waiting script past) (none (waiting script past) (no_least goes_before (filter (is_takeable script past seat) (waiting script past)) is))
+  where
+    none : (xs : List Candidate) → filter (is_takeable script past seat) xs ≡ [] → AllByRecursion (λ d. is_takeable script past seat d ≡ false) xs
+    none xs empty = AllByRecursion-map (λ d. is_takeable script past seat d ≡ true → ⊥) (λ d. is_takeable script past seat d ≡ false) xs (λ d h. fails (is_takeable script past seat d) h) (unfiltered (λ d. ⊥) (is_takeable script past seat) xs (subst (AllByRecursion (λ d. ⊥)) (sym empty) tt))
+      where
+        fails : (b : Bool) → (b ≡ true → ⊥) → b ≡ false
+        fails true h = absurd (h refl)
+        fails false h = refl
+
+-- two between which the test decides neither way have the same number
+tied : {A : Type 0} (f : A → ℕ) (below : A → A → Bool) (a b : A) → then_by f below a b ≡ false → then_by f below b a ≡ false → (f a ≡ f b) × (below a b ≡ false) × (below b a ≡ false)
+tied f below a b h k = by (cases_order (f a) (f b))
+  where
+    by : (f a ≡ f b) ⊎ ((f a < f b) ⊎ (f b < f a)) → (f a ≡ f b) × (below a b ≡ false) × (below b a ≡ false)
+    by (inl same) = (same, sym (by_same f below a b same) ∙ h, sym (by_same f below b a (sym same)) ∙ k)
+    by (inr (inl lt)) = absurd (true≢false (sym (by_less f below a b lt) ∙ h))
+    by (inr (inr lt)) = absurd (true≢false (sym (by_less f below b a lt) ∙ k))
+
+pub keys_total : KeysTotal
+keys_total a b h k =
+    let places : (a.place ≡ b.place) × (by_ripe a b ≡ false) × (by_ripe b a ≡ false) = tied (λ x. x.place) by_ripe a b h k in
+    let moments : (a.ripe ≡ b.ripe) × (nat_lt a.post b.post ≡ false) × (nat_lt b.post a.post ≡ false) = tied (λ x. x.ripe) (λ x y. nat_lt x.post y.post) a b places.1 places.2 in
+    ap (λ n. record { place = n; ripe = a.ripe; post = a.post }) places.0
+    ∙ ap (λ n. record { place = b.place; ripe = n; post = a.post }) moments.0
+    ∙ ap (λ n. record { place = b.place; ripe = b.ripe; post = n }) (equal a.post b.post moments.1 moments.2)
+  where
+    by_ripe : Key → Key → Bool
+    by_ripe x y = nat_lt x.ripe y.ripe || (eqb x.ripe y.ripe && nat_lt x.post y.post)
+
+    equal : (n m : ℕ) → nat_lt n m ≡ false → nat_lt m n ≡ false → n ≡ m
+    equal n m p q = grind arith
