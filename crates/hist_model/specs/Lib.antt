@@ -1,0 +1,9 @@
+pub mod Views
+pub mod Script
+pub mod Allowed
+pub mod Legal
+pub mod Choice
+pub mod Consistent
+pub mod ShutdownLaw
+pub mod Agenda
+pub mod Postings

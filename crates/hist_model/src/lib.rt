@@ -1,0 +1,21 @@
+//! Which histories are right: what the script wants next of the driver, what may come after a past, and which
+//! histories are legal and whole. The definitions are for specs and proofs alone; no function here is called by a
+//! program.
+//!
+//! The functions have empty bodies: each states laws of every legal history in its contract.
+#![tactic(auto)]
+
+mod current;
+mod histories;
+mod postings;
+mod seats;
+mod shutdown;
+
+pub use current::the_current_action_moves_on;
+pub use histories::{legal_histories_grow, the_first_illegal_place_is_told};
+pub use postings::each_task_is_posted_once;
+pub use seats::{
+    legal_histories_are_consistent, own_entries_tell_the_seat, seats_do_one_thing,
+    takes_are_of_heads,
+};
+pub use shutdown::shutdown_waits_and_forbids;
