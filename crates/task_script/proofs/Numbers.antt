@@ -10,7 +10,7 @@ use Rattle.std.proofs.lemmas.Option.{cond_some}
 use Rattle.std.proofs.lemmas.Str.{IsUtf8-from_ascii}
 use Rattle.std.proofs.lemmas.Fmt.{IsAscii-from_digits}
 use Rattle.std.proofs.lemmas.Str.Parse.{IsNumeralModel, numerals_by_value, tells_all_ascii_digits}
-use Rattle.task_model.specs.Words.{number_in}
+use Rattle.task_script.specs.FormLines.{number_in}
 
 -- the model's digits and their value are those of `parse`
 pub numerals : IsNumeralModel (λ word. all_ascii_digits word ≡ true) (digits_value 10)

@@ -1,6 +1,7 @@
 -- What a reader holds, against the draft that the lines read so far give.
-use Rattle.std.specs.Prelude.{◌≡◌, ℕ, ◌≤◌, false, length, slice_index_or, Option, Some, Result, Ok, Err}
-use Rattle.task_model.specs.Draft.{Draft, steps_in, is_posted, has_shutdown}
+use Rattle.std.specs.Prelude.{◌≡◌, ℕ, ◌≤◌, false, [], length, slice_index_or, Option, Some, None, Result, Ok, Err}
+use Rattle.task_model.specs.Draft.{Draft}
+use Rattle.task_script.specs.FormDraft.{steps_of_tasks, is_posted, shuts_down}
 use Rattle.task_script.specs.declared.fault.ScriptFault.{ScriptFault}
 use Rattle.task_script.specs.declared.reader.Reader.{Reader}
 use Rattle.task_script.specs.Reading.{Fails}
@@ -9,8 +10,12 @@ use Rattle.task_script.specs.Reading.{Fails}
 abbrev pub draft : Reader → Draft
 draft reader = record {
   workers = reader.workers;
+  groups = None;
+  threshold = None;
   runners = reader.runners.items;
+  queues = [];
   tasks = reader.tasks.items;
+  jobs = [];
   actions = reader.actions.items;
 }
 
@@ -18,8 +23,8 @@ draft reader = record {
 pub record Tables (reader : Reader) : Type 0 where
   pub flags : length reader.posted.items ≡ length reader.tasks.items
   pub posted : (t : ℕ) → slice_index_or reader.posted.items t false ≡ is_posted reader.actions.items t
-  pub shutdown : reader.shuts_down ≡ has_shutdown reader.actions.items
-  pub steps : reader.steps ≡ steps_in reader.tasks.items
+  pub shutdown : reader.shuts_down ≡ shuts_down reader.actions.items
+  pub steps : reader.steps ≡ steps_of_tasks reader.tasks.items
   pub few_steps : reader.steps ≤ 65536
   pub few_tasks : length reader.tasks.items ≤ 16384
 

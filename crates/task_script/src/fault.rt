@@ -6,7 +6,7 @@ use std::alloc::{AllocError, AllocFailed};
 /// Why bytes gave no script.
 #[derive(Clone, Copy, Debug, PartialEq, Eq)]
 pub enum ScriptFault {
-    /// The bytes are no script of the form.
+    /// The bytes have not the small form.
     Bad,
     /// An allocation failed.
     Memory,

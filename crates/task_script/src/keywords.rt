@@ -1,10 +1,10 @@
 ghost use Rattle.std.specs.Prelude.{◌≡◌};
-ghost use Rattle.task_model.specs.Lines.{kind_named, priority_named, behaviour_named, step_named};
+ghost use Rattle.task_script.specs.FormLines.{form_kind, form_priority, form_behaviour, step_named};
 
 use task_base::{Behaviour, Priority, RunnerKind, Step};
 
 pub(crate) fn kind_named(word: &[u8]) -> Option<RunnerKind>
-    ensures { result ≡ kind_named word.now }
+    ensures { result ≡ form_kind word.now }
 {
     if word == b"parallel".as_slice() {
         Some(RunnerKind::Parallel)
@@ -16,7 +16,7 @@ pub(crate) fn kind_named(word: &[u8]) -> Option<RunnerKind>
 }
 
 pub(crate) fn priority_named(word: &[u8]) -> Option<Priority>
-    ensures { result ≡ priority_named word.now }
+    ensures { result ≡ form_priority word.now }
 {
     if word == b"best_effort".as_slice() {
         Some(Priority::BestEffort)
@@ -30,7 +30,7 @@ pub(crate) fn priority_named(word: &[u8]) -> Option<Priority>
 }
 
 pub(crate) fn behaviour_named(word: &[u8]) -> Option<Behaviour>
-    ensures { result ≡ behaviour_named word.now }
+    ensures { result ≡ form_behaviour word.now }
 {
     if word == b"continue".as_slice() {
         Some(Behaviour::ContinueOnShutdown)

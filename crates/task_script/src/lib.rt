@@ -1,5 +1,5 @@
-//! The reader of scripts. Bytes give the one script that the grammar of `task_model` reads in them, or the
-//! fault that they are none.
+//! The reader of scripts. It takes the scripts of a small form, a part of the grammar of `task_model`: bytes of that
+//! form give the one script that the grammar reads in them, and all others the fault that they have not that form.
 #![tactic(auto)]
 
 mod fault;

@@ -1,14 +1,14 @@
 ghost use Rattle.std.specs.Prelude.{◌≡◌, ◌==◌, ◌+◌, ◌-◌, ◌^◌, ◌<◌, ◌≤◌, ◌&&◌, ◌++◌, ◌∷◌, [], Some, nat_lt, nat_le, not, length, slice_index, is_none};
-ghost use Rattle.task_model.specs.Draft.{empty_draft, script_of, is_bare, is_posted, has_shutdown, steps_in, events_bound_of};
-ghost use Rattle.task_model.specs.Lines.{workers_read, runner_read, task_read, post_read, flush_read, shutdown_read, command_read, line_read};
-ghost use Rattle.task_model.specs.Grammar.{lines_read};
-ghost use Rattle.task_model.specs.Words.{words_of};
+ghost use Rattle.task_model.specs.Draft.{empty_draft, script_of, is_bare};
+ghost use Rattle.task_script.specs.FormDraft.{is_posted, shuts_down, steps_of_tasks, form_events};
+ghost use Rattle.task_script.specs.FormLines.{form_workers, form_runner, form_task, form_post, form_flush, form_shutdown, form_command, form_words, form_line};
+ghost use Rattle.task_script.specs.Form.{form_lines};
 ghost use Rattle.task_script.specs.Texts.{texts};
 
 use crate::fault::ScriptFault;
 use crate::keywords::{behaviour_named, kind_named, priority_named};
 use crate::steps::steps_of;
-use crate::words::{number_in, words_of};
+use crate::words::{is_all_ascii, number_in, words_of};
 use std::alloc::Global;
 use task_base::{Action, Rows, Runner, RunnerId, Script, Step, Task, TaskId, Traits};
 
@@ -71,8 +71,11 @@ impl Reader {
             foreground: 4,
             foreground_best: 2,
             background: 0,
+            threshold: 1_000_000,
             runners: Rows::from_vec(self.runners),
+            queues: Rows::new(self.alloc),
             tasks: Rows::from_vec(self.tasks),
+            jobs: Rows::new(self.alloc),
             actions: Rows::from_vec(self.actions),
         }
     }
@@ -80,7 +83,7 @@ impl Reader {
     /// Reads the next lines. After a fault the reader is of no more use.
     pub(crate) fn read_lines(&mut self, lines: &[&[u8]]) -> Result<(), ScriptFault>
         requires { Tables self.old }
-        ensures { GoesOn self.new result (lines_read (draft self.old) (texts lines.now)) }
+        ensures { GoesOn self.new result (form_lines (draft self.old) (texts lines.now)) }
     {
         for line in lines {
             self.read_line(line)?;
@@ -90,28 +93,29 @@ impl Reader {
 
     fn read_line(&mut self, line: &[u8]) -> Result<(), ScriptFault>
         requires { Tables self.old }
-        ensures { GoesOn self.new result (line_read (draft self.old) (words_of line.now)) }
+        ensures { GoesOn self.new result (form_line (draft self.old) line.now) }
     {
         let words = words_of(self.alloc, line)?;
-        self.read_words(&words)
+        self.read_words(line, &words)
     }
 
-    #[tactic(auto, unfolding(task_model::specs::Lines::line_read))]
-    fn read_words(&mut self, words: &[&[u8]]) -> Result<(), ScriptFault>
+    #[tactic(auto, unfolding(crate::specs::FormLines::form_words))]
+    fn read_words(&mut self, line: &[u8], words: &[&[u8]]) -> Result<(), ScriptFault>
         requires { Tables self.old }
-        ensures { GoesOn self.new result (line_read (draft self.old) (texts words.now)) }
+        ensures { GoesOn self.new result (form_words (draft self.old) line.now (texts words.now)) }
     {
         match words {
             [] => Ok(()),
             [name, ..] if begins_comment(name) => Ok(()),
+            [_, ..] if !is_all_ascii(line) => Err(ScriptFault::Bad),
             [name, words @ ..] => self.read_command(name, words),
         }
     }
 
-    #[tactic(auto, unfolding(task_model::specs::Lines::command_read))]
+    #[tactic(auto, unfolding(crate::specs::FormLines::form_command))]
     fn read_command(&mut self, name: &[u8], words: &[&[u8]]) -> Result<(), ScriptFault>
         requires { Tables self.old }
-        ensures { GoesOn self.new result (command_read (draft self.old) name.now (texts words.now)) }
+        ensures { GoesOn self.new result (form_command (draft self.old) name.now (texts words.now)) }
     {
         if name == b"workers".as_slice() {
             self.read_workers(words)
@@ -130,10 +134,10 @@ impl Reader {
         }
     }
 
-    #[tactic(auto, unfolding(task_model::specs::Lines::workers_read))]
+    #[tactic(auto, unfolding(crate::specs::FormLines::form_workers))]
     fn read_workers(&mut self, words: &[&[u8]]) -> Result<(), ScriptFault>
         requires { Tables self.old }
-        ensures { GoesOn self.new result (workers_read (draft self.old) (texts words.now)) }
+        ensures { GoesOn self.new result (form_workers (draft self.old) (texts words.now)) }
     {
         let [number] = words else {
             return Err(ScriptFault::Bad);
@@ -146,10 +150,10 @@ impl Reader {
         Ok(())
     }
 
-    #[tactic(auto, unfolding(task_model::specs::Lines::runner_read))]
+    #[tactic(auto, unfolding(crate::specs::FormLines::form_runner))]
     fn read_runner(&mut self, words: &[&[u8]]) -> Result<(), ScriptFault>
         requires { Tables self.old }
-        ensures { GoesOn self.new result (runner_read (draft self.old) (texts words.now)) }
+        ensures { GoesOn self.new result (form_runner (draft self.old) (texts words.now)) }
     {
         let [number, kind, priority, behaviour] = words else {
             return Err(ScriptFault::Bad);
@@ -170,10 +174,10 @@ impl Reader {
         Ok(())
     }
 
-    #[tactic(auto, unfolding(task_model::specs::Lines::task_read))]
+    #[tactic(auto, unfolding(crate::specs::FormLines::form_task))]
     fn read_task(&mut self, words: &[&[u8]]) -> Result<(), ScriptFault>
         requires { Tables self.old }
-        ensures { GoesOn self.new result (task_read (draft self.old) (texts words.now)) }
+        ensures { GoesOn self.new result (form_task (draft self.old) (texts words.now)) }
     {
         let [number, words @ ..] = words else {
             return Err(ScriptFault::Bad);
@@ -186,10 +190,10 @@ impl Reader {
         self.add_task(steps)
     }
 
-    #[tactic(auto, unfolding(task_model::specs::Lines::post_read))]
+    #[tactic(auto, unfolding(crate::specs::FormLines::form_post))]
     fn read_post(&mut self, words: &[&[u8]]) -> Result<(), ScriptFault>
         requires { Tables self.old }
-        ensures { GoesOn self.new result (post_read (draft self.old) (texts words.now)) }
+        ensures { GoesOn self.new result (form_post (draft self.old) (texts words.now)) }
     {
         let [task, runner, delay] = words else {
             return Err(ScriptFault::Bad);
@@ -209,10 +213,10 @@ impl Reader {
         Ok(())
     }
 
-    #[tactic(auto, unfolding(task_model::specs::Lines::flush_read))]
+    #[tactic(auto, unfolding(crate::specs::FormLines::form_flush))]
     fn read_flush(&mut self, words: &[&[u8]]) -> Result<(), ScriptFault>
         requires { Tables self.old }
-        ensures { GoesOn self.new result (flush_read (draft self.old) (texts words.now)) }
+        ensures { GoesOn self.new result (form_flush (draft self.old) (texts words.now)) }
     {
         if !words.is_empty() || !self.accepts_action() {
             return Err(ScriptFault::Bad);
@@ -221,10 +225,10 @@ impl Reader {
         Ok(())
     }
 
-    #[tactic(auto, unfolding(task_model::specs::Lines::shutdown_read))]
+    #[tactic(auto, unfolding(crate::specs::FormLines::form_shutdown))]
     fn read_shutdown(&mut self, words: &[&[u8]]) -> Result<(), ScriptFault>
         requires { Tables self.old }
-        ensures { GoesOn self.new result (shutdown_read (draft self.old) (texts words.now)) }
+        ensures { GoesOn self.new result (form_shutdown (draft self.old) (texts words.now)) }
     {
         if !words.is_empty() || !self.accepts_shutdown() {
             return Err(ScriptFault::Bad);
@@ -271,7 +275,7 @@ impl Reader {
     fn accepts_task(&self, number: u64, steps: usize) -> bool
         requires tables { Tables self.now }
         requires fits { steps < 2 ^ 63 }
-        ensures { let d = draft self.now in result ≡ (number == length d.tasks && length d.actions == 0 && nat_lt (length d.tasks) 16384 && nat_le (steps_in d.tasks + steps) 65536) }
+        ensures { let d = draft self.now in result ≡ (number == length d.tasks && length d.actions == 0 && nat_lt (length d.tasks) 16384 && nat_le (steps_of_tasks d.tasks + steps) 65536) }
     {
         number == self.tasks.len() as u64
             && self.actions.is_empty()
@@ -281,7 +285,7 @@ impl Reader {
 
     fn accepts_post(&self, task: TaskId, runner: RunnerId) -> bool
         requires { Tables self.now }
-        ensures { let d = draft self.now in result ≡ (nat_lt task (length d.tasks) && nat_lt runner (length d.runners) && not (is_posted d.actions task) && nat_lt (events_bound_of d) 262144) }
+        ensures { let d = draft self.now in result ≡ (nat_lt task (length d.tasks) && nat_lt runner (length d.runners) && not (is_posted d.actions task) && nat_lt (form_events d) 262144) }
     {
         (task as usize) < self.tasks.len()
             && (runner as usize) < self.runners.len()
@@ -291,21 +295,21 @@ impl Reader {
 
     fn accepts_action(&self) -> bool
         requires { Tables self.now }
-        ensures { result ≡ nat_lt (events_bound_of (draft self.now)) 262144 }
+        ensures { result ≡ nat_lt (form_events (draft self.now)) 262144 }
     {
         self.events_bound() < MOST_EVENTS
     }
 
     fn accepts_shutdown(&self) -> bool
         requires { Tables self.now }
-        ensures { let d = draft self.now in result ≡ (not (has_shutdown d.actions) && nat_lt (events_bound_of d + 1) 262144) }
+        ensures { let d = draft self.now in result ≡ (not (shuts_down d.actions) && nat_lt (form_events d + 1) 262144) }
     {
         !self.shuts_down && self.events_bound() + 1 < MOST_EVENTS
     }
 
     fn events_bound(&self) -> usize
         requires { Tables self.now }
-        ensures bound { result ≡ events_bound_of (draft self.now) }
+        ensures bound { result ≡ form_events (draft self.now) }
         ensures fits { result < 2 ^ 64 - 1 }
     {
         2 * self.tasks.len() + self.actions.len() + usize::from(self.shuts_down)

@@ -1,7 +1,7 @@
 ghost use Rattle.std.specs.Prelude.{◌≡◌, IfOk, map, codes};
 ghost use Rattle.std.specs.List.{slice_split};
 ghost use Rattle.task_model.specs.Words.{is_word};
-ghost use Rattle.task_model.specs.Lines.{step_read, steps_read, all_some};
+ghost use Rattle.task_script.specs.FormLines.{form_step, form_steps, all_some};
 ghost use Rattle.task_script.specs.Texts.{texts, texts_of_each};
 ghost use Rattle.task_script.specs.Reading.{Gives};
 
@@ -12,9 +12,9 @@ use std::alloc::{AllocError, Global};
 use task_base::Step;
 
 /// The steps that words say: none, or some with `;` between them.
-#[tactic(auto, unfolding(task_model::specs::Lines::steps_read))]
+#[tactic(auto, unfolding(crate::specs::FormLines::form_steps))]
 pub(crate) fn steps_of(alloc: Global, words: &[&[u8]]) -> Result<Vec<Step>, ScriptFault>
-    ensures { Gives (λ steps. steps.items) result (steps_read (texts words.now)) }
+    ensures { Gives (λ steps. steps.items) result (form_steps (texts words.now)) }
 {
     if words.is_empty() {
         return Ok(Vec::new(alloc));
@@ -24,7 +24,7 @@ pub(crate) fn steps_of(alloc: Global, words: &[&[u8]]) -> Result<Vec<Step>, Scri
 }
 
 fn steps_of_pieces(alloc: Global, pieces: &[&[&[u8]]]) -> Result<Vec<Step>, ScriptFault>
-    ensures { Gives (λ steps. steps.items) result (all_some (map step_read (texts_of_each pieces.now))) }
+    ensures { Gives (λ steps. steps.items) result (all_some (map form_step (texts_of_each pieces.now))) }
 {
     let mut steps = Vec::new(alloc);
     for piece in pieces {
@@ -47,9 +47,9 @@ fn is_separator(word: &[u8]) -> bool
     word == b";".as_slice()
 }
 
-#[tactic(auto, unfolding(task_model::specs::Lines::step_read))]
+#[tactic(auto, unfolding(crate::specs::FormLines::form_step))]
 fn step_of(words: &[&[u8]]) -> Option<Step>
-    ensures { result ≡ step_read (texts words.now) }
+    ensures { result ≡ form_step (texts words.now) }
 {
     match words {
         [word, number] => step_named(word, number_in(0, u64::MAX, number)?),

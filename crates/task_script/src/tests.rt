@@ -28,8 +28,12 @@ fn post(task: u32, runner: u32) -> Action {
     }
 }
 
-fn has_default_groups(script: &Script) -> bool {
-    script.foreground == 4 && script.foreground_best == 2 && script.background == 0
+fn has_defaults(script: &Script) -> bool {
+    let groups = (script.foreground, script.foreground_best, script.background);
+    groups == (4, 2, 0)
+        && script.threshold == 1_000_000
+        && script.queues.is_empty()
+        && script.jobs.is_empty()
 }
 
 fn has_tasks(script: &Script, tasks: &[&[Step]]) -> bool {
@@ -53,7 +57,7 @@ fn first_script(rt: HostRuntime) -> Result<(), Fail> {
         Behaviour::SkipOnShutdown,
     )];
     assert!(rt; script.workers == 1);
-    assert!(rt; has_default_groups(&script));
+    assert!(rt; has_defaults(&script));
     assert!(rt; script.runners.as_slice() == runners.as_slice());
     assert!(rt; has_tasks(&script, &[&[Step::Add(5)]]));
     assert!(rt; script.actions.as_slice() == [post(0, 0), Action::Flush].as_slice());
@@ -108,7 +112,7 @@ fn every_form(rt: HostRuntime) -> Result<(), Fail> {
 fn empty_script(rt: HostRuntime) -> Result<(), Fail> {
     let script = read(rt.alloc(), "")?;
     assert!(rt; script.workers == 2);
-    assert!(rt; has_default_groups(&script));
+    assert!(rt; has_defaults(&script));
     assert!(rt; script.runners.is_empty());
     assert!(rt; script.tasks.is_empty());
     assert!(rt; script.actions.is_empty());
@@ -131,6 +135,11 @@ fn refused_scripts(rt: HostRuntime) {
         "task 0 add 1 ;",
         "task 0 add 000000000000000000001",
         "flush é",
+        "runner 0 single:1 user_visible skip",
+        "runner 0 parallel user_visible skip mayblock",
+        "queue 0 0 0",
+        "task 0 block may ; unblock",
+        "tick 1",
         "shutdown\nflush\nshutdown",
         "shutdown 0",
     ] {

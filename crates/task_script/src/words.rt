@@ -2,7 +2,8 @@ ghost use Rattle.std.specs.Prelude.{◌≡◌, ◌&&◌, ◌<◌, ◌^◌, ◌�
 ghost use Rattle.std.specs.Str.{all_ascii_digits};
 ghost use Rattle.std.specs.Str.Lines.{strip_carriage_return};
 ghost use Rattle.std.specs.Str.Parse.{digits_value};
-ghost use Rattle.task_model.specs.Words.{lines_of, words_of, number_in, is_blank};
+ghost use Rattle.task_model.specs.Words.{lines_of, words_of, is_blank, is_all_ascii};
+ghost use Rattle.task_script.specs.FormLines.{number_in};
 ghost use Rattle.task_script.specs.Texts.{texts};
 
 use std::alloc::{AllocError, Global};
@@ -40,6 +41,13 @@ fn is_blank(byte: u8) -> bool
     ensures { result ≡ is_blank byte }
 {
     byte == b' ' || byte == b'\t'
+}
+
+/// Whether no byte is above 127.
+pub(crate) fn is_all_ascii(bytes: &[u8]) -> bool
+    ensures { result ≡ is_all_ascii bytes.now }
+{
+    bytes.iter().all(|byte| *byte < 128)
 }
 
 /// The number that a word writes, if it lies between these two.

@@ -1,5 +1,5 @@
 use Rattle.std.proofs.Common.{◌≡◌, drop}
-use Rattle.task_model.specs.Grammar.{lines_read}
+use Rattle.task_script.specs.Form.{form_lines}
 use Rattle.task_script.specs.Reader.{draft, Tables}
 use Rattle.task_script.specs.Texts.{texts}
 use Rattle.task_script.proofs.reader.Reader.read_lines.Given as goal
@@ -7,5 +7,5 @@ use Rattle.task_script.proofs.reader.Reader.read_lines.Given as goal
 abbrev pub invariant-loop-line : goal.invariant-loop-line
 invariant-loop-line l = record {
   tables : Tables l.self;
-  rest : lines_read (draft l.self) (texts (drop l.line-index l.lines)) ≡ lines_read (draft l.initial.self) (texts l.lines);
+  rest : form_lines (draft l.self) (texts (drop l.line-index l.lines)) ≡ form_lines (draft l.initial.self) (texts l.lines);
 }

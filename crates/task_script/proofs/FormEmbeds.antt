@@ -1,0 +1,260 @@
+-- The small form is part of the whole grammar: what a line, and all lines, give there is what they give here.
+use Rattle.std.proofs.Common.{◌≡◌, ℕ, ◌+◌, ◌*◌, ◌≤◌, Bool, true, false, cond, eqb, leb, ltb, List, [], ◌∷◌, ◌++◌, length, refl, sym, ap, subst, ◌∙◌, Option, Some, None, Result, Ok, arith}
+use Rattle.std.specs.Prelude.{not, ◌&&◌, ◌||◌, codes, is_none, is_some}
+use Rattle.std.specs.List.{list_any, list_all, flat_map}
+use Rattle.std.specs.Option.{option_map}
+use Rattle.std.proofs.lemmas.Bool.{eqb-true}
+use Rattle.std.proofs.lemmas.Bool.Decides.{nat_tests}
+use Rattle.task_base.specs.Plan.{Plan}
+use Rattle.task_base.specs.declared.step.Step.{Step}
+use Rattle.task_base.specs.declared.step.Step.TheVariants.{Post as PostStep}
+use Rattle.task_base.specs.declared.script.Action.{Action}
+use Rattle.task_base.specs.declared.script.Action.TheVariants.{Post, Flush, Shutdown}
+use Rattle.task_base.specs.declared.script.RunnerKind.{RunnerKind}
+use Rattle.task_base.specs.declared.script.RunnerKind.TheVariants.{Parallel, Sequenced, Single}
+use Rattle.task_traits.specs.declared.traits.Priority.{Priority}
+use Rattle.task_traits.specs.declared.traits.Behaviour.{Behaviour}
+use Rattle.task_model.specs.Words.{is_word, begins_comment, is_all_ascii, lines_of, words_of}
+use Rattle.task_model.specs.Places.{number_from, priority_named, behaviour_named, kind_named, steps_read}
+use Rattle.task_model.specs.Bound.{events_of_task, events_of_action}
+use Rattle.task_model.specs.Draft.{Draft, empty_draft, script_of, is_bare, is_above_workers, is_declared, posted_in, is_any_posted, has_bad_scopes, is_bad_post, has_block, has_shutdown, ticks_of, steps_in, ticks_in, events_in}
+use Rattle.task_model.specs.Postings.{posts_of_step}
+use Rattle.task_model.specs.Lines.{workers_line, runner_line, task_line, acted, post_line, flush_line, shutdown_line, action_command_read, command_read, words_read, line_read}
+use Rattle.task_model.specs.Reasons.{◌>>=◌ as ◌then◌, ◌>>◌, refuse, not_ascii}
+use Rattle.task_model.specs.Grammar.{at_line, lines_read, script_read}
+use Rattle.task_script.specs.FormDraft.{is_posted, shuts_down, steps_of_tasks, form_events}
+use Rattle.task_script.specs.FormLines.{◌>>=◌, max_id, number_in, form_kind, form_priority, form_behaviour, form_steps, form_workers, form_runner, form_task, form_post, form_flush, form_shutdown, form_command, form_words, form_line}
+use Rattle.task_script.specs.Form.{form_lines, form_read}
+use Rattle.task_script.specs.WellFormed.{is_single}
+use Rattle.task_script.proofs.FormLaws.{bind_some, guard_some, and_both, not_true, below, some_same, IsSound, Computes, form_kind-shared, form_steps-compute, runner_made, runner_added, task_added, post_added, keeps_line, empty_sound}
+use Rattle.task_script.proofs.FormSteps.{one_if, result_ok-some, is_word-same, number_from-wider, number_from-same, kind_named-same, steps_read-same, computes-declared, computes-posts, computes-misplaced, computes-scopes, computes-acts}
+use Rattle.task_script.proofs.FormTotals.{sound-has_block, sound-posted, sound-steps, sound-ticks, sound-events}
+
+-- ---- what the grammar's lines give where nothing is against them
+
+workers_goes : (d : Draft) (number : List ℕ) (n : ℕ) → number_from 1 64 number ≡ Ok n → is_bare d ≡ true → is_some d.workers ≡ false
+    → workers_line d (number ∷ []) ≡ Ok (record d { workers = Some n })
+unfolding workers_line
+workers_goes d number n is bare unsaid = rw (is, bare, unsaid) refl
+
+runner_goes : (d : Draft) (number kind priority behaviour : List ℕ) (r : ℕ) (k : RunnerKind) (p : Priority) (b : Behaviour)
+    → number_from 0 max_id number ≡ Ok r → kind_named kind ≡ Ok k → priority_named priority ≡ Ok p → behaviour_named behaviour ≡ Ok b
+    → eqb r (length d.runners) ≡ true → is_above_workers d k ≡ false → eqb (length d.actions) 0 ≡ true → ltb 4096 (length d.runners + 1) ≡ false
+    → runner_line d (number ∷ kind ∷ priority ∷ behaviour ∷ []) ≡ Ok (record d { runners = d.runners ++ runner_made k p b ∷ [] })
+unfolding runner_line
+runner_goes d number kind priority behaviour r k p b r_is k_is p_is b_is next seated no_actions few = rw (r_is, k_is, p_is, b_is, next, seated, no_actions, few) refl
+
+task_goes : (d : Draft) (number : List ℕ) (words : List (List ℕ)) (t : ℕ) (steps : List Step)
+    → number_from 0 max_id number ≡ Ok t → steps_read words ≡ Ok steps → eqb t (length d.tasks) ≡ true → list_all (is_declared d) steps ≡ true
+    → flat_map posts_of_step steps ≡ [] → eqb (length d.actions) 0 ≡ true → has_bad_scopes false steps ≡ false → list_any (is_bad_post d) steps ≡ false
+    → ltb 16384 (length d.tasks + 1) ≡ false → ltb 65536 (steps_in d + length steps) ≡ false → ltb 262144 (events_in d + events_of_task steps) ≡ false
+    → task_line d (number ∷ words) ≡ Ok (record d { tasks = d.tasks ++ steps ∷ [] })
+unfolding task_line
+task_goes d number words t steps t_is steps_are next declared posts no_actions scopes placed few_tasks few_steps few_events =
+    rw (t_is, steps_are, next, declared, posts, no_actions, scopes, placed, few_tasks, few_steps, few_events) refl
+
+acted_goes : (d : Draft) (action : Action) → ltb 65536 (ticks_in d + ticks_of action) ≡ false → ltb 262144 (events_in d + events_of_action action) ≡ false
+    → acted d action ≡ Ok (record d { actions = d.actions ++ action ∷ [] })
+acted_goes d action few_ticks few_events = rw (few_ticks, few_events) refl
+
+post_goes : (d : Draft) (task runner delay : List ℕ) (t r u : ℕ)
+    → number_from 0 max_id task ≡ Ok t → number_from 0 max_id runner ≡ Ok r → number_from 0 1000000000000 delay ≡ Ok u
+    → is_declared d (PostStep t r u) ≡ true → is_any_posted (posted_in d) (t ∷ []) ≡ false → is_bad_post d (PostStep t r u) ≡ false
+    → post_line d (task ∷ runner ∷ delay ∷ []) ≡ acted d (Post t r u)
+unfolding post_line
+post_goes d task runner delay t r u t_is r_is u_is declared fresh placed = rw (t_is, r_is, u_is, declared, fresh, placed) refl
+
+shutdown_goes : (d : Draft) → has_shutdown d ≡ false → shutdown_line d [] ≡ acted d Shutdown
+unfolding shutdown_line
+shutdown_goes d never = rw never refl
+
+-- ---- the lines of the small form
+
+-- `workers N`
+workers_same : (d d' : Draft) (words : List (List ℕ)) → form_workers d words ≡ Some d' → workers_line d words ≡ Ok d'
+unfolding form_workers
+workers_same d d' (number ∷ []) e =
+    let n = bind_some (number_in 1 64 number) (λ n. cond (is_none d.workers && is_bare d) (Some (record d { workers = Some n })) None) d' e in
+    let g = guard_some (is_none d.workers && is_bare d) (record d { workers = Some n.0 }) d' n.2 in
+    let b = and_both (is_none d.workers) (is_bare d) g.0 in
+    workers_goes d number n.0 (number_from-same 1 64 number n.0 n.1) b.1 (not_said d.workers b.0) ∙ ap Ok g.1
+  where
+    not_said : (o : Option ℕ) → is_none o ≡ true → is_some o ≡ false
+    not_said None h = refl
+    not_said (Some x) h = absurd cc
+workers_same d d' [] e = absurd cc
+workers_same d d' (a ∷ b ∷ words) e = absurd cc
+
+-- a shared runner names no seat
+shared_is_not_above : (d : Draft) (kind : RunnerKind) → is_single kind ≡ false → is_above_workers d kind ≡ false
+shared_is_not_above d Parallel h = refl
+shared_is_not_above d Sequenced h = refl
+shared_is_not_above d (Single seat) h = absurd cc
+
+-- a number that is no more than the limit
+fits : (limit n : ℕ) → n ≤ limit → ltb limit n ≡ false
+fits limit n h = grind (arith, nat_tests)
+
+at_most : (a b : ℕ) → leb a b ≡ true → a ≤ b
+at_most a b h = grind (arith, nat_tests)
+
+-- `runner R KIND PRIORITY BEHAVIOUR`
+runner_same : (d d' : Draft) (words : List (List ℕ)) → form_runner d words ≡ Some d' → runner_line d words ≡ Ok d'
+unfolding form_runner
+runner_same d d' (number ∷ kind ∷ priority ∷ behaviour ∷ []) e =
+    let r = bind_some (number_in 0 max_id number) (λ r. form_kind kind >>= λ k. form_priority priority >>= λ p. form_behaviour behaviour >>= λ b. runner_added d r k p b) d' e in
+    let k = bind_some (form_kind kind) (λ k. form_priority priority >>= λ p. form_behaviour behaviour >>= λ b. runner_added d r.0 k p b) d' r.2 in
+    let p = bind_some (form_priority priority) (λ p. form_behaviour behaviour >>= λ b. runner_added d r.0 k.0 p b) d' k.2 in
+    let b = bind_some (form_behaviour behaviour) (λ b. runner_added d r.0 k.0 p.0 b) d' p.2 in
+    let g = guard_some (eqb r.0 (length d.runners) && eqb (length d.actions) 0 && ltb (length d.runners) 4096) (record d { runners = d.runners ++ runner_made k.0 p.0 b.0 ∷ [] }) d' b.2 in
+    let outer = and_both (eqb r.0 (length d.runners) && eqb (length d.actions) 0) (ltb (length d.runners) 4096) g.0 in
+    let inner = and_both (eqb r.0 (length d.runners)) (eqb (length d.actions) 0) outer.0 in
+    runner_goes d number kind priority behaviour r.0 k.0 p.0 b.0 (number_from-same 0 max_id number r.0 r.1) (kind_named-same kind k.0 k.1) (result_ok-some (priority_named priority) p.0 p.1)
+    (result_ok-some (behaviour_named behaviour) b.0 b.1) inner.0 (shared_is_not_above d k.0 (form_kind-shared kind k.0 k.1)) inner.1
+    (fits 4096 (length d.runners + 1) (omega (arith, below _ _ outer.1)))
+    ∙ ap Ok g.1
+runner_same d d' [] e = absurd cc
+runner_same d d' (a ∷ []) e = absurd cc
+runner_same d d' (a ∷ b ∷ []) e = absurd cc
+runner_same d d' (a ∷ b ∷ c ∷ []) e = absurd cc
+runner_same d d' (a ∷ b ∷ c ∷ f ∷ g ∷ words) e = absurd cc
+
+no_shutdown : (actions : List Action) → length actions ≡ 0 → shuts_down actions ≡ false
+no_shutdown [] e = refl
+no_shutdown (a ∷ actions) e = absurd (omega (arith, e))
+
+-- before the actions the entries are those of the tasks
+bare_events : (d : Draft) → IsSound d → length d.actions ≡ 0 → events_in d ≡ 2 * length d.tasks
+bare_events d sound none =
+    let at_rest : one_if (shuts_down d.actions) ≡ 0 = ap one_if (no_shutdown d.actions none) in
+    omega (arith, sound-events d sound, none, at_rest)
+
+-- `task T STEPS`
+task_same : (d d' : Draft) (words : List (List ℕ)) → IsSound d → form_task d words ≡ Some d' → task_line d words ≡ Ok d'
+unfolding form_task
+task_same d d' (number ∷ words) sound e =
+    let t = bind_some (number_in 0 max_id number) (λ t. form_steps words >>= λ steps. task_added d t steps) d' e in
+    let steps = bind_some (form_steps words) (λ steps. task_added d t.0 steps) d' t.2 in
+    let g = guard_some (eqb t.0 (length d.tasks) && eqb (length d.actions) 0 && ltb (length d.tasks) 16384 && leb (steps_of_tasks d.tasks + length steps.0) 65536) (record d { tasks = d.tasks ++ steps.0 ∷ [] }) d' steps.2 in
+    let all = and_both (eqb t.0 (length d.tasks) && eqb (length d.actions) 0 && ltb (length d.tasks) 16384) (leb (steps_of_tasks d.tasks + length steps.0) 65536) g.0 in
+    let outer = and_both (eqb t.0 (length d.tasks) && eqb (length d.actions) 0) (ltb (length d.tasks) 16384) all.0 in
+    let inner = and_both (eqb t.0 (length d.tasks)) (eqb (length d.actions) 0) outer.0 in
+    let compute : Computes steps.0 = form_steps-compute words steps.0 steps.1 in
+    let few = below _ _ outer.1 in
+    task_goes d number words t.0 steps.0 (number_from-same 0 max_id number t.0 t.1) (steps_read-same words steps.0 steps.1) inner.0 (computes-declared d steps.0 compute)
+    (computes-posts d steps.0 compute) inner.1 (computes-scopes steps.0 compute) (computes-misplaced d steps.0 compute)
+    (fits 16384 (length d.tasks + 1) (omega (arith, few)))
+    (fits 65536 (steps_in d + length steps.0) (omega (arith, sound-steps d sound, at_most _ _ all.1)))
+    (fits 262144 (events_in d + events_of_task steps.0) (omega (arith, few, bare_events d sound (eqb-true _ _ inner.1), computes-acts steps.0 compute)))
+    ∙ ap Ok g.1
+task_same d d' [] sound e = absurd cc
+
+-- a task that no action posts is posted by nothing
+fresh_here : (d : Draft) (t : ℕ) → IsSound d → is_posted d.actions t ≡ false → is_any_posted (posted_in d) (t ∷ []) ≡ false
+fresh_here d t sound fresh = ap (λ (b : Bool). b || false) (sound-posted d t sound ∙ fresh)
+
+-- an action for which the entries are enough
+acted_same : (d : Draft) (action : Action) → IsSound d → ticks_of action ≡ 0 → form_events d + events_of_action action ≤ 262144
+    → acted d action ≡ Ok (record d { actions = d.actions ++ action ∷ [] })
+acted_same d action sound no_ticks room =
+    acted_goes d action (fits 65536 (ticks_in d + ticks_of action) (omega (arith, sound-ticks d sound, no_ticks)))
+    (fits 262144 (events_in d + events_of_action action) (omega (arith, room, sound-events d sound)))
+
+-- `post T R 0`
+post_same : (d d' : Draft) (words : List (List ℕ)) → IsSound d → form_post d words ≡ Some d' → post_line d words ≡ Ok d'
+unfolding form_post
+post_same d d' (task ∷ runner ∷ delay ∷ []) sound e =
+    let t = bind_some (number_in 0 max_id task) (λ t. number_in 0 max_id runner >>= λ r. number_in 0 0 delay >>= λ u. post_added d t r u) d' e in
+    let r = bind_some (number_in 0 max_id runner) (λ r. number_in 0 0 delay >>= λ u. post_added d t.0 r u) d' t.2 in
+    let u = bind_some (number_in 0 0 delay) (λ u. post_added d t.0 r.0 u) d' r.2 in
+    let g = guard_some (ltb t.0 (length d.tasks) && ltb r.0 (length d.runners) && not (is_posted d.actions t.0) && ltb (form_events d) 262144) (record d { actions = d.actions ++ Post t.0 r.0 u.0 ∷ [] }) d' u.2 in
+    let all = and_both (ltb t.0 (length d.tasks) && ltb r.0 (length d.runners) && not (is_posted d.actions t.0)) (ltb (form_events d) 262144) g.0 in
+    let outer = and_both (ltb t.0 (length d.tasks) && ltb r.0 (length d.runners)) (not (is_posted d.actions t.0)) all.0 in
+    let inner = and_both (ltb t.0 (length d.tasks)) (ltb r.0 (length d.runners)) outer.0 in
+    let never : has_block d t.0 ≡ false = sound-has_block d t.0 sound (below _ _ inner.0) in
+    let placed : is_bad_post d (PostStep t.0 r.0 u.0) ≡ false = blocks_not (has_block d t.0) _ never in
+    let room = below _ _ all.1 in
+    post_goes d task runner delay t.0 r.0 u.0 (number_from-same 0 max_id task t.0 t.1) (number_from-same 0 max_id runner r.0 r.1)
+    (number_from-wider 0 0 1000000000000 delay u.0 (omega arith) u.1) outer.0 (fresh_here d t.0 sound (not_true _ outer.1)) placed
+    ∙ acted_same d (Post t.0 r.0 u.0) sound refl (omega (arith, room)) ∙ ap Ok g.1
+  where
+    blocks_not : (b c : Bool) → b ≡ false → (b && c) ≡ false
+    blocks_not true c h = absurd cc
+    blocks_not false c h = refl
+post_same d d' [] sound e = absurd cc
+post_same d d' (a ∷ []) sound e = absurd cc
+post_same d d' (a ∷ b ∷ []) sound e = absurd cc
+post_same d d' (a ∷ b ∷ c ∷ f ∷ words) sound e = absurd cc
+
+-- `flush`
+flush_same : (d d' : Draft) (words : List (List ℕ)) → IsSound d → form_flush d words ≡ Some d' → flush_line d words ≡ Ok d'
+unfolding form_flush flush_line
+flush_same d d' [] sound e =
+    let g = guard_some (ltb (form_events d) 262144) (record d { actions = d.actions ++ Flush ∷ [] }) d' e in
+    let room = below _ _ g.0 in
+    acted_same d Flush sound refl (omega (arith, room)) ∙ ap Ok g.1
+flush_same d d' (a ∷ words) sound e = absurd cc
+
+-- `shutdown`
+shutdown_same : (d d' : Draft) (words : List (List ℕ)) → IsSound d → form_shutdown d words ≡ Some d' → shutdown_line d words ≡ Ok d'
+unfolding form_shutdown
+shutdown_same d d' [] sound e =
+    let g = guard_some (not (shuts_down d.actions) && ltb (form_events d + 1) 262144) (record d { actions = d.actions ++ Shutdown ∷ [] }) d' e in
+    let both = and_both (not (shuts_down d.actions)) (ltb (form_events d + 1) 262144) g.0 in
+    let room = below _ _ both.1 in
+    shutdown_goes d (not_true _ both.0) ∙ acted_same d Shutdown sound refl (omega (arith, room)) ∙ ap Ok g.1
+shutdown_same d d' (a ∷ words) sound e = absurd cc
+
+-- ---- a line
+
+-- the two ways that a choice goes
+choice : {C : Type 0} (d' : Draft) (b : Bool) (x y : Option Draft) → cond b x y ≡ Some d' → (b ≡ true → x ≡ Some d' → C) → (y ≡ Some d' → C) → C
+choice d' true x y e f g = f refl e
+choice d' false x y e f g = g e
+
+command_same : (d d' : Draft) (name : List ℕ) (words : List (List ℕ)) → IsSound d → form_command d name words ≡ Some d' → command_read d name words ≡ Ok d'
+unfolding form_command command_read action_command_read
+command_same d d' name words sound e =
+    choice d' (is_word name (codes "workers")) _ _ e (λ is e0. subst Same (sym (is_word-same name (codes "workers") is)) (workers_same d d' words e0))
+    (λ e1. choice d' (is_word name (codes "runner")) _ _ e1 (λ is e0. subst Same (sym (is_word-same name (codes "runner") is)) (runner_same d d' words e0))
+    (λ e2. choice d' (is_word name (codes "task")) _ _ e2 (λ is e0. subst Same (sym (is_word-same name (codes "task") is)) (task_same d d' words sound e0))
+    (λ e3. choice d' (is_word name (codes "post")) _ _ e3 (λ is e0. subst Same (sym (is_word-same name (codes "post") is)) (post_same d d' words sound e0))
+    (λ e4. choice d' (is_word name (codes "flush")) _ _ e4 (λ is e0. subst Same (sym (is_word-same name (codes "flush") is)) (flush_same d d' words sound e0))
+    (λ e5. choice d' (is_word name (codes "shutdown")) _ _ e5 (λ is e0. subst Same (sym (is_word-same name (codes "shutdown") is)) (shutdown_same d d' words sound e0)) (λ e6. absurd cc))))))
+  where
+    Same : List ℕ → Type 0
+    Same word = command_read d word words ≡ Ok d'
+
+words_same : (d d' : Draft) (line : List ℕ) (words : List (List ℕ)) → IsSound d → form_words d line words ≡ Some d' → words_read d line words ≡ Ok d'
+unfolding form_words words_read
+words_same d d' line [] sound e = ap Ok (some_same d d' e)
+words_same d d' line (name ∷ words) sound e = either (begins_comment name) (is_all_ascii line) e
+  where
+    either : (b c : Bool) → cond b (Some d) (cond c (form_command d name words) None) ≡ Some d'
+        → cond b (Ok d) (refuse (not c) not_ascii >> command_read d name words) ≡ Ok d'
+    either true c h = ap Ok (some_same d d' h)
+    either false true h = command_same d d' name words sound h
+    either false false h = absurd cc
+
+-- ---- all lines
+
+lines_same : (d d' : Draft) (number : ℕ) (lines : List (List ℕ)) → IsSound d → form_lines d lines ≡ Some d' → lines_read d number lines ≡ Ok d'
+unfolding form_lines lines_read
+lines_same d d' number [] sound e = ap Ok (some_same d d' e)
+lines_same d d' number (line ∷ lines) sound e =
+    let next = bind_some (form_line d line) (λ n. form_lines n lines) d' e in
+    goes (line_read d line) next.0 (words_same d next.0 line (words_of line) sound next.1) ∙ lines_same next.0 d' (number + 1) lines (keeps_line d next.0 line (words_of line) sound next.1) next.2
+  where
+    goes : (r : Result Draft ℕ) (n : Draft) → r ≡ Ok n → (at_line number r then λ m. lines_read m (number + 1) lines) ≡ lines_read n (number + 1) lines
+    goes r n is = ap (λ (q : Result Draft ℕ). at_line number q then λ m. lines_read m (number + 1) lines) is
+
+-- bytes of the small form are a script, and the same one
+pub form_is_script : (bytes : List ℕ) (script : Plan) → form_read bytes ≡ Some script → script_read bytes ≡ Ok script
+unfolding form_read script_read
+form_is_script bytes script e = made (form_lines empty_draft (lines_of bytes)) refl e
+  where
+    made : (o : Option Draft) → form_lines empty_draft (lines_of bytes) ≡ o → option_map script_of o ≡ Some script
+        → (lines_read empty_draft 1 (lines_of bytes) then λ d. Ok (script_of d)) ≡ Ok script
+    made None is h = absurd cc
+    made (Some d) is h =
+        ap (λ (r : Result Draft (ℕ × ℕ)). r then λ d. Ok (script_of d)) (lines_same empty_draft d 1 (lines_of bytes) empty_sound is) ∙ ap Ok (some_same (script_of d) script h)
