@@ -1,7 +1,9 @@
 -- What each entry keeps: the lists stand for the past with the entry behind it.
-use Rattle.std.proofs.Common.{◌≡◌, ◌≢◌, ℕ, ◌+◌, Bool, true, false, cond, eqb, List, [], ◌∷◌, ◌++◌, length, get_or, take, map, refl, sym, ap, ◌∙◌, Option, Some, None, arith}
-use Rattle.std.specs.Prelude.{not, ◌&&◌, ◌||◌, filter}
-use Rattle.std.specs.List.{list_any, AllByRecursion}
+use Rattle.std.proofs.Common.{◌≡◌, ℕ, ◌+◌, Bool, true, false, cond, eqb, leb, List, [], ◌∷◌, ◌++◌, length, get_or, take, map, refl, sym, ap, subst, ◌∙◌, Option, Some, None, arith}
+use Rattle.std.specs.Prelude.{not, ◌&&◌, ◌||◌, is_none, filter}
+use Rattle.std.specs.List.{list_any, list_all, AllByRecursion}
+use Rattle.std.proofs.Math.Bool.{or-false, and-true, and-false}
+use Rattle.std.proofs.lemmas.Bool.{ne_eqb}
 use Rattle.std.proofs.lemmas.Bool.Decides.{nat_tests}
 use Rattle.std.proofs.lemmas.List.{append-nil, map-append, take_more, length-append}
 use Rattle.std.proofs.lemmas.List.Elements.{filter-append}
@@ -17,34 +19,44 @@ use Rattle.task_base.specs.Plan.{Plan}
 use Rattle.task_base.specs.declared.entry.Entry.{Entry}
 use Rattle.task_base.specs.declared.entry.Kind.{Kind}
 use Rattle.task_base.specs.declared.entry.Kind.TheVariants.{Post, Take, Idle, Shutdown, Done}
+use Rattle.task_base.specs.declared.policy.Policy.{Policy}
+use Rattle.task_base.specs.declared.policy.Policy.TheVariants.{All}
 use Rattle.task_model.specs.Past.{fold_past}
-use Rattle.task_model.specs.Posts.{Posted, Before, InOrder, posts, posted_by, is_taken, takes, is_ended, ends}
+use Rattle.task_model.specs.Posts.{Posted, Before, InOrder, post_behind, posts, posted_by, is_taken, takes, is_ended, ends}
 use Rattle.task_model.specs.Phase.{phase_of, phase_after}
+use Rattle.task_model.specs.Policies.{policy_of, policy_after}
 use Rattle.task_model.specs.Refusal.{effective_at, is_refused, is_forbidden}
 use Rattle.task_model.specs.Blockers.{is_block}
-use Rattle.task_model.specs.Sequences.{eligible}
-use Rattle.task_model.specs.Seats.{Running, running, running_after}
+use Rattle.task_model.specs.Sequences.{may_start}
+use Rattle.task_model.specs.Seats.{running, running_after, holding, holding_after, worker_seats}
 use Rattle.task_model.specs.Cells.{cell_of, cell_after}
 use Rattle.task_model.specs.Sources.{best_of}
-use Rattle.task_model.specs.Script.{Want, WantsPost, WantsIdle, wants_shutdown, own_entries, all_wants, wanted}
-use Rattle.task_model.specs.Allowed.{may_come}
-use Rattle.task_model.specs.Legal.{is_legal}
-use Rattle.task_model.specs.WellFormed.{is_want_of, posts_among, starts_among, WellFormed, IsSoundPost}
-use Rattle.task_model.proofs.Lists.{eqb-same, filter_congr, filter-filter, filter_never, filter_all, AllByRecursion-append, AllByRecursion-map}
-use Rattle.task_model.proofs.Growth.{or-false, posts-push, is_taken-push, is_ended-push, phase_of-push, running-push, cell_of-push, is_legal-push}
-use Rattle.task_model.proofs.Quiet.{NobodyRuns, is_quiet_now}
-use Rattle.task_model.proofs.Best.{InOrder-push, InOrder-middle}
+use Rattle.hist_model.specs.Views.{own_entries}
+use Rattle.hist_model.specs.Allowed.{may_come}
+use Rattle.hist_model.specs.Legal.{is_legal}
+use Rattle.task_model.proofs.Lists.{eqb-same, filter_congr, filter-filter, filter_never, filter_all, list_all_always, AllByRecursion-append, AllByRecursion-map}
+use Rattle.task_model.proofs.Growth.{posts_push, is_taken_push, is_ended_push, phase_of_push, policy_of_push, running_push, holding_push, cell_of_push}
+use Rattle.hist_model.proofs.Legal.{is_legal_push}
+use Rattle.task_script.specs.Wants.{Want, WantsPost, WantsIdle, wants_shutdown, all_wants}
+use Rattle.task_script.specs.WellFormed.{is_want_of, posts_among, starts_among, WellFormed, IsSoundPost}
 use Rattle.env_app.specs.declared.engine.Waiting.{Waiting}
-use Rattle.env_app.specs.Engine.{waiting_of, done_count, done_wants, IsKnown, blocks_shutdown, StandsFor}
+use Rattle.env_app.specs.Engine.{waiting_of, done_count, done_wants, wanted, to_take, IsKnown, IsStill, blocks_shutdown, StandsFor}
+use Rattle.env_app.proofs.Wanted.{by_script_next}
+use Rattle.env_app.proofs.Quiet.{is_quiet_still}
+use Rattle.env_app.proofs.Best.{InOrder-push, InOrder-middle, best_of_none}
 
 -- ---- entries of the driver
+
+-- the driver's seat is one of the script's
+pub driver_sits : (script : Plan) → leb 0 script.workers ≡ true
+driver_sits script = grind (arith, nat_tests)
 
 abbrev pub driver_entry : Kind → Entry
 driver_entry kind = record { seat = 0; kind = kind }
 
 -- an entry of the driver is one more made
 pub done_count-driver : (past : List Entry) (kind : Kind) → done_count (past ++ driver_entry kind ∷ []) ≡ done_count past + 1
-done_count-driver past kind = ap length (filter-append (λ e. eqb e.seat 0) past (driver_entry kind ∷ [])) ∙ length-append (own_entries past) (driver_entry kind ∷ [])
+done_count-driver past kind = ap length (filter-append (λ e. eqb e.seat 0) past (driver_entry kind ∷ [])) ∙ length-append (own_entries 0 past) (driver_entry kind ∷ [])
 
 -- the entry that was wanted is made after an entry of the driver
 pub done_wants-driver : (script : Plan) (past : List Entry) (kind : Kind) (want : Want) → wanted script past ≡ Some want → done_wants script (past ++ driver_entry kind ∷ []) ≡ done_wants script past ++ want ∷ []
@@ -57,21 +69,21 @@ done_wants-driver script past kind want next =
 -- ---- what an entry leaves of the tasks that may be taken
 
 -- an entry that takes no task, posts none and leaves the phase leaves them
-pub eligible-same : (script : Plan) (past : List Entry) (e : Entry) → posted_by (length past) e.kind ≡ [] → ((t : ℕ) → takes t e.kind ≡ false) → phase_after (phase_of past) e.kind ≡ phase_of past →
-    eligible script (past ++ e ∷ []) ≡ eligible script past
-unfolding eligible
-eligible-same script past e none never same =
-    rw (posts-push past e, none, append-nil (posts past))
-    (filter_congr (λ p. not (is_taken (past ++ e ∷ []) p.task) && not (is_forbidden script (past ++ e ∷ []) p)) (λ p. not (is_taken past p.task) && not (is_forbidden script past p)) (posts past)
-    (λ p. rw (is_taken-push past e p.task, never p.task, or-false (is_taken past p.task), phase_of-push past e, same) refl))
+pub to_take-same : (script : Plan) (past : List Entry) (e : Entry) → posted_by past e.kind ≡ [] → ((t : ℕ) → takes t e.kind ≡ false) → phase_after (phase_of past) e.kind ≡ phase_of past →
+    to_take script (past ++ e ∷ []) ≡ to_take script past
+unfolding to_take
+to_take-same script past e none never same =
+    rw (posts_push past e, none, append-nil (posts past))
+    (filter_congr (may_start script (past ++ e ∷ [])) (may_start script past) (posts past)
+    (λ p. rw (is_taken_push past e p.task, never p.task, or-false (is_taken past p.task), phase_of_push past e, same) refl))
 
 -- an accepted post adds its task
-eligible-post : (script : Plan) (past : List Entry) (task runner delay : ℕ) → is_taken past task ≡ false → is_refused script past runner delay ≡ false →
-    eligible script (past ++ driver_entry (Post task runner delay true) ∷ []) ≡ eligible script past ++ record { place = length past; task = task; runner = runner; delay = delay } ∷ []
-unfolding eligible
-eligible-post script past task runner delay untaken allowed =
-    filter_congr (λ p. not (is_taken (past ++ e ∷ []) p.task) && not (is_forbidden script (past ++ e ∷ []) p)) may (posts (past ++ e ∷ [])) (λ p. rw (is_taken-push past e p.task, or-false (is_taken past p.task), phase_of-push past e) refl)
-    ∙ ap (filter may) (posts-push past e)
+to_take-post : (script : Plan) (past : List Entry) (task runner delay : ℕ) → is_taken past task ≡ false → is_refused script past runner delay ≡ false →
+    to_take script (past ++ driver_entry (Post task runner delay true) ∷ []) ≡ to_take script past ++ post_behind past task runner delay ∷ []
+unfolding to_take
+to_take-post script past task runner delay untaken allowed =
+    filter_congr (may_start script (past ++ e ∷ [])) may (posts (past ++ e ∷ [])) (λ p. rw (is_taken_push past e p.task, or-false (is_taken past p.task), phase_of_push past e) refl)
+    ∙ ap (filter may) (posts_push past e)
     ∙ filter-append may (posts past) (made ∷ [])
     ∙ ap (λ (b : Bool). filter may (posts past) ++ cond b (made ∷ []) []) made_may
   where
@@ -79,7 +91,7 @@ eligible-post script past task runner delay untaken allowed =
     e = driver_entry (Post task runner delay true)
 
     made : Posted
-    made = record { place = length past; task = task; runner = runner; delay = delay }
+    made = post_behind past task runner delay
 
     may : Posted → Bool
     may p = not (is_taken past p.task) && not (is_forbidden script past p)
@@ -88,52 +100,52 @@ eligible-post script past task runner delay untaken allowed =
     made_may = rw (untaken, allowed) refl
 
 -- once shutdown starts, those that it forbids go
-pub eligible-shutdown : (script : Plan) (past : List Entry) → phase_of past ≡ phases.Running →
-    eligible script (past ++ driver_entry Shutdown ∷ []) ≡ filter (λ p. not (forbids phases.Started (effective_at script p.runner p.delay))) (eligible script past)
-unfolding eligible
-eligible-shutdown script past running_now =
-    ap (filter (λ p. not (is_taken (past ++ e ∷ []) p.task) && not (is_forbidden script (past ++ e ∷ []) p))) (posts-push past e ∙ append-nil (posts past))
-    ∙ filter_congr (λ p. not (is_taken (past ++ e ∷ []) p.task) && not (is_forbidden script (past ++ e ∷ []) p)) (λ p. (not (is_taken past p.task) && not (is_forbidden script past p)) && stays p) (posts past) (λ p. here p)
-    ∙ sym (filter-filter stays (λ p. not (is_taken past p.task) && not (is_forbidden script past p)) (posts past))
+pub to_take-shutdown : (script : Plan) (past : List Entry) → phase_of past ≡ phases.Running →
+    to_take script (past ++ driver_entry Shutdown ∷ []) ≡ filter (λ p. not (forbids phases.Started (effective_at script p.home p.delay))) (to_take script past)
+unfolding to_take
+to_take-shutdown script past running_now =
+    ap (filter (may_start script (past ++ e ∷ []))) (posts_push past e ∙ append-nil (posts past))
+    ∙ filter_congr (may_start script (past ++ e ∷ [])) (λ p. may_start script past p && stays p) (posts past) (λ p. here p)
+    ∙ sym (filter-filter stays (may_start script past) (posts past))
   where
     e : Entry
     e = driver_entry Shutdown
 
     stays : Posted → Bool
-    stays p = not (forbids phases.Started (effective_at script p.runner p.delay))
+    stays p = not (forbids phases.Started (effective_at script p.home p.delay))
 
-    and-true : (b : Bool) → (b && true) ≡ b
-    and-true true = refl
-    and-true false = refl
-
-    here : (p : Posted) → (not (is_taken (past ++ e ∷ []) p.task) && not (is_forbidden script (past ++ e ∷ []) p)) ≡ ((not (is_taken past p.task) && not (is_forbidden script past p)) && stays p)
-    here p = rw (is_taken-push past e p.task, or-false (is_taken past p.task), phase_of-push past e, running_now, and-true (not (is_taken past p.task))) refl
+    here : (p : Posted) → may_start script (past ++ e ∷ []) p ≡ (may_start script past p && stays p)
+    here p = rw (is_taken_push past e p.task, or-false (is_taken past p.task), phase_of_push past e, running_now, and-true (not (is_taken past p.task))) refl
 
 -- once shutdown is done, all go
-pub eligible-done : (script : Plan) (past : List Entry) → eligible script (past ++ driver_entry Done ∷ []) ≡ []
-unfolding eligible
-eligible-done script past =
-    filter_never (λ p. not (is_taken (past ++ e ∷ []) p.task) && not (is_forbidden script (past ++ e ∷ []) p)) (posts (past ++ e ∷ [])) (λ p. rw (phase_of-push past e) (and-false (not (is_taken (past ++ e ∷ []) p.task))))
+pub to_take-done : (script : Plan) (past : List Entry) → to_take script (past ++ driver_entry Done ∷ []) ≡ []
+unfolding to_take
+to_take-done script past =
+    filter_never (may_start script (past ++ e ∷ [])) (posts (past ++ e ∷ [])) (λ p. rw (phase_of_push past e) (and-false (not (is_taken (past ++ e ∷ []) p.task))))
   where
     e : Entry
     e = driver_entry Done
 
-    and-false : (b : Bool) → (b && false) ≡ false
-    and-false true = refl
-    and-false false = refl
-
 -- ---- what an entry of the driver leaves of the rest
 
-pub quiet-driver : (past : List Entry) (kind : Kind) → NobodyRuns past → running_after None kind ≡ None → NobodyRuns (past ++ driver_entry kind ∷ [])
-quiet-driver past kind quiet none seat = running-push past (driver_entry kind) seat ∙ either (eqb 0 seat)
-  where
-    either : (b : Bool) → cond b (running_after (running past seat) kind) (running past seat) ≡ None
-    either true = ap (λ (r : Option Running). running_after r kind) (quiet seat) ∙ none
-    either false = quiet seat
+-- a test on seats that an entry leaves
+stays_none : {A : Type 0} (now : Option A) (after : Option A → Option A) (b : Bool) → now ≡ None → after None ≡ None → cond b (after now) now ≡ None
+stays_none now after true none same = ap after none ∙ same
+stays_none now after false none same = none
+
+-- an entry that takes nothing, and posts nothing with a delay, leaves all still
+pub still_after : (past : List Entry) (e : Entry) → IsStill past → running_after None e.kind ≡ None → holding_after None e.kind ≡ None → policy_after All e.kind ≡ All →
+    AllByRecursion (λ p. p.delay ≡ 0) (posted_by past e.kind) → IsStill (past ++ e ∷ [])
+still_after past e still runs holds policy immediate = record {
+  runs = λ seat. running_push past e seat ∙ stays_none (running past seat) (λ r. running_after r e.kind) (eqb e.seat seat) (still.runs seat) runs;
+  holds = λ seat. holding_push past e seat ∙ stays_none (holding past seat) (λ h. holding_after h e.kind) (eqb e.seat seat) (still.holds seat) holds;
+  policy = policy_of_push past e ∙ ap (λ (p : Policy). policy_after p e.kind) still.policy ∙ policy;
+  immediate = subst (AllByRecursion (λ p. p.delay ≡ 0)) (sym (posts_push past e)) (AllByRecursion-append (λ p. p.delay ≡ 0) (posts past) (posted_by past e.kind) still.immediate immediate);
+}
 
 pub ended-driver : (past : List Entry) (kind : Kind) → ((t : ℕ) → is_ended past t ≡ is_taken past t) → ((t : ℕ) → ends t kind ≡ false) → ((t : ℕ) → takes t kind ≡ false) → (t : ℕ) → is_ended (past ++ driver_entry kind ∷ []) t ≡ is_taken (past ++ driver_entry kind ∷ []) t
 ended-driver past kind same no_end no_take t =
-    rw (is_ended-push past (driver_entry kind) t, is_taken-push past (driver_entry kind) t, no_end t, no_take t, same t) refl
+    rw (is_ended_push past (driver_entry kind) t, is_taken_push past (driver_entry kind) t, no_end t, no_take t, same t) refl
 
 pub list_any-more : {A : Type 0} (p : A → Bool) (xs : List A) (a : A) → list_any p xs ≡ true → list_any p (xs ++ a ∷ []) ≡ true
 list_any-more p xs a h = list_any-append p xs (a ∷ []) ∙ ap (λ (b : Bool). b || list_any p (a ∷ [])) h
@@ -169,13 +181,13 @@ pub fresh-driver : (script : Plan) (past : List Entry) (kind : Kind) (want : Wan
     (t : ℕ) → posts_among (done_wants script (past ++ driver_entry kind ∷ [])) t ≡ false → is_taken (past ++ driver_entry kind ∷ []) t ≡ false
 fresh-driver script past kind want next fresh no_take t h =
     let before : posts_among (done_wants script past) t ≡ false = list_any-less (is_want_of t) (done_wants script past) want (ap (λ (ws : List Want). posts_among ws t) (sym (done_wants-driver script past kind want next)) ∙ h) in
-    rw (is_taken-push past (driver_entry kind) t, no_take t, fresh t before) refl
+    rw (is_taken_push past (driver_entry kind) t, no_take t, fresh t before) refl
 
 -- an entry that leaves the phase leaves it running where no made entry starts shutdown
 not_started-driver : (script : Plan) (past : List Entry) (kind : Kind) (want : Want) → wanted script past ≡ Some want → phase_after (phase_of past) kind ≡ phase_of past →
     (starts_among (done_wants script past) ≡ false → phase_of past ≡ phases.Running) → starts_among (done_wants script (past ++ driver_entry kind ∷ [])) ≡ false → phase_of (past ++ driver_entry kind ∷ []) ≡ phases.Running
 not_started-driver script past kind want next same before h =
-    phase_of-push past (driver_entry kind) ∙ same ∙ before (list_any-less wants_shutdown (done_wants script past) want (ap starts_among (sym (done_wants-driver script past kind want next)) ∙ h))
+    phase_of_push past (driver_entry kind) ∙ same ∙ before (list_any-less wants_shutdown (done_wants script past) want (ap starts_among (sym (done_wants-driver script past kind want next)) ∙ h))
 
 pub false_is_true : {P : Type 0} (b : Bool) → b ≡ true → b ≡ false → P
 false_is_true b t f = absurd cc
@@ -188,16 +200,16 @@ pub posted : (script : Plan) (past : List Entry) (queue : List Waiting) (values 
     StandsFor script (past ++ driver_entry (Post task runner delay true) ∷ []) (queue ++ record { task = task; runner = runner } ∷ []) values new
 unfolding may_come wanted
 posted script past queue values old new task runner delay formed stands next allowed tracked = record {
-  legal = is_legal-push script past e ∙ rw (stands.legal, next, eqb-same task, eqb-same runner, eqb-same delay, allowed) refl;
-  quiet = quiet-driver past kind stands.quiet refl;
+  legal = is_legal_push script past e ∙ rw (stands.legal, driver_sits script, by_script_next script past want true formed next, allowed) refl;
+  still = still_after past e stands.still refl refl refl (sound.immediate, tt);
   ended = ended-driver past kind stands.ended (λ t. refl) (λ t. refl);
-  waits = rw (grown) (ap (λ (ws : List Waiting). ws ++ record { task = task; runner = runner } ∷ []) stands.waits ∙ sym (map-append waiting_of (eligible script past) (made ∷ [])));
-  in_order = rw (grown) (InOrder-push (eligible script past) made stands.in_order (AllByRecursion-map (IsKnown script past) (λ x. Before x made) (eligible script past) (λ x k. record {
+  waits = rw (grown) (ap (λ (ws : List Waiting). ws ++ record { task = task; runner = runner } ∷ []) stands.waits ∙ sym (map-append waiting_of (to_take script past) (made ∷ [])));
+  in_order = rw (grown) (InOrder-push (to_take script past) made stands.in_order (AllByRecursion-map (IsKnown script past) (λ x. Before x made) (to_take script past) (λ x k. record {
     earlier = k.earlier;
     another = λ same. false_is_true (posts_among (done_wants script past) x.task) k.by_driver (ap (posts_among (done_wants script past)) same ∙ sound.first_post);
   }) stands.known));
-  known = rw (grown) (AllByRecursion-append (IsKnown script (past ++ e ∷ [])) (eligible script past) (made ∷ [])
-      (known-driver script past kind want (eligible script past) next stands.known) (
+  known = rw (grown) (AllByRecursion-append (IsKnown script (past ++ e ∷ [])) (to_take script past) (made ∷ [])
+      (known-driver script past kind want (to_take script past) next stands.known) (
         record {
           earlier = omega (arith, length-append past (e ∷ []));
           immediate = sound.immediate;
@@ -208,11 +220,11 @@ posted script past queue values old new task runner delay formed stands next all
         tt,
       ));
   fresh = fresh-driver script past kind want next stands.fresh (λ t. refl);
-  cells = λ s lt. stands.cells s lt ∙ sym (cell_of-push script past e s);
+  cells = λ s lt. stands.cells s lt ∙ sym (cell_of_push script past e s);
   cell_count = stands.cell_count;
-  phase = ap (λ (t : Tracked). t.phase) tracked ∙ stands.phase ∙ sym (phase_of-push past e);
-  blocks = ap (λ (t : Tracked). t.block_items) tracked ∙ rw (grown, filter-append (blocks_shutdown script) (eligible script past) (made ∷ []), length-append (filter (blocks_shutdown script) (eligible script past)) (filter (blocks_shutdown script) (made ∷ [])), stands.blocks)
-      (ap (λ (n : ℕ). length (filter (blocks_shutdown script) (eligible script past)) + n) (share (effective_at script runner delay)));
+  phase = ap (λ (t : Tracked). t.phase) tracked ∙ stands.phase ∙ sym (phase_of_push past e);
+  blocks = ap (λ (t : Tracked). t.block_items) tracked ∙ rw (grown, filter-append (blocks_shutdown script) (to_take script past) (made ∷ []), length-append (filter (blocks_shutdown script) (to_take script past)) (filter (blocks_shutdown script) (made ∷ [])), stands.blocks)
+      (ap (λ (n : ℕ). length (filter (blocks_shutdown script) (to_take script past)) + n) (share (effective_at script runner delay)));
   no_skips = ap (λ (t : Tracked). t.skip_items) tracked ∙ stands.no_skips;
   not_started = not_started-driver script past kind want next refl stands.not_started;
 }
@@ -227,13 +239,13 @@ posted script past queue values old new task runner delay formed stands next all
     e = driver_entry kind
 
     made : Posted
-    made = record { place = length past; task = task; runner = runner; delay = delay }
+    made = post_behind past task runner delay
 
     sound : IsSoundPost script (done_count past) task runner delay
     sound = formed.posts_sound (done_count past) task runner delay next
 
-    grown : eligible script (past ++ e ∷ []) ≡ eligible script past ++ made ∷ []
-    grown = eligible-post script past task runner delay (stands.fresh task sound.first_post) allowed
+    grown : to_take script (past ++ e ∷ []) ≡ to_take script past ++ made ∷ []
+    grown = to_take-post script past task runner delay (stands.fresh task sound.first_post) allowed
 
     share : (b : Behaviour) → block_share b ≡ length (cond (is_block b) (made ∷ []) [])
     share ContinueOnShutdown = refl
@@ -243,20 +255,20 @@ posted script past queue values old new task runner delay formed stands next all
 -- an entry of the driver that posts, takes and ends no task and leaves the phase leaves everything
 unchanged : (script : Plan) (past : List Entry) (queue : List Waiting) (values : List ℕ) (tracked : Tracked) (kind : Kind) (want : Want) →
     StandsFor script past queue values tracked → wanted script past ≡ Some want → may_come script past 0 kind ≡ true →
-    posted_by (length past) kind ≡ [] → ((t : ℕ) → takes t kind ≡ false) → ((t : ℕ) → ends t kind ≡ false) → running_after None kind ≡ None →
+    posted_by past kind ≡ [] → ((t : ℕ) → takes t kind ≡ false) → ((t : ℕ) → ends t kind ≡ false) → running_after None kind ≡ None → holding_after None kind ≡ None → policy_after All kind ≡ All →
     ((s : ℕ) → cell_after script s past (cell_of script past s) 0 kind ≡ cell_of script past s) → phase_after (phase_of past) kind ≡ phase_of past →
     StandsFor script (past ++ driver_entry kind ∷ []) queue values tracked
-unchanged script past queue values tracked kind want stands next allowed no_post no_take no_end runs_none same_cell same_phase = record {
-  legal = is_legal-push script past e ∙ rw (stands.legal, allowed) refl;
-  quiet = quiet-driver past kind stands.quiet runs_none;
+unchanged script past queue values tracked kind want stands next allowed no_post no_take no_end runs_none holds_none same_policy same_cell same_phase = record {
+  legal = is_legal_push script past e ∙ rw (stands.legal, driver_sits script, allowed) refl;
+  still = still_after past e stands.still runs_none holds_none same_policy (subst (AllByRecursion (λ p. p.delay ≡ 0)) (sym no_post) tt);
   ended = ended-driver past kind stands.ended no_end no_take;
   waits = rw (same) stands.waits;
   in_order = rw (same) stands.in_order;
-  known = rw (same) (known-driver script past kind want (eligible script past) next stands.known);
+  known = rw (same) (known-driver script past kind want (to_take script past) next stands.known);
   fresh = fresh-driver script past kind want next stands.fresh no_take;
-  cells = λ s lt. stands.cells s lt ∙ sym (cell_of-push script past e s ∙ same_cell s);
+  cells = λ s lt. stands.cells s lt ∙ sym (cell_of_push script past e s ∙ same_cell s);
   cell_count = stands.cell_count;
-  phase = stands.phase ∙ sym (phase_of-push past e ∙ same_phase);
+  phase = stands.phase ∙ sym (phase_of_push past e ∙ same_phase);
   blocks = rw (same) stands.blocks;
   no_skips = stands.no_skips;
   not_started = not_started-driver script past kind want next same_phase stands.not_started;
@@ -265,23 +277,23 @@ unchanged script past queue values tracked kind want stands next allowed no_post
     e : Entry
     e = driver_entry kind
 
-    same : eligible script (past ++ e ∷ []) ≡ eligible script past
-    same = eligible-same script past e no_post no_take same_phase
+    same : to_take script (past ++ e ∷ []) ≡ to_take script past
+    same = to_take-same script past e no_post no_take same_phase
 
 -- a refused post leaves everything
 pub refused : (script : Plan) (past : List Entry) (queue : List Waiting) (values : List ℕ) (tracked : Tracked) (task runner delay : ℕ) →
-    StandsFor script past queue values tracked → wanted script past ≡ Some (WantsPost task runner delay) → is_refused script past runner delay ≡ true →
+    WellFormed script → StandsFor script past queue values tracked → wanted script past ≡ Some (WantsPost task runner delay) → is_refused script past runner delay ≡ true →
     StandsFor script (past ++ driver_entry (Post task runner delay false) ∷ []) queue values tracked
-unfolding may_come wanted
-refused script past queue values tracked task runner delay stands next forbidden =
+unfolding may_come
+refused script past queue values tracked task runner delay formed stands next forbidden =
     unchanged script past queue values tracked (Post task runner delay false) (WantsPost task runner delay) stands next
-    (rw (next, eqb-same task, eqb-same runner, eqb-same delay, forbidden) refl) refl (λ t. refl) (λ t. refl) refl (λ s. refl) refl
+    (rw (by_script_next script past (WantsPost task runner delay) false formed next, forbidden) refl) refl (λ t. refl) (λ t. refl) refl refl refl (λ s. refl) refl
 
 -- ---- idle
 
 -- where no task waits, none may be taken
-pub none_eligible : (script : Plan) (past : List Entry) (queue : List Waiting) → queue ≡ map waiting_of (eligible script past) → queue ≡ [] → eligible script past ≡ []
-none_eligible script past queue waits none = empty (eligible script past) (sym none ∙ waits)
+pub none_to_take : (script : Plan) (past : List Entry) (queue : List Waiting) → queue ≡ map waiting_of (to_take script past) → queue ≡ [] → to_take script past ≡ []
+none_to_take script past queue waits none = empty (to_take script past) (sym none ∙ waits)
   where
     empty : (ps : List Posted) → [] ≡ map waiting_of ps → ps ≡ []
     empty [] h = refl
@@ -289,22 +301,26 @@ none_eligible script past queue waits none = empty (eligible script past) (sym n
 
 -- so does an idle
 pub idled : (script : Plan) (past : List Entry) (queue : List Waiting) (values : List ℕ) (tracked : Tracked) → queue ≡ [] →
-    StandsFor script past queue values tracked → wanted script past ≡ Some WantsIdle →
+    WellFormed script → StandsFor script past queue values tracked → wanted script past ≡ Some WantsIdle →
     StandsFor script (past ++ driver_entry Idle ∷ []) queue values tracked
-unfolding may_come best_of
-idled script past queue values tracked empty stands next =
+unfolding may_come
+idled script past queue values tracked empty formed stands next =
     unchanged script past queue values tracked Idle WantsIdle stands next
-    (rw (next, is_quiet_now script past stands.quiet, none_eligible script past queue stands.waits empty) refl) refl (λ t. refl) (λ t. refl) refl (λ s. refl) refl
+    (rw (by_script_next script past WantsIdle true formed next, is_quiet_still script past stands.still, nothing) refl) refl (λ t. refl) (λ t. refl) refl refl refl (λ s. refl) refl
+  where
+    nothing : list_all (λ worker. is_none (best_of script past worker)) (worker_seats script) ≡ true
+    nothing = list_all_always (λ worker. is_none (best_of script past worker)) (worker_seats script)
+        (λ worker. ap is_none (best_of_none script past worker formed stands.still (none_to_take script past queue stands.waits empty)))
 
 -- ---- the start
 
 -- before the first entry nobody waits, and each cell is 0
 pub opened : (script : Plan) (values : List ℕ) (tracked : Tracked) → length values ≡ length script.runners + length script.tasks → ((s : ℕ) → get_or values s 0 ≡ 0) →
     tracked.phase ≡ phases.Running → tracked.block_items ≡ 0 → tracked.skip_items ≡ 0 → StandsFor script [] [] values tracked
-unfolding is_legal running posts is_taken is_ended phase_of eligible cell_of fold_past
+unfolding is_legal running holding policy_of posts is_taken is_ended phase_of to_take cell_of fold_past
 opened script values tracked count zeros phase blocks skips = record {
   legal = refl;
-  quiet = λ seat. refl;
+  still = record { runs = λ seat. refl; holds = λ seat. refl; policy = refl; immediate = tt };
   ended = λ t. refl;
   waits = refl;
   in_order = tt;
@@ -324,18 +340,18 @@ abbrev pub worker_entry : Kind → Entry
 worker_entry kind = record { seat = 1; kind = kind }
 
 -- an entry of a worker is none of the driver's
-pub own_entries-worker : (past : List Entry) (kind : Kind) → own_entries (past ++ worker_entry kind ∷ []) ≡ own_entries past
-own_entries-worker past kind = filter-append (λ e. eqb e.seat 0) past (worker_entry kind ∷ []) ∙ append-nil (own_entries past)
+pub own_entries-worker : (past : List Entry) (kind : Kind) → own_entries 0 (past ++ worker_entry kind ∷ []) ≡ own_entries 0 past
+own_entries-worker past kind = filter-append (λ e. eqb e.seat 0) past (worker_entry kind ∷ []) ∙ append-nil (own_entries 0 past)
 
 -- a take leaves the other tasks
-pub eligible-take : (script : Plan) (past : List Entry) (task runner found : ℕ) →
-    eligible script (past ++ worker_entry (Take task runner found) ∷ []) ≡ filter (λ p. not (eqb task p.task)) (eligible script past)
-unfolding eligible
-eligible-take script past task runner found =
-    ap (filter (λ p. not (is_taken (past ++ e ∷ []) p.task) && not (is_forbidden script (past ++ e ∷ []) p))) (posts-push past e ∙ append-nil (posts past))
-    ∙ filter_congr (λ p. not (is_taken (past ++ e ∷ []) p.task) && not (is_forbidden script (past ++ e ∷ []) p)) (λ p. (not (is_taken past p.task) && not (is_forbidden script past p)) && not (eqb task p.task)) (posts past)
-    (λ p. rw (is_taken-push past e p.task, phase_of-push past e) (regroup (is_taken past p.task) (eqb task p.task) (not (is_forbidden script past p))))
-    ∙ sym (filter-filter (λ p. not (eqb task p.task)) (λ p. not (is_taken past p.task) && not (is_forbidden script past p)) (posts past))
+pub to_take-take : (script : Plan) (past : List Entry) (task runner found : ℕ) →
+    to_take script (past ++ worker_entry (Take task runner found) ∷ []) ≡ filter (λ p. not (eqb task p.task)) (to_take script past)
+unfolding to_take
+to_take-take script past task runner found =
+    ap (filter (may_start script (past ++ e ∷ []))) (posts_push past e ∙ append-nil (posts past))
+    ∙ filter_congr (may_start script (past ++ e ∷ [])) (λ p. may_start script past p && not (eqb task p.task)) (posts past)
+    (λ p. rw (is_taken_push past e p.task, phase_of_push past e) (regroup (is_taken past p.task) (eqb task p.task) (not (is_forbidden script past p))))
+    ∙ sym (filter-filter (λ p. not (eqb task p.task)) (may_start script past) (posts past))
   where
     e : Entry
     e = worker_entry (Take task runner found)
@@ -352,17 +368,14 @@ pub filter_one : (xs : List Posted) (p : Posted) (ys : List Posted) → InOrder 
 filter_one xs p ys order =
     filter-append others xs (p ∷ ys)
     ∙ ap (λ (zs : List Posted). filter others xs ++ zs) (ap (λ (b : Bool). cond (not b) (p ∷ filter others ys) (filter others ys)) (eqb-same p.task))
-    ∙ ap (λ (zs : List Posted). zs ++ filter others ys) (filter_all others xs (AllByRecursion-map (λ x. Before x p) (λ x. others x ≡ true) xs (λ x b. differs x.task (λ s. b.another (sym s))) around.0))
-    ∙ ap (λ (zs : List Posted). xs ++ zs) (filter_all others ys (AllByRecursion-map (Before p) (λ y. others y ≡ true) ys (λ y b. differs y.task b.another) around.1))
+    ∙ ap (λ (zs : List Posted). zs ++ filter others ys) (filter_all others xs (AllByRecursion-map (λ x. Before x p) (λ x. others x ≡ true) xs (λ x b. ap not (ne_eqb p.task x.task (λ s. b.another (sym s)))) around.0))
+    ∙ ap (λ (zs : List Posted). xs ++ zs) (filter_all others ys (AllByRecursion-map (Before p) (λ y. others y ≡ true) ys (λ y b. ap not (ne_eqb p.task y.task b.another)) around.1))
   where
     others : Posted → Bool
     others q = not (eqb p.task q.task)
 
     around : AllByRecursion (λ x. Before x p) xs × AllByRecursion (Before p) ys
     around = InOrder-middle xs p ys order
-
-    differs : (t : ℕ) → p.task ≢ t → not (eqb p.task t) ≡ true
-    differs t ne = grind (arith, nat_tests)
 
 -- what a worker's entry leaves of what is known of the tasks that may be taken
 pub known-worker : (script : Plan) (past : List Entry) (kind : Kind) (ps : List Posted) →

@@ -3,9 +3,8 @@ use Rattle.std.proofs.Common.{◌≡◌, ℕ, ◌+◌, ◌<◌, ◌≤◌, List,
 use Rattle.std.proofs.lemmas.Bool.{cases_lt}
 use Rattle.std.proofs.lemmas.List.{get_or-map}
 use Rattle.task_base.specs.Plan.{Plan}
-use Rattle.task_model.specs.Capacity.{importance_of}
 use Rattle.env_app.specs.declared.engine.Waiting.{Waiting}
-use Rattle.env_app.specs.Engine.{IsFirstBest, ranks_of}
+use Rattle.env_app.specs.Engine.{IsFirstBest, importance_of, ranks_of}
 
 -- the next number is greater than the greatest so far
 pub takes_over : (ranks : List ℕ) (i best : ℕ) → IsFirstBest ranks i best → get_or ranks best 0 < get_or ranks i 0 → IsFirstBest ranks (i + 1) i

@@ -1,4 +1,7 @@
 pub mod FirstBest
+pub mod Wanted
+pub mod Quiet
+pub mod Best
 pub mod Events
 pub mod Serve
 pub mod Shutdown

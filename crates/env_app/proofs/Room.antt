@@ -6,20 +6,21 @@ use Rattle.std.proofs.lemmas.Grind.{flat_map-append}
 use Rattle.std.proofs.lemmas.List.{append-nil, length-append, length-replicate, take_more, take_all}
 use Rattle.std.proofs.lemmas.List.Concat.{get_or-flat_map, flat_map-cons}
 use Rattle.std.proofs.lemmas.List.Folds.{length-flat_map-take}
-use Rattle.std.proofs.lemmas.Option.{slice_get_within, slice_get_past, slice_get-get_or, get_or_from_slice_get}
+use Rattle.std.proofs.lemmas.Option.{slice_get_within, slice_get-get_or, get_or_from_slice_get}
 use Rattle.task_traits.specs.declared.phase.Phase.TheVariants as phases
 use Rattle.task_tracker.specs.Tracked.{Tracked}
 use Rattle.task_base.specs.Plan.{Plan}
 use Rattle.task_base.specs.declared.entry.Entry.{Entry}
 use Rattle.task_base.specs.declared.entry.Kind.{Kind}
 use Rattle.task_base.specs.declared.script.Action.{Action}
-use Rattle.task_model.specs.Legal.{IsWhole}
-use Rattle.task_model.specs.Script.{Want, wants_of, all_wants, wanted, is_finished}
-use Rattle.task_model.specs.WellFormed.{WellFormed}
-use Rattle.task_model.proofs.Quiet.{NobodyRuns, is_quiet_now}
+use Rattle.hist_model.specs.Script.{IsWhole}
+use Rattle.task_script.specs.Wants.{Want, wants_of, all_wants}
+use Rattle.task_script.specs.WellFormed.{WellFormed}
 use Rattle.env_app.specs.declared.engine.Engine.{Engine}
 use Rattle.env_app.specs.declared.engine.Waiting.{Waiting}
-use Rattle.env_app.specs.Engine.{done_count, HasRoom, IsNext, StandsFor}
+use Rattle.env_app.specs.Engine.{done_count, wanted, HasRoom, IsNext, IsStill, StandsFor}
+use Rattle.env_app.proofs.Wanted.{finished}
+use Rattle.env_app.proofs.Quiet.{is_quiet_still}
 use Rattle.env_app.proofs.Events.{opened, driver_entry, worker_entry, done_count-driver, own_entries-worker}
 
 -- where an entry is wanted, not all are made
@@ -35,10 +36,6 @@ done_count-worker past kind = ap length (own_entries-worker past kind)
 pub wanted-same : (script : Plan) (past later : List Entry) → done_count later ≡ done_count past → wanted script later ≡ wanted script past
 unfolding wanted
 wanted-same script past later same = ap (λ (n : ℕ). slice_get (all_wants script) n) same
-
--- where an entry is wanted, the script is not finished
-pub not_finished : (script : Plan) (past : List Entry) (want : Want) → wanted script past ≡ Some want → is_finished script past ≡ false
-not_finished script past want next = rw (next) refl
 
 -- the j-th entry that an action wants is wanted once the ones before it are made
 pub wanted_next : (script : Plan) (past later : List Entry) (wants : List Want) (j : ℕ) (want : Want) → IsNext script past wants → slice_get wants j ≡ Some want → done_count later ≡ done_count past + j → wanted script later ≡ Some want
@@ -113,9 +110,8 @@ room_after_serve script old new taken ended mid room first log spare waits len c
 -- ---- the end
 
 -- where every wanted entry is made and nothing runs, the history is whole
-pub whole_at_end : (script : Plan) (past : List Entry) → NobodyRuns past → length (all_wants script) ≤ done_count past → IsWhole script past
-unfolding wanted
-whole_at_end script past quiet all = rw (slice_get_past (all_wants script) (done_count past) all, is_quiet_now script past quiet) refl
+pub whole_at_end : (script : Plan) (past : List Entry) → WellFormed script → IsStill past → length (all_wants script) ≤ done_count past → IsWhole script past
+whole_at_end script past formed still all = rw (finished script past formed all, is_quiet_still script past still) refl
 
 -- the log of a whole run is short
 pub short_log : (script : Plan) (engine : Engine) → WellFormed script → HasRoom script engine → done_count engine.log.items ≤ length (all_wants script) → length engine.log.items ≤ 786432

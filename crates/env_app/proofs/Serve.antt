@@ -1,12 +1,13 @@
 -- A worker takes the best task and ends it: the lists stand for the past with both entries behind it.
-use Rattle.std.proofs.Common.{◌≡◌, ◌≢◌, ℕ, ◌+◌, ◌<◌, ◌≤◌, Bool, true, false, cond, eqb, leb, List, [], ◌∷◌, ◌++◌, length, get_or, take, drop, set, map, refl, sym, ap, subst, ◌∙◌, ◌⊎◌, inl, inr, Option, Some, None, add-one, arith}
+use Rattle.std.proofs.Common.{◌≡◌, ◌≢◌, ℕ, ◌+◌, ◌<◌, ◌≤◌, Bool, true, false, cond, eqb, leb, List, [], ◌∷◌, ◌++◌, length, get_or, take, drop, set, map, refl, sym, ap, subst, ◌∙◌, inl, inr, Option, Some, None, add-one, arith}
 use Rattle.std.specs.Prelude.{not, ◌&&◌, ◌||◌, filter, slice_get}
-use Rattle.std.specs.List.{AllByRecursion}
-use Rattle.std.specs.Option.{option_map_or}
+use Rattle.std.specs.List.{list_any, AllByRecursion, All}
+use Rattle.std.specs.Option.{option_map_or, IfSome}
 use Rattle.std.proofs.Math.Seq.{split_at}
-use Rattle.std.proofs.lemmas.Bool.Decides.{nat_tests}
-use Rattle.std.proofs.lemmas.List.{map-append, take-map, drop-map, get_or-map, get_or-take, get_or-drop, length-append, length-map, length-take, length-drop, get_or-set_same, get_or-set_other, length-set}
-use Rattle.std.proofs.lemmas.List.Elements.{filter-append}
+use Rattle.std.proofs.lemmas.Bool.Decides.{nat_tests, eqb_tells}
+use Rattle.std.proofs.lemmas.Bool.{ne_eqb}
+use Rattle.std.proofs.lemmas.List.{append-nil, map-append, take-map, drop-map, get_or-map, get_or-take, get_or-drop, length-append, length-map, length-take, length-drop, get_or-set_same, get_or-set_other, length-set}
+use Rattle.std.proofs.lemmas.List.Elements.{filter-append, recursion_from_All}
 use Rattle.std.proofs.lemmas.Option.{slice_get-get_or}
 use Rattle.task_traits.specs.Behaviour.{forbids}
 use Rattle.task_traits.specs.declared.traits.Behaviour.{Behaviour}
@@ -14,34 +15,35 @@ use Rattle.task_traits.specs.declared.traits.Behaviour.TheVariants.{ContinueOnSh
 use Rattle.task_traits.specs.declared.phase.Phase.{Phase}
 use Rattle.task_tracker.specs.Tracked.{Tracked, block_share}
 use Rattle.task_base.specs.Plan.{Plan}
-use Rattle.task_base.specs.Steps.{after}
+use Rattle.task_base.specs.Steps.{after, is_act}
+use Rattle.task_base.specs.declared.step.Step.{Step}
 use Rattle.task_base.specs.declared.entry.Entry.{Entry}
 use Rattle.task_base.specs.declared.entry.Kind.TheVariants.{Take, End}
+use Rattle.task_model.specs.Lists.{holds_of}
 use Rattle.task_model.specs.Posts.{Posted, InOrder, posts, is_taken}
 use Rattle.task_model.specs.Phase.{phase_of}
 use Rattle.task_model.specs.Refusal.{effective_at, is_forbidden}
 use Rattle.task_model.specs.Blockers.{is_block}
-use Rattle.task_model.specs.Sequences.{sequence_of, is_parallel, eligible}
-use Rattle.task_model.specs.Seats.{Running, running}
-use Rattle.task_model.specs.Cells.{steps_of, cell_of}
-use Rattle.task_model.specs.Capacity.{importance_of}
-use Rattle.task_model.specs.Sources.{best_of}
-use Rattle.task_model.specs.Script.{Want, all_wants, is_finished}
-use Rattle.task_model.specs.WellFormed.{posts_among, starts_among}
-use Rattle.task_model.specs.Allowed.{may_come, is_allowed}
-use Rattle.task_model.specs.WellFormed.{WellFormed}
-use Rattle.task_model.proofs.Lists.{eqb-same, AllByRecursion-append, AllByRecursion-front, AllByRecursion-back, AllByRecursion-map, AllByRecursion-from_index, filter_passes}
-use Rattle.task_model.proofs.Growth.{is_taken-push, is_ended-push, phase_of-push, running-push, cell_of-push, is_legal-push}
-use Rattle.task_model.proofs.Best.{InOrder-without, best_of_quiet}
+use Rattle.task_model.specs.Sequences.{sequence_of, is_parallel, may_start}
+use Rattle.task_model.specs.Seats.{Running, running, holding, steps_of, runs_of}
+use Rattle.task_model.specs.Cells.{cell_of}
+use Rattle.hist_model.specs.Script.{is_finished}
+use Rattle.hist_model.specs.Allowed.{may_come, is_allowed}
+use Rattle.task_model.proofs.Lists.{eqb-same, AllByRecursion-append, AllByRecursion-front, AllByRecursion-back, AllByRecursion-map, AllByRecursion-from_index, filter_passes, slice_get_all, list_any_none}
+use Rattle.task_model.proofs.Growth.{posts_push, is_taken_push, is_ended_push, phase_of_push, policy_of_push, running_push, holding_push, acts_done_push, cell_of_push}
+use Rattle.hist_model.proofs.Legal.{is_legal_push}
+use Rattle.task_script.specs.Wants.{Want, all_wants}
+use Rattle.task_script.specs.WellFormed.{posts_among, starts_among, WellFormed}
 use Rattle.env_app.specs.declared.engine.Waiting.{Waiting}
-use Rattle.env_app.specs.Engine.{waiting_of, ranks_of, IsFirstBest, done_wants, blocks_shutdown, IsKnown, StandsFor}
-use Rattle.env_app.proofs.Events.{worker_entry, eligible-same, eligible-take, filter_one, own_entries-worker, known-worker, false_is_true}
+use Rattle.env_app.specs.Engine.{waiting_of, importance_of, ranks_of, IsFirstBest, done_wants, to_take, blocks_shutdown, IsKnown, IsStill, StandsFor}
+use Rattle.env_app.proofs.Best.{IsFirst, InOrder-without, sequence_below, head_of_still, best_of_still}
+use Rattle.env_app.proofs.Events.{worker_entry, to_take-same, to_take-take, filter_one, own_entries-worker, known-worker, false_is_true}
 
 -- any accepted task, for places past the end
 abbrev nobody : Posted
-nobody = record { place = 0; task = 0; runner = 0; delay = 0 }
+nobody = record { place = 0; task = 0; home = 0; delay = 0; ripe = 0 }
 
--- the eligible tasks around the one at this place
+-- the tasks that may be taken around the one at this place
 abbrev pub at : List Posted → ℕ → Posted
 at ps k = get_or ps k nobody
 
@@ -51,25 +53,14 @@ around ps k lt = split_at ps k nobody lt ∙ ap (λ n. take k ps ++ at ps k ∷ 
 same_default : (ps : List Posted) (i : ℕ) (d e : Posted) → i < length ps → get_or ps i d ≡ get_or ps i e
 same_default ps i d e lt = let a = slice_get-get_or ps i d lt in let b = slice_get-get_or ps i e lt in cc
 
--- the engine's task at a place is the eligible task there
+-- the engine's task at a place is the one that may be taken there
 waiting_at : (ps : List Posted) (k : ℕ) (w : Waiting) → k < length ps → w ≡ get_or (map waiting_of ps) k w → w ≡ waiting_of (at ps k)
 waiting_at ps k w lt is = is ∙ get_or-map waiting_of ps k nobody w lt
 
-rank_at_place : (script : Plan) (ps : List Posted) (i : ℕ) → i < length ps → get_or (ranks_of script (map waiting_of ps)) i 0 ≡ importance_of script (at ps i).runner
+rank_at_place : (script : Plan) (ps : List Posted) (i : ℕ) → i < length ps → get_or (ranks_of script (map waiting_of ps)) i 0 ≡ importance_of script (at ps i).home
 rank_at_place script ps i lt =
     get_or-map (λ (w : Waiting). importance_of script w.runner) (map waiting_of ps) i (waiting_of nobody) 0 (omega (arith, length-map ps waiting_of))
     ∙ ap (λ (w : Waiting). importance_of script w.runner) (get_or-map waiting_of ps i nobody (waiting_of nobody) lt)
-
-cases_eq : (a b : ℕ) → (a ≡ b) ⊎ (a ≢ b)
-cases_eq a b = grind arith
-
-apart : (a b : ℕ) → a ≢ b → eqb a b ≡ false
-apart a b ne = grind (arith, nat_tests)
-
--- the sequence of a known task has a cell
-sequence_below : (b : Bool) (runners tasks runner task : ℕ) → runner < runners → task < tasks → cond b (runners + task) runner < runners + tasks
-sequence_below true runners tasks runner task hr ht = omega arith
-sequence_below false runners tasks runner task hr ht = omega arith
 
 known_at : (script : Plan) (past : List Entry) (ps : List Posted) (k : ℕ) → AllByRecursion (IsKnown script past) ps → k < length ps → IsKnown script past (at ps k)
 known_at script past ps k known lt =
@@ -78,30 +69,30 @@ known_at script past ps k known lt =
 pub in_range : (script : Plan) (past : List Entry) (queue : List Waiting) (values : List ℕ) (tracked : Tracked) (k : ℕ) (w : Waiting) →
     StandsFor script past queue values tracked → k < length queue → w ≡ get_or queue k w → sequence_of script w.runner w.task < length values
 in_range script past queue values tracked k w stands lt is =
-    let E = eligible script past in
+    let E = to_take script past in
     let below : k < length E = omega (arith, ap length stands.waits, length-map E waiting_of) in
     let it : w ≡ waiting_of (at E k) = waiting_at E k w below (is ∙ ap (λ (q : List Waiting). get_or q k w) stands.waits) in
     let known = known_at script past E k stands.known below in
-    let bound : sequence_of script (at E k).runner (at E k).task < length script.runners + length script.tasks =
-    sequence_below (option_map_or (λ x. is_parallel x.kind) (slice_get script.runners (at E k).runner) false) (length script.runners) (length script.tasks) (at E k).runner (at E k).task known.runner_declared known.task_declared in
+    let bound : sequence_of script (at E k).home (at E k).task < length script.runners + length script.tasks =
+    sequence_below (holds_of (λ x. is_parallel x.kind) (slice_get script.runners (at E k).home)) (length script.runners) (length script.tasks) (at E k).home (at E k).task known.runner_declared known.task_declared in
     omega (arith, bound, stands.cell_count, ap (λ (x : Waiting). sequence_of script x.runner x.task) it)
 
 -- the phase lets the task at a place of the queue start
 pub may_start_at : (script : Plan) (past : List Entry) (queue : List Waiting) (values : List ℕ) (tracked : Tracked) (k : ℕ) (w : Waiting) →
     StandsFor script past queue values tracked → k < length queue → w ≡ get_or queue k w → forbids tracked.phase (effective_at script w.runner 0) ≡ false
-unfolding eligible
+unfolding to_take
 may_start_at script past queue values tracked k w stands lt is =
-    let E = eligible script past in
+    let E = to_take script past in
     let below : k < length E = omega (arith, ap length stands.waits, length-map E waiting_of) in
     let it : w ≡ waiting_of (at E k) = waiting_at E k w below (is ∙ ap (λ (q : List Waiting). get_or q k w) stands.waits) in
-    let passes = filter_passes (λ p. not (is_taken past p.task) && not (is_forbidden script past p)) (posts past) in
-    let here = (AllByRecursion-back (λ p. (not (is_taken past p.task) && not (is_forbidden script past p)) ≡ true) (take k E) (at E k ∷ drop (k + 1) E)
-    (subst (AllByRecursion (λ p. (not (is_taken past p.task) && not (is_forbidden script past p)) ≡ true)) (around E k below) passes)).0 in
+    let passes = filter_passes (may_start script past) (posts past) in
+    let here = (AllByRecursion-back (λ p. may_start script past p ≡ true) (take k E) (at E k ∷ drop (k + 1) E)
+    (subst (AllByRecursion (λ p. may_start script past p ≡ true)) (around E k below) passes)).0 in
     let allowed : is_forbidden script past (at E k) ≡ false = second (not (is_taken past (at E k).task)) (is_forbidden script past (at E k)) here in
     let now = (known_at script past E k stands.known below).immediate in
     ap (λ (p : Phase). forbids p (effective_at script w.runner 0)) stands.phase
     ∙ ap (λ (x : Waiting). forbids (phase_of past) (effective_at script x.runner 0)) it
-    ∙ ap (λ (d : ℕ). forbids (phase_of past) (effective_at script (at E k).runner d)) (sym now)
+    ∙ ap (λ (d : ℕ). forbids (phase_of past) (effective_at script (at E k).home d)) (sym now)
     ∙ allowed
   where
     second : (a b : Bool) → (a && not b) ≡ true → b ≡ false
@@ -116,24 +107,24 @@ share_of p ps SkipOnShutdown = omega arith
 share_of p ps BlockShutdown = omega arith
 
 blocks_between : (script : Plan) (xs : List Posted) (p : Posted) (ys : List Posted) →
-    length (filter (blocks_shutdown script) (xs ++ p ∷ ys)) ≡ length (filter (blocks_shutdown script) (xs ++ ys)) + block_share (effective_at script p.runner p.delay)
+    length (filter (blocks_shutdown script) (xs ++ p ∷ ys)) ≡ length (filter (blocks_shutdown script) (xs ++ ys)) + block_share (effective_at script p.home p.delay)
 blocks_between script xs p ys =
     let block = blocks_shutdown script in
     let with_it = ap length (filter-append block xs (p ∷ ys)) ∙ length-append (filter block xs) (filter block (p ∷ ys)) in
     let without = ap length (filter-append block xs ys) ∙ length-append (filter block xs) (filter block ys) in
-    let share = share_of p (filter block ys) (effective_at script p.runner p.delay) in
+    let share = share_of p (filter block ys) (effective_at script p.home p.delay) in
     omega (arith, with_it, without, share)
 
 -- the block task at a place of the queue is counted
 pub counted_at : (script : Plan) (past : List Entry) (queue : List Waiting) (values : List ℕ) (tracked : Tracked) (k : ℕ) (w : Waiting) →
     StandsFor script past queue values tracked → k < length queue → w ≡ get_or queue k w → block_share (effective_at script w.runner 0) ≤ tracked.block_items
 counted_at script past queue values tracked k w stands lt is =
-    let E = eligible script past in
+    let E = to_take script past in
     let below : k < length E = omega (arith, ap length stands.waits, length-map E waiting_of) in
     let it : w ≡ waiting_of (at E k) = waiting_at E k w below (is ∙ ap (λ (q : List Waiting). get_or q k w) stands.waits) in
     let now = (known_at script past E k stands.known below).immediate in
-    let same : block_share (effective_at script w.runner 0) ≡ block_share (effective_at script (at E k).runner (at E k).delay) =
-    ap (λ (x : Waiting). block_share (effective_at script x.runner 0)) it ∙ ap (λ (d : ℕ). block_share (effective_at script (at E k).runner d)) (sym now) in
+    let same : block_share (effective_at script w.runner 0) ≡ block_share (effective_at script (at E k).home (at E k).delay) =
+    ap (λ (x : Waiting). block_share (effective_at script x.runner 0)) it ∙ ap (λ (d : ℕ). block_share (effective_at script (at E k).home d)) (sym now) in
     let split = ap (λ (ps : List Posted). length (filter (blocks_shutdown script) ps)) (around E k below) ∙ blocks_between script (take k E) (at E k) (drop (k + 1) E) in
     omega (arith, same, split, stands.blocks)
 
@@ -143,26 +134,72 @@ pub record Served (old new : Tracked) (effective : Behaviour) : Type 0 where
   pub blocks : new.block_items + block_share effective ≡ old.block_items
   pub skips : new.skip_items ≡ old.skip_items
 
--- the same of the eligible tasks: p is the best, between xs and ys
+-- a take and an end of one seat leave all still
+still_served : (past : List Entry) (task runner found left : ℕ) → IsStill past → IsStill ((past ++ worker_entry (Take task runner found) ∷ []) ++ worker_entry (End task left) ∷ [])
+still_served past task runner found left still = record {
+  runs = λ seat. running_push mid ended seat ∙ ap (λ (r : Option Running). cond (eqb 1 seat) None r) (running_push past taken seat) ∙ either (eqb 1 seat) (running past seat) (still.runs seat);
+  holds = λ seat. holding_push mid ended seat ∙ same (eqb 1 seat) (holding mid seat) ∙ holding_push past taken seat ∙ same (eqb 1 seat) (holding past seat) ∙ still.holds seat;
+  policy = policy_of_push mid ended ∙ policy_of_push past taken ∙ still.policy;
+  immediate = subst (AllByRecursion (λ p. p.delay ≡ 0)) (sym (posts_push mid ended ∙ append-nil (posts mid) ∙ posts_push past taken ∙ append-nil (posts past))) still.immediate;
+}
+  where
+    taken : Entry
+    taken = worker_entry (Take task runner found)
+
+    ended : Entry
+    ended = worker_entry (End task left)
+
+    mid : List Entry
+    mid = past ++ taken ∷ []
+
+    either : (b : Bool) (r : Option Running) → r ≡ None → cond b None (cond b (Some (record { task = task; home = runner; found = found; is_main = false })) r) ≡ None
+    either true r none = refl
+    either false r none = none
+
+    same : {A : Type 0} (b : Bool) (x : A) → cond b x x ≡ x
+    same true x = refl
+    same false x = refl
+
+no_act_among : (steps : List Step) → list_any is_act steps ≡ false → filter is_act steps ≡ []
+no_act_among [] h = refl
+no_act_among (step ∷ steps) h = either (is_act step) (list_any is_act steps) (filter is_act steps) h (no_act_among steps)
+  where
+    either : (b c : Bool) (rest : List Step) → (b || c) ≡ false → (c ≡ false → rest ≡ []) → cond b (step ∷ rest) rest ≡ []
+    either true c rest h none = absurd cc
+    either false c rest h none = none h
+
+-- no step of a task makes an entry
+no_acts : (script : Plan) (task : ℕ) → WellFormed script → filter is_act (steps_of script task) ≡ []
+no_acts script task formed = found (slice_get script.tasks task) (slice_get_all (λ steps. list_any is_act steps ≡ false) script.tasks task compute)
+  where
+    compute : AllByRecursion (λ steps. list_any is_act steps ≡ false) script.tasks
+    compute = AllByRecursion-map (λ steps. All (λ step. is_act step ≡ false) steps) (λ steps. list_any is_act steps ≡ false) script.tasks
+        (λ steps h. list_any_none is_act steps (recursion_from_All (λ step. is_act step ≡ false) steps h)) (recursion_from_All (λ steps. All (λ step. is_act step ≡ false) steps) script.tasks formed.computes)
+
+    found : (o : Option (List Step)) → IfSome o (λ steps. list_any is_act steps ≡ false) → filter is_act (option_map_or (λ steps. steps) o []) ≡ []
+    found None h = refl
+    found (Some steps) h = no_act_among steps h
+
+-- the same of the tasks that may be taken: p is the best, between xs and ys
 served_between : (script : Plan) (past : List Entry) (values : List ℕ) (old new : Tracked) (xs : List Posted) (p : Posted) (ys : List Posted) (found left : ℕ) →
-    WellFormed script → StandsFor script past (map waiting_of (xs ++ p ∷ ys)) values old → eligible script past ≡ xs ++ p ∷ ys → is_finished script past ≡ false → Served old new (effective_at script p.runner 0) →
-    AllByRecursion (λ x. importance_of script x.runner < importance_of script p.runner) xs →
-    AllByRecursion (λ y. importance_of script y.runner ≤ importance_of script p.runner) ys →
-    sequence_of script p.runner p.task < length values →
-    found ≡ get_or values (sequence_of script p.runner p.task) 0 → left ≡ after (steps_of script p.task) found →
-    StandsFor script ((past ++ worker_entry (Take p.task p.runner found) ∷ []) ++ worker_entry (End p.task left) ∷ []) (map waiting_of (xs ++ ys)) (set values (sequence_of script p.runner p.task) left) new
+    WellFormed script → StandsFor script past (map waiting_of (xs ++ p ∷ ys)) values old → to_take script past ≡ xs ++ p ∷ ys → is_finished script past ≡ false → Served old new (effective_at script p.home 0) →
+    AllByRecursion (λ x. importance_of script x.home < importance_of script p.home) xs →
+    AllByRecursion (λ y. importance_of script y.home ≤ importance_of script p.home) ys →
+    sequence_of script p.home p.task < length values →
+    found ≡ get_or values (sequence_of script p.home p.task) 0 → left ≡ after (steps_of script p.task) found →
+    StandsFor script ((past ++ worker_entry (Take p.task p.home found) ∷ []) ++ worker_entry (End p.task left) ∷ []) (map waiting_of (xs ++ ys)) (set values (sequence_of script p.home p.task) left) new
 unfolding may_come
 served_between script past values old new xs p ys found left formed stands is next tracked lower upper within found_is left_is = record {
-  legal = is_legal-push script mid ended ∙ rw (is_legal-push script past taken, stands.legal, take_allowed, end_allowed) refl;
-  quiet = λ seat. running-push mid ended seat ∙ ap (λ (r : Option Running). cond (eqb 1 seat) None r) (running-push past taken seat) ∙ still (eqb 1 seat) (running past seat) (stands.quiet seat);
-  ended = λ t. rw (is_ended-push mid ended t, is_ended-push past taken t, is_taken-push mid ended t, is_taken-push past taken t, stands.ended t) (sides (is_taken past t) (eqb p.task t));
+  legal = is_legal_push script mid ended ∙ rw (is_legal_push script past taken, stands.legal, take_allowed, end_allowed) refl;
+  still = still_served past p.task p.home found left stands.still;
+  ended = λ t. rw (is_ended_push mid ended t, is_ended_push past taken t, is_taken_push mid ended t, is_taken_push past taken t, stands.ended t) (sides (is_taken past t) (eqb p.task t));
   waits = ap (map waiting_of) (sym rest);
   in_order = rw (rest) (InOrder-without xs p ys order);
-  known = rw (rest) (known-worker script mid (End p.task left) (xs ++ ys) (known-worker script past (Take p.task p.runner found) (xs ++ ys) known_rest));
-  fresh = λ t h. is_taken-push mid ended t ∙ ap (λ (b : Bool). b || false) (is_taken-push past taken t) ∙ untaken t (same_done t h);
+  known = rw (rest) (known-worker script mid (End p.task left) (xs ++ ys) (known-worker script past (Take p.task p.home found) (xs ++ ys) known_rest));
+  fresh = λ t h. is_taken_push mid ended t ∙ ap (λ (b : Bool). b || false) (is_taken_push past taken t) ∙ untaken t (same_done t h);
   cells = λ u lt. stored u (omega (arith, lt, length-set values s left)) ∙ sym (cell_now u);
   cell_count = length-set values s left ∙ stands.cell_count;
-  phase = tracked.phase ∙ stands.phase ∙ sym (phase_of-push mid ended ∙ phase_of-push past taken);
+  phase = tracked.phase ∙ stands.phase ∙ sym (phase_of_push mid ended ∙ phase_of_push past taken);
   blocks = omega (
     arith,
     ap (λ (ps : List Posted). length (filter (blocks_shutdown script) ps)) rest,
@@ -170,17 +207,17 @@ served_between script past values old new xs p ys found left formed stands is ne
     blocks_between script xs p ys,
     stands.blocks,
     tracked.blocks,
-    ap (λ (d : ℕ). block_share (effective_at script p.runner d)) mine.immediate,
+    ap (λ (d : ℕ). block_share (effective_at script p.home d)) mine.immediate,
   );
   no_skips = tracked.skips ∙ stands.no_skips;
-  not_started = λ h. phase_of-push mid ended ∙ phase_of-push past taken ∙ stands.not_started (ap starts_among (sym same_wants) ∙ h);
+  not_started = λ h. phase_of_push mid ended ∙ phase_of_push past taken ∙ stands.not_started (ap starts_among (sym same_wants) ∙ h);
 }
   where
     s : ℕ
-    s = sequence_of script p.runner p.task
+    s = sequence_of script p.home p.task
 
     taken : Entry
-    taken = worker_entry (Take p.task p.runner found)
+    taken = worker_entry (Take p.task p.home found)
 
     ended : Entry
     ended = worker_entry (End p.task left)
@@ -197,30 +234,52 @@ served_between script past values old new xs p ys found left formed stands is ne
     known_rest : AllByRecursion (IsKnown script past) (xs ++ ys)
     known_rest = AllByRecursion-append (IsKnown script past) xs ys (AllByRecursion-front (IsKnown script past) xs (p ∷ ys) known) (AllByRecursion-back (IsKnown script past) xs (p ∷ ys) known).1
 
-    rest : eligible script (mid ++ ended ∷ []) ≡ xs ++ ys
-    rest = eligible-same script mid ended refl (λ t. refl) refl ∙ eligible-take script past p.task p.runner found ∙ ap (filter (λ q. not (eqb p.task q.task))) is ∙ filter_one xs p ys order
+    rest : to_take script (mid ++ ended ∷ []) ≡ xs ++ ys
+    rest = to_take-same script mid ended refl (λ t. refl) refl ∙ to_take-take script past p.task p.home found ∙ ap (filter (λ q. not (eqb p.task q.task))) is ∙ filter_one xs p ys order
 
-    best : best_of script past ≡ Some p
-    best = best_of_quiet script past xs p ys formed stands.quiet is order (AllByRecursion-map (IsKnown script past) (λ q. q.runner < length script.runners) (xs ++ p ∷ ys) (λ q k. k.runner_declared) known) lower upper
+    mine : IsKnown script past p
+    mine = (AllByRecursion-back (IsKnown script past) xs (p ∷ ys) known).0
+
+    first : IsFirst script xs p ys
+    first = record {
+      order = order;
+      declared = AllByRecursion-map (IsKnown script past) (λ q. q.home < length script.runners) (xs ++ p ∷ ys) (λ q k. k.runner_declared) known;
+      numbered = mine.task_declared;
+      lower = lower;
+      no_higher = upper;
+    }
 
     worker_sits : leb 1 script.workers ≡ true
     worker_sits = let h = formed.some_workers in grind (arith, nat_tests)
 
-    running_mid : running mid 1 ≡ Some (record { task = p.task; runner = p.runner; found = found })
-    running_mid = running-push past taken 1
+    running_mid : running mid 1 ≡ Some (record { task = p.task; home = p.home; found = found; is_main = false })
+    running_mid = running_push past taken 1
 
     take_allowed : is_allowed script past taken ≡ true
-    take_allowed = rw (worker_sits, stands.quiet 1, next, best, eqb-same p.task, eqb-same p.runner, sym (stands.cells s within), found_is, eqb-same (get_or values s 0)) refl
+    take_allowed = rw (
+      worker_sits,
+      stands.still.runs 1,
+      stands.still.holds 1,
+      next,
+      best_of_still script past xs p ys 1 formed stands.still is first,
+      head_of_still script past xs p ys stands.still is first,
+      eqb-same p.task,
+      eqb-same p.home,
+      sym (stands.cells s within),
+      found_is,
+      eqb-same (get_or values s 0),
+    ) refl
 
     end_allowed : is_allowed script mid ended ≡ true
-    end_allowed = rw (running_mid, eqb-same p.task, left_is, eqb-same (after (steps_of script p.task) found)) refl
-
-    still : (b : Bool) (r : Option Running) → r ≡ None → cond b None (cond b (Some (record { task = p.task; runner = p.runner; found = found })) r) ≡ None
-    still true r none = refl
-    still false r none = none
-
-    mine : IsKnown script past p
-    mine = (AllByRecursion-back (IsKnown script past) xs (p ∷ ys) known).0
+    end_allowed = rw (
+      worker_sits,
+      running_mid,
+      eqb-same p.task,
+      acts_done_push past taken 1,
+      no_acts script p.task formed,
+      left_is,
+      eqb-same (after (steps_of script p.task) found),
+    ) refl
 
     sides : (a b : Bool) → ((a || false) || b) ≡ ((a || b) || false)
     sides true b = refl
@@ -228,29 +287,26 @@ served_between script past values old new xs p ys found left formed stands is ne
     sides false false = refl
 
     same_wants : done_wants script (mid ++ ended ∷ []) ≡ done_wants script past
-    same_wants = ap (λ (own : List Entry). take (length own) (all_wants script)) (own_entries-worker mid (End p.task left) ∙ own_entries-worker past (Take p.task p.runner found))
+    same_wants = ap (λ (own : List Entry). take (length own) (all_wants script)) (own_entries-worker mid (End p.task left) ∙ own_entries-worker past (Take p.task p.home found))
 
     same_done : (t : ℕ) → posts_among (done_wants script (mid ++ ended ∷ [])) t ≡ false → posts_among (done_wants script past) t ≡ false
     same_done t h = ap (λ (ws : List Want). posts_among ws t) (sym same_wants) ∙ h
 
-    differs : (t : ℕ) → p.task ≢ t → eqb p.task t ≡ false
-    differs t ne = grind (arith, nat_tests)
-
     untaken : (t : ℕ) → posts_among (done_wants script past) t ≡ false → ((is_taken past t || eqb p.task t) || false) ≡ false
     untaken t h =
         let other : p.task ≢ t = λ same. false_is_true (posts_among (done_wants script past) t) (ap (posts_among (done_wants script past)) (sym same) ∙ mine.by_driver) h in
-        rw (stands.fresh t h, differs t other) refl
+        rw (stands.fresh t h, ne_eqb p.task t other) refl
 
     cell_now : (u : ℕ) → cell_of script (mid ++ ended ∷ []) u ≡ cond (eqb s u) left (cell_of script past u)
     cell_now u =
-        cell_of-push script mid ended u
-        ∙ ap (λ (r : Option Running). option_map_or (λ w. cond (eqb (sequence_of script w.runner w.task) u) left (cell_of script mid u)) r (cell_of script mid u)) running_mid
-        ∙ ap (λ (v : ℕ). cond (eqb s u) left v) (cell_of-push script past taken u)
+        cell_of_push script mid ended u
+        ∙ ap (λ (r : Option Running). cond (holds_of (runs_of script u) r) left (cell_of script mid u)) running_mid
+        ∙ ap (λ (v : ℕ). cond (eqb s u) left v) (cell_of_push script past taken u)
 
     stored : (u : ℕ) → u < length values → get_or (set values s left) u 0 ≡ cond (eqb s u) left (cell_of script past u)
-    stored u lt = elim (cases_eq s u) [
-      | inl same ↦ subst (λ (v : ℕ). get_or (set values s left) v 0 ≡ cond (eqb s v) left (cell_of script past v)) same (get_or-set_same values s left 0 within ∙ ap (λ (b : Bool). cond b left (cell_of script past s)) (sym (eqb-same s)))
-      | inr other ↦ get_or-set_other values s u left 0 (λ e. other (sym e)) ∙ stands.cells u lt ∙ ap (λ (b : Bool). cond b left (cell_of script past u)) (sym (apart s u other))
+    stored u lt = elim (eqb_tells s u) [
+      | inl here ↦ subst (λ (v : ℕ). get_or (set values s left) v 0 ≡ cond (eqb s v) left (cell_of script past v)) here.1 (get_or-set_same values s left 0 within ∙ ap (λ (b : Bool). cond b left (cell_of script past s)) (sym (eqb-same s)))
+      | inr there ↦ get_or-set_other values s u left 0 (λ e. there.1 (sym e)) ∙ stands.cells u lt ∙ ap (λ (b : Bool). cond b left (cell_of script past u)) (sym there.0)
     ]
 
 pub served : (script : Plan) (past : List Entry) (queue : List Waiting) (values : List ℕ) (old new : Tracked) (k : ℕ) (w : Waiting) (found left : ℕ) →
@@ -259,37 +315,37 @@ pub served : (script : Plan) (past : List Entry) (queue : List Waiting) (values 
     found ≡ get_or values (sequence_of script w.runner w.task) 0 → left ≡ after (steps_of script w.task) found →
     StandsFor script ((past ++ worker_entry (Take w.task w.runner found) ∷ []) ++ worker_entry (End w.task left) ∷ []) (take k queue ++ drop (k + 1) queue) (set values (sequence_of script w.runner w.task) left) new
 served script past queue values old new k w found left formed stands next tracked best is found_is left_is =
-    let E = eligible script past in
+    let E = to_take script past in
     let same_length : length queue ≡ length E = ap length stands.waits ∙ length-map E waiting_of in
     let below : k < length E = omega (arith, best.within) in
     let p = at E k in
     let it : w ≡ waiting_of p = waiting_at E k w below (is ∙ ap (λ (q : List Waiting). get_or q k w) stands.waits) in
     let split : E ≡ take k E ++ p ∷ drop (k + 1) E = around E k below in
     let queue_is : queue ≡ map waiting_of (take k E ++ p ∷ drop (k + 1) E) = stands.waits ∙ ap (map waiting_of) split in
-    let rank : (i : ℕ) → i < length E → get_or (ranks_of script queue) i 0 ≡ importance_of script (at E i).runner = λ i lt. ap (λ (q : List Waiting). get_or (ranks_of script q) i 0) stands.waits ∙ rank_at_place script E i lt in
-    let lower : AllByRecursion (λ x. importance_of script x.runner < importance_of script p.runner) (take k E) =
-    AllByRecursion-from_index (λ x. importance_of script x.runner < importance_of script p.runner) (take k E) (λ i d lt.
+    let rank : (i : ℕ) → i < length E → get_or (ranks_of script queue) i 0 ≡ importance_of script (at E i).home = λ i lt. ap (λ (q : List Waiting). get_or (ranks_of script q) i 0) stands.waits ∙ rank_at_place script E i lt in
+    let lower : AllByRecursion (λ x. importance_of script x.home < importance_of script p.home) (take k E) =
+    AllByRecursion-from_index (λ x. importance_of script x.home < importance_of script p.home) (take k E) (λ i d lt.
     let i_below : i < k = omega (arith, length-take k E) in
     let inside : i < length E = omega (arith, below) in
     let e : get_or (take k E) i d ≡ at E i = get_or-take k E i d i_below ∙ same_default E i d nobody inside in
     let before = best.lower i i_below in
     rw (e, sym (rank i inside), sym (rank k below)) before) in
-    let upper : AllByRecursion (λ y. importance_of script y.runner ≤ importance_of script p.runner) (drop (k + 1) E) =
-    AllByRecursion-from_index (λ y. importance_of script y.runner ≤ importance_of script p.runner) (drop (k + 1) E) (λ i d lt.
+    let upper : AllByRecursion (λ y. importance_of script y.home ≤ importance_of script p.home) (drop (k + 1) E) =
+    AllByRecursion-from_index (λ y. importance_of script y.home ≤ importance_of script p.home) (drop (k + 1) E) (λ i d lt.
     let inside : k + 1 + i < length E = omega (arith, length-drop (k + 1) E) in
     let e : get_or (drop (k + 1) E) i d ≡ at E (k + 1 + i) = get_or-drop (k + 1) E i d ∙ same_default E (k + 1 + i) d nobody inside in
     let behind = best.no_higher (k + 1 + i) (omega (arith, same_length)) in
     rw (e, sym (rank (k + 1 + i) inside), sym (rank k below)) behind) in
-    let within : sequence_of script p.runner p.task < length values =
+    let within : sequence_of script p.home p.task < length values =
     subst (λ (x : Waiting). sequence_of script x.runner x.task < length values) it (in_range script past queue values old k w stands best.within is) in
     let rest_is : map waiting_of (take k E ++ drop (k + 1) E) ≡ take k queue ++ drop (k + 1) queue =
     map-append waiting_of (take k E) (drop (k + 1) E)
     ∙ ap (λ (front : List Waiting). front ++ map waiting_of (drop (k + 1) E)) (sym (take-map waiting_of k E))
     ∙ ap (λ (back : List Waiting). take k (map waiting_of E) ++ back) (sym (drop-map waiting_of (k + 1) E))
     ∙ ap (λ (q : List Waiting). take k q ++ drop (k + 1) q) (sym stands.waits) in
-    let found_there : found ≡ get_or values (sequence_of script p.runner p.task) 0 = found_is ∙ ap (λ (x : Waiting). get_or values (sequence_of script x.runner x.task) 0) it in
+    let found_there : found ≡ get_or values (sequence_of script p.home p.task) 0 = found_is ∙ ap (λ (x : Waiting). get_or values (sequence_of script x.runner x.task) 0) it in
     let left_there : left ≡ after (steps_of script p.task) found = left_is ∙ ap (λ (x : Waiting). after (steps_of script x.task) found) it in
     let tracked_there = subst (λ (x : Waiting). Served old new (effective_at script x.runner 0)) it tracked in
     let there = served_between script past values old new (take k E) p (drop (k + 1) E) found left formed (subst (λ (q : List Waiting). StandsFor script past q values old) queue_is stands) split next tracked_there lower upper within found_there left_there in
-    let moved = subst (λ (q : List Waiting). StandsFor script ((past ++ worker_entry (Take p.task p.runner found) ∷ []) ++ worker_entry (End p.task left) ∷ []) q (set values (sequence_of script p.runner p.task) left) new) rest_is there in
+    let moved = subst (λ (q : List Waiting). StandsFor script ((past ++ worker_entry (Take p.task p.home found) ∷ []) ++ worker_entry (End p.task left) ∷ []) q (set values (sequence_of script p.home p.task) left) new) rest_is there in
     subst (λ (x : Waiting). StandsFor script ((past ++ worker_entry (Take x.task x.runner found) ∷ []) ++ worker_entry (End x.task left) ∷ []) (take k queue ++ drop (k + 1) queue) (set values (sequence_of script x.runner x.task) left) new) (sym it) moved

@@ -1,9 +1,8 @@
 -- What the two entries of a shutdown keep, and what the tracker counts.
-use Rattle.std.proofs.Common.{◌≡◌, ◌≢◌, ℕ, ◌+◌, ◌<◌, ◌≤◌, Bool, true, false, cond, eqb, List, [], ◌∷◌, ◌++◌, length, map, refl, sym, ap, subst, ◌∙◌, Some, arith}
+use Rattle.std.proofs.Common.{◌≡◌, ℕ, ◌<◌, ◌≤◌, Bool, true, false, cond, eqb, List, [], ◌∷◌, ◌++◌, length, map, refl, sym, ap, subst, ◌∙◌, Some, arith}
 use Rattle.std.specs.Prelude.{not, ◌&&◌, ◌||◌, filter, Result, Ok, Err, is_err, IsOk, OnOk}
 use Rattle.std.specs.List.{list_any, AllByRecursion, IsDistinct}
-use Rattle.std.proofs.lemmas.Bool.{eqb-true}
-use Rattle.std.proofs.lemmas.Bool.Decides.{nat_tests}
+use Rattle.std.proofs.lemmas.Bool.{eqb-true, ne_eqb}
 use Rattle.std.proofs.lemmas.List.{length-map}
 use Rattle.std.proofs.lemmas.List.Filters.{length-filter_both}
 use Rattle.std.proofs.lemmas.Map.Steps.{length-le_from_distinct_below}
@@ -16,20 +15,24 @@ use Rattle.task_tracker.specs.Tracked.{Tracked, blocker_count}
 use Rattle.task_base.specs.Plan.{Plan}
 use Rattle.task_base.specs.declared.entry.Entry.{Entry}
 use Rattle.task_base.specs.declared.entry.Kind.TheVariants.{Shutdown, Done}
+use Rattle.task_model.specs.Lists.{count}
 use Rattle.task_model.specs.Posts.{Posted, Before, InOrder, posts, is_taken, is_ended}
 use Rattle.task_model.specs.Phase.{phase_of, phase_after}
-use Rattle.task_model.specs.Refusal.{effective_at, is_forbidden}
+use Rattle.task_model.specs.Refusal.{effective_at}
+use Rattle.task_model.specs.Sequences.{may_start}
 use Rattle.task_model.specs.Blockers.{is_block, is_skip, is_open_block, is_running_skip, blockers_of}
-use Rattle.task_model.specs.Sequences.{eligible}
-use Rattle.task_model.specs.Script.{WantsShutdown, WantsDone, wants_shutdown, wanted}
-use Rattle.task_model.specs.Allowed.{may_come}
-use Rattle.task_model.specs.WellFormed.{starts_among, WellFormed}
+use Rattle.hist_model.specs.Allowed.{may_come}
 use Rattle.task_model.proofs.Lists.{filter_congr, filter-filter, filter_never, AllByRecursion-filter, AllByRecursion-map}
-use Rattle.task_model.proofs.Growth.{phase_of-push, cell_of-push, is_legal-push}
-use Rattle.task_model.proofs.Best.{InOrder-filter}
+use Rattle.task_model.proofs.Growth.{phase_of_push, cell_of_push}
+use Rattle.hist_model.proofs.Legal.{is_legal_push}
+use Rattle.task_script.specs.Wants.{WantsShutdown, WantsDone, wants_shutdown}
+use Rattle.task_script.specs.WellFormed.{starts_among, WellFormed}
 use Rattle.env_app.specs.declared.engine.Waiting.{Waiting}
-use Rattle.env_app.specs.Engine.{waiting_of, done_count, done_wants, IsKnown, blocks_shutdown, StandsFor}
-use Rattle.env_app.proofs.Events.{driver_entry, done_wants-driver, eligible-shutdown, eligible-done, quiet-driver, ended-driver, known-driver, fresh-driver, list_any-last, list_any-more, none_eligible, false_is_true}
+use Rattle.env_app.specs.Engine.{waiting_of, done_count, done_wants, wanted, to_take, IsKnown, IsStill, blocks_shutdown, StandsFor}
+use Rattle.env_app.proofs.Wanted.{by_script_next}
+use Rattle.env_app.proofs.Quiet.{no_job_blocks}
+use Rattle.env_app.proofs.Best.{InOrder-filter}
+use Rattle.env_app.proofs.Events.{driver_entry, driver_sits, done_wants-driver, to_take-shutdown, to_take-done, still_after, ended-driver, known-driver, fresh-driver, list_any-last, list_any-more, none_to_take, false_is_true}
 
 -- the waiting task may start once shutdown has started
 abbrev pub stays : Plan → Waiting → Bool
@@ -37,14 +40,14 @@ stays script w = not (forbids phases.Started (effective_at script w.runner 0))
 
 -- the same of the accepted task
 abbrev pub task_stays : Plan → Posted → Bool
-task_stays script p = not (forbids phases.Started (effective_at script p.runner p.delay))
+task_stays script p = not (forbids phases.Started (effective_at script p.home p.delay))
 
 -- the queue keeps the tasks that may start
 filter_waiting : (script : Plan) (past : List Entry) (ps : List Posted) → AllByRecursion (IsKnown script past) ps → filter (stays script) (map waiting_of ps) ≡ map waiting_of (filter (task_stays script) ps)
 filter_waiting script past [] known = refl
 filter_waiting script past (p ∷ ps) known =
     ap (λ (rest : List Waiting). cond (stays script (waiting_of p)) (waiting_of p ∷ rest) rest) (filter_waiting script past ps known.1)
-    ∙ ap (λ (d : ℕ). cond (not (forbids phases.Started (effective_at script p.runner d))) (waiting_of p ∷ map waiting_of (filter (task_stays script) ps)) (map waiting_of (filter (task_stays script) ps))) (sym known.0.immediate)
+    ∙ ap (λ (d : ℕ). cond (not (forbids phases.Started (effective_at script p.home d))) (waiting_of p ∷ map waiting_of (filter (task_stays script) ps)) (map waiting_of (filter (task_stays script) ps))) (sym known.0.immediate)
     ∙ both (task_stays script p)
   where
     both : (b : Bool) → cond b (waiting_of p ∷ map waiting_of (filter (task_stays script) ps)) (map waiting_of (filter (task_stays script) ps)) ≡ map waiting_of (cond b (p ∷ filter (task_stays script) ps) (filter (task_stays script) ps))
@@ -75,16 +78,16 @@ pub started : (script : Plan) (past : List Entry) (queue left : List Waiting) (v
     StandsFor script (past ++ driver_entry Shutdown ∷ []) left values new
 unfolding may_come wanted
 started script past queue left values old new formed stands next left_is tracked = record {
-  legal = is_legal-push script past e ∙ rw (stands.legal, next) refl;
-  quiet = quiet-driver past Shutdown stands.quiet refl;
+  legal = is_legal_push script past e ∙ rw (stands.legal, driver_sits script, by_script_next script past WantsShutdown true formed next) refl;
+  still = still_after past e stands.still refl refl refl tt;
   ended = ended-driver past Shutdown stands.ended (λ t. refl) (λ t. refl);
-  waits = rw (fewer) (left_is ∙ ap (filter (stays script)) stands.waits ∙ filter_waiting script past (eligible script past) stands.known);
-  in_order = rw (fewer) (InOrder-filter (task_stays script) (eligible script past) stands.in_order);
-  known = rw (fewer) (AllByRecursion-filter (IsKnown script (past ++ e ∷ [])) (task_stays script) (eligible script past) (known-driver script past Shutdown WantsShutdown (eligible script past) next stands.known));
+  waits = rw (fewer) (left_is ∙ ap (filter (stays script)) stands.waits ∙ filter_waiting script past (to_take script past) stands.known);
+  in_order = rw (fewer) (InOrder-filter (task_stays script) (to_take script past) stands.in_order);
+  known = rw (fewer) (AllByRecursion-filter (IsKnown script (past ++ e ∷ [])) (task_stays script) (to_take script past) (known-driver script past Shutdown WantsShutdown (to_take script past) next stands.known));
   fresh = fresh-driver script past Shutdown WantsShutdown next stands.fresh (λ t. refl);
-  cells = λ s lt. stands.cells s lt ∙ sym (cell_of-push script past e s);
+  cells = λ s lt. stands.cells s lt ∙ sym (cell_of_push script past e s);
   cell_count = stands.cell_count;
-  phase = ap (λ (t : Tracked). t.phase) tracked ∙ sym (phase_of-push past e ∙ ap (λ (p : Phase). phase_after p Shutdown) running_now);
+  phase = ap (λ (t : Tracked). t.phase) tracked ∙ sym (phase_of_push past e ∙ ap (λ (p : Phase). phase_after p Shutdown) running_now);
   blocks = ap (λ (t : Tracked). t.block_items) tracked ∙ stands.blocks ∙ ap length (sym same_blocks);
   no_skips = ap (λ (t : Tracked). t.skip_items) tracked ∙ stands.no_skips;
   not_started = λ h. false_is_true (starts_among (done_wants script (past ++ e ∷ [])))
@@ -97,33 +100,32 @@ started script past queue left values old new formed stands next left_is tracked
     running_now : phase_of past ≡ phases.Running
     running_now = stands.not_started (formed.one_shutdown (done_count past) next)
 
-    fewer : eligible script (past ++ e ∷ []) ≡ filter (task_stays script) (eligible script past)
-    fewer = eligible-shutdown script past running_now
+    fewer : to_take script (past ++ e ∷ []) ≡ filter (task_stays script) (to_take script past)
+    fewer = to_take-shutdown script past running_now
 
-    same_blocks : filter (blocks_shutdown script) (eligible script (past ++ e ∷ [])) ≡ filter (blocks_shutdown script) (eligible script past)
-    same_blocks = ap (filter (blocks_shutdown script)) fewer ∙ filter-filter (blocks_shutdown script) (task_stays script) (eligible script past)
-        ∙ filter_congr (λ p. task_stays script p && blocks_shutdown script p) (blocks_shutdown script) (eligible script past) (λ p. block_stays (effective_at script p.runner p.delay))
+    same_blocks : filter (blocks_shutdown script) (to_take script (past ++ e ∷ [])) ≡ filter (blocks_shutdown script) (to_take script past)
+    same_blocks = ap (filter (blocks_shutdown script)) fewer ∙ filter-filter (blocks_shutdown script) (task_stays script) (to_take script past)
+        ∙ filter_congr (λ p. task_stays script p && blocks_shutdown script p) (blocks_shutdown script) (to_take script past) (λ p. block_stays (effective_at script p.home p.delay))
 
 -- ---- the end of shutdown
 
 -- while shutdown is under way, only block tasks may be taken
-only_blocks : (script : Plan) (past : List Entry) → phase_of past ≡ phases.Started → filter (blocks_shutdown script) (eligible script past) ≡ eligible script past
-unfolding eligible
+only_blocks : (script : Plan) (past : List Entry) → phase_of past ≡ phases.Started → filter (blocks_shutdown script) (to_take script past) ≡ to_take script past
+unfolding to_take
 only_blocks script past under_way =
-    filter-filter (blocks_shutdown script) (λ p. not (is_taken past p.task) && not (is_forbidden script past p)) (posts past)
-    ∙ filter_congr (λ p. (not (is_taken past p.task) && not (is_forbidden script past p)) && blocks_shutdown script p) (λ p. not (is_taken past p.task) && not (is_forbidden script past p)) (posts past)
-    (λ p. rw (under_way) (regroup (not (is_taken past p.task)) (not (forbids phases.Started (effective_at script p.runner p.delay))) (blocks_shutdown script p) (stays_block (effective_at script p.runner p.delay))))
+    filter-filter (blocks_shutdown script) (may_start script past) (posts past)
+    ∙ filter_congr (λ p. may_start script past p && blocks_shutdown script p) (may_start script past) (posts past)
+    (λ p. rw (under_way) (regroup (not (is_taken past p.task)) (not (forbids phases.Started (effective_at script p.home p.delay))) (blocks_shutdown script p) (stays_block (effective_at script p.home p.delay))))
   where
     regroup : (a b c : Bool) → (b && c) ≡ b → ((a && b) && c) ≡ (a && b)
     regroup true b c h = h
     regroup false b c h = refl
 
 -- where nothing may be taken and what was taken has ended, nothing blocks shutdown
-pub nothing_blocks : (script : Plan) (past : List Entry) → phase_of past ≡ phases.Started → ((t : ℕ) → is_ended past t ≡ is_taken past t) → eligible script past ≡ [] → blockers_of script past ≡ 0
-unfolding blockers_of eligible
-nothing_blocks script past under_way ended none =
-    ap (λ (ps : List Posted). length ps + length (filter (is_running_skip script past) (posts past))) open_blocks
-    ∙ ap (λ (ps : List Posted). 0 + length ps) (filter_never (is_running_skip script past) (posts past) (λ p. rw (ended p.task) (not_both (is_skip (effective_at script p.runner p.delay)) (is_taken past p.task))))
+pub nothing_blocks : (script : Plan) (past : List Entry) → WellFormed script → IsStill past → phase_of past ≡ phases.Started → ((t : ℕ) → is_ended past t ≡ is_taken past t) → to_take script past ≡ [] → blockers_of script past ≡ 0
+unfolding blockers_of to_take
+nothing_blocks script past formed still under_way ended none =
+    omega (arith, ap length open_blocks, ap length no_skips, no_job_blocks script past formed still)
   where
     not_both : (a b : Bool) → (a && b && not b) ≡ false
     not_both true true = refl
@@ -138,33 +140,36 @@ nothing_blocks script past under_way ended none =
 
     open_blocks : filter (is_open_block script past) (posts past) ≡ []
     open_blocks =
-        filter_congr (is_open_block script past) (λ p. (not (is_taken past p.task) && not (is_forbidden script past p)) && blocks_shutdown script p) (posts past)
-        (λ p. rw (under_way, ended p.task) (regroup (not (is_taken past p.task)) (not (forbids phases.Started (effective_at script p.runner p.delay))) (blocks_shutdown script p) (block_stays (effective_at script p.runner p.delay))))
-        ∙ sym (filter-filter (blocks_shutdown script) (λ p. not (is_taken past p.task) && not (is_forbidden script past p)) (posts past))
+        filter_congr (is_open_block script past) (λ p. may_start script past p && blocks_shutdown script p) (posts past)
+        (λ p. rw (under_way, ended p.task) (regroup (not (is_taken past p.task)) (not (forbids phases.Started (effective_at script p.home p.delay))) (blocks_shutdown script p) (block_stays (effective_at script p.home p.delay))))
+        ∙ sym (filter-filter (blocks_shutdown script) (may_start script past) (posts past))
         ∙ ap (filter (blocks_shutdown script)) none
+
+    no_skips : filter (is_running_skip script past) (posts past) ≡ []
+    no_skips = filter_never (is_running_skip script past) (posts past) (λ p. rw (ended p.task) (not_both (is_skip (effective_at script p.home p.delay)) (is_taken past p.task)))
 
 -- how many tasks wait while shutdown is under way: as many as block it
 pub waiting_count : (script : Plan) (past : List Entry) (queue : List Waiting) (values : List ℕ) (tracked : Tracked) → StandsFor script past queue values tracked → tracked.phase ≡ phases.Started → length queue ≡ blocker_count tracked
 waiting_count script past queue values tracked stands under_way =
     let same = only_blocks script past (sym stands.phase ∙ under_way) in
-    omega (arith, ap length stands.waits, length-map (eligible script past) waiting_of, ap length same, stands.blocks, stands.no_skips)
+    omega (arith, ap length stands.waits, length-map (to_take script past) waiting_of, ap length same, stands.blocks, stands.no_skips)
 
 pub done : (script : Plan) (past : List Entry) (queue : List Waiting) (values : List ℕ) (old new : Tracked) →
-    StandsFor script past queue values old → wanted script past ≡ Some WantsDone →
+    WellFormed script → StandsFor script past queue values old → wanted script past ≡ Some WantsDone →
     old.phase ≡ phases.Started → queue ≡ [] → new ≡ record old { phase = phases.Done } →
     StandsFor script (past ++ driver_entry Done ∷ []) queue values new
 unfolding may_come
-done script past queue values old new stands next under_way empty tracked = record {
-  legal = is_legal-push script past e ∙ rw (stands.legal, next, now, nothing_blocks script past now stands.ended nobody) refl;
-  quiet = quiet-driver past Done stands.quiet refl;
+done script past queue values old new formed stands next under_way empty tracked = record {
+  legal = is_legal_push script past e ∙ rw (stands.legal, driver_sits script, by_script_next script past WantsDone true formed next, now, nothing_blocks script past formed stands.still now stands.ended nobody) refl;
+  still = still_after past e stands.still refl refl refl tt;
   ended = ended-driver past Done stands.ended (λ t. refl) (λ t. refl);
   waits = rw (gone) empty;
   in_order = rw (gone) tt;
   known = rw (gone) tt;
   fresh = fresh-driver script past Done WantsDone next stands.fresh (λ t. refl);
-  cells = λ s lt. stands.cells s lt ∙ sym (cell_of-push script past e s);
+  cells = λ s lt. stands.cells s lt ∙ sym (cell_of_push script past e s);
   cell_count = stands.cell_count;
-  phase = ap (λ (t : Tracked). t.phase) tracked ∙ sym (phase_of-push past e);
+  phase = ap (λ (t : Tracked). t.phase) tracked ∙ sym (phase_of_push past e);
   blocks = rw (gone) (ap (λ (t : Tracked). t.block_items) tracked ∙ stands.blocks ∙ ap (λ (ps : List Posted). length (filter (blocks_shutdown script) ps)) nobody);
   no_skips = ap (λ (t : Tracked). t.skip_items) tracked ∙ stands.no_skips;
   not_started = later (starts_among (done_wants script past)) refl;
@@ -176,11 +181,11 @@ done script past queue values old new stands next under_way empty tracked = reco
     now : phase_of past ≡ phases.Started
     now = sym stands.phase ∙ under_way
 
-    nobody : eligible script past ≡ []
-    nobody = none_eligible script past queue stands.waits empty
+    nobody : to_take script past ≡ []
+    nobody = none_to_take script past queue stands.waits empty
 
-    gone : eligible script (past ++ e ∷ []) ≡ []
-    gone = eligible-done script past
+    gone : to_take script (past ++ e ∷ []) ≡ []
+    gone = to_take-done script past
 
     later : (b : Bool) → starts_among (done_wants script past) ≡ b → starts_among (done_wants script (past ++ e ∷ [])) ≡ false → phase_of (past ++ e ∷ []) ≡ phases.Running
     later true is h = false_is_true (starts_among (done_wants script (past ++ e ∷ [])))
@@ -194,12 +199,9 @@ unfolding IsDistinct
 distinct_tasks [] h = tt
 distinct_tasks (p ∷ ps) h = (others ps h.0, distinct_tasks ps h.1)
   where
-    differs : (a b : ℕ) → a ≢ b → eqb a b ≡ false
-    differs a b ne = grind (arith, nat_tests)
-
     others : (qs : List Posted) → AllByRecursion (Before p) qs → AllByRecursion (λ t. eqb p.task t ≡ false) (map (λ q. q.task) qs)
     others [] k = tt
-    others (q ∷ qs) k = (differs p.task q.task k.0.another, others qs k.1)
+    others (q ∷ qs) k = (ne_eqb p.task q.task k.0.another, others qs k.1)
 
 tasks_below : (ps : List Posted) (n : ℕ) → AllByRecursion (λ p. p.task < n) ps → (t : ℕ) → list_any (eqb t) (map (λ p. p.task) ps) ≡ true → t < n
 tasks_below [] n below t h = absurd cc
@@ -216,7 +218,7 @@ filter_shorter p xs = omega (arith, length-filter_both p (λ x. not (p x)) (λ x
 pub few_wait : (script : Plan) (past : List Entry) (queue : List Waiting) (values : List ℕ) (tracked : Tracked) → StandsFor script past queue values tracked →
     (length queue ≤ length script.tasks) × (blocker_count tracked ≤ length script.tasks)
 few_wait script past queue values tracked stands =
-    let E = eligible script past in
+    let E = to_take script past in
     let below : AllByRecursion (λ p. p.task < length script.tasks) E = AllByRecursion-map (IsKnown script past) (λ p. p.task < length script.tasks) E (λ p k. k.task_declared) stands.known in
     let few : length (map (λ p. p.task) E) ≤ length script.tasks = length-le_from_distinct_below (map (λ p. p.task) E) (length script.tasks) (distinct_tasks E stands.in_order) (tasks_below E (length script.tasks) below) in
     let count = length-map E (λ p. p.task) in

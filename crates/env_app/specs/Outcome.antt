@@ -7,21 +7,24 @@ use Rattle.task_base.specs.declared.fault.Fault.{Fault}
 use Rattle.task_base.specs.declared.fault.Fault.TheVariants.{NotLegal, BadWords, BadScript, ReadFault, WriteFault, NoMemory, TooLarge}
 use Rattle.env_io.specs.Bytes.{Gives, Gains, Rose}
 use Rattle.task_model.specs.Words.{is_word}
-use Rattle.task_model.specs.Grammar.{Reads, script_read}
-use Rattle.task_model.specs.Legal.{IsLegal, IsWhole}
+use Rattle.task_model.specs.Grammar.{Reads}
 use Rattle.task_model.specs.LogText.{log_text}
-use Rattle.task_model.specs.WellFormed.{WellFormed}
+use Rattle.hist_model.specs.Legal.{IsLegal}
+use Rattle.hist_model.specs.Script.{IsWhole}
+use Rattle.task_script.specs.Form.{form_read}
+use Rattle.task_script.specs.WellFormed.{WellFormed}
 
 -- the words ask for a run: the program's name, and `run`
 abbrev pub accepts_run : List (String Global) → Bool
 accepts_run (program ∷ mode ∷ []) = is_word (string_bytes mode) (codes "run")
 accepts_run words = false
 
--- the bytes are a script, and this holds of the text of one legal, whole history of it
+-- the bytes are a script, of the form that is read today, and this holds of the text of one legal, whole history of it
 pub record HasRun (bytes : List ℕ) (Written : List ℕ → Type 0) : Type 0 where
   pub script : Plan
   pub log : List Entry
   pub reads : Reads bytes script
+  pub of_form : form_read bytes ≡ Some script
   pub legal : IsLegal script log
   pub whole : IsWhole script log
   pub written : Written (log_text log)
@@ -70,8 +73,8 @@ Failed side = Rose side.faults_before side.faults_after
 
 -- what the answer of reading a script says
 abbrev pub LoadsScript : Ends → Result Plan Fault → Type 0
-LoadsScript source (Ok script) = IsReadToEnd source × WellFormed script × OfBytes source (λ bytes. IsWithin bytes × Reads bytes script)
-LoadsScript source (Err (BadScript line reason)) = IsReadToEnd source × OfBytes source (λ bytes. IsWithin bytes × (script_read bytes ≡ None))
+LoadsScript source (Ok script) = IsReadToEnd source × WellFormed script × OfBytes source (λ bytes. IsWithin bytes × Reads bytes script × (form_read bytes ≡ Some script))
+LoadsScript source (Err (BadScript line reason)) = IsReadToEnd source × OfBytes source (λ bytes. IsWithin bytes × (form_read bytes ≡ None))
 LoadsScript source (Err ReadFault) = Failed source
 LoadsScript source (Err TooLarge) = OfBytes source (λ bytes. 8388608 < length bytes)
 LoadsScript source (Err NoMemory) = Unit {0}
@@ -88,7 +91,7 @@ abbrev pub RunsTo : Bool → Ends → Ends → Result (Unit {0}) Fault → Type 
 RunsTo accepted source sink (Ok done) = (accepted ≡ true) × IsReadToEnd source × Wrote WroteAll source sink
 RunsTo accepted source sink (Err BadWords) = accepted ≡ false
 RunsTo accepted source sink (Err WriteFault) = (accepted ≡ true) × IsReadToEnd source × Failed sink × Wrote WroteFront source sink
-RunsTo accepted source sink (Err (BadScript line reason)) = (accepted ≡ true) × IsReadToEnd source × OfBytes source (λ bytes. IsWithin bytes × (script_read bytes ≡ None))
+RunsTo accepted source sink (Err (BadScript line reason)) = (accepted ≡ true) × IsReadToEnd source × OfBytes source (λ bytes. IsWithin bytes × (form_read bytes ≡ None))
 RunsTo accepted source sink (Err ReadFault) = (accepted ≡ true) × Failed source
 RunsTo accepted source sink (Err TooLarge) = (accepted ≡ true) × OfBytes source (λ bytes. 8388608 < length bytes)
 RunsTo accepted source sink (Err NoMemory) = accepted ≡ true
@@ -104,10 +107,10 @@ pub record HasCause (accepted : Bool) (source sink : Ends) (status : ℕ) : Type
   pub read_to_end : (status ≡ 0) ⊎ (status ≡ 3) ⊎ (status ≡ 5) → IsReadToEnd source
   -- under 0 the whole text of the run's history was written
   pub done : status ≡ 0 → Wrote WroteAll source sink
-  -- 3 comes only where the bytes, within the limit, are no script
-  pub bad_script : status ≡ 3 → OfBytes source (λ bytes. IsWithin bytes × (script_read bytes ≡ None))
+  -- 3 comes only where the bytes, within the limit, are no script of the form that is read today
+  pub bad_script : status ≡ 3 → OfBytes source (λ bytes. IsWithin bytes × (form_read bytes ≡ None))
   -- and where they are none, nothing but 3, a failed source and want of memory comes
-  pub no_script : accepted ≡ true → OfBytes source (λ bytes. IsWithin bytes → script_read bytes ≡ None → (status ≡ 3) ⊎ (status ≡ 4) ⊎ (status ≡ 6))
+  pub no_script : accepted ≡ true → OfBytes source (λ bytes. IsWithin bytes → form_read bytes ≡ None → (status ≡ 3) ⊎ (status ≡ 4) ⊎ (status ≡ 6))
   -- 4 comes only where the source failed
   pub read_fault : status ≡ 4 → Failed source
   -- 5 comes only where the sink failed, and a front of the text was written
@@ -119,8 +122,8 @@ pub record HasCause (accepted : Bool) (source sink : Ends) (status : ℕ) : Type
   pub took_within : status ≢ 7 → TookWithin source
   -- and where more came, nothing but 7, a failed source and want of memory comes
   pub large : accepted ≡ true → OfBytes source (λ bytes. 8388608 < length bytes → (status ≡ 4) ⊎ (status ≡ 6) ⊎ (status ≡ 7))
-  -- good input gives no fault: where neither side fails, a script is run, or memory is wanting
-  pub good_input : accepted ≡ true → OfBytes source (λ bytes. (script : Plan) → IsWithin bytes → Reads bytes script → ¬ Failed source → ¬ Failed sink → (status ≡ 0) ⊎ (status ≡ 6))
+  -- good input gives no fault: where neither side fails, a script of that form is run, or memory is wanting
+  pub good_input : accepted ≡ true → OfBytes source (λ bytes. (script : Plan) → IsWithin bytes → form_read bytes ≡ Some script → ¬ Failed source → ¬ Failed sink → (status ≡ 0) ⊎ (status ≡ 6))
 
 -- the note that goes with a status, with its line feed
 abbrev pub note_of : ℕ → List ℕ

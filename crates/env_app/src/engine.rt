@@ -1,14 +1,14 @@
-ghost use Rattle.std.specs.Prelude.{◌≡◌, ◌+◌, ◌*◌, ◌-◌, ◌^◌, ◌<◌, ◌≤◌, ◌↔◌, [], ◌∷◌, ◌++◌, length, not, filter, vec_len, vec_capacity, IfOk, Some, false};
+ghost use Rattle.std.specs.Prelude.{◌≡◌, ◌+◌, ◌*◌, ◌-◌, ◌^◌, ◌<◌, ◌≤◌, ◌↔◌, [], ◌∷◌, ◌++◌, length, not, filter, vec_len, vec_capacity, IfOk, Some, true, false};
 ghost use Rattle.task_base.specs.Steps.{after};
-ghost use Rattle.task_model.specs.Capacity.{importance_of};
-ghost use Rattle.task_model.specs.Cells.{steps_of};
-ghost use Rattle.task_model.specs.Legal.{IsLegal, IsWhole};
 ghost use Rattle.task_model.specs.Refusal.{effective_at};
-ghost use Rattle.task_model.specs.Script.{WantsPost, WantsIdle, WantsShutdown, WantsDone, wants_of, wanted, is_finished};
-ghost use Rattle.task_traits.specs.Behaviour.{forbids};
+ghost use Rattle.task_model.specs.Seats.{steps_of};
 ghost use Rattle.task_model.specs.Sequences.{sequence_of};
-ghost use Rattle.task_model.specs.WellFormed.{WellFormed};
-ghost use Rattle.env_app.specs.Engine.{IsFirstBest, ranks_of};
+ghost use Rattle.task_traits.specs.Behaviour.{forbids};
+ghost use Rattle.hist_model.specs.Legal.{IsLegal};
+ghost use Rattle.hist_model.specs.Script.{is_finished, IsWhole};
+ghost use Rattle.task_script.specs.Wants.{WantsPost, WantsIdle, WantsShutdown, WantsDone, wants_of};
+ghost use Rattle.task_script.specs.WellFormed.{is_form_action, WellFormed};
+ghost use Rattle.env_app.specs.Engine.{IsFirstBest, importance_of, ranks_of, wanted};
 
 use env_io::Gate;
 use std::alloc::{AllocError, Global};
@@ -267,6 +267,7 @@ impl Engine {
         requires formed { WellFormed script.now }
         requires ready { IsReady script.now self.old }
         requires next { IsNext script.now self.old.log.items (wants_of action) }
+        requires plain { is_form_action action ≡ true }
         ensures ready { IsReady script.now self.new }
         ensures done { done_count self.new.log.items ≡ done_count self.old.log.items + length (wants_of action) }
     {
@@ -281,6 +282,7 @@ impl Engine {
                 self.start_shutdown(script);
                 self.finish_shutdown(script, gate);
             }
+            _ => unreachable!(),
         }
     }
 }

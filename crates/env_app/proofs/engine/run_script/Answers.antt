@@ -1,6 +1,6 @@
 use Rattle.std.proofs.Common.{◌∙◌, ◌+◌, length, get_or, ap, arith}
 use Rattle.task_base.specs.declared.script.Action.TheVariants.{Post}
-use Rattle.task_model.specs.Script.{wants_of}
+use Rattle.task_script.specs.Wants.{wants_of}
 use Rattle.env_app.proofs.Room.{whole_at_end, next_action, wants_taken, wants_all}
 use Rattle.env_app.proofs.engine.run_script.Goals as goal
 
@@ -18,5 +18,5 @@ loop-action-preserved g c = (
 
 pub returns-clause-whole : goal.returns-clause-whole
 returns-clause-whole g c =
-    whole_at_end c.args.script.now c.loop-action.engine.log.items c.loop-action.invariant.0.stands.quiet
+    whole_at_end c.args.script.now c.loop-action.engine.log.items c.requires c.loop-action.invariant.0.stands.still
     (omega (arith, c.loop-action.invariant.1, wants_all c.args.script.now c.as_slice-action-items.result.now c.loop-action.action-index (c.as_slice-action-items.ensures ∙ ap (λ p. p.actions) c.script.view_is) c.loop-action-test.false))

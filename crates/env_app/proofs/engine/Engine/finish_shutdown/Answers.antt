@@ -1,12 +1,13 @@
 use Rattle.std.proofs.Common.{◌≡◌, ◌∙◌, [], refl, sym, arith}
 use Rattle.std.proofs.lemmas.List.{nil_from_length}
 use Rattle.env_app.proofs.Shutdown.{waiting_count, done, when_done}
-use Rattle.env_app.proofs.Room.{some_to_do, wanted-same, not_finished, room_after_entry}
+use Rattle.env_app.proofs.Wanted.{not_finished}
+use Rattle.env_app.proofs.Room.{some_to_do, wanted-same, room_after_entry}
 use Rattle.env_app.proofs.engine.Engine.finish_shutdown.Goals as goal
 
 pub serve-requires-clause-unfinished : goal.serve-requires-clause-unfinished
 serve-requires-clause-unfinished g c κs h =
-    not_finished c.args.script.now c.loop-self.self.log.items _ (wanted-same c.args.script.now c.args.self.now.log.items c.loop-self.self.log.items c.loop-self.invariant.1 ∙ c.requires.next)
+    not_finished c.args.script.now c.loop-self.self.log.items _ c.requires.formed (wanted-same c.args.script.now c.args.self.now.log.items c.loop-self.self.log.items c.loop-self.invariant.1 ∙ c.requires.next)
 
 pub push_spare-requires : goal.push_spare-requires
 push_spare-requires g c =
@@ -23,6 +24,6 @@ returns-clause-ready g c =
     let waiting = waiting_count script self.log.items self.queue.items self.cells.items self.tracker ready.stands c.loop-self.invariant.2 in
     let empty : self.queue.items ≡ [] = nil_from_length self.queue.items (omega (arith, waiting, over.0)) in
     record {
-      stands = rw (c.push_spare.ensures.items) (done script self.log.items self.queue.items self.cells.items self.tracker c.try_done.new.self ready.stands next c.loop-self.invariant.2 empty over.1);
+      stands = rw (c.push_spare.ensures.items) (done script self.log.items self.queue.items self.cells.items self.tracker c.try_done.new.self c.requires.formed ready.stands next c.loop-self.invariant.2 empty over.1);
       room = room_after_entry script self _ _ ready.room (some_to_do script self.log.items _ next) c.push_spare.ensures.items c.push_spare.ensures.spare (omega arith) (omega arith) refl;
     }

@@ -2,12 +2,13 @@ use Rattle.std.proofs.Common.{◌≡◌, ◌∙◌, [], refl, sym, vec_len, arit
 use Rattle.std.proofs.lemmas.Bool.{eqb-true}
 use Rattle.std.proofs.lemmas.List.{nil_from_length}
 use Rattle.env_app.proofs.Events.{idled}
-use Rattle.env_app.proofs.Room.{some_to_do, wanted-same, not_finished, room_after_entry}
+use Rattle.env_app.proofs.Wanted.{not_finished}
+use Rattle.env_app.proofs.Room.{some_to_do, wanted-same, room_after_entry}
 use Rattle.env_app.proofs.engine.Engine.flush.Goals as goal
 
 pub serve-requires-clause-unfinished : goal.serve-requires-clause-unfinished
 serve-requires-clause-unfinished g c κs h =
-    not_finished c.args.script.now c.loop-self.self.log.items _ (wanted-same c.args.script.now c.args.self.now.log.items c.loop-self.self.log.items c.loop-self.invariant.1 ∙ c.requires.next)
+    not_finished c.args.script.now c.loop-self.self.log.items _ c.requires.formed (wanted-same c.args.script.now c.args.self.now.log.items c.loop-self.self.log.items c.loop-self.invariant.1 ∙ c.requires.next)
 
 pub push_spare-requires : goal.push_spare-requires
 push_spare-requires g c =
@@ -22,6 +23,6 @@ returns-clause-ready g c =
     let none : vec_len self.queue ≡ 0 = eqb-true _ _ (sym c.loop-self-test.ensures) in
     let empty : self.queue.items ≡ [] = nil_from_length self.queue.items (omega (arith, none, self.queue.ok.0)) in
     record {
-      stands = rw (c.push_spare.ensures.items) (idled c.args.script.now self.log.items self.queue.items self.cells.items self.tracker empty ready.stands next);
+      stands = rw (c.push_spare.ensures.items) (idled c.args.script.now self.log.items self.queue.items self.cells.items self.tracker empty c.requires.formed ready.stands next);
       room = room_after_entry c.args.script.now self _ _ ready.room (some_to_do c.args.script.now self.log.items _ next) c.push_spare.ensures.items c.push_spare.ensures.spare (omega arith) (omega arith) refl;
     }

@@ -1,6 +1,6 @@
 use Rattle.std.proofs.Common.{◌≡◌, ◌+◌, ◌∙◌, length, replicate, ap, arith}
 use Rattle.task_tracker.specs.Tracked.{Tracked}
-use Rattle.task_model.specs.Draft.{has_shutdown}
+use Rattle.task_script.specs.FormDraft.{shuts_down}
 use Rattle.env_app.proofs.Room.{room_at_start, stands_at_start, at_most_one}
 use Rattle.env_app.proofs.engine.Engine.open.Goals as goal
 
@@ -12,7 +12,7 @@ returns-clause-ready c =
     let tasks : c.len-2.result ≡ length script.tasks = c.len-2.ensures.count ∙ ap (λ p. length p.tasks) c.script.view_is in
     let zeros : c.in_ok-cells.cells.items ≡ replicate (c.len.result + c.len-2.result) 0 = c.in_ok-cells.ensures.items_if_clones_equal (λ y e. e) in
     let wants = c.requires.wants_count in
-    let once = at_most_one (has_shutdown script.actions) in
+    let once = at_most_one (shuts_down script.actions) in
     record {
       stands = stands_at_start script c.in_ok-log.log.items c.in_ok-queue.queue.items c.in_ok-cells.cells.items c.new.result (c.len.result + c.len-2.result) c.in_ok-log.ensures.empty c.in_ok-queue.ensures.items zeros (omega arith)
           (ap (λ (t : Tracked). t.phase) c.new.ensures) (ap (λ (t : Tracked). t.block_items) c.new.ensures) (ap (λ (t : Tracked). t.skip_items) c.new.ensures);

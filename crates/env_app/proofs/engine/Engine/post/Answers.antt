@@ -46,6 +46,6 @@ returns-else-ok-clause-ready c =
     let forbidden : is_refused script old.log.items c.args.runner c.args.delay ≡ true =
     answer_is old.tracker.phase _ c.effective_at.result _ false ready.stands.phase c.effective_at.ensures c.if-ok.ensures.answer in
     record {
-      stands = rw (c.push_spare.ensures.items, c.if-ok.ensures.refused, c.if-ok.false) (refused script old.log.items old.queue.items old.cells.items old.tracker c.args.task c.args.runner c.args.delay ready.stands c.requires.next forbidden);
+      stands = rw (c.push_spare.ensures.items, c.if-ok.ensures.refused, c.if-ok.false) (refused script old.log.items old.queue.items old.cells.items old.tracker c.args.task c.args.runner c.args.delay c.requires.formed ready.stands c.requires.next forbidden);
       room = room_after_entry script old _ _ ready.room ahead c.push_spare.ensures.items c.push_spare.ensures.spare (omega arith) (omega arith) refl;
     }
