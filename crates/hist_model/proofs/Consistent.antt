@@ -209,7 +209,8 @@ ended_consistent script past seat kind after was_taken not_another c = record {
     runs s w (Own own is) h = absurd (nothing w (sym (moved past seat kind s None own (after (running past s))) ∙ h))
     runs s w (Other other) h = runs_later script past seat kind s w w.is_main (c.runs s w (before s w (Other other) h)) (λ pool. not_another s w other (before s w (Other other) h) pool)
 
-not_both : (b : Bool) → b ≡ true → b ≡ false → ⊥
+-- a test does not both pass and fail
+pub not_both : (b : Bool) → b ≡ true → b ≡ false → ⊥
 not_both true h k = absurd cc
 not_both false h k = absurd cc
 

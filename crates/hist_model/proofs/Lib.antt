@@ -16,3 +16,4 @@ pub mod PostingCounts
 pub mod PostedOnce
 pub mod Differing
 pub mod OneThing
+pub mod Rising

@@ -25,6 +25,7 @@ use Rattle.hist_model.specs.Consistent.{is_pump, is_join, DoesOneThing}
 use Rattle.hist_model.proofs.Agenda.{current_stays}
 use Rattle.hist_model.proofs.Legal.{legal_induction}
 use Rattle.hist_model.proofs.Choice.{Found, found}
+use Rattle.hist_model.proofs.Consistent.{not_both}
 use Rattle.hist_model.proofs.Takes.{IsReadyWorker, ready_worker, by_driver, take_is}
 use Rattle.hist_model.proofs.Own.{running_own, holding_own, own_entries_push}
 
@@ -36,10 +37,6 @@ At script past test = (c : Current) × (current script (own_entries 0 past) ≡ 
 wanted_by : (script : Plan) (past : List Entry) (seat : ℕ) (kind : Kind) → by_script script past seat kind ≡ true → Found Current (λ c. wants (own_entries 0 past) c.action c.made kind) (current script (own_entries 0 past))
 unfolding by_script is_wanted
 wanted_by script past seat kind h = found (λ c. wants (own_entries 0 past) c.action c.made kind) (current script (own_entries 0 past)) (and_parts (eqb seat 0) (holds_of (λ c. wants (own_entries 0 past) c.action c.made kind) (current script (own_entries 0 past))) h).1
-
-clash : {X : Type 0} (b : Bool) → b ≡ true → b ≡ false → X
-clash true h k = absurd cc
-clash false h k = absurd cc
 
 nothing : {A X : Type 0} (x : A) → None ≡ Some x → X
 nothing x e = absurd cc
@@ -88,7 +85,7 @@ pump_goes_on script past kind c w v pump runs after h = at c.action c.made kind 
         needs (own_entries 0 past) d.value.action d.value.made (running_own past 0 ∙ runs) d.passes
       where
         needs : (own : List Entry) (action : Action) (made : List Entry) → running own 0 ≡ Some w → wants own action made kinds.MainNone ≡ true → ⊥
-        needs own (actions.Pump n) made is k = clash (is_none (running own 0)) k (ap is_none is)
+        needs own (actions.Pump n) made is k = not_both (is_none (running own 0)) k (ap is_none is)
         needs own action made is k = absurd cc
 
     at : (action : Action) (made : List Entry) (k : Kind) → is_pump action ≡ true → running_after (Some w) k ≡ Some v → (kinds.MainNone ≡ k → ⊥) → completes action made k ≡ false
@@ -111,7 +108,7 @@ join_goes_on script past kind c h join holds may = at c.action c.made kind join 
         needs (own_entries 0 past) d.value.action d.value.made (holding_own past 0 ∙ holds) d.passes
       where
         needs : (own : List Entry) (action : Action) (made : List Entry) → holding own 0 ≡ Some h → wants own action made (kinds.Joined job reply) ≡ true → ⊥
-        needs own (actions.Join j) made is k = clash (is_none (holding own 0)) (and_parts (eqb job j) (is_none (holding own 0)) k).1 (ap is_none is)
+        needs own (actions.Join j) made is k = not_both (is_none (holding own 0)) (and_parts (eqb job j) (is_none (holding own 0)) k).1 (ap is_none is)
         needs own action made is k = absurd cc
 
     at : (action : Action) (made : List Entry) (k : Kind) → is_join action ≡ true → ((job : ℕ) (reply : JobReply) → kinds.Joined job reply ≡ k → ⊥) → completes action made k ≡ false
@@ -158,10 +155,10 @@ job_step_holds script past seat job id item value next h =
     first a b d k = grind (arith, k)
 
 runs_none : (past : List Entry) (seat : ℕ) (w : Running) → is_free past seat ≡ true → running past seat ≡ Some w → ⊥
-runs_none past seat w free r = clash (is_none (running past seat)) (and_parts (is_none (running past seat)) (is_none (holding past seat)) free).0 (ap is_none r)
+runs_none past seat w free r = not_both (is_none (running past seat)) (and_parts (is_none (running past seat)) (is_none (holding past seat)) free).0 (ap is_none r)
 
 holds_none : (past : List Entry) (seat : ℕ) (h : Holding) → is_free past seat ≡ true → holding past seat ≡ Some h → ⊥
-holds_none past seat h free k = clash (is_none (holding past seat)) (and_parts (is_none (running past seat)) (is_none (holding past seat)) free).1 (ap is_none k)
+holds_none past seat h free k = not_both (is_none (holding past seat)) (and_parts (is_none (running past seat)) (is_none (holding past seat)) free).1 (ap is_none k)
 
 -- the seat of the entry does one thing behind it
 own_thing : (script : Plan) (past : List Entry) (seat : ℕ) (kind : Kind) → may_come script past seat kind ≡ true → DoesOneThing script past → (w : Running) (h : Holding) → running_after (running past seat) kind ≡ Some w → holding_after (holding past seat) kind ≡ Some h → ⊥

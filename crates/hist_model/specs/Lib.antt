@@ -7,3 +7,4 @@ pub mod Consistent
 pub mod ShutdownLaw
 pub mod Agenda
 pub mod Postings
+pub mod Rising

@@ -7,12 +7,14 @@
 
 mod current;
 mod histories;
+mod moments;
 mod postings;
 mod seats;
 mod shutdown;
 
 pub use current::the_current_action_moves_on;
 pub use histories::{legal_histories_grow, the_first_illegal_place_is_told};
+pub use moments::moments_and_orders_rise;
 pub use postings::each_task_is_posted_once;
 pub use seats::{
     legal_histories_are_consistent, own_entries_tell_the_seat, seats_do_one_thing,

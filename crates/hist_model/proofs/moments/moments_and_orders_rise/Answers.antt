@@ -1,0 +1,8 @@
+use Rattle.hist_model.proofs.Rising.{legal_rises, orders_are_distinct}
+use Rattle.hist_model.proofs.moments.moments_and_orders_rise.Goals as goal
+
+pub returns-clause-rises : goal.returns-clause-rises
+returns-clause-rises c = legal_rises
+
+pub returns-clause-distinct : goal.returns-clause-distinct
+returns-clause-distinct c = orders_are_distinct
