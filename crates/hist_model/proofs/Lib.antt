@@ -2,6 +2,7 @@ pub mod Worked
 pub mod WorkedPool
 pub mod WorkedQueues
 pub mod WorkedJobs
+pub mod WorkedEdges
 pub mod WorkedRefusals
 pub mod Legal
 pub mod Choice

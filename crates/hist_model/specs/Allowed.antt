@@ -97,16 +97,20 @@ same_reply Cancelled Cancelled = true
 same_reply Stopped Stopped = true
 same_reply a b = false
 
+-- the reply says ok exactly where the post is not refused
+abbrev pub is_reply : Bool → Bool → Bool
+is_reply refused ok = if refused then not ok else ok
+
 -- whether an entry of this seat and kind may come after the past
 unfoldable pub may_come : Plan → List Entry → ℕ → Kind → Bool
 -- by the script or by a task; it is refused where the phase forbids the task's effective behaviour
 may_come script past seat (kinds.Post task runner delay ok) =
     (by_script script past seat (kinds.Post task runner delay ok) || by_task script past seat (kinds.Post task runner delay ok))
-    && (if is_refused script past runner delay then not ok else ok)
+    && is_reply (is_refused script past runner delay) ok
 -- by the script or by a task; it is refused where the queue is closed
 may_come script past seat (kinds.Main task queue delay ok) =
     (by_script script past seat (kinds.Main task queue delay ok) || by_task script past seat (kinds.Main task queue delay ok))
-    && (if is_closed past queue then not ok else ok)
+    && is_reply (is_closed past queue) ok
 -- by the script; the moment is at least the last one, and at most 2^62
 may_come script past seat (kinds.Tick now) =
     by_script script past seat (kinds.Tick now) && nat_le (now_of past) now && nat_le now (2 ^ 62)
@@ -142,7 +146,7 @@ may_come script past seat (kinds.MainEnd task left) =
 may_come script past seat kinds.MainNone = by_script script past seat kinds.MainNone && length (open_fronts script past) == 0
 -- by the script; it is refused where the phase forbids the job
 may_come script past seat (kinds.JobPost job ok) =
-    by_script script past seat (kinds.JobPost job ok) && (if is_job_forbidden script past job then not ok else ok)
+    by_script script past seat (kinds.JobPost job ok) && is_reply (is_job_forbidden script past job) ok
 -- a free worker whose best source is the job, or the driver inside a join of it; the least number that nobody inside has, and
 -- the least unclaimed item
 may_come script past seat (kinds.JobTake job id item) =

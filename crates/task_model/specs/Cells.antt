@@ -13,7 +13,8 @@ abbrev pub cell_after : Plan → ℕ → List Entry → ℕ → ℕ → Kind →
 cell_after script s before value seat (End task left) = if holds_of (runs_of script s) (running before seat) then left else value
 cell_after script s before value seat kind = value
 
--- what the last end of a task of the sequence left, or 0 (this project's own rule)
+-- what the last end of a task of the sequence left, or 0 (this project's own rule). The task is the one that the seat
+-- runs, which an end names in every legal history
 unfoldable pub cell_of : Plan → List Entry → ℕ → ℕ
 cell_of script past s = fold_past (λ before value e. cell_after script s before value e.seat e.kind) 0 past
 

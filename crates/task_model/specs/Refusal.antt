@@ -17,7 +17,7 @@ use Rattle.task_model.specs.Posts.{Posted}
 abbrev pub effective_at : Plan → ℕ → ℕ → Behaviour
 effective_at script runner delay = effective_of (option_map_or (λ r. r.traits.behaviour) (slice_get script.runners runner) ContinueOnShutdown) (nat_lt 0 delay)
 
--- a pool post is refused exactly where the phase forbids the task's effective behaviour (this project's own rule)
+-- a pool post is refused exactly where the phase forbids the task's effective behaviour (`task_traits.h`)
 abbrev pub is_refused : Plan → List Entry → ℕ → ℕ → Bool
 is_refused script past runner delay = forbids (phase_of past) (effective_at script runner delay)
 
@@ -33,7 +33,7 @@ is_forbidden script past p = is_refused script past p.home p.delay
 abbrev pub behaviour_of_job : Plan → ℕ → Behaviour
 behaviour_of_job script j = option_map_or (λ job. job.behaviour) (slice_get script.jobs j) ContinueOnShutdown
 
--- the phase forbids the job, so its post is refused and no worker enters it (this project's own rule)
+-- the phase forbids the job, so its post is refused and no worker enters it (`task_traits.h`, `post_job.h`)
 abbrev pub is_job_forbidden : Plan → List Entry → ℕ → Bool
 is_job_forbidden script past j = forbids (phase_of past) (behaviour_of_job script j)
 

@@ -86,7 +86,8 @@ is_takeable script past seat c = has_room script past c.priority && option_map_o
 abbrev pub IsTakeable : Plan → List Entry → ℕ → Candidate → Type 0
 IsTakeable script past seat c = IsWaiting script past c × IsTrue (is_takeable script past seat c)
 
--- the first goes before the second: it is of higher priority, then of fewer inside, then of lesser key
+-- the first goes before the second: it is of higher priority (`task_traits.h`), then of fewer inside, then of lesser key
+-- (this project's own rule on ties)
 abbrev pub goes_before : Candidate → Candidate → Bool
 goes_before a b =
     nat_lt (importance b.priority) (importance a.priority)

@@ -10,7 +10,7 @@ abbrev pub now_after : ℕ → Kind → ℕ
 now_after now (Tick moment) = moment
 now_after now kind = now
 
--- the moment of the last tick, or 0 (this project's own rule)
+-- the moment of the last tick, or 0 (`thread_pool.h` for delays; that moments come by ticks is this project's own)
 unfoldable pub now_of : List Entry → ℕ
 now_of past = fold (λ now e. now_after now e.kind) 0 past
 
