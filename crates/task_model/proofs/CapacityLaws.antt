@@ -72,7 +72,7 @@ load_at_driver script past e group driver = loads_kept script past (past ++ e �
     apart seat from same = omega (arith, from, same, driver)
 
 -- a seat that is free does no work
-free_parts : (past : List Entry) (seat : ℕ) → is_free past seat ≡ true → (running past seat ≡ None) × (holding past seat ≡ None)
+pub free_parts : (past : List Entry) (seat : ℕ) → is_free past seat ≡ true → (running past seat ≡ None) × (holding past seat ≡ None)
 free_parts past seat free = by (running past seat) (holding past seat) free
   where
     by : (r : Option Running) (h : Option Holding) → (is_none r && is_none h) ≡ true → (r ≡ None) × (h ≡ None)
@@ -150,20 +150,20 @@ load_at_leave script past e group job id item value is worker none held = loads_
 -- Room.
 
 -- whether a seat is blocked, by the moment, the open scopes, and what it runs
-abbrev blocked : Plan → (Priority → Bool) → ℕ → (ℕ → Option OpenScope) → Option Running → Bool
+abbrev pub blocked : Plan → (Priority → Bool) → ℕ → (ℕ → Option OpenScope) → Option Running → Bool
 blocked script test now scope run = holds_of (λ w. not w.is_main && test (priority_of script w.home) && holds_of (λ opened. has_come opened.scope (opened.since + script.threshold) now) (scope w.task)) run
 
 -- the same task, moment and scope
-blocked_same : (script : Plan) (test : Priority → Bool) (now later : ℕ) (scope scope_later : ℕ → Option OpenScope) (run : Option Running) → later ≡ now → ((w : Running) → run ≡ Some w → scope_later w.task ≡ scope w.task) → blocked script test later scope_later run ≡ blocked script test now scope run
+pub blocked_same : (script : Plan) (test : Priority → Bool) (now later : ℕ) (scope scope_later : ℕ → Option OpenScope) (run : Option Running) → later ≡ now → ((w : Running) → run ≡ Some w → scope_later w.task ≡ scope w.task) → blocked script test later scope_later run ≡ blocked script test now scope run
 blocked_same script test now later scope scope_later None same h = refl
 blocked_same script test now later scope scope_later (Some w) same h =
     ap (λ o. not w.is_main && test (priority_of script w.home) && holds_of (λ opened. has_come opened.scope (opened.since + script.threshold) later) o) (h w refl)
     ∙ ap (λ n. not w.is_main && test (priority_of script w.home) && holds_of (λ opened. has_come opened.scope (opened.since + script.threshold) n) (scope w.task)) same
 
-blocked_kept : (script : Plan) (past later : List Entry) (test : Priority → Bool) → ((seat : ℕ) → IsWorker script seat → is_blocked script later test seat ≡ is_blocked script past test seat) → blocked_of script later test ≡ blocked_of script past test
+pub blocked_kept : (script : Plan) (past later : List Entry) (test : Priority → Bool) → ((seat : ℕ) → IsWorker script seat → is_blocked script later test seat ≡ is_blocked script past test seat) → blocked_of script later test ≡ blocked_of script past test
 blocked_kept script past later test same = ap length (filter_congr_in (is_blocked script later test) (is_blocked script past test) (worker_seats script) (workers (λ seat. is_blocked script later test seat ≡ is_blocked script past test seat) script same))
 
-capacities_kept : (script : Plan) (past later : List Entry) (group : Group) → ((test : Priority → Bool) → blocked_of script later test ≡ blocked_of script past test) → Capacities script later group (capacity script past group) (best_capacity script past group)
+pub capacities_kept : (script : Plan) (past later : List Entry) (group : Group) → ((test : Priority → Bool) → blocked_of script later test ≡ blocked_of script past test) → Capacities script later group (capacity script past group) (best_capacity script past group)
 unfolding capacity best_capacity
 capacities_kept script past later group same = record { all_is = ap (λ n. limit script group + n) (same (is_in script group)); best_is = ap (λ n. best_limit script group + n) (same (is_best_in script group)) }
 
@@ -181,7 +181,7 @@ capacities_from script past later group priority counts same =
 now_kept : (past : List Entry) (e : Entry) (kind : Kind) → e.kind ≡ kind → ((n : ℕ) → now_after n kind ≡ n) → now_of (past ++ e ∷ []) ≡ now_of past
 now_kept past e kind is still = now_of_push past e ∙ ap (now_after (now_of past)) is ∙ still (now_of past)
 
-scope_kept : (past : List Entry) (e : Entry) (t : ℕ) → scopes t e.kind ≡ false → open_scope (past ++ e ∷ []) t ≡ open_scope past t
+pub scope_kept : (past : List Entry) (e : Entry) (t : ℕ) → scopes t e.kind ≡ false → open_scope (past ++ e ∷ []) t ≡ open_scope past t
 scope_kept past e t quiet = open_scope_push past e t ∙ by e.kind quiet
   where
     by : (kind : Kind) → scopes t kind ≡ false → scope_after t past (open_scope past t) kind ≡ open_scope past t

@@ -171,7 +171,7 @@ pub no_front : NoFront
 no_front script past q lane is = no_least order_below (lane_of script past q lane) (sym (front_is_least script past q lane) ∙ is)
 
 -- what holds of the elements that pass a test
-unfiltered : {A : Type 0} (P : A → Type 0) (test : A → Bool) (xs : List A) → AllByRecursion P (filter test xs) → AllByRecursion (λ x. test x ≡ true → P x) xs
+pub unfiltered : {A : Type 0} (P : A → Type 0) (test : A → Bool) (xs : List A) → AllByRecursion P (filter test xs) → AllByRecursion (λ x. test x ≡ true → P x) xs
 unfiltered P test [] h = tt
 unfiltered {A = A} P test (x ∷ xs) h = by (test x) refl h (unfiltered P test xs)
   where

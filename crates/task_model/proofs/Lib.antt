@@ -19,6 +19,12 @@ pub mod PostLaws
 pub mod JobLaws
 pub mod SourceLaws
 pub mod LeastLaws
+pub mod WaitingLaws
+pub mod WaitingLists
+pub mod TickHeads
+pub mod BestLaws
+pub mod HeadLaws
+pub mod RoomLaws
 pub mod DistinctLaws
 pub mod SoundParts
 pub mod SoundDeclarations

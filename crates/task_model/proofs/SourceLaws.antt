@@ -116,7 +116,7 @@ waiting_at_main script past e main none = waiting_kept script past (past ++ e �
     no_policy policy kind h = refl
 
 -- the best, where the same waits and there is the same room
-best_kept : (script : Plan) (past later : List Entry) (seat : ℕ) → waiting script later ≡ waiting script past → ((priority : Priority) → has_room script later priority ≡ has_room script past priority) → best_of script later seat ≡ best_of script past seat
+pub best_kept : (script : Plan) (past later : List Entry) (seat : ℕ) → waiting script later ≡ waiting script past → ((priority : Priority) → has_room script later priority ≡ has_room script past priority) → best_of script later seat ≡ best_of script past seat
 unfolding best_of
 best_kept script past later seat waits room =
     ap (λ cs. least goes_before (filter (is_takeable script later seat) cs)) waits
@@ -131,7 +131,7 @@ pub best_at_main : BestAtMain
 best_at_main script past e seat main driver none = best_kept script past (past ++ e ∷ []) seat (waiting_at_main script past e main none) (λ priority. room_at_main script past e priority main driver)
 
 -- who leaves, where jobs, waiting work, loads and capacities are the same
-leaves_kept : (script : Plan) (past later : List Entry) (seat j : ℕ) → JobKept script past later j → waiting script later ≡ waiting script past → ((group : Group) → load script later group ≡ load script past group) → ((group : Group) → capacity script later group ≡ capacity script past group) → leaves script later seat j ≡ leaves script past seat j
+pub leaves_kept : (script : Plan) (past later : List Entry) (seat j : ℕ) → JobKept script past later j → waiting script later ≡ waiting script past → ((group : Group) → load script later group ≡ load script past group) → ((group : Group) → capacity script later group ≡ capacity script past group) → leaves script later seat j ≡ leaves script past seat j
 unfolding leaves
 leaves_kept script past later seat j kept waits loads capacities =
     ap (λ n. not (nat_lt n (items_of script j)) || is_cancelled later j || is_job_forbidden script later j || (nat_lt 0 seat && makes_way script later priority)) kept.claims_same

@@ -38,5 +38,8 @@ pub mod PostLaws
 pub mod JobLaws
 pub mod SourceLaws
 pub mod LeastLaws
+pub mod WaitingLaws
+pub mod RoomLaws
+pub mod BestLaws
 pub mod DistinctLaws
 pub mod Sound

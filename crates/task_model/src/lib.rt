@@ -5,6 +5,7 @@
 //! bodies: each states laws in its contract.
 #![tactic(auto)]
 
+mod best_laws;
 mod blocker_laws;
 mod capacity_laws;
 mod cell_laws;
@@ -17,11 +18,14 @@ mod log_text;
 mod one_more_entry;
 mod order_laws;
 mod post_laws;
+mod room_laws;
 mod seat_laws;
 mod sequence_laws;
 mod sound_scripts;
 mod source_laws;
+mod waiting_laws;
 
+pub use best_laws::{best_is_only, head_is_only, kept_sources_choose_alike};
 pub use blocker_laws::{blockers_grow, job_blockers_grow};
 pub use capacity_laws::{capacity_grows, load_grows, room_stays};
 pub use cell_laws::cells_grow;
@@ -36,7 +40,12 @@ pub use one_more_entry::{
 };
 pub use order_laws::{choice_grows, lanes_grow, orders_grow};
 pub use post_laws::posts_grow;
+pub use room_laws::{room_grows, ticks_keep_room};
 pub use seat_laws::{inside_grows, runs_sequence_grows, seats_are_all, seats_stay};
 pub use sequence_laws::{eligible_grows, head_grows};
 pub use sound_scripts::{scripts_that_are_read_are_sound, scripts_that_are_read_are_valid};
 pub use source_laws::sources_stay;
+pub use waiting_laws::{
+    held_work_changes, job_waiting_grows, jobs_are_shut, sequence_waiting_grows, ticks_keep_heads,
+    waiting_is_by_sources,
+};
