@@ -1,5 +1,5 @@
 -- What is chosen from a list is one of its elements.
-use Rattle.std.proofs.Common.{◌≡◌, ℕ, Bool, true, false, cond, eqb, arith, List, [], ◌∷◌, ◌++◌, refl, subst, Option, Some, None}
+use Rattle.std.proofs.Common.{◌≡◌, ℕ, Bool, true, false, eqb, arith, List, [], ◌∷◌, refl, subst, Option, Some, None}
 use Rattle.std.specs.Prelude.{not, length, ◌&&◌, Contains, filter, if◌then◌else◌}
 use Rattle.std.specs.List.{AllByRecursion, filter_map, cons_option, range_with_len, flat_map}
 use Rattle.std.specs.Option.{option_map, option_to_list}
@@ -11,7 +11,7 @@ use Rattle.task_model.specs.Policies.{is_held}
 use Rattle.task_model.specs.Seats.{runs_sequence}
 use Rattle.task_model.specs.Jobs.{JobPosted, job_post_of, may_enter}
 use Rattle.task_model.specs.Sources.{Candidate, sequence_candidate, job_candidate, sequence_waiting, job_waiting, waiting, is_takeable, goes_before, best_of}
-use Rattle.task_model.specs.Lists.{least, least_from, holds_of}
+use Rattle.task_model.specs.Lists.{least, holds_of}
 use Rattle.task_model.specs.Posts.{Posted, posts, main_posts, is_main_taken}
 use Rattle.task_model.specs.Keys.{Ready, ready, key_of, key_below}
 use Rattle.task_model.specs.Sequences.{sequence_count, is_of, may_start, eligible, head_of}
@@ -19,7 +19,8 @@ use Rattle.task_base.specs.declared.script.Lane.{Lane}
 use Rattle.task_base.specs.declared.script.Lane.TheVariants.{Immediate, Delayed}
 use Rattle.task_model.specs.Orders.{order_of}
 use Rattle.task_model.specs.MainQueues.{Front, is_of_lane, is_immediate, is_in_lane, front_with, order_below, front_of, fronts_of, is_open, open_fronts, class_of, chosen_class, chosen_fronts, immediate_fronts, is_starved, chosen_of}
-use Rattle.hist_model.specs.Choice.{IsHead, IsWaitingSource, IsBest, IsFront}
+use Rattle.task_model.proofs.Lists.{some-injective, least_from-is, filter_passes, AllByRecursion-filter, AllByRecursion-append, AllByRecursion-both, AllByRecursion-always}
+use Rattle.hist_model.specs.Choice.{IsHead, IsWaitingSource, MayBeTaken, IsFront}
 
 -- a value that passes the test
 pub record Found (A : Type 0) (test : A → Bool) (o : Option A) : Type 0 where
@@ -37,28 +38,12 @@ each_is_one xs = recursion_from_All (Contains xs) xs (All-contains_itself xs)
 
 -- what holds of all elements holds of the least
 pub of_least : {A : Type 0} (P : A → Type 0) (below : A → A → Bool) (xs : List A) (p : A) → AllByRecursion P xs → least below xs ≡ Some p → P p
-of_least {A = A} P below [] p all is = absurd cc
-of_least {A = A} P below (x ∷ xs) p all is = subst P (same (least_from below x xs) is) (from x xs all.0 all.1)
-  where
-    same : (q : A) → Some q ≡ Some p → q ≡ p
-    same q e = cc
-
-    from : (y : A) (ys : List A) → P y → AllByRecursion P ys → P (least_from below y ys)
-    from y [] h all = h
-    from y (z ∷ ys) h all = from (if below z y then z else y) ys (either (below z y)) all.1
-      where
-        either : (b : Bool) → P (if b then z else y)
-        either true = all.0
-        either false = h
+of_least P below [] p all is = absurd cc
+of_least P below (x ∷ xs) p all is = subst P (some-injective is) (least_from-is P below x xs all.0 all.1)
 
 -- what a filter keeps passes the test and keeps what holds of it
 pub of_filter : {A : Type 0} (P : A → Type 0) (test : A → Bool) (xs : List A) → AllByRecursion P xs → AllByRecursion (λ x. P x × (test x ≡ true)) (filter test xs)
-of_filter P test [] all = tt
-of_filter P test (x ∷ xs) all = at (test x) refl (of_filter P test xs all.1)
-  where
-    at : (b : Bool) → test x ≡ b → AllByRecursion (λ y. P y × (test y ≡ true)) (filter test xs) → AllByRecursion (λ y. P y × (test y ≡ true)) (cond b (x ∷ filter test xs) (filter test xs))
-    at true is rest = ((all.0, is), rest)
-    at false is rest = rest
+of_filter P test xs all = AllByRecursion-both P (λ x. test x ≡ true) (filter test xs) (AllByRecursion-filter P test xs all) (filter_passes test xs)
 
 -- what a partial map gives comes of an element
 pub of_filter_map : {A B : Type 0} (P : A → Type 0) (Q : B → Type 0) (f : A → Option B) (xs : List A) → AllByRecursion P xs → ((x : A) (y : B) → P x → f x ≡ Some y → Q y) → AllByRecursion Q (filter_map f xs)
@@ -104,15 +89,6 @@ head_is script past s r is = of_least (IsHead script past s) (λ a b. key_below 
       of_map xs all.1,
     )
 
-append_all : {A : Type 0} (P : A → Type 0) (xs ys : List A) → AllByRecursion P xs → AllByRecursion P ys → AllByRecursion P (xs ++ ys)
-append_all P [] ys h k = k
-append_all P (x ∷ xs) ys h k = (h.0, append_all P xs ys h.1 k)
-
--- a fact that needs nothing of the elements
-nothing_of : {A : Type 0} (xs : List A) → AllByRecursion (λ x. Unit {0}) xs
-nothing_of [] = tt
-nothing_of (x ∷ xs) = (tt, nothing_of xs)
-
 sequence_waits : (script : Plan) (past : List Entry) (s : ℕ) (c : Candidate) → sequence_waiting script past s ≡ Some c → IsWaitingSource script past c.source
 sequence_waits script past s c is = at (runs_sequence script past s) refl (head_of script past s) refl is
   where
@@ -139,23 +115,23 @@ job_waits script past j c is = at (may_enter script past j) refl (job_post_of pa
 each_waits : (script : Plan) (past : List Entry) → AllByRecursion (λ c. IsWaitingSource script past c.source × (not (is_held past c.priority) ≡ true)) (waiting script past)
 unfolding waiting
 each_waits script past = of_filter (λ c. IsWaitingSource script past c.source) (λ c. not (is_held past c.priority)) _
-    (append_all (λ c. IsWaitingSource script past c.source) _ _
-    (of_filter_map (λ s. Unit {0}) (λ c. IsWaitingSource script past c.source) (sequence_waiting script past) _ (nothing_of (range_with_len 0 (sequence_count script))) (λ s c unit is. sequence_waits script past s c is))
-    (of_filter_map (λ j. Unit {0}) (λ c. IsWaitingSource script past c.source) (job_waiting script past) _ (nothing_of (range_with_len 0 (length script.jobs))) (λ j c unit is. job_waits script past j c is)))
+    (AllByRecursion-append (λ c. IsWaitingSource script past c.source) _ _
+    (of_filter_map (λ s. Unit {0}) (λ c. IsWaitingSource script past c.source) (sequence_waiting script past) _ (AllByRecursion-always (λ s. Unit {0}) (range_with_len 0 (sequence_count script)) (λ s. tt)) (λ s c unit is. sequence_waits script past s c is))
+    (of_filter_map (λ j. Unit {0}) (λ c. IsWaitingSource script past c.source) (job_waiting script past) _ (AllByRecursion-always (λ j. Unit {0}) (range_with_len 0 (length script.jobs)) (λ j. tt)) (λ j c unit is. job_waits script past j c is)))
 
 -- what is known of the best source
-pub best_is : (script : Plan) (past : List Entry) (seat : ℕ) (c : Candidate) → best_of script past seat ≡ Some c → IsBest script past seat c
+pub best_is : (script : Plan) (past : List Entry) (seat : ℕ) (c : Candidate) → best_of script past seat ≡ Some c → MayBeTaken script past seat c
 unfolding best_of
-best_is script past seat c is = of_least (IsBest script past seat) goes_before (filter (is_takeable script past seat) (waiting script past)) c
+best_is script past seat c is = of_least (MayBeTaken script past seat) goes_before (filter (is_takeable script past seat) (waiting script past)) c
     (each (filter (is_takeable script past seat) (waiting script past)) (of_filter _ (is_takeable script past seat) (waiting script past) (each_waits script past))) is
   where
-    each : (cs : List Candidate) → AllByRecursion (λ x. (IsWaitingSource script past x.source × (not (is_held past x.priority) ≡ true)) × (is_takeable script past seat x ≡ true)) cs → AllByRecursion (IsBest script past seat) cs
+    each : (cs : List Candidate) → AllByRecursion (λ x. (IsWaitingSource script past x.source × (not (is_held past x.priority) ≡ true)) × (is_takeable script past seat x ≡ true)) cs → AllByRecursion (MayBeTaken script past seat) cs
     each [] all = tt
     each (x ∷ cs) all = (record { waits = all.0.0.0; not_held = not-true (is_held past x.priority) all.0.0.1; takeable = all.0.1 }, each cs all.1)
 
 flat_map_all : {A B : Type 0} (P : B → Type 0) (f : A → List B) (xs : List A) → ((x : A) → AllByRecursion P (f x)) → AllByRecursion P (flat_map f xs)
 flat_map_all P f [] h = tt
-flat_map_all P f (x ∷ xs) h = append_all P (f x) (flat_map f xs) (h x) (flat_map_all P f xs h)
+flat_map_all P f (x ∷ xs) h = AllByRecursion-append P (f x) (flat_map f xs) (h x) (flat_map_all P f xs h)
 
 -- what is known of a front
 front_is : (script : Plan) (past : List Entry) (q : ℕ) (lane : Lane) (f : Front) → front_of script past q lane ≡ Some f → IsFront past f
@@ -186,7 +162,7 @@ front_is script past q lane f is = of_least (IsFront past) order_below (filter_m
         same e = cc
 
 each_front : (script : Plan) (past : List Entry) (q : ℕ) → AllByRecursion (IsFront past) (fronts_of script past q)
-each_front script past q = append_all (IsFront past) (option_to_list (front_of script past q Immediate)) (option_to_list (front_of script past q Delayed)) (one Immediate (front_of script past q Immediate) refl) (one Delayed (front_of script past q Delayed) refl)
+each_front script past q = AllByRecursion-append (IsFront past) (option_to_list (front_of script past q Immediate)) (option_to_list (front_of script past q Delayed)) (one Immediate (front_of script past q Immediate) refl) (one Delayed (front_of script past q Delayed) refl)
   where
     one : (lane : Lane) (o : Option Front) → front_of script past q lane ≡ o → AllByRecursion (IsFront past) (option_to_list o)
     one lane None is = tt
@@ -197,21 +173,14 @@ each_open : (script : Plan) (past : List Entry) → AllByRecursion (λ f. IsFron
 unfolding open_fronts
 each_open script past = of_filter (IsFront past) (is_open script past) (flat_map (fronts_of script past) (range_with_len 0 (length script.queues))) (flat_map_all (IsFront past) (fronts_of script past) (range_with_len 0 (length script.queues)) (each_front script past))
 
-filter_keeps : {A : Type 0} (P : A → Type 0) (test : A → Bool) (xs : List A) → AllByRecursion P xs → AllByRecursion P (filter test xs)
-filter_keeps P test [] h = tt
-filter_keeps P test (x ∷ xs) h = elim (test x) as (λ b. AllByRecursion P (cond b (x ∷ filter test xs) (filter test xs))) [
-  | true ↦ (h.0, filter_keeps P test xs h.1)
-  | false ↦ filter_keeps P test xs h.1
-]
-
 -- what is known of the chosen front
 pub chosen_is : (script : Plan) (past : List Entry) (f : Front) → chosen_of script past ≡ Some f → IsFront past f × (is_open script past f ≡ true)
 unfolding chosen_of chosen_fronts
 chosen_is script past f is = of_least (λ g. IsFront past g × (is_open script past g ≡ true)) order_below (if is_starved script past then immediate_fronts script past else chosen_fronts script past) f (either (is_starved script past)) is
   where
     chosen : AllByRecursion (λ g. IsFront past g × (is_open script past g ≡ true)) (chosen_fronts script past)
-    chosen = filter_keeps (λ g. IsFront past g × (is_open script past g ≡ true)) (λ g. holds_of (λ class. eqb g.class class) (chosen_class script past)) (open_fronts script past) (each_open script past)
+    chosen = AllByRecursion-filter (λ g. IsFront past g × (is_open script past g ≡ true)) (λ g. holds_of (λ class. eqb g.class class) (chosen_class script past)) (open_fronts script past) (each_open script past)
 
     either : (b : Bool) → AllByRecursion (λ g. IsFront past g × (is_open script past g ≡ true)) (if b then immediate_fronts script past else chosen_fronts script past)
-    either true = filter_keeps (λ g. IsFront past g × (is_open script past g ≡ true)) (λ g. is_immediate g.lane) (chosen_fronts script past) chosen
+    either true = AllByRecursion-filter (λ g. IsFront past g × (is_open script past g ≡ true)) (λ g. is_immediate g.lane) (chosen_fronts script past) chosen
     either false = chosen

@@ -1,9 +1,9 @@
 -- Every legal past is consistent.
-use Rattle.std.proofs.Common.{◌≡◌, ℕ, zero, suc, ◌+◌, ◌<◌, ◌≤◌, Bool, true, false, cond, eqb, leb, List, [], ◌∷◌, ◌++◌, refl, sym, ap, subst, ◌∙◌, Option, Some, None, arith}
+use Rattle.std.proofs.Common.{◌≡◌, ℕ, ◌≤◌, Bool, true, false, cond, eqb, leb, List, [], ◌∷◌, ◌++◌, refl, sym, ap, subst, ◌∙◌, Option, Some, None, arith}
 use Rattle.std.specs.Prelude.{not, ◌&&◌, ◌||◌, Contains}
-use Rattle.std.specs.List.{list_any, range_with_len}
-use Rattle.std.proofs.lemmas.Bool.{eqb-true, eqb-false, and_parts}
+use Rattle.std.proofs.lemmas.Bool.{eqb-true, and_parts}
 use Rattle.std.proofs.lemmas.List.Elements.{Contains-append_left}
+use Rattle.std.proofs.Math.Bool.{or-false, or-true}
 use Rattle.task_base.specs.Plan.{Plan}
 use Rattle.task_base.specs.declared.entry.Entry.{Entry}
 use Rattle.task_base.specs.declared.entry.Kind.{Kind}
@@ -12,6 +12,7 @@ use Rattle.task_model.specs.Lists.{holds_of}
 use Rattle.task_model.specs.Posts.{Posted, posts, posted_by, main_posts, main_posted_by, is_taken, takes, is_ended, ends, is_main_taken, main_takes}
 use Rattle.task_model.specs.Sequences.{sequence_of}
 use Rattle.task_model.specs.Seats.{Running, running, running_after, runs_of, runs_sequence}
+use Rattle.task_model.proofs.SeatLaws.{seat_runs}
 use Rattle.task_model.proofs.Growth.{posts_push, main_posts_push, is_taken_push, is_ended_push, is_main_taken_push, running_push}
 use Rattle.hist_model.specs.Allowed.{may_come}
 use Rattle.hist_model.specs.Legal.{is_legal}
@@ -77,10 +78,6 @@ still_consistent script past seat kind still no_end c = record {
   one_task = λ a b v w h k. c.one_task a b v w (sym (unmoved past seat kind a still) ∙ h) (sym (unmoved past seat kind b still) ∙ k);
   one_sequence = λ a b v w h k. c.one_sequence a b v w (sym (unmoved past seat kind a still) ∙ h) (sym (unmoved past seat kind b still) ∙ k);
 }
-  where
-    or-false : (b : Bool) → (b || false) ≡ b
-    or-false true = refl
-    or-false false = refl
 
 -- what a seat runs behind an entry of its own, and behind another seat's
 moved : (past : List Entry) (seat : ℕ) (kind : Kind) (s : ℕ) (now : Option Running) → eqb seat s ≡ true → running_after (running past s) kind ≡ now → running (behind past seat kind) s ≡ now
@@ -92,35 +89,17 @@ others past seat kind s other = running_push past (record { seat = seat; kind = 
 same_running : (v w : Running) → Some v ≡ Some w → v ≡ w
 same_running v w h = cc
 
--- a test that no number of a range passes
-none_passes : (test : ℕ → Bool) (a n k : ℕ) → list_any test (range_with_len a n) ≡ false → a ≤ k → k < a + n → test k ≡ false
-none_passes test a zero k h low high = absurd (omega (arith, low, high))
-none_passes test a (suc n) k h low high = at (eqb a k) refl
-    (λ above. none_passes test (a + 1) n k (rest (test a) _ h) above (omega (arith, high)))
-  where
-    rest : (b c : Bool) → (b || c) ≡ false → c ≡ false
-    rest b c e = grind (arith, e)
-
-    first : (b c : Bool) → (b || c) ≡ false → b ≡ false
-    first b c e = grind (arith, e)
-
-    at : (b : Bool) → eqb a k ≡ b → (a + 1 ≤ k → test k ≡ false) → test k ≡ false
-    at true is later = ap test (sym (eqb-true a k is)) ∙ first (test a) (list_any test (range_with_len (a + 1) n)) h
-    at false is later = later (omega (arith, low, eqb-false a k is))
+-- a test does not both pass and fail
+pub not_both : (b : Bool) → b ≡ true → b ≡ false → ⊥
+not_both true h k = absurd cc
+not_both false h k = absurd cc
 
 -- where a sequence does not run, no seat of the script runs a task of it
 nobody_runs : (script : Plan) (past : List Entry) (s seat : ℕ) (w : Running) → runs_sequence script past s ≡ false → seat ≤ script.workers → running past seat ≡ Some w → w.is_main ≡ false → sequence_of script w.home w.task ≡ s → ⊥
-unfolding runs_sequence
-nobody_runs script past s seat w idle known runs pool same = absurd (clash (none_passes (λ x. holds_of (runs_of script s) (running past x)) 0 (script.workers + 1) seat idle (omega arith) (omega (arith, known))))
+nobody_runs script past s seat w idle known runs pool same = not_both (runs_sequence script past s) (seat_runs script past s seat (omega (arith, known)) here) idle
   where
     here : holds_of (runs_of script s) (running past seat) ≡ true
     here = ap (holds_of (runs_of script s)) runs ∙ ap (λ b. not b && eqb (sequence_of script w.home w.task) s) pool ∙ ap (λ x. eqb x s) same ∙ eqb-same s
-
-    clash : holds_of (runs_of script s) (running past seat) ≡ false → ⊥
-    clash off = true_false (sym here ∙ off)
-      where
-        true_false : true ≡ false → ⊥
-        true_false e = absurd cc
 
 -- whether a seat is the one that made the entry
 data Whose (seat s : ℕ) : Type 0 where
@@ -148,10 +127,6 @@ taken_consistent script past seat kind taken after no_end as_taken no_task no_se
   one_sequence = λ a b v w h k p q same. once_sequence a b v w (whose seat a) (whose seat b) h k p q same;
 }
   where
-    or-false : (b : Bool) → (b || false) ≡ b
-    or-false true = refl
-    or-false false = refl
-
     is_taken : (s : ℕ) (w : Running) → eqb seat s ≡ true → running (behind past seat kind) s ≡ Some w → taken ≡ w
     is_taken s w own h = same_running taken w (sym (moved past seat kind s (Some taken) own (after (running past s))) ∙ h)
 
@@ -209,11 +184,6 @@ ended_consistent script past seat kind after was_taken not_another c = record {
     runs s w (Own own is) h = absurd (nothing w (sym (moved past seat kind s None own (after (running past s))) ∙ h))
     runs s w (Other other) h = runs_later script past seat kind s w w.is_main (c.runs s w (before s w (Other other) h)) (λ pool. not_another s w other (before s w (Other other) h) pool)
 
--- a test does not both pass and fail
-pub not_both : (b : Bool) → b ≡ true → b ≡ false → ⊥
-not_both true h k = absurd cc
-not_both false h k = absurd cc
-
 -- what has not been taken has not ended
 not_ended : (script : Plan) (past : List Entry) (t : ℕ) → IsConsistent script past → is_taken past t ≡ false → is_ended past t ≡ false
 not_ended script past t c free = at (is_ended past t) refl
@@ -221,10 +191,6 @@ not_ended script past t c free = at (is_ended past t) refl
     at : (b : Bool) → is_ended past t ≡ b → b ≡ false
     at true is = absurd (not_both (is_taken past t) (c.taken_before_ended t is) free)
     at false is = refl
-
-or-true : (b : Bool) → (b || true) ≡ true
-or-true true = refl
-or-true false = refl
 
 -- what is known of a pool task that runs
 pool : (script : Plan) (past : List Entry) (s : ℕ) (w : Running) → IsConsistent script past → running past s ≡ Some w → w.is_main ≡ false → RunsPoolTask script past s w

@@ -1,6 +1,6 @@
 -- The postings that the driver's actions have left.
-use Rattle.std.proofs.Common.{◌≡◌, ℕ, ◌+◌, ◌≤◌, Bool, true, false, cond, eqb, List, [], ◌∷◌, ◌++◌, length, refl, sym, ap, ◌∙◌, Option, Some, None, arith, length-append, append-nil}
-use Rattle.std.specs.Prelude.{◌&&◌, filter, flat_map}
+use Rattle.std.proofs.Common.{◌≡◌, ℕ, ◌+◌, ◌≤◌, Bool, true, false, cond, eqb, List, [], ◌∷◌, ◌++◌, refl, sym, ap, ◌∙◌, Option, Some, None, arith, append-nil}
+use Rattle.std.specs.Prelude.{◌&&◌, flat_map}
 use Rattle.std.specs.Option.{option_map_or}
 use Rattle.std.proofs.lemmas.List.Elements.{filter-append}
 use Rattle.std.proofs.lemmas.Bool.{eqb-true, and_parts}
@@ -11,6 +11,7 @@ use Rattle.task_base.specs.declared.entry.Kind.TheVariants as kinds
 use Rattle.task_base.specs.declared.script.Action.{Action}
 use Rattle.task_base.specs.declared.script.Action.TheVariants as actions
 use Rattle.task_model.specs.Lists.{holds_of}
+use Rattle.task_model.proofs.Lists.{count-append}
 use Rattle.hist_model.specs.Views.{own_entries}
 use Rattle.hist_model.specs.Script.{behind_action, wants, is_wanted}
 use Rattle.hist_model.specs.Agenda.{agenda_from, agenda, first_of, completes, next_agenda}
@@ -20,7 +21,7 @@ use Rattle.task_model.specs.Postings.{posts_of_action, times}
 use Rattle.hist_model.proofs.Agenda.{current_is_first, agenda_push}
 
 pub times-append : (t : ℕ) (xs ys : List ℕ) → times t (xs ++ ys) ≡ times t xs + times t ys
-times-append t xs ys = ap length (filter-append (λ u. eqb u t) xs ys) ∙ length-append (filter (λ u. eqb u t) xs) (filter (λ u. eqb u t) ys)
+times-append t xs ys = count-append (λ u. eqb u t) xs ys
 
 -- the first of three tests that are passed
 pub first_test : (a b c : Bool) → ((a && b) && c) ≡ true → a ≡ true

@@ -1,9 +1,9 @@
 -- A task is posted at most once.
-use Rattle.std.proofs.Common.{◌≡◌, ℕ, zero, suc, ◌+◌, ◌≤◌, Bool, true, false, cond, eqb, leb, List, [], ◌∷◌, ◌++◌, length, refl, sym, ap, subst, ◌∙◌, arith, length-append, append-nil}
+use Rattle.std.proofs.Common.{◌≡◌, ℕ, zero, suc, ◌+◌, ◌≤◌, Bool, true, false, cond, eqb, leb, List, [], ◌∷◌, ◌++◌, length, refl, sym, ap, subst, ◌∙◌, arith, append-nil}
 use Rattle.std.specs.Prelude.{◌||◌, not, Contains, filter, flat_map}
 use Rattle.std.specs.List.{AllByRecursion}
 use Rattle.std.proofs.lemmas.List.Concat.{flat_map-append}
-use Rattle.std.proofs.lemmas.List.Elements.{filter-append, All-from_recursion, All-contains}
+use Rattle.std.proofs.lemmas.List.Elements.{All-from_recursion, All-contains}
 use Rattle.std.proofs.lemmas.Bool.{eqb-true, and_parts}
 use Rattle.task_base.specs.Plan.{Plan}
 use Rattle.task_base.specs.declared.entry.Entry.{Entry}
@@ -14,7 +14,7 @@ use Rattle.task_model.specs.Past.{fold_past}
 use Rattle.task_model.specs.Posts.{Posted, post_behind, posts, posted_by, main_posts, main_posted_by, is_taken, takes, is_main_taken, main_takes}
 use Rattle.task_model.specs.Refusal.{is_refused, is_closed}
 use Rattle.task_model.proofs.Growth.{posts_push, main_posts_push, is_taken_push, is_main_taken_push}
-use Rattle.task_model.proofs.Lists.{eqb-same}
+use Rattle.task_model.proofs.Lists.{eqb-same, count-append}
 use Rattle.hist_model.specs.Allowed.{by_script, by_task, may_come, is_allowed}
 use Rattle.hist_model.specs.Legal.{is_legal}
 use Rattle.hist_model.specs.Postings.{kind_posts, posted_in}
@@ -29,7 +29,7 @@ abbrev pub of_task : ℕ → List Posted → ℕ
 of_task t ps = count (λ p. eqb p.task t) ps
 
 of_task-append : (t : ℕ) (xs ys : List Posted) → of_task t (xs ++ ys) ≡ of_task t xs + of_task t ys
-of_task-append t xs ys = ap length (filter-append (λ p. eqb p.task t) xs ys) ∙ length-append (filter (λ p. eqb p.task t) xs) (filter (λ p. eqb p.task t) ys)
+of_task-append t xs ys = count-append (λ p. eqb p.task t) xs ys
 
 -- where no post names the task, each is of another
 pub none_of_task : (t : ℕ) (ps : List Posted) → of_task t ps ≡ 0 → AllByRecursion (λ p. eqb p.task t ≡ false) ps

@@ -28,8 +28,8 @@ abbrev pub IsWaitingSource : Plan → List Entry → TaskSource → Type 0
 IsWaitingSource script past (Sequence s) = (head : Ready) × (head_of script past s ≡ Some head) × (runs_sequence script past s ≡ false)
 IsWaitingSource script past (Job j) = may_enter script past j ≡ true
 
--- the best source of a seat waits, is not held back by the policy, and has room
-pub record IsBest (script : Plan) (past : List Entry) (seat : ℕ) (c : Candidate) : Type 0 where
+-- what a seat may take waits, is not held back by the policy, and has room; so does its best source
+pub record MayBeTaken (script : Plan) (past : List Entry) (seat : ℕ) (c : Candidate) : Type 0 where
   pub waits : IsWaitingSource script past c.source
   pub not_held : is_held past c.priority ≡ false
   pub takeable : is_takeable script past seat c ≡ true
