@@ -14,14 +14,14 @@ use Rattle.std.proofs.lemmas.List.Elements.{filter-append, filter_map-append, re
 use Rattle.task_base.specs.Plan.{Plan}
 use Rattle.task_base.specs.declared.entry.Entry.{Entry}
 use Rattle.task_base.specs.declared.script.Runner.{Runner}
-use Rattle.task_model.specs.Lists.{least, holds_of}
+use Rattle.list_laws.specs.Lists.{least, holds_of}
 use Rattle.task_model.specs.Time.{tick_from}
 use Rattle.task_model.specs.Posts.{Posted, Before, InOrder, posts}
 use Rattle.task_model.specs.Keys.{Ready, ready, key_of, key_at, key_below}
 use Rattle.task_model.specs.Policies.{is_held}
 use Rattle.task_model.specs.Sequences.{sequence_of, sequence_count, is_parallel, is_of, may_start, eligible, head_of}
 use Rattle.task_model.specs.Sources.{Candidate, seat_of_kind, seat_of, sequence_candidate, sequence_waiting, job_waiting, waiting, is_takeable, goes_before, best_of}
-use Rattle.task_model.proofs.Lists.{eqb-same, filter_congr, filter-filter, filter-map, filter_all, filter_always, filter_none, filter_map_congr, filter_map_never, AllByRecursion-filter, AllByRecursion-append, AllByRecursion-map, AllByRecursion-both, AllByRecursion-front, AllByRecursion-back, AllByRecursion-always, AllByRecursion-mapped, AllByRecursion-range, AllByRecursion-filter_map, range_split, slice_get_all, least_split}
+use Rattle.list_laws.proofs.Lists.{eqb-same, filter_congr, filter-filter, filter-map, filter_all, filter_always, filter_none, filter_map_congr, filter_map_never, AllByRecursion-filter, AllByRecursion-append, AllByRecursion-map, AllByRecursion-both, AllByRecursion-front, AllByRecursion-back, AllByRecursion-always, AllByRecursion-mapped, AllByRecursion-range, AllByRecursion-filter_map, range_split, slice_get_all, least_split}
 use Rattle.task_script.specs.WellFormed.{is_single, WellFormed}
 use Rattle.env_app.specs.Engine.{importance_of, to_take, IsStill}
 use Rattle.env_app.proofs.Quiet.{runs_sequence_still, is_held_still, has_room_still}

@@ -12,13 +12,13 @@ use Rattle.task_traits.specs.declared.phase.Phase.{Phase}
 use Rattle.task_traits.specs.declared.phase.Phase.TheVariants.{Running, Started, Done}
 use Rattle.task_traits.specs.declared.traits.Priority.{Priority}
 use Rattle.task_traits.specs.declared.traits.Priority.TheVariants.{BestEffort, UserVisible, UserBlocking}
-use Rattle.task_model.specs.Lists.{holds_of, count}
+use Rattle.list_laws.specs.Lists.{holds_of, count}
 use Rattle.task_model.specs.Phase.{phase_of}
 use Rattle.task_model.specs.Policies.{is_held}
 use Rattle.task_model.specs.Seats.{running, runs_of, runs_sequence, is_free, is_quiet, worker_seats, all_seats}
 use Rattle.task_model.specs.Capacity.{Group, Foreground, Background, is_best_effort, group_of, is_in, is_best_in, work_at, load_of, blocked_of, load, capacity, best_load, best_capacity, has_room_in, has_room}
 use Rattle.task_model.specs.Blockers.{is_open_job, is_in_skip_job}
-use Rattle.task_model.proofs.Lists.{list_any_never, list_all_always, filter_never}
+use Rattle.list_laws.proofs.Lists.{list_any_never, list_all_always, filter_never}
 use Rattle.task_script.specs.WellFormed.{WellFormed}
 use Rattle.env_app.specs.Engine.{IsStill}
 

@@ -19,7 +19,7 @@ use Rattle.task_base.specs.Steps.{after, is_act}
 use Rattle.task_base.specs.declared.step.Step.{Step}
 use Rattle.task_base.specs.declared.entry.Entry.{Entry}
 use Rattle.task_base.specs.declared.entry.Kind.TheVariants.{Take, End}
-use Rattle.task_model.specs.Lists.{holds_of}
+use Rattle.list_laws.specs.Lists.{holds_of}
 use Rattle.task_model.specs.Posts.{Posted, InOrder, posts, is_taken}
 use Rattle.task_model.specs.Phase.{phase_of}
 use Rattle.task_model.specs.Refusal.{effective_at, is_forbidden}
@@ -29,9 +29,9 @@ use Rattle.task_model.specs.Seats.{Running, running, holding, steps_of, runs_of}
 use Rattle.task_model.specs.Cells.{cell_of}
 use Rattle.hist_model.specs.Script.{is_finished}
 use Rattle.hist_model.specs.Allowed.{may_come, is_allowed}
-use Rattle.task_model.proofs.Lists.{eqb-same, AllByRecursion-append, AllByRecursion-front, AllByRecursion-back, AllByRecursion-map, AllByRecursion-from_index, filter_passes, slice_get_all, list_any_none}
+use Rattle.list_laws.proofs.Lists.{eqb-same, AllByRecursion-append, AllByRecursion-front, AllByRecursion-back, AllByRecursion-map, AllByRecursion-from_index, filter_passes, slice_get_all, list_any_none}
 use Rattle.task_model.proofs.Growth.{posts_push, is_taken_push, is_ended_push, phase_of_push, policy_of_push, running_push, holding_push, acts_done_push, cell_of_push}
-use Rattle.hist_model.proofs.Legal.{is_legal_push}
+use Rattle.hist_model.proofs.Laws.Legal.{is_legal_push}
 use Rattle.task_script.specs.Wants.{Want, all_wants}
 use Rattle.task_script.specs.WellFormed.{posts_among, starts_among, WellFormed}
 use Rattle.env_app.specs.declared.engine.Waiting.{Waiting}

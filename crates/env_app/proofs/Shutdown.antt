@@ -15,16 +15,16 @@ use Rattle.task_tracker.specs.Tracked.{Tracked, blocker_count}
 use Rattle.task_base.specs.Plan.{Plan}
 use Rattle.task_base.specs.declared.entry.Entry.{Entry}
 use Rattle.task_base.specs.declared.entry.Kind.TheVariants.{Shutdown, Done}
-use Rattle.task_model.specs.Lists.{count}
+use Rattle.list_laws.specs.Lists.{count}
 use Rattle.task_model.specs.Posts.{Posted, Before, InOrder, posts, is_taken, is_ended}
 use Rattle.task_model.specs.Phase.{phase_of, phase_after}
 use Rattle.task_model.specs.Refusal.{effective_at}
 use Rattle.task_model.specs.Sequences.{may_start}
 use Rattle.task_model.specs.Blockers.{is_block, is_skip, is_open_block, is_running_skip, blockers_of}
 use Rattle.hist_model.specs.Allowed.{may_come}
-use Rattle.task_model.proofs.Lists.{filter_congr, filter-filter, filter_never, AllByRecursion-filter, AllByRecursion-map}
+use Rattle.list_laws.proofs.Lists.{filter_congr, filter-filter, filter_never, AllByRecursion-filter, AllByRecursion-map}
 use Rattle.task_model.proofs.Growth.{phase_of_push, cell_of_push}
-use Rattle.hist_model.proofs.Legal.{is_legal_push}
+use Rattle.hist_model.proofs.Laws.Legal.{is_legal_push}
 use Rattle.task_script.specs.Wants.{WantsShutdown, WantsDone, wants_shutdown}
 use Rattle.task_script.specs.WellFormed.{starts_among, WellFormed}
 use Rattle.env_app.specs.declared.engine.Waiting.{Waiting}

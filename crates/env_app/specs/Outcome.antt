@@ -6,9 +6,9 @@ use Rattle.task_base.specs.declared.entry.Entry.{Entry}
 use Rattle.task_base.specs.declared.fault.Fault.{Fault}
 use Rattle.task_base.specs.declared.fault.Fault.TheVariants.{NotLegal, BadWords, BadScript, ReadFault, WriteFault, NoMemory, TooLarge}
 use Rattle.env_io.specs.Bytes.{Gives, Gains, Rose}
-use Rattle.task_model.specs.Words.{is_word}
-use Rattle.task_model.specs.Grammar.{Reads}
-use Rattle.task_model.specs.LogText.{log_text}
+use Rattle.script_model.specs.Words.{is_word}
+use Rattle.script_model.specs.Grammar.{Reads}
+use Rattle.log_model.specs.LogText.{log_text}
 use Rattle.hist_model.specs.Legal.{IsLegal}
 use Rattle.hist_model.specs.Script.{IsWhole}
 use Rattle.task_script.specs.Form.{form_read}

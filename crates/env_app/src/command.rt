@@ -1,7 +1,7 @@
 ghost use Rattle.std.specs.Prelude.{◌≡◌, ◌≢◌, ◌⊎◌, ◌↔◌, ◌<◌, ◌≤◌, ℕ, List, [], true, false, length, take, Some, None, Err, IfOk, IfErr, IfSome, OnOk, OnErr};
 ghost use Rattle.env_io.specs.Bytes.{Gains, Rose};
 ghost use Rattle.task_base.specs.Fault.{status_of};
-ghost use Rattle.task_model.specs.Grammar.{Reads};
+ghost use Rattle.script_model.specs.Grammar.{Reads};
 ghost use Rattle.task_script.specs.Form.{form_read};
 ghost use Rattle.env_app.specs.Outcome.{ends, accepts_run, HasRun, WroteAll, WroteFront, TookMore, TookWithin, LoadsScript, RunsTo, HasCause, note_of};
 

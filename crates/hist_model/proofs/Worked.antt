@@ -1,70 +1,7 @@
--- How worked histories are checked: by computing, with all definitions open.
-use Rattle.std.proofs.Common.{◌≡◌, ℕ, Bool, true, List}
-use Rattle.std.specs.Prelude.{Option, None, Result, Ok}
-use Rattle.task_base.specs.Plan.{Plan, JobPlan}
-use Rattle.task_base.specs.declared.entry.Entry.{Entry}
-use Rattle.task_base.specs.declared.entry.Kind.{Kind}
-use Rattle.task_base.specs.declared.script.MainQueue.{MainQueue}
-use Rattle.task_base.specs.declared.script.Runner.{Runner}
-use Rattle.task_base.specs.declared.script.RunnerKind.{RunnerKind}
-use Rattle.task_base.specs.declared.step.Step.{Step}
-use Rattle.task_traits.specs.declared.traits.Behaviour.{Behaviour}
-use Rattle.task_traits.specs.declared.traits.Priority.{Priority}
-use Rattle.task_model.specs.Past.{fold_past}
-use Rattle.task_model.specs.Time.{now_of, tick_from}
-use Rattle.task_model.specs.Posts.{posts, main_posts, is_taken, is_ended, is_main_taken}
-use Rattle.task_model.specs.Phase.{phase_of}
-use Rattle.task_model.specs.Policies.{policy_of}
-use Rattle.task_model.specs.Refusal.{is_closed}
-use Rattle.task_model.specs.Keys.{ready}
-use Rattle.task_model.specs.Sequences.{eligible, head_of}
-use Rattle.task_model.specs.Seats.{running, holding, is_quiet, runs_sequence, inside, acts_done}
-use Rattle.task_model.specs.Cells.{cell_of, main_cell_of}
-use Rattle.task_model.specs.Capacity.{open_scope, load, capacity, best_load, best_capacity, has_room}
-use Rattle.task_model.specs.Jobs.{job_post_of, is_cancelled, claimed, done, job_sum, may_enter}
-use Rattle.task_model.specs.Sources.{waiting, best_of, leaves}
-use Rattle.task_model.specs.Blockers.{blockers_of}
-use Rattle.task_model.specs.Orders.{ripening, draws, order_of}
-use Rattle.task_model.specs.MainQueues.{fence_of, votes_on, class_of, front_of, open_fronts, chosen_fronts, streak_of, chosen_of}
-use Rattle.hist_model.specs.Script.{current, is_wanted, is_finished, is_whole}
-use Rattle.hist_model.specs.Allowed.{by_script, by_task, may_come}
-use Rattle.hist_model.specs.Legal.{is_legal, first_illegal}
-use Rattle.task_model.specs.Places.{number_from, kind_named, step_said, steps_read}
-use Rattle.task_model.specs.Lines.{workers_line, groups_line, threshold_line, runner_line, queue_line, task_line, job_line, post_line, main_line, tick_line, policy_line, fence_line, unfence_line, vote_line, rank_line, close_line, pump_line, flush_line, start_job_line, join_line, cancel_line, shutdown_line, queue_command_read, action_command_read, command_read, words_read}
-use Rattle.task_model.specs.Grammar.{lines_read, script_read}
-use Rattle.task_model.specs.LogText.{log_text}
-use Rattle.std.specs.Fmt.{digits}
-
--- whether the history is legal, whether it is whole, and the least place that is not allowed, with all that this
--- takes open
-unfoldable pub judge : Plan → List Entry → Bool × Bool × Option ℕ
-unfolding fold_past now_of tick_from posts main_posts is_taken is_ended is_main_taken phase_of policy_of is_closed ready eligible head_of running holding is_quiet runs_sequence inside acts_done cell_of main_cell_of open_scope load capacity best_load best_capacity has_room job_post_of is_cancelled claimed done job_sum may_enter waiting best_of leaves blockers_of ripening draws order_of fence_of votes_on class_of front_of open_fronts chosen_fronts streak_of chosen_of current is_wanted is_finished by_script by_task may_come is_legal first_illegal
-judge script log = (is_legal script log, is_whole script log, first_illegal script log)
-
--- the script that the bytes are, with all that this takes open
-unfoldable pub read : List ℕ → Result Plan (ℕ × ℕ)
-unfolding number_from kind_named step_said steps_read workers_line groups_line threshold_line runner_line queue_line task_line job_line post_line main_line tick_line policy_line fence_line unfence_line vote_line rank_line close_line pump_line flush_line start_job_line join_line cancel_line shutdown_line queue_command_read action_command_read command_read words_read lines_read script_read
-read bytes = script_read bytes
-
--- the text of the log
-unfoldable pub written : List Entry → List ℕ
-unfolding log_text digits
-written log = log_text log
-
--- the first text is the script, the second the log, and the log is legal and whole for the script
-pub record IsRight (script : Plan) (log : List Entry) (text lines : List ℕ) : Type 0 where
-  pub reads : read text ≡ Ok script
-  pub writes : written log ≡ lines
-  pub judged : judge script log ≡ (true, true, None)
-
-abbrev pub runner_of : RunnerKind → Priority → Behaviour → Bool → Runner
-runner_of kind priority behaviour may_block = record { kind = kind; traits = record { priority = priority; behaviour = behaviour; may_block = may_block } }
-
-abbrev pub queue_of : ℕ → ℕ → MainQueue
-queue_of class voters = record { class = class; voters = voters }
-
-abbrev pub job_of : Priority → Behaviour → ℕ → ℕ → List Step → JobPlan
-job_of priority behaviour items cap steps = record { priority = priority; behaviour = behaviour; items = items; cap = cap; steps = steps }
-
-abbrev pub by : ℕ → Kind → Entry
-by seat kind = record { seat = seat; kind = kind }
+-- Histories that were worked out by hand.
+pub mod Rows
+pub mod Pool
+pub mod Queues
+pub mod Jobs
+pub mod Edges
+pub mod Refusals

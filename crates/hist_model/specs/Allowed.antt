@@ -14,7 +14,7 @@ use Rattle.task_base.specs.declared.source.TaskSource.TheVariants.{Sequence, Job
 use Rattle.task_base.specs.declared.entry.Entry.{Entry}
 use Rattle.task_base.specs.declared.entry.Kind.{Kind}
 use Rattle.task_base.specs.declared.entry.Kind.TheVariants as kinds
-use Rattle.task_model.specs.Lists.{holds_of}
+use Rattle.list_laws.specs.Lists.{holds_of}
 use Rattle.task_model.specs.Phase.{phase_of, is_started}
 use Rattle.task_model.specs.Time.{now_of}
 use Rattle.task_model.specs.Refusal.{is_refused, is_job_forbidden, is_closed}

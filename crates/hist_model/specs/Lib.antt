@@ -2,9 +2,4 @@ pub mod Views
 pub mod Script
 pub mod Allowed
 pub mod Legal
-pub mod Choice
-pub mod Consistent
-pub mod ShutdownLaw
-pub mod Agenda
-pub mod Postings
-pub mod Rising
+pub mod Laws

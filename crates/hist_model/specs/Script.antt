@@ -12,7 +12,7 @@ use Rattle.task_base.specs.declared.script.FenceAt.{FenceAt}
 use Rattle.task_base.specs.declared.script.FenceAt.TheVariants.{Now, Start}
 use Rattle.task_base.specs.declared.script.Action.{Action}
 use Rattle.task_base.specs.declared.script.Action.TheVariants as actions
-use Rattle.task_model.specs.Lists.{holds_of}
+use Rattle.list_laws.specs.Lists.{holds_of}
 use Rattle.task_model.specs.Seats.{running, holding, is_quiet}
 use Rattle.hist_model.specs.Views.{own_entries}
 

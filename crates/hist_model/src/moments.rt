@@ -1,10 +1,10 @@
 ghost use Rattle.std.specs.Prelude.{◌≡◌, true, List};
 ghost use Rattle.task_base.specs.Plan.{Plan};
 ghost use Rattle.task_base.specs.declared.entry.Entry.{Entry};
-ghost use Rattle.task_model.specs.DistinctLaws.{OrdersDistinct};
-ghost use Rattle.task_model.specs.Postings.{IsPostedOnce};
+ghost use Rattle.queue_laws.specs.Orders.{OrdersDistinct};
+ghost use Rattle.script_model.specs.Postings.{IsPostedOnce};
 ghost use Rattle.hist_model.specs.Legal.{is_legal};
-ghost use Rattle.hist_model.specs.Rising.{Rises};
+ghost use Rattle.hist_model.specs.Laws.Rising.{Rises};
 
 /// In every legal history the moments of the ticks never fall, so that no tick has come to a moment ahead; each order
 /// that was drawn is below the next draw; and only a task that was taken has an open scope. Where the script's postings

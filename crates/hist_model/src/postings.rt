@@ -3,13 +3,13 @@ ghost use Rattle.task_base.specs.Plan.{Plan};
 ghost use Rattle.task_base.specs.declared.entry.Entry.{Entry};
 ghost use Rattle.hist_model.specs.Allowed.{IsAllowed};
 ghost use Rattle.hist_model.specs.Legal.{IsLegal};
-ghost use Rattle.hist_model.specs.Postings.{AreAcceptedOnce, IsNew, kind_posts, posted_in};
-ghost use Rattle.task_model.specs.Postings.{IsPostedOnce, is_posted_once, times};
+ghost use Rattle.hist_model.specs.Laws.Postings.{AreAcceptedOnce, IsNew, kind_posts, posted_in};
+ghost use Rattle.script_model.specs.Postings.{IsPostedOnce, is_posted_once, times};
 
 /// In each legal history of a script in which no two postings name one task, each task is posted at most once, accepted
 /// or refused. So the accepted tasks differ, none is on the pool and on a main queue, and a task that is posted was
 /// neither posted, accepted, taken nor ended before. Whether a script is such a one is tested on its list of postings.
-#[tactic(auto, using(crate::proofs::PostingCounts::posted_at_most_once, crate::proofs::PostedOnce::each_is_accepted_once, crate::proofs::Differing::posted_once_decides))]
+#[tactic(auto, using(crate::proofs::Laws::PostingCounts::posted_at_most_once, crate::proofs::Laws::PostedOnce::each_is_accepted_once, crate::proofs::Laws::Differing::posted_once_decides))]
 pub fn each_task_is_posted_once()
     ensures tested { (script : Plan) → IsTrue (is_posted_once script) ↔ IsPostedOnce script }
     ensures posted_at_most_once { (script : Plan) → (past : List Entry) → (t : ℕ) → IsPostedOnce script → IsLegal script past → times t (posted_in past) ≤ 1 }

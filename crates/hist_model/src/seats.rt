@@ -6,20 +6,20 @@ ghost use Rattle.task_model.specs.Seats.{running, holding, acts_done};
 ghost use Rattle.hist_model.specs.Views.{own_entries};
 ghost use Rattle.hist_model.specs.Allowed.{may_come};
 ghost use Rattle.hist_model.specs.Legal.{is_legal};
-ghost use Rattle.hist_model.specs.Choice.{IsTake, IsMainTake};
-ghost use Rattle.hist_model.specs.Consistent.{DoesOneThing, IsConsistent};
+ghost use Rattle.hist_model.specs.Laws.Choice.{IsTake, IsMainTake};
+ghost use Rattle.hist_model.specs.Laws.Consistent.{DoesOneThing, IsConsistent};
 
 /// In every legal history a pool task that has ended was taken; one that a worker runs was accepted and taken, and has
 /// not ended; a main task that runs was accepted and taken, and the driver runs it; and no two seats run one pool task,
 /// or pool tasks of one sequence.
-#[tactic(auto, using(crate::proofs::Consistent::legal_is_consistent))]
+#[tactic(auto, using(crate::proofs::Laws::Consistent::legal_is_consistent))]
 pub fn legal_histories_are_consistent()
     ensures { (script : Plan) (past : List Entry) → is_legal script past ≡ true → IsConsistent script past }
 {}
 
 /// In every legal history a seat runs a task or holds an item of a job, and never both. While the driver runs a main
 /// task it is at a pump, and while it holds an item at a join.
-#[tactic(auto, using(crate::proofs::OneThing::legal_does_one_thing))]
+#[tactic(auto, using(crate::proofs::Laws::OneThing::legal_does_one_thing))]
 pub fn seats_do_one_thing()
     ensures { (script : Plan) (past : List Entry) → is_legal script past ≡ true → DoesOneThing script past }
 {}
@@ -27,7 +27,7 @@ pub fn seats_do_one_thing()
 /// An allowed take is by a free worker, of the head of a sequence that does not run: an accepted task that was not
 /// taken before and may start in the phase, which finds the sequence's cell. An allowed take of a main task is by the
 /// driver, of an open front that was not taken before, which finds the queue's cell.
-#[tactic(auto, using(crate::proofs::Takes::take_is, crate::proofs::Takes::main_take_is))]
+#[tactic(auto, using(crate::proofs::Laws::Takes::take_is, crate::proofs::Laws::Takes::main_take_is))]
 pub fn takes_are_of_heads()
     ensures pool { (script : Plan) (past : List Entry) (seat task runner found : ℕ) → may_come script past seat (kinds.Take task runner found) ≡ true → IsTake script past seat task runner found }
     ensures main { (script : Plan) (past : List Entry) (seat task queue found : ℕ) → may_come script past seat (kinds.MainTake task queue found) ≡ true → IsMainTake script past seat task queue found }
@@ -35,7 +35,7 @@ pub fn takes_are_of_heads()
 
 /// What a seat runs and holds, and how many act steps it has entered, are told by its own entries; and one more entry
 /// of the history is one more of its own seat, and of no other.
-#[tactic(auto, using(crate::proofs::Own::running_own, crate::proofs::Own::holding_own, crate::proofs::Own::acts_done_own, crate::proofs::Own::own_entries_push))]
+#[tactic(auto, using(crate::proofs::Laws::Own::running_own, crate::proofs::Laws::Own::holding_own, crate::proofs::Laws::Own::acts_done_own, crate::proofs::Laws::Own::own_entries_push))]
 pub fn own_entries_tell_the_seat()
     ensures running { (past : List Entry) (seat : ℕ) → running (own_entries seat past) seat ≡ running past seat }
     ensures holding { (past : List Entry) (seat : ℕ) → holding (own_entries seat past) seat ≡ holding past seat }

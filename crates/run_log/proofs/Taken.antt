@@ -5,8 +5,8 @@ use Rattle.std.proofs.lemmas.List.{take_rest, take_min, take-append-le}
 use Rattle.task_base.specs.declared.entry.Entry.{Entry}
 use Rattle.env_io.specs.Bytes.{Gains}
 use Rattle.env_io.proofs.Bytes.{Gains-trans}
-use Rattle.task_model.specs.LogText.{line_of, text_from, log_text}
-use Rattle.task_model.proofs.LogTexts.{text_from-take_more, log_text-cut}
+use Rattle.log_model.specs.LogText.{line_of, text_from, log_text}
+use Rattle.log_model.proofs.Laws.LogTexts.{text_from-take_more, log_text-cut}
 
 -- a front of the rest of a piece was taken after a front of the piece
 pub gains_more : (a b c : Option (List ℕ)) (piece : List ℕ) (done n : ℕ) → Gains a (take done piece) b → Gains b (take n (take (length piece - done) (drop done piece))) c → Gains a (take (done + n) piece) c

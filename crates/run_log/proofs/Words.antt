@@ -3,7 +3,7 @@ use Rattle.std.proofs.Common.{◌≡◌, ℕ, List, [], ◌∷◌, ◌++◌, ref
 use Rattle.std.specs.Fmt.{decimal}
 use Rattle.std.specs.List.{join_with_byte}
 use Rattle.task_base.specs.declared.entry.Entry.{Entry}
-use Rattle.task_model.specs.LogText.{kind_words, line_of}
+use Rattle.log_model.specs.LogText.{kind_words, line_of}
 use Rattle.run_log.specs.Lines.{with_words}
 
 -- a first word that is two words is joined as two words

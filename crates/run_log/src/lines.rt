@@ -1,6 +1,6 @@
 ghost use Rattle.std.specs.Prelude.{◌≡◌, ◌+◌, ◌≤◌, [], ◌∷◌, ◌++◌, length, map, decimal};
 ghost use Rattle.task_base.specs.declared.entry.Kind.TheVariants.{Vote, JobStep, Joined};
-ghost use Rattle.task_model.specs.LogText.{kind_words, line_of, shown, next_part, reply_parts, reply_word, vote_word, scope_word, policy_word, fence_word};
+ghost use Rattle.log_model.specs.LogText.{kind_words, line_of, shown, next_part, reply_parts, reply_word, vote_word, scope_word, policy_word, fence_word};
 ghost use Rattle.run_log.specs.Lines.{with_words};
 
 use arrayvec::ArrayVec;

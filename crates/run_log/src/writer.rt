@@ -1,6 +1,6 @@
 ghost use Rattle.std.specs.Prelude.{◌≡◌, ◌<◌, ◌≤◌, ◌^◌, ℕ, length, take, OnOk, OnErr};
 ghost use Rattle.env_io.specs.Bytes.{Gains, Rose};
-ghost use Rattle.task_model.specs.LogText.{log_text};
+ghost use Rattle.log_model.specs.LogText.{log_text};
 
 use crate::lines::line;
 use env_io::{Failed, Sink};

@@ -12,7 +12,7 @@ use Rattle.task_base.specs.declared.entry.Entry.{Entry}
 use Rattle.task_base.specs.declared.entry.Kind.{Kind}
 use Rattle.task_base.specs.declared.policy.Policy.TheVariants as policies
 use Rattle.task_traits.specs.declared.phase.Phase.TheVariants as phases
-use Rattle.task_model.specs.Lists.{count}
+use Rattle.list_laws.specs.Lists.{count}
 use Rattle.task_model.specs.Past.{fold_past, fold_past_from}
 use Rattle.task_model.specs.Time.{now_of, now_after}
 use Rattle.task_model.specs.Posts.{posts, posted_by, main_posts, main_posted_by, is_taken, takes, is_ended, ends, is_main_taken, main_takes}

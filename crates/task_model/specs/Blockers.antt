@@ -5,7 +5,7 @@ use Rattle.task_base.specs.Plan.{Plan}
 use Rattle.task_base.specs.declared.entry.Entry.{Entry}
 use Rattle.task_traits.specs.declared.traits.Behaviour.{Behaviour}
 use Rattle.task_traits.specs.declared.traits.Behaviour.TheVariants.{ContinueOnShutdown, SkipOnShutdown, BlockShutdown}
-use Rattle.task_model.specs.Lists.{count, holds_of}
+use Rattle.list_laws.specs.Lists.{count, holds_of}
 use Rattle.task_model.specs.Posts.{Posted, posts, is_taken, is_ended}
 use Rattle.task_model.specs.Refusal.{effective_at, behaviour_of_job}
 use Rattle.task_model.specs.Seats.{holding, all_seats}

@@ -9,7 +9,7 @@ use Rattle.task_base.specs.declared.step.Scope.{Scope}
 use Rattle.task_base.specs.declared.step.Scope.TheVariants.{May, Will}
 use Rattle.task_traits.specs.declared.traits.Priority.{Priority}
 use Rattle.task_traits.specs.declared.traits.Priority.TheVariants.{BestEffort, UserVisible, UserBlocking}
-use Rattle.task_model.specs.Lists.{count, holds_of}
+use Rattle.list_laws.specs.Lists.{count, holds_of}
 use Rattle.task_model.specs.Past.{fold_past}
 use Rattle.task_model.specs.Time.{now_of}
 use Rattle.task_model.specs.Seats.{Running, Holding, running, holding, worker_seats}

@@ -4,7 +4,7 @@ use Rattle.task_base.specs.Plan.{Plan}
 use Rattle.task_base.specs.declared.entry.Entry.{Entry}
 use Rattle.task_base.specs.declared.entry.Kind.{Kind}
 use Rattle.task_base.specs.declared.entry.Kind.TheVariants.{End, MainEnd}
-use Rattle.task_model.specs.Lists.{holds_of}
+use Rattle.list_laws.specs.Lists.{holds_of}
 use Rattle.task_model.specs.Past.{fold_past}
 use Rattle.task_model.specs.Seats.{running, runs_of}
 

@@ -11,7 +11,7 @@ use Rattle.task_base.specs.declared.entry.JobReply.{JobReply}
 use Rattle.task_base.specs.declared.entry.JobReply.TheVariants.{Refused, Finished, Cancelled, Stopped}
 use Rattle.task_base.specs.declared.entry.Kind.{Kind}
 use Rattle.task_base.specs.declared.entry.Kind.TheVariants.{JobPost, JobTake, JobStep, JobCancel}
-use Rattle.task_model.specs.Lists.{count, holds_of}
+use Rattle.list_laws.specs.Lists.{count, holds_of}
 use Rattle.task_model.specs.Past.{fold_past}
 use Rattle.task_model.specs.Refusal.{is_job_forbidden}
 use Rattle.task_model.specs.Seats.{Holding, holding, all_seats, inside}

@@ -10,7 +10,7 @@ use Rattle.task_base.specs.declared.entry.Kind.TheVariants as kinds
 use Rattle.task_base.specs.declared.script.FenceAt.TheVariants.{Now, Start}
 use Rattle.task_base.specs.declared.script.Lane.{Lane}
 use Rattle.task_base.specs.declared.script.Lane.TheVariants.{Immediate, Delayed}
-use Rattle.task_model.specs.Lists.{least, holds_of}
+use Rattle.list_laws.specs.Lists.{least, holds_of}
 use Rattle.task_model.specs.Past.{fold_past}
 use Rattle.task_model.specs.Posts.{Posted, is_delayed, main_posts, is_main_taken}
 use Rattle.task_model.specs.Refusal.{is_closed}

@@ -5,7 +5,7 @@ use Rattle.task_base.specs.declared.entry.Entry.{Entry}
 use Rattle.task_base.specs.declared.entry.Kind.{Kind}
 use Rattle.task_base.specs.declared.entry.Kind.TheVariants.{Main, Fence, Tick}
 use Rattle.task_base.specs.declared.script.FenceAt.TheVariants.{Now}
-use Rattle.task_model.specs.Lists.{count}
+use Rattle.list_laws.specs.Lists.{count}
 use Rattle.task_model.specs.Past.{fold_past}
 use Rattle.task_model.specs.Time.{now_of, tick_from}
 use Rattle.task_model.specs.Posts.{Posted, is_delayed, main_posts}

@@ -4,7 +4,7 @@ use Rattle.task_base.specs.Plan.{Plan}
 use Rattle.task_base.specs.declared.entry.Entry.{Entry}
 use Rattle.task_base.specs.declared.script.RunnerKind.{RunnerKind}
 use Rattle.task_base.specs.declared.script.RunnerKind.TheVariants.{Parallel, Sequenced, Single}
-use Rattle.task_model.specs.Lists.{least, holds_of}
+use Rattle.list_laws.specs.Lists.{least, holds_of}
 use Rattle.task_model.specs.Posts.{Posted, is_taken}
 use Rattle.task_model.specs.Keys.{Ready, ready, key_below}
 use Rattle.task_model.specs.Refusal.{is_forbidden}

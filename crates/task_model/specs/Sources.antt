@@ -10,7 +10,7 @@ use Rattle.task_base.specs.declared.source.Key.{Key}
 use Rattle.task_base.specs.declared.source.TaskSource.{TaskSource}
 use Rattle.task_base.specs.declared.source.TaskSource.TheVariants.{Sequence, Job}
 use Rattle.task_traits.specs.declared.traits.Priority.{Priority}
-use Rattle.task_model.specs.Lists.{least}
+use Rattle.list_laws.specs.Lists.{least}
 use Rattle.task_model.specs.Policies.{is_held}
 use Rattle.task_model.specs.Refusal.{is_job_forbidden}
 use Rattle.task_model.specs.Keys.{Ready, key_at, key_below}

@@ -14,14 +14,14 @@ use Rattle.task_base.specs.declared.script.RunnerKind.{RunnerKind}
 use Rattle.task_base.specs.declared.script.RunnerKind.TheVariants.{Parallel, Sequenced, Single}
 use Rattle.task_traits.specs.declared.traits.Priority.{Priority}
 use Rattle.task_traits.specs.declared.traits.Behaviour.{Behaviour}
-use Rattle.task_model.specs.Words.{is_word, begins_comment, is_all_ascii, lines_of, words_of}
-use Rattle.task_model.specs.Places.{number_from, priority_named, behaviour_named, kind_named, steps_read}
-use Rattle.task_model.specs.Bound.{events_of_task, events_of_action}
-use Rattle.task_model.specs.Draft.{Draft, empty_draft, script_of, is_bare, is_above_workers, is_declared, posted_in, is_any_posted, has_bad_scopes, is_bad_post, has_block, has_shutdown, ticks_of, steps_in, ticks_in, events_in}
-use Rattle.task_model.specs.Postings.{posts_of_step}
-use Rattle.task_model.specs.Lines.{workers_line, runner_line, task_line, acted, post_line, flush_line, shutdown_line, action_command_read, command_read, words_read, line_read}
-use Rattle.task_model.specs.Reasons.{◌>>=◌ as ◌then◌, ◌>>◌, refuse, not_ascii}
-use Rattle.task_model.specs.Grammar.{at_line, lines_read, script_read}
+use Rattle.script_model.specs.Words.{is_word, begins_comment, is_all_ascii, lines_of, words_of}
+use Rattle.script_model.specs.Places.{number_from, priority_named, behaviour_named, kind_named, steps_read}
+use Rattle.script_model.specs.Bound.{events_of_task, events_of_action}
+use Rattle.script_model.specs.Draft.{Draft, empty_draft, script_of, is_bare, is_above_workers, is_declared, posted_in, is_any_posted, has_bad_scopes, is_bad_post, has_block, has_shutdown, ticks_of, steps_in, ticks_in, events_in}
+use Rattle.script_model.specs.Postings.{posts_of_step}
+use Rattle.script_model.specs.Lines.{workers_line, runner_line, task_line, acted, post_line, flush_line, shutdown_line, action_command_read, command_read, words_read, line_read}
+use Rattle.script_model.specs.Reasons.{◌>>=◌ as ◌then◌, ◌>>◌, refuse, not_ascii}
+use Rattle.script_model.specs.Grammar.{at_line, lines_read, script_read}
 use Rattle.task_script.specs.FormDraft.{is_posted, shuts_down, steps_of_tasks, form_events}
 use Rattle.task_script.specs.FormLines.{◌>>=◌, max_id, number_in, form_kind, form_priority, form_behaviour, form_steps, form_workers, form_runner, form_task, form_post, form_flush, form_shutdown, form_command, form_words, form_line}
 use Rattle.task_script.specs.Form.{form_lines, form_read}

@@ -22,8 +22,8 @@ use Rattle.task_traits.specs.declared.traits.Priority.{Priority}
 use Rattle.task_traits.specs.declared.traits.Behaviour.{Behaviour}
 use Rattle.task_base.specs.declared.step.Step.{Step}
 use Rattle.task_base.specs.declared.step.Step.TheVariants.{Add, Mul, Set}
-use Rattle.task_model.specs.Words.{number_of, is_word, begins_comment, is_all_ascii, lines_of, words_of}
-use Rattle.task_model.specs.Draft.{Draft, empty_draft, script_of, is_bare, is_shutdown}
+use Rattle.script_model.specs.Words.{number_of, is_word, begins_comment, is_all_ascii, lines_of, words_of}
+use Rattle.script_model.specs.Draft.{Draft, empty_draft, script_of, is_bare, is_shutdown}
 use Rattle.task_script.specs.FormDraft.{is_posted, shuts_down, steps_of_tasks, form_events}
 use Rattle.task_script.specs.FormLines.{◌>>=◌, max_id, number_in, form_kind, form_priority, form_behaviour, step_named, form_step, all_some, form_steps, form_workers, form_runner, form_task, form_post, form_flush, form_shutdown, form_command, form_words, form_line}
 use Rattle.task_script.specs.Form.{form_lines, form_read}

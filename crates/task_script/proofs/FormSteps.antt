@@ -13,11 +13,11 @@ use Rattle.task_base.specs.declared.step.Step.{Step}
 use Rattle.task_base.specs.declared.step.Step.TheVariants.{Add, Mul, Set, Post, Main, Block, Unblock}
 use Rattle.task_base.specs.declared.script.RunnerKind.{RunnerKind}
 use Rattle.task_base.specs.declared.script.RunnerKind.TheVariants.{Parallel, Sequenced}
-use Rattle.task_model.specs.Words.{number_of, is_word}
-use Rattle.task_model.specs.Reasons.{out_of_range}
-use Rattle.task_model.specs.Draft.{Draft, is_declared, is_block, has_bad_scopes, is_bad_post}
-use Rattle.task_model.specs.Postings.{posts_of_step}
-use Rattle.task_model.specs.Places.{in_range, number_from, kind_named, step_said, step_read, all_read, steps_read}
+use Rattle.script_model.specs.Words.{number_of, is_word}
+use Rattle.script_model.specs.Reasons.{out_of_range}
+use Rattle.script_model.specs.Draft.{Draft, is_declared, is_block, has_bad_scopes, is_bad_post}
+use Rattle.script_model.specs.Postings.{posts_of_step}
+use Rattle.script_model.specs.Places.{in_range, number_from, kind_named, step_said, step_read, all_read, steps_read}
 use Rattle.task_script.specs.FormLines.{◌>>=◌, number_in, form_kind, step_named, form_step, all_some, form_steps}
 use Rattle.task_script.proofs.FormLaws.{bind_some, guard_some, number_in-bounds, Computes}
 

@@ -11,9 +11,9 @@ use Rattle.task_base.specs.Plan.{JobPlan}
 use Rattle.task_base.specs.declared.step.Step.{Step}
 use Rattle.task_base.specs.declared.script.Action.{Action}
 use Rattle.task_base.specs.declared.script.Action.TheVariants.{Post, Main, Tick, Policy, Fence, Unfence, Vote, Rank, Close, Pump, Flush, StartJob, Join, Cancel, Shutdown}
-use Rattle.task_model.specs.Bound.{events_of_task, events_of_job, events_of_action}
-use Rattle.task_model.specs.Draft.{Draft, posted_in, has_block, ticks_of, steps_in, ticks_in, events_in}
-use Rattle.task_model.specs.Postings.{posts_of_step, posts_of_action}
+use Rattle.script_model.specs.Bound.{events_of_task, events_of_job, events_of_action}
+use Rattle.script_model.specs.Draft.{Draft, posted_in, has_block, ticks_of, steps_in, ticks_in, events_in}
+use Rattle.script_model.specs.Postings.{posts_of_step, posts_of_action}
 use Rattle.task_script.specs.FormDraft.{is_posted, is_post_of, steps_of_tasks, form_events}
 use Rattle.task_script.specs.Wants.{wants_of}
 use Rattle.task_script.specs.WellFormed.{is_form_action}

@@ -2,7 +2,7 @@
 use Rattle.std.proofs.Common.{◌≡◌, ℕ, ◌+◌, ◌<◌, ◌≤◌, List, length, get_or, drop, Option, Some, refl, sym, ◌∙◌, add-one, drop-cons}
 use Rattle.std.proofs.lemmas.List.{drop_all}
 use Rattle.std.specs.Borrow.{Bor}
-use Rattle.task_model.specs.Draft.{Draft}
+use Rattle.script_model.specs.Draft.{Draft}
 use Rattle.task_script.specs.FormLines.{form_line}
 use Rattle.task_script.specs.Form.{form_lines}
 use Rattle.task_script.specs.declared.fault.ScriptFault.{ScriptFault}

@@ -1,8 +1,8 @@
 -- The small form of scripts: which bytes have it.
 use Rattle.std.specs.Prelude.{ℕ, List, [], ◌∷◌, Option, Some, option_map}
 use Rattle.task_base.specs.Plan.{Plan}
-use Rattle.task_model.specs.Words.{lines_of}
-use Rattle.task_model.specs.Draft.{Draft, empty_draft, script_of}
+use Rattle.script_model.specs.Words.{lines_of}
+use Rattle.script_model.specs.Draft.{Draft, empty_draft, script_of}
 use Rattle.task_script.specs.FormLines.{◌>>=◌, form_line}
 
 -- the draft that lines give, behind one that earlier lines gave

@@ -4,7 +4,7 @@ use Rattle.std.specs.List.{list_any}
 use Rattle.task_base.specs.declared.step.Step.{Step}
 use Rattle.task_base.specs.declared.script.Action.{Action}
 use Rattle.task_base.specs.declared.script.Action.TheVariants.{Post}
-use Rattle.task_model.specs.Draft.{Draft, is_shutdown}
+use Rattle.script_model.specs.Draft.{Draft, is_shutdown}
 
 -- how many steps the tasks have
 abbrev pub steps_of_tasks : List (List Step) → ℕ

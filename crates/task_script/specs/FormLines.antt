@@ -11,9 +11,9 @@ use Rattle.task_base.specs.declared.script.Runner.{Runner}
 use Rattle.task_base.specs.declared.script.RunnerKind.{RunnerKind}
 use Rattle.task_base.specs.declared.script.RunnerKind.TheVariants.{Parallel, Sequenced}
 use Rattle.task_base.specs.declared.script.Action.TheVariants.{Post, Flush, Shutdown}
-use Rattle.task_model.specs.Words.{is_word, number_of, begins_comment, is_all_ascii, words_of}
-use Rattle.task_model.specs.Places.{priority_named, behaviour_named}
-use Rattle.task_model.specs.Draft.{Draft, is_bare}
+use Rattle.script_model.specs.Words.{is_word, number_of, begins_comment, is_all_ascii, words_of}
+use Rattle.script_model.specs.Places.{priority_named, behaviour_named}
+use Rattle.script_model.specs.Draft.{Draft, is_bare}
 use Rattle.task_script.specs.FormDraft.{steps_of_tasks, is_posted, shuts_down, form_events}
 
 infixl 10 ◌>>=◌

@@ -1,6 +1,6 @@
 -- What a reader holds, against the draft that the lines read so far give.
 use Rattle.std.specs.Prelude.{◌≡◌, ℕ, ◌≤◌, false, [], length, slice_index_or, Option, Some, None, Result, Ok, Err}
-use Rattle.task_model.specs.Draft.{Draft}
+use Rattle.script_model.specs.Draft.{Draft}
 use Rattle.task_script.specs.FormDraft.{steps_of_tasks, is_posted, shuts_down}
 use Rattle.task_script.specs.declared.fault.ScriptFault.{ScriptFault}
 use Rattle.task_script.specs.declared.reader.Reader.{Reader}

@@ -1,5 +1,5 @@
 ghost use Rattle.std.specs.Prelude.{◌≡◌, IfOk, Some, None, Err};
-ghost use Rattle.task_model.specs.Grammar.{Reads};
+ghost use Rattle.script_model.specs.Grammar.{Reads};
 ghost use Rattle.task_script.specs.Form.{form_read};
 ghost use Rattle.task_script.specs.WellFormed.{WellFormed};
 

@@ -1,5 +1,5 @@
 ghost use Rattle.std.specs.Prelude.{◌≡◌, ◌==◌, ◌+◌, ◌-◌, ◌^◌, ◌<◌, ◌≤◌, ◌&&◌, ◌++◌, ◌∷◌, [], Some, nat_lt, nat_le, not, length, slice_index, is_none};
-ghost use Rattle.task_model.specs.Draft.{empty_draft, script_of, is_bare};
+ghost use Rattle.script_model.specs.Draft.{empty_draft, script_of, is_bare};
 ghost use Rattle.task_script.specs.FormDraft.{is_posted, shuts_down, steps_of_tasks, form_events};
 ghost use Rattle.task_script.specs.FormLines.{form_workers, form_runner, form_task, form_post, form_flush, form_shutdown, form_command, form_words, form_line};
 ghost use Rattle.task_script.specs.Form.{form_lines};

@@ -1,6 +1,6 @@
 ghost use Rattle.std.specs.Prelude.{◌≡◌, IfOk, map, codes};
 ghost use Rattle.std.specs.List.{slice_split};
-ghost use Rattle.task_model.specs.Words.{is_word};
+ghost use Rattle.script_model.specs.Words.{is_word};
 ghost use Rattle.task_script.specs.FormLines.{form_step, form_steps, all_some};
 ghost use Rattle.task_script.specs.Texts.{texts, texts_of_each};
 ghost use Rattle.task_script.specs.Reading.{Gives};

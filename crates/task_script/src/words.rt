@@ -2,7 +2,7 @@ ghost use Rattle.std.specs.Prelude.{◌≡◌, ◌&&◌, ◌<◌, ◌^◌, ◌�
 ghost use Rattle.std.specs.Str.{all_ascii_digits};
 ghost use Rattle.std.specs.Str.Lines.{strip_carriage_return};
 ghost use Rattle.std.specs.Str.Parse.{digits_value};
-ghost use Rattle.task_model.specs.Words.{lines_of, words_of, is_blank, is_all_ascii};
+ghost use Rattle.script_model.specs.Words.{lines_of, words_of, is_blank, is_all_ascii};
 ghost use Rattle.task_script.specs.FormLines.{number_in};
 ghost use Rattle.task_script.specs.Texts.{texts};
 

@@ -1,5 +1,5 @@
 use Rattle.std.proofs.Common.{◌≡◌, ℕ, List, Some, subst}
-use Rattle.task_model.specs.Grammar.{Reads}
+use Rattle.script_model.specs.Grammar.{Reads}
 use Rattle.task_script.specs.Form.{form_read}
 use Rattle.env_app.specs.Outcome.{IsWithin}
 use Rattle.env_app.proofs.Outcomes.{taken_whole}

@@ -1,4 +1,4 @@
-use Rattle.hist_model.proofs.Rising.{legal_rises, orders_are_distinct}
+use Rattle.hist_model.proofs.Laws.Rising.{legal_rises, orders_are_distinct}
 use Rattle.hist_model.proofs.moments.moments_and_orders_rise.Goals as goal
 
 pub returns-clause-rises : goal.returns-clause-rises

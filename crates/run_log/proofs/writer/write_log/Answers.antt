@@ -1,7 +1,7 @@
 use Rattle.std.proofs.Common.{◌≤◌, ℕ, length, take, Ok, Err, OnErr, subst, arith, ◌∙◌}
 use Rattle.env_io.specs.Bytes.{Gains}
-use Rattle.task_model.specs.LogText.{log_text}
-use Rattle.task_model.proofs.LogTexts.{log_text-take_all}
+use Rattle.log_model.specs.LogText.{log_text}
+use Rattle.log_model.proofs.Laws.LogTexts.{log_text-take_all}
 use Rattle.run_log.proofs.Taken.{gains_line, gains_cut}
 use Rattle.run_log.proofs.writer.write_log.Goals as goal
 

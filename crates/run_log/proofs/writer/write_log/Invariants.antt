@@ -1,6 +1,6 @@
 use Rattle.std.proofs.Common.{◌≤◌, take}
 use Rattle.env_io.specs.Bytes.{Gains}
-use Rattle.task_model.specs.LogText.{text_from}
+use Rattle.log_model.specs.LogText.{text_from}
 use Rattle.run_log.proofs.writer.write_log.Given as goal
 
 abbrev pub invariant-loop-place : goal.invariant-loop-place

@@ -3,7 +3,7 @@ use Rattle.std.specs.Prelude.{codes}
 use Rattle.std.proofs.lemmas.Iterator.Consumers.{map_from_collect}
 use Rattle.std.proofs.lemmas.Iterator.Splits.{YieldsList-from_slice_split}
 use Rattle.std.proofs.lemmas.Result.{IfOk-weaker}
-use Rattle.task_model.specs.Words.{is_word}
+use Rattle.script_model.specs.Words.{is_word}
 use Rattle.task_script.specs.Texts.{texts}
 use Rattle.task_script.proofs.Pieces.{slice_split-map, map-map}
 use Rattle.task_script.proofs.steps.pieces_of.Goals as goal

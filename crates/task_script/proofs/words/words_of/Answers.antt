@@ -1,7 +1,7 @@
 use Rattle.std.proofs.Common.{rules, tests}
 use Rattle.std.proofs.lemmas.Iterator.Consumers.{map_from_collect, YieldsList-at, YieldsList-from_filter}
 use Rattle.std.proofs.lemmas.Iterator.Splits.{YieldsList-from_slice_split}
-use Rattle.task_model.specs.Words.{is_blank}
+use Rattle.script_model.specs.Words.{is_blank}
 use Rattle.task_script.proofs.words.words_of.Goals as goal
 
 pub returns : goal.returns

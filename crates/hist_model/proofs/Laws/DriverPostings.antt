@@ -1,0 +1,105 @@
+-- The postings that the driver's actions have left.
+use Rattle.std.proofs.Common.{◌≡◌, ℕ, ◌+◌, ◌≤◌, Bool, true, false, cond, eqb, List, [], ◌∷◌, ◌++◌, refl, sym, ap, ◌∙◌, Option, Some, None, arith, append-nil}
+use Rattle.std.specs.Prelude.{◌&&◌, flat_map}
+use Rattle.std.specs.Option.{option_map_or}
+use Rattle.std.proofs.lemmas.List.Elements.{filter-append}
+use Rattle.std.proofs.lemmas.Bool.{eqb-true, and_parts}
+use Rattle.task_base.specs.Plan.{Plan}
+use Rattle.task_base.specs.declared.entry.Entry.{Entry}
+use Rattle.task_base.specs.declared.entry.Kind.{Kind}
+use Rattle.task_base.specs.declared.entry.Kind.TheVariants as kinds
+use Rattle.task_base.specs.declared.script.Action.{Action}
+use Rattle.task_base.specs.declared.script.Action.TheVariants as actions
+use Rattle.list_laws.specs.Lists.{holds_of}
+use Rattle.list_laws.proofs.Lists.{count-append}
+use Rattle.hist_model.specs.Views.{own_entries}
+use Rattle.hist_model.specs.Script.{behind_action, wants, is_wanted}
+use Rattle.hist_model.specs.Laws.Agenda.{agenda_from, agenda, first_of, completes, next_agenda}
+use Rattle.hist_model.specs.Allowed.{by_script}
+use Rattle.hist_model.specs.Laws.Postings.{kind_posts}
+use Rattle.script_model.specs.Postings.{posts_of_action, times}
+use Rattle.hist_model.proofs.Laws.Agenda.{current_is_first, agenda_push}
+
+pub times-append : (t : ℕ) (xs ys : List ℕ) → times t (xs ++ ys) ≡ times t xs + times t ys
+times-append t xs ys = count-append (λ u. eqb u t) xs ys
+
+-- the first of three tests that are passed
+pub first_test : (a b c : Bool) → ((a && b) && c) ≡ true → a ≡ true
+first_test true b c h = refl
+first_test false b c h = absurd cc
+
+-- how often actions post a task
+abbrev pub actions_post : ℕ → List Action → ℕ
+actions_post t xs = times t (flat_map posts_of_action xs)
+
+one_more : (t : ℕ) (x : Action) (xs : List Action) → actions_post t (x ∷ xs) ≡ times t (posts_of_action x) + actions_post t xs
+one_more t x xs = times-append t (posts_of_action x) (flat_map posts_of_action xs)
+
+agenda_from_within : (t : ℕ) (xs : List Action) (own : List Entry) → actions_post t (agenda_from xs own).actions ≤ actions_post t xs
+agenda_from_within t [] own = omega arith
+agenda_from_within t (x ∷ xs) own = at (behind_action x own) (agenda_from_within t xs)
+  where
+    at : (o : Option (List Entry)) → ((left : List Entry) → actions_post t (agenda_from xs left).actions ≤ actions_post t xs) → actions_post t (option_map_or (λ left. agenda_from xs left) o (record { actions = x ∷ xs; made = own })).actions ≤ actions_post t (x ∷ xs)
+    at None next = omega arith
+    at (Some left) next = omega (arith, next left, one_more t x xs)
+
+next_agenda_within : (t : ℕ) (xs : List Action) (made : List Entry) (e : Entry) → actions_post t (next_agenda xs made e).actions ≤ actions_post t xs
+next_agenda_within t [] made e = omega arith
+next_agenda_within t (x ∷ xs) made e = at (completes x made e.kind)
+  where
+    at : (b : Bool) → actions_post t (cond b (agenda_from xs []) (record { actions = x ∷ xs; made = made ++ e ∷ [] })).actions ≤ actions_post t (x ∷ xs)
+    at true = omega (arith, agenda_from_within t xs [], one_more t x xs)
+    at false = omega arith
+
+-- what is left once the action that posts a task is behind
+one_behind : (t u task : ℕ) (x : Action) (xs : List Action) → task ≡ u → posts_of_action x ≡ u ∷ [] → actions_post t (agenda_from xs []).actions + times t (task ∷ []) ≤ actions_post t (x ∷ xs)
+one_behind t u task x xs same posts = let whole : times t (posts_of_action x) ≡ times t (task ∷ []) = ap (times t) (posts ∙ ap (λ n. n ∷ []) (sym same)) in omega (arith, whole, one_more t x xs, agenda_from_within t xs [])
+
+wanted_post : (t : ℕ) (own : List Entry) (xs : List Action) (made : List Entry) (seat task runner delay : ℕ) (ok : Bool) → holds_of (λ c. wants own c.action c.made (kinds.Post task runner delay ok)) (first_of xs made) ≡ true
+    → actions_post t (next_agenda xs made (record { seat = seat; kind = kinds.Post task runner delay ok })).actions + times t (task ∷ []) ≤ actions_post t xs
+wanted_post t own [] made seat task runner delay ok h = absurd cc
+wanted_post t own (actions.Post u r d ∷ xs) made seat task runner delay ok h = one_behind t u task (actions.Post u r d) xs (eqb-true task u (first_test (eqb task u) (eqb runner r) (eqb delay d) h)) refl
+wanted_post t own (x ∷ xs) made seat task runner delay ok h = absurd cc
+
+wanted_main : (t : ℕ) (own : List Entry) (xs : List Action) (made : List Entry) (seat task queue delay : ℕ) (ok : Bool) → holds_of (λ c. wants own c.action c.made (kinds.Main task queue delay ok)) (first_of xs made) ≡ true
+    → actions_post t (next_agenda xs made (record { seat = seat; kind = kinds.Main task queue delay ok })).actions + times t (task ∷ []) ≤ actions_post t xs
+wanted_main t own [] made seat task queue delay ok h = absurd cc
+wanted_main t own (actions.Main u q d ∷ xs) made seat task queue delay ok h = one_behind t u task (actions.Main u q d) xs (eqb-true task u (first_test (eqb task u) (eqb queue q) (eqb delay d) h)) refl
+wanted_main t own (x ∷ xs) made seat task queue delay ok h = absurd cc
+
+-- how often the actions that the driver has left post a task
+abbrev pub driver_has : Plan → ℕ → List Entry → ℕ
+driver_has script t past = actions_post t (agenda script (own_entries 0 past)).actions
+
+-- the driver's own entries, by one more entry
+own_push : (past : List Entry) (e : Entry) → own_entries 0 (past ++ e ∷ []) ≡ own_entries 0 past ++ cond (eqb e.seat 0) (e ∷ []) []
+own_push past e = filter-append (λ x. eqb x.seat 0) past (e ∷ [])
+
+pub driver_has_less : (script : Plan) (t : ℕ) (past : List Entry) (e : Entry) → driver_has script t (past ++ e ∷ []) ≤ driver_has script t past
+driver_has_less script t past e = rw (own_push past e) (at (eqb e.seat 0))
+  where
+    own : List Entry
+    own = own_entries 0 past
+
+    at : (b : Bool) → actions_post t (agenda script (own ++ cond b (e ∷ []) [])).actions ≤ actions_post t (agenda script own).actions
+    at true = rw (agenda_push script own e) (next_agenda_within t (agenda script own).actions (agenda script own).made e)
+    at false = rw (append-nil own) (omega arith)
+
+pub driver_begins : (script : Plan) (t : ℕ) → driver_has script t [] ≤ actions_post t script.actions
+unfolding agenda
+driver_begins script t = agenda_from_within t script.actions []
+
+-- an entry that the script wants next is its posting that goes
+script_wants : (script : Plan) (own : List Entry) (kind : Kind) → is_wanted script own kind ≡ true → holds_of (λ c. wants own c.action c.made kind) (first_of (agenda script own).actions (agenda script own).made) ≡ true
+unfolding is_wanted
+script_wants script own kind h = ap (holds_of (λ c. wants own c.action c.made kind)) (sym (current_is_first script own)) ∙ h
+
+posts_of_wanted : (script : Plan) (t : ℕ) (own : List Entry) (seat : ℕ) (kind : Kind) → is_wanted script own kind ≡ true
+    → actions_post t (agenda script (own ++ (record { seat = seat; kind = kind }) ∷ [])).actions + times t (kind_posts kind) ≤ actions_post t (agenda script own).actions
+posts_of_wanted script t own seat (kinds.Post task runner delay ok) h = rw (agenda_push script own (record { seat = seat; kind = kinds.Post task runner delay ok })) (wanted_post t own (agenda script own).actions (agenda script own).made seat task runner delay ok (script_wants script own (kinds.Post task runner delay ok) h))
+posts_of_wanted script t own seat (kinds.Main task queue delay ok) h = rw (agenda_push script own (record { seat = seat; kind = kinds.Main task queue delay ok })) (wanted_main t own (agenda script own).actions (agenda script own).made seat task queue delay ok (script_wants script own (kinds.Main task queue delay ok) h))
+posts_of_wanted script t own seat kind h = rw (agenda_push script own (record { seat = seat; kind = kind })) (omega (arith, next_agenda_within t (agenda script own).actions (agenda script own).made (record { seat = seat; kind = kind })))
+
+pub driver_posts : (script : Plan) (t : ℕ) (past : List Entry) (e : Entry) → by_script script past e.seat e.kind ≡ true → driver_has script t (past ++ e ∷ []) + times t (kind_posts e.kind) ≤ driver_has script t past
+unfolding by_script
+driver_posts script t past e h = rw (own_push past e, (and_parts (eqb e.seat 0) (is_wanted script (own_entries 0 past) e.kind) h).0) (posts_of_wanted script t (own_entries 0 past) e.seat e.kind (and_parts (eqb e.seat 0) (is_wanted script (own_entries 0 past) e.kind) h).1)

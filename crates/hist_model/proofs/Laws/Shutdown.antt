@@ -1,0 +1,108 @@
+-- What shutdown refuses, forbids and waits for, in every legal history.
+use Rattle.std.proofs.Common.{◌≡◌, ℕ, ◌+◌, Bool, true, false, cond, eqb, List, [], ◌∷◌, ◌++◌, length, refl, sym, ap, ◌∙◌, arith}
+use Rattle.std.specs.Prelude.{Some, not, ◌&&◌, ◌||◌, filter, if◌then◌else◌}
+use Rattle.std.specs.List.{AllByRecursion, range_with_len}
+use Rattle.std.proofs.lemmas.Bool.{eqb-true, and_parts, not-true}
+use Rattle.std.proofs.lemmas.List.Elements.{All-from_recursion}
+use Rattle.task_base.specs.Plan.{Plan}
+use Rattle.task_base.specs.declared.entry.Entry.{Entry}
+use Rattle.task_base.specs.declared.entry.Kind.{Kind}
+use Rattle.task_base.specs.declared.entry.Kind.TheVariants as kinds
+use Rattle.task_base.specs.declared.source.TaskSource.{TaskSource}
+use Rattle.task_base.specs.declared.source.TaskSource.TheVariants.{Sequence, Job}
+use Rattle.list_laws.specs.Lists.{count, holds_of}
+use Rattle.task_model.specs.Phase.{phase_of, is_started}
+use Rattle.task_model.specs.Posts.{posts}
+use Rattle.task_model.specs.Refusal.{is_refused, is_closed, is_job_forbidden}
+use Rattle.task_model.specs.Seats.{all_seats}
+use Rattle.task_model.specs.Jobs.{may_enter, is_job_accepted, is_cancelled, has_unclaimed, claimed, free_id}
+use Rattle.task_model.specs.Sources.{best_of}
+use Rattle.task_model.specs.Blockers.{is_open_block, is_running_skip, is_open_job, is_in_skip_job, blockers_of}
+use Rattle.hist_model.specs.Allowed.{by_script, enters_job, is_job, is_ready_worker, same_number, may_come}
+use Rattle.hist_model.specs.Legal.{IsLegal}
+use Rattle.hist_model.specs.Laws.Choice.{IsWaitingSource, IsTake}
+use Rattle.hist_model.specs.Laws.Shutdown.{MayStart, HasWaited, KeepsShutdown}
+use Rattle.hist_model.proofs.Laws.Legal.{each_is_allowed}
+use Rattle.hist_model.proofs.Laws.Choice.{found, best_is}
+use Rattle.hist_model.proofs.Laws.Takes.{take_is}
+
+-- a reply that is the opposite of a refusal
+reply : (wanted refused ok : Bool) → (wanted && (if refused then not ok else ok)) ≡ true → ok ≡ not refused
+reply true true true h = absurd cc
+reply true true false h = refl
+reply true false ok h = h
+reply false refused ok h = absurd cc
+
+-- a count of none
+none_counted : {A : Type 0} (test : A → Bool) (xs : List A) → count test xs ≡ 0 → AllByRecursion (λ x. test x ≡ false) xs
+none_counted test [] h = tt
+none_counted test (x ∷ xs) h = at (test x) refl (none_counted test xs) h
+  where
+    at : (b : Bool) → test x ≡ b → (count test xs ≡ 0 → AllByRecursion (λ y. test y ≡ false) xs) → length (cond b (x ∷ filter test xs) (filter test xs)) ≡ 0 → AllByRecursion (λ y. test y ≡ false) (x ∷ xs)
+    at true is rest z = absurd (omega (arith, z))
+    at false is rest z = (is, rest z)
+
+-- shutdown is done only where it has waited
+waited : (script : Plan) (past : List Entry) (seat : ℕ) → may_come script past seat kinds.Done ≡ true → HasWaited script past
+unfolding may_come blockers_of
+waited script past seat h = record {
+  blocks_ended = All-from_recursion (λ p. is_open_block script past p ≡ false) (posts past) (none_counted (is_open_block script past) (posts past) (omega (arith, none)));
+  no_skip_runs = All-from_recursion (λ p. is_running_skip script past p ≡ false) (posts past) (none_counted (is_running_skip script past) (posts past) (omega (arith, none)));
+  jobs_over = All-from_recursion (λ j. is_open_job script past j ≡ false) (range_with_len 0 (length script.jobs)) (none_counted (is_open_job script past) (range_with_len 0 (length script.jobs)) (omega (arith, none)));
+  nobody_inside = All-from_recursion (λ s. is_in_skip_job script past s ≡ false) (all_seats script) (none_counted (is_in_skip_job script past) (all_seats script) (omega (arith, none)));
+}
+  where
+    last : (a b c : Bool) → (a && b && c) ≡ true → c ≡ true
+    last a b c k = grind (arith, k)
+
+    none : count (is_open_block script past) (posts past) + count (is_running_skip script past) (posts past) + count (is_open_job script past) (range_with_len 0 (length script.jobs)) + count (is_in_skip_job script past) (all_seats script) ≡ 0
+    none = eqb-true (count (is_open_block script past) (posts past) + count (is_running_skip script past) (posts past) + count (is_open_job script past) (range_with_len 0 (length script.jobs)) + count (is_in_skip_job script past) (all_seats script)) 0 (last (by_script script past seat kinds.Done) (is_started (phase_of past)) _ h)
+
+-- a job that may be entered is not forbidden
+enters_free : (script : Plan) (past : List Entry) (j : ℕ) → may_enter script past j ≡ true → is_job_forbidden script past j ≡ false
+unfolding may_enter
+enters_free script past j h = not-true (is_job_forbidden script past j) (third (is_job_accepted past j) (not (is_cancelled past j)) (not (is_job_forbidden script past j)) (has_unclaimed script past j) _ h)
+  where
+    third : (a b c d e : Bool) → (a && b && c && d && e) ≡ true → c ≡ true
+    third a b c d e k = grind (arith, k)
+
+-- a job is entered only where it may be
+pub job_take_enters : (script : Plan) (past : List Entry) (seat job id item : ℕ) → may_come script past seat (kinds.JobTake job id item) ≡ true → may_enter script past job ≡ true
+unfolding may_come
+job_take_enters script past seat job id item h = either (is_ready_worker script past seat) (holds_of (λ c. is_job job c.source) (best_of script past seat)) (by_script script past seat (kinds.JobTake job id item)) (may_enter script past job) refl refl (first (enters_job script past seat job (kinds.JobTake job id item)) (same_number (free_id script past job) (Some id)) (eqb item (claimed past job)) h)
+  where
+    first : (a b c : Bool) → (a && b && c) ≡ true → a ≡ true
+    first a b c k = grind (arith, k)
+
+    of_source : (source : TaskSource) → IsWaitingSource script past source → is_job job source ≡ true → may_enter script past job ≡ true
+    of_source (Sequence s) waits is = absurd cc
+    of_source (Job j) waits is = ap (may_enter script past) (sym (eqb-true j job is)) ∙ waits
+
+    either : (a b c d : Bool) → holds_of (λ x. is_job job x.source) (best_of script past seat) ≡ b → may_enter script past job ≡ d → ((a && b) || (c && d)) ≡ true → may_enter script past job ≡ true
+    either a true c d chosen enters k = let c = found (λ x. is_job job x.source) (best_of script past seat) chosen in of_source c.value.source (best_is script past seat c.value c.is).waits c.passes
+    either a false c d chosen enters k = enters ∙ right a c d k
+      where
+        right : (x y z : Bool) → ((x && false) || (y && z)) ≡ true → z ≡ true
+        right x y z e = grind (arith, e)
+
+started : (script : Plan) (past : List Entry) (seat task runner value : ℕ) → IsTake script past seat task runner value → MayStart script past task runner
+started script past seat task runner value t = record {
+  accepted = t.head.posted;
+  posted = t.is_head.accepted;
+  task_is = t.task_is;
+  runner_is = t.home_is;
+  free = t.not_forbidden;
+}
+
+kept : (script : Plan) (past : List Entry) (seat : ℕ) (kind : Kind) → may_come script past seat kind ≡ true → KeepsShutdown script past kind
+unfolding may_come
+kept script past seat (kinds.Post task runner delay ok) h = reply _ (is_refused script past runner delay) ok h
+kept script past seat (kinds.Main task queue delay ok) h = reply _ (is_closed past queue) ok h
+kept script past seat (kinds.Take task runner value) h = started script past seat task runner value (take_is script past seat task runner value h)
+kept script past seat (kinds.JobPost job ok) h = reply _ (is_job_forbidden script past job) ok h
+kept script past seat (kinds.JobTake job id item) h = enters_free script past job (job_take_enters script past seat job id item h)
+kept script past seat kinds.Done h = waited script past seat h
+kept script past seat kind h = tt
+
+pub waits_and_forbids : (script : Plan) (past : List Entry) (e : Entry) (rest : List Entry) → IsLegal script (past ++ e ∷ rest) → KeepsShutdown script past e.kind
+waits_and_forbids script past e rest h = kept script past e.seat e.kind (and_parts _ (may_come script past e.seat e.kind) (each_is_allowed script past e rest h)).1

@@ -1,0 +1,7 @@
+-- Words of the laws of legal histories.
+pub mod Choice
+pub mod Consistent
+pub mod Shutdown
+pub mod Agenda
+pub mod Postings
+pub mod Rising

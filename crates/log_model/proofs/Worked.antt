@@ -1,0 +1,2 @@
+-- Texts that were worked out by hand.
+pub mod Logs

@@ -1,0 +1,2 @@
+-- What jobs answer.
+pub mod Answers

@@ -1,0 +1,5 @@
+-- Posts, keys, and the tasks of sequences.
+pub mod Ready
+pub mod Posts
+pub mod Sequences
+pub mod Ticks

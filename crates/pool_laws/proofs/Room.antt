@@ -1,0 +1,3 @@
+-- How much work runs, and how much may.
+pub mod Capacity
+pub mod Changes

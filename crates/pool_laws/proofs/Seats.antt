@@ -1,0 +1,3 @@
+-- What seats run and hold, and what tasks hand on.
+pub mod Running
+pub mod Cells

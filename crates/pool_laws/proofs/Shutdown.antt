@@ -1,0 +1,2 @@
+-- What shutdown waits for.
+pub mod Blockers

@@ -1,0 +1,84 @@
+-- Words of the laws on posts, keys, and the tasks of sequences.
+use Rattle.std.specs.Prelude.{◌≡◌, ℕ, ◌<◌, Bool, true, false, if◌then◌else◌, List, length, Option, Some, None, ◌==◌, ◌&&◌, is_none}
+use Rattle.std.specs.Option.{option_map, option_or}
+use Rattle.std.specs.List.{filter_map, list_any}
+use Rattle.task_base.specs.declared.entry.Entry.{Entry}
+use Rattle.task_base.specs.declared.entry.Kind.{Kind}
+use Rattle.task_base.specs.declared.entry.Kind.TheVariants.{Post, Tick, Main}
+use Rattle.task_base.specs.declared.source.Key.{Key}
+use Rattle.task_model.specs.Time.{now_of, is_tick_from, tick_from}
+use Rattle.task_model.specs.Posts.{Posted, is_delayed, post_behind, posts}
+use Rattle.task_model.specs.Keys.{Ready, key_at, key_of, key_below}
+use Rattle.task_base.specs.Plan.{Plan}
+use Rattle.task_base.specs.declared.entry.Kind.TheVariants as kinds
+use Rattle.task_model.specs.Sequences.{is_of, may_start}
+
+-- the place of the entry, where it is a tick of the moment or a later one
+abbrev pub tick_by : List Entry → ℕ → Kind → Option ℕ
+tick_by before moment kind = if is_tick_from moment kind then Some (length before) else None
+
+-- the key of a delayed task at the tick that makes it ripe
+abbrev pub key_by : List Entry → Posted → Kind → Option Key
+key_by before p kind =
+    if is_delayed p
+    then option_map (λ place. record { place = place; ripe = p.ripe; post = p.place }) (tick_by before p.ripe kind)
+    else None
+
+-- an immediate task behind a past, with its key
+abbrev pub ready_behind : List Entry → ℕ → ℕ → ℕ → Ready
+ready_behind before task runner delay = record { posted = post_behind before task runner delay; key = key_at (length before) }
+
+-- the kinds that may give a task its key: an accepted post, and a tick
+abbrev pub moves_ready : Kind → Bool
+moves_ready (Post task runner delay ok) = ok
+moves_ready (Tick now) = true
+moves_ready kind = false
+
+-- the accepted tasks that have keys at the tick behind a past
+abbrev pub ready_at_tick_of : List Entry → ℕ → List Ready
+ready_at_tick_of before moment =
+    filter_map (λ p. option_map (λ key. record { posted = p; key = key }) (option_or (key_of before p) (key_by before p (Tick moment)))) (posts before)
+
+-- no tick has come to a moment ahead; it holds where the moments of the ticks never fall
+abbrev pub NoTickAhead : List Entry → Type 0
+NoTickAhead past = (moment : ℕ) → now_of past < moment → tick_from past moment ≡ None
+
+-- the kind is an accepted post to a runner, or to a main queue
+abbrev pub moves_posts : Kind → Bool
+moves_posts (Post task runner delay ok) = ok
+moves_posts kind = false
+
+abbrev pub moves_main_posts : Kind → Bool
+moves_main_posts (Main task queue delay ok) = ok
+moves_main_posts kind = false
+
+-- the kinds that may change what a sequence may run next: an accepted post, a tick, a take, and the phases
+abbrev pub moves_sequences : Kind → Bool
+moves_sequences (kinds.Post task runner delay ok) = ok
+moves_sequences (kinds.Tick now) = true
+moves_sequences (kinds.Take task runner found) = true
+moves_sequences kinds.Shutdown = true
+moves_sequences kinds.Done = true
+moves_sequences kind = false
+
+-- a task that is posted behind a past goes into the sequence: it is of it, and may start
+abbrev pub joins : Plan → List Entry → ℕ → ℕ → ℕ → ℕ → Bool
+joins script before s task runner delay =
+    is_of script s (post_behind before task runner delay) && may_start script before (post_behind before task runner delay)
+
+-- an accepted post of the task is of the sequence
+abbrev pub is_task_of : Plan → List Entry → ℕ → ℕ → Bool
+is_task_of script past s t = list_any (λ p. p.task == t && is_of script s p) (posts past)
+
+-- an accepted task that becomes ripe at the tick behind a past, with its key
+abbrev pub ripe_at_tick_of : List Entry → ℕ → Posted → Option Ready
+ripe_at_tick_of before moment p =
+    if is_none (key_of before p) then option_map (λ key. record { posted = p; key = key }) (key_by before p (kinds.Tick moment)) else None
+
+-- a delayed task of the sequence that has no key is not ripe by the moment
+abbrev pub is_unripe : Plan → List Entry → ℕ → ℕ → Posted → Type 0
+is_unripe script past s moment p = is_delayed p ≡ true → is_of script s p ≡ true → tick_from past p.ripe ≡ None → moment < p.ripe
+
+-- the key of the first is below that of the second
+abbrev pub ready_below : Ready → Ready → Bool
+ready_below a b = key_below a.key b.key

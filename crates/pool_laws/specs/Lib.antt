@@ -1,0 +1,6 @@
+pub mod Keys
+pub mod Seats
+pub mod Room
+pub mod Jobs
+pub mod Shutdown
+pub mod Choice

@@ -1,0 +1,26 @@
+-- Words of the laws on what shutdown waits for.
+use Rattle.std.specs.Prelude.{Bool, true, false}
+use Rattle.task_base.specs.Plan.{Plan}
+use Rattle.task_base.specs.declared.entry.Kind.{Kind}
+use Rattle.task_base.specs.declared.entry.Kind.TheVariants.{Post, Take, End, JobPost, JobTake, JobStep, JobCancel}
+use Rattle.task_model.specs.Posts.{Posted}
+use Rattle.task_model.specs.Refusal.{effective_at}
+use Rattle.task_model.specs.Blockers.{is_block, is_skip}
+
+-- the kinds that may change what shutdown waits for: an accepted post, a take, an end, and the jobs' own
+abbrev pub moves_blockers : Kind → Bool
+moves_blockers (Post task runner delay ok) = ok
+moves_blockers (Take task runner found) = true
+moves_blockers (End task left) = true
+moves_blockers (JobPost job ok) = true
+moves_blockers (JobTake job id item) = true
+moves_blockers (JobStep job id item value next) = true
+moves_blockers (JobCancel job) = true
+moves_blockers kind = false
+
+-- the accepted task is a block task, and a skip task
+abbrev pub is_block_task : Plan → Posted → Bool
+is_block_task script p = is_block (effective_at script p.home p.delay)
+
+abbrev pub is_skip_task : Plan → Posted → Bool
+is_skip_task script p = is_skip (effective_at script p.home p.delay)

@@ -1,0 +1,4 @@
+pub mod Orders
+pub mod Lanes
+pub mod Fronts
+pub mod Distinct

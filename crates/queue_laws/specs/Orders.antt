@@ -1,0 +1,38 @@
+-- Words of the laws on the orders of main tasks.
+use Rattle.std.specs.Prelude.{◌≡◌, ℕ, List, [], ◌∷◌, Option, Some, ◌<◌, Bool, true, false, ◌&&◌, if◌then◌else◌, is_none}
+use Rattle.std.specs.List.{AllByRecursion}
+use Rattle.task_base.specs.declared.entry.Entry.{Entry}
+use Rattle.task_model.specs.Posts.{Posted, main_posts, is_delayed}
+use Rattle.task_model.specs.Orders.{order_of, next_draw, drawn_at}
+use Rattle.task_base.specs.declared.entry.Kind.{Kind}
+use Rattle.task_base.specs.declared.entry.Kind.TheVariants as kinds
+use Rattle.task_model.specs.Time.{tick_from}
+
+-- no two of the tasks have one number
+abbrev pub Distinct : (Posted → Option ℕ) → List Posted → Type 0
+Distinct number [] = Unit {0}
+Distinct number (p ∷ ps) = AllByRecursion (λ q. (n : ℕ) → number p ≡ Some n → number q ≡ Some n → ⊥) ps × Distinct number ps
+
+-- no two accepted main tasks have one order
+abbrev pub OrdersDistinct : List Entry → Type 0
+OrdersDistinct past = Distinct (order_of past) (main_posts past)
+
+-- the kinds that may change what ripens at a tick
+abbrev pub moves_ripening : Kind → Bool
+moves_ripening (kinds.Main task queue delay ok) = ok
+moves_ripening (kinds.Tick now) = true
+moves_ripening (kinds.Close queue) = true
+moves_ripening kind = false
+
+-- the kinds that may give a task of the past its order
+abbrev pub moves_orders : Kind → Bool
+moves_orders (kinds.Tick now) = true
+moves_orders kind = false
+
+-- each order that was drawn is below the next draw; it holds where the moments of the ticks never fall
+abbrev pub OrdersBelow : List Entry → Type 0
+OrdersBelow past = AllByRecursion (λ p. (n : ℕ) → order_of past p ≡ Some n → n < next_draw past) (main_posts past)
+
+-- the order of a task of the past after a tick
+abbrev pub order_at_tick_of : List Entry → ℕ → Posted → Option ℕ
+order_at_tick_of before moment p = if is_delayed p && is_none (tick_from before p.ripe) then drawn_at before moment p else order_of before p

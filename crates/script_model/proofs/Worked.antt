@@ -1,0 +1,2 @@
+-- Scripts that were worked out by hand.
+pub mod Scripts

@@ -1,0 +1,3 @@
+-- Words of the laws on scripts.
+pub mod Fault
+pub mod Sound

@@ -1,0 +1,10 @@
+pub mod Words
+pub mod Reasons
+pub mod Places
+pub mod Bound
+pub mod Postings
+pub mod Draft
+pub mod Lines
+pub mod Grammar
+pub mod Canonical
+pub mod Laws

@@ -1,5 +1,0 @@
-use Rattle.task_model.proofs.SoundLaws.{reads_sound}
-use Rattle.task_model.proofs.sound_scripts.scripts_that_are_read_are_sound.Goals as goal
-
-pub returns : goal.returns
-returns c = record { sound = reads_sound }

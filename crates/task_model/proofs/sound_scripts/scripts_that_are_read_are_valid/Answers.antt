@@ -1,5 +1,0 @@
-use Rattle.task_model.proofs.CanonicalActions.{reads_valid, sound_is_valid}
-use Rattle.task_model.proofs.sound_scripts.scripts_that_are_read_are_valid.Goals as goal
-
-pub returns : goal.returns
-returns c = record { valid = reads_valid; every_sound = sound_is_valid }
