@@ -56,10 +56,12 @@ driver_entry kind = record { seat = 0; kind = kind }
 
 -- an entry of the driver is one more made
 pub done_count-driver : (past : List Entry) (kind : Kind) → done_count (past ++ driver_entry kind ∷ []) ≡ done_count past + 1
-done_count-driver past kind = ap length (filter-append (λ e. eqb e.seat 0) past (driver_entry kind ∷ [])) ∙ length-append (own_entries 0 past) (driver_entry kind ∷ [])
+done_count-driver past kind = ap length (filter-append (λ e. eqb e.seat 0) past (driver_entry kind ∷ []))
+    ∙ length-append (own_entries 0 past) (driver_entry kind ∷ [])
 
 -- the entry that was wanted is made after an entry of the driver
-pub done_wants-driver : (script : Plan) (past : List Entry) (kind : Kind) (want : Want) → wanted script past ≡ Some want → done_wants script (past ++ driver_entry kind ∷ []) ≡ done_wants script past ++ want ∷ []
+pub done_wants-driver : (script : Plan) (past : List Entry) (kind : Kind) (want : Want) → wanted script past ≡ Some want
+    → done_wants script (past ++ driver_entry kind ∷ []) ≡ done_wants script past ++ want ∷ []
 unfolding wanted
 done_wants-driver script past kind want next =
     ap (λ n. take n (all_wants script)) (done_count-driver past kind)
@@ -69,7 +71,8 @@ done_wants-driver script past kind want next =
 -- ---- what an entry leaves of the tasks that may be taken
 
 -- an entry that takes no task, posts none and leaves the phase leaves them
-pub to_take-same : (script : Plan) (past : List Entry) (e : Entry) → posted_by past e.kind ≡ [] → ((t : ℕ) → takes t e.kind ≡ false) → phase_after (phase_of past) e.kind ≡ phase_of past →
+pub to_take-same : (script : Plan) (past : List Entry) (e : Entry) → posted_by past e.kind ≡ [] → ((t : ℕ) → takes t e.kind ≡ false)
+    → phase_after (phase_of past) e.kind ≡ phase_of past →
     to_take script (past ++ e ∷ []) ≡ to_take script past
 unfolding to_take
 to_take-same script past e none never same =
@@ -82,7 +85,8 @@ to_take-post : (script : Plan) (past : List Entry) (task runner delay : ℕ) →
     to_take script (past ++ driver_entry (Post task runner delay true) ∷ []) ≡ to_take script past ++ post_behind past task runner delay ∷ []
 unfolding to_take
 to_take-post script past task runner delay untaken allowed =
-    filter_congr (may_start script (past ++ e ∷ [])) may (posts (past ++ e ∷ [])) (λ p. rw (is_taken_push past e p.task, or-false (is_taken past p.task), phase_of_push past e) refl)
+    filter_congr (may_start script (past ++ e ∷ [])) may (posts (past ++ e ∷ []))
+        (λ p. rw (is_taken_push past e p.task, or-false (is_taken past p.task), phase_of_push past e) refl)
     ∙ ap (filter may) (posts_push past e)
     ∙ filter-append may (posts past) (made ∷ [])
     ∙ ap (λ (b : Bool). filter may (posts past) ++ cond b (made ∷ []) []) made_may
@@ -121,7 +125,8 @@ to_take-shutdown script past running_now =
 pub to_take-done : (script : Plan) (past : List Entry) → to_take script (past ++ driver_entry Done ∷ []) ≡ []
 unfolding to_take
 to_take-done script past =
-    filter_never (may_start script (past ++ e ∷ [])) (posts (past ++ e ∷ [])) (λ p. rw (phase_of_push past e) (and-false (not (is_taken (past ++ e ∷ []) p.task))))
+    filter_never (may_start script (past ++ e ∷ [])) (posts (past ++ e ∷ []))
+        (λ p. rw (phase_of_push past e) (and-false (not (is_taken (past ++ e ∷ []) p.task))))
   where
     e : Entry
     e = driver_entry Done
@@ -134,16 +139,19 @@ stays_none now after true none same = ap after none ∙ same
 stays_none now after false none same = none
 
 -- an entry that takes nothing, and posts nothing with a delay, leaves all still
-pub still_after : (past : List Entry) (e : Entry) → IsStill past → running_after None e.kind ≡ None → holding_after None e.kind ≡ None → policy_after All e.kind ≡ All →
+pub still_after : (past : List Entry) (e : Entry) → IsStill past → running_after None e.kind ≡ None → holding_after None e.kind ≡ None
+    → policy_after All e.kind ≡ All →
     AllByRecursion (λ p. p.delay ≡ 0) (posted_by past e.kind) → IsStill (past ++ e ∷ [])
 still_after past e still runs holds policy immediate = record {
   runs = λ seat. running_push past e seat ∙ stays_none (running past seat) (λ r. running_after r e.kind) (eqb e.seat seat) (still.runs seat) runs;
   holds = λ seat. holding_push past e seat ∙ stays_none (holding past seat) (λ h. holding_after h e.kind) (eqb e.seat seat) (still.holds seat) holds;
   policy = policy_of_push past e ∙ ap (λ (p : Policy). policy_after p e.kind) still.policy ∙ policy;
-  immediate = subst (AllByRecursion (λ p. p.delay ≡ 0)) (sym (posts_push past e)) (AllByRecursion-append (λ p. p.delay ≡ 0) (posts past) (posted_by past e.kind) still.immediate immediate);
+  immediate = subst (AllByRecursion (λ p. p.delay ≡ 0)) (sym (posts_push past e))
+      (AllByRecursion-append (λ p. p.delay ≡ 0) (posts past) (posted_by past e.kind) still.immediate immediate);
 }
 
-pub ended-driver : (past : List Entry) (kind : Kind) → ((t : ℕ) → is_ended past t ≡ is_taken past t) → ((t : ℕ) → ends t kind ≡ false) → ((t : ℕ) → takes t kind ≡ false) → (t : ℕ) → is_ended (past ++ driver_entry kind ∷ []) t ≡ is_taken (past ++ driver_entry kind ∷ []) t
+pub ended-driver : (past : List Entry) (kind : Kind) → ((t : ℕ) → is_ended past t ≡ is_taken past t) → ((t : ℕ) → ends t kind ≡ false)
+    → ((t : ℕ) → takes t kind ≡ false) → (t : ℕ) → is_ended (past ++ driver_entry kind ∷ []) t ≡ is_taken (past ++ driver_entry kind ∷ []) t
 ended-driver past kind same no_end no_take t =
     rw (is_ended_push past (driver_entry kind) t, is_taken_push past (driver_entry kind) t, no_end t, no_take t, same t) refl
 
@@ -173,21 +181,27 @@ known-driver script past kind want ps next known =
       immediate = k.immediate;
       task_declared = k.task_declared;
       runner_declared = k.runner_declared;
-      by_driver = ap (λ (ws : List Want). posts_among ws p.task) (done_wants-driver script past kind want next) ∙ list_any-more (is_want_of p.task) (done_wants script past) want k.by_driver;
+      by_driver = ap (λ (ws : List Want). posts_among ws p.task) (done_wants-driver script past kind want next)
+          ∙ list_any-more (is_want_of p.task) (done_wants script past) want k.by_driver;
     }) known
 
 -- a task that no made entry posts was not taken
-pub fresh-driver : (script : Plan) (past : List Entry) (kind : Kind) (want : Want) → wanted script past ≡ Some want → ((t : ℕ) → posts_among (done_wants script past) t ≡ false → is_taken past t ≡ false) → ((t : ℕ) → takes t kind ≡ false) →
+pub fresh-driver : (script : Plan) (past : List Entry) (kind : Kind) (want : Want) → wanted script past ≡ Some want
+    → ((t : ℕ) → posts_among (done_wants script past) t ≡ false → is_taken past t ≡ false) → ((t : ℕ) → takes t kind ≡ false) →
     (t : ℕ) → posts_among (done_wants script (past ++ driver_entry kind ∷ [])) t ≡ false → is_taken (past ++ driver_entry kind ∷ []) t ≡ false
 fresh-driver script past kind want next fresh no_take t h =
-    let before : posts_among (done_wants script past) t ≡ false = list_any-less (is_want_of t) (done_wants script past) want (ap (λ (ws : List Want). posts_among ws t) (sym (done_wants-driver script past kind want next)) ∙ h) in
+    let before : posts_among (done_wants script past) t ≡ false = list_any-less (is_want_of t) (done_wants script past) want
+        (ap (λ (ws : List Want). posts_among ws t) (sym (done_wants-driver script past kind want next)) ∙ h) in
     rw (is_taken_push past (driver_entry kind) t, no_take t, fresh t before) refl
 
 -- an entry that leaves the phase leaves it running where no made entry starts shutdown
-not_started-driver : (script : Plan) (past : List Entry) (kind : Kind) (want : Want) → wanted script past ≡ Some want → phase_after (phase_of past) kind ≡ phase_of past →
-    (starts_among (done_wants script past) ≡ false → phase_of past ≡ phases.Running) → starts_among (done_wants script (past ++ driver_entry kind ∷ [])) ≡ false → phase_of (past ++ driver_entry kind ∷ []) ≡ phases.Running
+not_started-driver : (script : Plan) (past : List Entry) (kind : Kind) (want : Want) → wanted script past ≡ Some want
+    → phase_after (phase_of past) kind ≡ phase_of past →
+    (starts_among (done_wants script past) ≡ false → phase_of past ≡ phases.Running)
+        → starts_among (done_wants script (past ++ driver_entry kind ∷ [])) ≡ false → phase_of (past ++ driver_entry kind ∷ []) ≡ phases.Running
 not_started-driver script past kind want next same before h =
-    phase_of_push past (driver_entry kind) ∙ same ∙ before (list_any-less wants_shutdown (done_wants script past) want (ap starts_among (sym (done_wants-driver script past kind want next)) ∙ h))
+    phase_of_push past (driver_entry kind) ∙ same ∙ before (list_any-less wants_shutdown (done_wants script past) want
+        (ap starts_among (sym (done_wants-driver script past kind want next)) ∙ h))
 
 pub false_is_true : {P : Type 0} (b : Bool) → b ≡ true → b ≡ false → P
 false_is_true b t f = absurd cc
@@ -203,10 +217,13 @@ posted script past queue values old new task runner delay formed stands next all
   legal = is_legal_push script past e ∙ rw (stands.legal, driver_sits script, by_script_next script past want true formed next, allowed) refl;
   still = still_after past e stands.still refl refl refl (sound.immediate, tt);
   ended = ended-driver past kind stands.ended (λ t. refl) (λ t. refl);
-  waits = rw (grown) (ap (λ (ws : List Waiting). ws ++ record { task = task; runner = runner } ∷ []) stands.waits ∙ sym (map-append waiting_of (to_take script past) (made ∷ [])));
-  in_order = rw (grown) (InOrder-push (to_take script past) made stands.in_order (AllByRecursion-map (IsKnown script past) (λ x. Before x made) (to_take script past) (λ x k. record {
+  waits = rw (grown) (ap (λ (ws : List Waiting). ws ++ record { task = task; runner = runner } ∷ []) stands.waits
+      ∙ sym (map-append waiting_of (to_take script past) (made ∷ [])));
+  in_order = rw (grown) (InOrder-push (to_take script past) made stands.in_order
+      (AllByRecursion-map (IsKnown script past) (λ x. Before x made) (to_take script past) (λ x k. record {
     earlier = k.earlier;
-    another = λ same. false_is_true (posts_among (done_wants script past) x.task) k.by_driver (ap (posts_among (done_wants script past)) same ∙ sound.first_post);
+    another = λ same. false_is_true (posts_among (done_wants script past) x.task) k.by_driver (ap (posts_among (done_wants script past)) same
+        ∙ sound.first_post);
   }) stands.known));
   known = rw (grown) (AllByRecursion-append (IsKnown script (past ++ e ∷ [])) (to_take script past) (made ∷ [])
       (known-driver script past kind want (to_take script past) next stands.known) (
@@ -215,7 +232,8 @@ posted script past queue values old new task runner delay formed stands next all
           immediate = sound.immediate;
           task_declared = sound.task_declared;
           runner_declared = sound.runner_declared;
-          by_driver = ap (λ (ws : List Want). posts_among ws task) (done_wants-driver script past kind want next) ∙ list_any-last (is_want_of task) (done_wants script past) want (eqb-same task);
+          by_driver = ap (λ (ws : List Want). posts_among ws task) (done_wants-driver script past kind want next)
+              ∙ list_any-last (is_want_of task) (done_wants script past) want (eqb-same task);
         },
         tt,
       ));
@@ -223,7 +241,8 @@ posted script past queue values old new task runner delay formed stands next all
   cells = λ s lt. stands.cells s lt ∙ sym (cell_of_push script past e s);
   cell_count = stands.cell_count;
   phase = ap (λ (t : Tracked). t.phase) tracked ∙ stands.phase ∙ sym (phase_of_push past e);
-  blocks = ap (λ (t : Tracked). t.block_items) tracked ∙ rw (grown, filter-append (blocks_shutdown script) (to_take script past) (made ∷ []), length-append (filter (blocks_shutdown script) (to_take script past)) (filter (blocks_shutdown script) (made ∷ [])), stands.blocks)
+  blocks = ap (λ (t : Tracked). t.block_items) tracked ∙ rw (grown, filter-append (blocks_shutdown script) (to_take script past) (made ∷ []), length-append
+      (filter (blocks_shutdown script) (to_take script past)) (filter (blocks_shutdown script) (made ∷ [])), stands.blocks)
       (ap (λ (n : ℕ). length (filter (blocks_shutdown script) (to_take script past)) + n) (share (effective_at script runner delay)));
   no_skips = ap (λ (t : Tracked). t.skip_items) tracked ∙ stands.no_skips;
   not_started = not_started-driver script past kind want next refl stands.not_started;
@@ -255,7 +274,8 @@ posted script past queue values old new task runner delay formed stands next all
 -- an entry of the driver that posts, takes and ends no task and leaves the phase leaves everything
 unchanged : (script : Plan) (past : List Entry) (queue : List Waiting) (values : List ℕ) (tracked : Tracked) (kind : Kind) (want : Want) →
     StandsFor script past queue values tracked → wanted script past ≡ Some want → may_come script past 0 kind ≡ true →
-    posted_by past kind ≡ [] → ((t : ℕ) → takes t kind ≡ false) → ((t : ℕ) → ends t kind ≡ false) → running_after None kind ≡ None → holding_after None kind ≡ None → policy_after All kind ≡ All →
+    posted_by past kind ≡ [] → ((t : ℕ) → takes t kind ≡ false) → ((t : ℕ) → ends t kind ≡ false) → running_after None kind ≡ None
+        → holding_after None kind ≡ None → policy_after All kind ≡ All →
     ((s : ℕ) → cell_after script s past (cell_of script past s) 0 kind ≡ cell_of script past s) → phase_after (phase_of past) kind ≡ phase_of past →
     StandsFor script (past ++ driver_entry kind ∷ []) queue values tracked
 unchanged script past queue values tracked kind want stands next allowed no_post no_take no_end runs_none holds_none same_policy same_cell same_phase = record {
@@ -282,17 +302,20 @@ unchanged script past queue values tracked kind want stands next allowed no_post
 
 -- a refused post leaves everything
 pub refused : (script : Plan) (past : List Entry) (queue : List Waiting) (values : List ℕ) (tracked : Tracked) (task runner delay : ℕ) →
-    WellFormed script → StandsFor script past queue values tracked → wanted script past ≡ Some (WantsPost task runner delay) → is_refused script past runner delay ≡ true →
+    WellFormed script → StandsFor script past queue values tracked → wanted script past ≡ Some (WantsPost task runner delay)
+        → is_refused script past runner delay ≡ true →
     StandsFor script (past ++ driver_entry (Post task runner delay false) ∷ []) queue values tracked
 unfolding may_come
 refused script past queue values tracked task runner delay formed stands next forbidden =
     unchanged script past queue values tracked (Post task runner delay false) (WantsPost task runner delay) stands next
-    (rw (by_script_next script past (WantsPost task runner delay) false formed next, forbidden) refl) refl (λ t. refl) (λ t. refl) refl refl refl (λ s. refl) refl
+    (rw (by_script_next script past (WantsPost task runner delay) false formed next, forbidden) refl) refl (λ t. refl) (λ t. refl) refl refl refl
+        (λ s. refl) refl
 
 -- ---- idle
 
 -- where no task waits, none may be taken
-pub none_to_take : (script : Plan) (past : List Entry) (queue : List Waiting) → queue ≡ map waiting_of (to_take script past) → queue ≡ [] → to_take script past ≡ []
+pub none_to_take : (script : Plan) (past : List Entry) (queue : List Waiting) → queue ≡ map waiting_of (to_take script past) → queue ≡ []
+    → to_take script past ≡ []
 none_to_take script past queue waits none = empty (to_take script past) (sym none ∙ waits)
   where
     empty : (ps : List Posted) → [] ≡ map waiting_of ps → ps ≡ []
@@ -306,7 +329,8 @@ pub idled : (script : Plan) (past : List Entry) (queue : List Waiting) (values :
 unfolding may_come
 idled script past queue values tracked empty formed stands next =
     unchanged script past queue values tracked Idle WantsIdle stands next
-    (rw (by_script_next script past WantsIdle true formed next, is_quiet_still script past stands.still, nothing) refl) refl (λ t. refl) (λ t. refl) refl refl refl (λ s. refl) refl
+    (rw (by_script_next script past WantsIdle true formed next, is_quiet_still script past stands.still, nothing) refl) refl (λ t. refl)
+        (λ t. refl) refl refl refl (λ s. refl) refl
   where
     nothing : list_all (λ worker. is_none (best_of script past worker)) (worker_seats script) ≡ true
     nothing = list_all_always (λ worker. is_none (best_of script past worker)) (worker_seats script)
@@ -315,7 +339,8 @@ idled script past queue values tracked empty formed stands next =
 -- ---- the start
 
 -- before the first entry nobody waits, and each cell is 0
-pub opened : (script : Plan) (values : List ℕ) (tracked : Tracked) → length values ≡ length script.runners + length script.tasks → ((s : ℕ) → get_or values s 0 ≡ 0) →
+pub opened : (script : Plan) (values : List ℕ) (tracked : Tracked) → length values ≡ length script.runners + length script.tasks
+    → ((s : ℕ) → get_or values s 0 ≡ 0) →
     tracked.phase ≡ phases.Running → tracked.block_items ≡ 0 → tracked.skip_items ≡ 0 → StandsFor script [] [] values tracked
 unfolding is_legal running holding policy_of posts is_taken is_ended phase_of to_take cell_of fold_past
 opened script values tracked count zeros phase blocks skips = record {
@@ -368,8 +393,10 @@ pub filter_one : (xs : List Posted) (p : Posted) (ys : List Posted) → InOrder 
 filter_one xs p ys order =
     filter-append others xs (p ∷ ys)
     ∙ ap (λ (zs : List Posted). filter others xs ++ zs) (ap (λ (b : Bool). cond (not b) (p ∷ filter others ys) (filter others ys)) (eqb-same p.task))
-    ∙ ap (λ (zs : List Posted). zs ++ filter others ys) (filter_all others xs (AllByRecursion-map (λ x. Before x p) (λ x. others x ≡ true) xs (λ x b. ap not (ne_eqb p.task x.task (λ s. b.another (sym s)))) around.0))
-    ∙ ap (λ (zs : List Posted). xs ++ zs) (filter_all others ys (AllByRecursion-map (Before p) (λ y. others y ≡ true) ys (λ y b. ap not (ne_eqb p.task y.task b.another)) around.1))
+    ∙ ap (λ (zs : List Posted). zs ++ filter others ys) (filter_all others xs
+        (AllByRecursion-map (λ x. Before x p) (λ x. others x ≡ true) xs (λ x b. ap not (ne_eqb p.task x.task (λ s. b.another (sym s)))) around.0))
+    ∙ ap (λ (zs : List Posted). xs ++ zs) (filter_all others ys
+        (AllByRecursion-map (Before p) (λ y. others y ≡ true) ys (λ y b. ap not (ne_eqb p.task y.task b.another)) around.1))
   where
     others : Posted → Bool
     others q = not (eqb p.task q.task)
@@ -390,7 +417,8 @@ known-worker script past kind ps known =
     }) known
 
 -- the tracker's answer tells whether the post is refused
-pub answer_is : (phase now : Phase) (effective there : Behaviour) (ok : Bool) → phase ≡ now → effective ≡ there → ok ≡ not (forbids phase effective) → forbids now there ≡ not ok
+pub answer_is : (phase now : Phase) (effective there : Behaviour) (ok : Bool) → phase ≡ now → effective ≡ there → ok ≡ not (forbids phase effective)
+    → forbids now there ≡ not ok
 answer_is phase now effective there ok same_phase same answer =
     sym (ap (λ (p : Phase). forbids p there) same_phase) ∙ sym (ap (forbids phase) same) ∙ twice (forbids phase effective) ∙ ap not (sym answer)
   where

@@ -29,5 +29,6 @@ stays ranks i best so_far less = record {
 }
 
 -- how much the task at a place of the queue matters
-pub rank_at : (script : Plan) (queue : List Waiting) (i : ℕ) (d : Waiting) → i < length queue → get_or (ranks_of script queue) i 0 ≡ importance_of script (get_or queue i d).runner
+pub rank_at : (script : Plan) (queue : List Waiting) (i : ℕ) (d : Waiting) → i < length queue
+    → get_or (ranks_of script queue) i 0 ≡ importance_of script (get_or queue i d).runner
 rank_at script queue i d lt = get_or-map (λ (w : Waiting). importance_of script w.runner) queue i d 0 lt

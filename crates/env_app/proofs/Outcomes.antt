@@ -6,13 +6,16 @@ use Rattle.env_app.specs.Outcome.{WroteFront}
 use Rattle.env_io.specs.Bytes.{Gives, Gains}
 
 -- what was taken up to the end is all that there was
-pub taken_whole : (before after : Option (List ℕ)) (piece bytes : List ℕ) → Gives before piece after → IfSome after (λ rest. rest ≡ []) → before ≡ Some bytes → piece ≡ bytes
+pub taken_whole : (before after : Option (List ℕ)) (piece bytes : List ℕ) → Gives before piece after → IfSome after (λ rest. rest ≡ []) → before ≡ Some bytes
+    → piece ≡ bytes
 taken_whole before None piece bytes given ended told = absurd cc
 taken_whole before (Some rest) piece bytes given ended told =
     let all : before ≡ Some piece = given ∙ ap (λ (r : List ℕ). Some (piece ++ r)) ended ∙ ap Some (append-nil piece) in
     cc
 
 -- a whole text is a front of it
-pub wrote_front : {E : Type 0} (result : Result (Unit {0}) E) (before after : Option (List ℕ)) (text : List ℕ) → OnOk result (Gains before text after) → OnErr result ((n : ℕ) × Gains before (take n text) after) → WroteFront before after text
-wrote_front (Ok done) before after text whole part = (length text, subst (λ (t : List ℕ). Gains before t after) (sym (take_all (length text) text (omega arith))) whole)
+pub wrote_front : {E : Type 0} (result : Result (Unit {0}) E) (before after : Option (List ℕ)) (text : List ℕ) → OnOk result (Gains before text after)
+    → OnErr result ((n : ℕ) × Gains before (take n text) after) → WroteFront before after text
+wrote_front (Ok done) before after text whole part = (length text, subst (λ (t : List ℕ). Gains before t after)
+    (sym (take_all (length text) text (omega arith))) whole)
 wrote_front (Err e) before after text whole part = part

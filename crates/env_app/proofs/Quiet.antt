@@ -16,7 +16,8 @@ use Rattle.list_laws.specs.Lists.{holds_of, count}
 use Rattle.task_model.specs.Phase.{phase_of}
 use Rattle.task_model.specs.Policies.{is_held}
 use Rattle.task_model.specs.Seats.{running, runs_of, runs_sequence, is_free, is_quiet, worker_seats, all_seats}
-use Rattle.task_model.specs.Capacity.{Group, Foreground, Background, is_best_effort, group_of, is_in, is_best_in, work_at, load_of, blocked_of, load, capacity, best_load, best_capacity, has_room_in, has_room}
+use Rattle.task_base.specs.Groups.{Group, is_best_effort, group_of, Foreground, Background}
+use Rattle.task_model.specs.Capacity.{is_in, is_best_in, work_at, load_of, blocked_of, load, capacity, best_load, best_capacity, has_room_in, has_room}
 use Rattle.task_model.specs.Blockers.{is_open_job, is_in_skip_job}
 use Rattle.list_laws.proofs.Lists.{list_any_never, list_all_always, filter_never}
 use Rattle.task_script.specs.WellFormed.{WellFormed}
@@ -24,7 +25,8 @@ use Rattle.env_app.specs.Engine.{IsStill}
 
 pub runs_sequence_still : (script : Plan) (past : List Entry) (s : ℕ) → IsStill past → runs_sequence script past s ≡ false
 unfolding runs_sequence
-runs_sequence_still script past s still = list_any_never (λ seat. holds_of (runs_of script s) (running past seat)) (all_seats script) (λ seat. rw (still.runs seat) refl)
+runs_sequence_still script past s still = list_any_never (λ seat. holds_of (runs_of script s) (running past seat)) (all_seats script)
+    (λ seat. rw (still.runs seat) refl)
 
 pub is_quiet_still : (script : Plan) (past : List Entry) → IsStill past → is_quiet script past ≡ true
 unfolding is_quiet
@@ -59,8 +61,10 @@ unfolding has_room load capacity best_load best_capacity
 has_room_still script past priority formed still =
     ap (λ (group : Group). has_room_in script past group priority) (foreground_alone script priority formed.background_is)
     ∙ rw (
-      some_room (load_of script past (is_in script Foreground)) script.foreground (blocked_of script past (is_in script Foreground)) 3 (load_of_still script past (is_in script Foreground) still) formed.foreground_is,
-      some_room (load_of script past (is_best_in script Foreground)) script.foreground_best (blocked_of script past (is_best_in script Foreground)) 1 (load_of_still script past (is_best_in script Foreground) still) formed.foreground_best_is,
+      some_room (load_of script past (is_in script Foreground)) script.foreground (blocked_of script past (is_in script Foreground)) 3
+          (load_of_still script past (is_in script Foreground) still) formed.foreground_is,
+      some_room (load_of script past (is_best_in script Foreground)) script.foreground_best (blocked_of script past (is_best_in script Foreground)) 1
+          (load_of_still script past (is_best_in script Foreground) still) formed.foreground_best_is,
     )
     (either (is_best_effort priority))
   where
@@ -69,7 +73,8 @@ has_room_still script past priority formed still =
     either false = refl
 
 -- no job blocks shutdown: there is none, and nobody is inside one
-pub no_job_blocks : (script : Plan) (past : List Entry) → WellFormed script → IsStill past → count (is_open_job script past) (range_with_len 0 (length script.jobs)) + count (is_in_skip_job script past) (all_seats script) ≡ 0
+pub no_job_blocks : (script : Plan) (past : List Entry) → WellFormed script → IsStill past
+    → count (is_open_job script past) (range_with_len 0 (length script.jobs)) + count (is_in_skip_job script past) (all_seats script) ≡ 0
 no_job_blocks script past formed still =
     let jobs = ap (λ listed. count (is_open_job script past) (range_with_len 0 (length listed))) formed.no_jobs in
     let seats = ap length (filter_never (is_in_skip_job script past) (all_seats script) (λ seat. rw (still.holds seat) refl)) in

@@ -38,12 +38,14 @@ unfolding wanted
 wanted-same script past later same = ap (λ (n : ℕ). slice_get (all_wants script) n) same
 
 -- the j-th entry that an action wants is wanted once the ones before it are made
-pub wanted_next : (script : Plan) (past later : List Entry) (wants : List Want) (j : ℕ) (want : Want) → IsNext script past wants → slice_get wants j ≡ Some want → done_count later ≡ done_count past + j → wanted script later ≡ Some want
+pub wanted_next : (script : Plan) (past later : List Entry) (wants : List Want) (j : ℕ) (want : Want) → IsNext script past wants
+    → slice_get wants j ≡ Some want → done_count later ≡ done_count past + j → wanted script later ≡ Some want
 unfolding wanted
 wanted_next script past later wants j want next here count = ap (λ (n : ℕ). slice_get (all_wants script) n) count ∙ next j want here
 
 -- the entries that the script's next action wants come next
-pub next_action : (script : Plan) (past : List Entry) (listed : List Action) (i : ℕ) (d : Action) → listed ≡ script.actions → done_count past ≡ length (flat_map wants_of (take i listed)) → i < length listed → IsNext script past (wants_of (get_or listed i d))
+pub next_action : (script : Plan) (past : List Entry) (listed : List Action) (i : ℕ) (d : Action) → listed ≡ script.actions
+    → done_count past ≡ length (flat_map wants_of (take i listed)) → i < length listed → IsNext script past (wants_of (get_or listed i d))
 next_action script past listed i d same count lt j want here =
     let within : j < length (wants_of (get_or listed i d)) = slice_get_within (wants_of (get_or listed i d)) j want here in
     let found : get_or (flat_map wants_of listed) (length (flat_map wants_of (take i listed)) + j) want ≡ want =
@@ -70,13 +72,16 @@ zero_everywhere (suc n) zero = refl
 zero_everywhere (suc n) (suc i) = zero_everywhere n i
 
 -- cells that are all 0 and a new tracker stand for the start
-pub stands_at_start : (script : Plan) (past : List Entry) (queue : List Waiting) (values : List ℕ) (tracked : Tracked) (n : ℕ) → past ≡ [] → queue ≡ [] → values ≡ replicate n 0 → n ≡ length script.runners + length script.tasks →
+pub stands_at_start : (script : Plan) (past : List Entry) (queue : List Waiting) (values : List ℕ) (tracked : Tracked) (n : ℕ) → past ≡ [] → queue ≡ []
+    → values ≡ replicate n 0 → n ≡ length script.runners + length script.tasks →
     tracked.phase ≡ phases.Running → tracked.block_items ≡ 0 → tracked.skip_items ≡ 0 → StandsFor script past queue values tracked
 stands_at_start script past queue values tracked n no_past no_queue zeros count phase blocks skips =
-    rw (no_past, no_queue) (opened script values tracked (ap length zeros ∙ length-replicate n 0 ∙ count) (λ s. ap (λ (v : List ℕ). get_or v s 0) zeros ∙ zero_everywhere n s) phase blocks skips)
+    rw (no_past, no_queue) (opened script values tracked (ap length zeros ∙ length-replicate n 0 ∙ count) (λ s. ap (λ (v : List ℕ). get_or v s 0) zeros
+        ∙ zero_everywhere n s) phase blocks skips)
 
 -- an accepted post uses the room of its entry: one place in the log, and one in the queue
-pub room_after_post : (script : Plan) (old new : Engine) (kind : Kind) (w : Waiting) → HasRoom script old → done_count old.log.items < length (all_wants script) →
+pub room_after_post : (script : Plan) (old new : Engine) (kind : Kind) (w : Waiting) → HasRoom script old
+    → done_count old.log.items < length (all_wants script) →
     new.log.items ≡ old.log.items ++ driver_entry kind ∷ [] → new.queue.items ≡ old.queue.items ++ w ∷ [] → new.log.spare + 1 ≡ old.log.spare →
     vec_len new.queue ≡ vec_len old.queue + 1 → vec_capacity new.queue ≡ vec_capacity old.queue → HasRoom script new
 room_after_post script old new kind w room ahead log queue spare len capacity =
@@ -89,7 +94,8 @@ room_after_post script old new kind w room ahead log queue spare len capacity =
 -- any other entry of the driver uses one place in the log, and leaves the queue no longer
 pub room_after_entry : (script : Plan) (old new : Engine) (kind : Kind) → HasRoom script old → done_count old.log.items < length (all_wants script) →
     new.log.items ≡ old.log.items ++ driver_entry kind ∷ [] → new.log.spare + 1 ≡ old.log.spare →
-    length new.queue.items ≤ length old.queue.items → vec_len new.queue ≤ vec_len old.queue → vec_capacity new.queue ≡ vec_capacity old.queue → HasRoom script new
+    length new.queue.items ≤ length old.queue.items → vec_len new.queue ≤ vec_len old.queue → vec_capacity new.queue ≡ vec_capacity old.queue
+        → HasRoom script new
 room_after_entry script old new kind room ahead log spare waits len capacity =
     let done : done_count new.log.items ≡ done_count old.log.items + 1 = ap done_count log ∙ done_count-driver old.log.items kind in
     let entries : length new.log.items ≡ length old.log.items + 1 = ap length log ∙ length-append old.log.items (driver_entry kind ∷ []) in
@@ -99,9 +105,11 @@ room_after_entry script old new kind room ahead log spare waits len capacity =
 -- a served task uses its two places in the log and frees its place in the queue
 pub room_after_serve : (script : Plan) (old new : Engine) (taken ended : Kind) (mid : List Entry) → HasRoom script old →
     mid ≡ old.log.items ++ worker_entry taken ∷ [] → new.log.items ≡ mid ++ worker_entry ended ∷ [] → new.log.spare + 2 ≡ old.log.spare →
-    length new.queue.items + 1 ≡ length old.queue.items → vec_len new.queue + 1 ≡ vec_len old.queue → vec_capacity new.queue ≡ vec_capacity old.queue → HasRoom script new
+    length new.queue.items + 1 ≡ length old.queue.items → vec_len new.queue + 1 ≡ vec_len old.queue → vec_capacity new.queue ≡ vec_capacity old.queue
+        → HasRoom script new
 room_after_serve script old new taken ended mid room first log spare waits len capacity =
-    let done : done_count new.log.items ≡ done_count old.log.items = ap done_count log ∙ done_count-worker mid ended ∙ ap done_count first ∙ done_count-worker old.log.items taken in
+    let done : done_count new.log.items ≡ done_count old.log.items = ap done_count log ∙ done_count-worker mid ended ∙ ap done_count first
+        ∙ done_count-worker old.log.items taken in
     let half : length mid ≡ length old.log.items + 1 = ap length first ∙ length-append old.log.items (worker_entry taken ∷ []) in
     let entries : length new.log.items ≡ length mid + 1 = ap length log ∙ length-append mid (worker_entry ended ∷ []) in
     let o = room.entries in let p = room.places in let f = room.few in
@@ -114,7 +122,8 @@ pub whole_at_end : (script : Plan) (past : List Entry) → WellFormed script →
 whole_at_end script past formed still all = rw (finished script past formed all, is_quiet_still script past still) refl
 
 -- the log of a whole run is short
-pub short_log : (script : Plan) (engine : Engine) → WellFormed script → HasRoom script engine → done_count engine.log.items ≤ length (all_wants script) → length engine.log.items ≤ 786432
+pub short_log : (script : Plan) (engine : Engine) → WellFormed script → HasRoom script engine → done_count engine.log.items ≤ length (all_wants script)
+    → length engine.log.items ≤ 786432
 short_log script engine formed room done = let f = room.few in let e = formed.few_entries in omega arith
 
 pub at_most_one : (b : Bool) → cond b 1 0 ≤ 1
@@ -122,11 +131,15 @@ at_most_one true = omega arith
 at_most_one false = omega arith
 
 -- the entries that one more action wants
-pub wants_taken : (listed : List Action) (i : ℕ) (d : Action) → i < length listed → length (flat_map wants_of (take i listed)) + length (wants_of (get_or listed i d)) ≡ length (flat_map wants_of (take (i + 1) listed))
+pub wants_taken : (listed : List Action) (i : ℕ) (d : Action) → i < length listed
+    → length (flat_map wants_of (take i listed)) + length (wants_of (get_or listed i d)) ≡ length (flat_map wants_of (take (i + 1) listed))
 wants_taken listed i d lt =
     sym (length-append (flat_map wants_of (take i listed)) (wants_of (get_or listed i d)))
-    ∙ ap length (sym (ap (flat_map wants_of) (take_more listed i d lt) ∙ flat_map-append wants_of (take i listed) (get_or listed i d ∷ []) ∙ ap (λ (ws : List Want). flat_map wants_of (take i listed) ++ ws) (flat_map-cons wants_of (get_or listed i d) [] ∙ append-nil (wants_of (get_or listed i d)))))
+    ∙ ap length (sym (ap (flat_map wants_of) (take_more listed i d lt) ∙ flat_map-append wants_of (take i listed) (get_or listed i d ∷ [])
+        ∙ ap (λ (ws : List Want). flat_map wants_of (take i listed) ++ ws) (flat_map-cons wants_of (get_or listed i d) []
+        ∙ append-nil (wants_of (get_or listed i d)))))
 
 -- the entries that all actions want
-pub wants_all : (script : Plan) (listed : List Action) (i : ℕ) → listed ≡ script.actions → length listed ≤ i → length (flat_map wants_of (take i listed)) ≡ length (all_wants script)
+pub wants_all : (script : Plan) (listed : List Action) (i : ℕ) → listed ≡ script.actions → length listed ≤ i
+    → length (flat_map wants_of (take i listed)) ≡ length (all_wants script)
 wants_all script listed i same all = ap (λ (acts : List Action). length (flat_map wants_of acts)) (take_all i listed all ∙ same)

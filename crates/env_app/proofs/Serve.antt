@@ -24,7 +24,8 @@ use Rattle.task_model.specs.Posts.{Posted, InOrder, posts, is_taken}
 use Rattle.task_model.specs.Phase.{phase_of}
 use Rattle.task_model.specs.Refusal.{effective_at, is_forbidden}
 use Rattle.task_model.specs.Blockers.{is_block}
-use Rattle.task_model.specs.Sequences.{sequence_of, is_parallel, may_start}
+use Rattle.task_base.specs.Runners.{sequence_of, is_parallel}
+use Rattle.task_model.specs.Sequences.{may_start}
 use Rattle.task_model.specs.Seats.{Running, running, holding, steps_of, runs_of}
 use Rattle.task_model.specs.Cells.{cell_of}
 use Rattle.hist_model.specs.Script.{is_finished}
@@ -57,12 +58,14 @@ same_default ps i d e lt = let a = slice_get-get_or ps i d lt in let b = slice_g
 waiting_at : (ps : List Posted) (k : ℕ) (w : Waiting) → k < length ps → w ≡ get_or (map waiting_of ps) k w → w ≡ waiting_of (at ps k)
 waiting_at ps k w lt is = is ∙ get_or-map waiting_of ps k nobody w lt
 
-rank_at_place : (script : Plan) (ps : List Posted) (i : ℕ) → i < length ps → get_or (ranks_of script (map waiting_of ps)) i 0 ≡ importance_of script (at ps i).home
+rank_at_place : (script : Plan) (ps : List Posted) (i : ℕ) → i < length ps
+    → get_or (ranks_of script (map waiting_of ps)) i 0 ≡ importance_of script (at ps i).home
 rank_at_place script ps i lt =
     get_or-map (λ (w : Waiting). importance_of script w.runner) (map waiting_of ps) i (waiting_of nobody) 0 (omega (arith, length-map ps waiting_of))
     ∙ ap (λ (w : Waiting). importance_of script w.runner) (get_or-map waiting_of ps i nobody (waiting_of nobody) lt)
 
-known_at : (script : Plan) (past : List Entry) (ps : List Posted) (k : ℕ) → AllByRecursion (IsKnown script past) ps → k < length ps → IsKnown script past (at ps k)
+known_at : (script : Plan) (past : List Entry) (ps : List Posted) (k : ℕ) → AllByRecursion (IsKnown script past) ps → k < length ps
+    → IsKnown script past (at ps k)
 known_at script past ps k known lt =
     (AllByRecursion-back (IsKnown script past) (take k ps) (at ps k ∷ drop (k + 1) ps) (subst (AllByRecursion (IsKnown script past)) (around ps k lt) known)).0
 
@@ -74,7 +77,8 @@ in_range script past queue values tracked k w stands lt is =
     let it : w ≡ waiting_of (at E k) = waiting_at E k w below (is ∙ ap (λ (q : List Waiting). get_or q k w) stands.waits) in
     let known = known_at script past E k stands.known below in
     let bound : sequence_of script (at E k).home (at E k).task < length script.runners + length script.tasks =
-    sequence_below (holds_of (λ x. is_parallel x.kind) (slice_get script.runners (at E k).home)) (length script.runners) (length script.tasks) (at E k).home (at E k).task known.runner_declared known.task_declared in
+    sequence_below (holds_of (λ x. is_parallel x.kind) (slice_get script.runners (at E k).home)) (length script.runners) (length script.tasks) (at E k).home
+        (at E k).task known.runner_declared known.task_declared in
     omega (arith, bound, stands.cell_count, ap (λ (x : Waiting). sequence_of script x.runner x.task) it)
 
 -- the phase lets the task at a place of the queue start
@@ -107,7 +111,8 @@ share_of p ps SkipOnShutdown = omega arith
 share_of p ps BlockShutdown = omega arith
 
 blocks_between : (script : Plan) (xs : List Posted) (p : Posted) (ys : List Posted) →
-    length (filter (blocks_shutdown script) (xs ++ p ∷ ys)) ≡ length (filter (blocks_shutdown script) (xs ++ ys)) + block_share (effective_at script p.home p.delay)
+    length (filter (blocks_shutdown script) (xs ++ p ∷ ys)) ≡ length (filter (blocks_shutdown script) (xs ++ ys))
+        + block_share (effective_at script p.home p.delay)
 blocks_between script xs p ys =
     let block = blocks_shutdown script in
     let with_it = ap length (filter-append block xs (p ∷ ys)) ∙ length-append (filter block xs) (filter block (p ∷ ys)) in
@@ -125,7 +130,8 @@ counted_at script past queue values tracked k w stands lt is =
     let now = (known_at script past E k stands.known below).immediate in
     let same : block_share (effective_at script w.runner 0) ≡ block_share (effective_at script (at E k).home (at E k).delay) =
     ap (λ (x : Waiting). block_share (effective_at script x.runner 0)) it ∙ ap (λ (d : ℕ). block_share (effective_at script (at E k).home d)) (sym now) in
-    let split = ap (λ (ps : List Posted). length (filter (blocks_shutdown script) ps)) (around E k below) ∙ blocks_between script (take k E) (at E k) (drop (k + 1) E) in
+    let split = ap (λ (ps : List Posted). length (filter (blocks_shutdown script) ps)) (around E k below)
+        ∙ blocks_between script (take k E) (at E k) (drop (k + 1) E) in
     omega (arith, same, split, stands.blocks)
 
 -- what the tracker knows after a task was started and has ended
@@ -135,12 +141,16 @@ pub record Served (old new : Tracked) (effective : Behaviour) : Type 0 where
   pub skips : new.skip_items ≡ old.skip_items
 
 -- a take and an end of one seat leave all still
-still_served : (past : List Entry) (task runner found left : ℕ) → IsStill past → IsStill ((past ++ worker_entry (Take task runner found) ∷ []) ++ worker_entry (End task left) ∷ [])
+still_served : (past : List Entry) (task runner found left : ℕ) → IsStill past
+    → IsStill ((past ++ worker_entry (Take task runner found) ∷ []) ++ worker_entry (End task left) ∷ [])
 still_served past task runner found left still = record {
-  runs = λ seat. running_push mid ended seat ∙ ap (λ (r : Option Running). cond (eqb 1 seat) None r) (running_push past taken seat) ∙ either (eqb 1 seat) (running past seat) (still.runs seat);
-  holds = λ seat. holding_push mid ended seat ∙ same (eqb 1 seat) (holding mid seat) ∙ holding_push past taken seat ∙ same (eqb 1 seat) (holding past seat) ∙ still.holds seat;
+  runs = λ seat. running_push mid ended seat ∙ ap (λ (r : Option Running). cond (eqb 1 seat) None r) (running_push past taken seat)
+      ∙ either (eqb 1 seat) (running past seat) (still.runs seat);
+  holds = λ seat. holding_push mid ended seat ∙ same (eqb 1 seat) (holding mid seat) ∙ holding_push past taken seat ∙ same (eqb 1 seat) (holding past seat)
+      ∙ still.holds seat;
   policy = policy_of_push mid ended ∙ policy_of_push past taken ∙ still.policy;
-  immediate = subst (AllByRecursion (λ p. p.delay ≡ 0)) (sym (posts_push mid ended ∙ append-nil (posts mid) ∙ posts_push past taken ∙ append-nil (posts past))) still.immediate;
+  immediate = subst (AllByRecursion (λ p. p.delay ≡ 0)) (sym (posts_push mid ended ∙ append-nil (posts mid) ∙ posts_push past taken ∙ append-nil (posts past)))
+      still.immediate;
 }
   where
     taken : Entry
@@ -152,7 +162,8 @@ still_served past task runner found left still = record {
     mid : List Entry
     mid = past ++ taken ∷ []
 
-    either : (b : Bool) (r : Option Running) → r ≡ None → cond b None (cond b (Some (record { task = task; home = runner; found = found; is_main = false })) r) ≡ None
+    either : (b : Bool) (r : Option Running) → r ≡ None → cond b None (cond b (Some (record { task = task; home = runner; found = found; is_main = false })) r)
+        ≡ None
     either true r none = refl
     either false r none = none
 
@@ -174,7 +185,8 @@ no_acts script task formed = found (slice_get script.tasks task) (slice_get_all 
   where
     compute : AllByRecursion (λ steps. list_any is_act steps ≡ false) script.tasks
     compute = AllByRecursion-map (λ steps. All (λ step. is_act step ≡ false) steps) (λ steps. list_any is_act steps ≡ false) script.tasks
-        (λ steps h. list_any_none is_act steps (recursion_from_All (λ step. is_act step ≡ false) steps h)) (recursion_from_All (λ steps. All (λ step. is_act step ≡ false) steps) script.tasks formed.computes)
+        (λ steps h. list_any_none is_act steps (recursion_from_All (λ step. is_act step ≡ false) steps h))
+            (recursion_from_All (λ steps. All (λ step. is_act step ≡ false) steps) script.tasks formed.computes)
 
     found : (o : Option (List Step)) → IfSome o (λ steps. list_any is_act steps ≡ false) → filter is_act (option_map_or (λ steps. steps) o []) ≡ []
     found None h = refl
@@ -182,17 +194,20 @@ no_acts script task formed = found (slice_get script.tasks task) (slice_get_all 
 
 -- the same of the tasks that may be taken: p is the best, between xs and ys
 served_between : (script : Plan) (past : List Entry) (values : List ℕ) (old new : Tracked) (xs : List Posted) (p : Posted) (ys : List Posted) (found left : ℕ) →
-    WellFormed script → StandsFor script past (map waiting_of (xs ++ p ∷ ys)) values old → to_take script past ≡ xs ++ p ∷ ys → is_finished script past ≡ false → Served old new (effective_at script p.home 0) →
+    WellFormed script → StandsFor script past (map waiting_of (xs ++ p ∷ ys)) values old → to_take script past ≡ xs ++ p ∷ ys → is_finished script past ≡ false
+        → Served old new (effective_at script p.home 0) →
     AllByRecursion (λ x. importance_of script x.home < importance_of script p.home) xs →
     AllByRecursion (λ y. importance_of script y.home ≤ importance_of script p.home) ys →
     sequence_of script p.home p.task < length values →
     found ≡ get_or values (sequence_of script p.home p.task) 0 → left ≡ after (steps_of script p.task) found →
-    StandsFor script ((past ++ worker_entry (Take p.task p.home found) ∷ []) ++ worker_entry (End p.task left) ∷ []) (map waiting_of (xs ++ ys)) (set values (sequence_of script p.home p.task) left) new
+    StandsFor script ((past ++ worker_entry (Take p.task p.home found) ∷ []) ++ worker_entry (End p.task left) ∷ []) (map waiting_of (xs ++ ys))
+        (set values (sequence_of script p.home p.task) left) new
 unfolding may_come
 served_between script past values old new xs p ys found left formed stands is next tracked lower upper within found_is left_is = record {
   legal = is_legal_push script mid ended ∙ rw (is_legal_push script past taken, stands.legal, take_allowed, end_allowed) refl;
   still = still_served past p.task p.home found left stands.still;
-  ended = λ t. rw (is_ended_push mid ended t, is_ended_push past taken t, is_taken_push mid ended t, is_taken_push past taken t, stands.ended t) (sides (is_taken past t) (eqb p.task t));
+  ended = λ t. rw (is_ended_push mid ended t, is_ended_push past taken t, is_taken_push mid ended t, is_taken_push past taken t, stands.ended t)
+      (sides (is_taken past t) (eqb p.task t));
   waits = ap (map waiting_of) (sym rest);
   in_order = rw (rest) (InOrder-without xs p ys order);
   known = rw (rest) (known-worker script mid (End p.task left) (xs ++ ys) (known-worker script past (Take p.task p.home found) (xs ++ ys) known_rest));
@@ -232,10 +247,12 @@ served_between script past values old new xs p ys found left formed stands is ne
     known = subst (AllByRecursion (IsKnown script past)) is stands.known
 
     known_rest : AllByRecursion (IsKnown script past) (xs ++ ys)
-    known_rest = AllByRecursion-append (IsKnown script past) xs ys (AllByRecursion-front (IsKnown script past) xs (p ∷ ys) known) (AllByRecursion-back (IsKnown script past) xs (p ∷ ys) known).1
+    known_rest = AllByRecursion-append (IsKnown script past) xs ys (AllByRecursion-front (IsKnown script past) xs (p ∷ ys) known)
+        (AllByRecursion-back (IsKnown script past) xs (p ∷ ys) known).1
 
     rest : to_take script (mid ++ ended ∷ []) ≡ xs ++ ys
-    rest = to_take-same script mid ended refl (λ t. refl) refl ∙ to_take-take script past p.task p.home found ∙ ap (filter (λ q. not (eqb p.task q.task))) is ∙ filter_one xs p ys order
+    rest = to_take-same script mid ended refl (λ t. refl) refl ∙ to_take-take script past p.task p.home found ∙ ap (filter (λ q. not (eqb p.task q.task))) is
+        ∙ filter_one xs p ys order
 
     mine : IsKnown script past p
     mine = (AllByRecursion-back (IsKnown script past) xs (p ∷ ys) known).0
@@ -287,14 +304,16 @@ served_between script past values old new xs p ys found left formed stands is ne
     sides false false = refl
 
     same_wants : done_wants script (mid ++ ended ∷ []) ≡ done_wants script past
-    same_wants = ap (λ (own : List Entry). take (length own) (all_wants script)) (own_entries-worker mid (End p.task left) ∙ own_entries-worker past (Take p.task p.home found))
+    same_wants = ap (λ (own : List Entry). take (length own) (all_wants script)) (own_entries-worker mid (End p.task left)
+        ∙ own_entries-worker past (Take p.task p.home found))
 
     same_done : (t : ℕ) → posts_among (done_wants script (mid ++ ended ∷ [])) t ≡ false → posts_among (done_wants script past) t ≡ false
     same_done t h = ap (λ (ws : List Want). posts_among ws t) (sym same_wants) ∙ h
 
     untaken : (t : ℕ) → posts_among (done_wants script past) t ≡ false → ((is_taken past t || eqb p.task t) || false) ≡ false
     untaken t h =
-        let other : p.task ≢ t = λ same. false_is_true (posts_among (done_wants script past) t) (ap (posts_among (done_wants script past)) (sym same) ∙ mine.by_driver) h in
+        let other : p.task ≢ t = λ same. false_is_true (posts_among (done_wants script past) t) (ap (posts_among (done_wants script past)) (sym same)
+            ∙ mine.by_driver) h in
         rw (stands.fresh t h, ne_eqb p.task t other) refl
 
     cell_now : (u : ℕ) → cell_of script (mid ++ ended ∷ []) u ≡ cond (eqb s u) left (cell_of script past u)
@@ -305,15 +324,18 @@ served_between script past values old new xs p ys found left formed stands is ne
 
     stored : (u : ℕ) → u < length values → get_or (set values s left) u 0 ≡ cond (eqb s u) left (cell_of script past u)
     stored u lt = elim (eqb_tells s u) [
-      | inl here ↦ subst (λ (v : ℕ). get_or (set values s left) v 0 ≡ cond (eqb s v) left (cell_of script past v)) here.1 (get_or-set_same values s left 0 within ∙ ap (λ (b : Bool). cond b left (cell_of script past s)) (sym (eqb-same s)))
-      | inr there ↦ get_or-set_other values s u left 0 (λ e. there.1 (sym e)) ∙ stands.cells u lt ∙ ap (λ (b : Bool). cond b left (cell_of script past u)) (sym there.0)
+      | inl here ↦ subst (λ (v : ℕ). get_or (set values s left) v 0 ≡ cond (eqb s v) left (cell_of script past v)) here.1
+          (get_or-set_same values s left 0 within ∙ ap (λ (b : Bool). cond b left (cell_of script past s)) (sym (eqb-same s)))
+      | inr there ↦ get_or-set_other values s u left 0 (λ e. there.1 (sym e)) ∙ stands.cells u lt
+          ∙ ap (λ (b : Bool). cond b left (cell_of script past u)) (sym there.0)
     ]
 
 pub served : (script : Plan) (past : List Entry) (queue : List Waiting) (values : List ℕ) (old new : Tracked) (k : ℕ) (w : Waiting) (found left : ℕ) →
     WellFormed script → StandsFor script past queue values old → is_finished script past ≡ false → Served old new (effective_at script w.runner 0) →
     IsFirstBest (ranks_of script queue) (length queue) k → w ≡ get_or queue k w →
     found ≡ get_or values (sequence_of script w.runner w.task) 0 → left ≡ after (steps_of script w.task) found →
-    StandsFor script ((past ++ worker_entry (Take w.task w.runner found) ∷ []) ++ worker_entry (End w.task left) ∷ []) (take k queue ++ drop (k + 1) queue) (set values (sequence_of script w.runner w.task) left) new
+    StandsFor script ((past ++ worker_entry (Take w.task w.runner found) ∷ []) ++ worker_entry (End w.task left) ∷ []) (take k queue ++ drop (k + 1) queue)
+        (set values (sequence_of script w.runner w.task) left) new
 served script past queue values old new k w found left formed stands next tracked best is found_is left_is =
     let E = to_take script past in
     let same_length : length queue ≡ length E = ap length stands.waits ∙ length-map E waiting_of in
@@ -322,7 +344,8 @@ served script past queue values old new k w found left formed stands next tracke
     let it : w ≡ waiting_of p = waiting_at E k w below (is ∙ ap (λ (q : List Waiting). get_or q k w) stands.waits) in
     let split : E ≡ take k E ++ p ∷ drop (k + 1) E = around E k below in
     let queue_is : queue ≡ map waiting_of (take k E ++ p ∷ drop (k + 1) E) = stands.waits ∙ ap (map waiting_of) split in
-    let rank : (i : ℕ) → i < length E → get_or (ranks_of script queue) i 0 ≡ importance_of script (at E i).home = λ i lt. ap (λ (q : List Waiting). get_or (ranks_of script q) i 0) stands.waits ∙ rank_at_place script E i lt in
+    let rank : (i : ℕ) → i < length E → get_or (ranks_of script queue) i 0
+        ≡ importance_of script (at E i).home = λ i lt. ap (λ (q : List Waiting). get_or (ranks_of script q) i 0) stands.waits ∙ rank_at_place script E i lt in
     let lower : AllByRecursion (λ x. importance_of script x.home < importance_of script p.home) (take k E) =
     AllByRecursion-from_index (λ x. importance_of script x.home < importance_of script p.home) (take k E) (λ i d lt.
     let i_below : i < k = omega (arith, length-take k E) in
@@ -343,9 +366,13 @@ served script past queue values old new k w found left formed stands next tracke
     ∙ ap (λ (front : List Waiting). front ++ map waiting_of (drop (k + 1) E)) (sym (take-map waiting_of k E))
     ∙ ap (λ (back : List Waiting). take k (map waiting_of E) ++ back) (sym (drop-map waiting_of (k + 1) E))
     ∙ ap (λ (q : List Waiting). take k q ++ drop (k + 1) q) (sym stands.waits) in
-    let found_there : found ≡ get_or values (sequence_of script p.home p.task) 0 = found_is ∙ ap (λ (x : Waiting). get_or values (sequence_of script x.runner x.task) 0) it in
+    let found_there : found ≡ get_or values (sequence_of script p.home p.task) 0 = found_is
+        ∙ ap (λ (x : Waiting). get_or values (sequence_of script x.runner x.task) 0) it in
     let left_there : left ≡ after (steps_of script p.task) found = left_is ∙ ap (λ (x : Waiting). after (steps_of script x.task) found) it in
     let tracked_there = subst (λ (x : Waiting). Served old new (effective_at script x.runner 0)) it tracked in
-    let there = served_between script past values old new (take k E) p (drop (k + 1) E) found left formed (subst (λ (q : List Waiting). StandsFor script past q values old) queue_is stands) split next tracked_there lower upper within found_there left_there in
-    let moved = subst (λ (q : List Waiting). StandsFor script ((past ++ worker_entry (Take p.task p.home found) ∷ []) ++ worker_entry (End p.task left) ∷ []) q (set values (sequence_of script p.home p.task) left) new) rest_is there in
-    subst (λ (x : Waiting). StandsFor script ((past ++ worker_entry (Take x.task x.runner found) ∷ []) ++ worker_entry (End x.task left) ∷ []) (take k queue ++ drop (k + 1) queue) (set values (sequence_of script x.runner x.task) left) new) (sym it) moved
+    let there = served_between script past values old new (take k E) p (drop (k + 1) E) found left formed
+        (subst (λ (q : List Waiting). StandsFor script past q values old) queue_is stands) split next tracked_there lower upper within found_there left_there in
+    let moved = subst (λ (q : List Waiting). StandsFor script ((past ++ worker_entry (Take p.task p.home found) ∷ []) ++ worker_entry (End p.task left) ∷ []) q
+        (set values (sequence_of script p.home p.task) left) new) rest_is there in
+    subst (λ (x : Waiting). StandsFor script ((past ++ worker_entry (Take x.task x.runner found) ∷ []) ++ worker_entry (End x.task left) ∷ [])
+        (take k queue ++ drop (k + 1) queue) (set values (sequence_of script x.runner x.task) left) new) (sym it) moved

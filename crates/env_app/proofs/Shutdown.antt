@@ -43,14 +43,17 @@ abbrev pub task_stays : Plan → Posted → Bool
 task_stays script p = not (forbids phases.Started (effective_at script p.home p.delay))
 
 -- the queue keeps the tasks that may start
-filter_waiting : (script : Plan) (past : List Entry) (ps : List Posted) → AllByRecursion (IsKnown script past) ps → filter (stays script) (map waiting_of ps) ≡ map waiting_of (filter (task_stays script) ps)
+filter_waiting : (script : Plan) (past : List Entry) (ps : List Posted) → AllByRecursion (IsKnown script past) ps
+    → filter (stays script) (map waiting_of ps) ≡ map waiting_of (filter (task_stays script) ps)
 filter_waiting script past [] known = refl
 filter_waiting script past (p ∷ ps) known =
     ap (λ (rest : List Waiting). cond (stays script (waiting_of p)) (waiting_of p ∷ rest) rest) (filter_waiting script past ps known.1)
-    ∙ ap (λ (d : ℕ). cond (not (forbids phases.Started (effective_at script p.home d))) (waiting_of p ∷ map waiting_of (filter (task_stays script) ps)) (map waiting_of (filter (task_stays script) ps))) (sym known.0.immediate)
+    ∙ ap (λ (d : ℕ). cond (not (forbids phases.Started (effective_at script p.home d))) (waiting_of p ∷ map waiting_of (filter (task_stays script) ps))
+        (map waiting_of (filter (task_stays script) ps))) (sym known.0.immediate)
     ∙ both (task_stays script p)
   where
-    both : (b : Bool) → cond b (waiting_of p ∷ map waiting_of (filter (task_stays script) ps)) (map waiting_of (filter (task_stays script) ps)) ≡ map waiting_of (cond b (p ∷ filter (task_stays script) ps) (filter (task_stays script) ps))
+    both : (b : Bool) → cond b (waiting_of p ∷ map waiting_of (filter (task_stays script) ps)) (map waiting_of (filter (task_stays script) ps))
+        ≡ map waiting_of (cond b (p ∷ filter (task_stays script) ps) (filter (task_stays script) ps))
     both true = refl
     both false = refl
 
@@ -83,7 +86,8 @@ started script past queue left values old new formed stands next left_is tracked
   ended = ended-driver past Shutdown stands.ended (λ t. refl) (λ t. refl);
   waits = rw (fewer) (left_is ∙ ap (filter (stays script)) stands.waits ∙ filter_waiting script past (to_take script past) stands.known);
   in_order = rw (fewer) (InOrder-filter (task_stays script) (to_take script past) stands.in_order);
-  known = rw (fewer) (AllByRecursion-filter (IsKnown script (past ++ e ∷ [])) (task_stays script) (to_take script past) (known-driver script past Shutdown WantsShutdown (to_take script past) next stands.known));
+  known = rw (fewer) (AllByRecursion-filter (IsKnown script (past ++ e ∷ [])) (task_stays script) (to_take script past)
+      (known-driver script past Shutdown WantsShutdown (to_take script past) next stands.known));
   fresh = fresh-driver script past Shutdown WantsShutdown next stands.fresh (λ t. refl);
   cells = λ s lt. stands.cells s lt ∙ sym (cell_of_push script past e s);
   cell_count = stands.cell_count;
@@ -91,7 +95,8 @@ started script past queue left values old new formed stands next left_is tracked
   blocks = ap (λ (t : Tracked). t.block_items) tracked ∙ stands.blocks ∙ ap length (sym same_blocks);
   no_skips = ap (λ (t : Tracked). t.skip_items) tracked ∙ stands.no_skips;
   not_started = λ h. false_is_true (starts_among (done_wants script (past ++ e ∷ [])))
-      (ap starts_among (done_wants-driver script past Shutdown WantsShutdown next) ∙ list_any-last wants_shutdown (done_wants script past) WantsShutdown refl) h;
+      (ap starts_among (done_wants-driver script past Shutdown WantsShutdown next)
+          ∙ list_any-last wants_shutdown (done_wants script past) WantsShutdown refl) h;
 }
   where
     e : Entry
@@ -105,7 +110,8 @@ started script past queue left values old new formed stands next left_is tracked
 
     same_blocks : filter (blocks_shutdown script) (to_take script (past ++ e ∷ [])) ≡ filter (blocks_shutdown script) (to_take script past)
     same_blocks = ap (filter (blocks_shutdown script)) fewer ∙ filter-filter (blocks_shutdown script) (task_stays script) (to_take script past)
-        ∙ filter_congr (λ p. task_stays script p && blocks_shutdown script p) (blocks_shutdown script) (to_take script past) (λ p. block_stays (effective_at script p.home p.delay))
+        ∙ filter_congr (λ p. task_stays script p && blocks_shutdown script p) (blocks_shutdown script) (to_take script past)
+            (λ p. block_stays (effective_at script p.home p.delay))
 
 -- ---- the end of shutdown
 
@@ -115,14 +121,16 @@ unfolding to_take
 only_blocks script past under_way =
     filter-filter (blocks_shutdown script) (may_start script past) (posts past)
     ∙ filter_congr (λ p. may_start script past p && blocks_shutdown script p) (may_start script past) (posts past)
-    (λ p. rw (under_way) (regroup (not (is_taken past p.task)) (not (forbids phases.Started (effective_at script p.home p.delay))) (blocks_shutdown script p) (stays_block (effective_at script p.home p.delay))))
+    (λ p. rw (under_way) (regroup (not (is_taken past p.task)) (not (forbids phases.Started (effective_at script p.home p.delay))) (blocks_shutdown script p)
+        (stays_block (effective_at script p.home p.delay))))
   where
     regroup : (a b c : Bool) → (b && c) ≡ b → ((a && b) && c) ≡ (a && b)
     regroup true b c h = h
     regroup false b c h = refl
 
 -- where nothing may be taken and what was taken has ended, nothing blocks shutdown
-pub nothing_blocks : (script : Plan) (past : List Entry) → WellFormed script → IsStill past → phase_of past ≡ phases.Started → ((t : ℕ) → is_ended past t ≡ is_taken past t) → to_take script past ≡ [] → blockers_of script past ≡ 0
+pub nothing_blocks : (script : Plan) (past : List Entry) → WellFormed script → IsStill past → phase_of past ≡ phases.Started
+    → ((t : ℕ) → is_ended past t ≡ is_taken past t) → to_take script past ≡ [] → blockers_of script past ≡ 0
 unfolding blockers_of to_take
 nothing_blocks script past formed still under_way ended none =
     omega (arith, ap length open_blocks, ap length no_skips, no_job_blocks script past formed still)
@@ -141,15 +149,18 @@ nothing_blocks script past formed still under_way ended none =
     open_blocks : filter (is_open_block script past) (posts past) ≡ []
     open_blocks =
         filter_congr (is_open_block script past) (λ p. may_start script past p && blocks_shutdown script p) (posts past)
-        (λ p. rw (under_way, ended p.task) (regroup (not (is_taken past p.task)) (not (forbids phases.Started (effective_at script p.home p.delay))) (blocks_shutdown script p) (block_stays (effective_at script p.home p.delay))))
+        (λ p. rw (under_way, ended p.task) (regroup (not (is_taken past p.task)) (not (forbids phases.Started (effective_at script p.home p.delay)))
+            (blocks_shutdown script p) (block_stays (effective_at script p.home p.delay))))
         ∙ sym (filter-filter (blocks_shutdown script) (may_start script past) (posts past))
         ∙ ap (filter (blocks_shutdown script)) none
 
     no_skips : filter (is_running_skip script past) (posts past) ≡ []
-    no_skips = filter_never (is_running_skip script past) (posts past) (λ p. rw (ended p.task) (not_both (is_skip (effective_at script p.home p.delay)) (is_taken past p.task)))
+    no_skips = filter_never (is_running_skip script past) (posts past)
+        (λ p. rw (ended p.task) (not_both (is_skip (effective_at script p.home p.delay)) (is_taken past p.task)))
 
 -- how many tasks wait while shutdown is under way: as many as block it
-pub waiting_count : (script : Plan) (past : List Entry) (queue : List Waiting) (values : List ℕ) (tracked : Tracked) → StandsFor script past queue values tracked → tracked.phase ≡ phases.Started → length queue ≡ blocker_count tracked
+pub waiting_count : (script : Plan) (past : List Entry) (queue : List Waiting) (values : List ℕ) (tracked : Tracked)
+    → StandsFor script past queue values tracked → tracked.phase ≡ phases.Started → length queue ≡ blocker_count tracked
 waiting_count script past queue values tracked stands under_way =
     let same = only_blocks script past (sym stands.phase ∙ under_way) in
     omega (arith, ap length stands.waits, length-map (to_take script past) waiting_of, ap length same, stands.blocks, stands.no_skips)
@@ -160,7 +171,8 @@ pub done : (script : Plan) (past : List Entry) (queue : List Waiting) (values : 
     StandsFor script (past ++ driver_entry Done ∷ []) queue values new
 unfolding may_come
 done script past queue values old new formed stands next under_way empty tracked = record {
-  legal = is_legal_push script past e ∙ rw (stands.legal, driver_sits script, by_script_next script past WantsDone true formed next, now, nothing_blocks script past formed stands.still now stands.ended nobody) refl;
+  legal = is_legal_push script past e ∙ rw (stands.legal, driver_sits script, by_script_next script past WantsDone true formed next, now, nothing_blocks script
+      past formed stands.still now stands.ended nobody) refl;
   still = still_after past e stands.still refl refl refl tt;
   ended = ended-driver past Done stands.ended (λ t. refl) (λ t. refl);
   waits = rw (gone) empty;
@@ -170,7 +182,8 @@ done script past queue values old new formed stands next under_way empty tracked
   cells = λ s lt. stands.cells s lt ∙ sym (cell_of_push script past e s);
   cell_count = stands.cell_count;
   phase = ap (λ (t : Tracked). t.phase) tracked ∙ sym (phase_of_push past e);
-  blocks = rw (gone) (ap (λ (t : Tracked). t.block_items) tracked ∙ stands.blocks ∙ ap (λ (ps : List Posted). length (filter (blocks_shutdown script) ps)) nobody);
+  blocks = rw (gone) (ap (λ (t : Tracked). t.block_items) tracked ∙ stands.blocks
+      ∙ ap (λ (ps : List Posted). length (filter (blocks_shutdown script) ps)) nobody);
   no_skips = ap (λ (t : Tracked). t.skip_items) tracked ∙ stands.no_skips;
   not_started = later (starts_among (done_wants script past)) refl;
 }
@@ -187,7 +200,8 @@ done script past queue values old new formed stands next under_way empty tracked
     gone : to_take script (past ++ e ∷ []) ≡ []
     gone = to_take-done script past
 
-    later : (b : Bool) → starts_among (done_wants script past) ≡ b → starts_among (done_wants script (past ++ e ∷ [])) ≡ false → phase_of (past ++ e ∷ []) ≡ phases.Running
+    later : (b : Bool) → starts_among (done_wants script past) ≡ b → starts_among (done_wants script (past ++ e ∷ [])) ≡ false
+        → phase_of (past ++ e ∷ []) ≡ phases.Running
     later true is h = false_is_true (starts_among (done_wants script (past ++ e ∷ [])))
         (ap starts_among (done_wants-driver script past Done WantsDone next) ∙ list_any-more wants_shutdown (done_wants script past) WantsDone is) h
     later false is h = let before : phase_of past ≡ phases.Running = stands.not_started is in absurd cc
@@ -207,7 +221,8 @@ tasks_below : (ps : List Posted) (n : ℕ) → AllByRecursion (λ p. p.task < n)
 tasks_below [] n below t h = absurd cc
 tasks_below (p ∷ ps) n below t h = either (eqb t p.task) refl h (tasks_below ps n below.1 t)
   where
-    either : (b : Bool) → eqb t p.task ≡ b → (b || list_any (eqb t) (map (λ q. q.task) ps)) ≡ true → (list_any (eqb t) (map (λ q. q.task) ps) ≡ true → t < n) → t < n
+    either : (b : Bool) → eqb t p.task ≡ b → (b || list_any (eqb t) (map (λ q. q.task) ps)) ≡ true → (list_any (eqb t) (map (λ q. q.task) ps) ≡ true → t < n)
+        → t < n
     either true is found later = subst (λ (m : ℕ). m < n) (sym (eqb-true t p.task is)) below.0
     either false is found later = later found
 
@@ -219,14 +234,17 @@ pub few_wait : (script : Plan) (past : List Entry) (queue : List Waiting) (value
     (length queue ≤ length script.tasks) × (blocker_count tracked ≤ length script.tasks)
 few_wait script past queue values tracked stands =
     let E = to_take script past in
-    let below : AllByRecursion (λ p. p.task < length script.tasks) E = AllByRecursion-map (IsKnown script past) (λ p. p.task < length script.tasks) E (λ p k. k.task_declared) stands.known in
-    let few : length (map (λ p. p.task) E) ≤ length script.tasks = length-le_from_distinct_below (map (λ p. p.task) E) (length script.tasks) (distinct_tasks E stands.in_order) (tasks_below E (length script.tasks) below) in
+    let below : AllByRecursion (λ p. p.task < length script.tasks) E = AllByRecursion-map (IsKnown script past) (λ p. p.task < length script.tasks) E
+        (λ p k. k.task_declared) stands.known in
+    let few : length (map (λ p. p.task) E) ≤ length script.tasks = length-le_from_distinct_below (map (λ p. p.task) E) (length script.tasks)
+        (distinct_tasks E stands.in_order) (tasks_below E (length script.tasks) below) in
     let count = length-map E (λ p. p.task) in
     let shorter = filter_shorter (blocks_shutdown script) E in
     (omega (arith, ap length stands.waits, length-map E waiting_of), omega (arith, stands.blocks, stands.no_skips))
 
 -- what the tracker says where it is done
-pub when_done : {E : Type 0} (result : Result (Unit {0}) E) (old new : Tracked) → is_err result ≡ false → (IsOk result → blocker_count old ≡ 0) → OnOk result (new ≡ record old { phase = phases.Done }) →
+pub when_done : {E : Type 0} (result : Result (Unit {0}) E) (old new : Tracked) → is_err result ≡ false → (IsOk result → blocker_count old ≡ 0)
+    → OnOk result (new ≡ record old { phase = phases.Done }) →
     (blocker_count old ≡ 0) × (new ≡ record old { phase = phases.Done })
 when_done (Ok u) old new is count made = (count refl, made)
 when_done (Err e) old new is count made = absurd cc

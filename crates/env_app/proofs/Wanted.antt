@@ -34,7 +34,8 @@ of_form : (script : Plan) → WellFormed script → AllByRecursion (λ action. i
 of_form script formed = recursion_from_All (λ action. is_form_action action ≡ true) script.actions formed.form_actions
 
 -- the want at the place of what is made is the one of the action that the driver is at
-wanted_from : (own : List Entry) (ok : Bool) (want : Want) (listed : List Action) (left : List Entry) → AllByRecursion (λ action. is_form_action action ≡ true) listed →
+wanted_from : (own : List Entry) (ok : Bool) (want : Want) (listed : List Action) (left : List Entry)
+    → AllByRecursion (λ action. is_form_action action ≡ true) listed →
     slice_get (flat_map wants_of listed) (length left) ≡ Some want → accepts own (kind_of want ok) listed left ≡ true
 wanted_from own ok want [] left plain next = absurd cc
 wanted_from own ok want (Post t r d ∷ listed) [] plain next =
@@ -55,25 +56,29 @@ wanted_from own ok want (Shutdown ∷ listed) (e ∷ f ∷ left) plain next = wa
 wanted_from own ok want (action ∷ listed) left plain next = let not_plain = plain.0 in absurd cc
 
 -- the script wants the entry that is next among all wanted ones
-is_wanted_next : (script : Plan) (past : List Entry) (want : Want) (ok : Bool) → WellFormed script → wanted script past ≡ Some want → is_wanted script (own_entries 0 past) (kind_of want ok) ≡ true
+is_wanted_next : (script : Plan) (past : List Entry) (want : Want) (ok : Bool) → WellFormed script → wanted script past ≡ Some want
+    → is_wanted script (own_entries 0 past) (kind_of want ok) ≡ true
 unfolding is_wanted current wanted
 is_wanted_next script past want ok formed next = wanted_from (own_entries 0 past) ok want script.actions (own_entries 0 past) (of_form script formed) next
 
 -- so the driver may make it
-pub by_script_next : (script : Plan) (past : List Entry) (want : Want) (ok : Bool) → WellFormed script → wanted script past ≡ Some want → by_script script past 0 (kind_of want ok) ≡ true
+pub by_script_next : (script : Plan) (past : List Entry) (want : Want) (ok : Bool) → WellFormed script → wanted script past ≡ Some want
+    → by_script script past 0 (kind_of want ok) ≡ true
 unfolding by_script
 by_script_next script past want ok formed next = is_wanted_next script past want ok formed next
 
 -- where an entry is wanted, the script is not finished
 pub not_finished : (script : Plan) (past : List Entry) (want : Want) → WellFormed script → wanted script past ≡ Some want → is_finished script past ≡ false
 unfolding is_finished is_wanted
-not_finished script past want formed next = some (λ c. wants (own_entries 0 past) c.action c.made (kind_of want true)) (current script (own_entries 0 past)) (is_wanted_next script past want true formed next)
+not_finished script past want formed next = some (λ c. wants (own_entries 0 past) c.action c.made (kind_of want true)) (current script (own_entries 0 past))
+    (is_wanted_next script past want true formed next)
   where
     some : (test : Current → Bool) (o : Option Current) → holds_of test o ≡ true → is_none o ≡ false
     some test None h = absurd cc
     some test (Some c) h = refl
 
-finished_from : (listed : List Action) (left : List Entry) → AllByRecursion (λ action. is_form_action action ≡ true) listed → length (flat_map wants_of listed) ≤ length left → current_from listed left ≡ None
+finished_from : (listed : List Action) (left : List Entry) → AllByRecursion (λ action. is_form_action action ≡ true) listed
+    → length (flat_map wants_of listed) ≤ length left → current_from listed left ≡ None
 finished_from [] left plain all = refl
 finished_from (Post t r d ∷ listed) [] plain all = absurd (omega arith)
 finished_from (Post t r d ∷ listed) (e ∷ left) plain all = finished_from listed left plain.1 (omega arith)

@@ -14,7 +14,8 @@ use Rattle.task_model.specs.Blockers.{is_block}
 use Rattle.task_model.specs.Sequences.{may_start}
 use Rattle.task_model.specs.Seats.{running, holding}
 use Rattle.task_model.specs.Cells.{cell_of}
-use Rattle.task_model.specs.Capacity.{importance, priority_of}
+use Rattle.task_base.specs.Groups.{importance}
+use Rattle.task_model.specs.Capacity.{priority_of}
 use Rattle.hist_model.specs.Views.{own_entries}
 use Rattle.hist_model.specs.Legal.{is_legal}
 use Rattle.task_script.specs.Wants.{Want, all_wants}

@@ -73,7 +73,8 @@ Failed side = Rose side.faults_before side.faults_after
 
 -- what the answer of reading a script says
 abbrev pub LoadsScript : Ends → Result Plan Fault → Type 0
-LoadsScript source (Ok script) = IsReadToEnd source × WellFormed script × OfBytes source (λ bytes. IsWithin bytes × Reads bytes script × (form_read bytes ≡ Some script))
+LoadsScript source (Ok script) = IsReadToEnd source × WellFormed script
+    × OfBytes source (λ bytes. IsWithin bytes × Reads bytes script × (form_read bytes ≡ Some script))
 LoadsScript source (Err (BadScript line reason)) = IsReadToEnd source × OfBytes source (λ bytes. IsWithin bytes × (form_read bytes ≡ None))
 LoadsScript source (Err ReadFault) = Failed source
 LoadsScript source (Err TooLarge) = OfBytes source (λ bytes. 8388608 < length bytes)
@@ -91,7 +92,8 @@ abbrev pub RunsTo : Bool → Ends → Ends → Result (Unit {0}) Fault → Type 
 RunsTo accepted source sink (Ok done) = (accepted ≡ true) × IsReadToEnd source × Wrote WroteAll source sink
 RunsTo accepted source sink (Err BadWords) = accepted ≡ false
 RunsTo accepted source sink (Err WriteFault) = (accepted ≡ true) × IsReadToEnd source × Failed sink × Wrote WroteFront source sink
-RunsTo accepted source sink (Err (BadScript line reason)) = (accepted ≡ true) × IsReadToEnd source × OfBytes source (λ bytes. IsWithin bytes × (form_read bytes ≡ None))
+RunsTo accepted source sink (Err (BadScript line reason)) = (accepted ≡ true) × IsReadToEnd source
+    × OfBytes source (λ bytes. IsWithin bytes × (form_read bytes ≡ None))
 RunsTo accepted source sink (Err ReadFault) = (accepted ≡ true) × Failed source
 RunsTo accepted source sink (Err TooLarge) = (accepted ≡ true) × OfBytes source (λ bytes. 8388608 < length bytes)
 RunsTo accepted source sink (Err NoMemory) = accepted ≡ true
@@ -123,7 +125,8 @@ pub record HasCause (accepted : Bool) (source sink : Ends) (status : ℕ) : Type
   -- and where more came, nothing but 7, a failed source and want of memory comes
   pub large : accepted ≡ true → OfBytes source (λ bytes. 8388608 < length bytes → (status ≡ 4) ⊎ (status ≡ 6) ⊎ (status ≡ 7))
   -- good input gives no fault: where neither side fails, a script of that form is run, or memory is wanting
-  pub good_input : accepted ≡ true → OfBytes source (λ bytes. (script : Plan) → IsWithin bytes → form_read bytes ≡ Some script → ¬ Failed source → ¬ Failed sink → (status ≡ 0) ⊎ (status ≡ 6))
+  pub good_input : accepted ≡ true → OfBytes source (λ bytes. (script : Plan) → IsWithin bytes → form_read bytes ≡ Some script → ¬ Failed source
+      → ¬ Failed sink → (status ≡ 0) ⊎ (status ≡ 6))
 
 -- the note that goes with a status, with its line feed
 abbrev pub note_of : ℕ → List ℕ

@@ -2,7 +2,7 @@ ghost use Rattle.std.specs.Prelude.{◌≡◌, ◌+◌, ◌*◌, ◌-◌, ◌^�
 ghost use Rattle.task_base.specs.Steps.{after};
 ghost use Rattle.task_model.specs.Refusal.{effective_at};
 ghost use Rattle.task_model.specs.Seats.{steps_of};
-ghost use Rattle.task_model.specs.Sequences.{sequence_of};
+ghost use Rattle.task_base.specs.Runners.{sequence_of};
 ghost use Rattle.task_traits.specs.Behaviour.{forbids};
 ghost use Rattle.hist_model.specs.Legal.{IsLegal};
 ghost use Rattle.hist_model.specs.Script.{is_finished, IsWhole};

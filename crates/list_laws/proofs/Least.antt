@@ -20,7 +20,8 @@ least_below : {A : Type 0} (below : A → A → Bool) → Ranks below → (x : A
 least_below below ranks x [] = (ranks.itself x, tt)
 least_below {A = A} below ranks x (y ∷ ys) = by (below y x) refl (least_below below ranks y ys) (least_below below ranks x ys)
   where
-    by : (b : Bool) → below y x ≡ b → AllByRecursion (λ z. below z (least_from below y ys) ≡ false) (y ∷ ys) → AllByRecursion (λ z. below z (least_from below x ys) ≡ false) (x ∷ ys)
+    by : (b : Bool) → below y x ≡ b → AllByRecursion (λ z. below z (least_from below y ys) ≡ false) (y ∷ ys)
+        → AllByRecursion (λ z. below z (least_from below x ys) ≡ false) (x ∷ ys)
         → AllByRecursion (λ z. below z (least_from below (cond b y x) ys) ≡ false) (x ∷ y ∷ ys)
     by true before of_y of_x = (ranks.through x y (least_from below y ys) (ranks.one_way y x before) of_y.0, of_y)
     by false before of_y of_x = (of_x.0, (ranks.through y x (least_from below x ys) before of_x.0, of_x.1))
@@ -63,10 +64,12 @@ pub by_less : {A : Type 0} (f : A → ℕ) (below : A → A → Bool) (a b : A) 
 by_less f below a b lt = ap (λ t. t || (eqb (f a) (f b) && below a b)) (lt-ltb (f a) (f b) lt)
 
 pub by_same : {A : Type 0} (f : A → ℕ) (below : A → A → Bool) (a b : A) → f a ≡ f b → then_by f below a b ≡ below a b
-by_same f below a b same = ap (λ t. t || (eqb (f a) (f b) && below a b)) (le-ltb (f a) (f b) (omega (arith, same))) ∙ ap (λ t. t && below a b) (eq-eqb (f a) (f b) same)
+by_same f below a b same = ap (λ t. t || (eqb (f a) (f b) && below a b)) (le-ltb (f a) (f b) (omega (arith, same)))
+    ∙ ap (λ t. t && below a b) (eq-eqb (f a) (f b) same)
 
 pub by_more : {A : Type 0} (f : A → ℕ) (below : A → A → Bool) (a b : A) → f b < f a → then_by f below a b ≡ false
-by_more f below a b lt = ap (λ t. t || (eqb (f a) (f b) && below a b)) (le-ltb (f a) (f b) (omega (arith, lt))) ∙ ap (λ t. t && below a b) (ne_eqb (f a) (f b) (λ same. omega (arith, lt, same)))
+by_more f below a b lt = ap (λ t. t || (eqb (f a) (f b) && below a b)) (le-ltb (f a) (f b) (omega (arith, lt)))
+    ∙ ap (λ t. t && below a b) (ne_eqb (f a) (f b) (λ same. omega (arith, lt, same)))
 
 pub ranks_then_by : {A : Type 0} (f : A → ℕ) (below : A → A → Bool) → Ranks below → Ranks (then_by f below)
 ranks_then_by {A = A} f below ranks = record { itself = itself; one_way = one_way; through = through }
@@ -89,7 +92,8 @@ ranks_then_by {A = A} f below ranks = record { itself = itself; one_way = one_wa
         by (inr (inl lt)) other = absurd (true≢false (sym (by_less f below a b lt) ∙ h))
         by (inl same) (inr (inl lt)) = absurd (true≢false (sym (by_less f below b c lt) ∙ k))
         by (inr (inr more)) (inr (inl lt)) = absurd (true≢false (sym (by_less f below b c lt) ∙ k))
-        by (inl same) (inl equal) = by_same f below a c (same ∙ equal) ∙ ranks.through a b c (sym (by_same f below a b same) ∙ h) (sym (by_same f below b c equal) ∙ k)
+        by (inl same) (inl equal) = by_same f below a c (same ∙ equal)
+            ∙ ranks.through a b c (sym (by_same f below a b same) ∙ h) (sym (by_same f below b c equal) ∙ k)
         by (inl same) (inr (inr more)) = by_more f below a c (omega (arith, same, more))
         by (inr (inr more)) (inl equal) = by_more f below a c (omega (arith, more, equal))
         by (inr (inr more)) (inr (inr less)) = by_more f below a c (omega (arith, more, less))
@@ -103,16 +107,20 @@ ranks_same p q same ranks = record {
 }
 
 -- what holds of the elements that pass a test
-pub unfiltered : {A : Type 0} (P : A → Type 0) (test : A → Bool) (xs : List A) → AllByRecursion P (filter test xs) → AllByRecursion (λ x. test x ≡ true → P x) xs
+pub unfiltered : {A : Type 0} (P : A → Type 0) (test : A → Bool) (xs : List A) → AllByRecursion P (filter test xs)
+    → AllByRecursion (λ x. test x ≡ true → P x) xs
 unfiltered P test [] h = tt
 unfiltered {A = A} P test (x ∷ xs) h = by (test x) refl h (unfiltered P test xs)
   where
-    by : (b : Bool) → test x ≡ b → AllByRecursion P (cond b (x ∷ filter test xs) (filter test xs)) → (AllByRecursion P (filter test xs) → AllByRecursion (λ y. test y ≡ true → P y) xs) → (test x ≡ true → P x) × AllByRecursion (λ y. test y ≡ true → P y) xs
+    by : (b : Bool) → test x ≡ b → AllByRecursion P (cond b (x ∷ filter test xs) (filter test xs))
+        → (AllByRecursion P (filter test xs) → AllByRecursion (λ y. test y ≡ true → P y) xs)
+        → (test x ≡ true → P x) × AllByRecursion (λ y. test y ≡ true → P y) xs
     by true is kept rest = ((λ same. kept.0), rest kept.1)
     by false is kept rest = ((λ same. absurd (true≢false (sym same ∙ is))), rest kept)
 
 -- two between which the test decides neither way have the same number
-pub tied : {A : Type 0} (f : A → ℕ) (below : A → A → Bool) (a b : A) → then_by f below a b ≡ false → then_by f below b a ≡ false → (f a ≡ f b) × (below a b ≡ false) × (below b a ≡ false)
+pub tied : {A : Type 0} (f : A → ℕ) (below : A → A → Bool) (a b : A) → then_by f below a b ≡ false → then_by f below b a ≡ false
+    → (f a ≡ f b) × (below a b ≡ false) × (below b a ≡ false)
 tied f below a b h k = by (cases_order (f a) (f b))
   where
     by : (f a ≡ f b) ⊎ ((f a < f b) ⊎ (f b < f a)) → (f a ≡ f b) × (below a b ≡ false) × (below b a ≡ false)

@@ -18,7 +18,8 @@ filter_congr p q (x ∷ xs) h = rw (h x, filter_congr p q xs h) refl
 
 pub filter-filter : {A : Type 0} (p q : A → Bool) (xs : List A) → filter p (filter q xs) ≡ filter (λ x. q x && p x) xs
 filter-filter p q [] = refl
-filter-filter p q (x ∷ xs) = elim (q x) as (λ b. filter p (cond b (x ∷ filter q xs) (filter q xs)) ≡ cond (b && p x) (x ∷ filter (λ y. q y && p y) xs) (filter (λ y. q y && p y) xs)) [
+filter-filter p q (x ∷ xs) = elim (q x) as (λ b. filter p (cond b (x ∷ filter q xs) (filter q xs))
+    ≡ cond (b && p x) (x ∷ filter (λ y. q y && p y) xs) (filter (λ y. q y && p y) xs)) [
   | true ↦ ap (λ rest. cond (p x) (x ∷ rest) rest) (filter-filter p q xs)
   | false ↦ filter-filter p q xs
 ]
@@ -91,7 +92,8 @@ least_stays : {A : Type 0} (below : A → A → Bool) (p : A) (ys : List A) → 
 least_stays below p [] h = refl
 least_stays below p (y ∷ ys) h = rw (h.0) (least_stays below p ys h.1)
 
-least_wins : {A : Type 0} (below : A → A → Bool) (x p : A) (xs ys : List A) → below p x ≡ true → AllByRecursion (λ z. below p z ≡ true) xs → AllByRecursion (λ y. below y p ≡ false) ys → least_from below x (xs ++ p ∷ ys) ≡ p
+least_wins : {A : Type 0} (below : A → A → Bool) (x p : A) (xs ys : List A) → below p x ≡ true → AllByRecursion (λ z. below p z ≡ true) xs
+    → AllByRecursion (λ y. below y p ≡ false) ys → least_from below x (xs ++ p ∷ ys) ≡ p
 least_wins below x p [] ys now h k = ap (λ (b : Bool). least_from below (cond b p x) ys) now ∙ least_stays below p ys k
 least_wins below x p (z ∷ xs) ys now h k = elim (below z x) as (λ b. least_from below (cond b z x) (xs ++ p ∷ ys) ≡ p) [
   | true ↦ least_wins below z p xs ys h.0 h.1 k
@@ -99,7 +101,8 @@ least_wins below x p (z ∷ xs) ys now h k = elim (below z x) as (λ b. least_fr
 ]
 
 -- what is below all before it, and has none behind it that is below it, is the least
-pub least_split : {A : Type 0} (below : A → A → Bool) (xs : List A) (p : A) (ys : List A) → AllByRecursion (λ x. below p x ≡ true) xs → AllByRecursion (λ y. below y p ≡ false) ys → least below (xs ++ p ∷ ys) ≡ Some p
+pub least_split : {A : Type 0} (below : A → A → Bool) (xs : List A) (p : A) (ys : List A) → AllByRecursion (λ x. below p x ≡ true) xs
+    → AllByRecursion (λ y. below y p ≡ false) ys → least below (xs ++ p ∷ ys) ≡ Some p
 least_split below [] p ys h k = ap Some (least_stays below p ys k)
 least_split below (x ∷ xs) p ys h k = ap Some (least_wins below x p xs ys h.0 h.1 k)
 
@@ -111,7 +114,8 @@ pub some-injective : {A : Type 0} {x y : A} → Some x ≡ Some y → x ≡ y
 some-injective {A} {x} {y} is = ap (λ o. option_map_or (λ z. z) o x) is
 
 -- the least of a list with one more element
-least_from-push : {A : Type 0} (below : A → A → Bool) (x : A) (xs : List A) (y : A) → least_from below x (xs ++ y ∷ []) ≡ cond (below y (least_from below x xs)) y (least_from below x xs)
+least_from-push : {A : Type 0} (below : A → A → Bool) (x : A) (xs : List A) (y : A)
+    → least_from below x (xs ++ y ∷ []) ≡ cond (below y (least_from below x xs)) y (least_from below x xs)
 least_from-push below x [] y = refl
 least_from-push below x (z ∷ xs) y = least_from-push below (cond (below z x) z x) xs y
 
@@ -124,7 +128,8 @@ least_from-is P below x (y ∷ xs) h k = elim (below y x) as (λ b. P (least_fro
 ]
 
 -- one more element that is below none leaves the least one
-pub least-push : {A : Type 0} (below : A → A → Bool) (xs : List A) (y : A) → AllByRecursion (λ x. below y x ≡ false) xs → least below (xs ++ y ∷ []) ≡ option_or (least below xs) (Some y)
+pub least-push : {A : Type 0} (below : A → A → Bool) (xs : List A) (y : A) → AllByRecursion (λ x. below y x ≡ false) xs
+    → least below (xs ++ y ∷ []) ≡ option_or (least below xs) (Some y)
 least-push below [] y h = refl
 least-push below (x ∷ xs) y h =
     ap Some (least_from-push below x xs y ∙ ap (λ (b : Bool). cond b y (least_from below x xs)) (least_from-is (λ z. below y z ≡ false) below x xs h.0 h.1))
@@ -155,7 +160,8 @@ filter_congr_in p q [] h = refl
 filter_congr_in p q (x ∷ xs) h = rw (h.0, filter_congr_in p q xs h.1) refl
 
 -- what fails the first test and passes the second, and only where the mark stands, makes up the difference
-count_up : {A : Type 0} (marks p q : A → Bool) (xs : List A) → ((x : A) → marks x ≡ true → p x ≡ false) → ((x : A) → marks x ≡ true → q x ≡ true) → AllByRecursion (λ x. marks x ≡ false → p x ≡ q x) xs → count q xs ≡ count p xs + count marks xs
+count_up : {A : Type 0} (marks p q : A → Bool) (xs : List A) → ((x : A) → marks x ≡ true → p x ≡ false) → ((x : A) → marks x ≡ true → q x ≡ true)
+    → AllByRecursion (λ x. marks x ≡ false → p x ≡ q x) xs → count q xs ≡ count p xs + count marks xs
 count_up marks p q [] f g h = refl
 count_up marks p q (x ∷ xs) f g h = by (marks x) refl (count_up marks p q xs f g h.1)
   where
@@ -168,25 +174,32 @@ count_up marks p q (x ∷ xs) f g h = by (marks x) refl (count_up marks p q xs f
         agree false was = omega (arith, rest, count_step p x xs false (h.0 is ∙ was), count_step q x xs false was, count_step marks x xs false is)
 
 -- two tests that agree on the list except at its one marked element: the counts differ by what they say of it
-pub count_change_in : {A : Type 0} (marks p q : A → Bool) (b c : Bool) (xs : List A) → count marks xs ≡ 1 → ((x : A) → marks x ≡ true → p x ≡ b) → ((x : A) → marks x ≡ true → q x ≡ c) → AllByRecursion (λ x. marks x ≡ false → p x ≡ q x) xs → count p xs + cond c 1 0 ≡ count q xs + cond b 1 0
+pub count_change_in : {A : Type 0} (marks p q : A → Bool) (b c : Bool) (xs : List A) → count marks xs ≡ 1 → ((x : A) → marks x ≡ true → p x ≡ b)
+    → ((x : A) → marks x ≡ true → q x ≡ c) → AllByRecursion (λ x. marks x ≡ false → p x ≡ q x) xs → count p xs + cond c 1 0 ≡ count q xs + cond b 1 0
 count_change_in marks p q false true xs one f g h = let up : count q xs ≡ count p xs + count marks xs = count_up marks p q xs f g h in omega (arith, one, up)
-count_change_in marks p q true false xs one f g h = let up : count p xs ≡ count q xs + count marks xs = count_up marks q p xs g f (AllByRecursion-map (λ x. marks x ≡ false → p x ≡ q x) (λ x. marks x ≡ false → q x ≡ p x) xs (λ x same is. sym (same is)) h) in omega (arith, one, up)
-count_change_in {A = A} marks p q true true xs one f g h = ap (λ ys. length ys + 1) (filter_congr_in p q xs (AllByRecursion-map (λ x. marks x ≡ false → p x ≡ q x) (λ x. p x ≡ q x) xs (λ x same. by x same (marks x) refl) h))
+count_change_in marks p q true false xs one f g h = let up : count p xs ≡ count q xs
+    + count marks xs = count_up marks q p xs g f (AllByRecursion-map (λ x. marks x ≡ false → p x ≡ q x) (λ x. marks x ≡ false → q x ≡ p x) xs
+    (λ x same is. sym (same is)) h) in omega (arith, one, up)
+count_change_in {A = A} marks p q true true xs one f g h = ap (λ ys. length ys + 1)
+    (filter_congr_in p q xs (AllByRecursion-map (λ x. marks x ≡ false → p x ≡ q x) (λ x. p x ≡ q x) xs (λ x same. by x same (marks x) refl) h))
   where
     by : (x : A) → (marks x ≡ false → p x ≡ q x) → (m : Bool) → marks x ≡ m → p x ≡ q x
     by x same true is = f x is ∙ sym (g x is)
     by x same false is = same is
-count_change_in {A = A} marks p q false false xs one f g h = ap (λ ys. length ys + 0) (filter_congr_in p q xs (AllByRecursion-map (λ x. marks x ≡ false → p x ≡ q x) (λ x. p x ≡ q x) xs (λ x same. by x same (marks x) refl) h))
+count_change_in {A = A} marks p q false false xs one f g h = ap (λ ys. length ys + 0)
+    (filter_congr_in p q xs (AllByRecursion-map (λ x. marks x ≡ false → p x ≡ q x) (λ x. p x ≡ q x) xs (λ x same. by x same (marks x) refl) h))
   where
     by : (x : A) → (marks x ≡ false → p x ≡ q x) → (m : Bool) → marks x ≡ m → p x ≡ q x
     by x same true is = f x is ∙ sym (g x is)
     by x same false is = same is
 
-pub count_change : {A : Type 0} (marks p q : A → Bool) (b c : Bool) (xs : List A) → count marks xs ≡ 1 → ((x : A) → marks x ≡ true → p x ≡ b) → ((x : A) → marks x ≡ true → q x ≡ c) → ((x : A) → marks x ≡ false → p x ≡ q x) → count p xs + cond c 1 0 ≡ count q xs + cond b 1 0
+pub count_change : {A : Type 0} (marks p q : A → Bool) (b c : Bool) (xs : List A) → count marks xs ≡ 1 → ((x : A) → marks x ≡ true → p x ≡ b)
+    → ((x : A) → marks x ≡ true → q x ≡ c) → ((x : A) → marks x ≡ false → p x ≡ q x) → count p xs + cond c 1 0 ≡ count q xs + cond b 1 0
 count_change marks p q b c xs one f g h = count_change_in marks p q b c xs one f g (AllByRecursion-always (λ x. marks x ≡ false → p x ≡ q x) xs h)
 
 -- where the first test fails at the mark, and the second says c of it
-pub any_change : {A : Type 0} (marks p q : A → Bool) (c : Bool) (xs : List A) → ((x : A) → marks x ≡ true → p x ≡ false) → ((x : A) → marks x ≡ true → q x ≡ c) → ((x : A) → marks x ≡ false → p x ≡ q x) → list_any q xs ≡ (list_any p xs || (c && list_any marks xs))
+pub any_change : {A : Type 0} (marks p q : A → Bool) (c : Bool) (xs : List A) → ((x : A) → marks x ≡ true → p x ≡ false) → ((x : A) → marks x ≡ true → q x ≡ c)
+    → ((x : A) → marks x ≡ false → p x ≡ q x) → list_any q xs ≡ (list_any p xs || (c && list_any marks xs))
 any_change marks p q c [] f g h = ends c
   where
     ends : (b : Bool) → false ≡ (b && false)
@@ -204,7 +217,8 @@ any_change marks p q c (x ∷ xs) f g h = by (marks x) refl (any_change marks p 
     plain true qs ps cm is = refl
     plain false qs ps cm is = is
 
-    by : (m : Bool) → marks x ≡ m → list_any q xs ≡ (list_any p xs || (c && list_any marks xs)) → (q x || list_any q xs) ≡ ((p x || list_any p xs) || (c && (marks x || list_any marks xs)))
+    by : (m : Bool) → marks x ≡ m → list_any q xs ≡ (list_any p xs || (c && list_any marks xs))
+        → (q x || list_any q xs) ≡ ((p x || list_any p xs) || (c && (marks x || list_any marks xs)))
     by true is rest = rw (g x is, f x is, is) (marked c (list_any q xs) (list_any p xs) (list_any marks xs) rest)
     by false is rest = rw (h x is, is) (plain (q x) (list_any q xs) (list_any p xs) (c && list_any marks xs) rest)
 
@@ -224,11 +238,13 @@ list_any_none p (x ∷ xs) h = rw (h.0) (list_any_none p xs h.1)
 
 pub AllByRecursion-range : (P : ℕ → Type 0) (start len : ℕ) → ((x : ℕ) → start ≤ x → x < start + len → P x) → AllByRecursion P (range_with_len start len)
 AllByRecursion-range P start zero h = tt
-AllByRecursion-range P start (suc len) h = (h start (omega arith) (omega arith), AllByRecursion-range P (start + 1) len (λ x from to. h x (omega (arith, from)) (omega (arith, to))))
+AllByRecursion-range P start (suc len) h = (h start (omega arith) (omega arith), AllByRecursion-range P (start + 1) len
+    (λ x from to. h x (omega (arith, from)) (omega (arith, to))))
 
 pub range_without : (m start len : ℕ) → m < start → count (λ x. eqb m x) (range_with_len start len) ≡ 0
 range_without m start zero below = refl
-range_without m start (suc len) below = count_step (λ x. eqb m x) start (range_with_len (start + 1) len) false (ne_eqb m start (λ same. omega (arith, same, below))) ∙ range_without m (start + 1) len (omega (arith, below))
+range_without m start (suc len) below = count_step (λ x. eqb m x) start (range_with_len (start + 1) len) false
+    (ne_eqb m start (λ same. omega (arith, same, below))) ∙ range_without m (start + 1) len (omega (arith, below))
 
 -- each number of a row stands in it once
 pub range_with : (m start len : ℕ) → start ≤ m → m < start + len → count (λ x. eqb m x) (range_with_len start len) ≡ 1
@@ -239,9 +255,12 @@ range_with m start (suc len) from to = by (cases_eq m start) (λ more. range_wit
     between other (inl less) = omega (arith, less)
     between other (inr more) = absurd (other (omega (arith, from, more)))
 
-    by : (m ≡ start) ⊎ (m ≡ start → ⊥) → (start + 1 ≤ m → count (λ x. eqb m x) (range_with_len (start + 1) len) ≡ 1) → count (λ x. eqb m x) (range_with_len start (suc len)) ≡ 1
-    by (inl same) rest = count_step (λ x. eqb m x) start (range_with_len (start + 1) len) true (eq-eqb m start same) ∙ ap suc (range_without m (start + 1) len (omega (arith, same)))
-    by (inr other) rest = count_step (λ x. eqb m x) start (range_with_len (start + 1) len) false (ne_eqb m start other) ∙ rest (between other (cases_lt start m))
+    by : (m ≡ start) ⊎ (m ≡ start → ⊥) → (start + 1 ≤ m → count (λ x. eqb m x) (range_with_len (start + 1) len) ≡ 1)
+        → count (λ x. eqb m x) (range_with_len start (suc len)) ≡ 1
+    by (inl same) rest = count_step (λ x. eqb m x) start (range_with_len (start + 1) len) true (eq-eqb m start same)
+        ∙ ap suc (range_without m (start + 1) len (omega (arith, same)))
+    by (inr other) rest = count_step (λ x. eqb m x) start (range_with_len (start + 1) len) false (ne_eqb m start other)
+        ∙ rest (between other (cases_lt start m))
 
 pub any_from_count : {A : Type 0} (p : A → Bool) (xs : List A) (n : ℕ) → count p xs ≡ suc n → list_any p xs ≡ true
 any_from_count p [] n is = absurd (omega (arith, is))
@@ -263,12 +282,15 @@ count-append p xs ys = ap length (filter-append p xs ys) ∙ length-append (filt
 
 -- Elements by where they stand.
 
-members_from : {A : Type 0} (P : A → Type 0) (before xs : List A) → ((front : List A) (x : A) (back : List A) → front ++ x ∷ back ≡ before ++ xs → P x) → AllByRecursion P xs
+members_from : {A : Type 0} (P : A → Type 0) (before xs : List A) → ((front : List A) (x : A) (back : List A) → front ++ x ∷ back ≡ before ++ xs → P x)
+    → AllByRecursion P xs
 members_from P before [] h = tt
-members_from P before (x ∷ xs) h = (h before x xs refl, members_from P (before ++ x ∷ []) xs (λ front y back is. h front y back (is ∙ append_assoc before (x ∷ []) xs)))
+members_from P before (x ∷ xs) h = (h before x xs refl, members_from P (before ++ x ∷ []) xs
+    (λ front y back is. h front y back (is ∙ append_assoc before (x ∷ []) xs)))
 
 -- what holds of each element, where it stands in the list
-pub AllByRecursion-members : {A : Type 0} (P : A → Type 0) (xs : List A) → ((front : List A) (x : A) (back : List A) → front ++ x ∷ back ≡ xs → P x) → AllByRecursion P xs
+pub AllByRecursion-members : {A : Type 0} (P : A → Type 0) (xs : List A) → ((front : List A) (x : A) (back : List A) → front ++ x ∷ back ≡ xs → P x)
+    → AllByRecursion P xs
 AllByRecursion-members P xs h = members_from P [] xs h
 
 pub AllByRecursion-at : {A : Type 0} (P : A → Type 0) (front : List A) (x : A) (back : List A) → AllByRecursion P (front ++ x ∷ back) → P x
@@ -293,19 +315,23 @@ count_below p front x back fails =
     let le_back : count p back ≤ length back = count_le p back in
     omega (arith, whole, here, long, le_front, le_back)
 
-pub filter_split : {A : Type 0} (r : A → Bool) (front : List A) (x : A) (back : List A) → r x ≡ true → filter r (front ++ x ∷ back) ≡ filter r front ++ x ∷ filter r back
+pub filter_split : {A : Type 0} (r : A → Bool) (front : List A) (x : A) (back : List A) → r x ≡ true
+    → filter r (front ++ x ∷ back) ≡ filter r front ++ x ∷ filter r back
 filter_split r front x back passes = filter-append r front (x ∷ back) ∙ ap (λ (b : Bool). filter r front ++ cond b (x ∷ filter r back) (filter r back)) passes
 
 -- the least of a list whose elements are all changed, in a way that the order does not see
-least_from-map : {A B : Type 0} (below : A → A → Bool) (above : B → B → Bool) (g : A → B) (x : A) (xs : List A) → ((a b : A) → above (g a) (g b) ≡ below a b) → least_from above (g x) (map g xs) ≡ g (least_from below x xs)
+least_from-map : {A B : Type 0} (below : A → A → Bool) (above : B → B → Bool) (g : A → B) (x : A) (xs : List A) → ((a b : A) → above (g a) (g b) ≡ below a b)
+    → least_from above (g x) (map g xs) ≡ g (least_from below x xs)
 least_from-map below above g x [] h = refl
-least_from-map {B = B} below above g x (y ∷ xs) h = ap (λ (z : B). least_from above z (map g xs)) (picked (below y x) (h y x)) ∙ least_from-map below above g (cond (below y x) y x) xs h
+least_from-map {B = B} below above g x (y ∷ xs) h = ap (λ (z : B). least_from above z (map g xs)) (picked (below y x) (h y x))
+    ∙ least_from-map below above g (cond (below y x) y x) xs h
   where
     picked : (b : Bool) → above (g y) (g x) ≡ b → cond (above (g y) (g x)) (g y) (g x) ≡ g (cond b y x)
     picked true is = ap (λ (b : Bool). cond b (g y) (g x)) is
     picked false is = ap (λ (b : Bool). cond b (g y) (g x)) is
 
-pub least-map : {A B : Type 0} (below : A → A → Bool) (above : B → B → Bool) (g : A → B) (xs : List A) → ((a b : A) → above (g a) (g b) ≡ below a b) → least above (map g xs) ≡ option_map g (least below xs)
+pub least-map : {A B : Type 0} (below : A → A → Bool) (above : B → B → Bool) (g : A → B) (xs : List A) → ((a b : A) → above (g a) (g b) ≡ below a b)
+    → least above (map g xs) ≡ option_map g (least below xs)
 least-map below above g [] h = refl
 least-map below above g (x ∷ xs) h = ap Some (least_from-map below above g x xs h)
 
@@ -318,11 +344,13 @@ filter_map_congr_in f g [] h = refl
 filter_map_congr_in f g (x ∷ xs) h = rw (h.0, filter_map_congr_in f g xs h.1) refl
 
 -- a test on what is made of the elements is a test on the elements
-pub filter-filter_map : {A B : Type 0} (r : B → Bool) (s : A → Bool) (f : A → Option B) (xs : List A) → ((x : A) (y : B) → f x ≡ Some y → r y ≡ s x) → filter_map f (filter s xs) ≡ filter r (filter_map f xs)
+pub filter-filter_map : {A B : Type 0} (r : B → Bool) (s : A → Bool) (f : A → Option B) (xs : List A) → ((x : A) (y : B) → f x ≡ Some y → r y ≡ s x)
+    → filter_map f (filter s xs) ≡ filter r (filter_map f xs)
 filter-filter_map r s f [] h = refl
 filter-filter_map {A = A} {B = B} r s f (x ∷ xs) h = by (f x) refl (filter-filter_map r s f xs h)
   where
-    kept : (b : Bool) → filter_map f (cond b (x ∷ filter s xs) (filter s xs)) ≡ cond b (cons_option (f x) (filter_map f (filter s xs))) (filter_map f (filter s xs))
+    kept : (b : Bool) → filter_map f (cond b (x ∷ filter s xs) (filter s xs))
+        ≡ cond b (cons_option (f x) (filter_map f (filter s xs))) (filter_map f (filter s xs))
     kept true = refl
     kept false = refl
 
@@ -330,7 +358,8 @@ filter-filter_map {A = A} {B = B} r s f (x ∷ xs) h = by (f x) refl (filter-fil
     none true ys = refl
     none false ys = refl
 
-    by : (o : Option B) → f x ≡ o → filter_map f (filter s xs) ≡ filter r (filter_map f xs) → filter_map f (cond (s x) (x ∷ filter s xs) (filter s xs)) ≡ filter r (cons_option (f x) (filter_map f xs))
+    by : (o : Option B) → f x ≡ o → filter_map f (filter s xs) ≡ filter r (filter_map f xs)
+        → filter_map f (cond (s x) (x ∷ filter s xs) (filter s xs)) ≡ filter r (cons_option (f x) (filter_map f xs))
     by None is rest =
         kept (s x)
         ∙ ap (λ o. cond (s x) (cons_option o (filter_map f (filter s xs))) (filter_map f (filter s xs))) is
@@ -357,20 +386,23 @@ filter-keep {B = B} test f (x ∷ xs) = by (f x) (filter-keep test f xs)
     pick true y ys = refl
     pick false y ys = refl
 
-    by : (o : Option B) → filter test (filter_map f xs) ≡ filter_map (λ z. keep test (f z)) xs → filter test (cons_option o (filter_map f xs)) ≡ cons_option (keep test o) (filter_map (λ z. keep test (f z)) xs)
+    by : (o : Option B) → filter test (filter_map f xs) ≡ filter_map (λ z. keep test (f z)) xs
+        → filter test (cons_option o (filter_map f xs)) ≡ cons_option (keep test o) (filter_map (λ z. keep test (f z)) xs)
     by None rest = rest
     by (Some y) rest = ap (λ ys. cond (test y) (y ∷ ys) ys) rest ∙ pick (test y) y (filter_map (λ z. keep test (f z)) xs)
 
 -- a test on the numbers of a row, at one of them
 pub range_all_at : (p : ℕ → Bool) (start len x : ℕ) → list_all p (range_with_len start len) ≡ true → start ≤ x → x < start + len → p x ≡ true
 range_all_at p start zero x all from to = absurd (omega (arith, from, to))
-range_all_at p start (suc len) x all from to = by (cases_eq x start) (and_parts (p start) (list_all p (range_with_len (start + 1) len)) all) (λ rest more. range_all_at p (start + 1) len x rest more (omega (arith, to)))
+range_all_at p start (suc len) x all from to = by (cases_eq x start) (and_parts (p start) (list_all p (range_with_len (start + 1) len)) all)
+    (λ rest more. range_all_at p (start + 1) len x rest more (omega (arith, to)))
   where
     between : (x ≡ start → ⊥) → (start < x) ⊎ (x ≤ start) → start + 1 ≤ x
     between other (inl less) = omega (arith, less)
     between other (inr more) = absurd (other (omega (arith, from, more)))
 
-    by : (x ≡ start) ⊎ (x ≡ start → ⊥) → (p start ≡ true) × (list_all p (range_with_len (start + 1) len) ≡ true) → (list_all p (range_with_len (start + 1) len) ≡ true → start + 1 ≤ x → p x ≡ true) → p x ≡ true
+    by : (x ≡ start) ⊎ (x ≡ start → ⊥) → (p start ≡ true) × (list_all p (range_with_len (start + 1) len) ≡ true)
+        → (list_all p (range_with_len (start + 1) len) ≡ true → start + 1 ≤ x → p x ≡ true) → p x ≡ true
     by (inl same) parts rest = ap p same ∙ parts.0
     by (inr other) parts rest = rest parts.1 (between other (cases_lt start x))
 
@@ -382,7 +414,8 @@ range_any_at p start (suc len) x is from to = by (cases_eq x start) (λ more. ra
     between other (inl less) = omega (arith, less)
     between other (inr more) = absurd (other (omega (arith, from, more)))
 
-    by : (x ≡ start) ⊎ (x ≡ start → ⊥) → (start + 1 ≤ x → list_any p (range_with_len (start + 1) len) ≡ true) → (p start || list_any p (range_with_len (start + 1) len)) ≡ true
+    by : (x ≡ start) ⊎ (x ≡ start → ⊥) → (start + 1 ≤ x → list_any p (range_with_len (start + 1) len) ≡ true)
+        → (p start || list_any p (range_with_len (start + 1) len)) ≡ true
     by (inl same) rest = or_left (p start) (list_any p (range_with_len (start + 1) len)) (ap p (sym same) ∙ is)
     by (inr other) rest = or_right (p start) (list_any p (range_with_len (start + 1) len)) (rest (between other (cases_lt start x)))
 
@@ -390,7 +423,8 @@ pub count_mono : {A : Type 0} (p q : A → Bool) (xs : List A) → ((x : A) → 
 count_mono p q [] h = omega arith
 count_mono p q (x ∷ xs) h = by (p x) refl (count_mono p q xs h) (count-cons p x xs) (count-cons q x xs)
   where
-    by : (b : Bool) → p x ≡ b → count p xs ≤ count q xs → count p (x ∷ xs) ≡ count p xs + cond (p x) 1 0 → count q (x ∷ xs) ≡ count q xs + cond (q x) 1 0 → count p (x ∷ xs) ≤ count q (x ∷ xs)
+    by : (b : Bool) → p x ≡ b → count p xs ≤ count q xs → count p (x ∷ xs) ≡ count p xs + cond (p x) 1 0 → count q (x ∷ xs) ≡ count q xs + cond (q x) 1 0
+        → count p (x ∷ xs) ≤ count q (x ∷ xs)
     by true is le left right =
         let one : count p (x ∷ xs) ≡ count p xs + 1 = left ∙ ap (λ (b : Bool). count p xs + cond b 1 0) is in
         let two : count q (x ∷ xs) ≡ count q xs + 1 = right ∙ ap (λ (b : Bool). count q xs + cond b 1 0) (h x is) in
@@ -400,7 +434,8 @@ count_mono p q (x ∷ xs) h = by (p x) refl (count_mono p q xs h) (count-cons p 
         omega (arith, le, one, right)
 
 -- what passes the first test passes the second, and an element of the list passes the second alone
-pub count_less : {A : Type 0} (p q : A → Bool) (front : List A) (x : A) (back : List A) → ((y : A) → p y ≡ true → q y ≡ true) → p x ≡ false → q x ≡ true → count p (front ++ x ∷ back) < count q (front ++ x ∷ back)
+pub count_less : {A : Type 0} (p q : A → Bool) (front : List A) (x : A) (back : List A) → ((y : A) → p y ≡ true → q y ≡ true) → p x ≡ false → q x ≡ true
+    → count p (front ++ x ∷ back) < count q (front ++ x ∷ back)
 count_less p q front x back h fails passes =
     let left : count p (front ++ x ∷ back) ≡ count p front + count p (x ∷ back) = count-append p front (x ∷ back) in
     let left_here : count p (x ∷ back) ≡ count p back + 0 = count-cons p x back ∙ ap (λ (b : Bool). count p back + cond b 1 0) fails in
@@ -416,7 +451,8 @@ filter_always p (x ∷ xs) h = rw (h x) (ap (λ rest. x ∷ rest) (filter_always
 
 pub filter-map : {A B : Type 0} (p : B → Bool) (f : A → B) (xs : List A) → filter p (map f xs) ≡ map f (filter (λ x. p (f x)) xs)
 filter-map p f [] = refl
-filter-map p f (x ∷ xs) = elim (p (f x)) as (λ b. cond b (f x ∷ filter p (map f xs)) (filter p (map f xs)) ≡ map f (cond b (x ∷ filter (λ y. p (f y)) xs) (filter (λ y. p (f y)) xs))) [
+filter-map p f (x ∷ xs) = elim (p (f x)) as (λ b. cond b (f x ∷ filter p (map f xs)) (filter p (map f xs))
+    ≡ map f (cond b (x ∷ filter (λ y. p (f y)) xs) (filter (λ y. p (f y)) xs))) [
   | true ↦ ap (λ rest. f x ∷ rest) (filter-map p f xs)
   | false ↦ filter-map p f xs
 ]
@@ -440,7 +476,8 @@ pub filter_map_never : {A B : Type 0} (f : A → Option B) (xs : List A) → ((x
 filter_map_never f [] h = refl
 filter_map_never f (x ∷ xs) h = rw (h x) (filter_map_never f xs h)
 
-pub AllByRecursion-filter_map : {A B : Type 0} (P : B → Type 0) (f : A → Option B) (xs : List A) → AllByRecursion (λ x. IfSome (f x) P) xs → AllByRecursion P (filter_map f xs)
+pub AllByRecursion-filter_map : {A B : Type 0} (P : B → Type 0) (f : A → Option B) (xs : List A) → AllByRecursion (λ x. IfSome (f x) P) xs
+    → AllByRecursion P (filter_map f xs)
 AllByRecursion-filter_map P f [] h = tt
 AllByRecursion-filter_map {B = B} P f (x ∷ xs) h = made (f x) h.0 (AllByRecursion-filter_map P f xs h.1)
   where

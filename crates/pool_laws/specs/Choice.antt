@@ -6,7 +6,7 @@ use Rattle.task_base.specs.declared.entry.Kind.{Kind}
 use Rattle.task_base.specs.declared.entry.Kind.TheVariants as kinds
 use Rattle.task_base.specs.declared.source.TaskSource.{TaskSource}
 use Rattle.task_base.specs.declared.source.TaskSource.TheVariants.{Sequence, Job}
-use Rattle.task_model.specs.Sequences.{sequence_of, sequence_count}
+use Rattle.task_base.specs.Runners.{sequence_of, sequence_count}
 use Rattle.task_model.specs.Sources.{Candidate, sequence_waiting, waiting, leaves, IsTakeable, is_takeable, goes_before, job_waiting}
 use Rattle.pool_laws.specs.Room.{moves_room}
 use Rattle.std.specs.Option.{option_map}

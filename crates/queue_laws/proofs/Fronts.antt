@@ -33,20 +33,28 @@ all_fronts_same script past e quiet = flat_map_congr (fronts_of script (past ++ 
     ∙ ap (λ o. option_to_list (front_of script past q Immediate) ++ option_to_list o) (front_same script past e q Delayed quiet))
 
 -- where no lane changes, the fronts stay, and each is open or not by the new entry
-pub open_fronts_of_lanes : (script : Plan) (past : List Entry) (e : Entry) → moves_lanes e.kind ≡ false → open_fronts script (past ++ e ∷ []) ≡ filter (is_open script (past ++ e ∷ [])) (all_fronts script past)
+pub open_fronts_of_lanes : (script : Plan) (past : List Entry) (e : Entry) → moves_lanes e.kind ≡ false
+    → open_fronts script (past ++ e ∷ []) ≡ filter (is_open script (past ++ e ∷ [])) (all_fronts script past)
 unfolding open_fronts
 open_fronts_of_lanes script past e quiet = ap (filter (is_open script (past ++ e ∷ []))) (all_fronts_same script past e quiet)
 
 -- whether a queue is enabled, after an entry that is no vote
-enabled_same : (script : Plan) (past : List Entry) (e : Entry) → ((q v : ℕ) (now : Bool) → vote_after q v now e.kind ≡ now) → (q : ℕ) → is_enabled script (past ++ e ∷ []) q ≡ is_enabled script past q
-enabled_same script past e none q = list_all_congr (votes_on (past ++ e ∷ []) q) (votes_on past q) (range_with_len 0 (voters_of script q)) (λ v. votes_on_push past e q v ∙ none q v (votes_on past q v))
+enabled_same : (script : Plan) (past : List Entry) (e : Entry) → ((q v : ℕ) (now : Bool) → vote_after q v now e.kind ≡ now) → (q : ℕ)
+    → is_enabled script (past ++ e ∷ []) q ≡ is_enabled script past q
+enabled_same script past e none q = list_all_congr (votes_on (past ++ e ∷ []) q) (votes_on past q) (range_with_len 0 (voters_of script q))
+    (λ v. votes_on_push past e q v ∙ none q v (votes_on past q v))
 
 -- a front is open as before, but for the queue that the entry closes
-open_but_closed : (script : Plan) (past : List Entry) (e : Entry) (f : Front) → ((q v : ℕ) (now : Bool) → vote_after q v now e.kind ≡ now) → ((q : ℕ) (now : Option ℕ) → fence_after q past now e.kind ≡ now) → is_open script (past ++ e ∷ []) f ≡ (is_open script past f && not (closes f.queue e.kind))
+open_but_closed : (script : Plan) (past : List Entry) (e : Entry) (f : Front) → ((q v : ℕ) (now : Bool) → vote_after q v now e.kind ≡ now)
+    → ((q : ℕ) (now : Option ℕ) → fence_after q past now e.kind ≡ now)
+    → is_open script (past ++ e ∷ []) f ≡ (is_open script past f && not (closes f.queue e.kind))
 open_but_closed script past e f no_vote no_fence =
-    ap (λ b. not b && is_enabled script (past ++ e ∷ []) f.queue && option_map_or (nat_lt f.order) (fence_of (past ++ e ∷ []) f.queue) true) (is_closed_push past e f.queue)
-    ∙ ap (λ b. not (is_closed past f.queue || closes f.queue e.kind) && b && option_map_or (nat_lt f.order) (fence_of (past ++ e ∷ []) f.queue) true) (enabled_same script past e no_vote f.queue)
-    ∙ ap (λ o. not (is_closed past f.queue || closes f.queue e.kind) && is_enabled script past f.queue && option_map_or (nat_lt f.order) o true) (fence_of_push past e f.queue ∙ no_fence f.queue (fence_of past f.queue))
+    ap (λ b. not b && is_enabled script (past ++ e ∷ []) f.queue && option_map_or (nat_lt f.order) (fence_of (past ++ e ∷ []) f.queue) true)
+        (is_closed_push past e f.queue)
+    ∙ ap (λ b. not (is_closed past f.queue || closes f.queue e.kind) && b && option_map_or (nat_lt f.order) (fence_of (past ++ e ∷ []) f.queue) true)
+        (enabled_same script past e no_vote f.queue)
+    ∙ ap (λ o. not (is_closed past f.queue || closes f.queue e.kind) && is_enabled script past f.queue && option_map_or (nat_lt f.order) o true)
+        (fence_of_push past e f.queue ∙ no_fence f.queue (fence_of past f.queue))
     ∙ swapped (is_closed past f.queue) (closes f.queue e.kind) (is_enabled script past f.queue) (option_map_or (nat_lt f.order) (fence_of past f.queue) true)
   where
     swapped : (a b c d : Bool) → (not (a || b) && c && d) ≡ ((not a && c && d) && not b)
@@ -65,11 +73,14 @@ no_lanes (kinds.Rank queue class) h = h
 no_lanes (kinds.MainTake task queue found) h = h
 no_lanes kind h = refl
 
-pub open_fronts_same : (script : Plan) (past : List Entry) (e : Entry) → moves_main_queues e.kind ≡ false → open_fronts script (past ++ e ∷ []) ≡ open_fronts script past
+pub open_fronts_same : (script : Plan) (past : List Entry) (e : Entry) → moves_main_queues e.kind ≡ false
+    → open_fronts script (past ++ e ∷ []) ≡ open_fronts script past
 unfolding open_fronts
 open_fronts_same script past e quiet =
     open_fronts_of_lanes script past e (no_lanes e.kind quiet)
-    ∙ filter_congr (is_open script (past ++ e ∷ [])) (is_open script past) (all_fronts script past) (λ f. open_but_closed script past e f (λ q v now. no_vote q v now e.kind quiet) (λ q now. no_fence q now e.kind quiet) ∙ ap (λ b. is_open script past f && not b) (no_close f.queue e.kind quiet) ∙ and-true (is_open script past f))
+    ∙ filter_congr (is_open script (past ++ e ∷ [])) (is_open script past) (all_fronts script past)
+        (λ f. open_but_closed script past e f (λ q v now. no_vote q v now e.kind quiet) (λ q now. no_fence q now e.kind quiet)
+        ∙ ap (λ b. is_open script past f && not b) (no_close f.queue e.kind quiet) ∙ and-true (is_open script past f))
   where
     and-true : (b : Bool) → (b && true) ≡ b
     and-true true = refl
@@ -89,27 +100,34 @@ open_fronts_same script past e quiet =
     no_close q kind h = refl
 
 -- no front of a closed queue is open
-pub open_fronts_at_close : (script : Plan) (past : List Entry) (e : Entry) (queue : ℕ) → e.kind ≡ kinds.Close queue → open_fronts script (past ++ e ∷ []) ≡ filter (λ f. not (queue == f.queue)) (open_fronts script past)
+pub open_fronts_at_close : (script : Plan) (past : List Entry) (e : Entry) (queue : ℕ) → e.kind ≡ kinds.Close queue
+    → open_fronts script (past ++ e ∷ []) ≡ filter (λ f. not (queue == f.queue)) (open_fronts script past)
 unfolding open_fronts
 open_fronts_at_close script past e queue is =
     open_fronts_of_lanes script past e (ap moves_lanes is)
-    ∙ filter_congr (is_open script (past ++ e ∷ [])) (λ f. is_open script past f && not (eqb queue f.queue)) (all_fronts script past) (λ f. open_but_closed script past e f (λ q v now. ap (vote_after q v now) is) (λ q now. ap (fence_after q past now) is) ∙ ap (λ kind. is_open script past f && not (closes f.queue kind)) is)
+    ∙ filter_congr (is_open script (past ++ e ∷ [])) (λ f. is_open script past f && not (eqb queue f.queue)) (all_fronts script past)
+        (λ f. open_but_closed script past e f (λ q v now. ap (vote_after q v now) is) (λ q now. ap (fence_after q past now) is)
+        ∙ ap (λ kind. is_open script past f && not (closes f.queue kind)) is)
     ∙ sym (filter-filter (λ f. not (eqb queue f.queue)) (is_open script past) (all_fronts script past))
 
 -- The choice.
 
-pub chosen_fronts_same : (script : Plan) (past : List Entry) (e : Entry) → moves_main_queues e.kind ≡ false → chosen_fronts script (past ++ e ∷ []) ≡ chosen_fronts script past
+pub chosen_fronts_same : (script : Plan) (past : List Entry) (e : Entry) → moves_main_queues e.kind ≡ false
+    → chosen_fronts script (past ++ e ∷ []) ≡ chosen_fronts script past
 unfolding chosen_fronts
-chosen_fronts_same script past e quiet = ap (λ fs. filter (λ f. holds_of (λ class. eqb f.class class) (option_map (λ x. x.class) (least class_below fs))) fs) (open_fronts_same script past e quiet)
+chosen_fronts_same script past e quiet = ap (λ fs. filter (λ f. holds_of (λ class. eqb f.class class) (option_map (λ x. x.class) (least class_below fs))) fs)
+    (open_fronts_same script past e quiet)
 
-pub streak_of_same : (script : Plan) (past : List Entry) (e : Entry) → moves_main_queues e.kind ≡ false → streak_of script (past ++ e ∷ []) ≡ streak_of script past
+pub streak_of_same : (script : Plan) (past : List Entry) (e : Entry) → moves_main_queues e.kind ≡ false
+    → streak_of script (past ++ e ∷ []) ≡ streak_of script past
 streak_of_same script past e quiet = streak_of_push script past e ∙ by e.kind quiet (streak_of script past)
   where
     by : (kind : Kind) → moves_main_queues kind ≡ false → (n : ℕ) → streak_after script past n kind ≡ n
     by (kinds.MainTake task queue found) h n = absurd (true≢false h)
     by kind h n = refl
 
-pub chosen_of_same : (script : Plan) (past : List Entry) (e : Entry) → moves_main_queues e.kind ≡ false → chosen_of script (past ++ e ∷ []) ≡ chosen_of script past
+pub chosen_of_same : (script : Plan) (past : List Entry) (e : Entry) → moves_main_queues e.kind ≡ false
+    → chosen_of script (past ++ e ∷ []) ≡ chosen_of script past
 unfolding chosen_of
 chosen_of_same script past e quiet =
     ap (λ fs. choice (streak_of script (past ++ e ∷ [])) fs) (chosen_fronts_same script past e quiet)

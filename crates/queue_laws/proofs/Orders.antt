@@ -32,7 +32,8 @@ or-false false = refl
 
 -- each accepted main task has its place in the past
 pub main_places : (past : List Entry) → AllByRecursion (λ p. p.place < length past) (main_posts past)
-main_places past = AllByRecursion-map (λ p. nat_lt p.place (length past) ≡ true) (λ p. p.place < length past) (main_posts past) (λ p is. ltb-true p.place (length past) is) (main_posts_within past)
+main_places past = AllByRecursion-map (λ p. nat_lt p.place (length past) ≡ true) (λ p. p.place < length past) (main_posts past)
+    (λ p is. ltb-true p.place (length past) is) (main_posts_within past)
 
 -- Orders.
 
@@ -63,14 +64,17 @@ unfolding order_of
 order_is past p = refl
 
 -- the order of a task of the past, by a tick of the past
-order_front : (past rest : List Entry) (p : Posted) (tick : Option ℕ) → p.place < length past → ((place : ℕ) → tick ≡ Some place → place < length past) → order_from (past ++ rest) p tick ≡ order_from past p tick
+order_front : (past rest : List Entry) (p : Posted) (tick : Option ℕ) → p.place < length past → ((place : ℕ) → tick ≡ Some place → place < length past)
+    → order_from (past ++ rest) p tick ≡ order_from past p tick
 order_front past rest p tick lt within = by (is_delayed p)
   where
-    ticked : (o : Option ℕ) → ((place : ℕ) → o ≡ Some place → place < length past) → option_and_then (drawn (past ++ rest) p) o ≡ option_and_then (drawn past p) o
+    ticked : (o : Option ℕ) → ((place : ℕ) → o ≡ Some place → place < length past)
+        → option_and_then (drawn (past ++ rest) p) o ≡ option_and_then (drawn past p) o
     ticked None f = refl
     ticked (Some place) f = drawn_front past rest p place (f place refl)
 
-    by : (b : Bool) → cond b (option_and_then (drawn (past ++ rest) p) tick) (Some (next_draw (take p.place (past ++ rest)))) ≡ cond b (option_and_then (drawn past p) tick) (Some (next_draw (take p.place past)))
+    by : (b : Bool) → cond b (option_and_then (drawn (past ++ rest) p) tick) (Some (next_draw (take p.place (past ++ rest))))
+        ≡ cond b (option_and_then (drawn past p) tick) (Some (next_draw (take p.place past)))
     by true = ticked tick within
     by false = ap (λ before. Some (next_draw before)) (take-append-le p.place past rest (omega (arith, lt)))
 
@@ -78,14 +82,16 @@ order_front past rest p tick lt within = by (is_delayed p)
 pub order_of_stays : (past rest : List Entry) (p : Posted) (n : ℕ) → p.place < length past → order_of past p ≡ Some n → order_of (past ++ rest) p ≡ Some n
 order_of_stays past rest p n lt is = order_is (past ++ rest) p ∙ by (is_delayed p) refl (sym (order_is past p) ∙ is)
   where
-    drawn_then : (o : Option ℕ) → o ≡ tick_from past p.ripe → option_and_then (drawn past p) o ≡ Some n → option_and_then (drawn (past ++ rest) p) (tick_from (past ++ rest) p.ripe) ≡ Some n
+    drawn_then : (o : Option ℕ) → o ≡ tick_from past p.ripe → option_and_then (drawn past p) o ≡ Some n
+        → option_and_then (drawn (past ++ rest) p) (tick_from (past ++ rest) p.ripe) ≡ Some n
     drawn_then None was h = absurd (none-some n h)
     drawn_then (Some place) was h =
         ap (option_and_then (drawn (past ++ rest) p)) (tick_from_stays past rest p.ripe place (sym was))
         ∙ drawn_front past rest p place (tick_within past p.ripe place (sym was))
         ∙ h
 
-    by : (b : Bool) → is_delayed p ≡ b → cond b (option_and_then (drawn past p) (tick_from past p.ripe)) (Some (next_draw (take p.place past))) ≡ Some n → cond b (option_and_then (drawn (past ++ rest) p) (tick_from (past ++ rest) p.ripe)) (Some (next_draw (take p.place (past ++ rest)))) ≡ Some n
+    by : (b : Bool) → is_delayed p ≡ b → cond b (option_and_then (drawn past p) (tick_from past p.ripe)) (Some (next_draw (take p.place past))) ≡ Some n
+        → cond b (option_and_then (drawn (past ++ rest) p) (tick_from (past ++ rest) p.ripe)) (Some (next_draw (take p.place (past ++ rest)))) ≡ Some n
     by true delayed h = drawn_then (tick_from past p.ripe) refl h
     by false immediate h = ap (λ before. Some (next_draw before)) (take-append-le p.place past rest (omega (arith, lt))) ∙ h
 
@@ -95,13 +101,15 @@ no_tick (kinds.Tick now) h moment = absurd (true≢false h)
 no_tick kind h moment = refl
 
 pub tick_same : (past : List Entry) (e : Entry) → moves_orders e.kind ≡ false → (moment : ℕ) → tick_from (past ++ e ∷ []) moment ≡ tick_from past moment
-tick_same past e quiet moment = tick_from_push past e moment ∙ ap (λ (b : Bool). option_or (tick_from past moment) (cond b (Some (length past)) None)) (no_tick e.kind quiet moment) ∙ or-none (tick_from past moment)
+tick_same past e quiet moment = tick_from_push past e moment
+    ∙ ap (λ (b : Bool). option_or (tick_from past moment) (cond b (Some (length past)) None)) (no_tick e.kind quiet moment) ∙ or-none (tick_from past moment)
   where
     or-none : (o : Option ℕ) → option_or o None ≡ o
     or-none (Some n) = refl
     or-none None = refl
 
-pub order_of_same : (past : List Entry) (e : Entry) (p : Posted) → p.place < length past → moves_orders e.kind ≡ false → order_of (past ++ e ∷ []) p ≡ order_of past p
+pub order_of_same : (past : List Entry) (e : Entry) (p : Posted) → p.place < length past → moves_orders e.kind ≡ false
+    → order_of (past ++ e ∷ []) p ≡ order_of past p
 order_of_same past e p lt quiet =
     order_is (past ++ e ∷ []) p
     ∙ ap (order_from (past ++ e ∷ []) p) (tick_same past e quiet p.ripe)
@@ -113,8 +121,10 @@ pub order_at_tick : (past : List Entry) (e : Entry) (p : Posted) (moment : ℕ) 
     → order_of (past ++ e ∷ []) p ≡ drawn_at past moment p
 order_at_tick past e p moment is delayed none =
     order_is (past ++ e ∷ []) p
-    ∙ ap (λ (b : Bool). cond b (option_and_then (drawn (past ++ e ∷ []) p) (tick_from (past ++ e ∷ []) p.ripe)) (Some (next_draw (take p.place (past ++ e ∷ []))))) delayed
-    ∙ ap (option_and_then (drawn (past ++ e ∷ []) p)) (tick_from_push past e p.ripe ∙ ap (λ o. option_or o (tick_by past p.ripe e.kind)) none ∙ ap (tick_by past p.ripe) is)
+    ∙ ap (λ (b : Bool). cond b (option_and_then (drawn (past ++ e ∷ []) p) (tick_from (past ++ e ∷ []) p.ripe))
+        (Some (next_draw (take p.place (past ++ e ∷ []))))) delayed
+    ∙ ap (option_and_then (drawn (past ++ e ∷ []) p)) (tick_from_push past e p.ripe ∙ ap (λ o. option_or o (tick_by past p.ripe e.kind)) none
+        ∙ ap (tick_by past p.ripe) is)
     ∙ by (nat_le p.ripe moment) refl
   where
     here : drawn (past ++ e ∷ []) p (length past) ≡ drawn_at past moment p
@@ -130,7 +140,9 @@ order_at_tick past e p moment is delayed none =
     neither false b c = refl
 
     early : nat_le p.ripe moment ≡ false → None ≡ drawn_at past moment p
-    early h = sym (ap (λ (b : Bool). cond b (Some (next_draw past + drawn_before)) None) (ap (λ b. is_delayed p && not (is_closed past p.home) && nat_lt (now_of past) p.ripe && b) h ∙ neither (is_delayed p) (not (is_closed past p.home)) (nat_lt (now_of past) p.ripe)))
+    early h = sym (ap (λ (b : Bool). cond b (Some (next_draw past + drawn_before)) None)
+        (ap (λ b. is_delayed p && not (is_closed past p.home) && nat_lt (now_of past) p.ripe && b) h
+        ∙ neither (is_delayed p) (not (is_closed past p.home)) (nat_lt (now_of past) p.ripe)))
       where
         drawn_before : ℕ
         drawn_before = length (filter (λ q. nat_lt q.ripe p.ripe || (eqb q.ripe p.ripe && nat_lt q.place p.place)) (ripening past moment))
@@ -140,23 +152,28 @@ order_at_tick past e p moment is delayed none =
     by false h = early h
 
 -- an immediate task draws at its post
-pub order_at_post : (past : List Entry) (e : Entry) (task queue delay : ℕ) → nat_lt 0 delay ≡ false → order_of (past ++ e ∷ []) (post_behind past task queue delay) ≡ Some (next_draw past)
+pub order_at_post : (past : List Entry) (e : Entry) (task queue delay : ℕ) → nat_lt 0 delay ≡ false
+    → order_of (past ++ e ∷ []) (post_behind past task queue delay) ≡ Some (next_draw past)
 order_at_post past e task queue delay immediate =
     order_is (past ++ e ∷ []) (post_behind past task queue delay)
-    ∙ ap (λ (b : Bool). cond b (option_and_then (drawn (past ++ e ∷ []) (post_behind past task queue delay)) (tick_from (past ++ e ∷ []) (post_behind past task queue delay).ripe)) (Some (next_draw (take (length past) (past ++ e ∷ []))))) immediate
+    ∙ ap (λ (b : Bool). cond b (option_and_then (drawn (past ++ e ∷ []) (post_behind past task queue delay))
+        (tick_from (past ++ e ∷ []) (post_behind past task queue delay).ripe)) (Some (next_draw (take (length past) (past ++ e ∷ []))))) immediate
     ∙ ap (λ before. Some (next_draw before)) (take-append_seam past (e ∷ []))
 
 -- a delayed task has no order at its post
-pub unordered : (past : List Entry) (e : Entry) (p : Posted) → moves_orders e.kind ≡ false → is_delayed p ≡ true → tick_from past p.ripe ≡ None → order_of (past ++ e ∷ []) p ≡ None
+pub unordered : (past : List Entry) (e : Entry) (p : Posted) → moves_orders e.kind ≡ false → is_delayed p ≡ true → tick_from past p.ripe ≡ None
+    → order_of (past ++ e ∷ []) p ≡ None
 unordered past e p quiet delayed unripe =
     order_is (past ++ e ∷ []) p
-    ∙ ap (λ (b : Bool). cond b (option_and_then (drawn (past ++ e ∷ []) p) (tick_from (past ++ e ∷ []) p.ripe)) (Some (next_draw (take p.place (past ++ e ∷ []))))) delayed
+    ∙ ap (λ (b : Bool). cond b (option_and_then (drawn (past ++ e ∷ []) p) (tick_from (past ++ e ∷ []) p.ripe))
+        (Some (next_draw (take p.place (past ++ e ∷ []))))) delayed
     ∙ ap (option_and_then (drawn (past ++ e ∷ []) p)) (tick_same past e quiet p.ripe ∙ unripe)
 
 pub ripening_same : (past : List Entry) (e : Entry) (moment : ℕ) → moves_ripening e.kind ≡ false → ripening (past ++ e ∷ []) moment ≡ ripening past moment
 unfolding ripening
 ripening_same past e moment quiet =
-    ap (filter (ripens (past ++ e ∷ []) moment)) (main_posts_push past e ∙ ap (λ xs. main_posts past ++ xs) (no_post e.kind quiet) ∙ append-nil (main_posts past))
+    ap (filter (ripens (past ++ e ∷ []) moment)) (main_posts_push past e ∙ ap (λ xs. main_posts past ++ xs) (no_post e.kind quiet)
+        ∙ append-nil (main_posts past))
     ∙ filter_congr (ripens (past ++ e ∷ []) moment) (ripens past moment) (main_posts past) same
   where
     no_post : (kind : Kind) → moves_ripening kind ≡ false → main_posted_by past kind ≡ []
@@ -173,8 +190,10 @@ ripening_same past e moment quiet =
 
     same : (p : Posted) → ripens (past ++ e ∷ []) moment p ≡ ripens past moment p
     same p =
-        ap (λ b. is_delayed p && not b && nat_lt (now_of (past ++ e ∷ [])) p.ripe && nat_le p.ripe moment) (is_closed_push past e p.home ∙ ap (λ b. is_closed past p.home || b) (no_close p.home e.kind quiet) ∙ or-false (is_closed past p.home))
-        ∙ ap (λ n. is_delayed p && not (is_closed past p.home) && nat_lt n p.ripe && nat_le p.ripe moment) (now_of_push past e ∙ still (now_of past) e.kind quiet)
+        ap (λ b. is_delayed p && not b && nat_lt (now_of (past ++ e ∷ [])) p.ripe && nat_le p.ripe moment) (is_closed_push past e p.home
+            ∙ ap (λ b. is_closed past p.home || b) (no_close p.home e.kind quiet) ∙ or-false (is_closed past p.home))
+        ∙ ap (λ n. is_delayed p && not (is_closed past p.home) && nat_lt n p.ripe && nat_le p.ripe moment) (now_of_push past e
+            ∙ still (now_of past) e.kind quiet)
 
 -- Orders are below the next draw.
 
@@ -186,11 +205,14 @@ orders_below_at_start = tt
 order_same_immediate : (past rest : List Entry) (p : Posted) → p.place < length past → is_delayed p ≡ false → order_of (past ++ rest) p ≡ order_of past p
 order_same_immediate past rest p lt immediate =
     order_is (past ++ rest) p
-    ∙ ap (λ (b : Bool). cond b (option_and_then (drawn (past ++ rest) p) (tick_from (past ++ rest) p.ripe)) (Some (next_draw (take p.place (past ++ rest))))) immediate
+    ∙ ap (λ (b : Bool). cond b (option_and_then (drawn (past ++ rest) p) (tick_from (past ++ rest) p.ripe)) (Some (next_draw (take p.place (past ++ rest)))))
+        immediate
     ∙ ap (λ before. Some (next_draw before)) (take-append-le p.place past rest (omega (arith, lt)))
-    ∙ sym (order_is past p ∙ ap (λ (b : Bool). cond b (option_and_then (drawn past p) (tick_from past p.ripe)) (Some (next_draw (take p.place past)))) immediate)
+    ∙ sym (order_is past p ∙ ap (λ (b : Bool). cond b (option_and_then (drawn past p) (tick_from past p.ripe)) (Some (next_draw (take p.place past))))
+        immediate)
 
-order_same_ticked : (past rest : List Entry) (p : Posted) (place : ℕ) → p.place < length past → tick_from past p.ripe ≡ Some place → order_of (past ++ rest) p ≡ order_of past p
+order_same_ticked : (past rest : List Entry) (p : Posted) (place : ℕ) → p.place < length past → tick_from past p.ripe ≡ Some place
+    → order_of (past ++ rest) p ≡ order_of past p
 order_same_ticked past rest p place lt ticked =
     order_is (past ++ rest) p
     ∙ ap (order_from (past ++ rest) p) (tick_from_stays past rest p.ripe place ticked)
@@ -198,24 +220,29 @@ order_same_ticked past rest p place lt ticked =
     ∙ sym (order_is past p ∙ ap (order_from past p) ticked)
 
 -- the order of a task of the past after a tick
-pub order_tick : (past : List Entry) (e : Entry) (p : Posted) (moment : ℕ) → e.kind ≡ kinds.Tick moment → p.place < length past → order_of (past ++ e ∷ []) p ≡ order_at_tick_of past moment p
+pub order_tick : (past : List Entry) (e : Entry) (p : Posted) (moment : ℕ) → e.kind ≡ kinds.Tick moment → p.place < length past
+    → order_of (past ++ e ∷ []) p ≡ order_at_tick_of past moment p
 order_tick past e p moment is lt = by (is_delayed p) refl (tick_from past p.ripe) refl
   where
-    by : (b : Bool) → is_delayed p ≡ b → (o : Option ℕ) → tick_from past p.ripe ≡ o → order_of (past ++ e ∷ []) p ≡ cond (b && is_none o) (drawn_at past moment p) (order_of past p)
+    by : (b : Bool) → is_delayed p ≡ b → (o : Option ℕ) → tick_from past p.ripe ≡ o
+        → order_of (past ++ e ∷ []) p ≡ cond (b && is_none o) (drawn_at past moment p) (order_of past p)
     by false immediate o was = order_same_immediate past (e ∷ []) p lt immediate
     by true delayed None was = order_at_tick past e p moment is delayed was
     by true delayed (Some place) was = order_same_ticked past (e ∷ []) p place lt was
 
 -- fewer ripen before a task than ripen with it
-ripe_count : (past : List Entry) (moment : ℕ) (front : List Posted) (p : Posted) (back : List Posted) → front ++ p ∷ back ≡ main_posts past → ripens past moment p ≡ true → count (λ q. ripens_before q p) (ripening past moment) < length (ripening past moment)
+ripe_count : (past : List Entry) (moment : ℕ) (front : List Posted) (p : Posted) (back : List Posted) → front ++ p ∷ back ≡ main_posts past
+    → ripens past moment p ≡ true → count (λ q. ripens_before q p) (ripening past moment) < length (ripening past moment)
 unfolding ripening
-ripe_count past moment front p back is ripe = rw (← is, filter_split (ripens past moment) front p back ripe) (count_below (λ q. ripens_before q p) (filter (ripens past moment) front) p (filter (ripens past moment) back) not_itself)
+ripe_count past moment front p back is ripe = rw (← is, filter_split (ripens past moment) front p back ripe)
+    (count_below (λ q. ripens_before q p) (filter (ripens past moment) front) p (filter (ripens past moment) back) not_itself)
   where
     less : (n : ℕ) → nat_lt n n ≡ false
     less n = grind arith
 
     not_itself : ripens_before p p ≡ false
-    not_itself = ap (λ b. b || (eqb p.ripe p.ripe && nat_lt p.place p.place)) (less p.ripe) ∙ ap (λ b. eqb p.ripe p.ripe && b) (less p.place) ∙ neither (eqb p.ripe p.ripe)
+    not_itself = ap (λ b. b || (eqb p.ripe p.ripe && nat_lt p.place p.place)) (less p.ripe) ∙ ap (λ b. eqb p.ripe p.ripe && b) (less p.place)
+        ∙ neither (eqb p.ripe p.ripe)
       where
         neither : (b : Bool) → (b && false) ≡ false
         neither true = refl
@@ -224,7 +251,8 @@ ripe_count past moment front p back is ripe = rw (← is, filter_split (ripens p
 pub orders_below_grows : (past : List Entry) (e : Entry) → NoTickAhead past → OrdersBelow past → OrdersBelow (past ++ e ∷ [])
 orders_below_grows past e none below =
     subst (AllByRecursion (λ p. (n : ℕ) → order_of (past ++ e ∷ []) p ≡ Some n → n < next_draw (past ++ e ∷ []))) (sym (main_posts_push past e))
-    (AllByRecursion-append (λ p. (n : ℕ) → order_of (past ++ e ∷ []) p ≡ Some n → n < next_draw (past ++ e ∷ [])) (main_posts past) (main_posted_by past e.kind) old (new e.kind refl))
+    (AllByRecursion-append (λ p. (n : ℕ) → order_of (past ++ e ∷ []) p ≡ Some n → n < next_draw (past ++ e ∷ [])) (main_posts past)
+        (main_posted_by past e.kind) old (new e.kind refl))
   where
     grown : (kind : Kind) → e.kind ≡ kind → draws (past ++ e ∷ []) ≡ draws past + drawn_by past kind
     grown kind is = draws_push past e ∙ ap (λ k. draws past + drawn_by past k) is
@@ -233,36 +261,49 @@ orders_below_grows past e none below =
     later n lt = let more : draws (past ++ e ∷ []) ≡ draws past + drawn_by past e.kind = grown e.kind refl in omega (arith, lt, more)
 
     old : AllByRecursion (λ p. (n : ℕ) → order_of (past ++ e ∷ []) p ≡ Some n → n < next_draw (past ++ e ∷ [])) (main_posts past)
-    old = AllByRecursion-members (λ p. (n : ℕ) → order_of (past ++ e ∷ []) p ≡ Some n → n < next_draw (past ++ e ∷ [])) (main_posts past) (λ front p back is n ordered. at front p back is n e.kind refl ordered)
+    old = AllByRecursion-members (λ p. (n : ℕ) → order_of (past ++ e ∷ []) p ≡ Some n → n < next_draw (past ++ e ∷ [])) (main_posts past)
+        (λ front p back is n ordered. at front p back is n e.kind refl ordered)
       where
         place : (front : List Posted) (p : Posted) (back : List Posted) → front ++ p ∷ back ≡ main_posts past → p.place < length past
-        place front p back is = AllByRecursion-at (λ q. q.place < length past) front p back (subst (AllByRecursion (λ q. q.place < length past)) (sym is) (main_places past))
+        place front p back is = AllByRecursion-at (λ q. q.place < length past) front p back
+            (subst (AllByRecursion (λ q. q.place < length past)) (sym is) (main_places past))
 
-        known : (front : List Posted) (p : Posted) (back : List Posted) → front ++ p ∷ back ≡ main_posts past → (n : ℕ) → order_of past p ≡ Some n → n < next_draw past
-        known front p back is = AllByRecursion-at (λ q. (n : ℕ) → order_of past q ≡ Some n → n < next_draw past) front p back (subst (AllByRecursion (λ q. (n : ℕ) → order_of past q ≡ Some n → n < next_draw past)) (sym is) below)
+        known : (front : List Posted) (p : Posted) (back : List Posted) → front ++ p ∷ back ≡ main_posts past → (n : ℕ) → order_of past p ≡ Some n
+            → n < next_draw past
+        known front p back is = AllByRecursion-at (λ q. (n : ℕ) → order_of past q ≡ Some n → n < next_draw past) front p back
+            (subst (AllByRecursion (λ q. (n : ℕ) → order_of past q ≡ Some n → n < next_draw past)) (sym is) below)
 
-        ticked : (front : List Posted) (p : Posted) (back : List Posted) → front ++ p ∷ back ≡ main_posts past → (n moment : ℕ) → e.kind ≡ kinds.Tick moment → (b : Bool) → cond b (drawn_at past moment p) (order_of past p) ≡ Some n → n < next_draw (past ++ e ∷ [])
+        ticked : (front : List Posted) (p : Posted) (back : List Posted) → front ++ p ∷ back ≡ main_posts past → (n moment : ℕ) → e.kind ≡ kinds.Tick moment
+            → (b : Bool) → cond b (drawn_at past moment p) (order_of past p) ≡ Some n → n < next_draw (past ++ e ∷ [])
         ticked front p back is n moment tick true drew =
-            let both : (ripens past moment p ≡ true) × (next_draw past + count (λ q. ripens_before q p) (ripening past moment) ≡ n) = cond_some (ripens past moment p) (next_draw past + count (λ q. ripens_before q p) (ripening past moment)) n drew in
+            let both : (ripens past moment p ≡ true) × (next_draw past + count (λ q. ripens_before q p) (ripening past moment) ≡ n) = cond_some
+                (ripens past moment p) (next_draw past + count (λ q. ripens_before q p) (ripening past moment)) n drew in
             let fewer : count (λ q. ripens_before q p) (ripening past moment) < length (ripening past moment) = ripe_count past moment front p back is both.0 in
             let more : draws (past ++ e ∷ []) ≡ draws past + length (ripening past moment) = grown (kinds.Tick moment) tick in
             let sum : next_draw past + count (λ q. ripens_before q p) (ripening past moment) ≡ n = both.1 in
             omega (arith, fewer, more, sum)
         ticked front p back is n moment tick false kept = later n (known front p back is n kept)
 
-        at : (front : List Posted) (p : Posted) (back : List Posted) → front ++ p ∷ back ≡ main_posts past → (n : ℕ) (kind : Kind) → e.kind ≡ kind → order_of (past ++ e ∷ []) p ≡ Some n → n < next_draw (past ++ e ∷ [])
-        at front p back is n (kinds.Tick moment) tick ordered = ticked front p back is n moment tick (is_delayed p && is_none (tick_from past p.ripe)) (sym (order_tick past e p moment tick (place front p back is)) ∙ ordered)
-        at front p back is n kind other ordered = later n (known front p back is n (sym (order_of_same past e p (place front p back is) (ap moves_orders other)) ∙ ordered))
+        at : (front : List Posted) (p : Posted) (back : List Posted) → front ++ p ∷ back ≡ main_posts past → (n : ℕ) (kind : Kind) → e.kind ≡ kind
+            → order_of (past ++ e ∷ []) p ≡ Some n → n < next_draw (past ++ e ∷ [])
+        at front p back is n (kinds.Tick moment) tick ordered = ticked front p back is n moment tick (is_delayed p && is_none (tick_from past p.ripe))
+            (sym (order_tick past e p moment tick (place front p back is)) ∙ ordered)
+        at front p back is n kind other ordered = later n (known front p back is n
+            (sym (order_of_same past e p (place front p back is) (ap moves_orders other)) ∙ ordered))
 
-    posted : (task queue delay : ℕ) → e.kind ≡ kinds.Main task queue delay true → (b : Bool) → nat_lt 0 delay ≡ b → (n : ℕ) → order_of (past ++ e ∷ []) (post_behind past task queue delay) ≡ Some n → n < next_draw (past ++ e ∷ [])
+    posted : (task queue delay : ℕ) → e.kind ≡ kinds.Main task queue delay true → (b : Bool) → nat_lt 0 delay ≡ b → (n : ℕ)
+        → order_of (past ++ e ∷ []) (post_behind past task queue delay) ≡ Some n → n < next_draw (past ++ e ∷ [])
     posted task queue delay is false immediate n ordered =
         let first : next_draw past ≡ n = some-injective (sym (order_at_post past e task queue delay immediate) ∙ ordered) in
-        let more : draws (past ++ e ∷ []) ≡ draws past + 1 = grown (kinds.Main task queue delay true) is ∙ ap (λ (b : Bool). draws past + cond b 0 1) immediate in
+        let more : draws (past ++ e ∷ []) ≡ draws past + 1 = grown (kinds.Main task queue delay true) is
+            ∙ ap (λ (b : Bool). draws past + cond b 0 1) immediate in
         omega (arith, first, more)
     posted task queue delay is true delayed n ordered =
         let positive : 0 < delay = ltb-true 0 delay delayed in
-        absurd (none-some n (sym (unordered past e (post_behind past task queue delay) (ap moves_orders is) delayed (none (now_of past + delay) (omega (arith, positive)))) ∙ ordered))
+        absurd (none-some n (sym (unordered past e (post_behind past task queue delay) (ap moves_orders is) delayed
+            (none (now_of past + delay) (omega (arith, positive)))) ∙ ordered))
 
-    new : (kind : Kind) → e.kind ≡ kind → AllByRecursion (λ p. (n : ℕ) → order_of (past ++ e ∷ []) p ≡ Some n → n < next_draw (past ++ e ∷ [])) (main_posted_by past kind)
+    new : (kind : Kind) → e.kind ≡ kind → AllByRecursion (λ p. (n : ℕ) → order_of (past ++ e ∷ []) p ≡ Some n → n < next_draw (past ++ e ∷ []))
+        (main_posted_by past kind)
     new (kinds.Main task queue delay true) is = ((λ n ordered. posted task queue delay is (nat_lt 0 delay) refl n ordered), tt)
     new kind is = tt

@@ -9,20 +9,23 @@ use Rattle.log_model.specs.LogText.{line_of, text_from, log_text}
 use Rattle.log_model.proofs.Laws.LogTexts.{text_from-take_more, log_text-cut}
 
 -- a front of the rest of a piece was taken after a front of the piece
-pub gains_more : (a b c : Option (List ℕ)) (piece : List ℕ) (done n : ℕ) → Gains a (take done piece) b → Gains b (take n (take (length piece - done) (drop done piece))) c → Gains a (take (done + n) piece) c
+pub gains_more : (a b c : Option (List ℕ)) (piece : List ℕ) (done n : ℕ) → Gains a (take done piece) b
+    → Gains b (take n (take (length piece - done) (drop done piece))) c → Gains a (take (done + n) piece) c
 gains_more a b c piece done n first second =
     let joined : take done piece ++ take n (take (length piece - done) (drop done piece)) ≡ take (done + n) piece =
     ap (λ rest. take done piece ++ take n rest) (take_rest piece done) ∙ sym (take-add done n piece) in
     subst (λ text. Gains a text c) joined (Gains-trans a b c (take done piece) (take n (take (length piece - done) (drop done piece))) first second)
 
 -- the lines before a place and the line of that place are the lines up to it
-joined_lines : (log items : List Entry) (line : List ℕ) (i : ℕ) (d : Entry) → items ≡ log → line ≡ line_of i (get_or items i d) → i < length items → text_from 0 (take i log) ++ line ≡ text_from 0 (take (i + 1) log)
+joined_lines : (log items : List Entry) (line : List ℕ) (i : ℕ) (d : Entry) → items ≡ log → line ≡ line_of i (get_or items i d) → i < length items
+    → text_from 0 (take i log) ++ line ≡ text_from 0 (take (i + 1) log)
 joined_lines log items line i d listed made within =
     let same : line ≡ line_of i (get_or log i d) = made ∙ ap (λ entries. line_of i (get_or entries i d)) listed in
     ap (λ text. text_from 0 (take i log) ++ text) same ∙ sym (text_from-take_more log i d (subst (λ entries. i < length entries) listed within))
 
 -- the line of a place was taken after the lines before it
-pub gains_line : (a b c : Option (List ℕ)) (log items : List Entry) (line : List ℕ) (i : ℕ) (d : Entry) → items ≡ log → line ≡ line_of i (get_or items i d) → i < length items → Gains a (text_from 0 (take i log)) b → Gains b line c → Gains a (text_from 0 (take (i + 1) log)) c
+pub gains_line : (a b c : Option (List ℕ)) (log items : List Entry) (line : List ℕ) (i : ℕ) (d : Entry) → items ≡ log → line ≡ line_of i (get_or items i d)
+    → i < length items → Gains a (text_from 0 (take i log)) b → Gains b line c → Gains a (text_from 0 (take (i + 1) log)) c
 gains_line a b c log items line i d listed made within first second =
     let lines : text_from 0 (take i log) ++ line ≡ text_from 0 (take (i + 1) log) = joined_lines log items line i d listed made within in
     subst (λ text. Gains a text c) lines (Gains-trans a b c (text_from 0 (take i log)) line first second)
@@ -35,7 +38,8 @@ front_of_text front middle rest m =
     ∙ ap (take (length front + min m (length middle))) (sym (append_assoc front middle rest))
 
 -- a front of the line of a place was taken after the lines before it
-pub gains_cut : (a b c : Option (List ℕ)) (log items : List Entry) (line : List ℕ) (i : ℕ) (d : Entry) → items ≡ log → line ≡ line_of i (get_or items i d) → i < length items → Gains a (text_from 0 (take i log)) b → (m : ℕ) × Gains b (take m line) c → (n : ℕ) × Gains a (take n (log_text log)) c
+pub gains_cut : (a b c : Option (List ℕ)) (log items : List Entry) (line : List ℕ) (i : ℕ) (d : Entry) → items ≡ log → line ≡ line_of i (get_or items i d)
+    → i < length items → Gains a (text_from 0 (take i log)) b → (m : ℕ) × Gains b (take m line) c → (n : ℕ) × Gains a (take n (log_text log)) c
 gains_cut a b c log items line i d listed made within first second =
     let before : List ℕ = text_from 0 (take i log) in
     let rest = log_text-cut log (i + 1) in

@@ -55,7 +55,8 @@ may_block_words may_block = if may_block then codes "mayblock" ∷ [] else []
 
 -- the line of a runner, by its number
 abbrev pub runner_words : ℕ → Runner → List (List ℕ)
-runner_words r runner = codes "runner" ∷ decimal r ∷ kind_word runner.kind ∷ priority_word runner.traits.priority ∷ behaviour_word runner.traits.behaviour ∷ may_block_words runner.traits.may_block
+runner_words r runner = codes "runner" ∷ decimal r ∷ kind_word runner.kind ∷ priority_word runner.traits.priority ∷ behaviour_word runner.traits.behaviour ∷
+    may_block_words runner.traits.may_block
 
 -- the line of a main queue, by its number
 abbrev pub queue_words : ℕ → MainQueue → List (List ℕ)
@@ -67,7 +68,8 @@ task_words t steps = codes "task" ∷ decimal t ∷ steps_words steps
 
 -- the line of a job, by its number
 abbrev pub job_words : ℕ → JobPlan → List (List ℕ)
-job_words j job = codes "job" ∷ decimal j ∷ priority_word job.priority ∷ behaviour_word job.behaviour ∷ decimal job.items ∷ decimal job.cap ∷ steps_words job.steps
+job_words j job = codes "job" ∷ decimal j ∷ priority_word job.priority ∷ behaviour_word job.behaviour ∷ decimal job.items ∷ decimal job.cap ∷ steps_words
+    job.steps
 
 -- the line of an action
 abbrev pub action_words : Action → List (List ℕ)

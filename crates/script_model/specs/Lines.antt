@@ -8,46 +8,13 @@ use Rattle.task_base.specs.declared.step.Step.{Step}
 use Rattle.task_base.specs.declared.step.Step.TheVariants.{Post as PostStep, Main as MainStep}
 use Rattle.task_base.specs.declared.script.Action.{Action}
 use Rattle.task_base.specs.declared.script.Action.TheVariants.{Post, Main, Tick, Policy, Fence, Unfence, Vote, Rank, Close, Pump, Flush, StartJob, Join, Cancel, Shutdown}
+use Rattle.task_base.specs.declared.limits.TheConstants.{MOST_RUNNERS, MOST_QUEUES, MOST_TASKS, MOST_JOBS, MOST_ITEMS, MOST_STEPS, MOST_TICKS, MOST_EVENTS}
 use Rattle.script_model.specs.Words.{words_of, is_word, begins_comment, is_all_ascii}
 use Rattle.script_model.specs.Reasons.{◌>>=◌, ◌>>◌, ◌&◌, refuse, not_ascii, unknown_word, out_of_range, out_of_order, undeclared, posted_twice, declaration_late, bad_block, job_use, shutdown_twice, config_twice, too_many}
 use Rattle.script_model.specs.Bound.{events_of_task, events_of_job, events_of_action}
 use Rattle.script_model.specs.Draft.{Draft, has_no_actions, is_bare, is_above_workers, is_declared, has_queue, has_voter, has_job, posted_in, is_any_posted, has_bad_scopes, is_bad_post, is_started, has_shutdown, ticks_of, items_in, steps_in, ticks_in, events_in}
 use Rattle.script_model.specs.Postings.{posts_of_step}
 use Rattle.script_model.specs.Places.{said_at, ends_at, number_at, id_at, time_at, priority_named, behaviour_named, policy_named, fence_named, vote_named, kind_named, may_block_at, steps_read}
-
--- ---- limits (this project's own)
-
--- how many runners a script may declare
-abbrev pub most_runners : ℕ
-most_runners = 4096
-
--- how many main queues a script may declare
-abbrev pub most_queues : ℕ
-most_queues = 256
-
--- how many tasks a script may declare
-abbrev pub most_tasks : ℕ
-most_tasks = 16384
-
--- how many jobs a script may declare
-abbrev pub most_jobs : ℕ
-most_jobs = 256
-
--- how many items all jobs may have together
-abbrev pub most_items : ℕ
-most_items = 65536
-
--- how many steps all task and job lines may have together
-abbrev pub most_steps : ℕ
-most_steps = 65536
-
--- how many ticks all actions may have together
-abbrev pub most_ticks : ℕ
-most_ticks = 65536
-
--- how many entries a run may have, by the entries bound
-abbrev pub most_events : ℕ
-most_events = 262144
 
 -- ---- configuration
 
@@ -81,11 +48,12 @@ threshold_line d words = do
 -- `runner R KIND PRIORITY BEHAVIOUR`, with `mayblock` at the end or without it
 unfoldable pub runner_line : Draft → List (List ℕ) → Result Draft ℕ
 runner_line d words = do
-  (r, (kind, (priority, (behaviour, (may_block, _))))) ← id_at words 0 & said_at kind_named words 1 & said_at priority_named words 2 & said_at behaviour_named words 3 & may_block_at words 4 & ends_at words 5
+  (r, (kind, (priority, (behaviour, (may_block, _))))) ← id_at words 0 & said_at kind_named words 1 & said_at priority_named words 2 & said_at behaviour_named
+      words 3 & may_block_at words 4 & ends_at words 5
   refuse (not (r == length d.runners)) out_of_order
   refuse (is_above_workers d kind) undeclared
   refuse (not (has_no_actions d)) declaration_late
-  refuse (nat_lt most_runners (length d.runners + 1)) too_many
+  refuse (nat_lt MOST_RUNNERS (length d.runners + 1)) too_many
   Ok (record d { runners = d.runners ++ record { kind = kind; traits = record { priority = priority; behaviour = behaviour; may_block = may_block } } ∷ [] })
 
 -- `queue Q CLASS VOTERS`
@@ -94,7 +62,7 @@ queue_line d words = do
   (q, (class, (voters, _))) ← id_at words 0 & number_at 0 7 words 1 & number_at 0 16 words 2 & ends_at words 3
   refuse (not (q == length d.queues)) out_of_order
   refuse (not (has_no_actions d)) declaration_late
-  refuse (nat_lt most_queues (length d.queues + 1)) too_many
+  refuse (nat_lt MOST_QUEUES (length d.queues + 1)) too_many
   Ok (record d { queues = d.queues ++ record { class = class; voters = voters } ∷ [] })
 
 -- `task T STEPS`
@@ -107,26 +75,27 @@ task_line d words = do
   refuse (not (has_no_actions d)) declaration_late
   refuse (has_bad_scopes false steps) bad_block
   refuse (list_any (is_bad_post d) steps) bad_block
-  refuse (nat_lt most_tasks (length d.tasks + 1)) too_many
-  refuse (nat_lt most_steps (steps_in d + length steps)) too_many
-  refuse (nat_lt most_events (events_in d + events_of_task steps)) too_many
+  refuse (nat_lt MOST_TASKS (length d.tasks + 1)) too_many
+  refuse (nat_lt MOST_STEPS (steps_in d + length steps)) too_many
+  refuse (nat_lt MOST_EVENTS (events_in d + events_of_task steps)) too_many
   Ok (record d { tasks = d.tasks ++ steps ∷ [] })
 
 -- `job J PRIORITY BEHAVIOUR ITEMS CAP STEPS`
 unfoldable pub job_line : Draft → List (List ℕ) → Result Draft ℕ
 job_line d words = do
-  (j, (priority, (behaviour, (items, (cap, steps))))) ← id_at words 0 & said_at priority_named words 1 & said_at behaviour_named words 2 & number_at 0 65536 words 3 & number_at 1 64 words 4 & steps_read (drop 5 words)
+  (j, (priority, (behaviour, (items, (cap, steps))))) ← id_at words 0 & said_at priority_named words 1 & said_at behaviour_named words 2 & number_at 0 65536
+      words 3 & number_at 1 64 words 4 & steps_read (drop 5 words)
   refuse (not (j == length d.jobs)) out_of_order
   refuse (not (list_all (is_declared d) steps)) undeclared
   refuse (is_any_posted (posted_in d) (flat_map posts_of_step steps)) posted_twice
   refuse (not (has_no_actions d)) declaration_late
   refuse (list_any (is_bad_post d) steps) bad_block
   refuse (list_any is_act steps) job_use
-  refuse (nat_lt most_jobs (length d.jobs + 1)) too_many
-  refuse (nat_lt most_items (items_in d + items)) too_many
-  refuse (nat_lt most_steps (steps_in d + length steps)) too_many
+  refuse (nat_lt MOST_JOBS (length d.jobs + 1)) too_many
+  refuse (nat_lt MOST_ITEMS (items_in d + items)) too_many
+  refuse (nat_lt MOST_STEPS (steps_in d + length steps)) too_many
   let job : JobPlan = record { priority = priority; behaviour = behaviour; items = items; cap = cap; steps = steps }
-  refuse (nat_lt most_events (events_in d + events_of_job job)) too_many
+  refuse (nat_lt MOST_EVENTS (events_in d + events_of_job job)) too_many
   Ok (record d { jobs = d.jobs ++ job ∷ [] })
 
 -- ---- actions
@@ -134,8 +103,8 @@ job_line d words = do
 -- an action more, if its ticks and entries keep the limits
 abbrev pub acted : Draft → Action → Result Draft ℕ
 acted d action = do
-  refuse (nat_lt most_ticks (ticks_in d + ticks_of action)) too_many
-  refuse (nat_lt most_events (events_in d + events_of_action action)) too_many
+  refuse (nat_lt MOST_TICKS (ticks_in d + ticks_of action)) too_many
+  refuse (nat_lt MOST_EVENTS (events_in d + events_of_action action)) too_many
   Ok (record d { actions = d.actions ++ action ∷ [] })
 
 -- an action that posts, seen as a step that does: what it names was declared, its task was not posted, and it may

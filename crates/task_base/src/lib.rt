@@ -5,6 +5,7 @@
 mod cell;
 mod entry;
 mod fault;
+mod limits;
 mod policy;
 mod rows;
 mod script;
@@ -14,6 +15,10 @@ mod step;
 pub use cell::Cell;
 pub use entry::{Entry, JobReply, Kind};
 pub use fault::Fault;
+pub use limits::{
+    LAST_MOMENT, MOST_BYTES, MOST_EVENTS, MOST_ITEMS, MOST_JOBS, MOST_MICROSECONDS, MOST_QUEUES,
+    MOST_RUNNERS, MOST_STEPS, MOST_TASKS, MOST_TICKS, MOST_WORKERS,
+};
 pub use policy::Policy;
 pub use rows::Rows;
 pub use script::{

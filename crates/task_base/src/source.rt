@@ -1,3 +1,6 @@
+ghost use Rattle.std.specs.Prelude.{◌≡◌};
+ghost use Rattle.task_base.specs.Keys.{key_below};
+
 use crate::script::{JobId, Place, SeqId};
 
 /// What decides between two tasks of one sequence, and between two sources of one priority: the lesser key goes
@@ -10,6 +13,15 @@ pub struct Key {
     pub ripe: u64,
     /// The place of the post.
     pub post: Place,
+}
+
+impl Key {
+    /// Whether this key goes before the other: `<` is the order of the rules.
+    pub fn is_below(&self, other: &Key) -> bool
+        ensures { result ≡ key_below self.now other.now }
+    {
+        self < other
+    }
 }
 
 /// What a worker takes work from (Chromium's `TaskSource` of `thread_pool/task_source.h`).

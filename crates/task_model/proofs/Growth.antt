@@ -26,13 +26,15 @@ use Rattle.task_model.specs.Jobs.{job_post_of, job_post_after, is_cancelled, can
 use Rattle.task_model.specs.Orders.{draws, drawn_by}
 use Rattle.task_model.specs.MainQueues.{fence_of, fence_after, votes_on, vote_after, class_of, class_after, streak_of, streak_after}
 
-fold_past_from-push : {A : Type 0} (step : List Entry → A → Entry → A) (before : List Entry) (value : A) (rest : List Entry) (e : Entry) → fold_past_from step before value (rest ++ e ∷ []) ≡ step (before ++ rest) (fold_past_from step before value rest) e
+fold_past_from-push : {A : Type 0} (step : List Entry → A → Entry → A) (before : List Entry) (value : A) (rest : List Entry) (e : Entry)
+    → fold_past_from step before value (rest ++ e ∷ []) ≡ step (before ++ rest) (fold_past_from step before value rest) e
 fold_past_from-push step before value [] e = ap (λ b. step b value e) (sym (append-nil before))
 fold_past_from-push step before value (x ∷ rest) e =
     fold_past_from-push step (before ++ x ∷ []) (step before value x) rest e
     ∙ ap (λ b. step b (fold_past_from step (before ++ x ∷ []) (step before value x) rest) e) (append_assoc before (x ∷ []) rest)
 
-pub fold_past-push : {A : Type 0} (step : List Entry → A → Entry → A) (start : A) (past : List Entry) (e : Entry) → fold_past step start (past ++ e ∷ []) ≡ step past (fold_past step start past) e
+pub fold_past-push : {A : Type 0} (step : List Entry → A → Entry → A) (start : A) (past : List Entry) (e : Entry)
+    → fold_past step start (past ++ e ∷ []) ≡ step past (fold_past step start past) e
 unfolding fold_past
 fold_past-push step start past e = fold_past_from-push step [] start past e
 
@@ -41,12 +43,15 @@ or-false true = refl
 or-false false = refl
 
 -- a test that some entry passes
-any-push : (test : Kind → Bool) (past : List Entry) (e : Entry) → list_any (λ x. test x.kind) (past ++ e ∷ []) ≡ (list_any (λ x. test x.kind) past || test e.kind)
+any-push : (test : Kind → Bool) (past : List Entry) (e : Entry)
+    → list_any (λ x. test x.kind) (past ++ e ∷ []) ≡ (list_any (λ x. test x.kind) past || test e.kind)
 any-push test past e = list_any-append (λ x. test x.kind) past (e ∷ []) ∙ ap (λ b. list_any (λ x. test x.kind) past || b) (or-false (test e.kind))
 
 -- how many entries pass a test
-count-push : (test : Kind → Bool) (past : List Entry) (e : Entry) → count (λ x. test x.kind) (past ++ e ∷ []) ≡ count (λ x. test x.kind) past + cond (test e.kind) 1 0
-count-push test past e = ap length (filter-append (λ x. test x.kind) past (e ∷ [])) ∙ length-append (filter (λ x. test x.kind) past) (filter (λ x. test x.kind) (e ∷ [])) ∙ ap (λ n. count (λ x. test x.kind) past + n) (one (test e.kind))
+count-push : (test : Kind → Bool) (past : List Entry) (e : Entry)
+    → count (λ x. test x.kind) (past ++ e ∷ []) ≡ count (λ x. test x.kind) past + cond (test e.kind) 1 0
+count-push test past e = ap length (filter-append (λ x. test x.kind) past (e ∷ []))
+    ∙ length-append (filter (λ x. test x.kind) past) (filter (λ x. test x.kind) (e ∷ [])) ∙ ap (λ n. count (λ x. test x.kind) past + n) (one (test e.kind))
   where
     one : (b : Bool) → length (cond b (e ∷ []) []) ≡ cond b 1 0
     one true = refl
@@ -88,19 +93,23 @@ pub is_closed_push : (past : List Entry) (e : Entry) (q : ℕ) → is_closed (pa
 unfolding is_closed
 is_closed_push past e q = any-push (closes q) past e
 
-pub running_push : (past : List Entry) (e : Entry) (seat : ℕ) → running (past ++ e ∷ []) seat ≡ cond (eqb e.seat seat) (running_after (running past seat) e.kind) (running past seat)
+pub running_push : (past : List Entry) (e : Entry) (seat : ℕ)
+    → running (past ++ e ∷ []) seat ≡ cond (eqb e.seat seat) (running_after (running past seat) e.kind) (running past seat)
 unfolding running
 running_push past e seat = fold-append (λ now x. cond (eqb x.seat seat) (running_after now x.kind) now) None past (e ∷ [])
 
-pub holding_push : (past : List Entry) (e : Entry) (seat : ℕ) → holding (past ++ e ∷ []) seat ≡ cond (eqb e.seat seat) (holding_after (holding past seat) e.kind) (holding past seat)
+pub holding_push : (past : List Entry) (e : Entry) (seat : ℕ)
+    → holding (past ++ e ∷ []) seat ≡ cond (eqb e.seat seat) (holding_after (holding past seat) e.kind) (holding past seat)
 unfolding holding
 holding_push past e seat = fold-append (λ now x. cond (eqb x.seat seat) (holding_after now x.kind) now) None past (e ∷ [])
 
-pub acts_done_push : (past : List Entry) (e : Entry) (seat : ℕ) → acts_done (past ++ e ∷ []) seat ≡ cond (eqb e.seat seat) (acts_after (acts_done past seat) e.kind) (acts_done past seat)
+pub acts_done_push : (past : List Entry) (e : Entry) (seat : ℕ)
+    → acts_done (past ++ e ∷ []) seat ≡ cond (eqb e.seat seat) (acts_after (acts_done past seat) e.kind) (acts_done past seat)
 unfolding acts_done
 acts_done_push past e seat = fold-append (λ now x. cond (eqb x.seat seat) (acts_after now x.kind) now) 0 past (e ∷ [])
 
-pub cell_of_push : (script : Plan) (past : List Entry) (e : Entry) (s : ℕ) → cell_of script (past ++ e ∷ []) s ≡ cell_after script s past (cell_of script past s) e.seat e.kind
+pub cell_of_push : (script : Plan) (past : List Entry) (e : Entry) (s : ℕ)
+    → cell_of script (past ++ e ∷ []) s ≡ cell_after script s past (cell_of script past s) e.seat e.kind
 unfolding cell_of
 cell_of_push script past e s = fold_past-push (λ before value x. cell_after script s before value x.seat x.kind) 0 past e
 
@@ -128,7 +137,8 @@ pub done_push : (past : List Entry) (e : Entry) (j : ℕ) → done (past ++ e �
 unfolding done
 done_push past e j = count-push (λ kind. is_some (value_by j kind)) past e
 
-pub job_sum_push : (past : List Entry) (e : Entry) (j : ℕ) → job_sum (past ++ e ∷ []) j ≡ option_map_or (λ value. (job_sum past j + value) % 2 ^ 64) (value_by j e.kind) (job_sum past j)
+pub job_sum_push : (past : List Entry) (e : Entry) (j : ℕ) → job_sum (past ++ e ∷ []) j
+    ≡ option_map_or (λ value. (job_sum past j + value) % 2 ^ 64) (value_by j e.kind) (job_sum past j)
 unfolding job_sum
 job_sum_push past e j = fold-append (λ sum x. option_map_or (λ value. (sum + value) % 2 ^ 64) (value_by j x.kind) sum) 0 past (e ∷ [])
 
@@ -146,8 +156,10 @@ votes_on_push past e q v = fold-append (λ now x. vote_after q v now x.kind) tru
 
 pub class_of_push : (script : Plan) (past : List Entry) (e : Entry) (q : ℕ) → class_of script (past ++ e ∷ []) q ≡ class_after q (class_of script past q) e.kind
 unfolding class_of
-class_of_push script past e q = fold-append (λ now x. class_after q now x.kind) (option_map_or (λ queue. queue.class) (slice_get script.queues q) 0) past (e ∷ [])
+class_of_push script past e q = fold-append (λ now x. class_after q now x.kind) (option_map_or (λ queue. queue.class) (slice_get script.queues q) 0) past
+    (e ∷ [])
 
-pub streak_of_push : (script : Plan) (past : List Entry) (e : Entry) → streak_of script (past ++ e ∷ []) ≡ streak_after script past (streak_of script past) e.kind
+pub streak_of_push : (script : Plan) (past : List Entry) (e : Entry)
+    → streak_of script (past ++ e ∷ []) ≡ streak_after script past (streak_of script past) e.kind
 unfolding streak_of
 streak_of_push script past e = fold_past-push (λ before n x. streak_after script before n x.kind) 0 past e

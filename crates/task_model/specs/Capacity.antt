@@ -13,16 +13,7 @@ use Rattle.list_laws.specs.Lists.{count, holds_of}
 use Rattle.task_model.specs.Past.{fold_past}
 use Rattle.task_model.specs.Time.{now_of}
 use Rattle.task_model.specs.Seats.{Running, Holding, running, holding, worker_seats}
-
--- the importance of a priority, as a number (`task_traits.h`)
-abbrev pub importance : Priority → ℕ
-importance BestEffort = 0
-importance UserVisible = 1
-importance UserBlocking = 2
-
--- work of this priority is best-effort work
-abbrev pub is_best_effort : Priority → Bool
-is_best_effort priority = importance priority == 0
+use Rattle.task_base.specs.Groups.{Group, Foreground, Background, is_best_effort, group_of, same_group, has_come}
 
 -- the priority of a runner's tasks
 abbrev pub priority_of : Plan → ℕ → Priority
@@ -31,22 +22,6 @@ priority_of script runner = option_map_or (λ r. r.traits.priority) (slice_get s
 -- the priority of a job
 abbrev pub priority_of_job : Plan → ℕ → Priority
 priority_of_job script j = option_map_or (λ job. job.priority) (slice_get script.jobs j) BestEffort
-
--- the two thread groups of the pool (the notion of `thread_pool.h`; the rules on them are this project's own)
-pub data Group : Type 0 where
-  Foreground : Group
-  Background : Group
-
--- best-effort work belongs to the background group where the script has one; all other work to the foreground group
-abbrev pub group_of : Plan → Priority → Group
-group_of script priority = if is_best_effort priority && nat_lt 0 script.background then Background else Foreground
-
--- the two groups are the same
-abbrev pub same_group : Group → Group → Bool
-same_group Foreground Foreground = true
-same_group Background Background = true
-same_group Foreground Background = false
-same_group Background Foreground = false
 
 -- how much work the group may run
 abbrev pub limit : Plan → Group → ℕ
@@ -97,12 +72,6 @@ scope_after t before now kind = now
 -- the scope that the task opened last and has not closed (`scoped_blocking_call.h`)
 unfoldable pub open_scope : List Entry → ℕ → Option OpenScope
 open_scope past t = fold_past (λ before now e. scope_after t before now e.kind) None past
-
--- a scope that will block counts at once, one that may block once it has been open for the threshold (this
--- project's own rule)
-abbrev pub has_come : Scope → ℕ → ℕ → Bool
-has_come Will due now = true
-has_come May due now = nat_le due now
 
 -- the open scope counts by now
 abbrev pub scope_counts : Plan → List Entry → OpenScope → Bool

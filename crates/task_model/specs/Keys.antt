@@ -6,6 +6,7 @@ use Rattle.task_base.specs.declared.entry.Entry.{Entry}
 use Rattle.task_base.specs.declared.source.Key.{Key}
 use Rattle.task_model.specs.Time.{tick_from}
 use Rattle.task_model.specs.Posts.{Posted, is_delayed, posts}
+use Rattle.task_base.specs.Keys.{key_below}
 
 -- the key of what is ready from its post on: where it was posted
 abbrev pub key_at : ℕ → Key
@@ -18,10 +19,6 @@ key_of past p =
     if is_delayed p
     then option_map (λ place. record { place = place; ripe = p.ripe; post = p.place }) (tick_from past p.ripe)
     else Some (key_at p.place)
-
--- the first key is below the second: keys are compared from left to right
-abbrev pub key_below : Key → Key → Bool
-key_below a b = nat_lt a.place b.place || (a.place == b.place && (nat_lt a.ripe b.ripe || (a.ripe == b.ripe && nat_lt a.post b.post)))
 
 -- the fact of it
 abbrev pub KeyBelow : Key → Key → Type 0

@@ -9,7 +9,7 @@ use Rattle.task_base.specs.declared.entry.Entry.{Entry}
 use Rattle.task_base.specs.declared.entry.Kind.{Kind}
 use Rattle.task_base.specs.declared.entry.Kind.TheVariants.{Post, Main, Take, End, Enter, Leave, MainTake, MainEnd, JobTake, JobStep}
 use Rattle.list_laws.specs.Lists.{holds_of}
-use Rattle.task_model.specs.Sequences.{sequence_of}
+use Rattle.task_base.specs.Runners.{sequence_of}
 
 -- a task that runs, its home, what it found in the cell, and whether it is a main task
 pub record Running : Type 0 where

@@ -6,24 +6,10 @@ use Rattle.task_base.specs.declared.script.RunnerKind.{RunnerKind}
 use Rattle.task_base.specs.declared.script.RunnerKind.TheVariants.{Parallel, Sequenced, Single}
 use Rattle.list_laws.specs.Lists.{least, holds_of}
 use Rattle.task_model.specs.Posts.{Posted, is_taken}
-use Rattle.task_model.specs.Keys.{Ready, ready, key_below}
+use Rattle.task_model.specs.Keys.{Ready, ready}
+use Rattle.task_base.specs.Keys.{key_below}
 use Rattle.task_model.specs.Refusal.{is_forbidden}
-
--- the runner makes a sequence of each task
-abbrev pub is_parallel : RunnerKind → Bool
-is_parallel Parallel = true
-is_parallel Sequenced = false
-is_parallel (Single seat) = false
-
--- the sequence of a task on a runner: each task of a parallel runner is a sequence of its own, and all
--- tasks of another runner are one (`thread_pool.h`; the numbering is this project's own)
-abbrev pub sequence_of : Plan → ℕ → ℕ → ℕ
-sequence_of script runner task =
-    if holds_of (λ r. is_parallel r.kind) (slice_get script.runners runner) then length script.runners + task else runner
-
--- how many sequence numbers there are
-abbrev pub sequence_count : Plan → ℕ
-sequence_count script = length script.runners + length script.tasks
+use Rattle.task_base.specs.Runners.{sequence_of}
 
 -- the accepted task is of this sequence
 abbrev pub is_of : Plan → ℕ → Posted → Bool

@@ -13,11 +13,15 @@ use Rattle.task_traits.specs.declared.traits.Priority.{Priority}
 use Rattle.list_laws.specs.Lists.{least}
 use Rattle.task_model.specs.Policies.{is_held}
 use Rattle.task_model.specs.Refusal.{is_job_forbidden}
-use Rattle.task_model.specs.Keys.{Ready, key_at, key_below}
-use Rattle.task_model.specs.Sequences.{sequence_count, head_of}
+use Rattle.task_model.specs.Keys.{Ready, key_at}
+use Rattle.task_base.specs.Keys.{key_below}
+use Rattle.task_base.specs.Runners.{sequence_count}
+use Rattle.task_model.specs.Sequences.{head_of}
 use Rattle.task_model.specs.Seats.{runs_sequence, inside}
-use Rattle.task_model.specs.Capacity.{importance, priority_of, priority_of_job, group_of, same_group, load, capacity, has_room}
+use Rattle.task_base.specs.Groups.{importance, group_of, same_group}
+use Rattle.task_model.specs.Capacity.{priority_of, priority_of_job, load, capacity, has_room}
 use Rattle.task_model.specs.Jobs.{JobPosted, job_post_of, is_cancelled, has_unclaimed, may_enter}
+use Rattle.task_base.specs.Runners.{seat_of}
 
 -- work that waits: a source, its priority, how many are inside, its key, and the only seat that may take it, if
 -- there is one
@@ -27,16 +31,6 @@ pub record Candidate : Type 0 where
   pub inside : ℕ
   pub key : Key
   pub seat : Option ℕ
-
--- the seat of a single-thread runner
-abbrev pub seat_of_kind : RunnerKind → Option ℕ
-seat_of_kind Parallel = None
-seat_of_kind Sequenced = None
-seat_of_kind (Single seat) = Some seat
-
--- the seat of a single-thread runner, if the runner is one
-abbrev pub seat_of : Plan → ℕ → Option ℕ
-seat_of script runner = option_and_then (λ r. seat_of_kind r.kind) (slice_get script.runners runner)
 
 -- a sequence with a head, by its head
 abbrev pub sequence_candidate : Plan → ℕ → Ready → Candidate
@@ -101,7 +95,8 @@ best_of script past seat = least goes_before (filter (is_takeable script past se
 -- a source of the same group and of strictly higher priority waits, other than a sequence of a single-thread runner
 abbrev pub is_outranked : Plan → List Entry → Priority → Bool
 is_outranked script past priority =
-    list_any (λ c. is_none c.seat && same_group (group_of script c.priority) (group_of script priority) && nat_lt (importance priority) (importance c.priority)) (waiting script past)
+    list_any (λ c. is_none c.seat && same_group (group_of script c.priority) (group_of script priority)
+        && nat_lt (importance priority) (importance c.priority)) (waiting script past)
 
 -- a worker at a job makes way: its group runs at least what it may, and better work of the group waits
 abbrev pub makes_way : Plan → List Entry → Priority → Bool

@@ -42,7 +42,8 @@ runner_goes : (d : Draft) (number kind priority behaviour : List ℕ) (r : ℕ) 
     → eqb r (length d.runners) ≡ true → is_above_workers d k ≡ false → eqb (length d.actions) 0 ≡ true → ltb 4096 (length d.runners + 1) ≡ false
     → runner_line d (number ∷ kind ∷ priority ∷ behaviour ∷ []) ≡ Ok (record d { runners = d.runners ++ runner_made k p b ∷ [] })
 unfolding runner_line
-runner_goes d number kind priority behaviour r k p b r_is k_is p_is b_is next seated no_actions few = rw (r_is, k_is, p_is, b_is, next, seated, no_actions, few) refl
+runner_goes d number kind priority behaviour r k p b r_is k_is p_is b_is next seated no_actions few = rw
+    (r_is, k_is, p_is, b_is, next, seated, no_actions, few) refl
 
 task_goes : (d : Draft) (number : List ℕ) (words : List (List ℕ)) (t : ℕ) (steps : List Step)
     → number_from 0 max_id number ≡ Ok t → steps_read words ≡ Ok steps → eqb t (length d.tasks) ≡ true → list_all (is_declared d) steps ≡ true
@@ -102,14 +103,17 @@ at_most a b h = grind (arith, nat_tests)
 runner_same : (d d' : Draft) (words : List (List ℕ)) → form_runner d words ≡ Some d' → runner_line d words ≡ Ok d'
 unfolding form_runner
 runner_same d d' (number ∷ kind ∷ priority ∷ behaviour ∷ []) e =
-    let r = bind_some (number_in 0 max_id number) (λ r. form_kind kind >>= λ k. form_priority priority >>= λ p. form_behaviour behaviour >>= λ b. runner_added d r k p b) d' e in
+    let r = bind_some (number_in 0 max_id number) (λ r. form_kind kind >>= λ k. form_priority priority >>= λ p. form_behaviour behaviour >>=
+        λ b. runner_added d r k p b) d' e in
     let k = bind_some (form_kind kind) (λ k. form_priority priority >>= λ p. form_behaviour behaviour >>= λ b. runner_added d r.0 k p b) d' r.2 in
     let p = bind_some (form_priority priority) (λ p. form_behaviour behaviour >>= λ b. runner_added d r.0 k.0 p b) d' k.2 in
     let b = bind_some (form_behaviour behaviour) (λ b. runner_added d r.0 k.0 p.0 b) d' p.2 in
-    let g = guard_some (eqb r.0 (length d.runners) && eqb (length d.actions) 0 && ltb (length d.runners) 4096) (record d { runners = d.runners ++ runner_made k.0 p.0 b.0 ∷ [] }) d' b.2 in
+    let g = guard_some (eqb r.0 (length d.runners) && eqb (length d.actions) 0 && ltb (length d.runners) 4096)
+        (record d { runners = d.runners ++ runner_made k.0 p.0 b.0 ∷ [] }) d' b.2 in
     let outer = and_both (eqb r.0 (length d.runners) && eqb (length d.actions) 0) (ltb (length d.runners) 4096) g.0 in
     let inner = and_both (eqb r.0 (length d.runners)) (eqb (length d.actions) 0) outer.0 in
-    runner_goes d number kind priority behaviour r.0 k.0 p.0 b.0 (number_from-same 0 max_id number r.0 r.1) (kind_named-same kind k.0 k.1) (result_ok-some (priority_named priority) p.0 p.1)
+    runner_goes d number kind priority behaviour r.0 k.0 p.0 b.0 (number_from-same 0 max_id number r.0 r.1) (kind_named-same kind k.0 k.1)
+        (result_ok-some (priority_named priority) p.0 p.1)
     (result_ok-some (behaviour_named behaviour) b.0 b.1) inner.0 (shared_is_not_above d k.0 (form_kind-shared kind k.0 k.1)) inner.1
     (fits 4096 (length d.runners + 1) (omega (arith, below _ _ outer.1)))
     ∙ ap Ok g.1
@@ -135,13 +139,16 @@ unfolding form_task
 task_same d d' (number ∷ words) sound e =
     let t = bind_some (number_in 0 max_id number) (λ t. form_steps words >>= λ steps. task_added d t steps) d' e in
     let steps = bind_some (form_steps words) (λ steps. task_added d t.0 steps) d' t.2 in
-    let g = guard_some (eqb t.0 (length d.tasks) && eqb (length d.actions) 0 && ltb (length d.tasks) 16384 && leb (steps_of_tasks d.tasks + length steps.0) 65536) (record d { tasks = d.tasks ++ steps.0 ∷ [] }) d' steps.2 in
-    let all = and_both (eqb t.0 (length d.tasks) && eqb (length d.actions) 0 && ltb (length d.tasks) 16384) (leb (steps_of_tasks d.tasks + length steps.0) 65536) g.0 in
+    let g = guard_some (eqb t.0 (length d.tasks) && eqb (length d.actions) 0 && ltb (length d.tasks) 16384
+        && leb (steps_of_tasks d.tasks + length steps.0) 65536) (record d { tasks = d.tasks ++ steps.0 ∷ [] }) d' steps.2 in
+    let all = and_both (eqb t.0 (length d.tasks) && eqb (length d.actions) 0 && ltb (length d.tasks) 16384)
+        (leb (steps_of_tasks d.tasks + length steps.0) 65536) g.0 in
     let outer = and_both (eqb t.0 (length d.tasks) && eqb (length d.actions) 0) (ltb (length d.tasks) 16384) all.0 in
     let inner = and_both (eqb t.0 (length d.tasks)) (eqb (length d.actions) 0) outer.0 in
     let compute : Computes steps.0 = form_steps-compute words steps.0 steps.1 in
     let few = below _ _ outer.1 in
-    task_goes d number words t.0 steps.0 (number_from-same 0 max_id number t.0 t.1) (steps_read-same words steps.0 steps.1) inner.0 (computes-declared d steps.0 compute)
+    task_goes d number words t.0 steps.0 (number_from-same 0 max_id number t.0 t.1) (steps_read-same words steps.0 steps.1) inner.0
+        (computes-declared d steps.0 compute)
     (computes-posts d steps.0 compute) inner.1 (computes-scopes steps.0 compute) (computes-misplaced d steps.0 compute)
     (fits 16384 (length d.tasks + 1) (omega (arith, few)))
     (fits 65536 (steps_in d + length steps.0) (omega (arith, sound-steps d sound, at_most _ _ all.1)))
@@ -167,7 +174,8 @@ post_same d d' (task ∷ runner ∷ delay ∷ []) sound e =
     let t = bind_some (number_in 0 max_id task) (λ t. number_in 0 max_id runner >>= λ r. number_in 0 0 delay >>= λ u. post_added d t r u) d' e in
     let r = bind_some (number_in 0 max_id runner) (λ r. number_in 0 0 delay >>= λ u. post_added d t.0 r u) d' t.2 in
     let u = bind_some (number_in 0 0 delay) (λ u. post_added d t.0 r.0 u) d' r.2 in
-    let g = guard_some (ltb t.0 (length d.tasks) && ltb r.0 (length d.runners) && not (is_posted d.actions t.0) && ltb (form_events d) 262144) (record d { actions = d.actions ++ Post t.0 r.0 u.0 ∷ [] }) d' u.2 in
+    let g = guard_some (ltb t.0 (length d.tasks) && ltb r.0 (length d.runners) && not (is_posted d.actions t.0) && ltb (form_events d) 262144)
+        (record d { actions = d.actions ++ Post t.0 r.0 u.0 ∷ [] }) d' u.2 in
     let all = and_both (ltb t.0 (length d.tasks) && ltb r.0 (length d.runners) && not (is_posted d.actions t.0)) (ltb (form_events d) 262144) g.0 in
     let outer = and_both (ltb t.0 (length d.tasks) && ltb r.0 (length d.runners)) (not (is_posted d.actions t.0)) all.0 in
     let inner = and_both (ltb t.0 (length d.tasks)) (ltb r.0 (length d.runners)) outer.0 in
@@ -220,7 +228,8 @@ command_same d d' name words sound e =
     (λ e2. choice d' (is_word name (codes "task")) _ _ e2 (λ is e0. subst Same (sym (is_word-same name (codes "task") is)) (task_same d d' words sound e0))
     (λ e3. choice d' (is_word name (codes "post")) _ _ e3 (λ is e0. subst Same (sym (is_word-same name (codes "post") is)) (post_same d d' words sound e0))
     (λ e4. choice d' (is_word name (codes "flush")) _ _ e4 (λ is e0. subst Same (sym (is_word-same name (codes "flush") is)) (flush_same d d' words sound e0))
-    (λ e5. choice d' (is_word name (codes "shutdown")) _ _ e5 (λ is e0. subst Same (sym (is_word-same name (codes "shutdown") is)) (shutdown_same d d' words sound e0)) (λ e6. absurd cc))))))
+    (λ e5. choice d' (is_word name (codes "shutdown")) _ _ e5
+        (λ is e0. subst Same (sym (is_word-same name (codes "shutdown") is)) (shutdown_same d d' words sound e0)) (λ e6. absurd cc))))))
   where
     Same : List ℕ → Type 0
     Same word = command_read d word words ≡ Ok d'
@@ -243,7 +252,8 @@ unfolding form_lines lines_read
 lines_same d d' number [] sound e = ap Ok (some_same d d' e)
 lines_same d d' number (line ∷ lines) sound e =
     let next = bind_some (form_line d line) (λ n. form_lines n lines) d' e in
-    goes (line_read d line) next.0 (words_same d next.0 line (words_of line) sound next.1) ∙ lines_same next.0 d' (number + 1) lines (keeps_line d next.0 line (words_of line) sound next.1) next.2
+    goes (line_read d line) next.0 (words_same d next.0 line (words_of line) sound next.1)
+        ∙ lines_same next.0 d' (number + 1) lines (keeps_line d next.0 line (words_of line) sound next.1) next.2
   where
     goes : (r : Result Draft ℕ) (n : Draft) → r ≡ Ok n → (at_line number r then λ m. lines_read m (number + 1) lines) ≡ lines_read n (number + 1) lines
     goes r n is = ap (λ (q : Result Draft ℕ). at_line number q then λ m. lines_read m (number + 1) lines) is
@@ -257,4 +267,5 @@ form_is_script bytes script e = made (form_lines empty_draft (lines_of bytes)) r
         → (lines_read empty_draft 1 (lines_of bytes) then λ d. Ok (script_of d)) ≡ Ok script
     made None is h = absurd cc
     made (Some d) is h =
-        ap (λ (r : Result Draft (ℕ × ℕ)). r then λ d. Ok (script_of d)) (lines_same empty_draft d 1 (lines_of bytes) empty_sound is) ∙ ap Ok (some_same (script_of d) script h)
+        ap (λ (r : Result Draft (ℕ × ℕ)). r then λ d. Ok (script_of d)) (lines_same empty_draft d 1 (lines_of bytes) empty_sound is)
+            ∙ ap Ok (some_same (script_of d) script h)

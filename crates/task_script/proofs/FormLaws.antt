@@ -55,7 +55,8 @@ number_in-bounds low high word n e = bounds (number_of word) e
         let lower = b.0 in let upper = b.1 in let same = g.1 in
         (grind (arith, nat_tests), grind (arith, nat_tests))
 
-    bounds : (o : Option ℕ) → (elim o as (λ _. Option ℕ) [ None ↦ None | Some m ↦ cond (leb low m && leb m high) (Some m) None ]) ≡ Some n → (low ≤ n) × (n ≤ high)
+    bounds : (o : Option ℕ) → (elim o as (λ _. Option ℕ) [ None ↦ None | Some m ↦ cond (leb low m && leb m high) (Some m) None ]) ≡ Some n
+        → (low ≤ n) × (n ≤ high)
     bounds None h = absurd cc
     bounds (Some m) h = within m h
 
@@ -80,20 +81,23 @@ abbrev pub Computes : List Step → Type 0
 Computes steps = All (λ step. is_act step ≡ false) steps
 
 -- what one of three choices gives, where each of them has the property
-one_of_three : {A : Type 0} (P : A → Type 0) (a b c : Bool) (x y z w : A) → P x → P y → P z → cond a (Some x) (cond b (Some y) (cond c (Some z) None)) ≡ Some w → P w
+one_of_three : {A : Type 0} (P : A → Type 0) (a b c : Bool) (x y z w : A) → P x → P y → P z → cond a (Some x) (cond b (Some y) (cond c (Some z) None)) ≡ Some w
+    → P w
 one_of_three P true b c x y z w px py pz e = subst P (some_same x w e) px
 one_of_three P false true c x y z w px py pz e = subst P (some_same y w e) py
 one_of_three P false false true x y z w px py pz e = subst P (some_same z w e) pz
 one_of_three P false false false x y z w px py pz e = absurd cc
 
 pub form_kind-shared : (word : List ℕ) (kind : RunnerKind) → form_kind word ≡ Some kind → is_single kind ≡ false
-form_kind-shared word kind e = one_of_three (λ k. is_single k ≡ false) (is_word word (codes "parallel")) (is_word word (codes "sequenced")) false Parallel Sequenced Parallel kind refl refl refl e
+form_kind-shared word kind e = one_of_three (λ k. is_single k ≡ false) (is_word word (codes "parallel"))
+    (is_word word (codes "sequenced")) false Parallel Sequenced Parallel kind refl refl refl e
 
 form_step-computes : (words : List (List ℕ)) (step : Step) → form_step words ≡ Some step → is_act step ≡ false
 unfolding form_step
 form_step-computes (word ∷ number ∷ []) step e =
     let k = bind_some (number_in 0 18446744073709551615 number) (step_named word) step e in
-    one_of_three (λ s. is_act s ≡ false) (is_word word (codes "add")) (is_word word (codes "mul")) (is_word word (codes "set")) (Add k.0) (Mul k.0) (Set k.0) step refl refl refl k.2
+    one_of_three (λ s. is_act s ≡ false) (is_word word (codes "add")) (is_word word (codes "mul")) (is_word word (codes "set")) (Add k.0) (Mul k.0)
+        (Set k.0) step refl refl refl k.2
 form_step-computes [] step e = absurd cc
 form_step-computes (word ∷ []) step e = absurd cc
 form_step-computes (word ∷ number ∷ more ∷ words) step e = absurd cc
@@ -104,7 +108,8 @@ pieces-compute [] steps e = subst Computes (some_same [] steps e) (All-nil (λ s
 pieces-compute (piece ∷ pieces) steps e =
     let x = bind_some (form_step piece) (λ x. all_some (map form_step pieces) >>= λ xs. Some (x ∷ xs)) steps e in
     let xs = bind_some (all_some (map form_step pieces)) (λ xs. Some (x.0 ∷ xs)) steps x.2 in
-    subst Computes (some_same (x.0 ∷ xs.0) steps xs.2) (All-cons (λ step. is_act step ≡ false) x.0 xs.0 (form_step-computes piece x.0 x.1) (pieces-compute pieces xs.0 xs.1))
+    subst Computes (some_same (x.0 ∷ xs.0) steps xs.2) (All-cons (λ step. is_act step ≡ false) x.0 xs.0 (form_step-computes piece x.0 x.1)
+        (pieces-compute pieces xs.0 xs.1))
 
 pub form_steps-compute : (words : List (List ℕ)) (steps : List Step) → form_steps words ≡ Some steps → Computes steps
 unfolding form_steps
@@ -117,7 +122,8 @@ abbrev pub IsSound : Draft → Type 0
 IsSound d = WellFormed (script_of d)
 
 -- an element of a joined list is one of either part
-slice_get-append : {A : Type 0} (xs ys : List A) (k : ℕ) (x : A) → slice_get (xs ++ ys) k ≡ Some x → ((k < length xs) × (slice_get xs k ≡ Some x)) ⊎ ((j : ℕ) × (k ≡ length xs + j) × (slice_get ys j ≡ Some x))
+slice_get-append : {A : Type 0} (xs ys : List A) (k : ℕ) (x : A) → slice_get (xs ++ ys) k ≡ Some x
+    → ((k < length xs) × (slice_get xs k ≡ Some x)) ⊎ ((j : ℕ) × (k ≡ length xs + j) × (slice_get ys j ≡ Some x))
 slice_get-append [] ys k x e = inr (k, omega arith, e)
 slice_get-append (y ∷ xs) ys zero x e = inl (omega arith, e)
 slice_get-append (y ∷ xs) ys (suc k) x e = elim (slice_get-append xs ys k x e) [
@@ -128,12 +134,14 @@ slice_get-append (y ∷ xs) ys (suc k) x e = elim (slice_get-append xs ys k x e)
 -- ---- the entries that actions want
 
 wants-push : (actions : List Action) (action : Action) → flat_map wants_of (actions ++ action ∷ []) ≡ flat_map wants_of actions ++ wants_of action
-wants-push actions action = flat_map-append wants_of actions (action ∷ []) ∙ ap (λ (ws : List Want). flat_map wants_of actions ++ ws) (flat_map-cons wants_of action [] ∙ append-nil (wants_of action))
+wants-push actions action = flat_map-append wants_of actions (action ∷ [])
+    ∙ ap (λ (ws : List Want). flat_map wants_of actions ++ ws) (flat_map-cons wants_of action [] ∙ append-nil (wants_of action))
 
 -- a task is posted by the actions exactly where it is posted by the entries that they want
 posts_among-wants : (actions : List Action) (t : ℕ) → posts_among (flat_map wants_of actions) t ≡ is_posted actions t
 posts_among-wants [] t = refl
-posts_among-wants (Post task runner delay ∷ actions) t = ap (λ (ws : List Want). posts_among ws t) (flat_map-cons wants_of (Post task runner delay) actions) ∙ ap (λ (b : Bool). eqb task t || b) (posts_among-wants actions t)
+posts_among-wants (Post task runner delay ∷ actions) t = ap (λ (ws : List Want). posts_among ws t) (flat_map-cons wants_of (Post task runner delay) actions)
+    ∙ ap (λ (b : Bool). eqb task t || b) (posts_among-wants actions t)
 posts_among-wants (action ∷ actions) t = ap (λ (ws : List Want). posts_among ws t) (flat_map-cons wants_of action actions) ∙ posts_among-wants actions t
 
 no_wants : (actions : List Action) → length actions ≡ 0 → flat_map wants_of actions ≡ []
@@ -174,13 +182,15 @@ keeps_workers d d' (number ∷ []) sound e =
       few_entries = sound.few_entries;
       wants_count = sound.wants_count;
       one_shutdown = sound.one_shutdown;
-      posts_sound = λ k t r u h. let p = sound.posts_sound k t r u h in record { task_declared = p.task_declared; runner_declared = p.runner_declared; immediate = p.immediate; first_post = p.first_post };
+      posts_sound = λ k t r u h. let p = sound.posts_sound k t r u h in
+          record { task_declared = p.task_declared; runner_declared = p.runner_declared; immediate = p.immediate; first_post = p.first_post };
     })
 keeps_workers d d' [] sound e = absurd cc
 keeps_workers d d' (a ∷ b ∷ words) sound e = absurd cc
 
 -- a declaration keeps the script well formed where no action stands before it
-with_runner : (d : Draft) (made : Runner) → is_single made.kind ≡ false → IsSound d → length d.actions ≡ 0 → length d.runners < 4096 → IsSound (record d { runners = d.runners ++ made ∷ [] })
+with_runner : (d : Draft) (made : Runner) → is_single made.kind ≡ false → IsSound d → length d.actions ≡ 0 → length d.runners < 4096
+    → IsSound (record d { runners = d.runners ++ made ∷ [] })
 with_runner d made shared sound none few = record {
   some_workers = sound.some_workers;
   few_workers = sound.few_workers;
@@ -201,7 +211,8 @@ with_runner d made shared sound none few = record {
   posts_sound = λ k t r u h. absurd (no_wants_at d k (WantsPost t r u) none h);
 }
 
-with_task : (d : Draft) (steps : List Step) → Computes steps → IsSound d → length d.actions ≡ 0 → length d.tasks < 16384 → IsSound (record d { tasks = d.tasks ++ steps ∷ [] })
+with_task : (d : Draft) (steps : List Step) → Computes steps → IsSound d → length d.actions ≡ 0 → length d.tasks < 16384
+    → IsSound (record d { tasks = d.tasks ++ steps ∷ [] })
 with_task d steps compute sound none few = record {
   some_workers = sound.some_workers;
   few_workers = sound.few_workers;
@@ -227,20 +238,24 @@ runner_made k p b = record { kind = k; traits = record { priority = p; behaviour
 
 abbrev pub runner_added : Draft → ℕ → RunnerKind → Priority → Behaviour → Option Draft
 runner_added d r k p b =
-    cond (eqb r (length d.runners) && eqb (length d.actions) 0 && ltb (length d.runners) 4096) (Some (record d { runners = d.runners ++ runner_made k p b ∷ [] })) None
+    cond (eqb r (length d.runners) && eqb (length d.actions) 0 && ltb (length d.runners) 4096)
+        (Some (record d { runners = d.runners ++ runner_made k p b ∷ [] })) None
 
 -- `runner R KIND PRIORITY BEHAVIOUR`
 keeps_runner : (d d' : Draft) (words : List (List ℕ)) → IsSound d → form_runner d words ≡ Some d' → IsSound d'
 unfolding form_runner
 keeps_runner d d' (number ∷ kind ∷ priority ∷ behaviour ∷ []) sound e =
-    let r = bind_some (number_in 0 max_id number) (λ r. form_kind kind >>= λ k. form_priority priority >>= λ p. form_behaviour behaviour >>= λ b. runner_added d r k p b) d' e in
+    let r = bind_some (number_in 0 max_id number) (λ r. form_kind kind >>= λ k. form_priority priority >>= λ p. form_behaviour behaviour >>=
+        λ b. runner_added d r k p b) d' e in
     let k = bind_some (form_kind kind) (λ k. form_priority priority >>= λ p. form_behaviour behaviour >>= λ b. runner_added d r.0 k p b) d' r.2 in
     let p = bind_some (form_priority priority) (λ p. form_behaviour behaviour >>= λ b. runner_added d r.0 k.0 p b) d' k.2 in
     let b = bind_some (form_behaviour behaviour) (λ b. runner_added d r.0 k.0 p.0 b) d' p.2 in
-    let g = guard_some (eqb r.0 (length d.runners) && eqb (length d.actions) 0 && ltb (length d.runners) 4096) (record d { runners = d.runners ++ runner_made k.0 p.0 b.0 ∷ [] }) d' b.2 in
+    let g = guard_some (eqb r.0 (length d.runners) && eqb (length d.actions) 0 && ltb (length d.runners) 4096)
+        (record d { runners = d.runners ++ runner_made k.0 p.0 b.0 ∷ [] }) d' b.2 in
     let outer = and_both (eqb r.0 (length d.runners) && eqb (length d.actions) 0) (ltb (length d.runners) 4096) g.0 in
     let inner = and_both (eqb r.0 (length d.runners)) (eqb (length d.actions) 0) outer.0 in
-    subst IsSound {x = record d { runners = d.runners ++ runner_made k.0 p.0 b.0 ∷ [] }} g.1 (with_runner d (runner_made k.0 p.0 b.0) (form_kind-shared kind k.0 k.1) sound (eqb-true _ _ inner.1) (below _ _ outer.1))
+    subst IsSound {x = record d { runners = d.runners ++ runner_made k.0 p.0 b.0 ∷ [] }} g.1
+        (with_runner d (runner_made k.0 p.0 b.0) (form_kind-shared kind k.0 k.1) sound (eqb-true _ _ inner.1) (below _ _ outer.1))
 keeps_runner d d' [] sound e = absurd cc
 keeps_runner d d' (a ∷ []) sound e = absurd cc
 keeps_runner d d' (a ∷ b ∷ []) sound e = absurd cc
@@ -249,7 +264,8 @@ keeps_runner d d' (a ∷ b ∷ c ∷ f ∷ g ∷ words) sound e = absurd cc
 
 abbrev pub task_added : Draft → ℕ → List Step → Option Draft
 task_added d t steps =
-    cond (eqb t (length d.tasks) && eqb (length d.actions) 0 && ltb (length d.tasks) 16384 && leb (steps_of_tasks d.tasks + length steps) 65536) (Some (record d { tasks = d.tasks ++ steps ∷ [] })) None
+    cond (eqb t (length d.tasks) && eqb (length d.actions) 0 && ltb (length d.tasks) 16384 && leb (steps_of_tasks d.tasks + length steps) 65536)
+        (Some (record d { tasks = d.tasks ++ steps ∷ [] })) None
 
 -- `task T STEPS`
 keeps_task : (d d' : Draft) (words : List (List ℕ)) → IsSound d → form_task d words ≡ Some d' → IsSound d'
@@ -257,18 +273,23 @@ unfolding form_task
 keeps_task d d' (number ∷ words) sound e =
     let t = bind_some (number_in 0 max_id number) (λ t. form_steps words >>= λ steps. task_added d t steps) d' e in
     let steps = bind_some (form_steps words) (λ steps. task_added d t.0 steps) d' t.2 in
-    let g = guard_some (eqb t.0 (length d.tasks) && eqb (length d.actions) 0 && ltb (length d.tasks) 16384 && leb (steps_of_tasks d.tasks + length steps.0) 65536) (record d { tasks = d.tasks ++ steps.0 ∷ [] }) d' steps.2 in
-    let all = and_both (eqb t.0 (length d.tasks) && eqb (length d.actions) 0 && ltb (length d.tasks) 16384) (leb (steps_of_tasks d.tasks + length steps.0) 65536) g.0 in
+    let g = guard_some (eqb t.0 (length d.tasks) && eqb (length d.actions) 0 && ltb (length d.tasks) 16384
+        && leb (steps_of_tasks d.tasks + length steps.0) 65536) (record d { tasks = d.tasks ++ steps.0 ∷ [] }) d' steps.2 in
+    let all = and_both (eqb t.0 (length d.tasks) && eqb (length d.actions) 0 && ltb (length d.tasks) 16384)
+        (leb (steps_of_tasks d.tasks + length steps.0) 65536) g.0 in
     let outer = and_both (eqb t.0 (length d.tasks) && eqb (length d.actions) 0) (ltb (length d.tasks) 16384) all.0 in
     let inner = and_both (eqb t.0 (length d.tasks)) (eqb (length d.actions) 0) outer.0 in
-    subst IsSound {x = record d { tasks = d.tasks ++ steps.0 ∷ [] }} g.1 (with_task d steps.0 (form_steps-compute words steps.0 steps.1) sound (eqb-true _ _ inner.1) (below _ _ outer.1))
+    subst IsSound {x = record d { tasks = d.tasks ++ steps.0 ∷ [] }} g.1
+        (with_task d steps.0 (form_steps-compute words steps.0 steps.1) sound (eqb-true _ _ inner.1) (below _ _ outer.1))
 keeps_task d d' [] sound e = absurd cc
 
 -- an action keeps the script well formed, if it is a sound post where it is a post
-with_action : (d : Draft) (action : Action) → is_form_action action ≡ true → IsSound d → 2 * length d.tasks + length (all_wants (script_of d)) + length (wants_of action) ≤ 262144 →
+with_action : (d : Draft) (action : Action) → is_form_action action ≡ true → IsSound d
+    → 2 * length d.tasks + length (all_wants (script_of d)) + length (wants_of action) ≤ 262144 →
     length (wants_of action) + cond (shuts_down d.actions) 1 0 ≡ 1 + cond (shuts_down (d.actions ++ action ∷ [])) 1 0 →
     ((j : ℕ) → slice_get (wants_of action) j ≡ Some WantsShutdown → (j ≡ 0) × (shuts_down d.actions ≡ false)) →
-    ((j t r u : ℕ) → slice_get (wants_of action) j ≡ Some (WantsPost t r u) → (j ≡ 0) × (t < length d.tasks) × (r < length d.runners) × (u ≡ 0) × (is_posted d.actions t ≡ false)) →
+    ((j t r u : ℕ) → slice_get (wants_of action) j ≡ Some (WantsPost t r u)
+        → (j ≡ 0) × (t < length d.tasks) × (r < length d.runners) × (u ≡ 0) × (is_posted d.actions t ≡ false)) →
     IsSound (record d { actions = d.actions ++ action ∷ [] })
 with_action d action of_form sound room once start post = record {
   some_workers = sound.some_workers;
@@ -287,7 +308,8 @@ with_action d action of_form sound room once start post = record {
   few_entries = omega (arith, room, longer);
   wants_count = omega (arith, longer, once, sound.wants_count, length-append d.actions (action ∷ []));
   one_shutdown = λ k h. elim (slice_get-append wants (wants_of action) k WantsShutdown (ap (λ (ws : List Want). slice_get ws k) (sym grown) ∙ h)) [
-    | inl old ↦ ap (λ (ws : List Want). starts_among (take k ws)) grown ∙ ap starts_among (take-append-le k wants (wants_of action) (omega (arith, old.0))) ∙ sound.one_shutdown k old.1
+    | inl old ↦ ap (λ (ws : List Want). starts_among (take k ws)) grown ∙ ap starts_among (take-append-le k wants (wants_of action) (omega (arith, old.0)))
+        ∙ sound.one_shutdown k old.1
     | inr new ↦
         let p = start new.0 new.2 in
         let place : k ≡ length wants = omega (arith, new.1, p.0) in
@@ -301,7 +323,8 @@ with_action d action of_form sound room once start post = record {
           task_declared = p.task_declared;
           runner_declared = p.runner_declared;
           immediate = p.immediate;
-          first_post = ap (λ (ws : List Want). posts_among (take k ws) t) grown ∙ ap (λ (ws : List Want). posts_among ws t) (take-append-le k wants (wants_of action) (omega (arith, old.0))) ∙ p.first_post;
+          first_post = ap (λ (ws : List Want). posts_among (take k ws) t) grown
+              ∙ ap (λ (ws : List Want). posts_among ws t) (take-append-le k wants (wants_of action) (omega (arith, old.0))) ∙ p.first_post;
         }
     | inr new ↦
         let p = post new.0 t r u new.2 in
@@ -327,22 +350,26 @@ with_action d action of_form sound room once start post = record {
 
 abbrev pub post_added : Draft → ℕ → ℕ → ℕ → Option Draft
 post_added d t r u =
-    cond (ltb t (length d.tasks) && ltb r (length d.runners) && not (is_posted d.actions t) && ltb (form_events d) 262144) (Some (record d { actions = d.actions ++ Post t r u ∷ [] })) None
+    cond (ltb t (length d.tasks) && ltb r (length d.runners) && not (is_posted d.actions t) && ltb (form_events d) 262144)
+        (Some (record d { actions = d.actions ++ Post t r u ∷ [] })) None
 
 -- an action that does not start shutdown leaves the script as it was in this
 shuts_down-push : (actions : List Action) (action : Action) → is_shutdown action ≡ false → shuts_down (actions ++ action ∷ []) ≡ shuts_down actions
-shuts_down-push actions action not_it = list_any-append is_shutdown actions (action ∷ []) ∙ ap (λ (b : Bool). shuts_down actions || (b || false)) not_it ∙ or-false (shuts_down actions)
+shuts_down-push actions action not_it = list_any-append is_shutdown actions (action ∷ []) ∙ ap (λ (b : Bool). shuts_down actions || (b || false)) not_it
+    ∙ or-false (shuts_down actions)
   where
     or-false : (b : Bool) → (b || false) ≡ b
     or-false true = refl
     or-false false = refl
 
 -- the one post that a post wants
-one_post : (task runner delay j t r u : ℕ) → slice_get (WantsPost task runner delay ∷ []) j ≡ Some (WantsPost t r u) → (j ≡ 0) × (task ≡ t) × (runner ≡ r) × (delay ≡ u)
+one_post : (task runner delay j t r u : ℕ) → slice_get (WantsPost task runner delay ∷ []) j ≡ Some (WantsPost t r u)
+    → (j ≡ 0) × (task ≡ t) × (runner ≡ r) × (delay ≡ u)
 one_post task runner delay zero t r u e = (refl, cc, cc, cc)
 one_post task runner delay (suc j) t r u e = absurd cc
 
-no_start : (actions : List Action) (task runner delay j : ℕ) → slice_get (WantsPost task runner delay ∷ []) j ≡ Some WantsShutdown → (j ≡ 0) × (shuts_down actions ≡ false)
+no_start : (actions : List Action) (task runner delay j : ℕ) → slice_get (WantsPost task runner delay ∷ []) j ≡ Some WantsShutdown
+    → (j ≡ 0) × (shuts_down actions ≡ false)
 no_start actions task runner delay zero e = absurd cc
 no_start actions task runner delay (suc j) e = absurd cc
 
@@ -354,13 +381,16 @@ keeps_post d d' (task ∷ runner ∷ delay ∷ []) sound e =
     let r = bind_some (number_in 0 max_id runner) (λ r. number_in 0 0 delay >>= λ u. post_added d t.0 r u) d' t.2 in
     let u = bind_some (number_in 0 0 delay) (λ u. post_added d t.0 r.0 u) d' r.2 in
     let now = number_in-bounds 0 0 delay u.0 u.1 in
-    let g = guard_some (ltb t.0 (length d.tasks) && ltb r.0 (length d.runners) && not (is_posted d.actions t.0) && ltb (form_events d) 262144) (record d { actions = d.actions ++ Post t.0 r.0 u.0 ∷ [] }) d' u.2 in
+    let g = guard_some (ltb t.0 (length d.tasks) && ltb r.0 (length d.runners) && not (is_posted d.actions t.0) && ltb (form_events d) 262144)
+        (record d { actions = d.actions ++ Post t.0 r.0 u.0 ∷ [] }) d' u.2 in
     let all = and_both (ltb t.0 (length d.tasks) && ltb r.0 (length d.runners) && not (is_posted d.actions t.0)) (ltb (form_events d) 262144) g.0 in
     let outer = and_both (ltb t.0 (length d.tasks) && ltb r.0 (length d.runners)) (not (is_posted d.actions t.0)) all.0 in
     let inner = and_both (ltb t.0 (length d.tasks)) (ltb r.0 (length d.runners)) outer.0 in
     let fresh : is_posted d.actions t.0 ≡ false = not_true _ outer.1 in
     let full = below _ _ all.1 in
-    subst IsSound {x = record d { actions = d.actions ++ Post t.0 r.0 u.0 ∷ [] }} g.1 (with_action d (Post t.0 r.0 u.0) refl sound (omega (arith, full, sound.wants_count)) (ap (λ (b : Bool). 1 + cond b 1 0) (sym (shuts_down-push d.actions (Post t.0 r.0 u.0) refl))) (no_start d.actions t.0 r.0 u.0) (λ j t' r' u' same.
+    subst IsSound {x = record d { actions = d.actions ++ Post t.0 r.0 u.0 ∷ [] }} g.1
+        (with_action d (Post t.0 r.0 u.0) refl sound (omega (arith, full, sound.wants_count))
+        (ap (λ (b : Bool). 1 + cond b 1 0) (sym (shuts_down-push d.actions (Post t.0 r.0 u.0) refl))) (no_start d.actions t.0 r.0 u.0) (λ j t' r' u' same.
     let it = one_post t.0 r.0 u.0 j t' r' u' same in (
       it.0,
       subst (λ (n : ℕ). n < length d.tasks) it.1 (below _ _ inner.0),
@@ -379,13 +409,15 @@ unfolding form_flush
 keeps_flush d d' [] sound e =
     let g = guard_some (ltb (form_events d) 262144) (record d { actions = d.actions ++ Flush ∷ [] }) d' e in
     let full = below _ _ g.0 in
-    subst IsSound g.1 (with_action d Flush refl sound (omega (arith, full, sound.wants_count)) (ap (λ (b : Bool). 1 + cond b 1 0) (sym (shuts_down-push d.actions Flush refl))) start none)
+    subst IsSound g.1 (with_action d Flush refl sound (omega (arith, full, sound.wants_count))
+        (ap (λ (b : Bool). 1 + cond b 1 0) (sym (shuts_down-push d.actions Flush refl))) start none)
   where
     start : (j : ℕ) → slice_get (WantsIdle ∷ []) j ≡ Some WantsShutdown → (j ≡ 0) × (shuts_down d.actions ≡ false)
     start zero e = absurd cc
     start (suc j) e = absurd cc
 
-    none : (j t r u : ℕ) → slice_get (WantsIdle ∷ []) j ≡ Some (WantsPost t r u) → (j ≡ 0) × (t < length d.tasks) × (r < length d.runners) × (u ≡ 0) × (is_posted d.actions t ≡ false)
+    none : (j t r u : ℕ) → slice_get (WantsIdle ∷ []) j ≡ Some (WantsPost t r u)
+        → (j ≡ 0) × (t < length d.tasks) × (r < length d.runners) × (u ≡ 0) × (is_posted d.actions t ≡ false)
     none zero t r u e = absurd cc
     none (suc j) t r u e = absurd cc
 keeps_flush d d' (a ∷ words) sound e = absurd cc
@@ -400,14 +432,16 @@ keeps_shutdown d d' [] sound e =
     subst IsSound g.1 (with_action d Shutdown refl sound (omega (arith, full, sound.wants_count)) (once never) start none)
   where
     never : shuts_down d.actions ≡ false
-    never = not_true _ (and_both (not (shuts_down d.actions)) (ltb (form_events d + 1) 262144) (guard_some (not (shuts_down d.actions) && ltb (form_events d + 1) 262144) (record d { actions = d.actions ++ Shutdown ∷ [] }) d' e).0).0
+    never = not_true _ (and_both (not (shuts_down d.actions)) (ltb (form_events d + 1) 262144)
+        (guard_some (not (shuts_down d.actions) && ltb (form_events d + 1) 262144) (record d { actions = d.actions ++ Shutdown ∷ [] }) d' e).0).0
 
     start : (j : ℕ) → slice_get (WantsShutdown ∷ WantsDone ∷ []) j ≡ Some WantsShutdown → (j ≡ 0) × (shuts_down d.actions ≡ false)
     start zero h = (refl, never)
     start (suc zero) h = absurd cc
     start (suc (suc j)) h = absurd cc
 
-    none : (j t r u : ℕ) → slice_get (WantsShutdown ∷ WantsDone ∷ []) j ≡ Some (WantsPost t r u) → (j ≡ 0) × (t < length d.tasks) × (r < length d.runners) × (u ≡ 0) × (is_posted d.actions t ≡ false)
+    none : (j t r u : ℕ) → slice_get (WantsShutdown ∷ WantsDone ∷ []) j ≡ Some (WantsPost t r u)
+        → (j ≡ 0) × (t < length d.tasks) × (r < length d.runners) × (u ≡ 0) × (is_posted d.actions t ≡ false)
     none zero t r u e = absurd cc
     none (suc zero) t r u e = absurd cc
     none (suc (suc j)) t r u e = absurd cc

@@ -61,14 +61,16 @@ pub kind_named-same : (word : List ℕ) (kind : RunnerKind) → form_kind word �
 unfolding kind_named
 kind_named-same word kind e = by (is_word word (codes "parallel")) (is_word word (codes "sequenced")) refl refl e
   where
-    by : (b c : Bool) → is_word word (codes "parallel") ≡ b → is_word word (codes "sequenced") ≡ c → cond b (Some Parallel) (cond c (Some Sequenced) None) ≡ Some kind → kind_named word ≡ Ok kind
+    by : (b c : Bool) → is_word word (codes "parallel") ≡ b → is_word word (codes "sequenced") ≡ c
+        → cond b (Some Parallel) (cond c (Some Sequenced) None) ≡ Some kind → kind_named word ≡ Ok kind
     by true c is other h = rw (is_word-same word (codes "parallel") is) cc
     by false true isnt is h = rw (is_word-same word (codes "sequenced") is) cc
     by false false isnt is h = absurd cc
 
 -- ---- steps
 
-step_said-named : (word : List ℕ) (number : List ℕ) (k : ℕ) (step : Step) → number_from 0 18446744073709551615 number ≡ Ok k → step_named word k ≡ Some step → step_said word (number ∷ []) ≡ Ok step
+step_said-named : (word : List ℕ) (number : List ℕ) (k : ℕ) (step : Step) → number_from 0 18446744073709551615 number ≡ Ok k → step_named word k ≡ Some step
+    → step_said word (number ∷ []) ≡ Ok step
 unfolding step_said
 step_said-named word number k step is e = by (is_word word (codes "add")) (is_word word (codes "mul")) (is_word word (codes "set")) refl refl refl e
   where
@@ -130,7 +132,8 @@ computes-declared d (step ∷ steps) c = rw ((acts_not d step (head step steps c
 
 pub computes-posts : (d : Draft) (steps : List Step) → Computes steps → flat_map posts_of_step steps ≡ []
 computes-posts d [] c = refl
-computes-posts d (step ∷ steps) c = flat_map-cons posts_of_step step steps ∙ rw ((acts_not d step (head step steps c)).posts, computes-posts d steps (tail step steps c)) refl
+computes-posts d (step ∷ steps) c = flat_map-cons posts_of_step step steps
+    ∙ rw ((acts_not d step (head step steps c)).posts, computes-posts d steps (tail step steps c)) refl
 
 pub computes-opens : (d : Draft) (steps : List Step) → Computes steps → list_any is_block steps ≡ false
 computes-opens d [] c = refl

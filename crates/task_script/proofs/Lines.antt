@@ -11,13 +11,15 @@ use Rattle.task_script.specs.Reading.{Fails}
 use Rattle.task_script.specs.Texts.{texts}
 
 -- a line that is read hands on to the lines behind it
-pub form_lines-some : (d next : Draft) (lines : List (Bor (List ℕ))) (i : ℕ) (e : Bor (List ℕ)) → i < length lines → form_line d (get_or lines i e).now ≡ Some next
+pub form_lines-some : (d next : Draft) (lines : List (Bor (List ℕ))) (i : ℕ) (e : Bor (List ℕ)) → i < length lines
+    → form_line d (get_or lines i e).now ≡ Some next
     → form_lines d (texts (drop i lines)) ≡ form_lines next (texts (drop (i + 1) lines))
 unfolding form_lines
 form_lines-some d next lines i e lt here = rw (add-one, drop-cons lines i e, here) refl
 
 -- a line that is none makes the lines none
-pub form_lines-fails : (fault : ScriptFault) (d : Draft) (lines : List (Bor (List ℕ))) (i : ℕ) (e : Bor (List ℕ)) (total : Option Draft) → i < length lines → Fails fault (form_line d (get_or lines i e).now)
+pub form_lines-fails : (fault : ScriptFault) (d : Draft) (lines : List (Bor (List ℕ))) (i : ℕ) (e : Bor (List ℕ)) (total : Option Draft) → i < length lines
+    → Fails fault (form_line d (get_or lines i e).now)
     → form_lines d (texts (drop i lines)) ≡ total → Fails fault total
 unfolding form_lines
 form_lines-fails Memory d lines i e total lt here so_far = tt

@@ -69,7 +69,8 @@ then_some-is_cond true n = refl
 then_some-is_cond false n = refl
 
 -- a number of 64 bits is there where it lies in the range
-pub number_in-value : (low high n : ℕ) (word : List ℕ) → is_numeral word ≡ true → value_of word ≡ Some n → number_in low high word ≡ then_some (leb low n && leb n high) n
+pub number_in-value : (low high n : ℕ) (word : List ℕ) → is_numeral word ≡ true → value_of word ≡ Some n
+    → number_in low high word ≡ then_some (leb low n && leb n high) n
 unfolding number_in
 number_in-value low high n word numeral some =
     let same : digits_value 10 word ≡ n = (cond_some _ _ _ some).1 in

@@ -13,7 +13,9 @@ use Rattle.hist_model.specs.Laws.Agenda.{Agenda, agenda_from, agenda, first_of, 
 -- the agenda begins with the current action
 current_from_is : (xs : List Action) (own : List Entry) → current_from xs own ≡ current_of (agenda_from xs own)
 current_from_is [] own = refl
-current_from_is (x ∷ xs) own = elim (behind_action x own) as (λ o. option_map_or (λ left. current_from xs left) o (Some (record { action = x; made = own })) ≡ current_of (option_map_or (λ left. agenda_from xs left) o (record { actions = x ∷ xs; made = own }))) [
+current_from_is (x ∷ xs) own = elim (behind_action x own) as
+    (λ o. option_map_or (λ left. current_from xs left) o (Some (record { action = x; made = own }))
+    ≡ current_of (option_map_or (λ left. agenda_from xs left) o (record { actions = x ∷ xs; made = own }))) [
   | None ↦ refl
   | Some left ↦ current_from_is xs left
 ]
@@ -32,7 +34,8 @@ join_more : (own left : List Entry) (e : Entry) → behind_join own ≡ Some lef
 join_more [] left e h = absurd cc
 join_more (x ∷ own) left e h = at (is_joined x.kind) (join_more own left e) h
   where
-    at : (b : Bool) → (behind_join own ≡ Some left → behind_join (own ++ e ∷ []) ≡ Some (left ++ e ∷ [])) → cond b (Some own) (behind_join own) ≡ Some left → cond b (Some (own ++ e ∷ [])) (behind_join (own ++ e ∷ [])) ≡ Some (left ++ e ∷ [])
+    at : (b : Bool) → (behind_join own ≡ Some left → behind_join (own ++ e ∷ []) ≡ Some (left ++ e ∷ [])) → cond b (Some own) (behind_join own) ≡ Some left
+        → cond b (Some (own ++ e ∷ [])) (behind_join (own ++ e ∷ [])) ≡ Some (left ++ e ∷ [])
     at true next k = let same : own ≡ left = cc in ap (λ y. Some (y ++ e ∷ [])) same
     at false next k = next k
 
@@ -40,8 +43,10 @@ pump_more : (n : ℕ) (own left : List Entry) (e : Entry) → behind_pump n own 
 pump_more n [] left e h = absurd cc
 pump_more n (x ∷ own) left e h = at (is_main_none x.kind || (is_main_end x.kind && leb n 1)) (pump_more (cond (is_main_end x.kind) (n - 1) n) own left e) h
   where
-    at : (b : Bool) → (behind_pump (cond (is_main_end x.kind) (n - 1) n) own ≡ Some left → behind_pump (cond (is_main_end x.kind) (n - 1) n) (own ++ e ∷ []) ≡ Some (left ++ e ∷ []))
-        → cond b (Some own) (behind_pump (cond (is_main_end x.kind) (n - 1) n) own) ≡ Some left → cond b (Some (own ++ e ∷ [])) (behind_pump (cond (is_main_end x.kind) (n - 1) n) (own ++ e ∷ [])) ≡ Some (left ++ e ∷ [])
+    at : (b : Bool) → (behind_pump (cond (is_main_end x.kind) (n - 1) n) own ≡ Some left
+        → behind_pump (cond (is_main_end x.kind) (n - 1) n) (own ++ e ∷ []) ≡ Some (left ++ e ∷ []))
+        → cond b (Some own) (behind_pump (cond (is_main_end x.kind) (n - 1) n) own) ≡ Some left
+            → cond b (Some (own ++ e ∷ [])) (behind_pump (cond (is_main_end x.kind) (n - 1) n) (own ++ e ∷ [])) ≡ Some (left ++ e ∷ [])
     at true next k = let same : own ≡ left = cc in ap (λ y. Some (y ++ e ∷ [])) same
     at false next k = next k
 
@@ -64,11 +69,13 @@ join_one : (made : List Entry) (e : Entry) → behind_join made ≡ None → beh
 join_one [] e h = refl
 join_one (x ∷ made) e h = at (is_joined x.kind) (join_one made e) h
   where
-    at : (b : Bool) → (behind_join made ≡ None → behind_join (made ++ e ∷ []) ≡ cond (is_joined e.kind) (Some []) None) → cond b (Some made) (behind_join made) ≡ None → cond b (Some (made ++ e ∷ [])) (behind_join (made ++ e ∷ [])) ≡ cond (is_joined e.kind) (Some []) None
+    at : (b : Bool) → (behind_join made ≡ None → behind_join (made ++ e ∷ []) ≡ cond (is_joined e.kind) (Some []) None)
+        → cond b (Some made) (behind_join made) ≡ None → cond b (Some (made ++ e ∷ [])) (behind_join (made ++ e ∷ [])) ≡ cond (is_joined e.kind) (Some []) None
     at true next k = absurd cc
     at false next k = next k
 
-pump_one : (n : ℕ) (made : List Entry) (e : Entry) → behind_pump n made ≡ None → behind_pump n (made ++ e ∷ []) ≡ cond (is_main_none e.kind || (is_main_end e.kind && leb n (count (λ x. is_main_end x.kind) made + 1))) (Some []) None
+pump_one : (n : ℕ) (made : List Entry) (e : Entry) → behind_pump n made ≡ None
+    → behind_pump n (made ++ e ∷ []) ≡ cond (is_main_none e.kind || (is_main_end e.kind && leb n (count (λ x. is_main_end x.kind) made + 1))) (Some []) None
 pump_one n [] e h = refl
 pump_one n (x ∷ made) e h = at (is_main_none x.kind) (is_main_end x.kind) (pump_one (n - 1) made e) (pump_one n made e) h
   where
@@ -76,20 +83,26 @@ pump_one n (x ∷ made) e h = at (is_main_none x.kind) (is_main_end x.kind) (pum
     ended = count (λ y. is_main_end y.kind) made
 
     Gives : ℕ → Type 0
-    Gives m = behind_pump m made ≡ None → behind_pump m (made ++ e ∷ []) ≡ cond (is_main_none e.kind || (is_main_end e.kind && leb m (ended + 1))) (Some []) None
+    Gives m = behind_pump m made ≡ None → behind_pump m (made ++ e ∷ [])
+        ≡ cond (is_main_none e.kind || (is_main_end e.kind && leb m (ended + 1))) (Some []) None
 
     at : (a b : Bool) → Gives (n - 1) → Gives n
         → cond (a || (b && leb n 1)) (Some made) (behind_pump (cond b (n - 1) n) made) ≡ None
-        → cond (a || (b && leb n 1)) (Some (made ++ e ∷ [])) (behind_pump (cond b (n - 1) n) (made ++ e ∷ [])) ≡ cond (is_main_none e.kind || (is_main_end e.kind && leb n (length (cond b (x ∷ filter (λ y. is_main_end y.kind) made) (filter (λ y. is_main_end y.kind) made)) + 1))) (Some []) None
+        → cond (a || (b && leb n 1)) (Some (made ++ e ∷ [])) (behind_pump (cond b (n - 1) n) (made ++ e ∷ []))
+            ≡ cond (is_main_none e.kind || (is_main_end e.kind
+            && leb n (length (cond b (x ∷ filter (λ y. is_main_end y.kind) made) (filter (λ y. is_main_end y.kind) made)) + 1))) (Some []) None
     at true b less same k = absurd cc
     at false false less same k = same k
     at false true less same k = ended_one (leb n 1) refl k
       where
-        ended_one : (c : Bool) → leb n 1 ≡ c → cond c (Some made) (behind_pump (n - 1) made) ≡ None → cond c (Some (made ++ e ∷ [])) (behind_pump (n - 1) (made ++ e ∷ [])) ≡ cond (is_main_none e.kind || (is_main_end e.kind && leb n (suc ended + 1))) (Some []) None
+        ended_one : (c : Bool) → leb n 1 ≡ c → cond c (Some made) (behind_pump (n - 1) made) ≡ None
+            → cond c (Some (made ++ e ∷ [])) (behind_pump (n - 1) (made ++ e ∷ []))
+            ≡ cond (is_main_none e.kind || (is_main_end e.kind && leb n (suc ended + 1))) (Some []) None
         ended_one true is l = absurd cc
         ended_one false is l = let same_test : leb n (suc ended + 1) ≡ leb (n - 1) (ended + 1) = grind arith in rw same_test (less l)
 
-pub action_one : (x : Action) (made : List Entry) (e : Entry) → behind_action x made ≡ None → behind_action x (made ++ e ∷ []) ≡ cond (completes x made e.kind) (Some []) None
+pub action_one : (x : Action) (made : List Entry) (e : Entry) → behind_action x made ≡ None
+    → behind_action x (made ++ e ∷ []) ≡ cond (completes x made e.kind) (Some []) None
 action_one (actions.Tick n) made e h = behind_one n made e h
 action_one (actions.Pump n) made e h = pump_one n made e h
 action_one (actions.Join job) made e h = join_one made e h
@@ -106,7 +119,8 @@ agenda_from_push (x ∷ xs) own e = at (behind_action x own) refl (agenda_from_p
     taken : Option (List Entry) → Agenda
     taken o = option_map_or (λ left. agenda_from xs left) o (record { actions = x ∷ xs; made = own ++ e ∷ [] })
 
-    at : (o : Option (List Entry)) → behind_action x own ≡ o → ((left : List Entry) (f : Entry) → agenda_from xs (left ++ f ∷ []) ≡ agenda_after (agenda_from xs left) f)
+    at : (o : Option (List Entry)) → behind_action x own ≡ o
+        → ((left : List Entry) (f : Entry) → agenda_from xs (left ++ f ∷ []) ≡ agenda_after (agenda_from xs left) f)
         → taken (behind_action x (own ++ e ∷ [])) ≡ agenda_after (option_map_or (λ left. agenda_from xs left) o (record { actions = x ∷ xs; made = own })) e
     at None is next = ap taken (action_one x own e is) ∙ done (completes x own e.kind)
       where
@@ -120,19 +134,24 @@ unfolding agenda
 agenda_push script own e = agenda_from_push script.actions own e
 
 -- while the current action is not completed, it makes one more entry
-pub current_stays : (script : Plan) (own : List Entry) (e : Entry) (c : Current) → current script own ≡ Some c → completes c.action c.made e.kind ≡ false → current script (own ++ e ∷ []) ≡ Some (record { action = c.action; made = c.made ++ e ∷ [] })
+pub current_stays : (script : Plan) (own : List Entry) (e : Entry) (c : Current) → current script own ≡ Some c → completes c.action c.made e.kind ≡ false
+    → current script (own ++ e ∷ []) ≡ Some (record { action = c.action; made = c.made ++ e ∷ [] })
 current_stays script own e c is goes_on =
-    current_is_first script (own ++ e ∷ []) ∙ ap current_of (agenda_push script own e) ∙ at (agenda script own).actions (agenda script own).made (sym (current_is_first script own) ∙ is)
+    current_is_first script (own ++ e ∷ []) ∙ ap current_of (agenda_push script own e)
+        ∙ at (agenda script own).actions (agenda script own).made (sym (current_is_first script own) ∙ is)
   where
-    at : (xs : List Action) (made : List Entry) → first_of xs made ≡ Some c → current_of (next_agenda xs made e) ≡ Some (record { action = c.action; made = c.made ++ e ∷ [] })
+    at : (xs : List Action) (made : List Entry) → first_of xs made ≡ Some c
+        → current_of (next_agenda xs made e) ≡ Some (record { action = c.action; made = c.made ++ e ∷ [] })
     at [] made k = absurd cc
     at (x ∷ xs) made k = let same : record { action = x; made = made } ≡ c = cc in
-        subst (λ d. completes d.action d.made e.kind ≡ false → current_of (next_agenda (x ∷ xs) made e) ≡ Some (record { action = d.action; made = d.made ++ e ∷ [] })) same (λ no. rw no refl) goes_on
+        subst (λ d. completes d.action d.made e.kind ≡ false
+            → current_of (next_agenda (x ∷ xs) made e) ≡ Some (record { action = d.action; made = d.made ++ e ∷ [] })) same (λ no. rw no refl) goes_on
 
 -- what is finished stays so
 pub finished_stays : (script : Plan) (own : List Entry) (e : Entry) → current script own ≡ None → current script (own ++ e ∷ []) ≡ None
 finished_stays script own e is =
-    current_is_first script (own ++ e ∷ []) ∙ ap current_of (agenda_push script own e) ∙ at (agenda script own).actions (agenda script own).made (sym (current_is_first script own) ∙ is)
+    current_is_first script (own ++ e ∷ []) ∙ ap current_of (agenda_push script own e)
+        ∙ at (agenda script own).actions (agenda script own).made (sym (current_is_first script own) ∙ is)
   where
     at : (xs : List Action) (made : List Entry) → first_of xs made ≡ None → current_of (next_agenda xs made e) ≡ None
     at [] made k = refl
@@ -160,13 +179,16 @@ begins_with_nothing (x ∷ xs) d h = at (behind_action x []) refl (begins_with_n
     at (Some left) is next k = next (ap (λ l. current_of (agenda_from xs l)) (sym (action_behind_nothing x left is)) ∙ k)
 
 -- behind an action that is completed the next one begins, with nothing made
-pub next_begins : (script : Plan) (own : List Entry) (e : Entry) (c d : Current) → current script own ≡ Some c → completes c.action c.made e.kind ≡ true → current script (own ++ e ∷ []) ≡ Some d → d.made ≡ []
+pub next_begins : (script : Plan) (own : List Entry) (e : Entry) (c d : Current) → current script own ≡ Some c → completes c.action c.made e.kind ≡ true
+    → current script (own ++ e ∷ []) ≡ Some d → d.made ≡ []
 next_begins script own e c d is done now =
-    at (agenda script own).actions (agenda script own).made (sym (current_is_first script own) ∙ is) (sym (ap current_of (agenda_push script own e)) ∙ sym (current_is_first script (own ++ e ∷ [])) ∙ now)
+    at (agenda script own).actions (agenda script own).made (sym (current_is_first script own) ∙ is) (sym (ap current_of (agenda_push script own e))
+        ∙ sym (current_is_first script (own ++ e ∷ [])) ∙ now)
   where
     at : (xs : List Action) (made : List Entry) → first_of xs made ≡ Some c → current_of (next_agenda xs made e) ≡ Some d → d.made ≡ []
     at [] made k l = absurd cc
-    at (x ∷ xs) made k l = begins_with_nothing xs d (sym (ap (λ b. current_of (cond b (agenda_from xs []) (record { actions = x ∷ xs; made = made ++ e ∷ [] }))) yes) ∙ l)
+    at (x ∷ xs) made k l = begins_with_nothing xs d (sym (ap
+        (λ b. current_of (cond b (agenda_from xs []) (record { actions = x ∷ xs; made = made ++ e ∷ [] }))) yes) ∙ l)
       where
         same : record { action = x; made = made } ≡ c
         same = cc

@@ -10,10 +10,12 @@ use Rattle.script_model.specs.Postings.{times, differ, postings, IsPostedOnce, i
 
 differ_once : (us : List ℕ) → differ us ≡ true → (t : ℕ) → times t us ≤ 1
 differ_once [] h t = omega arith
-differ_once (u ∷ us) h t = at (eqb u t) refl (and_parts (eqb (times u us) 0) (differ us) h).0 (differ_once us (and_parts (eqb (times u us) 0) (differ us) h).1 t)
+differ_once (u ∷ us) h t = at (eqb u t) refl (and_parts (eqb (times u us) 0) (differ us) h).0
+    (differ_once us (and_parts (eqb (times u us) 0) (differ us) h).1 t)
   where
     at : (b : Bool) → eqb u t ≡ b → eqb (times u us) 0 ≡ true → times t us ≤ 1 → length (cond b (u ∷ filter (λ x. eqb x t) us) (filter (λ x. eqb x t) us)) ≤ 1
-    at true is none rest = let first : times u us ≡ 0 = eqb-true (times u us) 0 none in let same : u ≡ t = eqb-true u t is in let zero_times : times t us ≡ 0 = rw (← same) first in omega arith
+    at true is none rest = let first : times u us ≡ 0 = eqb-true (times u us) 0 none in let same : u ≡ t = eqb-true u t is in
+        let zero_times : times t us ≡ 0 = rw (← same) first in omega arith
     at false is none rest = rest
 
 once_differ : (us : List ℕ) → ((t : ℕ) → times t us ≤ 1) → differ us ≡ true

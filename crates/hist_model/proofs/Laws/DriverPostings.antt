@@ -39,7 +39,8 @@ agenda_from_within : (t : ℕ) (xs : List Action) (own : List Entry) → actions
 agenda_from_within t [] own = omega arith
 agenda_from_within t (x ∷ xs) own = at (behind_action x own) (agenda_from_within t xs)
   where
-    at : (o : Option (List Entry)) → ((left : List Entry) → actions_post t (agenda_from xs left).actions ≤ actions_post t xs) → actions_post t (option_map_or (λ left. agenda_from xs left) o (record { actions = x ∷ xs; made = own })).actions ≤ actions_post t (x ∷ xs)
+    at : (o : Option (List Entry)) → ((left : List Entry) → actions_post t (agenda_from xs left).actions ≤ actions_post t xs)
+        → actions_post t (option_map_or (λ left. agenda_from xs left) o (record { actions = x ∷ xs; made = own })).actions ≤ actions_post t (x ∷ xs)
     at None next = omega arith
     at (Some left) next = omega (arith, next left, one_more t x xs)
 
@@ -52,19 +53,25 @@ next_agenda_within t (x ∷ xs) made e = at (completes x made e.kind)
     at false = omega arith
 
 -- what is left once the action that posts a task is behind
-one_behind : (t u task : ℕ) (x : Action) (xs : List Action) → task ≡ u → posts_of_action x ≡ u ∷ [] → actions_post t (agenda_from xs []).actions + times t (task ∷ []) ≤ actions_post t (x ∷ xs)
-one_behind t u task x xs same posts = let whole : times t (posts_of_action x) ≡ times t (task ∷ []) = ap (times t) (posts ∙ ap (λ n. n ∷ []) (sym same)) in omega (arith, whole, one_more t x xs, agenda_from_within t xs [])
+one_behind : (t u task : ℕ) (x : Action) (xs : List Action) → task ≡ u → posts_of_action x ≡ u ∷ []
+    → actions_post t (agenda_from xs []).actions + times t (task ∷ []) ≤ actions_post t (x ∷ xs)
+one_behind t u task x xs same posts = let whole : times t (posts_of_action x) ≡ times t (task ∷ []) = ap (times t) (posts ∙ ap (λ n. n ∷ []) (sym same)) in
+    omega (arith, whole, one_more t x xs, agenda_from_within t xs [])
 
-wanted_post : (t : ℕ) (own : List Entry) (xs : List Action) (made : List Entry) (seat task runner delay : ℕ) (ok : Bool) → holds_of (λ c. wants own c.action c.made (kinds.Post task runner delay ok)) (first_of xs made) ≡ true
+wanted_post : (t : ℕ) (own : List Entry) (xs : List Action) (made : List Entry) (seat task runner delay : ℕ) (ok : Bool)
+    → holds_of (λ c. wants own c.action c.made (kinds.Post task runner delay ok)) (first_of xs made) ≡ true
     → actions_post t (next_agenda xs made (record { seat = seat; kind = kinds.Post task runner delay ok })).actions + times t (task ∷ []) ≤ actions_post t xs
 wanted_post t own [] made seat task runner delay ok h = absurd cc
-wanted_post t own (actions.Post u r d ∷ xs) made seat task runner delay ok h = one_behind t u task (actions.Post u r d) xs (eqb-true task u (first_test (eqb task u) (eqb runner r) (eqb delay d) h)) refl
+wanted_post t own (actions.Post u r d ∷ xs) made seat task runner delay ok h = one_behind t u task (actions.Post u r d) xs
+    (eqb-true task u (first_test (eqb task u) (eqb runner r) (eqb delay d) h)) refl
 wanted_post t own (x ∷ xs) made seat task runner delay ok h = absurd cc
 
-wanted_main : (t : ℕ) (own : List Entry) (xs : List Action) (made : List Entry) (seat task queue delay : ℕ) (ok : Bool) → holds_of (λ c. wants own c.action c.made (kinds.Main task queue delay ok)) (first_of xs made) ≡ true
+wanted_main : (t : ℕ) (own : List Entry) (xs : List Action) (made : List Entry) (seat task queue delay : ℕ) (ok : Bool)
+    → holds_of (λ c. wants own c.action c.made (kinds.Main task queue delay ok)) (first_of xs made) ≡ true
     → actions_post t (next_agenda xs made (record { seat = seat; kind = kinds.Main task queue delay ok })).actions + times t (task ∷ []) ≤ actions_post t xs
 wanted_main t own [] made seat task queue delay ok h = absurd cc
-wanted_main t own (actions.Main u q d ∷ xs) made seat task queue delay ok h = one_behind t u task (actions.Main u q d) xs (eqb-true task u (first_test (eqb task u) (eqb queue q) (eqb delay d) h)) refl
+wanted_main t own (actions.Main u q d ∷ xs) made seat task queue delay ok h = one_behind t u task (actions.Main u q d) xs
+    (eqb-true task u (first_test (eqb task u) (eqb queue q) (eqb delay d) h)) refl
 wanted_main t own (x ∷ xs) made seat task queue delay ok h = absurd cc
 
 -- how often the actions that the driver has left post a task
@@ -90,16 +97,27 @@ unfolding agenda
 driver_begins script t = agenda_from_within t script.actions []
 
 -- an entry that the script wants next is its posting that goes
-script_wants : (script : Plan) (own : List Entry) (kind : Kind) → is_wanted script own kind ≡ true → holds_of (λ c. wants own c.action c.made kind) (first_of (agenda script own).actions (agenda script own).made) ≡ true
+script_wants : (script : Plan) (own : List Entry) (kind : Kind) → is_wanted script own kind ≡ true
+    → holds_of (λ c. wants own c.action c.made kind) (first_of (agenda script own).actions (agenda script own).made) ≡ true
 unfolding is_wanted
 script_wants script own kind h = ap (holds_of (λ c. wants own c.action c.made kind)) (sym (current_is_first script own)) ∙ h
 
 posts_of_wanted : (script : Plan) (t : ℕ) (own : List Entry) (seat : ℕ) (kind : Kind) → is_wanted script own kind ≡ true
-    → actions_post t (agenda script (own ++ (record { seat = seat; kind = kind }) ∷ [])).actions + times t (kind_posts kind) ≤ actions_post t (agenda script own).actions
-posts_of_wanted script t own seat (kinds.Post task runner delay ok) h = rw (agenda_push script own (record { seat = seat; kind = kinds.Post task runner delay ok })) (wanted_post t own (agenda script own).actions (agenda script own).made seat task runner delay ok (script_wants script own (kinds.Post task runner delay ok) h))
-posts_of_wanted script t own seat (kinds.Main task queue delay ok) h = rw (agenda_push script own (record { seat = seat; kind = kinds.Main task queue delay ok })) (wanted_main t own (agenda script own).actions (agenda script own).made seat task queue delay ok (script_wants script own (kinds.Main task queue delay ok) h))
-posts_of_wanted script t own seat kind h = rw (agenda_push script own (record { seat = seat; kind = kind })) (omega (arith, next_agenda_within t (agenda script own).actions (agenda script own).made (record { seat = seat; kind = kind })))
+    → actions_post t (agenda script (own ++ (record { seat = seat; kind = kind }) ∷ [])).actions
+        + times t (kind_posts kind) ≤ actions_post t (agenda script own).actions
+posts_of_wanted script t own seat (kinds.Post task runner delay ok) h = rw
+    (agenda_push script own (record { seat = seat; kind = kinds.Post task runner delay ok }))
+    (wanted_post t own (agenda script own).actions (agenda script own).made seat task runner delay ok
+    (script_wants script own (kinds.Post task runner delay ok) h))
+posts_of_wanted script t own seat (kinds.Main task queue delay ok) h = rw
+    (agenda_push script own (record { seat = seat; kind = kinds.Main task queue delay ok }))
+    (wanted_main t own (agenda script own).actions (agenda script own).made seat task queue delay ok
+    (script_wants script own (kinds.Main task queue delay ok) h))
+posts_of_wanted script t own seat kind h = rw (agenda_push script own (record { seat = seat; kind = kind }))
+    (omega (arith, next_agenda_within t (agenda script own).actions (agenda script own).made (record { seat = seat; kind = kind })))
 
-pub driver_posts : (script : Plan) (t : ℕ) (past : List Entry) (e : Entry) → by_script script past e.seat e.kind ≡ true → driver_has script t (past ++ e ∷ []) + times t (kind_posts e.kind) ≤ driver_has script t past
+pub driver_posts : (script : Plan) (t : ℕ) (past : List Entry) (e : Entry) → by_script script past e.seat e.kind ≡ true
+    → driver_has script t (past ++ e ∷ []) + times t (kind_posts e.kind) ≤ driver_has script t past
 unfolding by_script
-driver_posts script t past e h = rw (own_push past e, (and_parts (eqb e.seat 0) (is_wanted script (own_entries 0 past) e.kind) h).0) (posts_of_wanted script t (own_entries 0 past) e.seat e.kind (and_parts (eqb e.seat 0) (is_wanted script (own_entries 0 past) e.kind) h).1)
+driver_posts script t past e h = rw (own_push past e, (and_parts (eqb e.seat 0) (is_wanted script (own_entries 0 past) e.kind) h).0)
+    (posts_of_wanted script t (own_entries 0 past) e.seat e.kind (and_parts (eqb e.seat 0) (is_wanted script (own_entries 0 past) e.kind) h).1)

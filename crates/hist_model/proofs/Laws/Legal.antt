@@ -7,10 +7,13 @@ use Rattle.task_base.specs.declared.entry.Entry.{Entry}
 use Rattle.hist_model.specs.Allowed.{is_allowed}
 use Rattle.hist_model.specs.Legal.{legal_from, is_legal, illegal_from, first_illegal, IsIllegalAt}
 
-legal_from_append : (script : Plan) (past xs ys : List Entry) → legal_from script past (xs ++ ys) ≡ (legal_from script past xs && legal_from script (past ++ xs) ys)
+legal_from_append : (script : Plan) (past xs ys : List Entry)
+    → legal_from script past (xs ++ ys) ≡ (legal_from script past xs && legal_from script (past ++ xs) ys)
 legal_from_append script past [] ys = ap (λ b. legal_from script b ys) (sym (append-nil past))
-legal_from_append script past (x ∷ xs) ys = elim (is_allowed script past x) as (λ b. (b && legal_from script (past ++ x ∷ []) (xs ++ ys)) ≡ ((b && legal_from script (past ++ x ∷ []) xs) && legal_from script (past ++ x ∷ xs) ys)) [
-  | true ↦ legal_from_append script (past ++ x ∷ []) xs ys ∙ ap (λ b. legal_from script (past ++ x ∷ []) xs && legal_from script b ys) (append_assoc past (x ∷ []) xs)
+legal_from_append script past (x ∷ xs) ys = elim (is_allowed script past x) as
+    (λ b. (b && legal_from script (past ++ x ∷ []) (xs ++ ys)) ≡ ((b && legal_from script (past ++ x ∷ []) xs) && legal_from script (past ++ x ∷ xs) ys)) [
+  | true ↦ legal_from_append script (past ++ x ∷ []) xs ys ∙ ap (λ b. legal_from script (past ++ x ∷ []) xs && legal_from script b ys)
+      (append_assoc past (x ∷ []) xs)
   | false ↦ refl
 ]
 
@@ -34,13 +37,17 @@ unfolding is_legal
 front_is_legal script past rest h = (and_parts (legal_from script [] past) (legal_from script past rest) (sym (legal_from_append script [] past rest) ∙ h)).0
 
 -- each entry of a legal history is allowed after those before it
-pub each_is_allowed : (script : Plan) (past : List Entry) (e : Entry) (rest : List Entry) → is_legal script (past ++ e ∷ rest) ≡ true → is_allowed script past e ≡ true
+pub each_is_allowed : (script : Plan) (past : List Entry) (e : Entry) (rest : List Entry) → is_legal script (past ++ e ∷ rest) ≡ true
+    → is_allowed script past e ≡ true
 each_is_allowed script past e rest h =
-    (and_parts (is_legal script past) (is_allowed script past e) (sym (is_legal_push script past e) ∙ front_is_legal script (past ++ e ∷ []) rest (ap (is_legal script) (append_assoc past (e ∷ []) rest) ∙ h))).1
+    (and_parts (is_legal script past) (is_allowed script past e) (sym (is_legal_push script past e)
+        ∙ front_is_legal script (past ++ e ∷ []) rest (ap (is_legal script) (append_assoc past (e ∷ []) rest) ∙ h))).1
 
 -- what holds of the empty history, and of a longer one where it holds of the shorter one and the new entry is allowed,
 -- holds of every legal history
-pub legal_induction : (script : Plan) (P : List Entry → Type 0) → P [] → ((past : List Entry) (e : Entry) → is_legal script past ≡ true → is_allowed script past e ≡ true → P past → P (past ++ e ∷ [])) → (past : List Entry) → is_legal script past ≡ true → P past
+pub legal_induction : (script : Plan) (P : List Entry → Type 0) → P []
+    → ((past : List Entry) (e : Entry) → is_legal script past ≡ true → is_allowed script past e ≡ true → P past → P (past ++ e ∷ [])) → (past : List Entry)
+    → is_legal script past ≡ true → P past
 unfolding is_legal
 legal_induction script P start step past h = walk [] past refl start h
   where
@@ -54,7 +61,8 @@ legal_induction script P start step past h = walk [] past refl start h
 -- there is no place that is not allowed exactly where the history is legal
 illegal_from_none : (script : Plan) (past rest : List Entry) → is_none (illegal_from script past rest) ≡ legal_from script past rest
 illegal_from_none script past [] = refl
-illegal_from_none script past (e ∷ rest) = elim (is_allowed script past e) as (λ b. is_none (cond b (illegal_from script (past ++ e ∷ []) rest) (Some (length past))) ≡ (b && legal_from script (past ++ e ∷ []) rest)) [
+illegal_from_none script past (e ∷ rest) = elim (is_allowed script past e) as
+    (λ b. is_none (cond b (illegal_from script (past ++ e ∷ []) rest) (Some (length past))) ≡ (b && legal_from script (past ++ e ∷ []) rest)) [
   | true ↦ illegal_from_none script (past ++ e ∷ []) rest
   | false ↦ refl
 ]
@@ -76,9 +84,13 @@ first_illegal_some script log place h = walk [] log refl h
 
     walk : (front rest : List Entry) → is_legal script front ≡ true → illegal_from script front rest ≡ Some place → IsIllegalAt script (front ++ rest) place
     walk front [] legal k = none k
-    walk front (e ∷ rest) legal k = at (is_allowed script front e) refl k (λ allowed later. subst (λ l. IsIllegalAt script l place) (append_assoc front (e ∷ []) rest) (walk (front ++ e ∷ []) rest (is_legal_push script front e ∙ ap (λ b. b && is_allowed script front e) legal ∙ allowed) later))
+    walk front (e ∷ rest) legal k = at (is_allowed script front e) refl k
+        (λ allowed later. subst (λ l. IsIllegalAt script l place) (append_assoc front (e ∷ []) rest)
+        (walk (front ++ e ∷ []) rest (is_legal_push script front e ∙ ap (λ b. b && is_allowed script front e) legal ∙ allowed) later))
       where
-        at : (b : Bool) → is_allowed script front e ≡ b → cond b (illegal_from script (front ++ e ∷ []) rest) (Some (length front)) ≡ Some place → (is_allowed script front e ≡ true → illegal_from script (front ++ e ∷ []) rest ≡ Some place → IsIllegalAt script (front ++ e ∷ rest) place) → IsIllegalAt script (front ++ e ∷ rest) place
+        at : (b : Bool) → is_allowed script front e ≡ b → cond b (illegal_from script (front ++ e ∷ []) rest) (Some (length front)) ≡ Some place
+            → (is_allowed script front e ≡ true → illegal_from script (front ++ e ∷ []) rest ≡ Some place → IsIllegalAt script (front ++ e ∷ rest) place)
+            → IsIllegalAt script (front ++ e ∷ rest) place
         at true is m later = later is m
         at false is m later = record {
           past = front;

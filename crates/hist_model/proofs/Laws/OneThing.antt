@@ -34,9 +34,11 @@ abbrev At : Plan → List Entry → (Action → Bool) → Type 0
 At script past test = (c : Current) × (current script (own_entries 0 past) ≡ Some c) × (test c.action ≡ true)
 
 -- what the script wants is wanted by the action that the driver is at
-wanted_by : (script : Plan) (past : List Entry) (seat : ℕ) (kind : Kind) → by_script script past seat kind ≡ true → Found Current (λ c. wants (own_entries 0 past) c.action c.made kind) (current script (own_entries 0 past))
+wanted_by : (script : Plan) (past : List Entry) (seat : ℕ) (kind : Kind) → by_script script past seat kind ≡ true
+    → Found Current (λ c. wants (own_entries 0 past) c.action c.made kind) (current script (own_entries 0 past))
 unfolding by_script is_wanted
-wanted_by script past seat kind h = found (λ c. wants (own_entries 0 past) c.action c.made kind) (current script (own_entries 0 past)) (and_parts (eqb seat 0) (holds_of (λ c. wants (own_entries 0 past) c.action c.made kind) (current script (own_entries 0 past))) h).1
+wanted_by script past seat kind h = found (λ c. wants (own_entries 0 past) c.action c.made kind) (current script (own_entries 0 past))
+    (and_parts (eqb seat 0) (holds_of (λ c. wants (own_entries 0 past) c.action c.made kind) (current script (own_entries 0 past))) h).1
 
 nothing : {A X : Type 0} (x : A) → None ≡ Some x → X
 nothing x e = absurd cc
@@ -53,31 +55,40 @@ not_at script past (c, c_is, pump) (d, d_is, join) = apart c.action pump (ap (λ
     apart action p j = absurd cc
 
 -- main tasks are wanted by pumps alone, and items by joins
-pump_wants : (own : List Entry) (action : Action) (made : List Entry) (task queue value : ℕ) → wants own action made (kinds.MainTake task queue value) ≡ true → is_pump action ≡ true
+pump_wants : (own : List Entry) (action : Action) (made : List Entry) (task queue value : ℕ) → wants own action made (kinds.MainTake task queue value) ≡ true
+    → is_pump action ≡ true
 pump_wants own (actions.Pump n) made task queue value h = refl
 pump_wants own action made task queue value h = absurd cc
 
-join_wants : (own : List Entry) (action : Action) (made : List Entry) (job id item : ℕ) → wants own action made (kinds.JobTake job id item) ≡ true → is_join action ≡ true
+join_wants : (own : List Entry) (action : Action) (made : List Entry) (job id item : ℕ) → wants own action made (kinds.JobTake job id item) ≡ true
+    → is_join action ≡ true
 join_wants own (actions.Join j) made job id item h = refl
 join_wants own action made job id item h = absurd cc
 
 -- one more entry of the driver that does not complete its action leaves it there
-stays_at : (script : Plan) (past : List Entry) (kind : Kind) (test : Action → Bool) (c : Current) → current script (own_entries 0 past) ≡ Some c → test c.action ≡ true → completes c.action c.made kind ≡ false → At script (past ++ record { seat = 0; kind = kind } ∷ []) test
+stays_at : (script : Plan) (past : List Entry) (kind : Kind) (test : Action → Bool) (c : Current) → current script (own_entries 0 past) ≡ Some c
+    → test c.action ≡ true → completes c.action c.made kind ≡ false → At script (past ++ record { seat = 0; kind = kind } ∷ []) test
 stays_at script past kind test c is passes goes_on = (
   record { action = c.action; made = c.made ++ record { seat = 0; kind = kind } ∷ [] },
-  ap (current script) (own_entries_push past (record { seat = 0; kind = kind }) 0) ∙ current_stays script (own_entries 0 past) (record { seat = 0; kind = kind }) c is goes_on,
+  ap (current script) (own_entries_push past (record { seat = 0; kind = kind }) 0)
+      ∙ current_stays script (own_entries 0 past) (record { seat = 0; kind = kind }) c is goes_on,
   passes,
 )
 
 -- an entry of a worker leaves the driver where it is
-other_at : (script : Plan) (past : List Entry) (seat : ℕ) (kind : Kind) (test : Action → Bool) → eqb seat 0 ≡ false → At script past test → At script (past ++ record { seat = seat; kind = kind } ∷ []) test
+other_at : (script : Plan) (past : List Entry) (seat : ℕ) (kind : Kind) (test : Action → Bool) → eqb seat 0 ≡ false → At script past test
+    → At script (past ++ record { seat = seat; kind = kind } ∷ []) test
 other_at script past seat kind test other (c, is, passes) =
-    (c, ap (current script) (own_entries_push past (record { seat = seat; kind = kind }) 0 ∙ ap (λ b. cond b (own_entries 0 past ++ record { seat = seat; kind = kind } ∷ []) (own_entries 0 past)) other) ∙ is, passes)
+    (c, ap (current script) (own_entries_push past (record { seat = seat; kind = kind }) 0
+        ∙ ap (λ b. cond b (own_entries 0 past ++ record { seat = seat; kind = kind } ∷ []) (own_entries 0 past)) other) ∙ is, passes)
 
 -- what a pump goes on through
-pump_goes_on : (script : Plan) (past : List Entry) (kind : Kind) (c : Current) (w v : Running) → is_pump c.action ≡ true → running past 0 ≡ Some w → running_after (Some w) kind ≡ Some v → may_come script past 0 kind ≡ true → completes c.action c.made kind ≡ false
+pump_goes_on : (script : Plan) (past : List Entry) (kind : Kind) (c : Current) (w v : Running) → is_pump c.action ≡ true → running past 0 ≡ Some w
+    → running_after (Some w) kind ≡ Some v → may_come script past 0 kind ≡ true → completes c.action c.made kind ≡ false
 unfolding may_come
-pump_goes_on script past kind c w v pump runs after h = at c.action c.made kind pump after (λ none. no_main_none (and_parts (by_script script past 0 kinds.MainNone) (eqb (length (open_fronts script past)) 0) (ap (may_come script past 0) none ∙ h)).0)
+pump_goes_on script past kind c w v pump runs after h = at c.action c.made kind pump after
+    (λ none. no_main_none (and_parts (by_script script past 0 kinds.MainNone) (eqb (length (open_fronts script past)) 0) (ap (may_come script past 0) none
+    ∙ h)).0)
   where
     no_main_none : by_script script past 0 kinds.MainNone ≡ true → ⊥
     no_main_none wanted =
@@ -88,16 +99,19 @@ pump_goes_on script past kind c w v pump runs after h = at c.action c.made kind 
         needs own (actions.Pump n) made is k = not_both (is_none (running own 0)) k (ap is_none is)
         needs own action made is k = absurd cc
 
-    at : (action : Action) (made : List Entry) (k : Kind) → is_pump action ≡ true → running_after (Some w) k ≡ Some v → (kinds.MainNone ≡ k → ⊥) → completes action made k ≡ false
+    at : (action : Action) (made : List Entry) (k : Kind) → is_pump action ≡ true → running_after (Some w) k ≡ Some v → (kinds.MainNone ≡ k → ⊥)
+        → completes action made k ≡ false
     at (actions.Pump n) made kinds.MainNone p r none = absurd (none refl)
     at (actions.Pump n) made (kinds.MainEnd task left) p r none = nothing v r
     at (actions.Pump n) made k p r none = refl
     at action made k p r none = absurd cc
 
 -- what a join goes on through
-join_goes_on : (script : Plan) (past : List Entry) (kind : Kind) (c : Current) (h : Holding) → is_join c.action ≡ true → holding past 0 ≡ Some h → may_come script past 0 kind ≡ true → completes c.action c.made kind ≡ false
+join_goes_on : (script : Plan) (past : List Entry) (kind : Kind) (c : Current) (h : Holding) → is_join c.action ≡ true → holding past 0 ≡ Some h
+    → may_come script past 0 kind ≡ true → completes c.action c.made kind ≡ false
 unfolding may_come
-join_goes_on script past kind c h join holds may = at c.action c.made kind join (λ job reply is. no_joined job reply (first (by_script script past 0 (kinds.Joined job reply)) _ _ (ap (may_come script past 0) is ∙ may)))
+join_goes_on script past kind c h join holds may = at c.action c.made kind join
+    (λ job reply is. no_joined job reply (first (by_script script past 0 (kinds.Joined job reply)) _ _ (ap (may_come script past 0) is ∙ may)))
   where
     first : (a b d : Bool) → (a && b && d) ≡ true → a ≡ true
     first a b d k = grind (arith, k)
@@ -111,41 +125,50 @@ join_goes_on script past kind c h join holds may = at c.action c.made kind join 
         needs own (actions.Join j) made is k = not_both (is_none (holding own 0)) (and_parts (eqb job j) (is_none (holding own 0)) k).1 (ap is_none is)
         needs own action made is k = absurd cc
 
-    at : (action : Action) (made : List Entry) (k : Kind) → is_join action ≡ true → ((job : ℕ) (reply : JobReply) → kinds.Joined job reply ≡ k → ⊥) → completes action made k ≡ false
+    at : (action : Action) (made : List Entry) (k : Kind) → is_join action ≡ true → ((job : ℕ) (reply : JobReply) → kinds.Joined job reply ≡ k → ⊥)
+        → completes action made k ≡ false
     at (actions.Join j) made (kinds.Joined job reply) p joined = absurd (joined job reply refl)
     at (actions.Join j) made k p joined = refl
     at action made k p joined = absurd cc
 
 -- a main task is taken at a pump
-main_take_at : (script : Plan) (past : List Entry) (seat task queue value : ℕ) → may_come script past seat (kinds.MainTake task queue value) ≡ true → (seat ≡ 0) × At script past is_pump
+main_take_at : (script : Plan) (past : List Entry) (seat task queue value : ℕ) → may_come script past seat (kinds.MainTake task queue value) ≡ true
+    → (seat ≡ 0) × At script past is_pump
 unfolding may_come
 main_take_at script past seat task queue value h =
-    let wanted = first (by_script script past seat (kinds.MainTake task queue value)) (holds_of (is_front task queue) (chosen_of script past)) (eqb value (main_cell_of past queue)) h in
+    let wanted = first (by_script script past seat (kinds.MainTake task queue value)) (holds_of (is_front task queue) (chosen_of script past))
+        (eqb value (main_cell_of past queue)) h in
     let c = wanted_by script past seat (kinds.MainTake task queue value) wanted in
-    (by_driver script past seat (kinds.MainTake task queue value) wanted, (c.value, c.is, pump_wants (own_entries 0 past) c.value.action c.value.made task queue value c.passes))
+    (by_driver script past seat (kinds.MainTake task queue value) wanted,
+        (c.value, c.is, pump_wants (own_entries 0 past) c.value.action c.value.made task queue value c.passes))
   where
     first : (a b d : Bool) → (a && b && d) ≡ true → a ≡ true
     first a b d k = grind (arith, k)
 
 -- a job is entered by a free worker, or at a join
-job_take_at : (script : Plan) (past : List Entry) (seat job id item : ℕ) → may_come script past seat (kinds.JobTake job id item) ≡ true → IsReadyWorker script past seat ⊎ ((seat ≡ 0) × At script past is_join)
+job_take_at : (script : Plan) (past : List Entry) (seat job id item : ℕ) → may_come script past seat (kinds.JobTake job id item) ≡ true
+    → IsReadyWorker script past seat ⊎ ((seat ≡ 0) × At script past is_join)
 unfolding may_come
 job_take_at script past seat job id item h =
-    either (is_ready_worker script past seat) (holds_of (λ c. is_job job c.source) (best_of script past seat)) (by_script script past seat (kinds.JobTake job id item)) (may_enter script past job) refl refl
+    either (is_ready_worker script past seat) (holds_of (λ c. is_job job c.source) (best_of script past seat))
+        (by_script script past seat (kinds.JobTake job id item)) (may_enter script past job) refl refl
     (first (enters_job script past seat job (kinds.JobTake job id item)) (same_number (free_id script past job) (Some id)) (eqb item (claimed past job)) h)
   where
     first : (a b d : Bool) → (a && b && d) ≡ true → a ≡ true
     first a b d k = grind (arith, k)
 
-    either : (a b c d : Bool) → is_ready_worker script past seat ≡ a → by_script script past seat (kinds.JobTake job id item) ≡ c → ((a && b) || (c && d)) ≡ true → IsReadyWorker script past seat ⊎ ((seat ≡ 0) × At script past is_join)
+    either : (a b c d : Bool) → is_ready_worker script past seat ≡ a → by_script script past seat (kinds.JobTake job id item) ≡ c
+        → ((a && b) || (c && d)) ≡ true → IsReadyWorker script past seat ⊎ ((seat ≡ 0) × At script past is_join)
     either true b c d ready wanted k = inl (ready_worker script past seat ready)
     either false b true d ready wanted k =
         let c = wanted_by script past seat (kinds.JobTake job id item) wanted in
-        inr (by_driver script past seat (kinds.JobTake job id item) wanted, (c.value, c.is, join_wants (own_entries 0 past) c.value.action c.value.made job id item c.passes))
+        inr (by_driver script past seat (kinds.JobTake job id item) wanted,
+            (c.value, c.is, join_wants (own_entries 0 past) c.value.action c.value.made job id item c.passes))
     either false b false d ready wanted k = absurd cc
 
 -- who ends an item held it
-job_step_holds : (script : Plan) (past : List Entry) (seat job id item value : ℕ) (next : Option ℕ) → may_come script past seat (kinds.JobStep job id item value next) ≡ true → (h : Holding) × (holding past seat ≡ Some h)
+job_step_holds : (script : Plan) (past : List Entry) (seat job id item value : ℕ) (next : Option ℕ)
+    → may_come script past seat (kinds.JobStep job id item value next) ≡ true → (h : Holding) × (holding past seat ≡ Some h)
 unfolding may_come
 job_step_holds script past seat job id item value next h =
     let held = found (λ (x : Holding). eqb x.job job && eqb x.id id && eqb x.item item) (holding past seat) (first _ _ _ h) in
@@ -155,43 +178,52 @@ job_step_holds script past seat job id item value next h =
     first a b d k = grind (arith, k)
 
 runs_none : (past : List Entry) (seat : ℕ) (w : Running) → is_free past seat ≡ true → running past seat ≡ Some w → ⊥
-runs_none past seat w free r = not_both (is_none (running past seat)) (and_parts (is_none (running past seat)) (is_none (holding past seat)) free).0 (ap is_none r)
+runs_none past seat w free r = not_both (is_none (running past seat)) (and_parts (is_none (running past seat)) (is_none (holding past seat)) free).0
+    (ap is_none r)
 
 holds_none : (past : List Entry) (seat : ℕ) (h : Holding) → is_free past seat ≡ true → holding past seat ≡ Some h → ⊥
-holds_none past seat h free k = not_both (is_none (holding past seat)) (and_parts (is_none (running past seat)) (is_none (holding past seat)) free).1 (ap is_none k)
+holds_none past seat h free k = not_both (is_none (holding past seat)) (and_parts (is_none (running past seat)) (is_none (holding past seat)) free).1
+    (ap is_none k)
 
 -- the seat of the entry does one thing behind it
-own_thing : (script : Plan) (past : List Entry) (seat : ℕ) (kind : Kind) → may_come script past seat kind ≡ true → DoesOneThing script past → (w : Running) (h : Holding) → running_after (running past seat) kind ≡ Some w → holding_after (holding past seat) kind ≡ Some h → ⊥
+own_thing : (script : Plan) (past : List Entry) (seat : ℕ) (kind : Kind) → may_come script past seat kind ≡ true → DoesOneThing script past
+    → (w : Running) (h : Holding) → running_after (running past seat) kind ≡ Some w → holding_after (holding past seat) kind ≡ Some h → ⊥
 own_thing script past seat (kinds.Take task runner value) may d w h r k = holds_none past seat h (take_is script past seat task runner value may).free k
-own_thing script past seat (kinds.MainTake task queue value) may d w h r k = let at = main_take_at script past seat task queue value may in not_at script past at.1 (d.joins h (subst (λ s. holding past s ≡ Some h) at.0 k))
+own_thing script past seat (kinds.MainTake task queue value) may d w h r k = let at = main_take_at script past seat task queue value may in
+    not_at script past at.1 (d.joins h (subst (λ s. holding past s ≡ Some h) at.0 k))
 own_thing script past seat (kinds.JobTake job id item) may d w h r k = by (job_take_at script past seat job id item may)
   where
     by : IsReadyWorker script past seat ⊎ ((seat ≡ 0) × At script past is_join) → ⊥
     by (inl worker) = runs_none past seat w worker.free r
     by (inr (driver, join)) = not_at script past (d.pumps w (subst (λ s. running past s ≡ Some w) driver r)) join
-own_thing script past seat (kinds.JobStep job id item value (Some next)) may d w h r k = let held = job_step_holds script past seat job id item value (Some next) may in d.one_thing seat w held.0 r held.1
+own_thing script past seat (kinds.JobStep job id item value (Some next)) may d w h r k = let held = job_step_holds script past seat job id item value
+    (Some next) may in d.one_thing seat w held.0 r held.1
 own_thing script past seat (kinds.JobStep job id item value None) may d w h r k = nothing h k
 own_thing script past seat (kinds.End task left) may d w h r k = nothing w r
 own_thing script past seat (kinds.MainEnd task left) may d w h r k = nothing w r
 own_thing script past seat kind may d w h r k = d.one_thing seat w h r k
 
 -- the driver runs a main task behind an entry of its own only at a pump
-own_pumps : (script : Plan) (past : List Entry) (kind : Kind) → may_come script past 0 kind ≡ true → DoesOneThing script past → (w : Running) → running_after (running past 0) kind ≡ Some w → At script (past ++ record { seat = 0; kind = kind } ∷ []) is_pump
+own_pumps : (script : Plan) (past : List Entry) (kind : Kind) → may_come script past 0 kind ≡ true → DoesOneThing script past → (w : Running)
+    → running_after (running past 0) kind ≡ Some w → At script (past ++ record { seat = 0; kind = kind } ∷ []) is_pump
 own_pumps script past (kinds.Take task runner value) may d w r = absurd (no_worker (take_is script past 0 task runner value may).worker)
   where
     no_worker : 1 ≤ 0 → ⊥
     no_worker low = omega (arith, low)
-own_pumps script past (kinds.MainTake task queue value) may d w r = let (c, is, pump) = (main_take_at script past 0 task queue value may).1 in stays_at script past (kinds.MainTake task queue value) is_pump c is pump (goes_on c.action c.made pump)
+own_pumps script past (kinds.MainTake task queue value) may d w r = let (c, is, pump) = (main_take_at script past 0 task queue value may).1 in
+    stays_at script past (kinds.MainTake task queue value) is_pump c is pump (goes_on c.action c.made pump)
   where
     goes_on : (action : Action) (made : List Entry) → is_pump action ≡ true → completes action made (kinds.MainTake task queue value) ≡ false
     goes_on (actions.Pump n) made p = refl
     goes_on action made p = absurd cc
 own_pumps script past (kinds.End task left) may d w r = nothing w r
 own_pumps script past (kinds.MainEnd task left) may d w r = nothing w r
-own_pumps script past kind may d w r = let (c, is, pump) = d.pumps w r in stays_at script past kind is_pump c is pump (pump_goes_on script past kind c w w pump r refl may)
+own_pumps script past kind may d w r = let (c, is, pump) = d.pumps w r in
+    stays_at script past kind is_pump c is pump (pump_goes_on script past kind c w w pump r refl may)
 
 -- the driver holds an item behind an entry of its own only at a join
-own_joins : (script : Plan) (past : List Entry) (kind : Kind) → may_come script past 0 kind ≡ true → DoesOneThing script past → (h : Holding) → holding_after (holding past 0) kind ≡ Some h → At script (past ++ record { seat = 0; kind = kind } ∷ []) is_join
+own_joins : (script : Plan) (past : List Entry) (kind : Kind) → may_come script past 0 kind ≡ true → DoesOneThing script past → (h : Holding)
+    → holding_after (holding past 0) kind ≡ Some h → At script (past ++ record { seat = 0; kind = kind } ∷ []) is_join
 own_joins script past (kinds.JobTake job id item) may d h k = by 0 refl (job_take_at script past 0 job id item may)
   where
     goes_on : (action : Action) (made : List Entry) → is_join action ≡ true → completes action made (kinds.JobTake job id item) ≡ false
@@ -201,36 +233,52 @@ own_joins script past (kinds.JobTake job id item) may d h k = by 0 refl (job_tak
     no_worker : (seat : ℕ) → seat ≡ 0 → 1 ≤ seat → ⊥
     no_worker seat driver low = omega (arith, driver, low)
 
-    by : (seat : ℕ) → seat ≡ 0 → IsReadyWorker script past seat ⊎ ((seat ≡ 0) × At script past is_join) → At script (past ++ record { seat = 0; kind = kinds.JobTake job id item } ∷ []) is_join
+    by : (seat : ℕ) → seat ≡ 0 → IsReadyWorker script past seat ⊎ ((seat ≡ 0) × At script past is_join)
+        → At script (past ++ record { seat = 0; kind = kinds.JobTake job id item } ∷ []) is_join
     by seat driver (inl worker) = absurd (no_worker seat driver worker.worker)
     by seat driver (inr (same, (c, is, join))) = stays_at script past (kinds.JobTake job id item) is_join c is join (goes_on c.action c.made join)
 own_joins script past (kinds.JobStep job id item value (Some next)) may d h k =
     let held = job_step_holds script past 0 job id item value (Some next) may in
     let (c, is, join) = d.joins held.0 held.1 in
-    stays_at script past (kinds.JobStep job id item value (Some next)) is_join c is join (join_goes_on script past (kinds.JobStep job id item value (Some next)) c held.0 join held.1 may)
+    stays_at script past (kinds.JobStep job id item value (Some next)) is_join c is join
+        (join_goes_on script past (kinds.JobStep job id item value (Some next)) c held.0 join held.1 may)
 own_joins script past (kinds.JobStep job id item value None) may d h k = nothing h k
-own_joins script past kind may d h k = let (c, is, join) = d.joins h k in stays_at script past kind is_join c is join (join_goes_on script past kind c h join k may)
+own_joins script past kind may d h k = let (c, is, join) = d.joins h k in
+    stays_at script past kind is_join c is join (join_goes_on script past kind c h join k may)
 
 -- an entry that is allowed keeps each seat at one thing
-step : (script : Plan) (past : List Entry) (seat : ℕ) (kind : Kind) → may_come script past seat kind ≡ true → DoesOneThing script past → DoesOneThing script (past ++ record { seat = seat; kind = kind } ∷ [])
+step : (script : Plan) (past : List Entry) (seat : ℕ) (kind : Kind) → may_come script past seat kind ≡ true → DoesOneThing script past
+    → DoesOneThing script (past ++ record { seat = seat; kind = kind } ∷ [])
 step script past seat kind may d = record {
   pumps = λ w r. pumps w (eqb seat 0) refl (sym (running_push past (record { seat = seat; kind = kind }) 0) ∙ r);
   joins = λ h k. joins h (eqb seat 0) refl (sym (holding_push past (record { seat = seat; kind = kind }) 0) ∙ k);
-  one_thing = λ s w h r k. thing s w h (eqb seat s) refl (sym (running_push past (record { seat = seat; kind = kind }) s) ∙ r) (sym (holding_push past (record { seat = seat; kind = kind }) s) ∙ k);
+  one_thing = λ s w h r k. thing s w h (eqb seat s) refl (sym (running_push past (record { seat = seat; kind = kind }) s) ∙ r)
+      (sym (holding_push past (record { seat = seat; kind = kind }) s) ∙ k);
 }
   where
-    pumps : (w : Running) (b : Bool) → eqb seat 0 ≡ b → cond (eqb seat 0) (running_after (running past 0) kind) (running past 0) ≡ Some w → At script (past ++ record { seat = seat; kind = kind } ∷ []) is_pump
-    pumps w true own r = subst (λ s. At script (past ++ record { seat = s; kind = kind } ∷ []) is_pump) (sym (eqb-true seat 0 own)) (own_pumps script past kind (subst (λ s. may_come script past s kind ≡ true) (eqb-true seat 0 own) may) d w (ap (λ b. cond b (running_after (running past 0) kind) (running past 0)) (sym own) ∙ r))
-    pumps w false other r = other_at script past seat kind is_pump other (d.pumps w (ap (λ b. cond b (running_after (running past 0) kind) (running past 0)) (sym other) ∙ r))
+    pumps : (w : Running) (b : Bool) → eqb seat 0 ≡ b → cond (eqb seat 0) (running_after (running past 0) kind) (running past 0) ≡ Some w
+        → At script (past ++ record { seat = seat; kind = kind } ∷ []) is_pump
+    pumps w true own r = subst (λ s. At script (past ++ record { seat = s; kind = kind } ∷ []) is_pump) (sym (eqb-true seat 0 own))
+        (own_pumps script past kind (subst (λ s. may_come script past s kind ≡ true) (eqb-true seat 0 own) may) d w
+        (ap (λ b. cond b (running_after (running past 0) kind) (running past 0)) (sym own) ∙ r))
+    pumps w false other r = other_at script past seat kind is_pump other
+        (d.pumps w (ap (λ b. cond b (running_after (running past 0) kind) (running past 0)) (sym other) ∙ r))
 
-    joins : (h : Holding) (b : Bool) → eqb seat 0 ≡ b → cond (eqb seat 0) (holding_after (holding past 0) kind) (holding past 0) ≡ Some h → At script (past ++ record { seat = seat; kind = kind } ∷ []) is_join
-    joins h true own k = subst (λ s. At script (past ++ record { seat = s; kind = kind } ∷ []) is_join) (sym (eqb-true seat 0 own)) (own_joins script past kind (subst (λ s. may_come script past s kind ≡ true) (eqb-true seat 0 own) may) d h (ap (λ b. cond b (holding_after (holding past 0) kind) (holding past 0)) (sym own) ∙ k))
-    joins h false other k = other_at script past seat kind is_join other (d.joins h (ap (λ b. cond b (holding_after (holding past 0) kind) (holding past 0)) (sym other) ∙ k))
+    joins : (h : Holding) (b : Bool) → eqb seat 0 ≡ b → cond (eqb seat 0) (holding_after (holding past 0) kind) (holding past 0) ≡ Some h
+        → At script (past ++ record { seat = seat; kind = kind } ∷ []) is_join
+    joins h true own k = subst (λ s. At script (past ++ record { seat = s; kind = kind } ∷ []) is_join) (sym (eqb-true seat 0 own))
+        (own_joins script past kind (subst (λ s. may_come script past s kind ≡ true) (eqb-true seat 0 own) may) d h
+        (ap (λ b. cond b (holding_after (holding past 0) kind) (holding past 0)) (sym own) ∙ k))
+    joins h false other k = other_at script past seat kind is_join other
+        (d.joins h (ap (λ b. cond b (holding_after (holding past 0) kind) (holding past 0)) (sym other) ∙ k))
 
-    thing : (s : ℕ) (w : Running) (h : Holding) (b : Bool) → eqb seat s ≡ b → cond (eqb seat s) (running_after (running past s) kind) (running past s) ≡ Some w → cond (eqb seat s) (holding_after (holding past s) kind) (holding past s) ≡ Some h → ⊥
+    thing : (s : ℕ) (w : Running) (h : Holding) (b : Bool) → eqb seat s ≡ b → cond (eqb seat s) (running_after (running past s) kind) (running past s) ≡ Some w
+        → cond (eqb seat s) (holding_after (holding past s) kind) (holding past s) ≡ Some h → ⊥
     thing s w h true own r k = own_thing script past s kind (subst (λ x. may_come script past x kind ≡ true) (eqb-true seat s own) may) d w h
-        (ap (λ b. cond b (running_after (running past s) kind) (running past s)) (sym own) ∙ r) (ap (λ b. cond b (holding_after (holding past s) kind) (holding past s)) (sym own) ∙ k)
-    thing s w h false other r k = d.one_thing s w h (ap (λ b. cond b (running_after (running past s) kind) (running past s)) (sym other) ∙ r) (ap (λ b. cond b (holding_after (holding past s) kind) (holding past s)) (sym other) ∙ k)
+        (ap (λ b. cond b (running_after (running past s) kind) (running past s)) (sym own) ∙ r)
+            (ap (λ b. cond b (holding_after (holding past s) kind) (holding past s)) (sym own) ∙ k)
+    thing s w h false other r k = d.one_thing s w h (ap (λ b. cond b (running_after (running past s) kind) (running past s)) (sym other) ∙ r)
+        (ap (λ b. cond b (holding_after (holding past s) kind) (holding past s)) (sym other) ∙ k)
 
 nothing_done : (script : Plan) → DoesOneThing script []
 unfolding running holding
@@ -238,4 +286,5 @@ nothing_done script = record { pumps = λ w r. nothing w r; joins = λ h k. noth
 
 -- in every legal history each seat does one thing at a time
 pub legal_does_one_thing : (script : Plan) (past : List Entry) → is_legal script past ≡ true → DoesOneThing script past
-legal_does_one_thing script = legal_induction script (DoesOneThing script) (nothing_done script) (λ past e h allowed d. step script past e.seat e.kind (and_parts (leb e.seat script.workers) (may_come script past e.seat e.kind) allowed).1 d)
+legal_does_one_thing script = legal_induction script (DoesOneThing script) (nothing_done script)
+    (λ past e h allowed d. step script past e.seat e.kind (and_parts (leb e.seat script.workers) (may_come script past e.seat e.kind) allowed).1 d)

@@ -24,7 +24,8 @@ none_found : (t : ℕ) (ps : List Posted) → of_task t ps ≡ 0 → find (λ p.
 none_found t [] h = refl
 none_found t (p ∷ ps) h = at (eqb p.task t) h (none_found t ps)
   where
-    at : (b : Bool) → length (cond b (p ∷ filter (λ q. eqb q.task t) ps) (filter (λ q. eqb q.task t) ps)) ≡ 0 → (of_task t ps ≡ 0 → find (λ q. eqb q.task t) ps ≡ None) → cond b (Some p) (find (λ q. eqb q.task t) ps) ≡ None
+    at : (b : Bool) → length (cond b (p ∷ filter (λ q. eqb q.task t) ps) (filter (λ q. eqb q.task t) ps)) ≡ 0
+        → (of_task t ps ≡ 0 → find (λ q. eqb q.task t) ps ≡ None) → cond b (Some p) (find (λ q. eqb q.task t) ps) ≡ None
     at true k next = absurd (omega arith)
     at false k next = next k
 
@@ -39,14 +40,16 @@ once_in_one : (t : ℕ) → times t (t ∷ []) ≡ 1
 once_in_one t = rw (eqb-same t) refl
 
 -- what is posted now was not posted before
-not_posted_before : (script : Plan) (past : List Entry) (e : Entry) (t : ℕ) → IsPostedOnce script → is_legal script past ≡ true → is_allowed script past e ≡ true → kind_posts e.kind ≡ t ∷ [] → times t (posted_in past) ≡ 0
+not_posted_before : (script : Plan) (past : List Entry) (e : Entry) (t : ℕ) → IsPostedOnce script → is_legal script past ≡ true
+    → is_allowed script past e ≡ true → kind_posts e.kind ≡ t ∷ [] → times t (posted_in past) ≡ 0
 not_posted_before script past e t once legal allowed posts_it =
     let longer : is_legal script (past ++ e ∷ []) ≡ true = is_legal_push script past e ∙ rw (legal, allowed) refl in
     let one : times t (kind_posts e.kind) ≡ 1 = ap (times t) posts_it ∙ once_in_one t in
     omega (arith, posted_at_most_once script (past ++ e ∷ []) t once longer, posted_in_push t past e, one)
 
 -- the history knows nothing of a task that is posted now
-pub a_posted_task_is_new : (script : Plan) (past : List Entry) (e : Entry) (t : ℕ) → IsPostedOnce script → is_legal script past ≡ true → is_allowed script past e ≡ true → kind_posts e.kind ≡ t ∷ [] → IsNew past t
+pub a_posted_task_is_new : (script : Plan) (past : List Entry) (e : Entry) (t : ℕ) → IsPostedOnce script → is_legal script past ≡ true
+    → is_allowed script past e ≡ true → kind_posts e.kind ≡ t ∷ [] → IsNew past t
 a_posted_task_is_new script past e t once legal allowed posts_it =
     let zero_times : times t (posted_in past) ≡ 0 = not_posted_before script past e t once legal allowed posts_it in
     let known : Counted script past = counted script once past legal in
@@ -74,7 +77,8 @@ record Ordered (past : List Entry) : Type 0 where
   main_places : AllByRecursion (λ p. p.place < length past) (main_posts past)
 
 -- a post behind the past is in order behind posts of it that name other tasks
-behind_all : (past : List Entry) (ps : List Posted) (task home delay : ℕ) → AllByRecursion (λ p. p.place < length past) ps → of_task task ps ≡ 0 → AllByRecursion (λ p. Before p (post_behind past task home delay)) ps
+behind_all : (past : List Entry) (ps : List Posted) (task home delay : ℕ) → AllByRecursion (λ p. p.place < length past) ps → of_task task ps ≡ 0
+    → AllByRecursion (λ p. Before p (post_behind past task home delay)) ps
 behind_all past ps task home delay places none =
     AllByRecursion-map (λ p. (p.place < length past) × (eqb p.task task ≡ false)) (λ p. Before p (post_behind past task home delay)) ps
     (λ p known. record { earlier = known.0; another = differs p known.1 })
@@ -83,7 +87,8 @@ behind_all past ps task home delay places none =
     differs : (p : Posted) → eqb p.task task ≡ false → p.task ≡ task → ⊥
     differs p off same = let yes : eqb p.task task ≡ true = ap (λ v. eqb v task) same ∙ eqb-same task in absurd cc
 
-places_next : (past : List Entry) (e : Entry) (ps more : List Posted) → AllByRecursion (λ p. p.place < length past) ps → AllByRecursion (λ p. p.place ≡ length past) more → AllByRecursion (λ p. p.place < length (past ++ e ∷ [])) (ps ++ more)
+places_next : (past : List Entry) (e : Entry) (ps more : List Posted) → AllByRecursion (λ p. p.place < length past) ps
+    → AllByRecursion (λ p. p.place ≡ length past) more → AllByRecursion (λ p. p.place < length (past ++ e ∷ [])) (ps ++ more)
 places_next past e ps more places new = AllByRecursion-append (λ p. p.place < length (past ++ e ∷ [])) ps more
     (AllByRecursion-map (λ p. p.place < length past) (λ p. p.place < length (past ++ e ∷ [])) ps (λ p below. omega (arith, length-append past (e ∷ []))) places)
     (AllByRecursion-map (λ p. p.place ≡ length past) (λ p. p.place < length (past ++ e ∷ [])) more (λ p here. omega (arith, length-append past (e ∷ []))) new)
@@ -98,22 +103,31 @@ main_posted_here past (kinds.Main task queue delay true) = (refl, tt)
 main_posted_here past (kinds.Main task queue delay false) = tt
 main_posted_here past kind = tt
 
-pool_next : (past : List Entry) (kind : Kind) → InOrder (posts past) → AllByRecursion (λ p. p.place < length past) (posts past) → ((t : ℕ) → kind_posts kind ≡ t ∷ [] → of_task t (posts past) ≡ 0) → InOrder (posts past ++ posted_by past kind)
-pool_next past (kinds.Post task runner delay true) order places new = in_order_push (posts past) (post_behind past task runner delay) order (behind_all past (posts past) task runner delay places (new task refl))
+pool_next : (past : List Entry) (kind : Kind) → InOrder (posts past) → AllByRecursion (λ p. p.place < length past) (posts past)
+    → ((t : ℕ) → kind_posts kind ≡ t ∷ [] → of_task t (posts past) ≡ 0) → InOrder (posts past ++ posted_by past kind)
+pool_next past (kinds.Post task runner delay true) order places new = in_order_push (posts past) (post_behind past task runner delay) order
+    (behind_all past (posts past) task runner delay places (new task refl))
 pool_next past (kinds.Post task runner delay false) order places new = subst InOrder (sym (append-nil (posts past))) order
 pool_next past kind order places new = subst InOrder (sym (append-nil (posts past))) order
 
-main_next : (past : List Entry) (kind : Kind) → InOrder (main_posts past) → AllByRecursion (λ p. p.place < length past) (main_posts past) → ((t : ℕ) → kind_posts kind ≡ t ∷ [] → of_task t (main_posts past) ≡ 0) → InOrder (main_posts past ++ main_posted_by past kind)
-main_next past (kinds.Main task queue delay true) order places new = in_order_push (main_posts past) (post_behind past task queue delay) order (behind_all past (main_posts past) task queue delay places (new task refl))
+main_next : (past : List Entry) (kind : Kind) → InOrder (main_posts past) → AllByRecursion (λ p. p.place < length past) (main_posts past)
+    → ((t : ℕ) → kind_posts kind ≡ t ∷ [] → of_task t (main_posts past) ≡ 0) → InOrder (main_posts past ++ main_posted_by past kind)
+main_next past (kinds.Main task queue delay true) order places new = in_order_push (main_posts past) (post_behind past task queue delay) order
+    (behind_all past (main_posts past) task queue delay places (new task refl))
 main_next past (kinds.Main task queue delay false) order places new = subst InOrder (sym (append-nil (main_posts past))) order
 main_next past kind order places new = subst InOrder (sym (append-nil (main_posts past))) order
 
-ordered_next : (script : Plan) → IsPostedOnce script → (past : List Entry) (e : Entry) → is_legal script past ≡ true → is_allowed script past e ≡ true → Ordered past → Ordered (past ++ e ∷ [])
+ordered_next : (script : Plan) → IsPostedOnce script → (past : List Entry) (e : Entry) → is_legal script past ≡ true → is_allowed script past e ≡ true
+    → Ordered past → Ordered (past ++ e ∷ [])
 ordered_next script once past e legal allowed known = record {
-  pool = subst InOrder (sym (posts_push past e)) (pool_next past e.kind known.pool known.pool_places (λ t is. omega (arith, counts.accepted t, not_posted_before script past e t once legal allowed is)));
-  main = subst InOrder (sym (main_posts_push past e)) (main_next past e.kind known.main known.main_places (λ t is. omega (arith, counts.accepted t, not_posted_before script past e t once legal allowed is)));
-  pool_places = subst (AllByRecursion (λ p. p.place < length (past ++ e ∷ []))) (sym (posts_push past e)) (places_next past e (posts past) (posted_by past e.kind) known.pool_places (posted_here past e.kind));
-  main_places = subst (AllByRecursion (λ p. p.place < length (past ++ e ∷ []))) (sym (main_posts_push past e)) (places_next past e (main_posts past) (main_posted_by past e.kind) known.main_places (main_posted_here past e.kind));
+  pool = subst InOrder (sym (posts_push past e)) (pool_next past e.kind known.pool known.pool_places
+      (λ t is. omega (arith, counts.accepted t, not_posted_before script past e t once legal allowed is)));
+  main = subst InOrder (sym (main_posts_push past e)) (main_next past e.kind known.main known.main_places
+      (λ t is. omega (arith, counts.accepted t, not_posted_before script past e t once legal allowed is)));
+  pool_places = subst (AllByRecursion (λ p. p.place < length (past ++ e ∷ []))) (sym (posts_push past e))
+      (places_next past e (posts past) (posted_by past e.kind) known.pool_places (posted_here past e.kind));
+  main_places = subst (AllByRecursion (λ p. p.place < length (past ++ e ∷ []))) (sym (main_posts_push past e))
+      (places_next past e (main_posts past) (main_posted_by past e.kind) known.main_places (main_posted_here past e.kind));
 }
   where
     counts : Counted script past
@@ -131,5 +145,6 @@ each_is_accepted_once script past once legal =
     record {
       pool = order.pool;
       main = order.main;
-      apart = λ t one other. omega (arith, found_counts t (posts past) one, found_counts t (main_posts past) other, known.accepted t, posted_at_most_once script past t once legal);
+      apart = λ t one other. omega (arith, found_counts t (posts past) one, found_counts t
+          (main_posts past) other, known.accepted t, posted_at_most_once script past t once legal);
     }

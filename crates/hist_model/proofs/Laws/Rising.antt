@@ -33,14 +33,16 @@ use Rattle.hist_model.proofs.Laws.PostedOnce.{each_is_accepted_once}
 -- an entry that is allowed does not set the moment back
 moment_rises : (script : Plan) (past : List Entry) (seat : ℕ) (kind : Kind) → may_come script past seat kind ≡ true → now_of past ≤ now_after (now_of past) kind
 unfolding may_come
-moment_rises script past seat (kinds.Tick now) h = leb-true (now_of past) now (second (by_script script past seat (kinds.Tick now)) (leb (now_of past) now) (leb now (2 ^ 62)) h)
+moment_rises script past seat (kinds.Tick now) h = leb-true (now_of past) now
+    (second (by_script script past seat (kinds.Tick now)) (leb (now_of past) now) (leb now (2 ^ 62)) h)
   where
     second : (a b c : Bool) → (a && b && c) ≡ true → b ≡ true
     second a b c k = grind (arith, k)
 moment_rises script past seat kind h = omega arith
 
 -- who opens a scope runs the task
-opens_as_running : (script : Plan) (past : List Entry) (seat task : ℕ) (scope : Scope) → may_come script past seat (kinds.Enter task scope) ≡ true → (w : Running) × (running past seat ≡ Some w) × (w.task ≡ task)
+opens_as_running : (script : Plan) (past : List Entry) (seat task : ℕ) (scope : Scope) → may_come script past seat (kinds.Enter task scope) ≡ true
+    → (w : Running) × (running past seat ≡ Some w) × (w.task ≡ task)
 unfolding may_come by_task
 opens_as_running script past seat task scope h =
     let w = found (λ (x : Running). holds_of (λ step. enters x.task step (kinds.Enter task scope)) (next_act script past seat)) (running past seat) h in
@@ -52,19 +54,22 @@ opens_as_running script past seat task scope h =
     same t step k = absurd cc
 
 -- what a seat runs was taken
-was_taken : (script : Plan) (past : List Entry) (seat : ℕ) (w : Running) (main : Bool) → RunsAs script past seat w main → is_taken past w.task ≡ false → is_main_taken past w.task ≡ false → ⊥
+was_taken : (script : Plan) (past : List Entry) (seat : ℕ) (w : Running) (main : Bool) → RunsAs script past seat w main → is_taken past w.task ≡ false
+    → is_main_taken past w.task ≡ false → ⊥
 was_taken script past seat w false r free main_free = not_both (is_taken past w.task) r.taken free
 was_taken script past seat w true r free main_free = not_both (is_main_taken past w.task) r.taken main_free
 
 -- an entry that is allowed opens scopes of taken tasks alone
-scopes_next : (script : Plan) (past : List Entry) (seat : ℕ) (kind : Kind) → may_come script past seat kind ≡ true → IsConsistent script past → (t : ℕ) → is_taken past t ≡ false → is_main_taken past t ≡ false → open_scope past t ≡ None → scope_after t past (open_scope past t) kind ≡ None
+scopes_next : (script : Plan) (past : List Entry) (seat : ℕ) (kind : Kind) → may_come script past seat kind ≡ true → IsConsistent script past → (t : ℕ)
+    → is_taken past t ≡ false → is_main_taken past t ≡ false → open_scope past t ≡ None → scope_after t past (open_scope past t) kind ≡ None
 scopes_next script past seat (kinds.Enter task scope) h c t free main_free none = at (eqb task t) refl
   where
     runs : (w : Running) × (running past seat ≡ Some w) × (w.task ≡ task)
     runs = opens_as_running script past seat task scope h
 
     not_now : eqb task t ≡ true → ⊥
-    not_now same = was_taken script past seat runs.0 runs.0.is_main (c.runs seat runs.0 runs.1) (ap (is_taken past) (runs.2 ∙ eqb-true task t same) ∙ free) (ap (is_main_taken past) (runs.2 ∙ eqb-true task t same) ∙ main_free)
+    not_now same = was_taken script past seat runs.0 runs.0.is_main (c.runs seat runs.0 runs.1) (ap (is_taken past) (runs.2 ∙ eqb-true task t same) ∙ free)
+        (ap (is_main_taken past) (runs.2 ∙ eqb-true task t same) ∙ main_free)
 
     at : (b : Bool) → eqb task t ≡ b → cond b (Some (record { scope = scope; since = now_of past })) (open_scope past t) ≡ None
     at true same = absurd (not_now same)
@@ -80,14 +85,16 @@ nothing_risen : Rises []
 unfolding open_scope fold_past
 nothing_risen = record { no_tick_ahead = no_tick_ahead_at_start; orders_below = orders_below_at_start; scopes_of_taken = λ t free main_free. refl }
 
-risen_next : (script : Plan) (past : List Entry) (e : Entry) → is_legal script past ≡ true → is_allowed script past e ≡ true → Rises past → Rises (past ++ e ∷ [])
+risen_next : (script : Plan) (past : List Entry) (e : Entry) → is_legal script past ≡ true → is_allowed script past e ≡ true → Rises past
+    → Rises (past ++ e ∷ [])
 risen_next script past e legal allowed r = record {
   no_tick_ahead = no_tick_ahead_grows past e (moment_rises script past e.seat e.kind may) r.no_tick_ahead;
   orders_below = orders_below_grows past e r.no_tick_ahead r.orders_below;
   scopes_of_taken = λ t free main_free.
       let before = first (is_taken past t) (takes t e.kind) (sym (is_taken_push past e t) ∙ free) in
       let main_before = first (is_main_taken past t) (main_takes t e.kind) (sym (is_main_taken_push past e t) ∙ main_free) in
-      open_scope_push past e t ∙ scopes_next script past e.seat e.kind may (legal_is_consistent script past legal) t before main_before (r.scopes_of_taken t before main_before);
+      open_scope_push past e t ∙ scopes_next script past e.seat e.kind may (legal_is_consistent script past legal) t before main_before
+          (r.scopes_of_taken t before main_before);
 }
   where
     may : may_come script past e.seat e.kind ≡ true
@@ -102,4 +109,5 @@ legal_rises script = legal_induction script Rises nothing_risen (risen_next scri
 -- where each task is posted once, no two main tasks draw one order
 pub orders_are_distinct : (script : Plan) (past : List Entry) → IsPostedOnce script → is_legal script past ≡ true → OrdersDistinct past
 orders_are_distinct script past once = legal_induction script OrdersDistinct orders_distinct_at_start
-    (λ before e legal allowed distinct. orders_distinct_grows before e (legal_rises script before legal).no_tick_ahead (each_is_accepted_once script before once legal).main (legal_rises script before legal).orders_below distinct) past
+    (λ before e legal allowed distinct. orders_distinct_grows before e (legal_rises script before legal).no_tick_ahead
+        (each_is_accepted_once script before once legal).main (legal_rises script before legal).orders_below distinct) past

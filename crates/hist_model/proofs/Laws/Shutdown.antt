@@ -38,7 +38,8 @@ none_counted : {A : Type 0} (test : A → Bool) (xs : List A) → count test xs 
 none_counted test [] h = tt
 none_counted test (x ∷ xs) h = at (test x) refl (none_counted test xs) h
   where
-    at : (b : Bool) → test x ≡ b → (count test xs ≡ 0 → AllByRecursion (λ y. test y ≡ false) xs) → length (cond b (x ∷ filter test xs) (filter test xs)) ≡ 0 → AllByRecursion (λ y. test y ≡ false) (x ∷ xs)
+    at : (b : Bool) → test x ≡ b → (count test xs ≡ 0 → AllByRecursion (λ y. test y ≡ false) xs) → length (cond b (x ∷ filter test xs) (filter test xs)) ≡ 0
+        → AllByRecursion (λ y. test y ≡ false) (x ∷ xs)
     at true is rest z = absurd (omega (arith, z))
     at false is rest z = (is, rest z)
 
@@ -46,30 +47,41 @@ none_counted test (x ∷ xs) h = at (test x) refl (none_counted test xs) h
 waited : (script : Plan) (past : List Entry) (seat : ℕ) → may_come script past seat kinds.Done ≡ true → HasWaited script past
 unfolding may_come blockers_of
 waited script past seat h = record {
-  blocks_ended = All-from_recursion (λ p. is_open_block script past p ≡ false) (posts past) (none_counted (is_open_block script past) (posts past) (omega (arith, none)));
-  no_skip_runs = All-from_recursion (λ p. is_running_skip script past p ≡ false) (posts past) (none_counted (is_running_skip script past) (posts past) (omega (arith, none)));
-  jobs_over = All-from_recursion (λ j. is_open_job script past j ≡ false) (range_with_len 0 (length script.jobs)) (none_counted (is_open_job script past) (range_with_len 0 (length script.jobs)) (omega (arith, none)));
-  nobody_inside = All-from_recursion (λ s. is_in_skip_job script past s ≡ false) (all_seats script) (none_counted (is_in_skip_job script past) (all_seats script) (omega (arith, none)));
+  blocks_ended = All-from_recursion (λ p. is_open_block script past p ≡ false) (posts past)
+      (none_counted (is_open_block script past) (posts past) (omega (arith, none)));
+  no_skip_runs = All-from_recursion (λ p. is_running_skip script past p ≡ false) (posts past)
+      (none_counted (is_running_skip script past) (posts past) (omega (arith, none)));
+  jobs_over = All-from_recursion (λ j. is_open_job script past j ≡ false) (range_with_len 0 (length script.jobs))
+      (none_counted (is_open_job script past) (range_with_len 0 (length script.jobs)) (omega (arith, none)));
+  nobody_inside = All-from_recursion (λ s. is_in_skip_job script past s ≡ false) (all_seats script)
+      (none_counted (is_in_skip_job script past) (all_seats script) (omega (arith, none)));
 }
   where
     last : (a b c : Bool) → (a && b && c) ≡ true → c ≡ true
     last a b c k = grind (arith, k)
 
-    none : count (is_open_block script past) (posts past) + count (is_running_skip script past) (posts past) + count (is_open_job script past) (range_with_len 0 (length script.jobs)) + count (is_in_skip_job script past) (all_seats script) ≡ 0
-    none = eqb-true (count (is_open_block script past) (posts past) + count (is_running_skip script past) (posts past) + count (is_open_job script past) (range_with_len 0 (length script.jobs)) + count (is_in_skip_job script past) (all_seats script)) 0 (last (by_script script past seat kinds.Done) (is_started (phase_of past)) _ h)
+    none : count (is_open_block script past) (posts past) + count (is_running_skip script past) (posts past)
+        + count (is_open_job script past) (range_with_len 0 (length script.jobs)) + count (is_in_skip_job script past) (all_seats script) ≡ 0
+    none = eqb-true (count (is_open_block script past) (posts past) + count (is_running_skip script past) (posts past)
+        + count (is_open_job script past) (range_with_len 0 (length script.jobs)) + count (is_in_skip_job script past) (all_seats script)) 0
+        (last (by_script script past seat kinds.Done) (is_started (phase_of past)) _ h)
 
 -- a job that may be entered is not forbidden
 enters_free : (script : Plan) (past : List Entry) (j : ℕ) → may_enter script past j ≡ true → is_job_forbidden script past j ≡ false
 unfolding may_enter
-enters_free script past j h = not-true (is_job_forbidden script past j) (third (is_job_accepted past j) (not (is_cancelled past j)) (not (is_job_forbidden script past j)) (has_unclaimed script past j) _ h)
+enters_free script past j h = not-true (is_job_forbidden script past j)
+    (third (is_job_accepted past j) (not (is_cancelled past j)) (not (is_job_forbidden script past j)) (has_unclaimed script past j) _ h)
   where
     third : (a b c d e : Bool) → (a && b && c && d && e) ≡ true → c ≡ true
     third a b c d e k = grind (arith, k)
 
 -- a job is entered only where it may be
-pub job_take_enters : (script : Plan) (past : List Entry) (seat job id item : ℕ) → may_come script past seat (kinds.JobTake job id item) ≡ true → may_enter script past job ≡ true
+pub job_take_enters : (script : Plan) (past : List Entry) (seat job id item : ℕ) → may_come script past seat (kinds.JobTake job id item) ≡ true
+    → may_enter script past job ≡ true
 unfolding may_come
-job_take_enters script past seat job id item h = either (is_ready_worker script past seat) (holds_of (λ c. is_job job c.source) (best_of script past seat)) (by_script script past seat (kinds.JobTake job id item)) (may_enter script past job) refl refl (first (enters_job script past seat job (kinds.JobTake job id item)) (same_number (free_id script past job) (Some id)) (eqb item (claimed past job)) h)
+job_take_enters script past seat job id item h = either (is_ready_worker script past seat) (holds_of (λ c. is_job job c.source) (best_of script past seat))
+    (by_script script past seat (kinds.JobTake job id item)) (may_enter script past job) refl refl
+    (first (enters_job script past seat job (kinds.JobTake job id item)) (same_number (free_id script past job) (Some id)) (eqb item (claimed past job)) h)
   where
     first : (a b c : Bool) → (a && b && c) ≡ true → a ≡ true
     first a b c k = grind (arith, k)
@@ -78,8 +90,10 @@ job_take_enters script past seat job id item h = either (is_ready_worker script 
     of_source (Sequence s) waits is = absurd cc
     of_source (Job j) waits is = ap (may_enter script past) (sym (eqb-true j job is)) ∙ waits
 
-    either : (a b c d : Bool) → holds_of (λ x. is_job job x.source) (best_of script past seat) ≡ b → may_enter script past job ≡ d → ((a && b) || (c && d)) ≡ true → may_enter script past job ≡ true
-    either a true c d chosen enters k = let c = found (λ x. is_job job x.source) (best_of script past seat) chosen in of_source c.value.source (best_is script past seat c.value c.is).waits c.passes
+    either : (a b c d : Bool) → holds_of (λ x. is_job job x.source) (best_of script past seat) ≡ b → may_enter script past job ≡ d
+        → ((a && b) || (c && d)) ≡ true → may_enter script past job ≡ true
+    either a true c d chosen enters k = let c = found (λ x. is_job job x.source) (best_of script past seat) chosen in
+        of_source c.value.source (best_is script past seat c.value c.is).waits c.passes
     either a false c d chosen enters k = enters ∙ right a c d k
       where
         right : (x y z : Bool) → ((x && false) || (y && z)) ≡ true → z ≡ true
@@ -104,5 +118,7 @@ kept script past seat (kinds.JobTake job id item) h = enters_free script past jo
 kept script past seat kinds.Done h = waited script past seat h
 kept script past seat kind h = tt
 
-pub waits_and_forbids : (script : Plan) (past : List Entry) (e : Entry) (rest : List Entry) → IsLegal script (past ++ e ∷ rest) → KeepsShutdown script past e.kind
-waits_and_forbids script past e rest h = kept script past e.seat e.kind (and_parts _ (may_come script past e.seat e.kind) (each_is_allowed script past e rest h)).1
+pub waits_and_forbids : (script : Plan) (past : List Entry) (e : Entry) (rest : List Entry) → IsLegal script (past ++ e ∷ rest)
+    → KeepsShutdown script past e.kind
+waits_and_forbids script past e rest h = kept script past e.seat e.kind
+    (and_parts _ (may_come script past e.seat e.kind) (each_is_allowed script past e rest h)).1

@@ -12,7 +12,8 @@ use Rattle.list_laws.specs.Lists.{holds_of}
 use Rattle.task_model.specs.Posts.{is_taken}
 use Rattle.task_model.specs.Keys.{Ready}
 use Rattle.task_model.specs.Refusal.{is_forbidden}
-use Rattle.task_model.specs.Sequences.{sequence_of, head_of}
+use Rattle.task_base.specs.Runners.{sequence_of}
+use Rattle.task_model.specs.Sequences.{head_of}
 use Rattle.task_model.specs.Seats.{Running, running, runs_sequence, is_free}
 use Rattle.task_model.specs.Cells.{cell_of, main_cell_of}
 use Rattle.task_model.specs.Sources.{Candidate, best_of}
@@ -36,7 +37,8 @@ ready_worker script past seat h = of_parts (four (leb 1 seat) (leb seat script.w
     four : (a b c d : Bool) → (a && b && c && d) ≡ true → (a ≡ true) × (b ≡ true) × (c ≡ true) × (d ≡ true)
     four a b c d k = (grind (arith, k), grind (arith, k), grind (arith, k), grind (arith, k))
 
-    of_parts : (leb 1 seat ≡ true) × (leb seat script.workers ≡ true) × (is_free past seat ≡ true) × (not (is_finished script past) ≡ true) → IsReadyWorker script past seat
+    of_parts : (leb 1 seat ≡ true) × (leb seat script.workers ≡ true) × (is_free past seat ≡ true) × (not (is_finished script past) ≡ true)
+        → IsReadyWorker script past seat
     of_parts (first, second, third, fourth) = record {
       worker = leb-true 1 seat first;
       known = leb-true seat script.workers second;
@@ -44,7 +46,8 @@ ready_worker script past seat h = of_parts (four (leb 1 seat) (leb seat script.w
       goes_on = not-true (is_finished script past) fourth;
     }
 
-pub take_is : (script : Plan) (past : List Entry) (seat task runner value : ℕ) → may_come script past seat (kinds.Take task runner value) ≡ true → IsTake script past seat task runner value
+pub take_is : (script : Plan) (past : List Entry) (seat task runner value : ℕ) → may_come script past seat (kinds.Take task runner value) ≡ true
+    → IsTake script past seat task runner value
 unfolding may_come
 take_is script past seat task runner value h = of_best (found (λ c. is_head_of script past task runner value c.source) (best_of script past seat) (both.1))
   where
@@ -54,15 +57,18 @@ take_is script past seat task runner value h = of_best (found (λ c. is_head_of 
     worker : IsReadyWorker script past seat
     worker = ready_worker script past seat both.0
 
-    of_head : (s : ℕ) → runs_sequence script past s ≡ false → value ≡ cell_of script past s → (head : Ready) → IsHead script past s head → head.posted.task ≡ task → head.posted.home ≡ runner → IsTake script past seat task runner value
+    of_head : (s : ℕ) → runs_sequence script past s ≡ false → value ≡ cell_of script past s → (head : Ready) → IsHead script past s head
+        → head.posted.task ≡ task → head.posted.home ≡ runner → IsTake script past seat task runner value
     of_head s idle cell head is task_is home_is = record {
       head = head;
       is_head = subst (λ x. IsHead script past x head) here is;
       task_is = task_is;
       home_is = home_is;
       not_running = ap (runs_sequence script past) (sym here) ∙ idle;
-      not_taken = ap (is_taken past) (sym task_is) ∙ not-true (is_taken past head.posted.task) (and_parts (not (is_taken past head.posted.task)) (not (is_forbidden script past head.posted)) is.free).0;
-      not_forbidden = not-true (is_forbidden script past head.posted) (and_parts (not (is_taken past head.posted.task)) (not (is_forbidden script past head.posted)) is.free).1;
+      not_taken = ap (is_taken past) (sym task_is) ∙ not-true (is_taken past head.posted.task)
+          (and_parts (not (is_taken past head.posted.task)) (not (is_forbidden script past head.posted)) is.free).0;
+      not_forbidden = not-true (is_forbidden script past head.posted)
+          (and_parts (not (is_taken past head.posted.task)) (not (is_forbidden script past head.posted)) is.free).1;
       found_is = cell ∙ ap (cell_of script past) here;
       worker = worker.worker;
       known = worker.known;
@@ -70,15 +76,19 @@ take_is script past seat task runner value h = of_best (found (λ c. is_head_of 
     }
       where
         here : s ≡ sequence_of script runner task
-        here = sym (eqb-true (sequence_of script head.posted.home head.posted.task) s is.of_sequence) ∙ ap (λ r. sequence_of script r head.posted.task) home_is ∙ ap (sequence_of script runner) task_is
+        here = sym (eqb-true (sequence_of script head.posted.home head.posted.task) s is.of_sequence) ∙ ap (λ r. sequence_of script r head.posted.task) home_is
+            ∙ ap (sequence_of script runner) task_is
 
-    of_source : (source : TaskSource) → IsWaitingSource script past source → is_head_of script past task runner value source ≡ true → IsTake script past seat task runner value
+    of_source : (source : TaskSource) → IsWaitingSource script past source → is_head_of script past task runner value source ≡ true
+        → IsTake script past seat task runner value
     of_source (Job j) waits k = absurd cc
     of_source (Sequence s) waits k =
-        let parts = and_parts (holds_of (λ r. eqb r.posted.task task && eqb r.posted.home runner) (head_of script past s)) (eqb value (cell_of script past s)) k in
+        let parts = and_parts (holds_of (λ r. eqb r.posted.task task && eqb r.posted.home runner) (head_of script past s))
+            (eqb value (cell_of script past s)) k in
         let head = found (λ r. eqb r.posted.task task && eqb r.posted.home runner) (head_of script past s) parts.0 in
         let same = and_parts (eqb head.value.posted.task task) (eqb head.value.posted.home runner) head.passes in
-        of_head s waits.2 (eqb-true value (cell_of script past s) parts.1) head.value (head_is script past s head.value head.is) (eqb-true _ _ same.0) (eqb-true _ _ same.1)
+        of_head s waits.2 (eqb-true value (cell_of script past s) parts.1) head.value (head_is script past s head.value head.is) (eqb-true _ _ same.0)
+            (eqb-true _ _ same.1)
 
     of_best : Found Candidate (λ c. is_head_of script past task runner value c.source) (best_of script past seat) → IsTake script past seat task runner value
     of_best c = of_source c.value.source (best_is script past seat c.value c.is).waits c.passes
@@ -88,14 +98,17 @@ pub by_driver : (script : Plan) (past : List Entry) (seat : ℕ) (kind : Kind) �
 unfolding by_script
 by_driver script past seat kind h = eqb-true seat 0 (and_parts (eqb seat 0) (is_wanted script (own_entries 0 past) kind) h).0
 
-pub main_take_is : (script : Plan) (past : List Entry) (seat task queue value : ℕ) → may_come script past seat (kinds.MainTake task queue value) ≡ true → IsMainTake script past seat task queue value
+pub main_take_is : (script : Plan) (past : List Entry) (seat task queue value : ℕ) → may_come script past seat (kinds.MainTake task queue value) ≡ true
+    → IsMainTake script past seat task queue value
 unfolding may_come
-main_take_is script past seat task queue value h = of_parts (three (by_script script past seat (kinds.MainTake task queue value)) (holds_of (is_front task queue) (chosen_of script past)) (eqb value (main_cell_of past queue)) h)
+main_take_is script past seat task queue value h = of_parts (three (by_script script past seat (kinds.MainTake task queue value))
+    (holds_of (is_front task queue) (chosen_of script past)) (eqb value (main_cell_of past queue)) h)
   where
     three : (a b c : Bool) → (a && b && c) ≡ true → (a ≡ true) × (b ≡ true) × (c ≡ true)
     three a b c k = (grind (arith, k), grind (arith, k), grind (arith, k))
 
-    of_front : seat ≡ 0 → value ≡ main_cell_of past queue → (f : Front) → chosen_of script past ≡ Some f → (eqb f.task task && eqb f.queue queue) ≡ true → IsMainTake script past seat task queue value
+    of_front : seat ≡ 0 → value ≡ main_cell_of past queue → (f : Front) → chosen_of script past ≡ Some f → (eqb f.task task && eqb f.queue queue) ≡ true
+        → IsMainTake script past seat task queue value
     of_front driver cell f is same = record {
       front = f;
       is_front = (chosen_is script past f is).0;
@@ -106,20 +119,24 @@ main_take_is script past seat task queue value h = of_parts (three (by_script sc
       driver = driver;
     }
 
-    of_parts : (by_script script past seat (kinds.MainTake task queue value) ≡ true) × (holds_of (is_front task queue) (chosen_of script past) ≡ true) × (eqb value (main_cell_of past queue) ≡ true) → IsMainTake script past seat task queue value
+    of_parts : (by_script script past seat (kinds.MainTake task queue value) ≡ true) × (holds_of (is_front task queue) (chosen_of script past) ≡ true)
+        × (eqb value (main_cell_of past queue) ≡ true) → IsMainTake script past seat task queue value
     of_parts (wanted, chosen, cell) =
         let front = found (is_front task queue) (chosen_of script past) chosen in
-        of_front (by_driver script past seat (kinds.MainTake task queue value) wanted) (eqb-true value (main_cell_of past queue) cell) front.value front.is front.passes
+        of_front (by_driver script past seat (kinds.MainTake task queue value) wanted)
+            (eqb-true value (main_cell_of past queue) cell) front.value front.is front.passes
 
 -- what is known of an allowed end: the seat runs the task, of the pool or a main task
-pub end_is : (script : Plan) (past : List Entry) (seat task left : ℕ) → may_come script past seat (kinds.End task left) ≡ true → (w : Running) × (running past seat ≡ Some w) × (w.is_main ≡ false) × (w.task ≡ task)
+pub end_is : (script : Plan) (past : List Entry) (seat task left : ℕ) → may_come script past seat (kinds.End task left) ≡ true
+    → (w : Running) × (running past seat ≡ Some w) × (w.is_main ≡ false) × (w.task ≡ task)
 unfolding may_come
 end_is script past seat task left h = of_found (found (λ w. not w.is_main && eqb w.task task && has_done script past seat left w) (running past seat) h)
   where
     three : (a b c : Bool) → (not a && b && c) ≡ true → (a ≡ false) × (b ≡ true)
     three a b c k = (grind (arith, k), grind (arith, k))
 
-    of_found : Found Running (λ w. not w.is_main && eqb w.task task && has_done script past seat left w) (running past seat) → (w : Running) × (running past seat ≡ Some w) × (w.is_main ≡ false) × (w.task ≡ task)
+    of_found : Found Running (λ w. not w.is_main && eqb w.task task && has_done script past seat left w) (running past seat)
+        → (w : Running) × (running past seat ≡ Some w) × (w.is_main ≡ false) × (w.task ≡ task)
     of_found w =
         let parts = three w.value.is_main (eqb w.value.task task) (has_done script past seat left w.value) w.passes in
         (w.value, w.is, parts.0, eqb-true w.value.task task parts.1)

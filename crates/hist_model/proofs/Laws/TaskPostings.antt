@@ -35,7 +35,8 @@ rest_less t (suc n) (x ∷ xs) = rest_less t n xs
 rest_next : (t n : ℕ) (xs : List Step) (x : Step) → slice_get xs n ≡ Some x → rest_posts t (suc n) xs + times t (posts_of_step x) ≡ rest_posts t n xs
 unfolding rest_posts
 rest_next t n [] x h = absurd cc
-rest_next t zero (y ∷ xs) x h = let same : y ≡ x = cc in subst (λ z. rest_posts t zero xs + times t (posts_of_step z) ≡ times t (posts_of_step y) + rest_posts t zero xs) same (omega arith)
+rest_next t zero (y ∷ xs) x h = let same : y ≡ x = cc in subst
+    (λ z. rest_posts t zero xs + times t (posts_of_step z) ≡ times t (posts_of_step y) + rest_posts t zero xs) same (omega arith)
 rest_next t (suc n) (y ∷ xs) x h = rest_next t n xs x h
 
 from_nothing : (n : ℕ) → 0 + n ≡ n
@@ -71,7 +72,8 @@ takes_nothing (kinds.MainTake task queue found) = false
 takes_nothing kind = true
 
 -- an entry of the seat that takes no task leaves it no more
-seat_goes_on : (script : Plan) (t : ℕ) (w : Option Running) (n : ℕ) (kind : Kind) → takes_nothing kind ≡ true → seat_has script t (running_after w kind) (acts_after n kind) ≤ seat_has script t w n
+seat_goes_on : (script : Plan) (t : ℕ) (w : Option Running) (n : ℕ) (kind : Kind) → takes_nothing kind ≡ true
+    → seat_has script t (running_after w kind) (acts_after n kind) ≤ seat_has script t w n
 unfolding seat_has
 seat_goes_on script t w n (kinds.Take task runner found) h = absurd cc
 seat_goes_on script t w n (kinds.MainTake task queue found) h = absurd cc
@@ -85,8 +87,10 @@ seat_goes_on script t w n kind h = omega arith
 
 -- an act step that enters this kind posts what the entry posts
 enters_posts : (t u : ℕ) (step : Step) (kind : Kind) → enters u step kind ≡ true → times t (kind_posts kind) ≤ times t (posts_of_step step)
-enters_posts t u (steps.Post v r d) (kinds.Post task runner delay ok) h = let same : task ≡ v = eqb-true task v (first_test (eqb task v) (eqb runner r) (eqb delay d) h) in rw same (omega arith)
-enters_posts t u (steps.Main v q d) (kinds.Main task queue delay ok) h = let same : task ≡ v = eqb-true task v (first_test (eqb task v) (eqb queue q) (eqb delay d) h) in rw same (omega arith)
+enters_posts t u (steps.Post v r d) (kinds.Post task runner delay ok) h = let same : task
+    ≡ v = eqb-true task v (first_test (eqb task v) (eqb runner r) (eqb delay d) h) in rw same (omega arith)
+enters_posts t u (steps.Main v q d) (kinds.Main task queue delay ok) h = let same : task
+    ≡ v = eqb-true task v (first_test (eqb task v) (eqb queue q) (eqb delay d) h) in rw same (omega arith)
 enters_posts t u step (kinds.Post task runner delay ok) h = absurd cc
 enters_posts t u step (kinds.Main task queue delay ok) h = absurd cc
 enters_posts t u step kind h = omega arith
@@ -109,7 +113,8 @@ seat_posts script t n (Some w) kind h = at (slice_get (filter is_act (steps_of s
     at : (o : Option Step) → slice_get (filter is_act (steps_of script w.task)) n ≡ o → holds_of (λ step. enters w.task step kind) o ≡ true
         → seat_has script t (running_after (Some w) kind) (acts_after n kind) + times t (kind_posts kind) ≤ seat_has script t (Some w) n
     at None is k = absurd cc
-    at (Some step) is k = rw ((entered w.task n (Some w) step kind k).0, (entered w.task n (Some w) step kind k).1, add-one n) (omega (arith, rest_next t n (filter is_act (steps_of script w.task)) step is, enters_posts t w.task step kind k))
+    at (Some step) is k = rw ((entered w.task n (Some w) step kind k).0, (entered w.task n (Some w) step kind k).1, add-one n)
+        (omega (arith, rest_next t n (filter is_act (steps_of script w.task)) step is, enters_posts t w.task step kind k))
 
 -- the sum over the seats from 0 to n
 pub seats_sum : (ℕ → ℕ) → ℕ → ℕ
@@ -119,7 +124,8 @@ seats_sum f (suc n) = f (suc n) + seats_sum f n
 seats_sum_same : (f g : ℕ → ℕ) (n : ℕ) → ((i : ℕ) → i ≤ n → g i ≡ f i) → seats_sum g n ≡ seats_sum f n
 unfolding seats_sum
 seats_sum_same f g zero same = same 0 (omega arith)
-seats_sum_same f g (suc n) same = let a : g (suc n) ≡ f (suc n) = same (suc n) (omega arith) in let b : seats_sum g n ≡ seats_sum f n = seats_sum_same f g n (λ i le. same i (omega arith)) in omega arith
+seats_sum_same f g (suc n) same = let a : g (suc n) ≡ f (suc n) = same (suc n) (omega arith) in
+    let b : seats_sum g n ≡ seats_sum f n = seats_sum_same f g n (λ i le. same i (omega arith)) in omega arith
 
 -- where one seat changes alone
 seats_sum_change : (f g : ℕ → ℕ) (s n : ℕ) → s ≤ n → ((i : ℕ) → eqb s i ≡ false → g i ≡ f i) → seats_sum g n + f s ≡ seats_sum f n + g s
@@ -127,9 +133,12 @@ unfolding seats_sum
 seats_sum_change f g s zero le other = let is : s ≡ 0 = omega arith in rw is (omega arith)
 seats_sum_change f g s (suc n) le other = at (eqb s (suc n)) refl (λ below. seats_sum_change f g s n below other)
   where
-    at : (b : Bool) → eqb s (suc n) ≡ b → (s ≤ n → seats_sum g n + f s ≡ seats_sum f n + g s) → g (suc n) + seats_sum g n + f s ≡ f (suc n) + seats_sum f n + g s
-    at true is next = let last : s ≡ suc n = eqb-true s (suc n) is in let rest : seats_sum g n ≡ seats_sum f n = seats_sum_same f g n (λ i below. other i (grind arith)) in rw (last, rest) (omega arith)
-    at false is next = let last : g (suc n) ≡ f (suc n) = other (suc n) is in let rest : seats_sum g n + f s ≡ seats_sum f n + g s = next (grind arith) in omega arith
+    at : (b : Bool) → eqb s (suc n) ≡ b → (s ≤ n → seats_sum g n + f s ≡ seats_sum f n + g s)
+        → g (suc n) + seats_sum g n + f s ≡ f (suc n) + seats_sum f n + g s
+    at true is next = let last : s ≡ suc n = eqb-true s (suc n) is in
+        let rest : seats_sum g n ≡ seats_sum f n = seats_sum_same f g n (λ i below. other i (grind arith)) in rw (last, rest) (omega arith)
+    at false is next = let last : g (suc n) ≡ f (suc n) = other (suc n) is in let rest : seats_sum g n + f s ≡ seats_sum f n + g s = next (grind arith) in
+        omega arith
 
 -- how often what a seat runs has a posting of a task left
 pub seat_at : Plan → ℕ → List Entry → ℕ → ℕ
@@ -139,31 +148,42 @@ seat_at script t past seat = seat_has script t (running past seat) (acts_done pa
 abbrev pub seats_have : Plan → ℕ → List Entry → ℕ
 seats_have script t past = seats_sum (seat_at script t past) script.workers
 
-seat_at_other : (script : Plan) (t : ℕ) (past : List Entry) (e : Entry) (i : ℕ) → eqb e.seat i ≡ false → seat_at script t (past ++ e ∷ []) i ≡ seat_at script t past i
+seat_at_other : (script : Plan) (t : ℕ) (past : List Entry) (e : Entry) (i : ℕ) → eqb e.seat i ≡ false
+    → seat_at script t (past ++ e ∷ []) i ≡ seat_at script t past i
 unfolding seat_at
 seat_at_other script t past e i other = rw (running_push past e i, acts_done_push past e i, other) refl
 
-seat_at_own : (script : Plan) (t : ℕ) (past : List Entry) (e : Entry) → seat_at script t (past ++ e ∷ []) e.seat ≡ seat_has script t (running_after (running past e.seat) e.kind) (acts_after (acts_done past e.seat) e.kind)
+seat_at_own : (script : Plan) (t : ℕ) (past : List Entry) (e : Entry)
+    → seat_at script t (past ++ e ∷ []) e.seat ≡ seat_has script t (running_after (running past e.seat) e.kind) (acts_after (acts_done past e.seat) e.kind)
 unfolding seat_at
 seat_at_own script t past e = rw (running_push past e e.seat, acts_done_push past e e.seat, eqb-same e.seat) refl
 
-seats_have_change : (script : Plan) (t : ℕ) (past : List Entry) (e : Entry) → e.seat ≤ script.workers → seats_have script t (past ++ e ∷ []) + seat_at script t past e.seat ≡ seats_have script t past + seat_at script t (past ++ e ∷ []) e.seat
-seats_have_change script t past e le = seats_sum_change (seat_at script t past) (seat_at script t (past ++ e ∷ [])) e.seat script.workers le (seat_at_other script t past e)
+seats_have_change : (script : Plan) (t : ℕ) (past : List Entry) (e : Entry) → e.seat ≤ script.workers
+    → seats_have script t (past ++ e ∷ []) + seat_at script t past e.seat ≡ seats_have script t past + seat_at script t (past ++ e ∷ []) e.seat
+seats_have_change script t past e le = seats_sum_change (seat_at script t past) (seat_at script t (past ++ e ∷ [])) e.seat script.workers le
+    (seat_at_other script t past e)
 
-pub seats_have_less : (script : Plan) (t : ℕ) (past : List Entry) (e : Entry) → e.seat ≤ script.workers → takes_nothing e.kind ≡ true → seats_have script t (past ++ e ∷ []) ≤ seats_have script t past
+pub seats_have_less : (script : Plan) (t : ℕ) (past : List Entry) (e : Entry) → e.seat ≤ script.workers → takes_nothing e.kind ≡ true
+    → seats_have script t (past ++ e ∷ []) ≤ seats_have script t past
 unfolding seat_at
-seats_have_less script t past e le h = omega (arith, seats_have_change script t past e le, seat_at_own script t past e, seat_goes_on script t (running past e.seat) (acts_done past e.seat) e.kind h)
+seats_have_less script t past e le h = omega (arith, seats_have_change script t past e le, seat_at_own script t past e, seat_goes_on script t
+    (running past e.seat) (acts_done past e.seat) e.kind h)
 
-pub seats_post : (script : Plan) (t : ℕ) (past : List Entry) (e : Entry) → e.seat ≤ script.workers → by_task script past e.seat e.kind ≡ true → seats_have script t (past ++ e ∷ []) + times t (kind_posts e.kind) ≤ seats_have script t past
+pub seats_post : (script : Plan) (t : ℕ) (past : List Entry) (e : Entry) → e.seat ≤ script.workers → by_task script past e.seat e.kind ≡ true
+    → seats_have script t (past ++ e ∷ []) + times t (kind_posts e.kind) ≤ seats_have script t past
 unfolding by_task seat_at
-seats_post script t past e le h = omega (arith, seats_have_change script t past e le, seat_at_own script t past e, seat_posts script t (acts_done past e.seat) (running past e.seat) e.kind h)
+seats_post script t past e le h = omega (arith, seats_have_change script t past e le, seat_at_own script t past e, seat_posts script t (acts_done past e.seat)
+    (running past e.seat) e.kind h)
 
 -- an entry that takes a task gives the seat that task's postings
-pub seats_take : (script : Plan) (t u : ℕ) (past : List Entry) (e : Entry) → e.seat ≤ script.workers → (takes u e.kind || main_takes u e.kind) ≡ true → seats_have script t (past ++ e ∷ []) ≤ seats_have script t past + steps_post t (steps_of script u)
+pub seats_take : (script : Plan) (t u : ℕ) (past : List Entry) (e : Entry) → e.seat ≤ script.workers → (takes u e.kind || main_takes u e.kind) ≡ true
+    → seats_have script t (past ++ e ∷ []) ≤ seats_have script t past + steps_post t (steps_of script u)
 unfolding seat_at seat_has steps_post
-seats_take script t u past e le h = omega (arith, seats_have_change script t past e le, seat_at_own script t past e, begins (running past e.seat) (acts_done past e.seat) e.kind h)
+seats_take script t u past e le h = omega (arith, seats_have_change script t past e le, seat_at_own script t past e, begins (running past e.seat)
+    (acts_done past e.seat) e.kind h)
   where
-    begins : (w : Option Running) (n : ℕ) (kind : Kind) → (takes u kind || main_takes u kind) ≡ true → seat_has script t (running_after w kind) (acts_after n kind) ≡ steps_post t (steps_of script u)
+    begins : (w : Option Running) (n : ℕ) (kind : Kind) → (takes u kind || main_takes u kind) ≡ true
+        → seat_has script t (running_after w kind) (acts_after n kind) ≡ steps_post t (steps_of script u)
     begins w n (kinds.Take task runner found) k = ap (λ v. rest_posts t 0 (filter is_act (steps_of script v))) (is_task (eqb task u) refl k)
       where
         is_task : (b : Bool) → eqb task u ≡ b → (b || false) ≡ true → task ≡ u
@@ -207,12 +227,14 @@ weigh_drops f g t i u zero (x ∷ xs) at was is fewer =
     let no : g i ≡ false = ap g here ∙ is in
     let yes : f i ≡ true = ap f here ∙ was in
     rw (no, yes) (omega (arith, weigh_less f g t (suc i) xs fewer))
-weigh_drops f g t i u (suc k) (x ∷ xs) at was is fewer = let next : u ≡ suc i + k = omega arith in omega (arith, cond_less f g i (steps_post t x) fewer, weigh_drops f g t (suc i) u k xs next was is fewer)
+weigh_drops f g t i u (suc k) (x ∷ xs) at was is fewer = let next : u ≡ suc i + k = omega arith in
+    omega (arith, cond_less f g i (steps_post t x) fewer, weigh_drops f g t (suc i) u k xs next was is fewer)
 
 weigh_all : (f : ℕ → Bool) (t i : ℕ) (xs : List (List Step)) → weigh f t i xs ≤ times t (flat_map (λ steps. flat_map posts_of_step steps) xs)
 unfolding weigh
 weigh_all f t i [] = omega arith
-weigh_all f t i (x ∷ xs) = omega (arith, one (f i), weigh_all f t (suc i) xs, times-append t (flat_map posts_of_step x) (flat_map (λ steps. flat_map posts_of_step steps) xs))
+weigh_all f t i (x ∷ xs) = omega (arith, one (f i), weigh_all f t (suc i) xs, times-append t (flat_map posts_of_step x)
+    (flat_map (λ steps. flat_map posts_of_step steps) xs))
   where
     one : (b : Bool) → cond b (steps_post t x) 0 ≤ times t (flat_map posts_of_step x)
     one true = omega (arith, steps_post_all t x)
@@ -227,7 +249,8 @@ pub tasks_have : Plan → ℕ → List Entry → ℕ
 tasks_have script t past = weigh (is_untaken past) t 0 script.tasks
 
 was_untaken : (past : List Entry) (e : Entry) (u : ℕ) → is_untaken (past ++ e ∷ []) u ≡ true → is_untaken past u ≡ true
-was_untaken past e u = rw (is_taken_push past e u, is_main_taken_push past e u) (at (is_taken past u) (takes u e.kind) (is_main_taken past u) (main_takes u e.kind))
+was_untaken past e u = rw (is_taken_push past e u, is_main_taken_push past e u)
+    (at (is_taken past u) (takes u e.kind) (is_main_taken past u) (main_takes u e.kind))
   where
     at : (a b c d : Bool) → not ((a || b) || (c || d)) ≡ true → not (a || c) ≡ true
     at true b c d h = absurd cc
@@ -236,7 +259,8 @@ was_untaken past e u = rw (is_taken_push past e u, is_main_taken_push past e u) 
     at false false false d h = refl
 
 is_now_taken : (past : List Entry) (e : Entry) (u : ℕ) → (takes u e.kind || main_takes u e.kind) ≡ true → is_untaken (past ++ e ∷ []) u ≡ false
-is_now_taken past e u = rw (is_taken_push past e u, is_main_taken_push past e u) (at (is_taken past u) (takes u e.kind) (is_main_taken past u) (main_takes u e.kind))
+is_now_taken past e u = rw (is_taken_push past e u, is_main_taken_push past e u)
+    (at (is_taken past u) (takes u e.kind) (is_main_taken past u) (main_takes u e.kind))
   where
     at : (a b c d : Bool) → (b || d) ≡ true → not ((a || b) || (c || d)) ≡ false
     at true b c d h = refl
@@ -249,9 +273,11 @@ pub tasks_have_less : (script : Plan) (t : ℕ) (past : List Entry) (e : Entry) 
 unfolding tasks_have
 tasks_have_less script t past e = weigh_less (is_untaken past) (is_untaken (past ++ e ∷ [])) t 0 script.tasks (was_untaken past e)
 
-pub tasks_take : (script : Plan) (t u : ℕ) (past : List Entry) (e : Entry) → (takes u e.kind || main_takes u e.kind) ≡ true → is_untaken past u ≡ true → tasks_have script t (past ++ e ∷ []) + steps_post t (steps_of script u) ≤ tasks_have script t past
+pub tasks_take : (script : Plan) (t u : ℕ) (past : List Entry) (e : Entry) → (takes u e.kind || main_takes u e.kind) ≡ true → is_untaken past u ≡ true
+    → tasks_have script t (past ++ e ∷ []) + steps_post t (steps_of script u) ≤ tasks_have script t past
 unfolding tasks_have
-tasks_take script t u past e h was = weigh_drops (is_untaken past) (is_untaken (past ++ e ∷ [])) t 0 u u script.tasks (omega arith) was (is_now_taken past e u h) (was_untaken past e)
+tasks_take script t u past e h was = weigh_drops (is_untaken past) (is_untaken (past ++ e ∷ [])) t 0 u u script.tasks (omega arith) was
+    (is_now_taken past e u h) (was_untaken past e)
 
 pub tasks_begin : (script : Plan) (t : ℕ) → tasks_have script t [] ≤ times t (flat_map (λ steps. flat_map posts_of_step steps) script.tasks)
 unfolding tasks_have

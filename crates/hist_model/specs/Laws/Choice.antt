@@ -8,7 +8,8 @@ use Rattle.task_model.specs.Policies.{is_held}
 use Rattle.task_model.specs.Posts.{Posted, posts, main_posts, is_taken, is_main_taken}
 use Rattle.task_model.specs.Refusal.{is_forbidden}
 use Rattle.task_model.specs.Keys.{Ready, key_of}
-use Rattle.task_model.specs.Sequences.{sequence_of, is_of, may_start, head_of}
+use Rattle.task_base.specs.Runners.{sequence_of}
+use Rattle.task_model.specs.Sequences.{is_of, may_start, head_of}
 use Rattle.task_model.specs.Seats.{runs_sequence, is_free}
 use Rattle.task_model.specs.Cells.{cell_of, main_cell_of}
 use Rattle.task_model.specs.Jobs.{may_enter}

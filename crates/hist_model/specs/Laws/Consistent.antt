@@ -3,7 +3,7 @@ use Rattle.std.specs.Prelude.{◌≡◌, ℕ, ◌≤◌, Bool, true, false, List
 use Rattle.task_base.specs.Plan.{Plan}
 use Rattle.task_base.specs.declared.entry.Entry.{Entry}
 use Rattle.task_model.specs.Posts.{Posted, posts, main_posts, is_taken, is_ended, is_main_taken}
-use Rattle.task_model.specs.Sequences.{sequence_of}
+use Rattle.task_base.specs.Runners.{sequence_of}
 use Rattle.task_base.specs.declared.script.Action.{Action}
 use Rattle.task_base.specs.declared.script.Action.TheVariants as actions
 use Rattle.task_model.specs.Seats.{Running, Holding, running, holding}
@@ -41,7 +41,8 @@ pub record IsConsistent (script : Plan) (past : List Entry) : Type 0 where
   pub taken_before_ended : (t : ℕ) → is_ended past t ≡ true → is_taken past t ≡ true
   pub runs : (seat : ℕ) (w : Running) → running past seat ≡ Some w → RunsAs script past seat w w.is_main
   pub one_task : (a b : ℕ) (v w : Running) → running past a ≡ Some v → running past b ≡ Some w → v.is_main ≡ false → w.is_main ≡ false → v.task ≡ w.task → a ≡ b
-  pub one_sequence : (a b : ℕ) (v w : Running) → running past a ≡ Some v → running past b ≡ Some w → v.is_main ≡ false → w.is_main ≡ false → sequence_of script v.home v.task ≡ sequence_of script w.home w.task → a ≡ b
+  pub one_sequence : (a b : ℕ) (v w : Running) → running past a ≡ Some v → running past b ≡ Some w → v.is_main ≡ false → w.is_main ≡ false
+      → sequence_of script v.home v.task ≡ sequence_of script w.home w.task → a ≡ b
 
 -- the action runs main tasks
 abbrev pub is_pump : Action → Bool

@@ -18,12 +18,14 @@ json_words place e = join_with_byte 44 (map shown_json (entry_parts place e))
 
 -- it has no closing bracket
 json_lacks_bracket : (place : ℕ) (e : Entry) → Fits e → Lacks 93 (json_words place e)
-json_lacks_bracket place e h = joined_parts_lack shown_json 93 44 (λ same. omega arith) (shown_json_lacks 93 refl (λ same. omega arith)) (decimal place) (seat_parts e) (decimal_lacks 93 refl place) (seat_parts_fit e h)
+json_lacks_bracket place e h = joined_parts_lack shown_json 93 44 (λ same. omega arith) (shown_json_lacks 93 refl (λ same. omega arith)) (decimal place)
+    (seat_parts e) (decimal_lacks 93 refl place) (seat_parts_fit e h)
 
 -- at its place it tells the entry
 same_json : (place : ℕ) (a b : Entry) → Fits a → Fits b → json_words place a ≡ json_words place b → a ≡ b
 same_json place a b p q e = same_entry a b
-    (same_joined shown_json 44 (shown_json_lacks 44 refl (λ same. omega arith)) same_shown_json (decimal place) (seat_parts a) (seat_parts b) (decimal_lacks 44 refl place) (seat_parts_fit a p) (seat_parts_fit b q) e)
+    (same_joined shown_json 44 (shown_json_lacks 44 refl (λ same. omega arith)) same_shown_json (decimal place) (seat_parts a) (seat_parts b)
+        (decimal_lacks 44 refl place) (seat_parts_fit a p) (seat_parts_fit b q) e)
 
 -- what joined items have behind the first: nothing, or a comma and the joined rest
 abbrev behind : List (List ℕ) → List ℕ
@@ -59,7 +61,8 @@ same_from place (x ∷ a) (y ∷ b) p q e =
     let cut = same_until 93 (json_words place x) (json_words place y) (behind (jsons_from (place + 1) a)) (behind (jsons_from (place + 1) b))
     (json_lacks_bracket place x fits) (json_lacks_bracket place y fits') inside in
     let first : x ≡ y = same_json place x y fits fits' cut.0 in
-    let rest : a ≡ b = same_from (place + 1) a b (All-tail Fits x a p) (All-tail Fits y b q) (same_behind (jsons_from (place + 1) a) (jsons_from (place + 1) b) cut.1) in
+    let rest : a ≡ b = same_from (place + 1) a b (All-tail Fits x a p) (All-tail Fits y b q)
+        (same_behind (jsons_from (place + 1) a) (jsons_from (place + 1) b) cut.1) in
     cc
 
 -- the whole form tells the history

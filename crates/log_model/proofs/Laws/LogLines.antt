@@ -33,9 +33,11 @@ line_words place e = join_with_byte 32 (map shown (entry_parts place e))
 
 -- it has no line feed
 pub line_lacks_feed : (place : ℕ) (e : Entry) → Fits e → Lacks 10 (line_words place e)
-line_lacks_feed place e h = joined_parts_lack shown 10 32 (λ same. omega arith) (shown_lacks 10 refl) (decimal place) (seat_parts e) (decimal_lacks 10 refl place) (seat_parts_fit e h)
+line_lacks_feed place e h = joined_parts_lack shown 10 32 (λ same. omega arith) (shown_lacks 10 refl) (decimal place) (seat_parts e)
+    (decimal_lacks 10 refl place) (seat_parts_fit e h)
 
 -- at its place it tells the entry
 pub same_line : (place : ℕ) (a b : Entry) → Fits a → Fits b → line_words place a ≡ line_words place b → a ≡ b
 same_line place a b p q e = same_entry a b
-    (same_joined shown 32 (shown_lacks 32 refl) same_shown (decimal place) (seat_parts a) (seat_parts b) (decimal_lacks 32 refl place) (seat_parts_fit a p) (seat_parts_fit b q) e)
+    (same_joined shown 32 (shown_lacks 32 refl) same_shown (decimal place) (seat_parts a) (seat_parts b) (decimal_lacks 32 refl place) (seat_parts_fit a p)
+        (seat_parts_fit b q) e)

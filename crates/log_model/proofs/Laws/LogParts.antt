@@ -54,7 +54,8 @@ abbrev policy_read : List Part → ℕ → Policy
 policy_read parts k = if says parts k (codes "all") then All else if says parts k (codes "none") then Nothing else Foreground
 
 abbrev reply_read : List Part → ℕ → JobReply
-reply_read parts k = if says parts k (codes "refused") then replies.Refused else if says parts k (codes "done") then replies.Finished (value_at parts (k + 1)) else if says parts k (codes "cancelled") then replies.Cancelled else replies.Stopped
+reply_read parts k = if says parts k (codes "refused") then replies.Refused else if says parts k (codes "done") then replies.Finished
+    (value_at parts (k + 1)) else if says parts k (codes "cancelled") then replies.Cancelled else replies.Stopped
 
 abbrev next_read : List Part → ℕ → Option ℕ
 next_read parts k = if says parts k (codes "-") then None else Some (value_at parts k)
@@ -169,7 +170,8 @@ digits_onto_digits : (k n : ℕ) (acc : List ℕ) → AllByRecursion IsDigit acc
 digits_onto_digits zero n acc h = h
 digits_onto_digits (suc k) n acc h =
     let more : AllByRecursion IsDigit (digit_glyph false (n % 10) ∷ acc) = (digit_glyph_is_digit (n % 10) (omega arith), h) in
-    elim (n / 10 == 0) as (λ last. AllByRecursion IsDigit (if last then digit_glyph false (n % 10) ∷ acc else digits_onto k 10 false (n / 10) (digit_glyph false (n % 10) ∷ acc))) [
+    elim (n / 10 == 0) as (λ last. AllByRecursion IsDigit (if last then digit_glyph false (n % 10) ∷ acc else digits_onto k 10 false (n / 10)
+        (digit_glyph false (n % 10) ∷ acc))) [
       | true ↦ more
       | false ↦ digits_onto_digits k (n / 10) (digit_glyph false (n % 10) ∷ acc) more
     ]
@@ -227,7 +229,8 @@ name_is_no_number bytes n h e =
 -- a word in JSON is no number: no digit is a quotation mark
 quoted_is_no_number : (bytes : List ℕ) (n : ℕ) → 34 ∷ bytes ++ 34 ∷ [] ≢ decimal n
 quoted_is_no_number bytes n e =
-    let digits : list_all is_digit (34 ∷ bytes ++ 34 ∷ []) ≡ true = ap (list_all is_digit) e ∙ digits_pass is_digit digit_passes (decimal n) (decimal_is_digits n) in
+    let digits : list_all is_digit (34 ∷ bytes ++ 34 ∷ []) ≡ true = ap (list_all is_digit) e
+        ∙ digits_pass is_digit digit_passes (decimal n) (decimal_is_digits n) in
     let clash : false ≡ true = digits in
     cc
 
@@ -247,7 +250,8 @@ same_shown_json (number m) (word y) p q e = absurd (quoted_is_no_number y m (sym
 same_shown_json (number m) (number n) p q e = ap number (decimal_injective m n p q e)
 
 -- parts are told by what each of them is written as
-same_parts : (show : Part → List ℕ) → ((a b : Part) → PartFits a → PartFits b → show a ≡ show b → a ≡ b) → (xs ys : List Part) → AllByRecursion PartFits xs → AllByRecursion PartFits ys → map show xs ≡ map show ys → xs ≡ ys
+same_parts : (show : Part → List ℕ) → ((a b : Part) → PartFits a → PartFits b → show a ≡ show b → a ≡ b) → (xs ys : List Part) → AllByRecursion PartFits xs
+    → AllByRecursion PartFits ys → map show xs ≡ map show ys → xs ≡ ys
 same_parts show same [] [] p q e = refl
 same_parts show same [] (y ∷ ys) p q e = cc
 same_parts show same (x ∷ xs) [] p q e = cc
@@ -259,15 +263,19 @@ same_parts show same (x ∷ xs) (y ∷ ys) p q e =
     cc
 
 -- what parts are written as lacks a byte that no part has
-parts_lack : (show : Part → List ℕ) (c : ℕ) → ((part : Part) → PartFits part → Lacks c (show part)) → (xs : List Part) → AllByRecursion PartFits xs → AllByRecursion (Lacks c) (map show xs)
+parts_lack : (show : Part → List ℕ) (c : ℕ) → ((part : Part) → PartFits part → Lacks c (show part)) → (xs : List Part) → AllByRecursion PartFits xs
+    → AllByRecursion (Lacks c) (map show xs)
 parts_lack show c lacks [] h = tt
 parts_lack show c lacks (x ∷ xs) h = (lacks x h.0, parts_lack show c lacks xs h.1)
 
 -- a text that is joined of one first piece and of parts tells the parts
-pub same_joined : (show : Part → List ℕ) (c : ℕ) → ((part : Part) → PartFits part → Lacks c (show part)) → ((a b : Part) → PartFits a → PartFits b → show a ≡ show b → a ≡ b)
-    → (first : List ℕ) (xs ys : List Part) → Lacks c first → AllByRecursion PartFits xs → AllByRecursion PartFits ys → join_with_byte c (first ∷ map show xs) ≡ join_with_byte c (first ∷ map show ys) → xs ≡ ys
+pub same_joined : (show : Part → List ℕ) (c : ℕ) → ((part : Part) → PartFits part → Lacks c (show part))
+    → ((a b : Part) → PartFits a → PartFits b → show a ≡ show b → a ≡ b)
+    → (first : List ℕ) (xs ys : List Part) → Lacks c first → AllByRecursion PartFits xs → AllByRecursion PartFits ys
+        → join_with_byte c (first ∷ map show xs) ≡ join_with_byte c (first ∷ map show ys) → xs ≡ ys
 same_joined show c lacks same first xs ys l p q e =
-    let pieces : first ∷ map show xs ≡ first ∷ map show ys = same_pieces c first first (map show xs) (map show ys) (l, parts_lack show c lacks xs p) (l, parts_lack show c lacks ys q) e in
+    let pieces : first ∷ map show xs ≡ first ∷ map show ys = same_pieces c first first (map show xs) (map show ys) (l, parts_lack show c lacks xs p)
+        (l, parts_lack show c lacks ys q) e in
     let tails : map show xs ≡ map show ys = cc in
     same_parts show same xs ys p q tails
 
@@ -278,5 +286,6 @@ joined_lacks c d (piece ∷ []) out h = h.0
 joined_lacks c d (piece ∷ next ∷ pieces) out h = Lacks-append c piece (d ∷ join_with_byte d (next ∷ pieces)) h.0 (out, joined_lacks c d (next ∷ pieces) out h.1)
 
 -- a text that is joined of one first piece and of parts lacks a byte that none of them has
-pub joined_parts_lack : (show : Part → List ℕ) (c d : ℕ) → d ≢ c → ((part : Part) → PartFits part → Lacks c (show part)) → (first : List ℕ) (xs : List Part) → Lacks c first → AllByRecursion PartFits xs → Lacks c (join_with_byte d (first ∷ map show xs))
+pub joined_parts_lack : (show : Part → List ℕ) (c d : ℕ) → d ≢ c → ((part : Part) → PartFits part → Lacks c (show part)) → (first : List ℕ) (xs : List Part)
+    → Lacks c first → AllByRecursion PartFits xs → Lacks c (join_with_byte d (first ∷ map show xs))
 joined_parts_lack show c d out lacks first xs l h = joined_lacks c d (first ∷ map show xs) out (l, parts_lack show c lacks xs h)

@@ -30,7 +30,8 @@ not_parted c (a ∷ x) [] s p e = p.0 cc
 not_parted c (a ∷ x) (b ∷ y) s p e = not_parted c x y s p.1 cc
 
 -- the joined text of one or more pieces that lack the byte tells the pieces
-pub same_pieces : (c : ℕ) (x y : List ℕ) (xs ys : List (List ℕ)) → AllByRecursion (Lacks c) (x ∷ xs) → AllByRecursion (Lacks c) (y ∷ ys) → join_with_byte c (x ∷ xs) ≡ join_with_byte c (y ∷ ys) → x ∷ xs ≡ y ∷ ys
+pub same_pieces : (c : ℕ) (x y : List ℕ) (xs ys : List (List ℕ)) → AllByRecursion (Lacks c) (x ∷ xs) → AllByRecursion (Lacks c) (y ∷ ys)
+    → join_with_byte c (x ∷ xs) ≡ join_with_byte c (y ∷ ys) → x ∷ xs ≡ y ∷ ys
 same_pieces c x y [] [] p q e = ap (λ piece. piece ∷ []) e
 same_pieces c x y [] (v ∷ ys) p q e = absurd (not_parted c x y (join_with_byte c (v ∷ ys)) p.0 e)
 same_pieces c x y (u ∷ xs) [] p q e = absurd (not_parted c y x (join_with_byte c (u ∷ xs)) q.0 (sym e))

@@ -20,10 +20,12 @@ use Rattle.list_laws.specs.Lists.{least}
 use Rattle.task_model.specs.Past.{fold_past, fold_past_from}
 use Rattle.task_model.specs.Time.{tick_from}
 use Rattle.task_model.specs.Posts.{Posted, is_delayed, post_behind, posted_by, posts}
-use Rattle.task_model.specs.Keys.{Ready, key_at, key_of, key_below, ready}
-use Rattle.task_model.specs.Sequences.{sequence_of, is_of, may_start, eligible, head_of, sequence_count}
+use Rattle.task_model.specs.Keys.{Ready, key_at, key_of, ready}
+use Rattle.task_base.specs.Keys.{key_below}
+use Rattle.task_base.specs.Runners.{sequence_of, sequence_count}
+use Rattle.task_model.specs.Sequences.{is_of, may_start, eligible, head_of}
 use Rattle.task_model.specs.Seats.{runs_sequence}
-use Rattle.task_model.specs.Capacity.{importance}
+use Rattle.task_base.specs.Groups.{importance}
 use Rattle.task_model.specs.Jobs.{JobPosted, job_post_of, job_post_after, may_enter}
 use Rattle.task_model.specs.Sources.{Candidate, sequence_candidate, job_candidate, waiting, is_takeable, goes_before, best_of, IsWaiting}
 use Rattle.pool_laws.specs.Keys.{ready_below}
@@ -43,10 +45,12 @@ pub get_here : {A : Type 0} (xs : List A) (y : A) → slice_get (xs ++ y ∷ [])
 get_here [] y = refl
 get_here (x ∷ xs) y = get_here xs y
 
-source_more : (script : Plan) (past more : List Entry) (place : ℕ) (source : TaskSource) → source_at script past place ≡ Some source → source_at script (past ++ more) place ≡ Some source
+source_more : (script : Plan) (past more : List Entry) (place : ℕ) (source : TaskSource) → source_at script past place ≡ Some source
+    → source_at script (past ++ more) place ≡ Some source
 source_more script past more place source h = by (slice_get past place) refl h
   where
-    by : (o : Option Entry) → slice_get past place ≡ o → option_and_then (λ e. posted_source script e.kind) o ≡ Some source → source_at script (past ++ more) place ≡ Some source
+    by : (o : Option Entry) → slice_get past place ≡ o → option_and_then (λ e. posted_source script e.kind) o ≡ Some source
+        → source_at script (past ++ more) place ≡ Some source
     by None is none = absurd (none-some source none)
     by (Some e) is some = ap (option_and_then (λ x. posted_source script x.kind)) (get_more past more place e is) ∙ some
 
@@ -57,10 +61,14 @@ source_here script past e = ap (option_and_then (λ x. posted_source script x.ki
 abbrev stands : Plan → List Entry → Posted → Type 0
 stands script past p = source_at script past p.place ≡ Some (Sequence (sequence_of script p.home p.task))
 
-posts_from : (P : List Entry → Posted → Type 0) → ((past : List Entry) (e : Entry) (p : Posted) → P past p → P (past ++ e ∷ []) p) → ((past : List Entry) (e : Entry) (task runner delay : ℕ) → e.kind ≡ Post task runner delay true → P (past ++ e ∷ []) (post_behind past task runner delay)) → (before : List Entry) (known : List Posted) (rest : List Entry) → AllByRecursion (P before) known → AllByRecursion (P (before ++ rest)) (fold_past_from (λ b k x. k ++ posted_by b x.kind) before known rest)
+posts_from : (P : List Entry → Posted → Type 0) → ((past : List Entry) (e : Entry) (p : Posted) → P past p → P (past ++ e ∷ []) p)
+    → ((past : List Entry) (e : Entry) (task runner delay : ℕ) → e.kind ≡ Post task runner delay true
+    → P (past ++ e ∷ []) (post_behind past task runner delay)) → (before : List Entry) (known : List Posted) (rest : List Entry)
+    → AllByRecursion (P before) known → AllByRecursion (P (before ++ rest)) (fold_past_from (λ b k x. k ++ posted_by b x.kind) before known rest)
 posts_from P more new before known [] all = subst (λ b. AllByRecursion (P b) known) (sym (append-nil before)) all
 posts_from P more new before known (x ∷ rest) all =
-    subst (λ b. AllByRecursion (P b) (fold_past_from (λ c k y. k ++ posted_by c y.kind) (before ++ x ∷ []) (known ++ posted_by before x.kind) rest)) (append_assoc before (x ∷ []) rest)
+    subst (λ b. AllByRecursion (P b) (fold_past_from (λ c k y. k ++ posted_by c y.kind) (before ++ x ∷ []) (known ++ posted_by before x.kind) rest))
+        (append_assoc before (x ∷ []) rest)
     (posts_from P more new (before ++ x ∷ []) (known ++ posted_by before x.kind) rest
     (AllByRecursion-append (P (before ++ x ∷ [])) known (posted_by before x.kind)
     (AllByRecursion-map (P before) (P (before ++ x ∷ [])) known (λ p h. more before x p h) all)
@@ -71,7 +79,9 @@ posts_from P more new before known (x ∷ rest) all =
     added kind is = tt
 
 -- what holds of each accepted task from its post on
-pub AllByRecursion-posts : (P : List Entry → Posted → Type 0) → ((past : List Entry) (e : Entry) (p : Posted) → P past p → P (past ++ e ∷ []) p) → ((past : List Entry) (e : Entry) (task runner delay : ℕ) → e.kind ≡ Post task runner delay true → P (past ++ e ∷ []) (post_behind past task runner delay)) → (past : List Entry) → AllByRecursion (P past) (posts past)
+pub AllByRecursion-posts : (P : List Entry → Posted → Type 0) → ((past : List Entry) (e : Entry) (p : Posted) → P past p → P (past ++ e ∷ []) p)
+    → ((past : List Entry) (e : Entry) (task runner delay : ℕ) → e.kind ≡ Post task runner delay true
+    → P (past ++ e ∷ []) (post_behind past task runner delay)) → (past : List Entry) → AllByRecursion (P past) (posts past)
 unfolding posts fold_past
 AllByRecursion-posts P more new past = posts_from P more new [] [] past tt
 
@@ -89,18 +99,24 @@ ready_stand : (script : Plan) (past : List Entry) → AllByRecursion (key_stands
 unfolding ready
 ready_stand script past =
     AllByRecursion-filter_map (key_stands script past) (λ p. option_map (λ key. record { posted = p; key = key }) (key_of past p)) (posts past)
-    (AllByRecursion-map (stands script past) (λ p. IfSome (option_map (λ key. record { posted = p; key = key }) (key_of past p)) (key_stands script past)) (posts past) (λ p h. made p h (is_delayed p) (tick_from past p.ripe)) (posts_stand script past))
+    (AllByRecursion-map (stands script past) (λ p. IfSome (option_map (λ key. record { posted = p; key = key }) (key_of past p)) (key_stands script past))
+        (posts past) (λ p h. made p h (is_delayed p) (tick_from past p.ripe)) (posts_stand script past))
   where
-    made : (p : Posted) → stands script past p → (b : Bool) (o : Option ℕ) → IfSome (option_map (λ key. record { posted = p; key = key }) (cond b (option_map (λ place. record { place = place; ripe = p.ripe; post = p.place }) o) (Some (key_at p.place)))) (key_stands script past)
+    made : (p : Posted) → stands script past p → (b : Bool) (o : Option ℕ)
+        → IfSome (option_map (λ key. record { posted = p; key = key })
+        (cond b (option_map (λ place. record { place = place; ripe = p.ripe; post = p.place }) o) (Some (key_at p.place)))) (key_stands script past)
     made p h false o = h
     made p h true None = tt
     made p h true (Some n) = h
 
-eligible_stand : (script : Plan) (past : List Entry) (s : ℕ) → AllByRecursion (λ r. source_at script past r.key.post ≡ Some (Sequence s)) (eligible script past s)
+eligible_stand : (script : Plan) (past : List Entry) (s : ℕ)
+    → AllByRecursion (λ r. source_at script past r.key.post ≡ Some (Sequence s)) (eligible script past s)
 unfolding eligible
 eligible_stand script past s =
-    AllByRecursion-map (λ r. key_stands script past r × ((is_of script s r.posted && may_start script past r.posted) ≡ true)) (λ r. source_at script past r.key.post ≡ Some (Sequence s)) (eligible script past s)
-    (λ r parts. parts.0 ∙ ap (λ n. Some (Sequence n)) (eqb-true (sequence_of script r.posted.home r.posted.task) s (and_parts (is_of script s r.posted) (may_start script past r.posted) parts.1).0))
+    AllByRecursion-map (λ r. key_stands script past r × ((is_of script s r.posted && may_start script past r.posted) ≡ true))
+        (λ r. source_at script past r.key.post ≡ Some (Sequence s)) (eligible script past s)
+    (λ r parts. parts.0 ∙ ap (λ n. Some (Sequence n)) (eqb-true (sequence_of script r.posted.home r.posted.task) s
+        (and_parts (is_of script s r.posted) (may_start script past r.posted) parts.1).0))
     (AllByRecursion-both (key_stands script past) (λ r. (is_of script s r.posted && may_start script past r.posted) ≡ true) (eligible script past s)
     (AllByRecursion-filter (key_stands script past) (λ r. is_of script s r.posted && may_start script past r.posted) (ready past) (ready_stand script past))
     (filter_passes (λ r. is_of script s r.posted && may_start script past r.posted) (ready past)))
@@ -109,25 +125,31 @@ head_stands : (script : Plan) (past : List Entry) (s : ℕ) (r : Ready) → head
 unfolding head_of
 head_stands script past s r is = by (eligible script past s) (eligible_stand script past s) is
   where
-    by : (xs : List Ready) → AllByRecursion (λ x. source_at script past x.key.post ≡ Some (Sequence s)) xs → least ready_below xs ≡ Some r → source_at script past r.key.post ≡ Some (Sequence s)
+    by : (xs : List Ready) → AllByRecursion (λ x. source_at script past x.key.post ≡ Some (Sequence s)) xs → least ready_below xs ≡ Some r
+        → source_at script past r.key.post ≡ Some (Sequence s)
     by [] all none = absurd (none-some r none)
-    by (x ∷ xs) all some = subst (λ y. source_at script past y.key.post ≡ Some (Sequence s)) (some-injective some) (least_from-is (λ y. source_at script past y.key.post ≡ Some (Sequence s)) ready_below x xs all.0 all.1)
+    by (x ∷ xs) all some = subst (λ y. source_at script past y.key.post ≡ Some (Sequence s)) (some-injective some)
+        (least_from-is (λ y. source_at script past y.key.post ≡ Some (Sequence s)) ready_below x xs all.0 all.1)
 
 -- the post of a job stands at its place
 abbrev job_stands : Plan → List Entry → ℕ → JobPosted → Type 0
 job_stands script past j p = source_at script past p.place ≡ Some (Job j)
 
-job_from : (script : Plan) (j : ℕ) (before : List Entry) (now : Option JobPosted) (rest : List Entry) → IfSome now (job_stands script before j) → IfSome (fold_past_from (λ b k x. job_post_after j b k x.kind) before now rest) (job_stands script (before ++ rest) j)
+job_from : (script : Plan) (j : ℕ) (before : List Entry) (now : Option JobPosted) (rest : List Entry) → IfSome now (job_stands script before j)
+    → IfSome (fold_past_from (λ b k x. job_post_after j b k x.kind) before now rest) (job_stands script (before ++ rest) j)
 job_from script j before now [] h = subst (λ b. IfSome now (job_stands script b j)) (sym (append-nil before)) h
 job_from script j before now (x ∷ rest) h =
-    subst (λ b. IfSome (fold_past_from (λ c k y. job_post_after j c k y.kind) (before ++ x ∷ []) (job_post_after j before now x.kind) rest) (job_stands script b j)) (append_assoc before (x ∷ []) rest)
+    subst (λ b. IfSome (fold_past_from (λ c k y. job_post_after j c k y.kind) (before ++ x ∷ []) (job_post_after j before now x.kind) rest)
+        (job_stands script b j)) (append_assoc before (x ∷ []) rest)
     (job_from script j (before ++ x ∷ []) (job_post_after j before now x.kind) rest (new now h x.kind refl))
   where
-    first : (job : ℕ) (ok : Bool) → x.kind ≡ JobPost job ok → (b : Bool) → eqb job j ≡ b → IfSome (cond b (Some (record { place = length before; ok = ok })) None) (job_stands script (before ++ x ∷ []) j)
+    first : (job : ℕ) (ok : Bool) → x.kind ≡ JobPost job ok → (b : Bool) → eqb job j ≡ b
+        → IfSome (cond b (Some (record { place = length before; ok = ok })) None) (job_stands script (before ++ x ∷ []) j)
     first job ok is true same = source_here script before x ∙ ap (posted_source script) is ∙ ap (λ n. Some (Job n)) (eqb-true job j same)
     first job ok is false other = tt
 
-    new : (o : Option JobPosted) → IfSome o (job_stands script before j) → (kind : Kind) → x.kind ≡ kind → IfSome (job_post_after j before o kind) (job_stands script (before ++ x ∷ []) j)
+    new : (o : Option JobPosted) → IfSome o (job_stands script before j) → (kind : Kind) → x.kind ≡ kind
+        → IfSome (job_post_after j before o kind) (job_stands script (before ++ x ∷ []) j)
     new None k (JobPost job ok) is = first job ok is (eqb job j) refl
     new None k kind is = tt
     new (Some p) k kind is = source_more script before (x ∷ []) p.place (Job j) k
@@ -137,17 +159,21 @@ unfolding job_post_of fold_past
 job_post_stands script past j = job_from script j [] None past tt
 
 -- the key of what waits names the post of it, or of its head, and so its source
-pub key_is_of_source : (script : Plan) (past : List Entry) (source : TaskSource) (c : Candidate) → source_waiting script past source ≡ Some c → source_at script past c.key.post ≡ Some source
+pub key_is_of_source : (script : Plan) (past : List Entry) (source : TaskSource) (c : Candidate) → source_waiting script past source ≡ Some c
+    → source_at script past c.key.post ≡ Some source
 key_is_of_source script past (Sequence s) c is = by (nat_lt s (sequence_count script)) (runs_sequence script past s) (head_of script past s) refl is
   where
-    by : (a b : Bool) (o : Option Ready) → head_of script past s ≡ o → cond a (cond b None (option_map (sequence_candidate script s) o)) None ≡ Some c → source_at script past c.key.post ≡ Some (Sequence s)
+    by : (a b : Bool) (o : Option Ready) → head_of script past s ≡ o → cond a (cond b None (option_map (sequence_candidate script s) o)) None ≡ Some c
+        → source_at script past c.key.post ≡ Some (Sequence s)
     by false b o head none = absurd (none-some c none)
     by true true o head none = absurd (none-some c none)
     by true false None head none = absurd (none-some c none)
-    by true false (Some r) head some = subst (λ d. source_at script past d.key.post ≡ Some (Sequence s)) (some-injective some) (head_stands script past s r head)
+    by true false (Some r) head some = subst (λ d. source_at script past d.key.post ≡ Some (Sequence s)) (some-injective some)
+        (head_stands script past s r head)
 key_is_of_source script past (Job j) c is = by (nat_lt j (length script.jobs)) (may_enter script past j) (job_post_of past j) (job_post_stands script past j) is
   where
-    by : (a b : Bool) (o : Option JobPosted) → IfSome o (job_stands script past j) → cond a (cond b (option_map (job_candidate script past j) o) None) None ≡ Some c → source_at script past c.key.post ≡ Some (Job j)
+    by : (a b : Bool) (o : Option JobPosted) → IfSome o (job_stands script past j)
+        → cond a (cond b (option_map (job_candidate script past j) o) None) None ≡ Some c → source_at script past c.key.post ≡ Some (Job j)
     by false b o h none = absurd (none-some c none)
     by true false o h none = absurd (none-some c none)
     by true true None h none = absurd (none-some c none)
@@ -164,7 +190,8 @@ one_key script past c d waits also same =
     second = (waiting_is_free script past d also).candidate
 
     sources : c.source ≡ d.source
-    sources = some-injective (sym (key_is_of_source script past c.source c first) ∙ ap (λ key. source_at script past key.post) same ∙ key_is_of_source script past d.source d second)
+    sources = some-injective (sym (key_is_of_source script past c.source c first) ∙ ap (λ key. source_at script past key.post) same
+        ∙ key_is_of_source script past d.source d second)
 
 -- The best.
 
@@ -182,9 +209,12 @@ untied m n x y h k = by (cases_order m n)
 
 tied_keys : (a b : Candidate) → goes_before a b ≡ false → goes_before b a ≡ false → a.key ≡ b.key
 tied_keys a b h k =
-    let outer : ((nat_lt a.inside b.inside || (eqb a.inside b.inside && key_below a.key b.key)) ≡ false) × ((nat_lt b.inside a.inside || (eqb b.inside a.inside && key_below b.key a.key)) ≡ false) =
-    untied (importance a.priority) (importance b.priority) (nat_lt a.inside b.inside || (eqb a.inside b.inside && key_below a.key b.key)) (nat_lt b.inside a.inside || (eqb b.inside a.inside && key_below b.key a.key)) h k in
-    let inner : (key_below a.key b.key ≡ false) × (key_below b.key a.key ≡ false) = untied b.inside a.inside (key_below a.key b.key) (key_below b.key a.key) outer.0 outer.1 in
+    let outer : ((nat_lt a.inside b.inside || (eqb a.inside b.inside && key_below a.key b.key)) ≡ false)
+        × ((nat_lt b.inside a.inside || (eqb b.inside a.inside && key_below b.key a.key)) ≡ false) =
+    untied (importance a.priority) (importance b.priority) (nat_lt a.inside b.inside || (eqb a.inside b.inside && key_below a.key b.key))
+        (nat_lt b.inside a.inside || (eqb b.inside a.inside && key_below b.key a.key)) h k in
+    let inner : (key_below a.key b.key ≡ false) × (key_below b.key a.key ≡ false) = untied b.inside a.inside (key_below a.key b.key)
+        (key_below b.key a.key) outer.0 outer.1 in
     keys_total a.key b.key inner.0 inner.1
 
 -- what may be taken, and has none before it, is the best
@@ -192,10 +222,13 @@ pub only_best : (script : Plan) (past : List Entry) (seat : ℕ) (c : Candidate)
 only_best script past seat c best = by (best_of script past seat) refl
   where
     by : (o : Option Candidate) → best_of script past seat ≡ o → o ≡ Some c
-    by None is = absurd (true≢false (sym best.takeable.1 ∙ All-contains (λ d. is_takeable script past seat d ≡ false) (waiting script past) c (no_best script past seat is) best.takeable.0))
+    by None is = absurd (true≢false (sym best.takeable.1 ∙ All-contains (λ d. is_takeable script past seat d ≡ false) (waiting script past) c
+        (no_best script past seat is) best.takeable.0))
     by (Some d) is =
         let other : IsBest script past seat d = best_is_best script past seat d is in
         ap Some (one_key script past d c other.takeable.0 best.takeable.0
         (tied_keys d c
-        (All-contains (λ x. is_takeable script past seat x ≡ true → goes_before x c ≡ false) (waiting script past) d best.none_before other.takeable.0 other.takeable.1)
-        (All-contains (λ x. is_takeable script past seat x ≡ true → goes_before x d ≡ false) (waiting script past) c other.none_before best.takeable.0 best.takeable.1)))
+        (All-contains (λ x. is_takeable script past seat x ≡ true → goes_before x c ≡ false)
+            (waiting script past) d best.none_before other.takeable.0 other.takeable.1)
+        (All-contains (λ x. is_takeable script past seat x ≡ true → goes_before x d ≡ false)
+            (waiting script past) c other.none_before best.takeable.0 best.takeable.1)))

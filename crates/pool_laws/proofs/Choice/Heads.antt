@@ -50,7 +50,8 @@ post_at past place = option_and_then (λ e. post_by (take place past) e.kind) (s
 post_more : (past : List Entry) (e : Entry) (place : ℕ) (p : Posted) → post_at past place ≡ Some p → post_at (past ++ e ∷ []) place ≡ Some p
 post_more past e place p h = by (slice_get past place) refl h
   where
-    by : (o : Option Entry) → slice_get past place ≡ o → option_and_then (λ x. post_by (take place past) x.kind) o ≡ Some p → post_at (past ++ e ∷ []) place ≡ Some p
+    by : (o : Option Entry) → slice_get past place ≡ o → option_and_then (λ x. post_by (take place past) x.kind) o ≡ Some p
+        → post_at (past ++ e ∷ []) place ≡ Some p
     by None is none = absurd (none-some p none)
     by (Some y) is some =
         ap (option_and_then (λ x. post_by (take place (past ++ e ∷ [])) x.kind)) (get_more past (e ∷ []) place y is)
@@ -75,9 +76,12 @@ ready_at : (past : List Entry) → AllByRecursion (placed past) (ready past)
 unfolding ready
 ready_at past =
     AllByRecursion-filter_map (placed past) (λ p. option_map (λ key. record { posted = p; key = key }) (key_of past p)) (posts past)
-    (AllByRecursion-map (λ p. post_at past p.place ≡ Some p) (λ p. IfSome (option_map (λ key. record { posted = p; key = key }) (key_of past p)) (placed past)) (posts past) (λ p h. made p h (is_delayed p) (tick_from past p.ripe)) (posts_at past))
+    (AllByRecursion-map (λ p. post_at past p.place ≡ Some p) (λ p. IfSome (option_map (λ key. record { posted = p; key = key }) (key_of past p)) (placed past))
+        (posts past) (λ p h. made p h (is_delayed p) (tick_from past p.ripe)) (posts_at past))
   where
-    made : (p : Posted) → post_at past p.place ≡ Some p → (b : Bool) (o : Option ℕ) → IfSome (option_map (λ key. record { posted = p; key = key }) (cond b (option_map (λ place. record { place = place; ripe = p.ripe; post = p.place }) o) (Some (key_at p.place)))) (placed past)
+    made : (p : Posted) → post_at past p.place ≡ Some p → (b : Bool) (o : Option ℕ)
+        → IfSome (option_map (λ key. record { posted = p; key = key })
+        (cond b (option_map (λ place. record { place = place; ripe = p.ripe; post = p.place }) o) (Some (key_at p.place)))) (placed past)
     made p h false o = h
     made p h true None = tt
     made p h true (Some n) = h
@@ -86,7 +90,8 @@ eligible_at : (script : Plan) (past : List Entry) (s : ℕ) → AllByRecursion (
 unfolding eligible
 eligible_at script past s = AllByRecursion-filter (placed past) (λ r. is_of script s r.posted && may_start script past r.posted) (ready past) (ready_at past)
 
-pub one_ready : (script : Plan) (past : List Entry) (s : ℕ) (r q : Ready) → Contains (eligible script past s) r → Contains (eligible script past s) q → r.key ≡ q.key → r ≡ q
+pub one_ready : (script : Plan) (past : List Entry) (s : ℕ) (r q : Ready) → Contains (eligible script past s) r → Contains (eligible script past s) q
+    → r.key ≡ q.key → r ≡ q
 one_ready script past s r q one other same =
     ap (λ p. record { posted = p; key = r.key }) posted
     ∙ ap (λ k. record { posted = q.posted; key = k }) same
@@ -116,9 +121,11 @@ only_head script past s r is = by (head_of script past s) refl
         (All-contains (λ y. ready_below y q ≡ false) (eligible script past s) r other.none_below is.member)))
 
 -- a head that the start of shutdown does not forbid stays
-pub head_stays_at_shutdown : (script : Plan) (past : List Entry) (e : Entry) (s : ℕ) (r : Ready) → e.kind ≡ kinds.Shutdown → head_of script past s ≡ Some r → is_forbidden script (past ++ e ∷ []) r.posted ≡ false
+pub head_stays_at_shutdown : (script : Plan) (past : List Entry) (e : Entry) (s : ℕ) (r : Ready) → e.kind ≡ kinds.Shutdown → head_of script past s ≡ Some r
+    → is_forbidden script (past ++ e ∷ []) r.posted ≡ false
     → head_of script (past ++ e ∷ []) s ≡ Some r
-head_stays_at_shutdown script past e s r is head allowed = only_head script (past ++ e ∷ []) s r (subst (λ xs. IsLeast ready_below xs r) (sym (eligible_at_shutdown script past e s is)) kept)
+head_stays_at_shutdown script past e s r is head allowed = only_head script (past ++ e ∷ []) s r
+    (subst (λ xs. IsLeast ready_below xs r) (sym (eligible_at_shutdown script past e s is)) kept)
   where
     least_was : IsLeast ready_below (eligible script past s) r
     least_was = head_is_least script past s r head
@@ -126,10 +133,14 @@ head_stays_at_shutdown script past e s r is head allowed = only_head script (pas
     kept : IsLeast ready_below (filter (λ x. not (is_forbidden script (past ++ e ∷ []) x.posted)) (eligible script past s)) r
     kept = record {
       member = contains_filter (λ x. not (is_forbidden script (past ++ e ∷ []) x.posted)) (eligible script past s) r least_was.member (ap not allowed);
-      none_below = All-from_recursion (λ y. ready_below y r ≡ false) (filter (λ x. not (is_forbidden script (past ++ e ∷ []) x.posted)) (eligible script past s))
-          (AllByRecursion-filter (λ y. ready_below y r ≡ false) (λ x. not (is_forbidden script (past ++ e ∷ []) x.posted)) (eligible script past s) (recursion_from_All (λ y. ready_below y r ≡ false) (eligible script past s) least_was.none_below));
+      none_below = All-from_recursion (λ y. ready_below y r ≡ false)
+          (filter (λ x. not (is_forbidden script (past ++ e ∷ []) x.posted)) (eligible script past s))
+          (AllByRecursion-filter (λ y. ready_below y r ≡ false) (λ x. not (is_forbidden script (past ++ e ∷ []) x.posted)) (eligible script past s)
+              (recursion_from_All (λ y. ready_below y r ≡ false) (eligible script past s) least_was.none_below));
     }
 
-pub sequence_waiting_stays_at_shutdown : (script : Plan) (past : List Entry) (e : Entry) (s : ℕ) (r : Ready) → e.kind ≡ kinds.Shutdown → head_of script past s ≡ Some r → is_forbidden script (past ++ e ∷ []) r.posted ≡ false
+pub sequence_waiting_stays_at_shutdown : (script : Plan) (past : List Entry) (e : Entry) (s : ℕ) (r : Ready) → e.kind ≡ kinds.Shutdown
+    → head_of script past s ≡ Some r → is_forbidden script (past ++ e ∷ []) r.posted ≡ false
     → sequence_waiting script (past ++ e ∷ []) s ≡ sequence_waiting script past s
-sequence_waiting_stays_at_shutdown script past e s r is head allowed = sequence_waiting_kept script past (past ++ e ∷ []) s (runs_same script past e s (ap moves_running is)) (head_stays_at_shutdown script past e s r is head allowed ∙ sym head)
+sequence_waiting_stays_at_shutdown script past e s r is head allowed = sequence_waiting_kept script past (past ++ e ∷ []) s
+    (runs_same script past e s (ap moves_running is)) (head_stays_at_shutdown script past e s r is head allowed ∙ sym head)

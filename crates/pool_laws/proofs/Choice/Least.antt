@@ -15,9 +15,10 @@ use Rattle.task_base.specs.declared.source.Key.{Key}
 use Rattle.task_traits.specs.declared.traits.Priority.{Priority}
 use Rattle.task_traits.specs.declared.traits.Priority.TheVariants.{BestEffort, UserVisible, UserBlocking}
 use Rattle.list_laws.specs.Lists.{least, IsLeast}
-use Rattle.task_model.specs.Keys.{key_below, Ready}
+use Rattle.task_base.specs.Keys.{key_below}
+use Rattle.task_model.specs.Keys.{Ready}
 use Rattle.task_model.specs.Sequences.{eligible, head_of}
-use Rattle.task_model.specs.Capacity.{importance}
+use Rattle.task_base.specs.Groups.{importance}
 use Rattle.task_model.specs.Sources.{Candidate, waiting, is_takeable, goes_before, best_of}
 use Rattle.pool_laws.specs.Keys.{ready_below}
 use Rattle.pool_laws.specs.Choice.{IsBest}
@@ -28,7 +29,8 @@ use Rattle.list_laws.proofs.Least.{Ranks, least_is_least, no_least, ranks_by, th
 
 -- by keys
 pub ranks_key : {A : Type 0} (key : A → Key) → Ranks (λ a b. key_below (key a) (key b))
-ranks_key key = ranks_then_by (λ a. (key a).place) (λ a b. nat_lt (key a).ripe (key b).ripe || (eqb (key a).ripe (key b).ripe && nat_lt (key a).post (key b).post))
+ranks_key key = ranks_then_by (λ a. (key a).place) (λ a b. nat_lt (key a).ripe (key b).ripe
+    || (eqb (key a).ripe (key b).ripe && nat_lt (key a).post (key b).post))
     (ranks_then_by (λ a. (key a).ripe) (λ a b. nat_lt (key a).post (key b).post) (ranks_by (λ a. (key a).post)))
 
 -- by importance, the greater first
@@ -80,28 +82,38 @@ pub best_is_best : (script : Plan) (past : List Entry) (seat : ℕ) (c : Candida
 unfolding best_of
 best_is_best script past seat c is = of_least (least_is_least goes_before ranks_goes_before (filter (is_takeable script past seat) (waiting script past)) c is)
   where
-    both : AllByRecursion (λ x. Contains (waiting script past) x × (is_takeable script past seat x ≡ true)) (filter (is_takeable script past seat) (waiting script past))
-    both = AllByRecursion-both (Contains (waiting script past)) (λ x. is_takeable script past seat x ≡ true) (filter (is_takeable script past seat) (waiting script past))
-        (AllByRecursion-filter (Contains (waiting script past)) (is_takeable script past seat) (waiting script past) (recursion_from_All (Contains (waiting script past)) (waiting script past) (All-contains_itself (waiting script past))))
+    both : AllByRecursion (λ x. Contains (waiting script past) x × (is_takeable script past seat x ≡ true))
+        (filter (is_takeable script past seat) (waiting script past))
+    both = AllByRecursion-both (Contains (waiting script past)) (λ x. is_takeable script past seat x ≡ true)
+        (filter (is_takeable script past seat) (waiting script past))
+        (AllByRecursion-filter (Contains (waiting script past)) (is_takeable script past seat) (waiting script past)
+            (recursion_from_All (Contains (waiting script past)) (waiting script past) (All-contains_itself (waiting script past))))
         (filter_passes (is_takeable script past seat) (waiting script past))
 
-    taken : (xs : List Candidate) → AllByRecursion (λ x. Contains (waiting script past) x × (is_takeable script past seat x ≡ true)) xs → least goes_before xs ≡ Some c → Contains (waiting script past) c × (is_takeable script past seat c ≡ true)
+    taken : (xs : List Candidate) → AllByRecursion (λ x. Contains (waiting script past) x × (is_takeable script past seat x ≡ true)) xs
+        → least goes_before xs ≡ Some c → Contains (waiting script past) c × (is_takeable script past seat c ≡ true)
     taken [] all none = absurd (none-some c none)
-    taken (x ∷ xs) all some = subst (λ y. Contains (waiting script past) y × (is_takeable script past seat y ≡ true)) (some-injective some) (least_from-is (λ y. Contains (waiting script past) y × (is_takeable script past seat y ≡ true)) goes_before x xs all.0 all.1)
+    taken (x ∷ xs) all some = subst (λ y. Contains (waiting script past) y × (is_takeable script past seat y ≡ true)) (some-injective some)
+        (least_from-is (λ y. Contains (waiting script past) y × (is_takeable script past seat y ≡ true)) goes_before x xs all.0 all.1)
 
     of_least : IsLeast goes_before (filter (is_takeable script past seat) (waiting script past)) c → IsBest script past seat c
     of_least l = record {
       takeable = taken (filter (is_takeable script past seat) (waiting script past)) both is;
       none_before = All-from_recursion (λ d. is_takeable script past seat d ≡ true → goes_before d c ≡ false) (waiting script past)
-          (unfiltered (λ d. goes_before d c ≡ false) (is_takeable script past seat) (waiting script past) (recursion_from_All (λ d. goes_before d c ≡ false) (filter (is_takeable script past seat) (waiting script past)) l.none_below));
+          (unfiltered (λ d. goes_before d c ≡ false) (is_takeable script past seat) (waiting script past)
+              (recursion_from_All (λ d. goes_before d c ≡ false) (filter (is_takeable script past seat) (waiting script past)) l.none_below));
     }
 
-pub no_best : (script : Plan) (past : List Entry) (seat : ℕ) → best_of script past seat ≡ None → All (λ d. is_takeable script past seat d ≡ false) (waiting script past)
+pub no_best : (script : Plan) (past : List Entry) (seat : ℕ) → best_of script past seat ≡ None
+    → All (λ d. is_takeable script past seat d ≡ false) (waiting script past)
 unfolding best_of
-no_best script past seat is = All-from_recursion (λ d. is_takeable script past seat d ≡ false) (waiting script past) (none (waiting script past) (no_least goes_before (filter (is_takeable script past seat) (waiting script past)) is))
+no_best script past seat is = All-from_recursion (λ d. is_takeable script past seat d ≡ false) (waiting script past)
+    (none (waiting script past) (no_least goes_before (filter (is_takeable script past seat) (waiting script past)) is))
   where
     none : (xs : List Candidate) → filter (is_takeable script past seat) xs ≡ [] → AllByRecursion (λ d. is_takeable script past seat d ≡ false) xs
-    none xs empty = AllByRecursion-map (λ d. is_takeable script past seat d ≡ true → ⊥) (λ d. is_takeable script past seat d ≡ false) xs (λ d h. fails (is_takeable script past seat d) h) (unfiltered (λ d. ⊥) (is_takeable script past seat) xs (subst (AllByRecursion (λ d. ⊥)) (sym empty) tt))
+    none xs empty = AllByRecursion-map (λ d. is_takeable script past seat d ≡ true → ⊥) (λ d. is_takeable script past seat d ≡ false) xs
+        (λ d h. fails (is_takeable script past seat d) h) (unfiltered (λ d. ⊥) (is_takeable script past seat) xs
+        (subst (AllByRecursion (λ d. ⊥)) (sym empty) tt))
       where
         fails : (b : Bool) → (b ≡ true → ⊥) → b ≡ false
         fails true h = absurd (h refl)
@@ -111,7 +123,8 @@ no_best script past seat is = All-from_recursion (λ d. is_takeable script past 
 pub keys_total : (a b : Key) → key_below a b ≡ false → key_below b a ≡ false → a ≡ b
 keys_total a b h k =
     let places : (a.place ≡ b.place) × (by_ripe a b ≡ false) × (by_ripe b a ≡ false) = tied (λ x. x.place) by_ripe a b h k in
-    let moments : (a.ripe ≡ b.ripe) × (nat_lt a.post b.post ≡ false) × (nat_lt b.post a.post ≡ false) = tied (λ x. x.ripe) (λ x y. nat_lt x.post y.post) a b places.1 places.2 in
+    let moments : (a.ripe ≡ b.ripe) × (nat_lt a.post b.post ≡ false)
+        × (nat_lt b.post a.post ≡ false) = tied (λ x. x.ripe) (λ x y. nat_lt x.post y.post) a b places.1 places.2 in
     ap (λ n. record { place = n; ripe = a.ripe; post = a.post }) places.0
     ∙ ap (λ n. record { place = b.place; ripe = n; post = a.post }) moments.0
     ∙ ap (λ n. record { place = b.place; ripe = b.ripe; post = n }) (equal a.post b.post moments.1 moments.2)

@@ -23,9 +23,11 @@ use Rattle.list_laws.specs.Lists.{least}
 use Rattle.task_model.specs.Phase.{phase_of}
 use Rattle.task_model.specs.Policies.{policy_of, policy_after, is_held}
 use Rattle.task_model.specs.Refusal.{behaviour_of_job, is_job_forbidden}
-use Rattle.task_model.specs.Sequences.{sequence_count, head_of}
+use Rattle.task_base.specs.Runners.{sequence_count}
+use Rattle.task_model.specs.Sequences.{head_of}
 use Rattle.task_model.specs.Seats.{runs_sequence}
-use Rattle.task_model.specs.Capacity.{Group, importance, group_of, same_group, priority_of_job, load, capacity, has_room}
+use Rattle.task_base.specs.Groups.{Group, importance, group_of, same_group}
+use Rattle.task_model.specs.Capacity.{priority_of_job, load, capacity, has_room}
 use Rattle.task_model.specs.Jobs.{is_cancelled, items_of, has_unclaimed}
 use Rattle.task_model.specs.Sources.{sequence_candidate, sequence_waiting, job_waiting, waiting, is_takeable, goes_before, best_of, is_outranked, makes_way, leaves}
 use Rattle.pool_laws.specs.Keys.{moves_sequences}
@@ -48,19 +50,27 @@ plus-zero : (n : ℕ) → n + 0 ≡ n
 plus-zero n = omega arith
 
 -- what waits, where no sequence, no job and no policy changes
-waiting_kept : (script : Plan) (past later : List Entry) → ((s : ℕ) → runs_sequence script later s ≡ runs_sequence script past s) → ((s : ℕ) → head_of script later s ≡ head_of script past s) → ((j : ℕ) → JobKept script past later j) → ((priority : Priority) → is_held later priority ≡ is_held past priority) → waiting script later ≡ waiting script past
+waiting_kept : (script : Plan) (past later : List Entry) → ((s : ℕ) → runs_sequence script later s ≡ runs_sequence script past s)
+    → ((s : ℕ) → head_of script later s ≡ head_of script past s) → ((j : ℕ) → JobKept script past later j)
+    → ((priority : Priority) → is_held later priority ≡ is_held past priority) → waiting script later ≡ waiting script past
 unfolding waiting
 waiting_kept script past later runs heads jobs held =
-    filter_congr (λ c. not (is_held later c.priority)) (λ c. not (is_held past c.priority)) (filter_map (sequence_waiting script later) (range_with_len 0 (sequence_count script)) ++ filter_map (job_waiting script later) (range_with_len 0 (length script.jobs))) (λ c. ap not (held c.priority))
-    ∙ ap (λ cs. filter (λ c. not (is_held past c.priority)) (cs ++ filter_map (job_waiting script later) (range_with_len 0 (length script.jobs)))) (filter_map_congr (sequence_waiting script later) (sequence_waiting script past) (range_with_len 0 (sequence_count script)) sequence)
-    ∙ ap (λ cs. filter (λ c. not (is_held past c.priority)) (filter_map (sequence_waiting script past) (range_with_len 0 (sequence_count script)) ++ cs)) (filter_map_congr (job_waiting script later) (job_waiting script past) (range_with_len 0 (length script.jobs)) (λ j. job_waiting_kept script past later j (jobs j)))
+    filter_congr (λ c. not (is_held later c.priority)) (λ c. not (is_held past c.priority))
+        (filter_map (sequence_waiting script later) (range_with_len 0 (sequence_count script))
+        ++ filter_map (job_waiting script later) (range_with_len 0 (length script.jobs))) (λ c. ap not (held c.priority))
+    ∙ ap (λ cs. filter (λ c. not (is_held past c.priority)) (cs ++ filter_map (job_waiting script later) (range_with_len 0 (length script.jobs))))
+        (filter_map_congr (sequence_waiting script later) (sequence_waiting script past) (range_with_len 0 (sequence_count script)) sequence)
+    ∙ ap (λ cs. filter (λ c. not (is_held past c.priority)) (filter_map (sequence_waiting script past) (range_with_len 0 (sequence_count script)) ++ cs))
+        (filter_map_congr (job_waiting script later) (job_waiting script past) (range_with_len 0 (length script.jobs))
+        (λ j. job_waiting_kept script past later j (jobs j)))
   where
     sequence : (s : ℕ) → sequence_waiting script later s ≡ sequence_waiting script past s
     sequence s =
         ap (λ (b : Bool). cond b None (option_map (sequence_candidate script s) (head_of script later s))) (runs s)
         ∙ ap (λ o. cond (runs_sequence script past s) None (option_map (sequence_candidate script s) o)) (heads s)
 
-held_kept : (past : List Entry) (e : Entry) → phase_of (past ++ e ∷ []) ≡ phase_of past → ((policy : Policy) → policy_after policy e.kind ≡ policy) → (priority : Priority) → is_held (past ++ e ∷ []) priority ≡ is_held past priority
+held_kept : (past : List Entry) (e : Entry) → phase_of (past ++ e ∷ []) ≡ phase_of past → ((policy : Policy) → policy_after policy e.kind ≡ policy)
+    → (priority : Priority) → is_held (past ++ e ∷ []) priority ≡ is_held past priority
 held_kept past e phase same priority =
     ap (λ f. is_held_back f (policy_of (past ++ e ∷ [])) priority) phase
     ∙ ap (λ p. is_held_back (phase_of past) p priority) (policy_of_push past e ∙ same (policy_of past))
@@ -112,7 +122,8 @@ main_sequence (kinds.MainEnd task left) h = refl
 main_sequence kind h = absurd (true≢false (sym h))
 
 -- a main task is no work of the pool
-pub waiting_at_main : (script : Plan) (past : List Entry) (e : Entry) → moves_main e.kind ≡ true → runs_pool_task past e.seat ≡ false → waiting script (past ++ e ∷ []) ≡ waiting script past
+pub waiting_at_main : (script : Plan) (past : List Entry) (e : Entry) → moves_main e.kind ≡ true → runs_pool_task past e.seat ≡ false
+    → waiting script (past ++ e ∷ []) ≡ waiting script past
 waiting_at_main script past e main none = waiting_kept script past (past ++ e ∷ [])
     (λ s. runs_at_main script past e s main none)
     (λ s. head_same script past e s (main_sequence e.kind main))
@@ -124,27 +135,36 @@ waiting_at_main script past e main none = waiting_kept script past (past ++ e �
     no_policy policy kind h = refl
 
 -- the best, where the same waits and there is the same room
-pub best_kept : (script : Plan) (past later : List Entry) (seat : ℕ) → waiting script later ≡ waiting script past → ((priority : Priority) → has_room script later priority ≡ has_room script past priority) → best_of script later seat ≡ best_of script past seat
+pub best_kept : (script : Plan) (past later : List Entry) (seat : ℕ) → waiting script later ≡ waiting script past
+    → ((priority : Priority) → has_room script later priority ≡ has_room script past priority) → best_of script later seat ≡ best_of script past seat
 unfolding best_of
 best_kept script past later seat waits room =
     ap (λ cs. least goes_before (filter (is_takeable script later seat) cs)) waits
-    ∙ ap (least goes_before) (filter_congr (is_takeable script later seat) (is_takeable script past seat) (waiting script past) (λ c. ap (λ b. b && option_map_or (λ only. eqb only seat) c.seat true) (room c.priority)))
+    ∙ ap (least goes_before) (filter_congr (is_takeable script later seat) (is_takeable script past seat) (waiting script past)
+        (λ c. ap (λ b. b && option_map_or (λ only. eqb only seat) c.seat true) (room c.priority)))
 
-pub best_same : (script : Plan) (past : List Entry) (e : Entry) (seat : ℕ) → moves_best e.kind ≡ false → best_of script (past ++ e ∷ []) seat ≡ best_of script past seat
+pub best_same : (script : Plan) (past : List Entry) (e : Entry) (seat : ℕ) → moves_best e.kind ≡ false
+    → best_of script (past ++ e ∷ []) seat ≡ best_of script past seat
 best_same script past e seat quiet =
     let parts : (moves_waiting e.kind ≡ false) × (moves_room e.kind ≡ false) = seats_parts (moves_waiting e.kind) (moves_room e.kind) quiet in
     best_kept script past (past ++ e ∷ []) seat (waiting_same script past e parts.0) (λ priority. has_room_same script past e priority parts.1)
 
-pub best_at_main : (script : Plan) (past : List Entry) (e : Entry) (seat : ℕ) → moves_main e.kind ≡ true → e.seat ≡ 0 → runs_pool_task past e.seat ≡ false → best_of script (past ++ e ∷ []) seat ≡ best_of script past seat
-best_at_main script past e seat main driver none = best_kept script past (past ++ e ∷ []) seat (waiting_at_main script past e main none) (λ priority. room_at_main script past e priority main driver)
+pub best_at_main : (script : Plan) (past : List Entry) (e : Entry) (seat : ℕ) → moves_main e.kind ≡ true → e.seat ≡ 0 → runs_pool_task past e.seat ≡ false
+    → best_of script (past ++ e ∷ []) seat ≡ best_of script past seat
+best_at_main script past e seat main driver none = best_kept script past (past ++ e ∷ []) seat (waiting_at_main script past e main none)
+    (λ priority. room_at_main script past e priority main driver)
 
 -- who leaves, where jobs, waiting work, loads and capacities are the same
-pub leaves_kept : (script : Plan) (past later : List Entry) (seat j : ℕ) → JobKept script past later j → waiting script later ≡ waiting script past → ((group : Group) → load script later group ≡ load script past group) → ((group : Group) → capacity script later group ≡ capacity script past group) → leaves script later seat j ≡ leaves script past seat j
+pub leaves_kept : (script : Plan) (past later : List Entry) (seat j : ℕ) → JobKept script past later j → waiting script later ≡ waiting script past
+    → ((group : Group) → load script later group ≡ load script past group) → ((group : Group) → capacity script later group ≡ capacity script past group)
+    → leaves script later seat j ≡ leaves script past seat j
 unfolding leaves
 leaves_kept script past later seat j kept waits loads capacities =
-    ap (λ n. not (nat_lt n (items_of script j)) || is_cancelled later j || is_job_forbidden script later j || (nat_lt 0 seat && makes_way script later priority)) kept.claims_same
+    ap (λ n. not (nat_lt n (items_of script j)) || is_cancelled later j || is_job_forbidden script later j
+        || (nat_lt 0 seat && makes_way script later priority)) kept.claims_same
     ∙ ap (λ b. not (has_unclaimed script past j) || b || is_job_forbidden script later j || (nat_lt 0 seat && makes_way script later priority)) kept.cancelled
-    ∙ ap (λ f. not (has_unclaimed script past j) || is_cancelled past j || forbids f (behaviour_of_job script j) || (nat_lt 0 seat && makes_way script later priority)) kept.phase
+    ∙ ap (λ f. not (has_unclaimed script past j) || is_cancelled past j || forbids f (behaviour_of_job script j)
+        || (nat_lt 0 seat && makes_way script later priority)) kept.phase
     ∙ ap (λ b. not (has_unclaimed script past j) || is_cancelled past j || is_job_forbidden script past j || (nat_lt 0 seat && b)) way
   where
     priority : Priority
@@ -154,9 +174,12 @@ leaves_kept script past later seat j kept waits loads capacities =
     way =
         ap (λ n. nat_le n (load script later (group_of script priority)) && is_outranked script later priority) (capacities (group_of script priority))
         ∙ ap (λ n. nat_le (capacity script past (group_of script priority)) n && is_outranked script later priority) (loads (group_of script priority))
-        ∙ ap (λ cs. nat_le (capacity script past (group_of script priority)) (load script past (group_of script priority)) && list_any (λ c. is_none c.seat && same_group (group_of script c.priority) (group_of script priority) && nat_lt (importance priority) (importance c.priority)) cs) waits
+        ∙ ap (λ cs. nat_le (capacity script past (group_of script priority)) (load script past (group_of script priority))
+            && list_any (λ c. is_none c.seat && same_group (group_of script c.priority) (group_of script priority)
+            && nat_lt (importance priority) (importance c.priority)) cs) waits
 
-pub leaves_same : (script : Plan) (past : List Entry) (e : Entry) (seat j : ℕ) → moves_best e.kind ≡ false → leaves script (past ++ e ∷ []) seat j ≡ leaves script past seat j
+pub leaves_same : (script : Plan) (past : List Entry) (e : Entry) (seat j : ℕ) → moves_best e.kind ≡ false
+    → leaves script (past ++ e ∷ []) seat j ≡ leaves script past seat j
 leaves_same script past e seat j quiet =
     let parts : (moves_waiting e.kind ≡ false) × (moves_room e.kind ≡ false) = seats_parts (moves_waiting e.kind) (moves_room e.kind) quiet in
     let room : (moves_capacity e.kind ≡ false) × (moves_holding e.kind ≡ false) = seats_parts (moves_capacity e.kind) (moves_holding e.kind) parts.1 in
@@ -183,7 +206,9 @@ leaves_same script past e seat j quiet =
     no_seat : (kind : Kind) → moves_waiting kind ≡ false → moves_holding kind ≡ false → moves_seats kind ≡ false
     no_seat kind h k = ap (λ b. b || moves_holding kind) (no_running kind h) ∙ k
 
-pub leaves_at_main : (script : Plan) (past : List Entry) (e : Entry) (seat j : ℕ) → moves_main e.kind ≡ true → e.seat ≡ 0 → runs_pool_task past e.seat ≡ false → leaves script (past ++ e ∷ []) seat j ≡ leaves script past seat j
-leaves_at_main script past e seat j main driver none = leaves_kept script past (past ++ e ∷ []) seat j (job_same script past e j (main_job e.kind main)) (waiting_at_main script past e main none)
+pub leaves_at_main : (script : Plan) (past : List Entry) (e : Entry) (seat j : ℕ) → moves_main e.kind ≡ true → e.seat ≡ 0 → runs_pool_task past e.seat ≡ false
+    → leaves script (past ++ e ∷ []) seat j ≡ leaves script past seat j
+leaves_at_main script past e seat j main driver none = leaves_kept script past (past ++ e ∷ []) seat j (job_same script past e j (main_job e.kind main))
+    (waiting_at_main script past e main none)
     (λ group. (load_at_driver script past e group driver).all_is)
     (λ group. (capacity_at_main script past e group main driver).all_is)

@@ -37,7 +37,9 @@ plus-zero : (n : ℕ) → n + 0 ≡ n
 plus-zero n = omega arith
 
 -- a job, by what the kind of the entry does to each part
-kept_by : (script : Plan) (past : List Entry) (e : Entry) (j : ℕ) (kind : Kind) → e.kind ≡ kind → ((now : Option JobPosted) → job_post_after j past now kind ≡ now) → cancels j kind ≡ false → claims j kind ≡ false → value_by j kind ≡ None → ((phase : Phase) → phase_after phase kind ≡ phase) → inside script (past ++ e ∷ []) j ≡ inside script past j → JobKept script past (past ++ e ∷ []) j
+kept_by : (script : Plan) (past : List Entry) (e : Entry) (j : ℕ) (kind : Kind) → e.kind ≡ kind
+    → ((now : Option JobPosted) → job_post_after j past now kind ≡ now) → cancels j kind ≡ false → claims j kind ≡ false → value_by j kind ≡ None
+    → ((phase : Phase) → phase_after phase kind ≡ phase) → inside script (past ++ e ∷ []) j ≡ inside script past j → JobKept script past (past ++ e ∷ []) j
 kept_by script past e j kind is no_post no_cancel no_claim no_value no_phase same = record {
   post = job_post_of_push past e j ∙ ap (job_post_after j past (job_post_of past j)) is ∙ no_post (job_post_of past j);
   cancelled = is_cancelled_push past e j ∙ ap (λ b. is_cancelled past j || b) (ap (cancels j) is ∙ no_cancel) ∙ or-false (is_cancelled past j);
@@ -49,7 +51,8 @@ kept_by script past e j kind is no_post no_cancel no_claim no_value no_phase sam
 }
 
 pub job_same : (script : Plan) (past : List Entry) (e : Entry) (j : ℕ) → moves_jobs e.kind ≡ false → JobKept script past (past ++ e ∷ []) j
-job_same script past e j quiet = kept_by script past e j e.kind refl (λ now. no_post now e.kind quiet) (no_cancel e.kind quiet) (no_claim e.kind quiet) (no_value e.kind quiet) (λ phase. no_phase phase e.kind quiet) (inside_same script past e j (no_holding e.kind quiet))
+job_same script past e j quiet = kept_by script past e j e.kind refl (λ now. no_post now e.kind quiet) (no_cancel e.kind quiet) (no_claim e.kind quiet)
+    (no_value e.kind quiet) (λ phase. no_phase phase e.kind quiet) (inside_same script past e j (no_holding e.kind quiet))
   where
     no_holding : (kind : Kind) → moves_jobs kind ≡ false → moves_holding kind ≡ false
     no_holding (kinds.JobTake job id item) h = h
@@ -80,22 +83,28 @@ job_same script past e j quiet = kept_by script past e j e.kind refl (λ now. no
     no_value kind h = refl
 
 -- the entries of one job leave the others
-pub job_at_other_post : (script : Plan) (past : List Entry) (e : Entry) (j job : ℕ) (ok : Bool) → e.kind ≡ kinds.JobPost job ok → (job == j) ≡ false → JobKept script past (past ++ e ∷ []) j
-job_at_other_post script past e j job ok is other = kept_by script past e j (kinds.JobPost job ok) is no_post refl refl refl (λ phase. refl) (inside_same script past e j (ap moves_holding is))
+pub job_at_other_post : (script : Plan) (past : List Entry) (e : Entry) (j job : ℕ) (ok : Bool) → e.kind ≡ kinds.JobPost job ok → (job == j) ≡ false
+    → JobKept script past (past ++ e ∷ []) j
+job_at_other_post script past e j job ok is other = kept_by script past e j (kinds.JobPost job ok) is no_post refl refl refl (λ phase. refl)
+    (inside_same script past e j (ap moves_holding is))
   where
     no_post : (now : Option JobPosted) → job_post_after j past now (kinds.JobPost job ok) ≡ now
     no_post None = ap (λ b. cond b (Some (record { place = length past; ok = ok })) None) other
     no_post (Some p) = refl
 
-pub job_at_other_take : (script : Plan) (past : List Entry) (e : Entry) (j job id item : ℕ) → e.kind ≡ kinds.JobTake job id item → (job == j) ≡ false → holding past e.seat ≡ None → JobKept script past (past ++ e ∷ []) j
-job_at_other_take script past e j job id item is other free = kept_by script past e j (kinds.JobTake job id item) is no_post refl other refl (λ phase. refl) (inside_at_other_take script past e j job id item is other free)
+pub job_at_other_take : (script : Plan) (past : List Entry) (e : Entry) (j job id item : ℕ) → e.kind ≡ kinds.JobTake job id item → (job == j) ≡ false
+    → holding past e.seat ≡ None → JobKept script past (past ++ e ∷ []) j
+job_at_other_take script past e j job id item is other free = kept_by script past e j (kinds.JobTake job id item) is no_post refl other refl (λ phase. refl)
+    (inside_at_other_take script past e j job id item is other free)
   where
     no_post : (now : Option JobPosted) → job_post_after j past now (kinds.JobTake job id item) ≡ now
     no_post None = refl
     no_post (Some p) = refl
 
-pub job_at_other_step : (script : Plan) (past : List Entry) (e : Entry) (j job id item value : ℕ) (next : Option ℕ) → e.kind ≡ kinds.JobStep job id item value next → (job == j) ≡ false → holds_job past e.seat job ≡ true → JobKept script past (past ++ e ∷ []) j
-job_at_other_step script past e j job id item value next is other held = kept_by script past e j (kinds.JobStep job id item value next) is no_post refl (ap (λ b. b && is_some next) other) (ap (λ b. cond b (Some value) None) other) (λ phase. refl) (by next is)
+pub job_at_other_step : (script : Plan) (past : List Entry) (e : Entry) (j job id item value : ℕ) (next : Option ℕ)
+    → e.kind ≡ kinds.JobStep job id item value next → (job == j) ≡ false → holds_job past e.seat job ≡ true → JobKept script past (past ++ e ∷ []) j
+job_at_other_step script past e j job id item value next is other held = kept_by script past e j (kinds.JobStep job id item value next) is no_post refl
+    (ap (λ b. b && is_some next) other) (ap (λ b. cond b (Some value) None) other) (λ phase. refl) (by next is)
   where
     no_post : (now : Option JobPosted) → job_post_after j past now (kinds.JobStep job id item value next) ≡ now
     no_post None = refl
@@ -105,8 +114,10 @@ job_at_other_step script past e j job id item value next is other held = kept_by
     by None leaves = inside_at_other_leave script past e j job id item value leaves other held
     by (Some n) goes_on = inside_at_step script past e j job id item value n goes_on held
 
-pub job_at_other_cancel : (script : Plan) (past : List Entry) (e : Entry) (j job : ℕ) → e.kind ≡ kinds.JobCancel job → (job == j) ≡ false → JobKept script past (past ++ e ∷ []) j
-job_at_other_cancel script past e j job is other = kept_by script past e j (kinds.JobCancel job) is no_post other refl refl (λ phase. refl) (inside_same script past e j (ap moves_holding is))
+pub job_at_other_cancel : (script : Plan) (past : List Entry) (e : Entry) (j job : ℕ) → e.kind ≡ kinds.JobCancel job → (job == j) ≡ false
+    → JobKept script past (past ++ e ∷ []) j
+job_at_other_cancel script past e j job is other = kept_by script past e j (kinds.JobCancel job) is no_post other refl refl (λ phase. refl)
+    (inside_same script past e j (ap moves_holding is))
   where
     no_post : (now : Option JobPosted) → job_post_after j past now (kinds.JobCancel job) ≡ now
     no_post None = refl
@@ -162,7 +173,10 @@ job_waiting_kept script past later j kept =
     looks None = refl
     looks (Some p) = ap (λ xs. Some (record (job_candidate script past j p) { inside = length xs })) kept.inside_now
 
-pub free_id_same : (script : Plan) (past : List Entry) (e : Entry) (j : ℕ) → moves_holding e.kind ≡ false → free_id script (past ++ e ∷ []) j ≡ free_id script past j
+pub free_id_same : (script : Plan) (past : List Entry) (e : Entry) (j : ℕ) → moves_holding e.kind ≡ false
+    → free_id script (past ++ e ∷ []) j ≡ free_id script past j
 free_id_same script past e j quiet =
     ap (λ xs. find (is_free_id script (past ++ e ∷ []) j) (range_with_len 0 (length xs + 1))) (inside_same script past e j quiet)
-    ∙ find_congr (is_free_id script (past ++ e ∷ []) j) (is_free_id script past j) (range_with_len 0 (length (inside script past j) + 1)) (λ id. list_all_congr (λ seat. not (holds_id j id (holding (past ++ e ∷ []) seat))) (λ seat. not (holds_id j id (holding past seat))) (all_seats script) (λ seat. ap (λ o. not (holds_id j id o)) (holding_same past e seat quiet)))
+    ∙ find_congr (is_free_id script (past ++ e ∷ []) j) (is_free_id script past j) (range_with_len 0 (length (inside script past j) + 1))
+        (λ id. list_all_congr (λ seat. not (holds_id j id (holding (past ++ e ∷ []) seat))) (λ seat. not (holds_id j id (holding past seat)))
+        (all_seats script) (λ seat. ap (λ o. not (holds_id j id o)) (holding_same past e seat quiet)))

@@ -37,23 +37,28 @@ find-append : {A : Type 0} (p : A → Bool) (xs ys : List A) → find p (xs ++ y
 find-append p [] ys = refl
 find-append p (x ∷ xs) ys = by (p x) (find-append p xs ys)
   where
-    by : (b : Bool) → find p (xs ++ ys) ≡ option_or (find p xs) (find p ys) → cond b (Some x) (find p (xs ++ ys)) ≡ option_or (cond b (Some x) (find p xs)) (find p ys)
+    by : (b : Bool) → find p (xs ++ ys) ≡ option_or (find p xs) (find p ys)
+        → cond b (Some x) (find p (xs ++ ys)) ≡ option_or (cond b (Some x) (find p xs)) (find p ys)
     by true rest = refl
     by false rest = rest
 
 -- the post of a task stays; where it had none, it is the new one, if that is of the task
-pub post_of_grows : (past : List Entry) (e : Entry) (t : ℕ) → post_of (past ++ e ∷ []) t ≡ option_or (post_of past t) (find (λ p. p.task == t) (posted_by past e.kind))
+pub post_of_grows : (past : List Entry) (e : Entry) (t : ℕ) → post_of (past ++ e ∷ []) t
+    ≡ option_or (post_of past t) (find (λ p. p.task == t) (posted_by past e.kind))
 post_of_grows past e t = ap (find (λ p. eqb p.task t)) (posts_push past e) ∙ find-append (λ p. eqb p.task t) (posts past) (posted_by past e.kind)
 
-pub main_post_of_grows : (past : List Entry) (e : Entry) (t : ℕ) → main_post_of (past ++ e ∷ []) t ≡ option_or (main_post_of past t) (find (λ p. p.task == t) (main_posted_by past e.kind))
-main_post_of_grows past e t = ap (find (λ p. eqb p.task t)) (main_posts_push past e) ∙ find-append (λ p. eqb p.task t) (main_posts past) (main_posted_by past e.kind)
+pub main_post_of_grows : (past : List Entry) (e : Entry) (t : ℕ)
+    → main_post_of (past ++ e ∷ []) t ≡ option_or (main_post_of past t) (find (λ p. p.task == t) (main_posted_by past e.kind))
+main_post_of_grows past e t = ap (find (λ p. eqb p.task t)) (main_posts_push past e)
+    ∙ find-append (λ p. eqb p.task t) (main_posts past) (main_posted_by past e.kind)
 
 -- where none is found, all are of other tasks
 others : (t : ℕ) (xs : List Posted) → find (λ p. eqb p.task t) xs ≡ None → AllByRecursion (λ p. eqb p.task t ≡ false) xs
 others t [] none = tt
 others t (x ∷ xs) none = by (eqb x.task t) none (others t xs)
   where
-    by : (b : Bool) → cond b (Some x) (find (λ p. eqb p.task t) xs) ≡ None → (find (λ p. eqb p.task t) xs ≡ None → AllByRecursion (λ p. eqb p.task t ≡ false) xs) → (b ≡ false) × AllByRecursion (λ p. eqb p.task t ≡ false) xs
+    by : (b : Bool) → cond b (Some x) (find (λ p. eqb p.task t) xs) ≡ None
+        → (find (λ p. eqb p.task t) xs ≡ None → AllByRecursion (λ p. eqb p.task t ≡ false) xs) → (b ≡ false) × AllByRecursion (λ p. eqb p.task t ≡ false) xs
     by true h rest = absurd (none-some x (sym h))
     by false h rest = (refl, rest h)
 
@@ -67,18 +72,23 @@ in_order_push (x ∷ xs) p order before = (more xs order.0, in_order_push xs p o
     more (y ∷ ys) h = (h.0, more ys h.1)
 
 -- the tasks of a past are before one that is posted behind it, and that had no post
-all_before : (past : List Entry) (xs : List Posted) (task home delay : ℕ) → AllByRecursion (λ p. nat_lt p.place (length past) ≡ true) xs → find (λ p. eqb p.task task) xs ≡ None → AllByRecursion (λ p. Before p (post_behind past task home delay)) xs
+all_before : (past : List Entry) (xs : List Posted) (task home delay : ℕ) → AllByRecursion (λ p. nat_lt p.place (length past) ≡ true) xs
+    → find (λ p. eqb p.task task) xs ≡ None → AllByRecursion (λ p. Before p (post_behind past task home delay)) xs
 all_before past xs task home delay within none =
-    AllByRecursion-map (λ p. (nat_lt p.place (length past) ≡ true) × (eqb p.task task ≡ false)) (λ p. Before p (post_behind past task home delay)) xs (λ p h. record { earlier = ltb-true p.place (length past) h.0; another = eqb-false p.task task h.1 })
+    AllByRecursion-map (λ p. (nat_lt p.place (length past) ≡ true) × (eqb p.task task ≡ false)) (λ p. Before p (post_behind past task home delay)) xs
+        (λ p h. record { earlier = ltb-true p.place (length past) h.0; another = eqb-false p.task task h.1 })
     (AllByRecursion-both (λ p. nat_lt p.place (length past) ≡ true) (λ p. eqb p.task task ≡ false) xs within (others task xs none))
 
 -- the posts stay in order, and of tasks of their own, at the post of a task that had none
-pub posts_in_order : (past : List Entry) (e : Entry) (task runner delay : ℕ) → e.kind ≡ Post task runner delay true → post_of past task ≡ None → InOrder (posts past) → InOrder (posts (past ++ e ∷ []))
+pub posts_in_order : (past : List Entry) (e : Entry) (task runner delay : ℕ) → e.kind ≡ Post task runner delay true → post_of past task ≡ None
+    → InOrder (posts past) → InOrder (posts (past ++ e ∷ []))
 posts_in_order past e task runner delay is none order =
     subst InOrder (sym (posts_push past e ∙ ap (λ kind. posts past ++ posted_by past kind) is))
     (in_order_push (posts past) (post_behind past task runner delay) order (all_before past (posts past) task runner delay (posts_within past) none))
 
-pub main_posts_in_order : (past : List Entry) (e : Entry) (task queue delay : ℕ) → e.kind ≡ Main task queue delay true → main_post_of past task ≡ None → InOrder (main_posts past) → InOrder (main_posts (past ++ e ∷ []))
+pub main_posts_in_order : (past : List Entry) (e : Entry) (task queue delay : ℕ) → e.kind ≡ Main task queue delay true → main_post_of past task ≡ None
+    → InOrder (main_posts past) → InOrder (main_posts (past ++ e ∷ []))
 main_posts_in_order past e task queue delay is none order =
     subst InOrder (sym (main_posts_push past e ∙ ap (λ kind. main_posts past ++ main_posted_by past kind) is))
-    (in_order_push (main_posts past) (post_behind past task queue delay) order (all_before past (main_posts past) task queue delay (main_posts_within past) none))
+    (in_order_push (main_posts past) (post_behind past task queue delay) order
+        (all_before past (main_posts past) task queue delay (main_posts_within past) none))

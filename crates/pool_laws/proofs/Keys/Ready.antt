@@ -31,22 +31,28 @@ use Rattle.task_model.proofs.Growth.{now_of_push, posts_push}
 use Rattle.list_laws.proofs.Lists.{some-injective, filter_map_congr, AllByRecursion-map, AllByRecursion-append}
 
 -- the first place in a joined list
-pub position-append : {A : Type 0} (test : A → Bool) (i : ℕ) (xs ys : List A) → position_from test i (xs ++ ys) ≡ option_or (position_from test i xs) (position_from test (i + length xs) ys)
+pub position-append : {A : Type 0} (test : A → Bool) (i : ℕ) (xs ys : List A)
+    → position_from test i (xs ++ ys) ≡ option_or (position_from test i xs) (position_from test (i + length xs) ys)
 position-append test i [] ys = ap (λ n. position_from test n ys) (omega arith)
-position-append test i (x ∷ xs) ys = by (test x) (position-append test (i + 1) xs ys ∙ ap (λ n. option_or (position_from test (i + 1) xs) (position_from test n ys)) (omega arith))
+position-append test i (x ∷ xs) ys = by (test x) (position-append test (i + 1) xs ys
+    ∙ ap (λ n. option_or (position_from test (i + 1) xs) (position_from test n ys)) (omega arith))
   where
     by : (b : Bool) → position_from test (i + 1) (xs ++ ys) ≡ option_or (position_from test (i + 1) xs) (position_from test (i + suc (length xs)) ys)
-        → cond b (Some i) (position_from test (i + 1) (xs ++ ys)) ≡ option_or (cond b (Some i) (position_from test (i + 1) xs)) (position_from test (i + suc (length xs)) ys)
+        → cond b (Some i) (position_from test (i + 1) (xs ++ ys))
+            ≡ option_or (cond b (Some i) (position_from test (i + 1) xs)) (position_from test (i + suc (length xs)) ys)
     by true rest = refl
     by false rest = rest
 
-pub tick_from_push : (past : List Entry) (e : Entry) (moment : ℕ) → tick_from (past ++ e ∷ []) moment ≡ option_or (tick_from past moment) (tick_by past moment e.kind)
+pub tick_from_push : (past : List Entry) (e : Entry) (moment : ℕ)
+    → tick_from (past ++ e ∷ []) moment ≡ option_or (tick_from past moment) (tick_by past moment e.kind)
 unfolding tick_from
-tick_from_push past e moment = position-append (λ x. is_tick_from moment x.kind) 0 past (e ∷ []) ∙ ap (λ n. option_or (position_from (λ x. is_tick_from moment x.kind) 0 past) (cond (is_tick_from moment e.kind) (Some n) None)) (omega arith)
+tick_from_push past e moment = position-append (λ x. is_tick_from moment x.kind) 0 past (e ∷ [])
+    ∙ ap (λ n. option_or (position_from (λ x. is_tick_from moment x.kind) 0 past) (cond (is_tick_from moment e.kind) (Some n) None)) (omega arith)
 
 pub tick_from_stays : (past rest : List Entry) (moment place : ℕ) → tick_from past moment ≡ Some place → tick_from (past ++ rest) moment ≡ Some place
 unfolding tick_from
-tick_from_stays past rest moment place is = position-append (λ x. is_tick_from moment x.kind) 0 past rest ∙ ap (λ o. option_or o (position_from (λ x. is_tick_from moment x.kind) (0 + length past) rest)) is
+tick_from_stays past rest moment place is = position-append (λ x. is_tick_from moment x.kind) 0 past rest
+    ∙ ap (λ o. option_or o (position_from (λ x. is_tick_from moment x.kind) (0 + length past) rest)) is
 
 pub key_of_push : (past : List Entry) (e : Entry) (p : Posted) → key_of (past ++ e ∷ []) p ≡ option_or (key_of past p) (key_by past p e.kind)
 key_of_push past e p = by (is_delayed p)
@@ -58,7 +64,8 @@ key_of_push past e p = by (is_delayed p)
     over (Some n) b = refl
     over None b = refl
 
-    by : (b : Bool) → cond b (option_map key (tick_from (past ++ e ∷ []) p.ripe)) (Some (key_at p.place)) ≡ option_or (cond b (option_map key (tick_from past p.ripe)) (Some (key_at p.place))) (cond b (option_map key (tick_by past p.ripe e.kind)) None)
+    by : (b : Bool) → cond b (option_map key (tick_from (past ++ e ∷ []) p.ripe)) (Some (key_at p.place))
+        ≡ option_or (cond b (option_map key (tick_from past p.ripe)) (Some (key_at p.place))) (cond b (option_map key (tick_by past p.ripe e.kind)) None)
     by true = ap (option_map key) (tick_from_push past e p.ripe) ∙ over (tick_from past p.ripe) (tick_by past p.ripe e.kind)
     by false = refl
 
@@ -68,11 +75,13 @@ key_of_stays past rest p key is = by (is_delayed p) is
     at : ℕ → Key
     at place = record { place = place; ripe = p.ripe; post = p.place }
 
-    kept : (o : Option ℕ) → ((place : ℕ) → o ≡ Some place → tick_from (past ++ rest) p.ripe ≡ Some place) → option_map at o ≡ Some key → option_map at (tick_from (past ++ rest) p.ripe) ≡ Some key
+    kept : (o : Option ℕ) → ((place : ℕ) → o ≡ Some place → tick_from (past ++ rest) p.ripe ≡ Some place) → option_map at o ≡ Some key
+        → option_map at (tick_from (past ++ rest) p.ripe) ≡ Some key
     kept None f none = absurd (true≢false (ap (λ o. elim o [ None ↦ true | Some k ↦ false ]) none))
     kept (Some place) f some = ap (option_map at) (f place refl) ∙ some
 
-    by : (b : Bool) → cond b (option_map at (tick_from past p.ripe)) (Some (key_at p.place)) ≡ Some key → cond b (option_map at (tick_from (past ++ rest) p.ripe)) (Some (key_at p.place)) ≡ Some key
+    by : (b : Bool) → cond b (option_map at (tick_from past p.ripe)) (Some (key_at p.place)) ≡ Some key
+        → cond b (option_map at (tick_from (past ++ rest) p.ripe)) (Some (key_at p.place)) ≡ Some key
     by true h = kept (tick_from past p.ripe) (λ place some. tick_from_stays past rest p.ripe place some) h
     by false h = h
 
@@ -80,18 +89,22 @@ key_of_stays past rest p key is = by (is_delayed p) is
 abbrev pub with_key : (Posted → Option Key) → Posted → Option Ready
 with_key key p = option_map (λ k. record { posted = p; key = k }) (key p)
 
-grown : (past : List Entry) (e : Entry) → ready (past ++ e ∷ []) ≡ filter_map (with_key (λ p. option_or (key_of past p) (key_by past p e.kind))) (posts past) ++ filter_map (with_key (key_of (past ++ e ∷ []))) (posted_by past e.kind)
+grown : (past : List Entry) (e : Entry) → ready (past ++ e ∷ []) ≡ filter_map (with_key (λ p. option_or (key_of past p) (key_by past p e.kind))) (posts past)
+    ++ filter_map (with_key (key_of (past ++ e ∷ []))) (posted_by past e.kind)
 unfolding ready
 grown past e =
     ap (filter_map (with_key (key_of (past ++ e ∷ [])))) (posts_push past e)
     ∙ filter_map-append (with_key (key_of (past ++ e ∷ []))) (posts past) (posted_by past e.kind)
     ∙ ap (λ xs. xs ++ filter_map (with_key (key_of (past ++ e ∷ []))) (posted_by past e.kind))
-    (filter_map_congr (with_key (key_of (past ++ e ∷ []))) (with_key (λ p. option_or (key_of past p) (key_by past p e.kind))) (posts past) (λ p. ap (option_map (λ k. record { posted = p; key = k })) (key_of_push past e p)))
+    (filter_map_congr (with_key (key_of (past ++ e ∷ []))) (with_key (λ p. option_or (key_of past p) (key_by past p e.kind))) (posts past)
+        (λ p. ap (option_map (λ k. record { posted = p; key = k })) (key_of_push past e p)))
 
 -- an entry that is no tick leaves the tasks that had keys
-old_ready : (past : List Entry) (kind : Kind) → ((moment : ℕ) → is_tick_from moment kind ≡ false) → filter_map (with_key (λ p. option_or (key_of past p) (key_by past p kind))) (posts past) ≡ ready past
+old_ready : (past : List Entry) (kind : Kind) → ((moment : ℕ) → is_tick_from moment kind ≡ false)
+    → filter_map (with_key (λ p. option_or (key_of past p) (key_by past p kind))) (posts past) ≡ ready past
 unfolding ready
-old_ready past kind no_tick = filter_map_congr (with_key (λ p. option_or (key_of past p) (key_by past p kind))) (with_key (key_of past)) (posts past) (λ p. ap (option_map (λ k. record { posted = p; key = k })) (same p))
+old_ready past kind no_tick = filter_map_congr (with_key (λ p. option_or (key_of past p) (key_by past p kind))) (with_key (key_of past)) (posts past)
+    (λ p. ap (option_map (λ k. record { posted = p; key = k })) (same p))
   where
     or-none : (o : Option Key) → option_or o None ≡ o
     or-none (Some k) = refl
@@ -100,8 +113,10 @@ old_ready past kind no_tick = filter_map_congr (with_key (λ p. option_or (key_o
     no_key : Option Key
     no_key = None
 
-    by : (p : Posted) (b : Bool) → cond b (option_map (λ place. record { place = place; ripe = p.ripe; post = p.place }) (tick_by past p.ripe kind)) no_key ≡ no_key
-    by p true = ap (λ (t : Bool). option_map (λ place. record { place = place; ripe = p.ripe; post = p.place }) (cond t (Some (length past)) None)) (no_tick p.ripe)
+    by : (p : Posted) (b : Bool) → cond b (option_map (λ place. record { place = place; ripe = p.ripe; post = p.place }) (tick_by past p.ripe kind)) no_key
+        ≡ no_key
+    by p true = ap (λ (t : Bool). option_map (λ place. record { place = place; ripe = p.ripe; post = p.place }) (cond t (Some (length past)) None))
+        (no_tick p.ripe)
     by p false = refl
 
     same : (p : Posted) → option_or (key_of past p) (key_by past p kind) ≡ key_of past p
@@ -126,28 +141,42 @@ pub ready_at_post : (past : List Entry) (e : Entry) (task runner delay : ℕ) �
     → ready (past ++ e ∷ []) ≡ ready past ++ ready_behind past task runner delay ∷ []
 ready_at_post past e task runner delay is immediate =
     grown past e
-    ∙ ap (λ kind. filter_map (with_key (λ p. option_or (key_of past p) (key_by past p kind))) (posts past) ++ filter_map (with_key (key_of (past ++ e ∷ []))) (posted_by past kind)) is
-    ∙ ap (λ xs. xs ++ filter_map (with_key (key_of (past ++ e ∷ []))) (post_behind past task runner delay ∷ [])) (old_ready past (Post task runner delay true) (λ moment. refl))
-    ∙ ap (λ (b : Bool). ready past ++ filter_map (λ p. option_map (λ k. record { posted = p; key = k }) (cond b (option_map (λ place. record { place = place; ripe = p.ripe; post = p.place }) (tick_from (past ++ e ∷ []) p.ripe)) (Some (key_at p.place)))) (post_behind past task runner delay ∷ [])) immediate
+    ∙ ap (λ kind. filter_map (with_key (λ p. option_or (key_of past p) (key_by past p kind))) (posts past)
+        ++ filter_map (with_key (key_of (past ++ e ∷ []))) (posted_by past kind)) is
+    ∙ ap (λ xs. xs ++ filter_map (with_key (key_of (past ++ e ∷ []))) (post_behind past task runner delay ∷ []))
+        (old_ready past (Post task runner delay true) (λ moment. refl))
+    ∙ ap (λ (b : Bool). ready past ++ filter_map (λ p. option_map (λ k. record { posted = p; key = k })
+        (cond b (option_map (λ place. record { place = place; ripe = p.ripe; post = p.place }) (tick_from (past ++ e ∷ []) p.ripe)) (Some (key_at p.place))))
+        (post_behind past task runner delay ∷ [])) immediate
 
 pub ready_at_delayed_post : (past : List Entry) (e : Entry) (task runner delay : ℕ) → e.kind ≡ Post task runner delay true → nat_lt 0 delay ≡ true
     → tick_from past (now_of past + delay) ≡ None → ready (past ++ e ∷ []) ≡ ready past
 ready_at_delayed_post past e task runner delay is delayed unripe =
     grown past e
-    ∙ ap (λ kind. filter_map (with_key (λ p. option_or (key_of past p) (key_by past p kind))) (posts past) ++ filter_map (with_key (key_of (past ++ e ∷ []))) (posted_by past kind)) is
-    ∙ ap (λ xs. xs ++ filter_map (with_key (key_of (past ++ e ∷ []))) (post_behind past task runner delay ∷ [])) (old_ready past (Post task runner delay true) (λ moment. refl))
-    ∙ ap (λ (b : Bool). ready past ++ filter_map (λ p. option_map (λ k. record { posted = p; key = k }) (cond b (option_map (λ place. record { place = place; ripe = p.ripe; post = p.place }) (tick_from (past ++ e ∷ []) p.ripe)) (Some (key_at p.place)))) (post_behind past task runner delay ∷ [])) delayed
-    ∙ ap (λ o. ready past ++ filter_map (λ p. option_map (λ k. record { posted = p; key = k }) (option_map (λ place. record { place = place; ripe = p.ripe; post = p.place }) o)) (post_behind past task runner delay ∷ [])) (tick_from_push past e (post_behind past task runner delay).ripe ∙ ap (λ o. option_or o (tick_by past (post_behind past task runner delay).ripe e.kind)) unripe ∙ ap (λ kind. tick_by past (post_behind past task runner delay).ripe kind) is)
+    ∙ ap (λ kind. filter_map (with_key (λ p. option_or (key_of past p) (key_by past p kind))) (posts past)
+        ++ filter_map (with_key (key_of (past ++ e ∷ []))) (posted_by past kind)) is
+    ∙ ap (λ xs. xs ++ filter_map (with_key (key_of (past ++ e ∷ []))) (post_behind past task runner delay ∷ []))
+        (old_ready past (Post task runner delay true) (λ moment. refl))
+    ∙ ap (λ (b : Bool). ready past ++ filter_map (λ p. option_map (λ k. record { posted = p; key = k })
+        (cond b (option_map (λ place. record { place = place; ripe = p.ripe; post = p.place }) (tick_from (past ++ e ∷ []) p.ripe)) (Some (key_at p.place))))
+        (post_behind past task runner delay ∷ [])) delayed
+    ∙ ap (λ o. ready past ++ filter_map (λ p. option_map (λ k. record { posted = p; key = k })
+        (option_map (λ place. record { place = place; ripe = p.ripe; post = p.place }) o)) (post_behind past task runner delay ∷ []))
+        (tick_from_push past e (post_behind past task runner delay).ripe
+        ∙ ap (λ o. option_or o (tick_by past (post_behind past task runner delay).ripe e.kind)) unripe
+        ∙ ap (λ kind. tick_by past (post_behind past task runner delay).ripe kind) is)
     ∙ append-nil (ready past)
 
 pub ready_at_tick : (past : List Entry) (e : Entry) (moment : ℕ) → e.kind ≡ Tick moment → ready (past ++ e ∷ []) ≡ ready_at_tick_of past moment
 ready_at_tick past e moment is =
     grown past e
-    ∙ ap (λ kind. filter_map (with_key (λ p. option_or (key_of past p) (key_by past p kind))) (posts past) ++ filter_map (with_key (key_of (past ++ e ∷ []))) (posted_by past kind)) is
+    ∙ ap (λ kind. filter_map (with_key (λ p. option_or (key_of past p) (key_by past p kind))) (posts past)
+        ++ filter_map (with_key (key_of (past ++ e ∷ []))) (posted_by past kind)) is
     ∙ append-nil (filter_map (with_key (λ p. option_or (key_of past p) (key_by past p (Tick moment)))) (posts past))
 
 -- what holds of each element of a list holds of what is made of them
-pub AllByRecursion-filter_map : {A B : Type 0} (P : A → Type 0) (Q : B → Type 0) (f : A → Option B) (xs : List A) → ((x : A) (y : B) → P x → f x ≡ Some y → Q y) → AllByRecursion P xs → AllByRecursion Q (filter_map f xs)
+pub AllByRecursion-filter_map : {A B : Type 0} (P : A → Type 0) (Q : B → Type 0) (f : A → Option B) (xs : List A)
+    → ((x : A) (y : B) → P x → f x ≡ Some y → Q y) → AllByRecursion P xs → AllByRecursion Q (filter_map f xs)
 AllByRecursion-filter_map P Q f [] h all = tt
 AllByRecursion-filter_map {B = B} P Q f (x ∷ xs) h all = made (f x) (λ y is. h x y all.0 is) (AllByRecursion-filter_map P Q f xs h all.1)
   where
@@ -163,14 +192,20 @@ within_more : (n m : ℕ) (p : Posted) → n ≤ m → within n p → within m p
 within_more n m p more is = let lt : p.place < n = ltb-true p.place n is in lt-ltb p.place m (omega arith)
 
 -- each accepted task has its place in the past
-pub places_from : (added : List Entry → Kind → List Posted) → ((before : List Entry) (kind : Kind) → AllByRecursion (λ p. p.place ≡ length before) (added before kind)) → (before : List Entry) (known : List Posted) (rest : List Entry) → AllByRecursion (within (length before)) known → AllByRecursion (within (length before + length rest)) (fold_past_from (λ b k x. k ++ added b x.kind) before known rest)
-places_from added at before known [] all = AllByRecursion-map (within (length before)) (within (length before + 0)) known (λ p. within_more (length before) (length before + 0) p (omega arith)) all
+pub places_from : (added : List Entry → Kind → List Posted) → ((before : List Entry) (kind : Kind)
+    → AllByRecursion (λ p. p.place ≡ length before) (added before kind)) → (before : List Entry) (known : List Posted) (rest : List Entry)
+    → AllByRecursion (within (length before)) known → AllByRecursion (within (length before + length rest))
+    (fold_past_from (λ b k x. k ++ added b x.kind) before known rest)
+places_from added at before known [] all = AllByRecursion-map (within (length before)) (within (length before + 0)) known
+    (λ p. within_more (length before) (length before + 0) p (omega arith)) all
 places_from added at before known (x ∷ rest) all =
     subst (λ n. AllByRecursion (within n) (fold_past_from (λ b k y. k ++ added b y.kind) (before ++ x ∷ []) (known ++ added before x.kind) rest)) longer
     (places_from added at (before ++ x ∷ []) (known ++ added before x.kind) rest
     (AllByRecursion-append (within (length (before ++ x ∷ []))) known (added before x.kind)
-    (AllByRecursion-map (within (length before)) (within (length (before ++ x ∷ []))) known (λ p. within_more (length before) (length (before ++ x ∷ [])) p (omega (arith, one))) all)
-    (AllByRecursion-map (λ p. p.place ≡ length before) (within (length (before ++ x ∷ []))) (added before x.kind) (λ p is. lt-ltb p.place (length (before ++ x ∷ [])) (omega (arith, one, is))) (at before x.kind))))
+    (AllByRecursion-map (within (length before)) (within (length (before ++ x ∷ []))) known
+        (λ p. within_more (length before) (length (before ++ x ∷ [])) p (omega (arith, one))) all)
+    (AllByRecursion-map (λ p. p.place ≡ length before) (within (length (before ++ x ∷ []))) (added before x.kind)
+        (λ p is. lt-ltb p.place (length (before ++ x ∷ [])) (omega (arith, one, is))) (at before x.kind))))
   where
     one : length (before ++ x ∷ []) ≡ length before + 1
     one = length-append before (x ∷ [])
@@ -199,7 +234,8 @@ pub position-within : {A : Type 0} (test : A → Bool) (i : ℕ) (xs : List A) (
 position-within test i [] n is = absurd (none-some n is)
 position-within test i (x ∷ xs) n is = by (test x) is (position-within test (i + 1) xs n)
   where
-    by : (b : Bool) → cond b (Some i) (position_from test (i + 1) xs) ≡ Some n → (position_from test (i + 1) xs ≡ Some n → n < i + 1 + length xs) → n < i + suc (length xs)
+    by : (b : Bool) → cond b (Some i) (position_from test (i + 1) xs) ≡ Some n → (position_from test (i + 1) xs ≡ Some n → n < i + 1 + length xs)
+        → n < i + suc (length xs)
     by true h rest = let same : i ≡ n = some-injective h in omega (arith, same)
     by false h rest = let lt : n < i + 1 + length xs = rest h in omega (arith, lt)
 
@@ -224,16 +260,19 @@ key_within past p key in_past is = by (is_delayed p) is
 -- each key of the past has its place in the past
 pub keys_within : (past : List Entry) → AllByRecursion (λ r. nat_lt r.key.place (length past) ≡ true) (ready past)
 unfolding ready
-keys_within past = AllByRecursion-filter_map (within (length past)) (λ r. nat_lt r.key.place (length past) ≡ true) (with_key (key_of past)) (posts past) (λ p r in_past is. kept p (key_of past p) (λ key some. key_within past p key in_past some) r is) (posts_within past)
+keys_within past = AllByRecursion-filter_map (within (length past)) (λ r. nat_lt r.key.place (length past) ≡ true) (with_key (key_of past)) (posts past)
+    (λ p r in_past is. kept p (key_of past p) (λ key some. key_within past p key in_past some) r is) (posts_within past)
   where
-    kept : (p : Posted) (o : Option Key) → ((key : Key) → o ≡ Some key → nat_lt key.place (length past) ≡ true) → (r : Ready) → option_map (λ k. record { posted = p; key = k }) o ≡ Some r → nat_lt r.key.place (length past) ≡ true
+    kept : (p : Posted) (o : Option Key) → ((key : Key) → o ≡ Some key → nat_lt key.place (length past) ≡ true) → (r : Ready)
+        → option_map (λ k. record { posted = p; key = k }) o ≡ Some r → nat_lt r.key.place (length past) ≡ true
     kept p None f r none = absurd (none-some r none)
     kept p (Some key) f r some = subst (λ x. nat_lt x.key.place (length past) ≡ true) (some-injective some) (f key refl)
 
 -- what holds of each accepted task holds of each that has a key
 pub AllByRecursion-ready : (P : Posted → Type 0) (past : List Entry) → AllByRecursion P (posts past) → AllByRecursion (λ r. P r.posted) (ready past)
 unfolding ready
-AllByRecursion-ready P past all = AllByRecursion-filter_map P (λ r. P r.posted) (with_key (key_of past)) (posts past) (λ p r is some. kept p (key_of past p) is r some) all
+AllByRecursion-ready P past all = AllByRecursion-filter_map P (λ r. P r.posted) (with_key (key_of past)) (posts past)
+    (λ p r is some. kept p (key_of past p) is r some) all
   where
     kept : (p : Posted) (o : Option Key) → P p → (r : Ready) → option_map (λ k. record { posted = p; key = k }) o ≡ Some r → P r.posted
     kept p None is r none = absurd (none-some r none)

@@ -45,13 +45,17 @@ or-false true = refl
 or-false false = refl
 
 -- an entry that takes nothing and leaves the phase leaves what may start
-may_start_same : (script : Plan) (past : List Entry) (e : Entry) → ((t : ℕ) → takes t e.kind ≡ false) → ((phase : Phase) → phase_after phase e.kind ≡ phase) → (p : Posted) → may_start script (past ++ e ∷ []) p ≡ may_start script past p
+may_start_same : (script : Plan) (past : List Entry) (e : Entry) → ((t : ℕ) → takes t e.kind ≡ false) → ((phase : Phase) → phase_after phase e.kind ≡ phase)
+    → (p : Posted) → may_start script (past ++ e ∷ []) p ≡ may_start script past p
 may_start_same script past e no_take no_phase p =
-    ap (λ b. not b && not (is_forbidden script (past ++ e ∷ []) p)) (is_taken_push past e p.task ∙ ap (λ b. is_taken past p.task || b) (no_take p.task) ∙ or-false (is_taken past p.task))
+    ap (λ b. not b && not (is_forbidden script (past ++ e ∷ []) p)) (is_taken_push past e p.task ∙ ap (λ b. is_taken past p.task || b) (no_take p.task)
+        ∙ or-false (is_taken past p.task))
     ∙ ap (λ phase. not (is_taken past p.task) && not (forbids phase (effective_at script p.home p.delay))) (phase_of_push past e ∙ no_phase (phase_of past))
 
-chosen_same : (script : Plan) (past : List Entry) (e : Entry) (s : ℕ) → ((t : ℕ) → takes t e.kind ≡ false) → ((phase : Phase) → phase_after phase e.kind ≡ phase) → (xs : List Ready) → filter (chosen script (past ++ e ∷ []) s) xs ≡ filter (chosen script past s) xs
-chosen_same script past e s no_take no_phase xs = filter_congr (chosen script (past ++ e ∷ []) s) (chosen script past s) xs (λ r. ap (λ b. is_of script s r.posted && b) (may_start_same script past e no_take no_phase r.posted))
+chosen_same : (script : Plan) (past : List Entry) (e : Entry) (s : ℕ) → ((t : ℕ) → takes t e.kind ≡ false)
+    → ((phase : Phase) → phase_after phase e.kind ≡ phase) → (xs : List Ready) → filter (chosen script (past ++ e ∷ []) s) xs ≡ filter (chosen script past s) xs
+chosen_same script past e s no_take no_phase xs = filter_congr (chosen script (past ++ e ∷ []) s) (chosen script past s) xs
+    (λ r. ap (λ b. is_of script s r.posted && b) (may_start_same script past e no_take no_phase r.posted))
 
 pub eligible_same : (script : Plan) (past : List Entry) (e : Entry) (s : ℕ) → moves_sequences e.kind ≡ false
     → eligible script (past ++ e ∷ []) s ≡ eligible script past s
@@ -75,18 +79,23 @@ eligible_same script past e s quiet =
     no_phase kind h phase = refl
 
 -- an entry of this kind leaves what may start
-chosen_at : (script : Plan) (past : List Entry) (e : Entry) (s : ℕ) (kind : Kind) → e.kind ≡ kind → ((t : ℕ) → takes t kind ≡ false) → ((phase : Phase) → phase_after phase kind ≡ phase) → (xs : List Ready) → filter (chosen script (past ++ e ∷ []) s) xs ≡ filter (chosen script past s) xs
-chosen_at script past e s kind is no_take no_phase xs = chosen_same script past e s (λ t. ap (takes t) is ∙ no_take t) (λ phase. ap (phase_after phase) is ∙ no_phase phase) xs
+chosen_at : (script : Plan) (past : List Entry) (e : Entry) (s : ℕ) (kind : Kind) → e.kind ≡ kind → ((t : ℕ) → takes t kind ≡ false)
+    → ((phase : Phase) → phase_after phase kind ≡ phase) → (xs : List Ready) → filter (chosen script (past ++ e ∷ []) s) xs ≡ filter (chosen script past s) xs
+chosen_at script past e s kind is no_take no_phase xs = chosen_same script past e s (λ t. ap (takes t) is ∙ no_take t) (λ phase. ap (phase_after phase) is
+    ∙ no_phase phase) xs
 
-pub eligible_at_post : (script : Plan) (past : List Entry) (e : Entry) (s task runner delay : ℕ) → e.kind ≡ kinds.Post task runner delay true → nat_lt 0 delay ≡ false
-    → eligible script (past ++ e ∷ []) s ≡ eligible script past s ++ (if joins script past s task runner delay then ready_behind past task runner delay ∷ [] else [])
+pub eligible_at_post : (script : Plan) (past : List Entry) (e : Entry) (s task runner delay : ℕ) → e.kind ≡ kinds.Post task runner delay true
+    → nat_lt 0 delay ≡ false
+    → eligible script (past ++ e ∷ []) s ≡ eligible script past s
+        ++ (if joins script past s task runner delay then ready_behind past task runner delay ∷ [] else [])
 unfolding eligible
 eligible_at_post script past e s task runner delay is immediate =
     chosen_at script past e s (kinds.Post task runner delay true) is (λ t. refl) (λ phase. refl) (ready (past ++ e ∷ []))
     ∙ ap (filter (chosen script past s)) (ready_at_post past e task runner delay is immediate)
     ∙ filter-append (chosen script past s) (ready past) (ready_behind past task runner delay ∷ [])
 
-pub eligible_at_delayed_post : (script : Plan) (past : List Entry) (e : Entry) (s task runner delay : ℕ) → e.kind ≡ kinds.Post task runner delay true → nat_lt 0 delay ≡ true
+pub eligible_at_delayed_post : (script : Plan) (past : List Entry) (e : Entry) (s task runner delay : ℕ) → e.kind ≡ kinds.Post task runner delay true
+    → nat_lt 0 delay ≡ true
     → tick_from past (now_of past + delay) ≡ None → eligible script (past ++ e ∷ []) s ≡ eligible script past s
 unfolding eligible
 eligible_at_delayed_post script past e s task runner delay is delayed unripe =
@@ -121,21 +130,28 @@ eligible_at_take script past e s task runner found is =
 
     same : (r : Ready) → chosen script (past ++ e ∷ []) s r ≡ (chosen script past s r && not (eqb r.posted.task task))
     same r =
-        ap (λ b. is_of script s r.posted && (not b && not (is_forbidden script (past ++ e ∷ []) r.posted))) (is_taken_push past e r.posted.task ∙ ap (λ kind. is_taken past r.posted.task || takes r.posted.task kind) is)
-        ∙ ap (λ phase. is_of script s r.posted && (not (is_taken past r.posted.task || eqb task r.posted.task) && not (forbids phase (effective_at script r.posted.home r.posted.delay)))) (phase_of_push past e ∙ ap (phase_after (phase_of past)) is)
+        ap (λ b. is_of script s r.posted && (not b && not (is_forbidden script (past ++ e ∷ []) r.posted))) (is_taken_push past e r.posted.task
+            ∙ ap (λ kind. is_taken past r.posted.task || takes r.posted.task kind) is)
+        ∙ ap (λ phase. is_of script s r.posted && (not (is_taken past r.posted.task || eqb task r.posted.task)
+            && not (forbids phase (effective_at script r.posted.home r.posted.delay)))) (phase_of_push past e ∙ ap (phase_after (phase_of past)) is)
         ∙ ap (λ b. is_of script s r.posted && (not (is_taken past r.posted.task || b) && not (is_forbidden script past r.posted))) (turned task r.posted.task)
         ∙ swapped (is_of script s r.posted) (is_taken past r.posted.task) (eqb r.posted.task task) (is_forbidden script past r.posted)
 
 -- a sequence has no eligible task that is not posted to it
-no_member : (script : Plan) (past : List Entry) (s task : ℕ) → is_task_of script past s task ≡ false → AllByRecursion (λ r. not (eqb r.posted.task task) ≡ true) (eligible script past s)
+no_member : (script : Plan) (past : List Entry) (s task : ℕ) → is_task_of script past s task ≡ false
+    → AllByRecursion (λ r. not (eqb r.posted.task task) ≡ true) (eligible script past s)
 unfolding eligible
-no_member script past s task none = kept (ready past) (AllByRecursion-ready (λ p. (eqb p.task task && is_of script s p) ≡ false) past (absent (posts past) none))
+no_member script past s task none = kept (ready past) (AllByRecursion-ready (λ p. (eqb p.task task && is_of script s p) ≡ false) past
+    (absent (posts past) none))
   where
-    absent : (ps : List Posted) → list_any (λ p. eqb p.task task && is_of script s p) ps ≡ false → AllByRecursion (λ p. (eqb p.task task && is_of script s p) ≡ false) ps
+    absent : (ps : List Posted) → list_any (λ p. eqb p.task task && is_of script s p) ps ≡ false
+        → AllByRecursion (λ p. (eqb p.task task && is_of script s p) ≡ false) ps
     absent [] h = tt
     absent (p ∷ ps) h = split (eqb p.task task && is_of script s p) h (absent ps)
       where
-        split : (b : Bool) → (b || list_any (λ q. eqb q.task task && is_of script s q) ps) ≡ false → (list_any (λ q. eqb q.task task && is_of script s q) ps ≡ false → AllByRecursion (λ q. (eqb q.task task && is_of script s q) ≡ false) ps) → (b ≡ false) × AllByRecursion (λ q. (eqb q.task task && is_of script s q) ≡ false) ps
+        split : (b : Bool) → (b || list_any (λ q. eqb q.task task && is_of script s q) ps) ≡ false
+            → (list_any (λ q. eqb q.task task && is_of script s q) ps ≡ false → AllByRecursion (λ q. (eqb q.task task && is_of script s q) ≡ false) ps)
+            → (b ≡ false) × AllByRecursion (λ q. (eqb q.task task && is_of script s q) ≡ false) ps
         split true h f = absurd (true≢false h)
         split false h f = (refl, f h)
 
@@ -144,11 +160,13 @@ no_member script past s task none = kept (ready past) (AllByRecursion-ready (λ 
     one true false may h k = k
     one true true may h k = sym h
 
-    kept : (xs : List Ready) → AllByRecursion (λ r. (eqb r.posted.task task && is_of script s r.posted) ≡ false) xs → AllByRecursion (λ r. not (eqb r.posted.task task) ≡ true) (filter (chosen script past s) xs)
+    kept : (xs : List Ready) → AllByRecursion (λ r. (eqb r.posted.task task && is_of script s r.posted) ≡ false) xs
+        → AllByRecursion (λ r. not (eqb r.posted.task task) ≡ true) (filter (chosen script past s) xs)
     kept [] all = tt
     kept (x ∷ xs) all = by (chosen script past s x) refl (kept xs all.1)
       where
-        by : (b : Bool) → chosen script past s x ≡ b → AllByRecursion (λ r. not (eqb r.posted.task task) ≡ true) (filter (chosen script past s) xs) → AllByRecursion (λ r. not (eqb r.posted.task task) ≡ true) (cond b (x ∷ filter (chosen script past s) xs) (filter (chosen script past s) xs))
+        by : (b : Bool) → chosen script past s x ≡ b → AllByRecursion (λ r. not (eqb r.posted.task task) ≡ true) (filter (chosen script past s) xs)
+            → AllByRecursion (λ r. not (eqb r.posted.task task) ≡ true) (cond b (x ∷ filter (chosen script past s) xs) (filter (chosen script past s) xs))
         by true passes rest = (one (eqb x.posted.task task) (is_of script s x.posted) (may_start script past x.posted) all.0 passes, rest)
         by false passes rest = rest
 
@@ -180,9 +198,11 @@ eligible_at_shutdown script past e s is =
 
     same : (r : Ready) → chosen script (past ++ e ∷ []) s r ≡ (chosen script past s r && not (is_forbidden script (past ++ e ∷ []) r.posted))
     same r =
-        ap (λ b. is_of script s r.posted && (not b && not (is_forbidden script (past ++ e ∷ []) r.posted))) (is_taken_push past e r.posted.task ∙ ap (λ kind. is_taken past r.posted.task || takes r.posted.task kind) is ∙ or-false (is_taken past r.posted.task))
+        ap (λ b. is_of script s r.posted && (not b && not (is_forbidden script (past ++ e ∷ []) r.posted))) (is_taken_push past e r.posted.task
+            ∙ ap (λ kind. is_taken past r.posted.task || takes r.posted.task kind) is ∙ or-false (is_taken past r.posted.task))
         ∙ joined (is_of script s r.posted) (is_taken past r.posted.task) (is_forbidden script past r.posted) (is_forbidden script (past ++ e ∷ []) r.posted)
-        (λ was. ap (λ phase. forbids phase (effective_at script r.posted.home r.posted.delay)) (phase_of_push past e ∙ ap (phase_after (phase_of past)) is) ∙ later (phase_of past) (effective_at script r.posted.home r.posted.delay) was)
+        (λ was. ap (λ phase. forbids phase (effective_at script r.posted.home r.posted.delay)) (phase_of_push past e ∙ ap (phase_after (phase_of past)) is)
+            ∙ later (phase_of past) (effective_at script r.posted.home r.posted.delay) was)
 
 pub eligible_at_done : (script : Plan) (past : List Entry) (e : Entry) (s : ℕ) → e.kind ≡ kinds.Done → eligible script (past ++ e ∷ []) s ≡ []
 unfolding eligible
@@ -194,7 +214,8 @@ eligible_at_done script past e s is = filter_never (chosen script (past ++ e ∷
     neither true false = refl
 
     none : (r : Ready) → chosen script (past ++ e ∷ []) s r ≡ false
-    none r = ap (λ phase. is_of script s r.posted && (not (is_taken (past ++ e ∷ []) r.posted.task) && not (forbids phase (effective_at script r.posted.home r.posted.delay)))) (phase_of_push past e ∙ ap (phase_after (phase_of past)) is)
+    none r = ap (λ phase. is_of script s r.posted && (not (is_taken (past ++ e ∷ []) r.posted.task)
+        && not (forbids phase (effective_at script r.posted.home r.posted.delay)))) (phase_of_push past e ∙ ap (phase_after (phase_of past)) is)
         ∙ neither (is_of script s r.posted) (is_taken (past ++ e ∷ []) r.posted.task)
 
 -- the eligible tasks, by the posts of the sequence that may start
@@ -203,22 +224,29 @@ startable script past s p = is_of script s p && may_start script past p
 
 -- the eligible tasks, by the posts of the sequence that may start
 pub eligible_by_posts : (script : Plan) (past : List Entry) (s : ℕ)
-    → eligible script past s ≡ filter_map (λ p. option_map (λ key. record { posted = p; key = key }) (key_of past p)) (filter (λ p. is_of script s p && may_start script past p) (posts past))
+    → eligible script past s ≡ filter_map (λ p. option_map (λ key. record { posted = p; key = key }) (key_of past p))
+        (filter (λ p. is_of script s p && may_start script past p) (posts past))
 unfolding eligible ready
-eligible_by_posts script past s = sym (filter-filter_map (chosen script past s) (startable script past s) (with_key (key_of past)) (posts past) (λ p r made. by p (key_of past p) r made))
+eligible_by_posts script past s = sym (filter-filter_map (chosen script past s) (startable script past s) (with_key (key_of past)) (posts past)
+    (λ p r made. by p (key_of past p) r made))
   where
-    by : (p : Posted) (o : Option Key) (r : Ready) → option_map (λ key. record { posted = p; key = key }) o ≡ Some r → chosen script past s r ≡ startable script past s p
+    by : (p : Posted) (o : Option Key) (r : Ready) → option_map (λ key. record { posted = p; key = key }) o ≡ Some r
+        → chosen script past s r ≡ startable script past s p
     by p None r none = absurd (none-some r none)
     by p (Some key) r some = ap (chosen script past s) (sym (some-injective some))
 
 -- the eligible tasks after a tick, by the posts that may start
 at_tick : (script : Plan) (past : List Entry) (e : Entry) (s moment : ℕ) → e.kind ≡ kinds.Tick moment
-    → eligible script (past ++ e ∷ []) s ≡ filter_map (with_key (λ p. option_or (key_of past p) (key_by past p (kinds.Tick moment)))) (filter (startable script past s) (posts past))
+    → eligible script (past ++ e ∷ []) s ≡ filter_map (with_key (λ p. option_or (key_of past p) (key_by past p (kinds.Tick moment))))
+        (filter (startable script past s) (posts past))
 at_tick script past e s moment is =
     eligible_by_posts script (past ++ e ∷ []) s
-    ∙ ap (λ ps. filter_map (with_key (key_of (past ++ e ∷ []))) (filter (startable script (past ++ e ∷ []) s) ps)) (posts_push past e ∙ ap (λ kind. posts past ++ posted_by past kind) is ∙ append-nil (posts past))
-    ∙ ap (filter_map (with_key (key_of (past ++ e ∷ [])))) (filter_congr (startable script (past ++ e ∷ []) s) (startable script past s) (posts past) (λ p. ap (λ b. is_of script s p && b) (may_start_same script past e (λ t. ap (takes t) is) (λ phase. ap (phase_after phase) is) p)))
-    ∙ filter_map_congr (with_key (key_of (past ++ e ∷ []))) (with_key (λ p. option_or (key_of past p) (key_by past p (kinds.Tick moment)))) (filter (startable script past s) (posts past))
+    ∙ ap (λ ps. filter_map (with_key (key_of (past ++ e ∷ []))) (filter (startable script (past ++ e ∷ []) s) ps)) (posts_push past e
+        ∙ ap (λ kind. posts past ++ posted_by past kind) is ∙ append-nil (posts past))
+    ∙ ap (filter_map (with_key (key_of (past ++ e ∷ [])))) (filter_congr (startable script (past ++ e ∷ []) s) (startable script past s) (posts past)
+        (λ p. ap (λ b. is_of script s p && b) (may_start_same script past e (λ t. ap (takes t) is) (λ phase. ap (phase_after phase) is) p)))
+    ∙ filter_map_congr (with_key (key_of (past ++ e ∷ []))) (with_key (λ p. option_or (key_of past p) (key_by past p (kinds.Tick moment))))
+        (filter (startable script past s) (posts past))
     (λ p. ap (option_map (λ key. record { posted = p; key = key })) (key_of_push past e p ∙ ap (λ kind. option_or (key_of past p) (key_by past p kind)) is))
 
 -- the key of a tick has its place behind the past
@@ -228,28 +256,33 @@ fresh_place past p moment key is = by (is_delayed p) (nat_le p.ripe moment) is
     no_key : Option Key
     no_key = None
 
-    by : (d r : Bool) → cond d (option_map (λ place. record { place = place; ripe = p.ripe; post = p.place }) (cond r (Some (length past)) None)) no_key ≡ Some key → nat_lt key.place (length past) ≡ false
+    by : (d r : Bool) → cond d (option_map (λ place. record { place = place; ripe = p.ripe; post = p.place }) (cond r (Some (length past)) None)) no_key
+        ≡ Some key → nat_lt key.place (length past) ≡ false
     by true true some = ap (λ k. nat_lt k.place (length past)) (sym (some-injective some)) ∙ le-ltb (length past) (length past) (omega arith)
     by true false none = absurd (none-some key none)
     by false r none = absurd (none-some key none)
 
 -- a task of the past at a tick: it keeps its key, or has the key of the tick
 tick_parts : (past : List Entry) (moment : ℕ) (p : Posted) → nat_lt p.place (length past) ≡ true
-    → (keep (λ r. nat_lt r.key.place (length past)) (with_key (λ q. option_or (key_of past q) (key_by past q (kinds.Tick moment))) p) ≡ with_key (key_of past) p)
-    × (keep (λ r. not (nat_lt r.key.place (length past))) (with_key (λ q. option_or (key_of past q) (key_by past q (kinds.Tick moment))) p) ≡ ripe_at_tick_of past moment p)
+    → (keep (λ r. nat_lt r.key.place (length past)) (with_key (λ q. option_or (key_of past q) (key_by past q (kinds.Tick moment))) p)
+        ≡ with_key (key_of past) p)
+    × (keep (λ r. not (nat_lt r.key.place (length past))) (with_key (λ q. option_or (key_of past q) (key_by past q (kinds.Tick moment))) p)
+        ≡ ripe_at_tick_of past moment p)
 tick_parts past moment p within = old (key_of past p) (λ key is. key_within past p key within is)
   where
     made : Key → Ready
     made key = record { posted = p; key = key }
 
     new : (o : Option Key) → ((key : Key) → o ≡ Some key → nat_lt key.place (length past) ≡ false)
-        → (keep (λ r. nat_lt r.key.place (length past)) (option_map made o) ≡ None) × (keep (λ r. not (nat_lt r.key.place (length past))) (option_map made o) ≡ option_map made o)
+        → (keep (λ r. nat_lt r.key.place (length past)) (option_map made o) ≡ None)
+            × (keep (λ r. not (nat_lt r.key.place (length past))) (option_map made o) ≡ option_map made o)
     new None f = (refl, refl)
     new (Some key) f = (ap (λ b. cond b (Some (made key)) None) (f key refl), ap (λ b. cond (not b) (Some (made key)) None) (f key refl))
 
     old : (o : Option Key) → ((key : Key) → o ≡ Some key → nat_lt key.place (length past) ≡ true)
         → (keep (λ r. nat_lt r.key.place (length past)) (option_map made (option_or o (key_by past p (kinds.Tick moment)))) ≡ option_map made o)
-        × (keep (λ r. not (nat_lt r.key.place (length past))) (option_map made (option_or o (key_by past p (kinds.Tick moment)))) ≡ cond (is_none o) (option_map made (key_by past p (kinds.Tick moment))) None)
+        × (keep (λ r. not (nat_lt r.key.place (length past))) (option_map made (option_or o (key_by past p (kinds.Tick moment))))
+            ≡ cond (is_none o) (option_map made (key_by past p (kinds.Tick moment))) None)
     old None f = new (key_by past p (kinds.Tick moment)) (λ key is. fresh_place past p moment key is)
     old (Some key) f = (ap (λ b. cond b (Some (made key)) None) (f key refl), ap (λ b. cond (not b) (Some (made key)) None) (f key refl))
 
@@ -258,9 +291,13 @@ pub eligible_old_at_tick : (script : Plan) (past : List Entry) (e : Entry) (s mo
     → filter (λ r. nat_lt r.key.place (length past)) (eligible script (past ++ e ∷ []) s) ≡ eligible script past s
 eligible_old_at_tick script past e s moment is =
     ap (filter (λ r. nat_lt r.key.place (length past))) (at_tick script past e s moment is)
-    ∙ filter-keep (λ r. nat_lt r.key.place (length past)) (with_key (λ q. option_or (key_of past q) (key_by past q (kinds.Tick moment)))) (filter (startable script past s) (posts past))
-    ∙ filter_map_congr_in (λ p. keep (λ r. nat_lt r.key.place (length past)) (with_key (λ q. option_or (key_of past q) (key_by past q (kinds.Tick moment))) p)) (with_key (key_of past)) (filter (startable script past s) (posts past))
-    (AllByRecursion-map (λ p. nat_lt p.place (length past) ≡ true) (λ p. keep (λ r. nat_lt r.key.place (length past)) (with_key (λ q. option_or (key_of past q) (key_by past q (kinds.Tick moment))) p) ≡ with_key (key_of past) p) (filter (startable script past s) (posts past)) (λ p within. (tick_parts past moment p within).0)
+    ∙ filter-keep (λ r. nat_lt r.key.place (length past)) (with_key (λ q. option_or (key_of past q) (key_by past q (kinds.Tick moment))))
+        (filter (startable script past s) (posts past))
+    ∙ filter_map_congr_in (λ p. keep (λ r. nat_lt r.key.place (length past)) (with_key (λ q. option_or (key_of past q) (key_by past q (kinds.Tick moment))) p))
+        (with_key (key_of past)) (filter (startable script past s) (posts past))
+    (AllByRecursion-map (λ p. nat_lt p.place (length past) ≡ true)
+        (λ p. keep (λ r. nat_lt r.key.place (length past)) (with_key (λ q. option_or (key_of past q) (key_by past q (kinds.Tick moment))) p)
+        ≡ with_key (key_of past) p) (filter (startable script past s) (posts past)) (λ p within. (tick_parts past moment p within).0)
     (AllByRecursion-filter (λ p. nat_lt p.place (length past) ≡ true) (startable script past s) (posts past) (posts_within past)))
     ∙ sym (eligible_by_posts script past s)
 
@@ -270,20 +307,29 @@ pub eligible_new_at_tick : (script : Plan) (past : List Entry) (e : Entry) (s mo
     ≡ filter_map (ripe_at_tick_of past moment) (filter (λ p. is_of script s p && may_start script past p) (posts past))
 eligible_new_at_tick script past e s moment is =
     ap (filter (λ r. not (nat_lt r.key.place (length past)))) (at_tick script past e s moment is)
-    ∙ filter-keep (λ r. not (nat_lt r.key.place (length past))) (with_key (λ q. option_or (key_of past q) (key_by past q (kinds.Tick moment)))) (filter (startable script past s) (posts past))
-    ∙ filter_map_congr_in (λ p. keep (λ r. not (nat_lt r.key.place (length past))) (with_key (λ q. option_or (key_of past q) (key_by past q (kinds.Tick moment))) p)) (ripe_at_tick_of past moment) (filter (startable script past s) (posts past))
-    (AllByRecursion-map (λ p. nat_lt p.place (length past) ≡ true) (λ p. keep (λ r. not (nat_lt r.key.place (length past))) (with_key (λ q. option_or (key_of past q) (key_by past q (kinds.Tick moment))) p) ≡ ripe_at_tick_of past moment p) (filter (startable script past s) (posts past)) (λ p within. (tick_parts past moment p within).1)
+    ∙ filter-keep (λ r. not (nat_lt r.key.place (length past))) (with_key (λ q. option_or (key_of past q) (key_by past q (kinds.Tick moment))))
+        (filter (startable script past s) (posts past))
+    ∙ filter_map_congr_in (λ p. keep (λ r. not (nat_lt r.key.place (length past)))
+        (with_key (λ q. option_or (key_of past q) (key_by past q (kinds.Tick moment))) p)) (ripe_at_tick_of past moment)
+        (filter (startable script past s) (posts past))
+    (AllByRecursion-map (λ p. nat_lt p.place (length past) ≡ true)
+        (λ p. keep (λ r. not (nat_lt r.key.place (length past))) (with_key (λ q. option_or (key_of past q) (key_by past q (kinds.Tick moment))) p)
+        ≡ ripe_at_tick_of past moment p) (filter (startable script past s) (posts past)) (λ p within. (tick_parts past moment p within).1)
     (AllByRecursion-filter (λ p. nat_lt p.place (length past) ≡ true) (startable script past s) (posts past) (posts_within past)))
 
 -- a tick leaves the sequences none of whose tasks become ripe
-pub eligible_at_other_tick : (script : Plan) (past : List Entry) (e : Entry) (s moment : ℕ) → e.kind ≡ kinds.Tick moment → AllByRecursion (is_unripe script past s moment) (posts past)
+pub eligible_at_other_tick : (script : Plan) (past : List Entry) (e : Entry) (s moment : ℕ) → e.kind ≡ kinds.Tick moment
+    → AllByRecursion (is_unripe script past s moment) (posts past)
     → eligible script (past ++ e ∷ []) s ≡ eligible script past s
 eligible_at_other_tick script past e s moment is unripe =
     eligible_by_posts script (past ++ e ∷ []) s
-    ∙ ap (λ ps. filter_map (with_key (key_of (past ++ e ∷ []))) (filter (startable script (past ++ e ∷ []) s) ps)) (posts_push past e ∙ ap (λ kind. posts past ++ posted_by past kind) is ∙ append-nil (posts past))
-    ∙ ap (filter_map (with_key (key_of (past ++ e ∷ [])))) (filter_congr (startable script (past ++ e ∷ []) s) (startable script past s) (posts past) (λ p. ap (λ b. is_of script s p && b) (may_start_same script past e (λ t. ap (takes t) is) (λ phase. ap (phase_after phase) is) p)))
+    ∙ ap (λ ps. filter_map (with_key (key_of (past ++ e ∷ []))) (filter (startable script (past ++ e ∷ []) s) ps)) (posts_push past e
+        ∙ ap (λ kind. posts past ++ posted_by past kind) is ∙ append-nil (posts past))
+    ∙ ap (filter_map (with_key (key_of (past ++ e ∷ [])))) (filter_congr (startable script (past ++ e ∷ []) s) (startable script past s) (posts past)
+        (λ p. ap (λ b. is_of script s p && b) (may_start_same script past e (λ t. ap (takes t) is) (λ phase. ap (phase_after phase) is) p)))
     ∙ filter_map_congr_in (with_key (key_of (past ++ e ∷ []))) (with_key (key_of past)) (filter (startable script past s) (posts past))
-    (AllByRecursion-map (λ p. is_unripe script past s moment p × (startable script past s p ≡ true)) (λ p. with_key (key_of (past ++ e ∷ [])) p ≡ with_key (key_of past) p) (filter (startable script past s) (posts past))
+    (AllByRecursion-map (λ p. is_unripe script past s moment p × (startable script past s p ≡ true))
+        (λ p. with_key (key_of (past ++ e ∷ [])) p ≡ with_key (key_of past) p) (filter (startable script past s) (posts past))
     (λ p known. ap (option_map (λ key. record { posted = p; key = key })) (same p known.0 known.1))
     (AllByRecursion-both (is_unripe script past s moment) (λ p. startable script past s p ≡ true) (filter (startable script past s) (posts past))
     (AllByRecursion-filter (is_unripe script past s moment) (startable script past s) (posts past) unripe)
@@ -300,15 +346,19 @@ eligible_at_other_tick script past e s moment is unripe =
     same : (p : Posted) → is_unripe script past s moment p → startable script past s p ≡ true → key_of (past ++ e ∷ []) p ≡ key_of past p
     same p not_ripe starts = by (is_delayed p) refl
       where
-        ticks : (o : Option ℕ) → tick_from past p.ripe ≡ o → (o ≡ None → moment < p.ripe) → option_or o (cond (nat_le p.ripe moment) (Some (length past)) None) ≡ o
+        ticks : (o : Option ℕ) → tick_from past p.ripe ≡ o → (o ≡ None → moment < p.ripe)
+            → option_or o (cond (nat_le p.ripe moment) (Some (length past)) None) ≡ o
         ticks (Some place) was f = refl
         ticks None was f = ap (λ (b : Bool). cond b (Some (length past)) None) (lt-leb p.ripe moment (f refl))
 
-        by : (b : Bool) → is_delayed p ≡ b → cond b (option_map (key p) (tick_from (past ++ e ∷ []) p.ripe)) (Some (key_at p.place)) ≡ cond b (option_map (key p) (tick_from past p.ripe)) (Some (key_at p.place))
+        by : (b : Bool) → is_delayed p ≡ b → cond b (option_map (key p) (tick_from (past ++ e ∷ []) p.ripe)) (Some (key_at p.place))
+            ≡ cond b (option_map (key p) (tick_from past p.ripe)) (Some (key_at p.place))
         by false immediate = refl
-        by true delayed = ap (option_map (key p)) (tick_from_push past e p.ripe ∙ ap (λ kind. option_or (tick_from past p.ripe) (tick_by past p.ripe kind)) is ∙ ticks (tick_from past p.ripe) refl (λ none. not_ripe delayed (first (is_of script s p) (may_start script past p) starts) none))
+        by true delayed = ap (option_map (key p)) (tick_from_push past e p.ripe ∙ ap (λ kind. option_or (tick_from past p.ripe) (tick_by past p.ripe kind)) is
+            ∙ ticks (tick_from past p.ripe) refl (λ none. not_ripe delayed (first (is_of script s p) (may_start script past p) starts) none))
 
-pub head_same : (script : Plan) (past : List Entry) (e : Entry) (s : ℕ) → moves_sequences e.kind ≡ false → head_of script (past ++ e ∷ []) s ≡ head_of script past s
+pub head_same : (script : Plan) (past : List Entry) (e : Entry) (s : ℕ) → moves_sequences e.kind ≡ false
+    → head_of script (past ++ e ∷ []) s ≡ head_of script past s
 unfolding head_of
 head_same script past e s quiet = ap (least ready_below) (eligible_same script past e s quiet)
 
@@ -317,10 +367,13 @@ unfolding eligible
 all_within script past s = AllByRecursion-filter (λ r. nat_lt r.key.place (length past) ≡ true) (chosen script past s) (ready past) (keys_within past)
 
 -- a task that is posted becomes the head only where there was none
-pub head_at_post : (script : Plan) (past : List Entry) (e : Entry) (s task runner delay : ℕ) → e.kind ≡ kinds.Post task runner delay true → nat_lt 0 delay ≡ false
-    → head_of script (past ++ e ∷ []) s ≡ option_or (head_of script past s) (if joins script past s task runner delay then Some (ready_behind past task runner delay) else None)
+pub head_at_post : (script : Plan) (past : List Entry) (e : Entry) (s task runner delay : ℕ) → e.kind ≡ kinds.Post task runner delay true
+    → nat_lt 0 delay ≡ false
+    → head_of script (past ++ e ∷ []) s ≡ option_or (head_of script past s)
+        (if joins script past s task runner delay then Some (ready_behind past task runner delay) else None)
 unfolding head_of
-head_at_post script past e s task runner delay is immediate = ap (least ready_below) (eligible_at_post script past e s task runner delay is immediate) ∙ by (joins script past s task runner delay)
+head_at_post script past e s task runner delay is immediate = ap (least ready_below) (eligible_at_post script past e s task runner delay is immediate)
+    ∙ by (joins script past s task runner delay)
   where
     new : Ready
     new = ready_behind past task runner delay
@@ -332,27 +385,35 @@ head_at_post script past e s task runner delay is immediate = ap (least ready_be
     above : (r : Ready) → nat_lt r.key.place (length past) ≡ true → ready_below new r ≡ false
     above r is =
         let lt : r.key.place < length past = ltb-true r.key.place (length past) is in
-        ap (λ b. b || (eqb (length past) r.key.place && (nat_lt 0 r.key.ripe || (eqb 0 r.key.ripe && nat_lt (length past) r.key.post)))) (le-ltb (length past) r.key.place (omega (arith, lt)))
-        ∙ ap (λ b. b && (nat_lt 0 r.key.ripe || (eqb 0 r.key.ripe && nat_lt (length past) r.key.post))) (ne_eqb (length past) r.key.place (λ same. omega (arith, lt, same)))
+        ap (λ b. b || (eqb (length past) r.key.place && (nat_lt 0 r.key.ripe || (eqb 0 r.key.ripe && nat_lt (length past) r.key.post))))
+            (le-ltb (length past) r.key.place (omega (arith, lt)))
+        ∙ ap (λ b. b && (nat_lt 0 r.key.ripe || (eqb 0 r.key.ripe && nat_lt (length past) r.key.post)))
+            (ne_eqb (length past) r.key.place (λ same. omega (arith, lt, same)))
 
     all : AllByRecursion (λ r. ready_below new r ≡ false) (eligible script past s)
-    all = AllByRecursion-map (λ r. nat_lt r.key.place (length past) ≡ true) (λ r. ready_below new r ≡ false) (eligible script past s) above (all_within script past s)
+    all = AllByRecursion-map (λ r. nat_lt r.key.place (length past) ≡ true) (λ r. ready_below new r ≡ false) (eligible script past s) above
+        (all_within script past s)
 
-    by : (b : Bool) → least ready_below (eligible script past s ++ cond b (new ∷ []) []) ≡ option_or (least ready_below (eligible script past s)) (cond b (Some new) None)
+    by : (b : Bool) → least ready_below (eligible script past s ++ cond b (new ∷ []) [])
+        ≡ option_or (least ready_below (eligible script past s)) (cond b (Some new) None)
     by true = least-push ready_below (eligible script past s) new all
     by false = ap (least ready_below) (append-nil (eligible script past s)) ∙ sym (or-none (least ready_below (eligible script past s)))
 
-pub head_at_delayed_post : (script : Plan) (past : List Entry) (e : Entry) (s task runner delay : ℕ) → e.kind ≡ kinds.Post task runner delay true → nat_lt 0 delay ≡ true
+pub head_at_delayed_post : (script : Plan) (past : List Entry) (e : Entry) (s task runner delay : ℕ) → e.kind ≡ kinds.Post task runner delay true
+    → nat_lt 0 delay ≡ true
     → tick_from past (now_of past + delay) ≡ None → head_of script (past ++ e ∷ []) s ≡ head_of script past s
 unfolding head_of
-head_at_delayed_post script past e s task runner delay is delayed unripe = ap (least ready_below) (eligible_at_delayed_post script past e s task runner delay is delayed unripe)
+head_at_delayed_post script past e s task runner delay is delayed unripe = ap (least ready_below)
+    (eligible_at_delayed_post script past e s task runner delay is delayed unripe)
 
 pub head_at_tick : (script : Plan) (past : List Entry) (e : Entry) (s moment : ℕ) → e.kind ≡ kinds.Tick moment
-    → head_of script (past ++ e ∷ []) s ≡ least ready_below (filter (λ r. is_of script s r.posted && may_start script past r.posted) (ready_at_tick_of past moment))
+    → head_of script (past ++ e ∷ []) s ≡ least ready_below (filter (λ r. is_of script s r.posted && may_start script past r.posted)
+        (ready_at_tick_of past moment))
 unfolding head_of
 head_at_tick script past e s moment is = ap (least ready_below) (eligible_at_tick script past e s moment is)
 
-pub head_at_other_tick : (script : Plan) (past : List Entry) (e : Entry) (s moment : ℕ) → e.kind ≡ kinds.Tick moment → AllByRecursion (is_unripe script past s moment) (posts past)
+pub head_at_other_tick : (script : Plan) (past : List Entry) (e : Entry) (s moment : ℕ) → e.kind ≡ kinds.Tick moment
+    → AllByRecursion (is_unripe script past s moment) (posts past)
     → head_of script (past ++ e ∷ []) s ≡ head_of script past s
 unfolding head_of
 head_at_other_tick script past e s moment is unripe = ap (least ready_below) (eligible_at_other_tick script past e s moment is unripe)

@@ -8,7 +8,7 @@ use Rattle.std.proofs.lemmas.Bool.{true≢false}
 use Rattle.task_base.specs.declared.entry.Kind.{Kind}
 use Rattle.task_base.specs.declared.entry.Kind.TheVariants.{End, MainEnd}
 use Rattle.list_laws.specs.Lists.{holds_of}
-use Rattle.task_model.specs.Sequences.{sequence_of}
+use Rattle.task_base.specs.Runners.{sequence_of}
 use Rattle.task_model.specs.Seats.{runs_of, Running, running}
 use Rattle.task_model.specs.Cells.{cell_of, cell_after, main_cell_of, main_cell_after}
 use Rattle.pool_laws.specs.Seats.{moves_cells, moves_main_cells}
@@ -24,7 +24,8 @@ cell_same script past e s quiet = cell_of_push script past e s ∙ by e.kind qui
     by kind h = refl
 
 -- the cell of the sequence of the task that ends has what it left
-pub cell_at_end : (script : Plan) (past : List Entry) (e : Entry) (s task left : ℕ) (w : Running) → e.kind ≡ End task left → running past e.seat ≡ Some w → w.is_main ≡ false
+pub cell_at_end : (script : Plan) (past : List Entry) (e : Entry) (s task left : ℕ) (w : Running) → e.kind ≡ End task left → running past e.seat ≡ Some w
+    → w.is_main ≡ false
     → cell_of script (past ++ e ∷ []) s ≡ (if sequence_of script w.home w.task == s then left else cell_of script past s)
 cell_at_end script past e s task left w is runs pool =
     cell_of_push script past e s
@@ -40,7 +41,8 @@ main_cell_same past e q quiet = main_cell_of_push past e q ∙ by e.kind quiet
     by kind h = refl
 
 -- the cell of the queue of the main task that ends has what it left
-pub main_cell_at_end : (past : List Entry) (e : Entry) (q task left : ℕ) (w : Running) → e.kind ≡ MainEnd task left → running past e.seat ≡ Some w → w.is_main ≡ true
+pub main_cell_at_end : (past : List Entry) (e : Entry) (q task left : ℕ) (w : Running) → e.kind ≡ MainEnd task left → running past e.seat ≡ Some w
+    → w.is_main ≡ true
     → main_cell_of (past ++ e ∷ []) q ≡ (if w.home == q then left else main_cell_of past q)
 main_cell_at_end past e q task left w is runs main =
     main_cell_of_push past e q

@@ -98,7 +98,8 @@ line_is_text (word ∷ other ∷ words) e =
 pub line_is_ascii : (words : List (List ℕ)) → list_all is_plain_word words ≡ true → is_all_ascii (line_of words) ≡ true
 line_is_ascii words e = all_weaker is_text (λ b. ltb b 128) (line_of words) text_ascii (line_is_text words e)
 
-kept : (word : List ℕ) (rest : List (List ℕ)) → ltb 0 (length word) ≡ true → filter (λ w. not (eqb (length w) 0)) (word ∷ rest) ≡ word ∷ filter (λ w. not (eqb (length w) 0)) rest
+kept : (word : List ℕ) (rest : List (List ℕ)) → ltb 0 (length word) ≡ true
+    → filter (λ w. not (eqb (length w) 0)) (word ∷ rest) ≡ word ∷ filter (λ w. not (eqb (length w) 0)) rest
 kept [] rest e = absurd cc
 kept (b ∷ word) rest e = rw (some_length b word) refl
   where
@@ -110,11 +111,13 @@ pub words_of-line : (word : List ℕ) (words : List (List ℕ)) → list_all is_
 words_of-line word [] e =
     let both = and_both (is_plain_word word) true e in
     let plain = and_both (ltb 0 (length word)) (list_all is_visible word) both.0 in
-    ap (filter (λ w. not (eqb (length w) 0))) (slice_split_none is_blank word (none_passes is_visible is_blank word visible_no_blank plain.1)) ∙ kept word [] plain.0
+    ap (filter (λ w. not (eqb (length w) 0))) (slice_split_none is_blank word (none_passes is_visible is_blank word visible_no_blank plain.1))
+        ∙ kept word [] plain.0
 words_of-line word (other ∷ words) e =
     let both = and_both (is_plain_word word) (list_all is_plain_word (other ∷ words)) e in
     let plain = and_both (ltb 0 (length word)) (list_all is_visible word) both.0 in
-    ap (filter (λ w. not (eqb (length w) 0))) (slice_split_at is_blank word 32 (line_of (other ∷ words)) (none_passes is_visible is_blank word visible_no_blank plain.1) refl)
+    ap (filter (λ w. not (eqb (length w) 0))) (slice_split_at is_blank word 32 (line_of (other ∷ words))
+        (none_passes is_visible is_blank word visible_no_blank plain.1) refl)
     ∙ kept word (slice_split is_blank (line_of (other ∷ words))) plain.0 ∙ ap (λ (ws : List (List ℕ)). word ∷ ws) (words_of-line other words both.1)
 
 -- a list of which no element passes has no last one that does
@@ -133,15 +136,19 @@ stripped line e = ap (λ (b : Bool). cond b (take (length line - 1) line) line) 
 abbrev pub text_of : List (List (List ℕ)) → List ℕ
 text_of lines = flat_map (λ words. line_of words ++ 10 ∷ []) lines
 
-split_text : (lines : List (List (List ℕ))) → list_all (list_all is_plain_word) lines ≡ true → slice_split (λ b. eqb b 10) (text_of lines) ≡ map line_of lines ++ [] ∷ []
+split_text : (lines : List (List (List ℕ))) → list_all (list_all is_plain_word) lines ≡ true
+    → slice_split (λ b. eqb b 10) (text_of lines) ≡ map line_of lines ++ [] ∷ []
 split_text [] e = refl
 split_text (words ∷ lines) e =
     let both = and_both (list_all is_plain_word words) (list_all (list_all is_plain_word) lines) e in
-    ap (slice_split (λ b. eqb b 10)) (flat_map-cons (λ (ws : List (List ℕ)). line_of ws ++ 10 ∷ []) words lines ∙ append_assoc (line_of words) (10 ∷ []) (text_of lines))
-    ∙ slice_split_at (λ b. eqb b 10) (line_of words) 10 (text_of lines) (none_passes is_text (λ b. eqb b 10) (line_of words) text_no_end (line_is_text words both.0)) refl
+    ap (slice_split (λ b. eqb b 10)) (flat_map-cons (λ (ws : List (List ℕ)). line_of ws ++ 10 ∷ []) words lines
+        ∙ append_assoc (line_of words) (10 ∷ []) (text_of lines))
+    ∙ slice_split_at (λ b. eqb b 10) (line_of words) 10 (text_of lines)
+        (none_passes is_text (λ b. eqb b 10) (line_of words) text_no_end (line_is_text words both.0)) refl
     ∙ ap (λ (ls : List (List ℕ)). line_of words ∷ ls) (split_text lines both.1)
 
-strip_lines : (lines : List (List (List ℕ))) → list_all (list_all is_plain_word) lines ≡ true → map strip_carriage_return (map line_of lines ++ [] ∷ []) ≡ map line_of lines ++ [] ∷ []
+strip_lines : (lines : List (List (List ℕ))) → list_all (list_all is_plain_word) lines ≡ true
+    → map strip_carriage_return (map line_of lines ++ [] ∷ []) ≡ map line_of lines ++ [] ∷ []
 strip_lines [] e = refl
 strip_lines (words ∷ lines) e =
     let both = and_both (list_all is_plain_word words) (list_all (list_all is_plain_word) lines) e in

@@ -39,7 +39,8 @@ pub behind_is : {B : Type 0} (tests : List (Bool × ℕ)) (r : Result B ℕ) →
 behind_is [] r passed = refl
 behind_is (t ∷ tests) r passed = rw (passed.0) (behind_is tests r passed.1)
 
-pub line_is : {A B : Type 0} (r : Result A ℕ) (tests : A → List (Bool × ℕ)) (made : A → B) (x : A) → r ≡ Ok x → Passed (tests x) → (r >>= λ x. behind (tests x) (Ok (made x))) ≡ Ok (made x)
+pub line_is : {A B : Type 0} (r : Result A ℕ) (tests : A → List (Bool × ℕ)) (made : A → B) (x : A) → r ≡ Ok x → Passed (tests x)
+    → (r >>= λ x. behind (tests x) (Ok (made x))) ≡ Ok (made x)
 line_is {A = A} r tests made x is passed = ap (λ (t : Result A ℕ). t >>= λ x. behind (tests x) (Ok (made x))) is ∙ behind_is (tests x) (Ok (made x)) passed
 
 -- ---- numbers
@@ -62,7 +63,8 @@ plain_id n small = decimal_plain n (omega (arith, small))
 pub plain_time : (n : ℕ) → n ≤ 10 ^ 12 → is_plain_word (decimal n) ≡ true
 plain_time n small = decimal_plain n (omega (arith, small))
 
-pub plain_cons : (word : List ℕ) (words : List (List ℕ)) → is_plain_word word ≡ true → list_all is_plain_word words ≡ true → list_all is_plain_word (word ∷ words) ≡ true
+pub plain_cons : (word : List ℕ) (words : List (List ℕ)) → is_plain_word word ≡ true → list_all is_plain_word words ≡ true
+    → list_all is_plain_word (word ∷ words) ≡ true
 plain_cons word words here rest = rw (here, rest) refl
 
 -- ---- names
@@ -156,9 +158,12 @@ IsStepReadable (Block scope) = Unit {0}
 IsStepReadable Unblock = Unit {0}
 
 compute_is : (made : ℕ → Step) (k : ℕ) → k ≤ 2 ^ 64 - 1 → compute_read made (decimal k ∷ []) ≡ Ok (made k)
-compute_is made k small = ap (λ (r : Result (ℕ × Unit {0}) ℕ). r >>= λ p. Ok (made p.0)) (both_is (number_at 0 (2 ^ 64 - 1) (decimal k ∷ []) 0) (ends_at (decimal k ∷ []) 1) k tt (number_is 0 (2 ^ 64 - 1) k (omega arith) small (omega arith)) refl)
+compute_is made k small = ap (λ (r : Result (ℕ × Unit {0}) ℕ). r >>= λ p. Ok (made p.0))
+    (both_is (number_at 0 (2 ^ 64 - 1) (decimal k ∷ []) 0) (ends_at (decimal k ∷ []) 1) k tt
+    (number_is 0 (2 ^ 64 - 1) k (omega arith) small (omega arith)) refl)
 
-post_is : (made : ℕ → ℕ → ℕ → Step) (task home delay : ℕ) → task ≤ 65536 → home ≤ 65536 → delay ≤ 10 ^ 12 → post_read made (decimal task ∷ decimal home ∷ decimal delay ∷ []) ≡ Ok (made task home delay)
+post_is : (made : ℕ → ℕ → ℕ → Step) (task home delay : ℕ) → task ≤ 65536 → home ≤ 65536 → delay ≤ 10 ^ 12
+    → post_read made (decimal task ∷ decimal home ∷ decimal delay ∷ []) ≡ Ok (made task home delay)
 post_is made task home delay t h u =
     let words = decimal task ∷ decimal home ∷ decimal delay ∷ [] in
     ap (λ (r : Result (ℕ × (ℕ × (ℕ × Unit {0}))) ℕ). r >>= λ p. Ok (made p.0 p.1.0 p.1.1.0))
@@ -173,15 +178,20 @@ step_is (Mul by) h = compute_is Mul by h
 step_is (Set to) h = compute_is Set to h
 step_is (PostStep task runner delay) h = post_is PostStep task runner delay h.0 h.1 h.2
 step_is (MainStep task queue delay) h = post_is MainStep task queue delay h.0 h.1 h.2
-step_is (Block scope) h = ap (λ (r : Result (Scope × Unit {0}) ℕ). r >>= λ p. Ok (Block p.0)) (both_is (said_at scope_named (scope_word scope ∷ []) 0) (ends_at (scope_word scope ∷ []) 1) scope tt (scope_is scope) refl)
+step_is (Block scope) h = ap (λ (r : Result (Scope × Unit {0}) ℕ). r >>= λ p. Ok (Block p.0))
+    (both_is (said_at scope_named (scope_word scope ∷ []) 0) (ends_at (scope_word scope ∷ []) 1) scope tt (scope_is scope) refl)
 step_is Unblock h = refl
 
 step_plain : (step : Step) → IsStepReadable step → list_all is_plain_word (step_words step) ≡ true
 step_plain (Add by) h = plain_cons (codes "add") (decimal by ∷ []) refl (plain_cons (decimal by) [] (plain_number by h) refl)
 step_plain (Mul by) h = plain_cons (codes "mul") (decimal by ∷ []) refl (plain_cons (decimal by) [] (plain_number by h) refl)
 step_plain (Set to) h = plain_cons (codes "set") (decimal to ∷ []) refl (plain_cons (decimal to) [] (plain_number to h) refl)
-step_plain (PostStep task runner delay) h = plain_cons (codes "post") (decimal task ∷ decimal runner ∷ decimal delay ∷ []) refl (plain_cons (decimal task) (decimal runner ∷ decimal delay ∷ []) (plain_id task h.0) (plain_cons (decimal runner) (decimal delay ∷ []) (plain_id runner h.1) (plain_cons (decimal delay) [] (plain_time delay h.2) refl)))
-step_plain (MainStep task queue delay) h = plain_cons (codes "main") (decimal task ∷ decimal queue ∷ decimal delay ∷ []) refl (plain_cons (decimal task) (decimal queue ∷ decimal delay ∷ []) (plain_id task h.0) (plain_cons (decimal queue) (decimal delay ∷ []) (plain_id queue h.1) (plain_cons (decimal delay) [] (plain_time delay h.2) refl)))
+step_plain (PostStep task runner delay) h = plain_cons (codes "post") (decimal task ∷ decimal runner ∷ decimal delay ∷ []) refl
+    (plain_cons (decimal task) (decimal runner ∷ decimal delay ∷ []) (plain_id task h.0)
+    (plain_cons (decimal runner) (decimal delay ∷ []) (plain_id runner h.1) (plain_cons (decimal delay) [] (plain_time delay h.2) refl)))
+step_plain (MainStep task queue delay) h = plain_cons (codes "main") (decimal task ∷ decimal queue ∷ decimal delay ∷ []) refl
+    (plain_cons (decimal task) (decimal queue ∷ decimal delay ∷ []) (plain_id task h.0)
+    (plain_cons (decimal queue) (decimal delay ∷ []) (plain_id queue h.1) (plain_cons (decimal delay) [] (plain_time delay h.2) refl)))
 step_plain (Block scope) h = plain_cons (codes "block") (scope_word scope ∷ []) refl (plain_cons (scope_word scope) [] (scope_plain scope) refl)
 step_plain Unblock h = refl
 
@@ -189,7 +199,8 @@ step_plain Unblock h = refl
 abbrev pub is_mark : List ℕ → Bool
 is_mark word = is_word word (codes ";")
 
-no_marks_cons : (word : List ℕ) (words : List (List ℕ)) → is_mark word ≡ false → All (λ w. is_mark w ≡ false) words → All (λ w. is_mark w ≡ false) (word ∷ words)
+no_marks_cons : (word : List ℕ) (words : List (List ℕ)) → is_mark word ≡ false → All (λ w. is_mark w ≡ false) words
+    → All (λ w. is_mark w ≡ false) (word ∷ words)
 no_marks_cons word words here rest = All-cons (λ w. is_mark w ≡ false) word words here rest
 
 no_marks : All (λ w. is_mark w ≡ false) []
@@ -202,8 +213,14 @@ step_no_mark : (step : Step) → IsStepReadable step → All (λ w. is_mark w �
 step_no_mark (Add by) h = no_marks_cons (codes "add") (decimal by ∷ []) refl (no_marks_cons (decimal by) [] (number_no_mark by h) no_marks)
 step_no_mark (Mul by) h = no_marks_cons (codes "mul") (decimal by ∷ []) refl (no_marks_cons (decimal by) [] (number_no_mark by h) no_marks)
 step_no_mark (Set to) h = no_marks_cons (codes "set") (decimal to ∷ []) refl (no_marks_cons (decimal to) [] (number_no_mark to h) no_marks)
-step_no_mark (PostStep task runner delay) h = no_marks_cons (codes "post") (decimal task ∷ decimal runner ∷ decimal delay ∷ []) refl (no_marks_cons (decimal task) (decimal runner ∷ decimal delay ∷ []) (number_no_mark task (omega (arith, h.0))) (no_marks_cons (decimal runner) (decimal delay ∷ []) (number_no_mark runner (omega (arith, h.1))) (no_marks_cons (decimal delay) [] (number_no_mark delay (omega (arith, h.2))) no_marks)))
-step_no_mark (MainStep task queue delay) h = no_marks_cons (codes "main") (decimal task ∷ decimal queue ∷ decimal delay ∷ []) refl (no_marks_cons (decimal task) (decimal queue ∷ decimal delay ∷ []) (number_no_mark task (omega (arith, h.0))) (no_marks_cons (decimal queue) (decimal delay ∷ []) (number_no_mark queue (omega (arith, h.1))) (no_marks_cons (decimal delay) [] (number_no_mark delay (omega (arith, h.2))) no_marks)))
+step_no_mark (PostStep task runner delay) h = no_marks_cons (codes "post") (decimal task ∷ decimal runner ∷ decimal delay ∷ []) refl
+    (no_marks_cons (decimal task) (decimal runner ∷ decimal delay ∷ []) (number_no_mark task (omega (arith, h.0)))
+    (no_marks_cons (decimal runner) (decimal delay ∷ []) (number_no_mark runner (omega (arith, h.1)))
+    (no_marks_cons (decimal delay) [] (number_no_mark delay (omega (arith, h.2))) no_marks)))
+step_no_mark (MainStep task queue delay) h = no_marks_cons (codes "main") (decimal task ∷ decimal queue ∷ decimal delay ∷ []) refl
+    (no_marks_cons (decimal task) (decimal queue ∷ decimal delay ∷ []) (number_no_mark task (omega (arith, h.0)))
+    (no_marks_cons (decimal queue) (decimal delay ∷ []) (number_no_mark queue (omega (arith, h.1)))
+    (no_marks_cons (decimal delay) [] (number_no_mark delay (omega (arith, h.2))) no_marks)))
 step_no_mark (Block scope) h = no_marks_cons (codes "block") (scope_word scope ∷ []) refl (no_marks_cons (scope_word scope) [] (scope_no_mark scope) no_marks)
 step_no_mark Unblock h = no_marks_cons (codes "unblock") [] refl no_marks
 
@@ -211,7 +228,8 @@ step_no_mark Unblock h = no_marks_cons (codes "unblock") [] refl no_marks
 abbrev pub marked : List Step → List (List ℕ)
 marked steps = flat_map (λ step. codes ";" ∷ step_words step) steps
 
-steps_cut : (step : Step) (steps : List Step) → IsStepReadable step → AllByRecursion IsStepReadable steps → slice_split is_mark (step_words step ++ marked steps) ≡ map step_words (step ∷ steps)
+steps_cut : (step : Step) (steps : List Step) → IsStepReadable step → AllByRecursion IsStepReadable steps
+    → slice_split is_mark (step_words step ++ marked steps) ≡ map step_words (step ∷ steps)
 steps_cut step [] here rest = ap (slice_split is_mark) (append-nil (step_words step)) ∙ slice_split_none is_mark (step_words step) (step_no_mark step here)
 steps_cut step (next ∷ steps) here rest =
     ap (λ (ws : List (List ℕ)). slice_split is_mark (step_words step ++ ws)) (flat_map-cons (λ s. codes ";" ∷ step_words s) next steps)
@@ -220,14 +238,16 @@ steps_cut step (next ∷ steps) here rest =
 
 pieces_are : (steps : List Step) → AllByRecursion IsStepReadable steps → all_read (map step_read (map step_words steps)) ≡ Ok steps
 pieces_are [] all = refl
-pieces_are (step ∷ steps) all = ap (λ (r : Result (Step × List Step) ℕ). r >>= λ p. Ok (p.0 ∷ p.1)) (both_is (step_read (step_words step)) (all_read (map step_read (map step_words steps))) step steps (step_is step all.0) (pieces_are steps all.1))
+pieces_are (step ∷ steps) all = ap (λ (r : Result (Step × List Step) ℕ). r >>= λ p. Ok (p.0 ∷ p.1))
+    (both_is (step_read (step_words step)) (all_read (map step_read (map step_words steps))) step steps (step_is step all.0) (pieces_are steps all.1))
 
 -- words that are some are cut at the marks
 read_by_pieces : (word : List ℕ) (words : List (List ℕ)) → steps_read (word ∷ words) ≡ all_read (map step_read (slice_split is_mark (word ∷ words)))
 unfolding steps_read
 read_by_pieces word words = refl
 
-some_words : (step : Step) (words : List (List ℕ)) → steps_read (step_words step ++ words) ≡ all_read (map step_read (slice_split is_mark (step_words step ++ words)))
+some_words : (step : Step) (words : List (List ℕ)) → steps_read (step_words step ++ words)
+    ≡ all_read (map step_read (slice_split is_mark (step_words step ++ words)))
 some_words (Add by) words = read_by_pieces (codes "add") (decimal by ∷ words)
 some_words (Mul by) words = read_by_pieces (codes "mul") (decimal by ∷ words)
 some_words (Set to) words = read_by_pieces (codes "set") (decimal to ∷ words)
@@ -243,12 +263,14 @@ steps_words-cons step steps = ap (drop 1) (flat_map-cons (λ s. codes ";" ∷ st
 pub steps_are : (steps : List Step) → AllByRecursion IsStepReadable steps → steps_read (steps_words steps) ≡ Ok steps
 unfolding steps_read
 steps_are [] all = refl
-steps_are (step ∷ steps) all = ap steps_read (steps_words-cons step steps) ∙ some_words step (marked steps) ∙ ap (λ (ps : List (List (List ℕ))). all_read (map step_read ps)) (steps_cut step steps all.0 all.1) ∙ pieces_are (step ∷ steps) all
+steps_are (step ∷ steps) all = ap steps_read (steps_words-cons step steps) ∙ some_words step (marked steps)
+    ∙ ap (λ (ps : List (List (List ℕ))). all_read (map step_read ps)) (steps_cut step steps all.0 all.1) ∙ pieces_are (step ∷ steps) all
 
 marked_plain : (steps : List Step) → AllByRecursion IsStepReadable steps → list_all is_plain_word (marked steps) ≡ true
 marked_plain [] all = refl
 marked_plain (step ∷ steps) all =
-    ap (list_all is_plain_word) (flat_map-cons (λ s. codes ";" ∷ step_words s) step steps) ∙ list_all-append is_plain_word (codes ";" ∷ step_words step) (marked steps)
+    ap (list_all is_plain_word) (flat_map-cons (λ s. codes ";" ∷ step_words s) step steps)
+        ∙ list_all-append is_plain_word (codes ";" ∷ step_words step) (marked steps)
     ∙ rw (step_plain step all.0, marked_plain steps all.1) refl
 
 pub steps_plain : (steps : List Step) → AllByRecursion IsStepReadable steps → list_all is_plain_word (steps_words steps) ≡ true

@@ -24,7 +24,8 @@ err_same : {A E : Type 0} (x y : E) → ◌≡◌ {A = Result A E} (Err x) (Err 
 err_same x y e = cc
 
 -- the first line and the others of lines that give a draft
-pub first_ok : (n : ℕ) (r : Result Draft ℕ) (go : Draft → Result Draft (ℕ × ℕ)) (d : Draft) → (at_line n r >>= go) ≡ Ok d → (next : Draft) × (r ≡ Ok next) × (go next ≡ Ok d)
+pub first_ok : (n : ℕ) (r : Result Draft ℕ) (go : Draft → Result Draft (ℕ × ℕ)) (d : Draft) → (at_line n r >>= go) ≡ Ok d
+    → (next : Draft) × (r ≡ Ok next) × (go next ≡ Ok d)
 first_ok n (Ok next) go d e = (next, refl, e)
 first_ok n (Err reason) go d e = absurd cc
 
@@ -35,7 +36,8 @@ found d n [] k reason bad = let none : ◌≡◌ {A = Option (List ℕ)} None (S
 found d n (line ∷ lines) zero reason bad =
     let same : d ≡ bad.draft = ok_same d bad.draft bad.before in
     let here : line ≡ bad.line = cc in
-    let fault : line_read d line ≡ Err reason = subst (λ (x : List ℕ). line_read d x ≡ Err reason) (sym here) (subst (λ (x : Draft). line_read x bad.line ≡ Err reason) (sym same) bad.fault) in
+    let fault : line_read d line ≡ Err reason = subst (λ (x : List ℕ). line_read d x ≡ Err reason) (sym here)
+        (subst (λ (x : Draft). line_read x bad.line ≡ Err reason) (sym same) bad.fault) in
     let place : n ≡ n + 0 = omega arith in
     ap (λ (r : Result Draft ℕ). at_line n r >>= λ next. lines_read next (n + 1) lines) fault ∙ ap (λ (m : ℕ). Err (m, reason)) place
 found d n (line ∷ lines) (suc k) reason bad =
@@ -45,7 +47,8 @@ found d n (line ∷ lines) (suc k) reason bad =
     ap (λ (r : Result Draft ℕ). at_line n r >>= λ next. lines_read next (n + 1) lines) next.1 ∙ rest ∙ ap (λ (m : ℕ). Err (m, reason)) place
 
 -- the fault of lines is a bad line
-only : (d : Draft) (n : ℕ) (lines : List (List ℕ)) (m reason : ℕ) → lines_read d n lines ≡ Err (m, reason) → (k : ℕ) × (m ≡ n + k) × IsBadBehind d n lines k reason
+only : (d : Draft) (n : ℕ) (lines : List (List ℕ)) (m reason : ℕ) → lines_read d n lines ≡ Err (m, reason)
+    → (k : ℕ) × (m ≡ n + k) × IsBadBehind d n lines k reason
 unfolding lines_read
 only d n [] m reason e = absurd cc
 only d n (line ∷ lines) m reason e = first (line_read d line) refl e (λ next h. only next (n + 1) lines m reason h)
@@ -58,7 +61,8 @@ only d n (line ∷ lines) m reason e = first (line_read d line) refl e (λ next 
         let behind = bad.2 in
         let goes : lines_read d n (take (suc bad.0) (line ∷ lines)) ≡ lines_read next (n + 1) (take bad.0 lines) =
         ap (λ (r : Result Draft ℕ). at_line n r >>= λ next. lines_read next (n + 1) (take bad.0 lines)) is in
-        (suc bad.0, omega (arith, bad.1), record { draft = behind.draft; line = behind.line; before = goes ∙ behind.before; here = behind.here; fault = behind.fault })
+        (suc bad.0, omega (arith, bad.1), record { draft = behind.draft; line = behind.line; before = goes
+            ∙ behind.before; here = behind.here; fault = behind.fault })
     first (Err r) is h go =
         let same : ◌≡◌ {A = ℕ × ℕ} (n, r) (m, reason) = err_same {A = Draft} (n, r) (m, reason) h in
         let place : n ≡ m = ap (λ (p : ℕ × ℕ). p.0) same in
@@ -73,7 +77,8 @@ fault_of_lines (Err f) m reason e = let same : f ≡ (m, reason) = cc in ap Err 
 pub first_fault-found : (bytes : List ℕ) (k reason : ℕ) → IsFaultBehind bytes k reason → first_fault bytes ≡ Some (k + 1, reason)
 unfolding script_read
 first_fault-found bytes k reason bad =
-    let fault = found empty_draft 1 (lines_of bytes) k reason (record { draft = bad.draft; line = bad.line; before = bad.before; here = bad.here; fault = bad.fault }) in
+    let fault = found empty_draft 1 (lines_of bytes) k reason
+        (record { draft = bad.draft; line = bad.line; before = bad.before; here = bad.here; fault = bad.fault }) in
     let place : 1 + k ≡ k + 1 = omega arith in
     ap (λ (r : Result Draft (ℕ × ℕ)). result_err (r >>= λ d. Ok (script_of d))) fault ∙ ap (λ (m : ℕ). Some (m, reason)) place
 

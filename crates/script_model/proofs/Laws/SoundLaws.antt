@@ -20,7 +20,8 @@ use Rattle.script_model.specs.Bound.{events_of_action}
 use Rattle.script_model.specs.Postings.{posts_of_step, posts_of_action, postings}
 use Rattle.std.proofs.lemmas.Option.{slice_get_within}
 use Rattle.script_model.specs.Draft.{Draft, empty_draft, script_of, is_declared, has_queue, has_voter, has_job, posted_in, is_any_posted, is_bad_post, is_start_of, is_started, is_shutdown, has_shutdown, ticks_of, ticks_in, events_in}
-use Rattle.script_model.specs.Lines.{most_ticks, most_events, workers_line, groups_line, threshold_line, runner_line, queue_line, task_line, job_line, post_line, main_line, tick_line, policy_line, fence_line, unfence_line, vote_line, rank_line, close_line, pump_line, flush_line, start_job_line, join_line, cancel_line, shutdown_line, queue_command_read, action_command_read, command_read, words_read, line_read}
+use Rattle.task_base.specs.declared.limits.TheConstants.{MOST_TICKS, MOST_EVENTS}
+use Rattle.script_model.specs.Lines.{workers_line, groups_line, threshold_line, runner_line, queue_line, task_line, job_line, post_line, main_line, tick_line, policy_line, fence_line, unfence_line, vote_line, rank_line, close_line, pump_line, flush_line, start_job_line, join_line, cancel_line, shutdown_line, queue_command_read, action_command_read, command_read, words_read, line_read}
 use Rattle.script_model.specs.Grammar.{lines_read, script_read, Reads}
 use Rattle.script_model.specs.Laws.Sound.{IsSound, IsActionSound, IsInOrder}
 use Rattle.script_model.proofs.Laws.FaultLaws.{ok_same, first_ok}
@@ -46,7 +47,8 @@ once_with {A = A} p xs x once fresh = by (p x) refl (count_push p xs x)
         let one : count p (xs ++ x ∷ []) ≡ count p xs + 0 = more ∙ ap (λ (b : Bool). count p xs + cond b 1 0) is in
         omega (arith, one, once)
 
-start_fresh : (earlier : List Action) (action : Action) (j : ℕ) → IsInOrder earlier action → is_start_of j action ≡ true → list_any (is_start_of j) earlier ≡ false
+start_fresh : (earlier : List Action) (action : Action) (j : ℕ) → IsInOrder earlier action → is_start_of j action ≡ true
+    → list_any (is_start_of j) earlier ≡ false
 start_fresh earlier (StartJob job) j order e = let same : job ≡ j = eqb-true job j e in subst (λ (i : ℕ). list_any (is_start_of i) earlier ≡ false) same order
 start_fresh earlier action j order e = absurd cc
 
@@ -56,11 +58,14 @@ shutdown_fresh earlier action order e = absurd cc
 
 -- that an action keeps the limits
 abbrev pub room : Draft → Action → List (Bool × ℕ)
-room d action = (nat_lt most_ticks (ticks_in d + ticks_of action), too_many) ∷ (nat_lt most_events (events_in d + events_of_action action), too_many) ∷ []
+room d action = (nat_lt MOST_TICKS (ticks_in d + ticks_of action), too_many) ∷ (nat_lt MOST_EVENTS (events_in d + events_of_action action), too_many) ∷ []
 
-action_stays : (d : Draft) (actions : List Action) (action : Action) → IsActionSound (script_of d) action → IsActionSound (script_of (record d { actions = actions })) action
-action_stays d actions (Post task runner delay) h = (runner_post_stays (script_of d) (script_of (record d { actions = actions })) task runner (same_stays (script_of d) (script_of (record d { actions = actions })) refl refl refl) h.0, h.1)
-action_stays d actions (Main task queue delay) h = (queue_post_stays (script_of d) (script_of (record d { actions = actions })) task queue (same_stays (script_of d) (script_of (record d { actions = actions })) refl refl refl) h.0, h.1)
+action_stays : (d : Draft) (actions : List Action) (action : Action) → IsActionSound (script_of d) action
+    → IsActionSound (script_of (record d { actions = actions })) action
+action_stays d actions (Post task runner delay) h = (runner_post_stays (script_of d) (script_of (record d { actions = actions })) task runner
+    (same_stays (script_of d) (script_of (record d { actions = actions })) refl refl refl) h.0, h.1)
+action_stays d actions (Main task queue delay) h = (queue_post_stays (script_of d) (script_of (record d { actions = actions })) task queue
+    (same_stays (script_of d) (script_of (record d { actions = actions })) refl refl refl) h.0, h.1)
 action_stays d actions (Tick count) h = h
 action_stays d actions (Policy policy) h = h
 action_stays d actions (Fence queue place) h = h
@@ -75,11 +80,12 @@ action_stays d actions (Join job) h = h
 action_stays d actions (Cancel job) h = h
 action_stays d actions Shutdown h = h
 
-with_action : (d : Draft) (action : Action) → IsActionSound (script_of d) action → IsInOrder d.actions action → is_any_posted (posted_in d) (posts_of_action action) ≡ false → Passed (room d action) → Keeps d → Keeps (record d { actions = d.actions ++ action ∷ [] })
+with_action : (d : Draft) (action : Action) → IsActionSound (script_of d) action → IsInOrder d.actions action
+    → is_any_posted (posted_in d) (posts_of_action action) ≡ false → Passed (room d action) → Keeps d → Keeps (record d { actions = d.actions ++ action ∷ [] })
 with_action d action made order fresh passed sound =
     let script = script_of (record d { actions = d.actions ++ action ∷ [] }) in
-    let ticks = at_most most_ticks (ticks_in d + ticks_of action) passed.0 in
-    let events = at_most most_events (events_in d + events_of_action action) passed.1.0 in
+    let ticks = at_most MOST_TICKS (ticks_in d + ticks_of action) passed.0 in
+    let events = at_most MOST_EVENTS (events_in d + events_of_action action) passed.1.0 in
     let more_ticks = sum_by_push ticks_of d.actions action in
     let more_events = sum_by_push events_of_action d.actions action in
     record {
@@ -103,11 +109,15 @@ with_action d action made order fresh passed sound =
       queues_within = sound.queues_within;
       tasks_sound = λ t steps h. task_stays (script_of d) script t steps (same_stays (script_of d) script refl refl refl) (sound.tasks_sound t steps h);
       jobs_sound = sound.jobs_sound;
-      actions_sound = all_push (IsActionSound script) d.actions action (AllByRecursion-map (IsActionSound (script_of d)) (IsActionSound script) d.actions (action_stays d (d.actions ++ action ∷ [])) sound.actions_sound) (action_stays d (d.actions ++ action ∷ []) action made);
+      actions_sound = all_push (IsActionSound script) d.actions action
+          (AllByRecursion-map (IsActionSound (script_of d)) (IsActionSound script) d.actions (action_stays d (d.actions ++ action ∷ [])) sound.actions_sound)
+          (action_stays d (d.actions ++ action ∷ []) action made);
       in_order = λ k other h. elim (slice_get_push d.actions action k other h) [
-        | inl old ↦ subst (λ (earlier : List Action). IsInOrder earlier other) (sym (take-append-le k d.actions (action ∷ []) (omega (arith, old.0)))) (sound.in_order k other old.1)
+        | inl old ↦ subst (λ (earlier : List Action). IsInOrder earlier other) (sym (take-append-le k d.actions (action ∷ []) (omega (arith, old.0))))
+            (sound.in_order k other old.1)
         | inr new ↦
-            let all : take k (d.actions ++ action ∷ []) ≡ d.actions = ap (λ (n : ℕ). take n (d.actions ++ action ∷ [])) new.0 ∙ take-append_seam d.actions (action ∷ []) in
+            let all : take k (d.actions ++ action ∷ []) ≡ d.actions = ap (λ (n : ℕ). take n (d.actions ++ action ∷ [])) new.0
+                ∙ take-append_seam d.actions (action ∷ []) in
             subst (λ (earlier : List Action). IsInOrder earlier other) (sym all) (subst (IsInOrder d.actions) new.1 order)
       ];
       posted_once = posted_once_with_action d action fresh sound.posted_once;
@@ -117,31 +127,36 @@ with_action d action made order fresh passed sound =
 
 -- that a post names what is declared, posts a task for the first time, and not where it must not block
 abbrev pub post_room : Draft → Step → Action → List (Bool × ℕ)
-post_room d step action = (not (is_declared d step), undeclared) ∷ (is_any_posted (posted_in d) (posts_of_step step), posted_twice) ∷ (is_bad_post d step, bad_block) ∷ room d action
+post_room d step action = (not (is_declared d step), undeclared) ∷ (is_any_posted (posted_in d) (posts_of_step step), posted_twice) ∷
+    (is_bad_post d step, bad_block) ∷ room d action
 
 -- `post T R D`
 keeps_post : (d d' : Draft) (words : List (List ℕ)) → Keeps d → post_line d words ≡ Ok d' → Keeps d'
 unfolding post_line
 keeps_post d d' words sound e =
-    let g = line_ok (id_at words 0 & id_at words 1 & time_at words 2 & ends_at words 3) (λ p. post_room d (PostStep p.0 p.1.0 p.1.1.0) (Post p.0 p.1.0 p.1.1.0)) (λ p. record d { actions = d.actions ++ Post p.0 p.1.0 p.1.1.0 ∷ [] }) d' e in
+    let g = line_ok (id_at words 0 & id_at words 1 & time_at words 2 & ends_at words 3)
+        (λ p. post_room d (PostStep p.0 p.1.0 p.1.1.0) (Post p.0 p.1.0 p.1.1.0)) (λ p. record d { actions = d.actions ++ Post p.0 p.1.0 p.1.1.0 ∷ [] }) d' e in
     let b0 = both_ok (id_at words 0) (id_at words 1 & time_at words 2 & ends_at words 3) g.0.0 g.0.1 g.1 in
     let b1 = both_ok (id_at words 1) (time_at words 2 & ends_at words 3) g.0.1.0 g.0.1.1 b0.1 in
     let b2 = both_ok (time_at words 2) (ends_at words 3) g.0.1.1.0 g.0.1.1.1 b1.1 in
     let delay = number_at-within 0 (10 ^ 12) words 2 g.0.1.1.0 b2.0 in
     let post = declared_runner_post d g.0.0 g.0.1.0 g.0.1.1.0 (not_false (is_declared d (PostStep g.0.0 g.0.1.0 g.0.1.1.0)) g.2.0) g.2.1.1.0 in
-    subst Keeps {x = record d { actions = d.actions ++ Post g.0.0 g.0.1.0 g.0.1.1.0 ∷ [] }} g.3 (with_action d (Post g.0.0 g.0.1.0 g.0.1.1.0) (post.1, delay.1) tt g.2.1.0 g.2.1.1.1 sound)
+    subst Keeps {x = record d { actions = d.actions ++ Post g.0.0 g.0.1.0 g.0.1.1.0 ∷ [] }} g.3
+        (with_action d (Post g.0.0 g.0.1.0 g.0.1.1.0) (post.1, delay.1) tt g.2.1.0 g.2.1.1.1 sound)
 
 -- `main T Q D`
 keeps_main : (d d' : Draft) (words : List (List ℕ)) → Keeps d → main_line d words ≡ Ok d' → Keeps d'
 unfolding main_line
 keeps_main d d' words sound e =
-    let g = line_ok (id_at words 0 & id_at words 1 & time_at words 2 & ends_at words 3) (λ p. post_room d (MainStep p.0 p.1.0 p.1.1.0) (Main p.0 p.1.0 p.1.1.0)) (λ p. record d { actions = d.actions ++ Main p.0 p.1.0 p.1.1.0 ∷ [] }) d' e in
+    let g = line_ok (id_at words 0 & id_at words 1 & time_at words 2 & ends_at words 3)
+        (λ p. post_room d (MainStep p.0 p.1.0 p.1.1.0) (Main p.0 p.1.0 p.1.1.0)) (λ p. record d { actions = d.actions ++ Main p.0 p.1.0 p.1.1.0 ∷ [] }) d' e in
     let b0 = both_ok (id_at words 0) (id_at words 1 & time_at words 2 & ends_at words 3) g.0.0 g.0.1 g.1 in
     let b1 = both_ok (id_at words 1) (time_at words 2 & ends_at words 3) g.0.1.0 g.0.1.1 b0.1 in
     let b2 = both_ok (time_at words 2) (ends_at words 3) g.0.1.1.0 g.0.1.1.1 b1.1 in
     let delay = number_at-within 0 (10 ^ 12) words 2 g.0.1.1.0 b2.0 in
     let post = declared_queue_post d g.0.0 g.0.1.0 g.0.1.1.0 (not_false (is_declared d (MainStep g.0.0 g.0.1.0 g.0.1.1.0)) g.2.0) g.2.1.1.0 in
-    subst Keeps {x = record d { actions = d.actions ++ Main g.0.0 g.0.1.0 g.0.1.1.0 ∷ [] }} g.3 (with_action d (Main g.0.0 g.0.1.0 g.0.1.1.0) (post.1, delay.1) tt g.2.1.0 g.2.1.1.1 sound)
+    subst Keeps {x = record d { actions = d.actions ++ Main g.0.0 g.0.1.0 g.0.1.1.0 ∷ [] }} g.3
+        (with_action d (Main g.0.0 g.0.1.0 g.0.1.1.0) (post.1, delay.1) tt g.2.1.0 g.2.1.1.1 sound)
 
 -- `tick N`
 keeps_tick : (d d' : Draft) (words : List (List ℕ)) → Keeps d → tick_line d words ≡ Ok d' → Keeps d'
@@ -156,7 +171,8 @@ keeps_tick d d' words sound e =
 keeps_policy : (d d' : Draft) (words : List (List ℕ)) → Keeps d → policy_line d words ≡ Ok d' → Keeps d'
 unfolding policy_line
 keeps_policy d d' words sound e =
-    let g = line_ok (said_at policy_named words 0 & ends_at words 1) (λ p. room d (Policy p.0)) (λ p. record d { actions = d.actions ++ Policy p.0 ∷ [] }) d' e in
+    let g = line_ok (said_at policy_named words 0 & ends_at words 1) (λ p. room d (Policy p.0))
+        (λ p. record d { actions = d.actions ++ Policy p.0 ∷ [] }) d' e in
     let b0 = both_ok (said_at policy_named words 0) (ends_at words 1) g.0.0 g.0.1 g.1 in
     subst Keeps {x = record d { actions = d.actions ++ Policy g.0.0 ∷ [] }} g.3 (with_action d (Policy g.0.0) (tt) tt refl g.2 sound)
 
@@ -164,24 +180,29 @@ keeps_policy d d' words sound e =
 keeps_fence : (d d' : Draft) (words : List (List ℕ)) → Keeps d → fence_line d words ≡ Ok d' → Keeps d'
 unfolding fence_line
 keeps_fence d d' words sound e =
-    let g = line_ok (id_at words 0 & said_at fence_named words 1 & ends_at words 2) (λ p. (not (has_queue d p.0), undeclared) ∷ room d (Fence p.0 p.1.0)) (λ p. record d { actions = d.actions ++ Fence p.0 p.1.0 ∷ [] }) d' e in
+    let g = line_ok (id_at words 0 & said_at fence_named words 1 & ends_at words 2) (λ p. (not (has_queue d p.0), undeclared) ∷ room d (Fence p.0 p.1.0))
+        (λ p. record d { actions = d.actions ++ Fence p.0 p.1.0 ∷ [] }) d' e in
     let b0 = both_ok (id_at words 0) (said_at fence_named words 1 & ends_at words 2) g.0.0 g.0.1 g.1 in
     let b1 = both_ok (said_at fence_named words 1) (ends_at words 2) g.0.1.0 g.0.1.1 b0.1 in
-    subst Keeps {x = record d { actions = d.actions ++ Fence g.0.0 g.0.1.0 ∷ [] }} g.3 (with_action d (Fence g.0.0 g.0.1.0) (below g.0.0 (length d.queues) (not_false (has_queue d g.0.0) g.2.0)) tt refl g.2.1 sound)
+    subst Keeps {x = record d { actions = d.actions ++ Fence g.0.0 g.0.1.0 ∷ [] }} g.3
+        (with_action d (Fence g.0.0 g.0.1.0) (below g.0.0 (length d.queues) (not_false (has_queue d g.0.0) g.2.0)) tt refl g.2.1 sound)
 
 -- `unfence Q`
 keeps_unfence : (d d' : Draft) (words : List (List ℕ)) → Keeps d → unfence_line d words ≡ Ok d' → Keeps d'
 unfolding unfence_line
 keeps_unfence d d' words sound e =
-    let g = line_ok (id_at words 0 & ends_at words 1) (λ p. (not (has_queue d p.0), undeclared) ∷ room d (Unfence p.0)) (λ p. record d { actions = d.actions ++ Unfence p.0 ∷ [] }) d' e in
+    let g = line_ok (id_at words 0 & ends_at words 1) (λ p. (not (has_queue d p.0), undeclared) ∷ room d (Unfence p.0))
+        (λ p. record d { actions = d.actions ++ Unfence p.0 ∷ [] }) d' e in
     let b0 = both_ok (id_at words 0) (ends_at words 1) g.0.0 g.0.1 g.1 in
-    subst Keeps {x = record d { actions = d.actions ++ Unfence g.0.0 ∷ [] }} g.3 (with_action d (Unfence g.0.0) (below g.0.0 (length d.queues) (not_false (has_queue d g.0.0) g.2.0)) tt refl g.2.1 sound)
+    subst Keeps {x = record d { actions = d.actions ++ Unfence g.0.0 ∷ [] }} g.3
+        (with_action d (Unfence g.0.0) (below g.0.0 (length d.queues) (not_false (has_queue d g.0.0) g.2.0)) tt refl g.2.1 sound)
 
 -- a voter that is declared has a queue that is
 voter_queue : (d : Draft) (queue voter : ℕ) → has_voter d queue voter ≡ true → queue < length d.queues
 voter_queue d queue voter e = by (slice_get d.queues queue) refl e
   where
-    by : (o : Option MainQueue) → slice_get d.queues queue ≡ o → unwrap_or (option_map (λ declared. nat_lt voter declared.voters) o) false ≡ true → queue < length d.queues
+    by : (o : Option MainQueue) → slice_get d.queues queue ≡ o → unwrap_or (option_map (λ declared. nat_lt voter declared.voters) o) false ≡ true
+        → queue < length d.queues
     by (Some declared) is h = slice_get_within d.queues queue declared is
     by None is h = absurd cc
 
@@ -189,30 +210,38 @@ voter_queue d queue voter e = by (slice_get d.queues queue) refl e
 keeps_vote : (d d' : Draft) (words : List (List ℕ)) → Keeps d → vote_line d words ≡ Ok d' → Keeps d'
 unfolding vote_line
 keeps_vote d d' words sound e =
-    let g = line_ok (id_at words 0 & number_at 0 255 words 1 & said_at vote_named words 2 & ends_at words 3) (λ p. (not (has_voter d p.0 p.1.0), undeclared) ∷ room d (Vote p.0 p.1.0 p.1.1.0)) (λ p. record d { actions = d.actions ++ Vote p.0 p.1.0 p.1.1.0 ∷ [] }) d' e in
+    let g = line_ok (id_at words 0 & number_at 0 255 words 1 & said_at vote_named words 2 & ends_at words 3)
+        (λ p. (not (has_voter d p.0 p.1.0), undeclared) ∷ room d (Vote p.0 p.1.0 p.1.1.0))
+        (λ p. record d { actions = d.actions ++ Vote p.0 p.1.0 p.1.1.0 ∷ [] }) d' e in
     let b0 = both_ok (id_at words 0) (number_at 0 255 words 1 & said_at vote_named words 2 & ends_at words 3) g.0.0 g.0.1 g.1 in
     let b1 = both_ok (number_at 0 255 words 1) (said_at vote_named words 2 & ends_at words 3) g.0.1.0 g.0.1.1 b0.1 in
     let n1 = number_at-within 0 255 words 1 g.0.1.0 b1.0 in
     let b2 = both_ok (said_at vote_named words 2) (ends_at words 3) g.0.1.1.0 g.0.1.1.1 b1.1 in
-    subst Keeps {x = record d { actions = d.actions ++ Vote g.0.0 g.0.1.0 g.0.1.1.0 ∷ [] }} g.3 (with_action d (Vote g.0.0 g.0.1.0 g.0.1.1.0) (voter_queue d g.0.0 g.0.1.0 (not_false (has_voter d g.0.0 g.0.1.0) g.2.0), n1.1, not_false (has_voter d g.0.0 g.0.1.0) g.2.0) tt refl g.2.1 sound)
+    subst Keeps {x = record d { actions = d.actions ++ Vote g.0.0 g.0.1.0 g.0.1.1.0 ∷ [] }} g.3
+        (with_action d (Vote g.0.0 g.0.1.0 g.0.1.1.0) (voter_queue d g.0.0 g.0.1.0 (not_false (has_voter d g.0.0 g.0.1.0) g.2.0), n1.1, not_false
+        (has_voter d g.0.0 g.0.1.0) g.2.0) tt refl g.2.1 sound)
 
 -- `rank Q CLASS`
 keeps_rank : (d d' : Draft) (words : List (List ℕ)) → Keeps d → rank_line d words ≡ Ok d' → Keeps d'
 unfolding rank_line
 keeps_rank d d' words sound e =
-    let g = line_ok (id_at words 0 & number_at 0 7 words 1 & ends_at words 2) (λ p. (not (has_queue d p.0), undeclared) ∷ room d (Rank p.0 p.1.0)) (λ p. record d { actions = d.actions ++ Rank p.0 p.1.0 ∷ [] }) d' e in
+    let g = line_ok (id_at words 0 & number_at 0 7 words 1 & ends_at words 2) (λ p. (not (has_queue d p.0), undeclared) ∷ room d (Rank p.0 p.1.0))
+        (λ p. record d { actions = d.actions ++ Rank p.0 p.1.0 ∷ [] }) d' e in
     let b0 = both_ok (id_at words 0) (number_at 0 7 words 1 & ends_at words 2) g.0.0 g.0.1 g.1 in
     let b1 = both_ok (number_at 0 7 words 1) (ends_at words 2) g.0.1.0 g.0.1.1 b0.1 in
     let n1 = number_at-within 0 7 words 1 g.0.1.0 b1.0 in
-    subst Keeps {x = record d { actions = d.actions ++ Rank g.0.0 g.0.1.0 ∷ [] }} g.3 (with_action d (Rank g.0.0 g.0.1.0) (below g.0.0 (length d.queues) (not_false (has_queue d g.0.0) g.2.0), n1.1) tt refl g.2.1 sound)
+    subst Keeps {x = record d { actions = d.actions ++ Rank g.0.0 g.0.1.0 ∷ [] }} g.3
+        (with_action d (Rank g.0.0 g.0.1.0) (below g.0.0 (length d.queues) (not_false (has_queue d g.0.0) g.2.0), n1.1) tt refl g.2.1 sound)
 
 -- `close Q`
 keeps_close : (d d' : Draft) (words : List (List ℕ)) → Keeps d → close_line d words ≡ Ok d' → Keeps d'
 unfolding close_line
 keeps_close d d' words sound e =
-    let g = line_ok (id_at words 0 & ends_at words 1) (λ p. (not (has_queue d p.0), undeclared) ∷ room d (Close p.0)) (λ p. record d { actions = d.actions ++ Close p.0 ∷ [] }) d' e in
+    let g = line_ok (id_at words 0 & ends_at words 1) (λ p. (not (has_queue d p.0), undeclared) ∷ room d (Close p.0))
+        (λ p. record d { actions = d.actions ++ Close p.0 ∷ [] }) d' e in
     let b0 = both_ok (id_at words 0) (ends_at words 1) g.0.0 g.0.1 g.1 in
-    subst Keeps {x = record d { actions = d.actions ++ Close g.0.0 ∷ [] }} g.3 (with_action d (Close g.0.0) (below g.0.0 (length d.queues) (not_false (has_queue d g.0.0) g.2.0)) tt refl g.2.1 sound)
+    subst Keeps {x = record d { actions = d.actions ++ Close g.0.0 ∷ [] }} g.3
+        (with_action d (Close g.0.0) (below g.0.0 (length d.queues) (not_false (has_queue d g.0.0) g.2.0)) tt refl g.2.1 sound)
 
 -- `pump N`
 keeps_pump : (d d' : Draft) (words : List (List ℕ)) → Keeps d → pump_line d words ≡ Ok d' → Keeps d'
@@ -228,38 +257,49 @@ keeps_flush : (d d' : Draft) (words : List (List ℕ)) → Keeps d → flush_lin
 unfolding flush_line
 keeps_flush d d' words sound e =
     let g = behind_ok ((nat_lt 0 (length words), word_count) ∷ room d Flush) (Ok (record d { actions = d.actions ++ Flush ∷ [] })) d' e in
-    subst Keeps {x = record d { actions = d.actions ++ Flush ∷ [] }} (ok_same {E = ℕ} (record d { actions = d.actions ++ Flush ∷ [] }) d' g.1) (with_action d Flush tt tt refl g.0.1 sound)
+    subst Keeps {x = record d { actions = d.actions ++ Flush ∷ [] }} (ok_same {E = ℕ} (record d { actions = d.actions ++ Flush ∷ [] }) d' g.1)
+        (with_action d Flush tt tt refl g.0.1 sound)
 
 -- `shutdown`
 keeps_shutdown : (d d' : Draft) (words : List (List ℕ)) → Keeps d → shutdown_line d words ≡ Ok d' → Keeps d'
 unfolding shutdown_line
 keeps_shutdown d d' words sound e =
-    let g = behind_ok ((nat_lt 0 (length words), word_count) ∷ (has_shutdown d, shutdown_twice) ∷ room d Shutdown) (Ok (record d { actions = d.actions ++ Shutdown ∷ [] })) d' e in
-    subst Keeps {x = record d { actions = d.actions ++ Shutdown ∷ [] }} (ok_same {E = ℕ} (record d { actions = d.actions ++ Shutdown ∷ [] }) d' g.1) (with_action d Shutdown tt g.0.1.0 refl g.0.1.1 sound)
+    let g = behind_ok ((nat_lt 0 (length words), word_count) ∷ (has_shutdown d, shutdown_twice) ∷ room d Shutdown)
+        (Ok (record d { actions = d.actions ++ Shutdown ∷ [] })) d' e in
+    subst Keeps {x = record d { actions = d.actions ++ Shutdown ∷ [] }} (ok_same {E = ℕ} (record d { actions = d.actions ++ Shutdown ∷ [] }) d' g.1)
+        (with_action d Shutdown tt g.0.1.0 refl g.0.1.1 sound)
 
 -- `startjob J`
 keeps_start_job : (d d' : Draft) (words : List (List ℕ)) → Keeps d → start_job_line d words ≡ Ok d' → Keeps d'
 unfolding start_job_line
 keeps_start_job d d' words sound e =
-    let g = line_ok (id_at words 0 & ends_at words 1) (λ p. (not (has_job d p.0), undeclared) ∷ (is_started d p.0, job_use) ∷ room d (StartJob p.0)) (λ p. record d { actions = d.actions ++ StartJob p.0 ∷ [] }) d' e in
+    let g = line_ok (id_at words 0 & ends_at words 1) (λ p. (not (has_job d p.0), undeclared) ∷ (is_started d p.0, job_use) ∷ room d (StartJob p.0))
+        (λ p. record d { actions = d.actions ++ StartJob p.0 ∷ [] }) d' e in
     let b0 = both_ok (id_at words 0) (ends_at words 1) g.0.0 g.0.1 g.1 in
-    subst Keeps {x = record d { actions = d.actions ++ StartJob g.0.0 ∷ [] }} g.3 (with_action d (StartJob g.0.0) (below g.0.0 (length d.jobs) (not_false (has_job d g.0.0) g.2.0)) g.2.1.0 refl g.2.1.1 sound)
+    subst Keeps {x = record d { actions = d.actions ++ StartJob g.0.0 ∷ [] }} g.3
+        (with_action d (StartJob g.0.0) (below g.0.0 (length d.jobs) (not_false (has_job d g.0.0) g.2.0)) g.2.1.0 refl g.2.1.1 sound)
 
 -- `join J`
 keeps_join : (d d' : Draft) (words : List (List ℕ)) → Keeps d → join_line d words ≡ Ok d' → Keeps d'
 unfolding join_line
 keeps_join d d' words sound e =
-    let g = line_ok (id_at words 0 & ends_at words 1) (λ p. (not (has_job d p.0), undeclared) ∷ (not (is_started d p.0), job_use) ∷ room d (Join p.0)) (λ p. record d { actions = d.actions ++ Join p.0 ∷ [] }) d' e in
+    let g = line_ok (id_at words 0 & ends_at words 1) (λ p. (not (has_job d p.0), undeclared) ∷ (not (is_started d p.0), job_use) ∷ room d (Join p.0))
+        (λ p. record d { actions = d.actions ++ Join p.0 ∷ [] }) d' e in
     let b0 = both_ok (id_at words 0) (ends_at words 1) g.0.0 g.0.1 g.1 in
-    subst Keeps {x = record d { actions = d.actions ++ Join g.0.0 ∷ [] }} g.3 (with_action d (Join g.0.0) (below g.0.0 (length d.jobs) (not_false (has_job d g.0.0) g.2.0)) (not_false (is_started d g.0.0) g.2.1.0) refl g.2.1.1 sound)
+    subst Keeps {x = record d { actions = d.actions ++ Join g.0.0 ∷ [] }} g.3
+        (with_action d (Join g.0.0) (below g.0.0 (length d.jobs) (not_false (has_job d g.0.0) g.2.0))
+        (not_false (is_started d g.0.0) g.2.1.0) refl g.2.1.1 sound)
 
 -- `cancel J`
 keeps_cancel : (d d' : Draft) (words : List (List ℕ)) → Keeps d → cancel_line d words ≡ Ok d' → Keeps d'
 unfolding cancel_line
 keeps_cancel d d' words sound e =
-    let g = line_ok (id_at words 0 & ends_at words 1) (λ p. (not (has_job d p.0), undeclared) ∷ (not (is_started d p.0), job_use) ∷ room d (Cancel p.0)) (λ p. record d { actions = d.actions ++ Cancel p.0 ∷ [] }) d' e in
+    let g = line_ok (id_at words 0 & ends_at words 1) (λ p. (not (has_job d p.0), undeclared) ∷ (not (is_started d p.0), job_use) ∷ room d (Cancel p.0))
+        (λ p. record d { actions = d.actions ++ Cancel p.0 ∷ [] }) d' e in
     let b0 = both_ok (id_at words 0) (ends_at words 1) g.0.0 g.0.1 g.1 in
-    subst Keeps {x = record d { actions = d.actions ++ Cancel g.0.0 ∷ [] }} g.3 (with_action d (Cancel g.0.0) (below g.0.0 (length d.jobs) (not_false (has_job d g.0.0) g.2.0)) (not_false (is_started d g.0.0) g.2.1.0) refl g.2.1.1 sound)
+    subst Keeps {x = record d { actions = d.actions ++ Cancel g.0.0 ∷ [] }} g.3
+        (with_action d (Cancel g.0.0) (below g.0.0 (length d.jobs) (not_false (has_job d g.0.0) g.2.0))
+        (not_false (is_started d g.0.0) g.2.1.0) refl g.2.1.1 sound)
 
 -- ---- all lines
 

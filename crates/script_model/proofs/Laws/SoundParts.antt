@@ -54,7 +54,8 @@ behind_ok (t ∷ tests) r y e =
     ((first.0, rest.0), rest.1)
 
 -- a line: its places, its refusals, and what it makes
-pub line_ok : {A B : Type 0} (r : Result A ℕ) (tests : A → List (Bool × ℕ)) (made : A → B) (y : B) → (r >>= λ x. behind (tests x) (Ok (made x))) ≡ Ok y → (x : A) × (r ≡ Ok x) × Passed (tests x) × (made x ≡ y)
+pub line_ok : {A B : Type 0} (r : Result A ℕ) (tests : A → List (Bool × ℕ)) (made : A → B) (y : B) → (r >>= λ x. behind (tests x) (Ok (made x))) ≡ Ok y
+    → (x : A) × (r ≡ Ok x) × Passed (tests x) × (made x ≡ y)
 line_ok r tests made y e =
     let x = bind_ok r (λ x. behind (tests x) (Ok (made x))) y e in
     let passed = behind_ok (tests x.0) (Ok (made x.0)) y x.2 in
@@ -66,7 +67,8 @@ in_range-within : (low high : ℕ) (o : Option ℕ) (n : ℕ) → in_range low h
 in_range-within low high None n e = absurd cc
 in_range-within low high (Some m) n e = by (leb low m) refl (leb m high) refl e
   where
-    by : (b : Bool) → leb low m ≡ b → (c : Bool) → leb m high ≡ c → ◌≡◌ {A = Result ℕ ℕ} (cond (b && c) (Ok m) (Err out_of_range)) (Ok n) → (low ≤ n) × (n ≤ high)
+    by : (b : Bool) → leb low m ≡ b → (c : Bool) → leb m high ≡ c → ◌≡◌ {A = Result ℕ ℕ} (cond (b && c) (Ok m) (Err out_of_range)) (Ok n)
+        → (low ≤ n) × (n ≤ high)
     by true lower true upper h = let same : m ≡ n = ok_same {E = ℕ} m n h in (grind (arith, nat_tests), grind (arith, nat_tests))
     by true lower false upper h = absurd cc
     by false lower c upper h = absurd cc
@@ -75,7 +77,8 @@ pub number_from-within : (low high : ℕ) (word : List ℕ) (n : ℕ) → number
 unfolding number_from
 number_from-within low high word n e = in_range-within low high (number_of word) n e
 
-pub said_ok : {A : Type 0} (say : List ℕ → Result A ℕ) (words : List (List ℕ)) (k : ℕ) (x : A) → said_at say words k ≡ Ok x → (word : List ℕ) × (say word ≡ Ok x)
+pub said_ok : {A : Type 0} (say : List ℕ → Result A ℕ) (words : List (List ℕ)) (k : ℕ) (x : A) → said_at say words k ≡ Ok x
+    → (word : List ℕ) × (say word ≡ Ok x)
 said_ok {A = A} say words k x e = by (slice_get words k) e
   where
     by : (o : Option (List ℕ)) → (elim o as (λ _. Result A ℕ) [ None ↦ Err word_count | Some word ↦ say word ]) ≡ Ok x → (word : List ℕ) × (say word ≡ Ok x)
@@ -88,14 +91,17 @@ number_at-within low high words k n e = let word = said_ok (number_from low high
 -- ---- kinds and steps
 
 -- what one of two ways gives, where both give only what has the property
-pub either_way : {A : Type 0} (P : A → Type 0) (b : Bool) (r s : Result A ℕ) → ((x : A) → r ≡ Ok x → P x) → ((x : A) → s ≡ Ok x → P x) → (x : A) → cond b r s ≡ Ok x → P x
+pub either_way : {A : Type 0} (P : A → Type 0) (b : Bool) (r s : Result A ℕ) → ((x : A) → r ≡ Ok x → P x) → ((x : A) → s ≡ Ok x → P x) → (x : A)
+    → cond b r s ≡ Ok x → P x
 either_way P true r s f g x e = f x e
 either_way P false r s f g x e = g x e
 
 -- what a table of words gives
-named_all : {A : Type 0} (P : A → Type 0) (table : List (List ℕ × A)) (word : List ℕ) → AllByRecursion (λ entry. P entry.1) table → (x : A) → named table word ≡ Ok x → P x
+named_all : {A : Type 0} (P : A → Type 0) (table : List (List ℕ × A)) (word : List ℕ) → AllByRecursion (λ entry. P entry.1) table → (x : A)
+    → named table word ≡ Ok x → P x
 named_all P [] word all x e = absurd cc
-named_all P (entry ∷ table) word all x e = either_way P (is_word word entry.0) (Ok entry.1) (named table word) (λ y h. subst P (ok_same {E = ℕ} entry.1 y h) all.0) (named_all P table word all.1) x e
+named_all P (entry ∷ table) word all x e = either_way P (is_word word entry.0) (Ok entry.1) (named table word)
+    (λ y h. subst P (ok_same {E = ℕ} entry.1 y h) all.0) (named_all P table word all.1) x e
 
 -- a seat that a kind names is from 1 to 64
 abbrev pub IsSeatWithin : RunnerKind → Type 0
@@ -105,23 +111,28 @@ IsSeatWithin Sequenced = Unit {0}
 
 pub kind_named-within : (word : List ℕ) (kind : RunnerKind) → kind_named word ≡ Ok kind → IsSeatWithin kind
 unfolding kind_named
-kind_named-within word kind e = either_way IsSeatWithin (is_word (take 7 word) (codes "single:")) (number_from 1 64 (drop 7 word) >>= λ seat. Ok (Single seat)) (named ((codes "parallel", Parallel) ∷ (codes "sequenced", Sequenced) ∷ []) word)
-    (λ x h. let seat = bind_ok (number_from 1 64 (drop 7 word)) (λ seat. Ok (Single seat)) x h in subst IsSeatWithin (ok_same {E = ℕ} (Single seat.0) x seat.2) (number_from-within 1 64 (drop 7 word) seat.0 seat.1))
+kind_named-within word kind e = either_way IsSeatWithin (is_word (take 7 word) (codes "single:")) (number_from 1 64 (drop 7 word) >>= λ seat. Ok (Single seat))
+    (named ((codes "parallel", Parallel) ∷ (codes "sequenced", Sequenced) ∷ []) word)
+    (λ x h. let seat = bind_ok (number_from 1 64 (drop 7 word)) (λ seat. Ok (Single seat)) x h in
+        subst IsSeatWithin (ok_same {E = ℕ} (Single seat.0) x seat.2) (number_from-within 1 64 (drop 7 word) seat.0 seat.1))
     (named_all IsSeatWithin ((codes "parallel", Parallel) ∷ (codes "sequenced", Sequenced) ∷ []) word (tt, (tt, tt))) kind e
 
-compute_within : (made : ℕ → Step) → ((k : ℕ) → k ≤ 2 ^ 64 - 1 → IsStepWithin (made k)) → (words : List (List ℕ)) (step : Step) → compute_read made words ≡ Ok step → IsStepWithin step
+compute_within : (made : ℕ → Step) → ((k : ℕ) → k ≤ 2 ^ 64 - 1 → IsStepWithin (made k)) → (words : List (List ℕ)) (step : Step)
+    → compute_read made words ≡ Ok step → IsStepWithin step
 compute_within made f words step e =
     let p = bind_ok (number_at 0 (2 ^ 64 - 1) words 0 & ends_at words 1) (λ p. Ok (made p.0)) step e in
     let both = both_ok (number_at 0 (2 ^ 64 - 1) words 0) (ends_at words 1) p.0.0 p.0.1 p.1 in
     subst IsStepWithin (ok_same {E = ℕ} (made p.0.0) step p.2) (f p.0.0 (number_at-within 0 (2 ^ 64 - 1) words 0 p.0.0 both.0).1)
 
-post_within : (made : ℕ → ℕ → ℕ → Step) → ((task home delay : ℕ) → delay ≤ 10 ^ 12 → IsStepWithin (made task home delay)) → (words : List (List ℕ)) (step : Step) → post_read made words ≡ Ok step → IsStepWithin step
+post_within : (made : ℕ → ℕ → ℕ → Step) → ((task home delay : ℕ) → delay ≤ 10 ^ 12 → IsStepWithin (made task home delay))
+    → (words : List (List ℕ)) (step : Step) → post_read made words ≡ Ok step → IsStepWithin step
 post_within made f words step e =
     let p = bind_ok (id_at words 0 & id_at words 1 & time_at words 2 & ends_at words 3) (λ p. Ok (made p.0 p.1.0 p.1.1.0)) step e in
     let b0 = both_ok (id_at words 0) (id_at words 1 & time_at words 2 & ends_at words 3) p.0.0 p.0.1 p.1 in
     let b1 = both_ok (id_at words 1) (time_at words 2 & ends_at words 3) p.0.1.0 p.0.1.1 b0.1 in
     let b2 = both_ok (time_at words 2) (ends_at words 3) p.0.1.1.0 p.0.1.1.1 b1.1 in
-    subst IsStepWithin (ok_same {E = ℕ} (made p.0.0 p.0.1.0 p.0.1.1.0) step p.2) (f p.0.0 p.0.1.0 p.0.1.1.0 (number_at-within 0 (10 ^ 12) words 2 p.0.1.1.0 b2.0).1)
+    subst IsStepWithin (ok_same {E = ℕ} (made p.0.0 p.0.1.0 p.0.1.1.0) step p.2)
+        (f p.0.0 p.0.1.0 p.0.1.1.0 (number_at-within 0 (10 ^ 12) words 2 p.0.1.1.0 b2.0).1)
 
 block_within : (words : List (List ℕ)) (step : Step) → block_read words ≡ Ok step → IsStepWithin step
 block_within words step e =
@@ -145,7 +156,8 @@ step_said-within name words step e =
     (either_way IsStepWithin (is_word name (codes "post")) (post_read Post words) _ (post_within Post (λ t h u k. k) words)
     (either_way IsStepWithin (is_word name (codes "main")) (post_read Main words) _ (post_within Main (λ t h u k. k) words)
     (either_way IsStepWithin (is_word name (codes "block")) (block_read words) _ (block_within words)
-    (either_way IsStepWithin (is_word name (codes "unblock")) (ends_at words 0 >> Ok Unblock) (Err unknown_word) (unblock_within words) (none_such IsStepWithin unknown_word))))))) step e
+    (either_way IsStepWithin (is_word name (codes "unblock")) (ends_at words 0 >> Ok Unblock) (Err unknown_word) (unblock_within words)
+        (none_such IsStepWithin unknown_word))))))) step e
 
 step_within : (words : List (List ℕ)) (step : Step) → step_read words ≡ Ok step → IsStepWithin step
 step_within [] step e = absurd cc
@@ -190,7 +202,8 @@ nothing (x ∷ xs) e = absurd (let none : length (x ∷ xs) ≡ 0 = eqb-true _ _
 -- ---- one more element
 
 -- an element of a joined list is one of either part
-pub slice_get-append : {A : Type 0} (xs ys : List A) (k : ℕ) (x : A) → slice_get (xs ++ ys) k ≡ Some x → ((k < length xs) × (slice_get xs k ≡ Some x)) ⊎ ((j : ℕ) × (k ≡ length xs + j) × (slice_get ys j ≡ Some x))
+pub slice_get-append : {A : Type 0} (xs ys : List A) (k : ℕ) (x : A) → slice_get (xs ++ ys) k ≡ Some x
+    → ((k < length xs) × (slice_get xs k ≡ Some x)) ⊎ ((j : ℕ) × (k ≡ length xs + j) × (slice_get ys j ≡ Some x))
 slice_get-append [] ys k x e = inr (k, omega arith, e)
 slice_get-append (y ∷ xs) ys zero x e = inl (omega arith, e)
 slice_get-append (y ∷ xs) ys (suc k) x e = elim (slice_get-append xs ys k x e) [
@@ -205,7 +218,8 @@ slice_get_front (x ∷ xs) ys zero below = refl
 slice_get_front (x ∷ xs) ys (suc k) below = slice_get_front xs ys k (omega (arith, below))
 
 -- an element of a list with one more is one of the list, or the new one
-pub slice_get_push : {A : Type 0} (xs : List A) (y : A) (k : ℕ) (x : A) → slice_get (xs ++ y ∷ []) k ≡ Some x → ((k < length xs) × (slice_get xs k ≡ Some x)) ⊎ ((k ≡ length xs) × (y ≡ x))
+pub slice_get_push : {A : Type 0} (xs : List A) (y : A) (k : ℕ) (x : A) → slice_get (xs ++ y ∷ []) k ≡ Some x
+    → ((k < length xs) × (slice_get xs k ≡ Some x)) ⊎ ((k ≡ length xs) × (y ≡ x))
 slice_get_push {A = A} xs y k x e = elim (slice_get-append xs (y ∷ []) k x e) [
   | inl p ↦ inl p
   | inr p ↦ inr (new p.0 p.1 p.2)

@@ -15,7 +15,7 @@ use Rattle.list_laws.specs.Lists.{count}
 use Rattle.script_model.specs.Bound.{events_bound_of}
 use Rattle.script_model.specs.Postings.{IsPostedOnce}
 use Rattle.script_model.specs.Draft.{opens_scope, may_block_on, is_voter, has_bad_scopes, is_start_of, is_shutdown, ticks_of}
-use Rattle.script_model.specs.Lines.{most_runners, most_queues, most_tasks, most_jobs, most_items, most_steps, most_ticks, most_events}
+use Rattle.task_base.specs.declared.limits.TheConstants.{MOST_RUNNERS, MOST_QUEUES, MOST_TASKS, MOST_JOBS, MOST_ITEMS, MOST_STEPS, MOST_TICKS, MOST_EVENTS}
 
 -- ---- what is declared
 
@@ -119,14 +119,14 @@ pub record IsSound (script : Plan) : Type 0 where
   pub few_background : script.background ≤ 64
   pub threshold_within : script.threshold ≤ 10 ^ 12
   -- the limits
-  pub few_runners : length script.runners ≤ most_runners
-  pub few_queues : length script.queues ≤ most_queues
-  pub few_tasks : length script.tasks ≤ most_tasks
-  pub few_jobs : length script.jobs ≤ most_jobs
-  pub few_items : sum_by (λ job. job.items) script.jobs ≤ most_items
-  pub few_steps : sum_by (λ steps. length steps) script.tasks + sum_by (λ job. length job.steps) script.jobs ≤ most_steps
-  pub few_ticks : sum_by ticks_of script.actions ≤ most_ticks
-  pub few_events : events_bound_of script ≤ most_events
+  pub few_runners : length script.runners ≤ MOST_RUNNERS
+  pub few_queues : length script.queues ≤ MOST_QUEUES
+  pub few_tasks : length script.tasks ≤ MOST_TASKS
+  pub few_jobs : length script.jobs ≤ MOST_JOBS
+  pub few_items : sum_by (λ job. job.items) script.jobs ≤ MOST_ITEMS
+  pub few_steps : sum_by (λ steps. length steps) script.tasks + sum_by (λ job. length job.steps) script.jobs ≤ MOST_STEPS
+  pub few_ticks : sum_by ticks_of script.actions ≤ MOST_TICKS
+  pub few_events : events_bound_of script ≤ MOST_EVENTS
   -- the declarations
   pub seats_there : AllByRecursion (λ runner. IsSeatThere script runner.kind) script.runners
   pub queues_within : AllByRecursion IsQueueWithin script.queues

@@ -11,5 +11,8 @@ use Rattle.task_script.proofs.steps.pieces_of.Goals as goal
 pub returns : goal.returns
 returns c =
     IfOk-weaker c.collect.result _ _
-    (λ pieces same. sym (map-map texts (λ piece. piece.now) pieces.items) ∙ ap (map texts) same ∙ slice_split-map (λ word. word.now) (λ word. is_word word (codes ";")) c.args.words.now)
-    (map_from_collect _ c.collect.ensures.ran (YieldsList-from_slice_split _ (λ word. is_word word.now (codes ";")) c.args.words.now c.split.ensures.rest c.split.ensures.done c.split.ensures.closure (λ x b q k. search (rules, tests))))
+    (λ pieces same. sym (map-map texts (λ piece. piece.now) pieces.items) ∙ ap (map texts) same
+        ∙ slice_split-map (λ word. word.now) (λ word. is_word word (codes ";")) c.args.words.now)
+    (map_from_collect _ c.collect.ensures.ran (YieldsList-from_slice_split _
+        (λ word. is_word word.now (codes ";")) c.args.words.now c.split.ensures.rest c.split.ensures.done c.split.ensures.closure
+        (λ x b q k. search (rules, tests))))

@@ -9,14 +9,17 @@ use Rattle.task_script.proofs.steps.steps_of_pieces.Goals as goal
 
 pub returns-in_err-step : goal.returns-in_err-step
 returns-in_err-step c =
-    let none = all_some-none (λ piece. form_step (texts piece.now)) c.args.pieces.now c.loop-piece.piece-index (record { ref_ptr = (0, 0); now = [] }) c.loop-piece-test.true (sym c.step_of.ensures ∙ c.in_err-step.ensures.ok_part) in
+    let none = all_some-none (λ piece. form_step (texts piece.now)) c.args.pieces.now c.loop-piece.piece-index
+        (record { ref_ptr = (0, 0); now = [] }) c.loop-piece-test.true (sym c.step_of.ensures ∙ c.in_err-step.ensures.ok_part) in
     let bad : c.in_err-step.field-0.0 ≡ Bad = let e = rw c.in_err-step.ensures.ok_part at c.in_err-step.ensures.value in cc in
     let p = err_from_is_err_and c.from_residual.result c.from_residual.ensures.1 in
     rw (p.1, p.2, bad, map-map form_step (λ piece. texts piece.now) c.args.pieces.now) none
 
 pub loop-piece-preserved : goal.loop-piece-preserved
 loop-piece-preserved c =
-    let more = all_some-more (λ piece. form_step (texts piece.now)) c.args.pieces.now c.loop-piece.piece-index (record { ref_ptr = (0, 0); now = [] }) c.loop-piece.steps.items c.in_ok-step.step c.loop-piece-test.true c.loop-piece.invariant (sym c.step_of.ensures ∙ c.in_ok-step.ensures.ok_part) in
+    let more = all_some-more (λ piece. form_step (texts piece.now)) c.args.pieces.now c.loop-piece.piece-index
+        (record { ref_ptr = (0, 0); now = [] }) c.loop-piece.steps.items c.in_ok-step.step c.loop-piece-test.true c.loop-piece.invariant (sym c.step_of.ensures
+        ∙ c.in_ok-step.ensures.ok_part) in
     rw c.in_ok-push.ensures.items more
 
 pub returns : goal.returns

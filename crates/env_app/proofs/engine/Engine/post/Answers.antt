@@ -9,7 +9,8 @@ use Rattle.env_app.proofs.engine.Engine.post.Goals as goal
 
 pub accept-ok-requires : goal.accept-ok-requires
 accept-ok-requires c =
-    let few = few_wait c.args.script.now c.args.self.now.log.items c.args.self.now.queue.items c.args.self.now.cells.items c.args.self.now.tracker c.requires.ready.stands in
+    let few = few_wait c.args.script.now c.args.self.now.log.items c.args.self.now.queue.items c.args.self.now.cells.items c.args.self.now.tracker
+        c.requires.ready.stands in
     record { room = omega (arith, few.1, c.requires.formed.few_tasks) }
 
 pub push_spare-requires : goal.push_spare-requires
@@ -30,11 +31,14 @@ returns-then-ok-clause-ready c =
     let ahead = some_to_do script old.log.items _ c.requires.next in
     let allowed : is_refused script old.log.items c.args.runner c.args.delay ≡ false =
     answer_is old.tracker.phase _ c.effective_at.result _ true ready.stands.phase c.effective_at.ensures c.if-ok.ensures.answer in
-    let tracked = c.if-ok.ensures.counted ∙ ap (λ (b : Behaviour). record old.tracker { block_items = old.tracker.block_items + block_share b }) c.effective_at.ensures in
+    let tracked = c.if-ok.ensures.counted ∙ ap (λ (b : Behaviour). record old.tracker { block_items = old.tracker.block_items + block_share b })
+        c.effective_at.ensures in
     record {
       stands = rw (c.push_spare.ensures.items, c.push_reserved.ensures.items, c.if-ok.true)
-          (posted script old.log.items old.queue.items old.cells.items old.tracker c.accept-ok.new.self c.args.task c.args.runner c.args.delay c.requires.formed ready.stands c.requires.next allowed tracked);
-      room = room_after_post script old _ _ _ ready.room ahead c.push_spare.ensures.items c.push_reserved.ensures.items c.push_spare.ensures.spare c.push_reserved.ensures.len c.push_reserved.ensures.capacity;
+          (posted script old.log.items old.queue.items old.cells.items old.tracker c.accept-ok.new.self c.args.task c.args.runner c.args.delay
+              c.requires.formed ready.stands c.requires.next allowed tracked);
+      room = room_after_post script old _ _ _ ready.room ahead c.push_spare.ensures.items c.push_reserved.ensures.items c.push_spare.ensures.spare
+          c.push_reserved.ensures.len c.push_reserved.ensures.capacity;
     }
 
 pub returns-else-ok-clause-ready : goal.returns-else-ok-clause-ready
@@ -46,6 +50,8 @@ returns-else-ok-clause-ready c =
     let forbidden : is_refused script old.log.items c.args.runner c.args.delay ≡ true =
     answer_is old.tracker.phase _ c.effective_at.result _ false ready.stands.phase c.effective_at.ensures c.if-ok.ensures.answer in
     record {
-      stands = rw (c.push_spare.ensures.items, c.if-ok.ensures.refused, c.if-ok.false) (refused script old.log.items old.queue.items old.cells.items old.tracker c.args.task c.args.runner c.args.delay c.requires.formed ready.stands c.requires.next forbidden);
+      stands = rw (c.push_spare.ensures.items, c.if-ok.ensures.refused, c.if-ok.false)
+          (refused script old.log.items old.queue.items old.cells.items old.tracker c.args.task c.args.runner c.args.delay c.requires.formed ready.stands
+          c.requires.next forbidden);
       room = room_after_entry script old _ _ ready.room ahead c.push_spare.ensures.items c.push_spare.ensures.spare (omega arith) (omega arith) refl;
     }

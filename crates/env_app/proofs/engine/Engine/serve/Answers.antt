@@ -3,7 +3,7 @@ use Rattle.std.proofs.lemmas.Grind.{get_or_default_zero}
 use Rattle.task_traits.specs.Behaviour.{forbids}
 use Rattle.task_tracker.specs.Tracked.{Tracked, block_share}
 use Rattle.task_model.specs.Refusal.{effective_at}
-use Rattle.task_model.specs.Sequences.{sequence_of}
+use Rattle.task_base.specs.Runners.{sequence_of}
 use Rattle.env_app.specs.declared.engine.Waiting.{Waiting}
 use Rattle.env_app.specs.Engine.{IsFirstBest, ranks_of}
 use Rattle.env_app.proofs.Serve.{in_range, may_start_at, counted_at, served, Served}
@@ -14,16 +14,20 @@ use Rattle.env_app.proofs.engine.Engine.serve.Goals as goal
 pub index-found-requires : goal.index-found-requires
 index-found-requires g c =
     let old = c.args.self.now in
-    let best = subst (λ (q : List Waiting). IsFirstBest (ranks_of c.args.script.now q) (length q) c.first_best-best.result) c.as_slice.ensures.value c.first_best-best.ensures in
-    let inside = in_range c.args.script.now old.log.items old.queue.items old.cells.items old.tracker c.first_best-best.result c.remove-task.result c.requires.ready.stands best.within c.remove-task.ensures.value in
+    let best = subst (λ (q : List Waiting). IsFirstBest (ranks_of c.args.script.now q) (length q) c.first_best-best.result) c.as_slice.ensures.value
+        c.first_best-best.ensures in
+    let inside = in_range c.args.script.now old.log.items old.queue.items old.cells.items old.tracker c.first_best-best.result c.remove-task.result
+        c.requires.ready.stands best.within c.remove-task.ensures.value in
     omega (arith, inside, c.sequence-cell.ensures, old.cells.ok.0)
 
 pub started-requires-clause-allowed : goal.started-requires-clause-allowed
 started-requires-clause-allowed g c =
     let old = c.args.self.now in
-    let best = subst (λ (q : List Waiting). IsFirstBest (ranks_of c.args.script.now q) (length q) c.first_best-best.result) c.as_slice.ensures.value c.first_best-best.ensures in
+    let best = subst (λ (q : List Waiting). IsFirstBest (ranks_of c.args.script.now q) (length q) c.first_best-best.result) c.as_slice.ensures.value
+        c.first_best-best.ensures in
     ap (forbids old.tracker.phase) c.effective_at-effective.ensures
-    ∙ may_start_at c.args.script.now old.log.items old.queue.items old.cells.items old.tracker c.first_best-best.result c.remove-task.result c.requires.ready.stands best.within c.remove-task.ensures.value
+    ∙ may_start_at c.args.script.now old.log.items old.queue.items old.cells.items old.tracker c.first_best-best.result c.remove-task.result
+        c.requires.ready.stands best.within c.remove-task.ensures.value
 
 pub started-requires-clause-room : goal.started-requires-clause-room
 started-requires-clause-room g c =
@@ -34,15 +38,19 @@ started-requires-clause-room g c =
 pub index_mut-requires : goal.index_mut-requires
 index_mut-requires g c =
     let old = c.args.self.now in
-    let best = subst (λ (q : List Waiting). IsFirstBest (ranks_of c.args.script.now q) (length q) c.first_best-best.result) c.as_slice.ensures.value c.first_best-best.ensures in
-    let inside = in_range c.args.script.now old.log.items old.queue.items old.cells.items old.tracker c.first_best-best.result c.remove-task.result c.requires.ready.stands best.within c.remove-task.ensures.value in
+    let best = subst (λ (q : List Waiting). IsFirstBest (ranks_of c.args.script.now q) (length q) c.first_best-best.result) c.as_slice.ensures.value
+        c.first_best-best.ensures in
+    let inside = in_range c.args.script.now old.log.items old.queue.items old.cells.items old.tracker c.first_best-best.result c.remove-task.result
+        c.requires.ready.stands best.within c.remove-task.ensures.value in
     omega (arith, inside, c.sequence-cell.ensures, old.cells.ok.0)
 
 pub ended-requires-clause-block_counted : goal.ended-requires-clause-block_counted
 ended-requires-clause-block_counted g c =
     let old = c.args.self.now in
-    let best = subst (λ (q : List Waiting). IsFirstBest (ranks_of c.args.script.now q) (length q) c.first_best-best.result) c.as_slice.ensures.value c.first_best-best.ensures in
-    let counted = counted_at c.args.script.now old.log.items old.queue.items old.cells.items old.tracker c.first_best-best.result c.remove-task.result c.requires.ready.stands best.within c.remove-task.ensures.value in
+    let best = subst (λ (q : List Waiting). IsFirstBest (ranks_of c.args.script.now q) (length q) c.first_best-best.result) c.as_slice.ensures.value
+        c.first_best-best.ensures in
+    let counted = counted_at c.args.script.now old.log.items old.queue.items old.cells.items old.tracker c.first_best-best.result c.remove-task.result
+        c.requires.ready.stands best.within c.remove-task.ensures.value in
     omega (arith, counted, ap block_share c.effective_at-effective.ensures, ap (λ (t : Tracked). t.block_items) c.started.ensures)
 
 pub returns-clause-ready : goal.returns-clause-ready
@@ -52,13 +60,16 @@ returns-clause-ready g c =
     let queue = old.queue.items in
     let values = old.cells.items in
     let w = c.remove-task.result in
-    let best = subst (λ (q : List Waiting). IsFirstBest (ranks_of script q) (length q) c.first_best-best.result) c.as_slice.ensures.value c.first_best-best.ensures in
-    let inside = in_range script old.log.items queue values old.tracker c.first_best-best.result w c.requires.ready.stands best.within c.remove-task.ensures.value in
+    let best = subst (λ (q : List Waiting). IsFirstBest (ranks_of script q) (length q) c.first_best-best.result) c.as_slice.ensures.value
+        c.first_best-best.ensures in
+    let inside = in_range script old.log.items queue values old.tracker c.first_best-best.result w c.requires.ready.stands best.within
+        c.remove-task.ensures.value in
     let found : c.index-found.result.now ≡ get_or values (sequence_of script w.runner w.task) 0 =
     c.index-found.ensures
     ∙ ap (λ (s : ℕ). get_or values s c.index-found.result.now) c.sequence-cell.ensures
     ∙ get_or_default_zero values (sequence_of script w.runner w.task) c.index-found.result.now inside in
-    let counted = counted_at script old.log.items queue values old.tracker c.first_best-best.result w c.requires.ready.stands best.within c.remove-task.ensures.value in
+    let counted = counted_at script old.log.items queue values old.tracker c.first_best-best.result w c.requires.ready.stands best.within
+        c.remove-task.ensures.value in
     let share = ap block_share c.effective_at-effective.ensures in
     let tracked : Served old.tracker c.ended.new.self (effective_at script w.runner 0) = record {
       phase = ap (λ (t : Tracked). t.phase) c.ended.ensures ∙ ap (λ (t : Tracked). t.phase) c.started.ensures;

@@ -25,9 +25,13 @@ returns-clause-ready c =
     let script = c.args.script.now in
     let old = c.args.self.now in
     let ready = c.requires.ready in
-    let kept = c.drop_forbidden.ensures.kept ∙ ap (λ (p : Phase). filter (λ (w : Waiting). not (forbids p (effective_at script w.runner 0))) old.queue.items) (ap (λ (t : Tracked). t.phase) c.start_shutdown.ensures) in
-    let shorter : length c.drop_forbidden.new.queue.items ≤ length old.queue.items = omega (arith, ap length kept, filter_shorter (λ (w : Waiting). not (forbids Started (effective_at script w.runner 0))) old.queue.items) in
+    let kept = c.drop_forbidden.ensures.kept ∙ ap (λ (p : Phase). filter (λ (w : Waiting). not (forbids p (effective_at script w.runner 0))) old.queue.items)
+        (ap (λ (t : Tracked). t.phase) c.start_shutdown.ensures) in
+    let shorter : length c.drop_forbidden.new.queue.items ≤ length old.queue.items = omega
+        (arith, ap length kept, filter_shorter (λ (w : Waiting). not (forbids Started (effective_at script w.runner 0))) old.queue.items) in
     record {
-      stands = rw (c.push_spare.ensures.items) (started script old.log.items old.queue.items c.drop_forbidden.new.queue.items old.cells.items old.tracker c.start_shutdown.new.self c.requires.formed ready.stands c.requires.next kept c.start_shutdown.ensures);
-      room = room_after_entry script old _ _ ready.room (some_to_do script old.log.items _ c.requires.next) c.push_spare.ensures.items c.push_spare.ensures.spare shorter (omega (arith, shorter, c.drop_forbidden.new.queue.ok.0, old.queue.ok.0)) c.drop_forbidden.ensures.capacity;
+      stands = rw (c.push_spare.ensures.items) (started script old.log.items old.queue.items c.drop_forbidden.new.queue.items old.cells.items old.tracker
+          c.start_shutdown.new.self c.requires.formed ready.stands c.requires.next kept c.start_shutdown.ensures);
+      room = room_after_entry script old _ _ ready.room (some_to_do script old.log.items _ c.requires.next) c.push_spare.ensures.items
+          c.push_spare.ensures.spare shorter (omega (arith, shorter, c.drop_forbidden.new.queue.ok.0, old.queue.ok.0)) c.drop_forbidden.ensures.capacity;
     }
