@@ -22,7 +22,7 @@ use Rattle.task_base.specs.Keys.{key_below}
 use Rattle.task_model.specs.Policies.{is_held}
 use Rattle.task_base.specs.Runners.{sequence_of, sequence_count, is_parallel, seat_of_kind, seat_of}
 use Rattle.task_model.specs.Sequences.{is_of, may_start, eligible, head_of}
-use Rattle.task_model.specs.Sources.{Candidate, sequence_candidate, sequence_waiting, job_waiting, waiting, is_takeable, goes_before, best_of}
+use Rattle.task_model.specs.Sources.{would_wait, Candidate, sequence_candidate, sequence_waiting, job_waiting, waiting, is_takeable, goes_before, best_of}
 use Rattle.list_laws.proofs.Lists.{eqb-same, filter_congr, filter-filter, filter-map, filter_all, filter_always, filter_none, filter_map_congr, filter_map_never, AllByRecursion-filter, AllByRecursion-append, AllByRecursion-map, AllByRecursion-both, AllByRecursion-front, AllByRecursion-back, AllByRecursion-always, AllByRecursion-mapped, AllByRecursion-range, AllByRecursion-filter_map, range_split, slice_get_all, least_split}
 use Rattle.task_script.specs.WellFormed.{is_single, WellFormed}
 use Rattle.env_app.specs.Engine.{importance_of, to_take, IsStill}
@@ -140,7 +140,7 @@ sequence_still script past s still order =
 -- what waits are the sequences of the tasks that may be taken
 waiting_still : (script : Plan) (past : List Entry) → WellFormed script → IsStill past → InOrder (to_take script past) →
     waiting script past ≡ filter_map (waits_for script (to_take script past)) (range_with_len 0 (sequence_count script))
-unfolding waiting
+unfolding waiting would_wait
 waiting_still script past formed still order =
     filter_always (λ c. not (is_held past c.priority)) _ (λ c. ap not (is_held_still past c.priority still))
     ∙ ap (λ n. filter_map (sequence_waiting script past) (range_with_len 0 (sequence_count script))

@@ -20,7 +20,7 @@ use Rattle.task_model.specs.Posts.{Posted, Before, InOrder, posts, is_taken, is_
 use Rattle.task_model.specs.Phase.{phase_of, phase_after}
 use Rattle.task_model.specs.Refusal.{effective_at}
 use Rattle.task_model.specs.Sequences.{may_start}
-use Rattle.task_model.specs.Blockers.{is_block, is_skip, is_open_block, is_running_skip, blockers_of}
+use Rattle.task_model.specs.Blockers.{block_part, skip_part, is_block, is_skip, is_open_block, is_running_skip, blockers_of}
 use Rattle.hist_model.specs.Allowed.{may_come}
 use Rattle.list_laws.proofs.Lists.{filter_congr, filter-filter, filter_never, AllByRecursion-filter, AllByRecursion-map}
 use Rattle.task_model.proofs.Growth.{phase_of_push, cell_of_push}
@@ -131,7 +131,7 @@ only_blocks script past under_way =
 -- where nothing may be taken and what was taken has ended, nothing blocks shutdown
 pub nothing_blocks : (script : Plan) (past : List Entry) → WellFormed script → IsStill past → phase_of past ≡ phases.Started
     → ((t : ℕ) → is_ended past t ≡ is_taken past t) → to_take script past ≡ [] → blockers_of script past ≡ 0
-unfolding blockers_of to_take
+unfolding blockers_of block_part skip_part to_take
 nothing_blocks script past formed still under_way ended none =
     omega (arith, ap length open_blocks, ap length no_skips, no_job_blocks script past formed still)
   where

@@ -15,7 +15,7 @@ use Rattle.task_base.specs.declared.entry.Kind.TheVariants as kinds
 use Rattle.task_base.specs.declared.script.Lane.TheVariants.{Immediate, Delayed}
 use Rattle.list_laws.specs.Lists.{least, holds_of}
 use Rattle.task_model.specs.Refusal.{is_closed, closes}
-use Rattle.task_model.specs.MainQueues.{Front, fence_of, fence_after, votes_on, vote_after, voters_of, is_enabled, is_immediate, order_below, front_of, is_open, fronts_of, open_fronts, class_below, chosen_fronts, streak_of, streak_after, chosen_of}
+use Rattle.task_model.specs.MainQueues.{of_least_class, choice_among, Front, fence_of, fence_after, votes_on, vote_after, voters_of, is_enabled, is_immediate, order_below, front_of, is_open, fronts_of, open_fronts, class_below, chosen_fronts, streak_of, streak_after, chosen_of}
 use Rattle.queue_laws.specs.Fronts.{moves_main_queues, moves_lanes, all_fronts}
 use Rattle.task_model.proofs.Growth.{is_closed_push, fence_of_push, votes_on_push, streak_of_push}
 use Rattle.list_laws.proofs.Lists.{filter_congr, filter-filter, list_all_congr}
@@ -114,9 +114,7 @@ open_fronts_at_close script past e queue is =
 
 pub chosen_fronts_same : (script : Plan) (past : List Entry) (e : Entry) → moves_main_queues e.kind ≡ false
     → chosen_fronts script (past ++ e ∷ []) ≡ chosen_fronts script past
-unfolding chosen_fronts
-chosen_fronts_same script past e quiet = ap (λ fs. filter (λ f. holds_of (λ class. eqb f.class class) (option_map (λ x. x.class) (least class_below fs))) fs)
-    (open_fronts_same script past e quiet)
+chosen_fronts_same script past e quiet = ap of_least_class (open_fronts_same script past e quiet)
 
 pub streak_of_same : (script : Plan) (past : List Entry) (e : Entry) → moves_main_queues e.kind ≡ false
     → streak_of script (past ++ e ∷ []) ≡ streak_of script past
@@ -128,10 +126,4 @@ streak_of_same script past e quiet = streak_of_push script past e ∙ by e.kind 
 
 pub chosen_of_same : (script : Plan) (past : List Entry) (e : Entry) → moves_main_queues e.kind ≡ false
     → chosen_of script (past ++ e ∷ []) ≡ chosen_of script past
-unfolding chosen_of
-chosen_of_same script past e quiet =
-    ap (λ fs. choice (streak_of script (past ++ e ∷ [])) fs) (chosen_fronts_same script past e quiet)
-    ∙ ap (λ n. choice n (chosen_fronts script past)) (streak_of_same script past e quiet)
-  where
-    choice : ℕ → List Front → Option Front
-    choice n fs = least order_below (cond (nat_le 3 n && nat_lt 0 (length (filter (λ f. is_immediate f.lane) fs))) (filter (λ f. is_immediate f.lane) fs) fs)
+chosen_of_same script past e quiet = rw (open_fronts_same script past e quiet, streak_of_same script past e quiet) refl

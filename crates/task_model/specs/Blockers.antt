@@ -39,10 +39,30 @@ is_open_job script past j = is_block (behaviour_of_job script j) && is_job_accep
 abbrev pub is_in_skip_job : Plan → List Entry → ℕ → Bool
 is_in_skip_job script past seat = holds_of (λ h. is_skip (behaviour_of_job script h.job)) (holding past seat)
 
--- what shutdown waits for: the accepted block tasks that have no end, the skip tasks that run, the accepted block
--- jobs that are not over, and the seats inside skip jobs (`task_traits.h` for what is waited for; the count is this
--- project's own)
+-- the accepted block tasks that have no end
+abbrev pub open_blocks : Plan → List Entry → ℕ
+open_blocks script past = count (is_open_block script past) (posts past)
+
+-- the accepted block jobs that are not over
+abbrev pub open_jobs : Plan → List Entry → ℕ
+open_jobs script past = count (is_open_job script past) (range_with_len 0 (length script.jobs))
+
+-- the skip tasks that run
+abbrev pub running_skips : Plan → List Entry → ℕ
+running_skips script past = count (is_running_skip script past) (posts past)
+
+-- the seats inside skip jobs
+abbrev pub seats_in_skip_jobs : Plan → List Entry → ℕ
+seats_in_skip_jobs script past = count (is_in_skip_job script past) (all_seats script)
+
+-- the block part: block tasks and block jobs
+unfoldable pub block_part : Plan → List Entry → ℕ
+block_part script past = open_blocks script past + open_jobs script past
+
+-- the skip part: skip tasks, and seats inside skip jobs
+unfoldable pub skip_part : Plan → List Entry → ℕ
+skip_part script past = running_skips script past + seats_in_skip_jobs script past
+
+-- what shutdown waits for (`task_traits.h` for what is waited for; the count is this project's own)
 unfoldable pub blockers_of : Plan → List Entry → ℕ
-blockers_of script past =
-    count (is_open_block script past) (posts past) + count (is_running_skip script past) (posts past)
-    + count (is_open_job script past) (range_with_len 0 (length script.jobs)) + count (is_in_skip_job script past) (all_seats script)
+blockers_of script past = block_part script past + skip_part script past

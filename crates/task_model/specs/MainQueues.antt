@@ -109,17 +109,29 @@ open_fronts script past = filter (is_open script past) (flat_map (fronts_of scri
 abbrev pub class_below : Front → Front → Bool
 class_below a b = nat_lt a.class b.class
 
+-- the least class among some fronts
+abbrev pub least_class : List Front → Option ℕ
+least_class fronts = option_map (λ f. f.class) (least class_below fronts)
+
+-- those of the least class
+unfoldable pub of_least_class : List Front → List Front
+of_least_class fronts = filter (λ f. holds_of (λ class. f.class == class) (least_class fronts)) fronts
+
+-- the immediate ones among those of the least class
+abbrev pub immediate_of_least_class : List Front → List Front
+immediate_of_least_class fronts = filter (λ f. is_immediate f.lane) (of_least_class fronts)
+
 -- the chosen class: the least one with an open front
 abbrev pub chosen_class : Plan → List Entry → Option ℕ
-chosen_class script past = option_map (λ f. f.class) (least class_below (open_fronts script past))
+chosen_class script past = least_class (open_fronts script past)
 
 -- the open fronts of the chosen class
-unfoldable pub chosen_fronts : Plan → List Entry → List Front
-chosen_fronts script past = filter (λ f. holds_of (λ class. f.class == class) (chosen_class script past)) (open_fronts script past)
+abbrev pub chosen_fronts : Plan → List Entry → List Front
+chosen_fronts script past = of_least_class (open_fronts script past)
 
 -- the immediate ones among the open fronts of the chosen class
 abbrev pub immediate_fronts : Plan → List Entry → List Front
-immediate_fronts script past = filter (λ f. is_immediate f.lane) (chosen_fronts script past)
+immediate_fronts script past = immediate_of_least_class (open_fronts script past)
 
 -- the main task is a delayed one
 abbrev pub is_delayed_task : List Entry → ℕ → Bool
@@ -137,11 +149,15 @@ streak_after script before n kind = n
 unfoldable pub streak_of : Plan → List Entry → ℕ
 streak_of script past = fold_past (λ before n e. streak_after script before n e.kind) 0 past
 
--- immediate tasks waited through three delayed ones, and an immediate front of the chosen class is open
-abbrev pub is_starved : Plan → List Entry → Bool
-is_starved script past = nat_le 3 (streak_of script past) && nat_lt 0 (length (immediate_fronts script past))
+-- immediate tasks waited through three delayed ones, and an immediate one of the least class is among the fronts
+abbrev pub is_starved : List Front → ℕ → Bool
+is_starved fronts streak = nat_le 3 streak && nat_lt 0 (length (immediate_of_least_class fronts))
 
--- the chosen front: of the open fronts of the chosen class, or after a streak of the immediate ones, the one of least
--- order
-unfoldable pub chosen_of : Plan → List Entry → Option Front
-chosen_of script past = least order_below (if is_starved script past then immediate_fronts script past else chosen_fronts script past)
+-- the choice among open fronts after a streak: of those of the least class, or where immediate tasks are starved of the
+-- immediate ones among them, the one of least order
+unfoldable pub choice_among : List Front → ℕ → Option Front
+choice_among fronts streak = least order_below (if is_starved fronts streak then immediate_of_least_class fronts else of_least_class fronts)
+
+-- the chosen front: the choice among the open fronts after the streak
+abbrev pub chosen_of : Plan → List Entry → Option Front
+chosen_of script past = choice_among (open_fronts script past) (streak_of script past)

@@ -60,13 +60,16 @@ sequence_waiting script past s = if runs_sequence script past s then None else o
 abbrev pub job_waiting : Plan → List Entry → ℕ → Option Candidate
 job_waiting script past j = if may_enter script past j then option_map (job_candidate script past j) (job_post_of past j) else None
 
--- the sequences and jobs that wait, and that the policy does not hold back: what could be taken, were it not for
--- the limits (`task_traits.h` for the priorities, this project's own rule for the rest)
+-- the sequences and jobs that would wait, were nothing held back: as under the policy `all`
+unfoldable pub would_wait : Plan → List Entry → List Candidate
+would_wait script past =
+    filter_map (sequence_waiting script past) (range_with_len 0 (sequence_count script))
+    ++ filter_map (job_waiting script past) (range_with_len 0 (length script.jobs))
+
+-- those of them that the policy does not hold back: what could be taken, were it not for the limits (`task_traits.h` for
+-- the priorities, this project's own rule for the rest)
 unfoldable pub waiting : Plan → List Entry → List Candidate
-waiting script past =
-    filter (λ c. not (is_held past c.priority))
-    (filter_map (sequence_waiting script past) (range_with_len 0 (sequence_count script))
-    ++ filter_map (job_waiting script past) (range_with_len 0 (length script.jobs)))
+waiting script past = filter (λ c. not (is_held past c.priority)) (would_wait script past)
 
 -- the source waits
 abbrev pub IsWaiting : Plan → List Entry → Candidate → Type 0

@@ -10,7 +10,7 @@ use Rattle.task_base.specs.declared.entry.Entry.{Entry}
 use Rattle.task_model.specs.Policies.{is_held}
 use Rattle.task_model.specs.Seats.{runs_sequence}
 use Rattle.task_model.specs.Jobs.{JobPosted, job_post_of, may_enter}
-use Rattle.task_model.specs.Sources.{Candidate, sequence_candidate, job_candidate, sequence_waiting, job_waiting, waiting, is_takeable, goes_before, best_of}
+use Rattle.task_model.specs.Sources.{would_wait, Candidate, sequence_candidate, job_candidate, sequence_waiting, job_waiting, waiting, is_takeable, goes_before, best_of}
 use Rattle.list_laws.specs.Lists.{least, holds_of}
 use Rattle.task_model.specs.Posts.{Posted, posts, main_posts, is_main_taken}
 use Rattle.task_model.specs.Keys.{Ready, ready, key_of}
@@ -20,7 +20,7 @@ use Rattle.task_model.specs.Sequences.{is_of, may_start, eligible, head_of}
 use Rattle.task_base.specs.declared.script.Lane.{Lane}
 use Rattle.task_base.specs.declared.script.Lane.TheVariants.{Immediate, Delayed}
 use Rattle.task_model.specs.Orders.{order_of}
-use Rattle.task_model.specs.MainQueues.{Front, is_of_lane, is_immediate, is_in_lane, front_with, order_below, front_of, fronts_of, is_open, open_fronts, class_of, chosen_class, chosen_fronts, immediate_fronts, is_starved, chosen_of}
+use Rattle.task_model.specs.MainQueues.{choice_among, of_least_class, streak_of, Front, is_of_lane, is_immediate, is_in_lane, front_with, order_below, front_of, fronts_of, is_open, open_fronts, class_of, chosen_class, chosen_fronts, immediate_fronts, is_starved, chosen_of}
 use Rattle.list_laws.proofs.Lists.{some-injective, least_from-is, filter_passes, AllByRecursion-filter, AllByRecursion-append, AllByRecursion-both, AllByRecursion-always}
 use Rattle.hist_model.specs.Laws.Choice.{IsHead, IsWaitingSource, MayBeTaken, IsFront}
 
@@ -124,7 +124,7 @@ job_waits script past j c is = at (may_enter script past j) refl (job_post_of pa
 -- what is known of each source that waits
 each_waits : (script : Plan) (past : List Entry) → AllByRecursion (λ c. IsWaitingSource script past c.source × (not (is_held past c.priority) ≡ true))
     (waiting script past)
-unfolding waiting
+unfolding waiting would_wait
 each_waits script past = of_filter (λ c. IsWaitingSource script past c.source) (λ c. not (is_held past c.priority)) _
     (AllByRecursion-append (λ c. IsWaitingSource script past c.source) _ _
     (of_filter_map (λ s. Unit {0}) (λ c. IsWaitingSource script past c.source) (sequence_waiting script past) _
@@ -197,9 +197,9 @@ each_open script past = of_filter (IsFront past) (is_open script past) (flat_map
 
 -- what is known of the chosen front
 pub chosen_is : (script : Plan) (past : List Entry) (f : Front) → chosen_of script past ≡ Some f → IsFront past f × (is_open script past f ≡ true)
-unfolding chosen_of chosen_fronts
+unfolding choice_among of_least_class
 chosen_is script past f is = of_least (λ g. IsFront past g × (is_open script past g ≡ true)) order_below
-    (if is_starved script past then immediate_fronts script past else chosen_fronts script past) f (either (is_starved script past)) is
+    (if is_starved (open_fronts script past) (streak_of script past) then immediate_fronts script past else chosen_fronts script past) f (either (is_starved (open_fronts script past) (streak_of script past))) is
   where
     chosen : AllByRecursion (λ g. IsFront past g × (is_open script past g ≡ true)) (chosen_fronts script past)
     chosen = AllByRecursion-filter (λ g. IsFront past g × (is_open script past g ≡ true))

@@ -17,7 +17,7 @@ use Rattle.task_model.specs.Refusal.{is_refused, is_closed, is_job_forbidden}
 use Rattle.task_model.specs.Seats.{all_seats}
 use Rattle.task_model.specs.Jobs.{may_enter, is_job_accepted, is_cancelled, has_unclaimed, claimed, free_id}
 use Rattle.task_model.specs.Sources.{best_of}
-use Rattle.task_model.specs.Blockers.{is_open_block, is_running_skip, is_open_job, is_in_skip_job, blockers_of}
+use Rattle.task_model.specs.Blockers.{open_blocks, open_jobs, running_skips, seats_in_skip_jobs, block_part, skip_part, is_open_block, is_running_skip, is_open_job, is_in_skip_job, blockers_of}
 use Rattle.hist_model.specs.Allowed.{by_script, enters_job, is_job, is_ready_worker, same_number, may_come}
 use Rattle.hist_model.specs.Legal.{IsLegal}
 use Rattle.hist_model.specs.Laws.Choice.{IsWaitingSource, IsTake}
@@ -45,7 +45,7 @@ none_counted test (x ∷ xs) h = at (test x) refl (none_counted test xs) h
 
 -- shutdown is done only where it has waited
 waited : (script : Plan) (past : List Entry) (seat : ℕ) → may_come script past seat kinds.Done ≡ true → HasWaited script past
-unfolding may_come blockers_of
+unfolding may_come blockers_of block_part skip_part
 waited script past seat h = record {
   blocks_ended = All-from_recursion (λ p. is_open_block script past p ≡ false) (posts past)
       (none_counted (is_open_block script past) (posts past) (omega (arith, none)));
@@ -60,10 +60,8 @@ waited script past seat h = record {
     last : (a b c : Bool) → (a && b && c) ≡ true → c ≡ true
     last a b c k = grind (arith, k)
 
-    none : count (is_open_block script past) (posts past) + count (is_running_skip script past) (posts past)
-        + count (is_open_job script past) (range_with_len 0 (length script.jobs)) + count (is_in_skip_job script past) (all_seats script) ≡ 0
-    none = eqb-true (count (is_open_block script past) (posts past) + count (is_running_skip script past) (posts past)
-        + count (is_open_job script past) (range_with_len 0 (length script.jobs)) + count (is_in_skip_job script past) (all_seats script)) 0
+    none : open_blocks script past + open_jobs script past + (running_skips script past + seats_in_skip_jobs script past) ≡ 0
+    none = eqb-true (open_blocks script past + open_jobs script past + (running_skips script past + seats_in_skip_jobs script past)) 0
         (last (by_script script past seat kinds.Done) (is_started (phase_of past)) _ h)
 
 -- a job that may be entered is not forbidden

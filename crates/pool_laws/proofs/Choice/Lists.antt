@@ -29,7 +29,7 @@ use Rattle.task_base.specs.Runners.{sequence_count}
 use Rattle.task_model.specs.Sequences.{head_of}
 use Rattle.task_model.specs.Seats.{runs_sequence}
 use Rattle.task_model.specs.Jobs.{JobPosted, job_post_of, may_enter}
-use Rattle.task_model.specs.Sources.{Candidate, sequence_candidate, sequence_waiting, job_candidate, job_waiting, waiting, IsWaiting}
+use Rattle.task_model.specs.Sources.{would_wait, Candidate, sequence_candidate, sequence_waiting, job_candidate, job_waiting, waiting, IsWaiting}
 use Rattle.pool_laws.specs.Jobs.{moves_jobs}
 use Rattle.pool_laws.specs.Choice.{source_waiting, IsFree, moves_sequence_waiting, moves_held, moves_sources}
 use Rattle.task_model.proofs.Growth.{phase_of_push, policy_of_push}
@@ -133,7 +133,7 @@ not-true true h = absurd (true≢false (sym h))
 not-true false h = refl
 
 pub waiting_is_free : (script : Plan) (past : List Entry) (c : Candidate) → IsWaiting script past c → IsFree script past c
-unfolding waiting
+unfolding waiting would_wait
 waiting_is_free script past c is = All-contains (IsFree script past) (waiting script past) c
     (All-from_recursion (IsFree script past) (waiting script past) all) is
   where
@@ -168,7 +168,7 @@ contains_source script past c (Job j) is = by (nat_lt j (length script.jobs)) re
     by false more none = absurd (none-some c none)
 
 pub free_is_waiting : (script : Plan) (past : List Entry) (c : Candidate) → IsFree script past c → IsWaiting script past c
-unfolding waiting
+unfolding waiting would_wait
 free_is_waiting script past c free = contains_filter (λ d. not (is_held past d.priority)) (candidates script past) c
     (contains_source script past c c.source free.candidate) (ap not free.not_held)
 
@@ -176,7 +176,7 @@ free_is_waiting script past c free = contains_filter (λ d. not (is_held past d.
 pub waiting_by_sources : (script : Plan) (past later : List Entry)
     → ((source : TaskSource) → source_waiting script later source ≡ source_waiting script past source)
     → ((priority : Priority) → is_held later priority ≡ is_held past priority) → waiting script later ≡ waiting script past
-unfolding waiting
+unfolding waiting would_wait
 waiting_by_sources script past later sources held =
     filter_congr (λ c. not (is_held later c.priority)) (λ c. not (is_held past c.priority)) (candidates script later) (λ c. ap not (held c.priority))
     ∙ ap (λ cs. filter (λ c. not (is_held past c.priority)) (cs ++ filter_map (job_waiting script later) (range_with_len 0 (length script.jobs))))
@@ -204,7 +204,7 @@ source_same script past e (Job j) quiet =
 
 -- once shutdown is done nothing waits
 pub waiting_at_done : (script : Plan) (past : List Entry) (e : Entry) → e.kind ≡ kinds.Done → waiting script (past ++ e ∷ []) ≡ []
-unfolding waiting
+unfolding waiting would_wait
 waiting_at_done script past e is =
     ap (λ cs. filter (λ c. not (is_held (past ++ e ∷ []) c.priority))
         (cs ++ filter_map (job_waiting script (past ++ e ∷ [])) (range_with_len 0 (length script.jobs))))

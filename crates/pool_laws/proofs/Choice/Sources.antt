@@ -29,7 +29,7 @@ use Rattle.task_model.specs.Seats.{runs_sequence}
 use Rattle.task_base.specs.Groups.{Group, importance, group_of, same_group}
 use Rattle.task_model.specs.Capacity.{priority_of_job, load, capacity, has_room}
 use Rattle.task_model.specs.Jobs.{is_cancelled, items_of, has_unclaimed}
-use Rattle.task_model.specs.Sources.{sequence_candidate, sequence_waiting, job_waiting, waiting, is_takeable, goes_before, best_of, is_outranked, makes_way, leaves}
+use Rattle.task_model.specs.Sources.{would_wait, sequence_candidate, sequence_waiting, job_waiting, waiting, is_takeable, goes_before, best_of, is_outranked, makes_way, leaves}
 use Rattle.pool_laws.specs.Keys.{moves_sequences}
 use Rattle.pool_laws.specs.Seats.{moves_main, moves_running, moves_holding, moves_seats, runs_pool_task}
 use Rattle.pool_laws.specs.Room.{moves_capacity, moves_room}
@@ -53,7 +53,7 @@ plus-zero n = omega arith
 waiting_kept : (script : Plan) (past later : List Entry) → ((s : ℕ) → runs_sequence script later s ≡ runs_sequence script past s)
     → ((s : ℕ) → head_of script later s ≡ head_of script past s) → ((j : ℕ) → JobKept script past later j)
     → ((priority : Priority) → is_held later priority ≡ is_held past priority) → waiting script later ≡ waiting script past
-unfolding waiting
+unfolding waiting would_wait
 waiting_kept script past later runs heads jobs held =
     filter_congr (λ c. not (is_held later c.priority)) (λ c. not (is_held past c.priority))
         (filter_map (sequence_waiting script later) (range_with_len 0 (sequence_count script))

@@ -24,7 +24,7 @@ use Rattle.task_model.specs.Posts.{Posted, Before, InOrder, post_behind, posted_
 use Rattle.task_model.specs.Refusal.{effective_at, behaviour_of_job}
 use Rattle.task_model.specs.Seats.{Holding, holding, holding_after, all_seats, inside}
 use Rattle.task_model.specs.Jobs.{JobPosted, job_post_of, job_post_after, is_cancelled, cancels, done, value_by, is_job_accepted, is_finished_job, is_empty, is_over, items_of}
-use Rattle.task_model.specs.Blockers.{is_block, is_skip, is_open_block, is_running_skip, is_open_job, is_in_skip_job, blockers_of}
+use Rattle.task_model.specs.Blockers.{open_blocks, open_jobs, running_skips, seats_in_skip_jobs, block_part, skip_part, is_block, is_skip, is_open_block, is_running_skip, is_open_job, is_in_skip_job, blockers_of}
 use Rattle.pool_laws.specs.Seats.{moves_holding, IsSeat, holds_job}
 use Rattle.pool_laws.specs.Room.{share}
 use Rattle.pool_laws.specs.Shutdown.{moves_blockers, is_block_task, is_skip_task}
@@ -89,12 +89,6 @@ moves_jobs (JobStep job id item value next) = true
 moves_jobs (JobCancel job) = true
 moves_jobs kind = false
 
-abbrev job_part : Plan → List Entry → ℕ
-job_part script past = count (is_open_job script past) (range_with_len 0 (length script.jobs))
-
-abbrev seat_part : Plan → List Entry → ℕ
-seat_part script past = count (is_in_skip_job script past) (all_seats script)
-
 no_holding : (kind : Kind) → moves_jobs kind ≡ false → moves_holding kind ≡ false
 no_holding (JobTake job id item) h = h
 no_holding (JobStep job id item value next) h = h
@@ -114,7 +108,7 @@ open_job_at script past later j post inside_same_now done_same cancelled_same =
     ∙ ap (λ n. open_job script j (job_post_of past j) (length (inside script past j)) n (is_cancelled later j)) done_same
     ∙ ap (λ b. open_job script j (job_post_of past j) (length (inside script past j)) (done past j) b) cancelled_same
 
-jobs_kept : (script : Plan) (past : List Entry) (e : Entry) → moves_jobs e.kind ≡ false → job_part script (past ++ e ∷ []) ≡ job_part script past
+jobs_kept : (script : Plan) (past : List Entry) (e : Entry) → moves_jobs e.kind ≡ false → open_jobs script (past ++ e ∷ []) ≡ open_jobs script past
 jobs_kept script past e quiet = filter_length_congr (is_open_job script (past ++ e ∷ [])) (is_open_job script past) (range_with_len 0 (length script.jobs)) by
   where
     no_post : (j : ℕ) (now : Option JobPosted) (kind : Kind) → moves_jobs kind ≡ false → job_post_after j past now kind ≡ now
@@ -140,34 +134,27 @@ jobs_kept script past e quiet = filter_length_congr (is_open_job script (past ++
         (done_push past e j ∙ ap (λ (b : Bool). done past j + cond b 1 0) (no_value j e.kind quiet) ∙ plus-zero (done past j))
         (is_cancelled_push past e j ∙ ap (λ b. is_cancelled past j || b) (no_cancel j e.kind quiet) ∙ or-false (is_cancelled past j))
 
-seats_kept : (script : Plan) (past : List Entry) (e : Entry) → moves_holding e.kind ≡ false → seat_part script (past ++ e ∷ []) ≡ seat_part script past
+seats_kept : (script : Plan) (past : List Entry) (e : Entry) → moves_holding e.kind ≡ false → seats_in_skip_jobs script (past ++ e ∷ []) ≡ seats_in_skip_jobs script past
 seats_kept script past e quiet = filter_length_congr (is_in_skip_job script (past ++ e ∷ [])) (is_in_skip_job script past) (all_seats script)
     (λ seat. ap (holds_of (λ h. is_skip (behaviour_of_job script h.job))) (holding_same past e seat quiet))
 
--- the four parts of the count
-abbrev block_part : Plan → List Entry → ℕ
-block_part script past = count (is_open_block script past) (posts past)
-
-abbrev skip_part : Plan → List Entry → ℕ
-skip_part script past = count (is_running_skip script past) (posts past)
-
-parts_same : (script : Plan) (past later : List Entry) → block_part script later ≡ block_part script past → skip_part script later ≡ skip_part script past
-    → job_part script later ≡ job_part script past → seat_part script later ≡ seat_part script past → blockers_of script later ≡ blockers_of script past
-unfolding blockers_of
-parts_same script past later a b c d = sum (block_part script later) (block_part script past) (skip_part script later) (skip_part script past)
-    (job_part script later) (job_part script past) (seat_part script later) (seat_part script past) a b c d
+parts_same : (script : Plan) (past later : List Entry) → open_blocks script later ≡ open_blocks script past → running_skips script later ≡ running_skips script past
+    → open_jobs script later ≡ open_jobs script past → seats_in_skip_jobs script later ≡ seats_in_skip_jobs script past → blockers_of script later ≡ blockers_of script past
+unfolding blockers_of block_part skip_part
+parts_same script past later a b c d = sum (open_blocks script later) (open_blocks script past) (running_skips script later) (running_skips script past)
+    (open_jobs script later) (open_jobs script past) (seats_in_skip_jobs script later) (seats_in_skip_jobs script past) a b c d
   where
-    sum : (a1 a2 b1 b2 c1 c2 d1 d2 : ℕ) → a1 ≡ a2 → b1 ≡ b2 → c1 ≡ c2 → d1 ≡ d2 → a1 + b1 + c1 + d1 ≡ a2 + b2 + c2 + d2
+    sum : (a1 a2 b1 b2 c1 c2 d1 d2 : ℕ) → a1 ≡ a2 → b1 ≡ b2 → c1 ≡ c2 → d1 ≡ d2 → a1 + c1 + (b1 + d1) ≡ a2 + c2 + (b2 + d2)
     sum a1 a2 b1 b2 c1 c2 d1 d2 a b c d = omega (arith, a, b, c, d)
 
-parts_more : (script : Plan) (past later : List Entry) (n m k l : ℕ) → block_part script later ≡ block_part script past + n
-    → skip_part script later ≡ skip_part script past + m → job_part script later ≡ job_part script past + k
-    → seat_part script later ≡ seat_part script past + l → blockers_of script later ≡ blockers_of script past + (n + m + k + l)
-unfolding blockers_of
-parts_more script past later n m k l a b c d = sum (block_part script later) (block_part script past) (skip_part script later) (skip_part script past)
-    (job_part script later) (job_part script past) (seat_part script later) (seat_part script past) a b c d
+parts_more : (script : Plan) (past later : List Entry) (n m k l : ℕ) → open_blocks script later ≡ open_blocks script past + n
+    → running_skips script later ≡ running_skips script past + m → open_jobs script later ≡ open_jobs script past + k
+    → seats_in_skip_jobs script later ≡ seats_in_skip_jobs script past + l → blockers_of script later ≡ blockers_of script past + (n + m + k + l)
+unfolding blockers_of block_part skip_part
+parts_more script past later n m k l a b c d = sum (open_blocks script later) (open_blocks script past) (running_skips script later) (running_skips script past)
+    (open_jobs script later) (open_jobs script past) (seats_in_skip_jobs script later) (seats_in_skip_jobs script past) a b c d
   where
-    sum : (a1 a2 b1 b2 c1 c2 d1 d2 : ℕ) → a1 ≡ a2 + n → b1 ≡ b2 + m → c1 ≡ c2 + k → d1 ≡ d2 + l → a1 + b1 + c1 + d1 ≡ a2 + b2 + c2 + d2 + (n + m + k + l)
+    sum : (a1 a2 b1 b2 c1 c2 d1 d2 : ℕ) → a1 ≡ a2 + n → b1 ≡ b2 + m → c1 ≡ c2 + k → d1 ≡ d2 + l → a1 + c1 + (b1 + d1) ≡ a2 + c2 + (b2 + d2) + (n + m + k + l)
     sum a1 a2 b1 b2 c1 c2 d1 d2 a b c d = omega (arith, a, b, c, d)
 
 more : (a b : ℕ) → a ≡ b → a ≡ b + 0
@@ -204,12 +191,12 @@ blockers_same script past e quiet = parts_same script past (past ++ e ∷ []) bl
     same_posts : posts (past ++ e ∷ []) ≡ posts past
     same_posts = posts_push past e ∙ ap (λ xs. posts past ++ xs) (no_post e.kind quiet) ∙ all_nil (posts past)
 
-    blocks : block_part script (past ++ e ∷ []) ≡ block_part script past
+    blocks : open_blocks script (past ++ e ∷ []) ≡ open_blocks script past
     blocks = ap (count (is_open_block script (past ++ e ∷ []))) same_posts
         ∙ filter_length_congr (is_open_block script (past ++ e ∷ [])) (is_open_block script past) (posts past)
             (λ p. open_block_at script past (past ++ e ∷ []) p (ended_kept past e e.kind refl (no_end e.kind quiet) p.task))
 
-    skips : skip_part script (past ++ e ∷ []) ≡ skip_part script past
+    skips : running_skips script (past ++ e ∷ []) ≡ running_skips script past
     skips = ap (count (is_running_skip script (past ++ e ∷ []))) same_posts
         ∙ filter_length_congr (is_running_skip script (past ++ e ∷ [])) (is_running_skip script past) (posts past)
             (λ p. running_skip_at script past (past ++ e ∷ []) p (taken_kept past e e.kind refl (no_take e.kind quiet) p.task)
@@ -225,8 +212,8 @@ pub blockers_at_post : (script : Plan) (past : List Entry) (e : Entry) (task run
     → blockers_of script (past ++ e ∷ []) ≡ blockers_of script past + share (is_block (effective_at script runner delay))
 blockers_at_post script past e task runner delay is untaken unended =
     parts_more script past (past ++ e ∷ []) (share (is_block (effective_at script runner delay))) 0 0 0 blocks skips
-    (more (job_part script (past ++ e ∷ [])) (job_part script past) (jobs_kept script past e (quiet_jobs e (Post task runner delay true) is refl)))
-    (more (seat_part script (past ++ e ∷ [])) (seat_part script past) (seats_kept script past e (ap moves_holding is)))
+    (more (open_jobs script (past ++ e ∷ [])) (open_jobs script past) (jobs_kept script past e (quiet_jobs e (Post task runner delay true) is refl)))
+    (more (seats_in_skip_jobs script (past ++ e ∷ [])) (seats_in_skip_jobs script past) (seats_kept script past e (ap moves_holding is)))
     ∙ zeros (blockers_of script past) (share (is_block (effective_at script runner delay)))
   where
     zeros : (a n : ℕ) → a + (n + 0 + 0 + 0) ≡ a + n
@@ -252,28 +239,28 @@ blockers_at_post script past e task runner delay is untaken unended =
     and-false true c = refl
     and-false false c = refl
 
-    blocks : block_part script (past ++ e ∷ []) ≡ block_part script past + share (is_block (effective_at script runner delay))
+    blocks : open_blocks script (past ++ e ∷ []) ≡ open_blocks script past + share (is_block (effective_at script runner delay))
     blocks =
         ap (count (is_open_block script (past ++ e ∷ []))) grown
         ∙ count-append (is_open_block script (past ++ e ∷ [])) (posts past) (new ∷ [])
         ∙ ap (λ n. n + count (is_open_block script (past ++ e ∷ [])) (new ∷ []))
             (filter_length_congr (is_open_block script (past ++ e ∷ [])) (is_open_block script past) (posts past)
             (λ p. open_block_at script past (past ++ e ∷ []) p (ended p.task)))
-        ∙ ap (λ n. block_part script past + n) (count-cons (is_open_block script (past ++ e ∷ [])) new []
+        ∙ ap (λ n. open_blocks script past + n) (count-cons (is_open_block script (past ++ e ∷ [])) new []
             ∙ ap (λ (b : Bool). 0 + cond b 1 0) (ap (λ b. is_block (effective_at script runner delay) && not b) (ended task ∙ unended)
             ∙ and-true (is_block (effective_at script runner delay))) ∙ zero-plus (share (is_block (effective_at script runner delay))))
       where
         zero-plus : (n : ℕ) → 0 + n ≡ n
         zero-plus n = omega arith
 
-    skips : skip_part script (past ++ e ∷ []) ≡ skip_part script past + 0
+    skips : running_skips script (past ++ e ∷ []) ≡ running_skips script past + 0
     skips =
         ap (count (is_running_skip script (past ++ e ∷ []))) grown
         ∙ count-append (is_running_skip script (past ++ e ∷ [])) (posts past) (new ∷ [])
         ∙ ap (λ n. n + count (is_running_skip script (past ++ e ∷ [])) (new ∷ []))
             (filter_length_congr (is_running_skip script (past ++ e ∷ [])) (is_running_skip script past) (posts past)
             (λ p. running_skip_at script past (past ++ e ∷ []) p (taken p.task) (ended p.task)))
-        ∙ ap (λ n. skip_part script past + n) (count-cons (is_running_skip script (past ++ e ∷ [])) new []
+        ∙ ap (λ n. running_skips script past + n) (count-cons (is_running_skip script (past ++ e ∷ [])) new []
             ∙ ap (λ (b : Bool). 0 + cond b 1 0) (ap (λ b. is_skip (effective_at script runner delay) && b && not (is_ended (past ++ e ∷ []) task)) (taken task
             ∙ untaken) ∙ and-false (is_skip (effective_at script runner delay)) (not (is_ended (past ++ e ∷ []) task))))
 
@@ -307,9 +294,9 @@ pub blockers_at_take : (script : Plan) (past : List Entry) (e : Entry) (p : Post
     → blockers_of script (past ++ e ∷ []) ≡ blockers_of script past + share (is_skip_task script p)
 blockers_at_take script past e p task runner found is order posted untaken unended =
     parts_more script past (past ++ e ∷ []) 0 (share (is_skip_task script p)) 0 0
-    (more (block_part script (past ++ e ∷ [])) (block_part script past) blocks) skips
-    (more (job_part script (past ++ e ∷ [])) (job_part script past) (jobs_kept script past e (quiet_jobs e (Take task runner found) is refl)))
-    (more (seat_part script (past ++ e ∷ [])) (seat_part script past) (seats_kept script past e (ap moves_holding is)))
+    (more (open_blocks script (past ++ e ∷ [])) (open_blocks script past) blocks) skips
+    (more (open_jobs script (past ++ e ∷ [])) (open_jobs script past) (jobs_kept script past e (quiet_jobs e (Take task runner found) is refl)))
+    (more (seats_in_skip_jobs script (past ++ e ∷ [])) (seats_in_skip_jobs script past) (seats_kept script past e (ap moves_holding is)))
     ∙ zeros (blockers_of script past) (share (is_skip_task script p))
   where
     zeros : (a n : ℕ) → a + (0 + n + 0 + 0) ≡ a + n
@@ -327,7 +314,7 @@ blockers_at_take script past e p task runner found is order posted untaken unend
     taken : (t : ℕ) → is_taken (past ++ e ∷ []) t ≡ (is_taken past t || eqb task t)
     taken t = is_taken_push past e t ∙ ap (λ kind. is_taken past t || takes t kind) is
 
-    blocks : block_part script (past ++ e ∷ []) ≡ block_part script past
+    blocks : open_blocks script (past ++ e ∷ []) ≡ open_blocks script past
     blocks = ap (count (is_open_block script (past ++ e ∷ []))) same_posts
         ∙ filter_length_congr (is_open_block script (past ++ e ∷ [])) (is_open_block script past) (posts past)
         (λ q. open_block_at script past (past ++ e ∷ []) q (ended q.task))
@@ -351,7 +338,7 @@ blockers_at_take script past e p task runner found is order posted untaken unend
         all true = refl
         all false = refl
 
-    skips : skip_part script (past ++ e ∷ []) ≡ skip_part script past + share (is_skip_task script p)
+    skips : running_skips script (past ++ e ∷ []) ≡ running_skips script past + share (is_skip_task script p)
     skips =
         let change : count (is_running_skip script (past ++ e ∷ [])) (posts past) + share (is_running_skip script past p)
             ≡ count (is_running_skip script past) (posts past) + share (is_running_skip script (past ++ e ∷ []) p) =
@@ -359,7 +346,7 @@ blockers_at_take script past e p task runner found is order posted untaken unend
         (λ q other. running_skip_at script past (past ++ e ∷ []) q (taken q.task ∙ ap (λ b. is_taken past q.task || b) (turned q.task task other)
             ∙ or-false (is_taken past q.task)) (ended q.task)) in
         ap (count (is_running_skip script (past ++ e ∷ []))) same_posts
-        ∙ sum (count (is_running_skip script (past ++ e ∷ [])) (posts past)) (skip_part script past) (share (is_running_skip script past p))
+        ∙ sum (count (is_running_skip script (past ++ e ∷ [])) (posts past)) (running_skips script past) (share (is_running_skip script past p))
             (share (is_running_skip script (past ++ e ∷ []) p)) (share (is_skip_task script p)) change (ap share before) (ap share after)
       where
         sum : (a b c d f : ℕ) → a + c ≡ b + d → c ≡ 0 → d ≡ f → a ≡ b + f
@@ -371,8 +358,8 @@ pub blockers_at_end : (script : Plan) (past : List Entry) (e : Entry) (p : Poste
     → blockers_of script past ≡ blockers_of script (past ++ e ∷ []) + share (is_block_task script p || is_skip_task script p)
 blockers_at_end script past e p task left is order posted was_taken unended =
     parts_more script (past ++ e ∷ []) past (share (is_block_task script p)) (share (is_skip_task script p)) 0 0 blocks skips
-    (more (job_part script past) (job_part script (past ++ e ∷ [])) (sym (jobs_kept script past e (quiet_jobs e (End task left) is refl))))
-    (more (seat_part script past) (seat_part script (past ++ e ∷ [])) (sym (seats_kept script past e (ap moves_holding is))))
+    (more (open_jobs script past) (open_jobs script (past ++ e ∷ [])) (sym (jobs_kept script past e (quiet_jobs e (End task left) is refl))))
+    (more (seats_in_skip_jobs script past) (seats_in_skip_jobs script (past ++ e ∷ [])) (sym (seats_kept script past e (ap moves_holding is))))
     ∙ ap (λ n. blockers_of script (past ++ e ∷ []) + n) (either (effective_at script p.home p.delay))
   where
     either : (b : Behaviour) → share (is_block b) + share (is_skip b) + 0 + 0 ≡ share (is_block b || is_skip b)
@@ -412,9 +399,9 @@ blockers_at_end script past e p task left is order posted was_taken unended =
     and-true true = refl
     and-true false = refl
 
-    blocks : block_part script past ≡ block_part script (past ++ e ∷ []) + share (is_block_task script p)
+    blocks : open_blocks script past ≡ open_blocks script (past ++ e ∷ []) + share (is_block_task script p)
     blocks =
-        sum (block_part script past) (count (is_open_block script (past ++ e ∷ [])) (posts past)) (share (is_open_block script (past ++ e ∷ []) p))
+        sum (open_blocks script past) (count (is_open_block script (past ++ e ∷ [])) (posts past)) (share (is_open_block script (past ++ e ∷ []) p))
             (share (is_open_block script past p)) (share (is_block_task script p))
         (count_at (is_open_block script past) (is_open_block script (past ++ e ∷ [])) task (posts past) p order posted
             (λ q other. sym (open_block_at script past (past ++ e ∷ []) q (ended_other q other))))
@@ -422,9 +409,9 @@ blockers_at_end script past e p task left is order posted was_taken unended =
         (ap share (ap (λ b. is_block_task script p && not b) not_yet ∙ and-true (is_block_task script p)))
         ∙ ap (λ xs. count (is_open_block script (past ++ e ∷ [])) xs + share (is_block_task script p)) (sym same_posts)
 
-    skips : skip_part script past ≡ skip_part script (past ++ e ∷ []) + share (is_skip_task script p)
+    skips : running_skips script past ≡ running_skips script (past ++ e ∷ []) + share (is_skip_task script p)
     skips =
-        sum (skip_part script past) (count (is_running_skip script (past ++ e ∷ [])) (posts past)) (share (is_running_skip script (past ++ e ∷ []) p))
+        sum (running_skips script past) (count (is_running_skip script (past ++ e ∷ [])) (posts past)) (share (is_running_skip script (past ++ e ∷ []) p))
             (share (is_running_skip script past p)) (share (is_skip_task script p))
         (count_at (is_running_skip script past) (is_running_skip script (past ++ e ∷ [])) task (posts past) p order posted
             (λ q other. sym (running_skip_at script past (past ++ e ∷ []) q (taken q.task) (ended_other q other))))
@@ -447,14 +434,14 @@ blockers_at_end script past e p task left is order posted was_taken unended =
 
 -- an entry that posts, takes and ends nothing leaves the parts of the tasks
 blocks_kept : (script : Plan) (past : List Entry) (e : Entry) (kind : Kind) → e.kind ≡ kind → posted_by past kind ≡ [] → ((t : ℕ) → ends t kind ≡ false)
-    → block_part script (past ++ e ∷ []) ≡ block_part script past
+    → open_blocks script (past ++ e ∷ []) ≡ open_blocks script past
 blocks_kept script past e kind is no_post no_end =
     ap (count (is_open_block script (past ++ e ∷ []))) (posts_kept past e kind is no_post)
     ∙ filter_length_congr (is_open_block script (past ++ e ∷ [])) (is_open_block script past) (posts past)
         (λ p. open_block_at script past (past ++ e ∷ []) p (ended_kept past e kind is no_end p.task))
 
 skips_kept : (script : Plan) (past : List Entry) (e : Entry) (kind : Kind) → e.kind ≡ kind → posted_by past kind ≡ [] → ((t : ℕ) → takes t kind ≡ false)
-    → ((t : ℕ) → ends t kind ≡ false) → skip_part script (past ++ e ∷ []) ≡ skip_part script past
+    → ((t : ℕ) → ends t kind ≡ false) → running_skips script (past ++ e ∷ []) ≡ running_skips script past
 skips_kept script past e kind is no_post no_take no_end =
     ap (count (is_running_skip script (past ++ e ∷ []))) (posts_kept past e kind is no_post)
     ∙ filter_length_congr (is_running_skip script (past ++ e ∷ [])) (is_running_skip script past) (posts past)
@@ -478,7 +465,7 @@ open_job_other script past e x kind is no_post no_value no_cancel same = open_jo
 -- the open jobs, by what holds of one job before and after an entry
 job_change : (script : Plan) (past later : List Entry) (job : ℕ) (b c : Bool) → job < length script.jobs → is_open_job script past job ≡ b
     → is_open_job script later job ≡ c → ((x : ℕ) → eqb job x ≡ false → is_open_job script later x ≡ is_open_job script past x)
-    → job_part script past + share c ≡ job_part script later + share b
+    → open_jobs script past + share c ≡ open_jobs script later + share b
 job_change script past later job b c lt before after others =
     count_change (λ x. eqb job x) (is_open_job script past) (is_open_job script later) b c (range_with_len 0 (length script.jobs))
         (range_with job 0 (length script.jobs) (omega arith) (omega (arith, lt)))
@@ -489,7 +476,7 @@ job_change script past later job b c lt before after others =
 -- the seats inside skip jobs, by what the entry's seat held and holds
 seat_change : (script : Plan) (past : List Entry) (e : Entry) (b c : Bool) → IsSeat script e.seat → is_in_skip_job script past e.seat ≡ b
     → holds_of (λ h. is_skip (behaviour_of_job script h.job)) (holding_after (holding past e.seat) e.kind) ≡ c
-    → seat_part script past + share c ≡ seat_part script (past ++ e ∷ []) + share b
+    → seats_in_skip_jobs script past + share c ≡ seats_in_skip_jobs script (past ++ e ∷ []) + share b
 seat_change script past e b c seat before after =
     count_change (λ x. eqb e.seat x) (is_in_skip_job script past) (is_in_skip_job script (past ++ e ∷ [])) b c (all_seats script) (seat_once script e.seat seat)
     (λ x here. ap (is_in_skip_job script past) (sym (eqb-true e.seat x here)) ∙ before)
@@ -514,11 +501,11 @@ pub blockers_at_job_post : (script : Plan) (past : List Entry) (e : Entry) (job 
     → blockers_of script (past ++ e ∷ []) ≡ blockers_of script past + share (is_block (behaviour_of_job script job) && ok && not (is_over script past job))
 blockers_at_job_post script past e job ok is lt new =
     parts_more script past (past ++ e ∷ []) 0 0 (share opens) 0
-    (more (block_part script (past ++ e ∷ [])) (block_part script past) (blocks_kept script past e (JobPost job ok) is refl (λ t. refl)))
-    (more (skip_part script (past ++ e ∷ [])) (skip_part script past) (skips_kept script past e (JobPost job ok) is refl (λ t. refl) (λ t. refl)))
-    (sum_up (job_part script past) (job_part script (past ++ e ∷ [])) (share opens)
+    (more (open_blocks script (past ++ e ∷ [])) (open_blocks script past) (blocks_kept script past e (JobPost job ok) is refl (λ t. refl)))
+    (more (running_skips script (past ++ e ∷ [])) (running_skips script past) (skips_kept script past e (JobPost job ok) is refl (λ t. refl) (λ t. refl)))
+    (sum_up (open_jobs script past) (open_jobs script (past ++ e ∷ [])) (share opens)
         (job_change script past (past ++ e ∷ []) job false opens lt before after others))
-    (more (seat_part script (past ++ e ∷ [])) (seat_part script past) (seats_kept script past e (ap moves_holding is)))
+    (more (seats_in_skip_jobs script (past ++ e ∷ [])) (seats_in_skip_jobs script past) (seats_kept script past e (ap moves_holding is)))
     ∙ zeros_third (blockers_of script past) (share opens)
   where
     opens : Bool
@@ -591,12 +578,12 @@ pub blockers_at_job_take : (script : Plan) (past : List Entry) (e : Entry) (job 
     → blockers_of script (past ++ e ∷ []) ≡ blockers_of script past + share (is_skip (behaviour_of_job script job))
 blockers_at_job_take script past e job id item is seat free not_over =
     parts_more script past (past ++ e ∷ []) 0 0 0 (share (is_skip (behaviour_of_job script job)))
-    (more (block_part script (past ++ e ∷ [])) (block_part script past) (blocks_kept script past e (JobTake job id item) is refl (λ t. refl)))
-    (more (skip_part script (past ++ e ∷ [])) (skip_part script past) (skips_kept script past e (JobTake job id item) is refl (λ t. refl) (λ t. refl)))
-    (more (job_part script (past ++ e ∷ [])) (job_part script past)
+    (more (open_blocks script (past ++ e ∷ [])) (open_blocks script past) (blocks_kept script past e (JobTake job id item) is refl (λ t. refl)))
+    (more (running_skips script (past ++ e ∷ [])) (running_skips script past) (skips_kept script past e (JobTake job id item) is refl (λ t. refl) (λ t. refl)))
+    (more (open_jobs script (past ++ e ∷ [])) (open_jobs script past)
         (filter_length_congr (is_open_job script (past ++ e ∷ [])) (is_open_job script past) (range_with_len 0 (length script.jobs))
         (λ x. by x (eqb job x) refl)))
-    (sum_up (seat_part script past) (seat_part script (past ++ e ∷ [])) (share (is_skip (behaviour_of_job script job)))
+    (sum_up (seats_in_skip_jobs script past) (seats_in_skip_jobs script (past ++ e ∷ [])) (share (is_skip (behaviour_of_job script job)))
     (seat_change script past e false (is_skip (behaviour_of_job script job)) seat (ap (holds_of (λ h. is_skip (behaviour_of_job script h.job))) free)
         (ap (λ k. holds_of (λ h. is_skip (behaviour_of_job script h.job)) (holding_after (holding past e.seat) k)) is)))
     ∙ zeros_fourth (blockers_of script past) (share (is_skip (behaviour_of_job script job)))
@@ -643,7 +630,7 @@ blockers_at_step script past e job id item value next is seat held =
     (blocks_kept script past e (JobStep job id item value (Some next)) is refl (λ t. refl))
     (skips_kept script past e (JobStep job id item value (Some next)) is refl (λ t. refl) (λ t. refl))
     (filter_length_congr (is_open_job script (past ++ e ∷ [])) (is_open_job script past) (range_with_len 0 (length script.jobs)) (λ x. by x (eqb job x) refl))
-    (plain (seat_part script past) (seat_part script (past ++ e ∷ [])) (share (is_skip (behaviour_of_job script job)))
+    (plain (seats_in_skip_jobs script past) (seats_in_skip_jobs script (past ++ e ∷ [])) (share (is_skip (behaviour_of_job script job)))
     (seat_change script past e (is_skip (behaviour_of_job script job)) (is_skip (behaviour_of_job script job)) seat
         (held_skip script job (holding past e.seat) held) (ap
         (λ k. holds_of (λ h. is_skip (behaviour_of_job script h.job)) (holding_after (holding past e.seat) k)) is)))
@@ -679,10 +666,10 @@ pub blockers_at_leave : (script : Plan) (past : List Entry) (e : Entry) (job id 
     + share (is_block (behaviour_of_job script job) && is_job_accepted past job && is_over script (past ++ e ∷ []) job)
 blockers_at_leave script past e job id item value is seat held lt =
     parts_more script (past ++ e ∷ []) past 0 0 (share gone) (share (is_skip (behaviour_of_job script job)))
-    (more (block_part script past) (block_part script (past ++ e ∷ [])) (sym (blocks_kept script past e (JobStep job id item value None) is refl (λ t. refl))))
-    (more (skip_part script past) (skip_part script (past ++ e ∷ []))
+    (more (open_blocks script past) (open_blocks script (past ++ e ∷ [])) (sym (blocks_kept script past e (JobStep job id item value None) is refl (λ t. refl))))
+    (more (running_skips script past) (running_skips script (past ++ e ∷ []))
         (sym (skips_kept script past e (JobStep job id item value None) is refl (λ t. refl) (λ t. refl))))
-    (parted (job_part script past) (job_part script (past ++ e ∷ [])) (is_block (behaviour_of_job script job) && is_job_accepted past job)
+    (parted (open_jobs script past) (open_jobs script (past ++ e ∷ [])) (is_block (behaviour_of_job script job) && is_job_accepted past job)
         (is_over script (past ++ e ∷ []) job)
     (job_change script past (past ++ e ∷ []) job (is_block (behaviour_of_job script job) && is_job_accepted past job)
         (is_block (behaviour_of_job script job) && is_job_accepted past job && not (is_over script (past ++ e ∷ []) job)) lt
@@ -690,7 +677,7 @@ blockers_at_leave script past e job id item value is seat held lt =
     (ap (λ b. is_block (behaviour_of_job script job) && b && not (is_over script (past ++ e ∷ []) job)) accepted)
     (λ x other. open_job_other script past e x (JobStep job id item value None) is (same_post_step x past job id item value None)
         (no_value_of job x id item value None other) refl (inside_at_other_leave script past e x job id item value is other held))))
-    (sum_down (seat_part script past) (seat_part script (past ++ e ∷ [])) (share (is_skip (behaviour_of_job script job)))
+    (sum_down (seats_in_skip_jobs script past) (seats_in_skip_jobs script (past ++ e ∷ [])) (share (is_skip (behaviour_of_job script job)))
     (seat_change script past e (is_skip (behaviour_of_job script job)) false seat (held_skip script job (holding past e.seat) held)
         (ap (λ k. holds_of (λ h. is_skip (behaviour_of_job script h.job)) (holding_after (holding past e.seat) k)) is)))
     ∙ ordered (blockers_of script (past ++ e ∷ [])) (share gone) (share (is_skip (behaviour_of_job script job)))
@@ -717,15 +704,15 @@ pub blockers_at_cancel : (script : Plan) (past : List Entry) (e : Entry) (job : 
         && not (is_over script past job))
 blockers_at_cancel script past e job is lt =
     parts_more script (past ++ e ∷ []) past 0 0 (share gone) 0
-    (more (block_part script past) (block_part script (past ++ e ∷ [])) (sym (blocks_kept script past e (JobCancel job) is refl (λ t. refl))))
-    (more (skip_part script past) (skip_part script (past ++ e ∷ [])) (sym (skips_kept script past e (JobCancel job) is refl (λ t. refl) (λ t. refl))))
-    (parted (job_part script past) (job_part script (past ++ e ∷ [])) (is_block (behaviour_of_job script job) && is_job_accepted past job)
+    (more (open_blocks script past) (open_blocks script (past ++ e ∷ [])) (sym (blocks_kept script past e (JobCancel job) is refl (λ t. refl))))
+    (more (running_skips script past) (running_skips script (past ++ e ∷ [])) (sym (skips_kept script past e (JobCancel job) is refl (λ t. refl) (λ t. refl))))
+    (parted (open_jobs script past) (open_jobs script (past ++ e ∷ [])) (is_block (behaviour_of_job script job) && is_job_accepted past job)
         (is_empty script past job) (is_finished_job script past job || is_cancelled past job)
     (job_change script past (past ++ e ∷ []) job (is_open_job script past job)
         (is_block (behaviour_of_job script job) && is_job_accepted past job && not (is_empty script past job)) lt refl after
     (λ x other. open_job_other script past e x (JobCancel job) is (same_post_cancel x past job) refl other
         (inside_same script past e x (ap moves_holding is)))))
-    (more (seat_part script past) (seat_part script (past ++ e ∷ [])) (sym (seats_kept script past e (ap moves_holding is))))
+    (more (seats_in_skip_jobs script past) (seats_in_skip_jobs script (past ++ e ∷ [])) (sym (seats_kept script past e (ap moves_holding is))))
     ∙ zeros_third (blockers_of script (past ++ e ∷ [])) (share gone)
   where
     gone : Bool
