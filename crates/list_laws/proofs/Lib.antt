@@ -1,3 +1,4 @@
 pub mod Lists
 pub mod Least
+pub mod Members
 pub mod Sorts

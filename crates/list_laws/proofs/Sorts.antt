@@ -9,21 +9,8 @@ use Rattle.std.proofs.lemmas.List.Elements.{All-from_recursion, recursion_from_A
 use Rattle.list_laws.specs.Lists.{count, least}
 use Rattle.list_laws.specs.Sorts.{insert_by, sort_by, Rises, Differ, SameMembers}
 use Rattle.list_laws.proofs.Lists.{some-injective, count-cons, filter_none, filter_passes, least_from-is, AllByRecursion-append, AllByRecursion-both, AllByRecursion-filter}
+use Rattle.list_laws.proofs.Members.{AllByRecursion-contains, AllByRecursion-contains_itself, AllByRecursion-through}
 use Rattle.list_laws.proofs.Least.{Ranks, least_is_least, unfiltered}
-
--- Elements of one list and of another.
-
--- what holds of all of a list holds of each that it contains
-pub AllByRecursion-contains : {A : Type 0} (P : A → Type 0) (xs : List A) (x : A) → AllByRecursion P xs → Contains xs x → P x
-AllByRecursion-contains P xs x all = All-contains P xs x (All-from_recursion P xs all)
-
-pub AllByRecursion-contains_itself : {A : Type 0} (xs : List A) → AllByRecursion (Contains xs) xs
-AllByRecursion-contains_itself xs = recursion_from_All (Contains xs) xs (All-contains_itself xs)
-
--- what holds of all of a list holds of all that are in it
-pub AllByRecursion-through : {A : Type 0} (P : A → Type 0) (xs ys : List A) → AllByRecursion (Contains ys) xs → AllByRecursion P ys → AllByRecursion P xs
-AllByRecursion-through P [] ys within all = tt
-AllByRecursion-through P (x ∷ xs) ys within all = (AllByRecursion-contains P ys x all within.0, AllByRecursion-through P xs ys within.1 all)
 
 -- Sorts.
 
@@ -131,6 +118,14 @@ differ-filter below p (x ∷ xs) differ = elim (p x) as (λ b. Differ below (con
   | false ↦ differ-filter below p xs differ.1
 ]
 
+pub differ-push : {A : Type 0} (below : A → A → Bool) (xs : List A) (y : A) → Differ below xs
+    → AllByRecursion (λ x. (below x y ≡ true) ⊎ (below y x ≡ true)) xs → Differ below (xs ++ y ∷ [])
+differ-push below [] y differ last = (tt, tt)
+differ-push below (x ∷ xs) y differ last = (
+  AllByRecursion-append (λ z. (below x z ≡ true) ⊎ (below z x ≡ true)) xs (y ∷ []) differ.0 (last.0, tt),
+  differ-push below xs y differ.1 last.1,
+)
+
 -- where none is found, all fail
 find-none : {A : Type 0} (p : A → Bool) (xs : List A) → find p xs ≡ None → AllByRecursion (λ x. p x ≡ false) xs
 find-none p [] none = tt
@@ -208,16 +203,9 @@ least_is_first {A = A} below p xs ys ranks rises same = by (find p ys) refl
     by None none = fails none ∙ sym none
     by (Some y) some = found y some ∙ sym some
 
--- Lists of the same elements.
-
 pub same_members-sort_by : {A : Type 0} (below : A → A → Bool) (xs : List A) → SameMembers (sort_by below xs) xs
 same_members-sort_by below xs = record {
   forth = AllByRecursion-sort_by (Contains xs) below xs (AllByRecursion-contains_itself xs);
   back = AllByRecursion-sorted (Contains (sort_by below xs)) below xs (AllByRecursion-contains_itself (sort_by below xs));
 }
 
-pub same_members-trans : {A : Type 0} (xs ys zs : List A) → SameMembers xs ys → SameMembers ys zs → SameMembers xs zs
-same_members-trans xs ys zs one two = record {
-  forth = AllByRecursion-through (Contains zs) xs ys one.forth two.forth;
-  back = AllByRecursion-through (Contains xs) zs ys two.back one.back;
-}

@@ -1,5 +1,5 @@
 -- Which tasks were posted, and where.
-use Rattle.std.specs.Prelude.{◌≢◌, ℕ, ◌+◌, ◌<◌, Bool, true, false, ◌==◌, nat_lt, List, [], ◌∷◌, ◌++◌, length, Option, IsTrue, IsSome}
+use Rattle.std.specs.Prelude.{◌≢◌, ℕ, ◌+◌, ◌<◌, Bool, true, false, ◌==◌, ◌&&◌, ◌||◌, nat_lt, List, [], ◌∷◌, ◌++◌, length, Option, IsTrue, IsSome}
 use Rattle.std.specs.List.{list_any, find, AllByRecursion}
 use Rattle.std.specs.Option.{option_map}
 use Rattle.task_base.specs.declared.entry.Entry.{Entry}
@@ -24,6 +24,10 @@ is_delayed p = nat_lt 0 p.delay
 -- the fact of it
 abbrev pub IsDelayed : Posted → Type 0
 IsDelayed p = IsTrue (is_delayed p)
+
+-- the first ripens before the second: by the ripe moment, then by the place of the post
+abbrev pub ripens_before : Posted → Posted → Bool
+ripens_before p q = nat_lt p.ripe q.ripe || (p.ripe == q.ripe && nat_lt p.place q.place)
 
 -- a post behind a past
 abbrev pub post_behind : List Entry → ℕ → ℕ → ℕ → Posted
