@@ -13,8 +13,8 @@ use Rattle.task_base.specs.declared.entry.Kind.TheVariants as kinds
 use Rattle.list_laws.specs.Lists.{count}
 use Rattle.task_model.specs.Past.{fold_past}
 use Rattle.task_model.specs.Time.{now_of, tick_from}
-use Rattle.task_model.specs.Posts.{Posted, Before, InOrder, is_delayed, post_behind, main_posted_by, main_posts}
-use Rattle.task_model.specs.Orders.{ripens, ripens_before, ripening, next_draw, drawn_at, order_of}
+use Rattle.task_model.specs.Posts.{Posted, Before, InOrder, is_delayed, post_behind, main_posted_by, main_posts, ripens_before}
+use Rattle.task_model.specs.Orders.{ripens, ripening, next_draw, drawn_at, order_of}
 use Rattle.queue_laws.specs.Orders.{moves_orders, OrdersBelow, Distinct, OrdersDistinct}
 use Rattle.task_model.proofs.Growth.{main_posts_push}
 use Rattle.list_laws.proofs.Lists.{some-injective, filter_split, count_less, AllByRecursion-members, AllByRecursion-at}

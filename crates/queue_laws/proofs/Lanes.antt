@@ -20,8 +20,8 @@ use Rattle.task_base.specs.declared.script.Lane.{Lane}
 use Rattle.task_base.specs.declared.script.Lane.TheVariants.{Immediate, Delayed}
 use Rattle.list_laws.specs.Lists.{count, least, IsLeast}
 use Rattle.task_model.specs.Time.{now_of, tick_from}
-use Rattle.task_model.specs.Posts.{Posted, is_delayed, post_behind, main_posts, main_posted_by, is_main_taken, main_takes}
-use Rattle.task_model.specs.Orders.{ripens, ripens_before, ripening, next_draw, drawn_at, order_of}
+use Rattle.task_model.specs.Posts.{Posted, is_delayed, post_behind, main_posts, main_posted_by, is_main_taken, main_takes, ripens_before}
+use Rattle.task_model.specs.Orders.{ripens, ripening, next_draw, drawn_at, order_of}
 use Rattle.task_model.specs.MainQueues.{Front, class_of, class_after, is_of_lane, is_immediate, front_with, is_in_lane, order_below, front_of}
 use Rattle.queue_laws.specs.Fronts.{moves_lanes, lane_of, front_behind, front_at_tick_of, drawn_at_tick_of, with_class}
 use Rattle.queue_laws.specs.Orders.{moves_orders, OrdersBelow, order_at_tick_of}
