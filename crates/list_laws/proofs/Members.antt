@@ -112,6 +112,10 @@ filter_map-passing {A = A} {B = B} f p g (x ∷ xs) is = ap (λ o. cons_option o
     by true = refl
     by false = refl
 
+pub map-congr_in : {A B : Type 0} (f g : A → B) (xs : List A) → AllByRecursion (λ x. f x ≡ g x) xs → map f xs ≡ map g xs
+map-congr_in f g [] h = refl
+map-congr_in f g (x ∷ xs) h = rw (h.0, map-congr_in f g xs h.1) refl
+
 -- what is made of what is made
 pub filter_map-option_map : {A B C : Type 0} (f : A → Option B) (g : B → C) (xs : List A) → filter_map (λ x. option_map g (f x)) xs ≡ map g (filter_map f xs)
 filter_map-option_map f g [] = refl

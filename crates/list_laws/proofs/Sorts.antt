@@ -1,5 +1,5 @@
 -- A sort keeps the elements and puts them in order; the first of a list that rises is its least.
-use Rattle.std.proofs.Common.{◌≡◌, ℕ, ◌+◌, Bool, true, false, cond, List, [], ◌∷◌, ◌++◌, map, refl, sym, ap, ◌∙◌, subst, Option, Some, None, inl, inr, arith}
+use Rattle.std.proofs.Common.{◌≡◌, ℕ, ◌+◌, Bool, true, false, cond, List, [], ◌∷◌, ◌++◌, map, length, refl, sym, ap, ◌∙◌, subst, Option, Some, None, inl, inr, arith}
 use Rattle.std.specs.Prelude.{◌⊎◌, filter, find, Contains}
 use Rattle.std.specs.List.{AllByRecursion, filter_map, cons_option}
 use Rattle.std.specs.Option.{option_map, option_or}
@@ -8,7 +8,7 @@ use Rattle.std.proofs.lemmas.Option.{none-some}
 use Rattle.std.proofs.lemmas.List.Elements.{All-from_recursion, recursion_from_All, All-contains, All-contains_itself}
 use Rattle.list_laws.specs.Lists.{count, least}
 use Rattle.list_laws.specs.Sorts.{insert_by, sort_by, Rises, Differ, SameMembers}
-use Rattle.list_laws.proofs.Lists.{some-injective, count-cons, filter_none, filter_passes, least_from-is, AllByRecursion-append, AllByRecursion-both, AllByRecursion-filter}
+use Rattle.list_laws.proofs.Lists.{some-injective, filter_always, count-cons, filter_none, filter_passes, least_from-is, AllByRecursion-append, AllByRecursion-both, AllByRecursion-filter}
 use Rattle.list_laws.proofs.Members.{AllByRecursion-contains, AllByRecursion-contains_itself, AllByRecursion-through}
 use Rattle.list_laws.proofs.Least.{Ranks, least_is_least, unfiltered}
 
@@ -59,6 +59,12 @@ count-sort_by p below (x ∷ xs) =
     ∙ count-cons p x (sort_by below xs)
     ∙ ap (λ n. n + cond (p x) 1 0) (count-sort_by p below xs)
     ∙ sym (count-cons p x xs)
+
+pub length-sort_by : {A : Type 0} (below : A → A → Bool) (xs : List A) → length (sort_by below xs) ≡ length xs
+length-sort_by below xs =
+    ap length (sym (filter_always (λ x. true) (sort_by below xs) (λ x. refl)))
+    ∙ count-sort_by (λ x. true) below xs
+    ∙ ap length (filter_always (λ x. true) xs (λ x. refl))
 
 -- what goes before one goes before all that this one goes before
 pub ranks-trans : {A : Type 0} (below : A → A → Bool) → Ranks below → (a b c : A) → below a b ≡ true → below b c ≡ true → below a c ≡ true
