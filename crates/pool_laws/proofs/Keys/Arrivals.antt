@@ -260,3 +260,26 @@ pub head_is_first_arrival : (script : Plan) (past : List Entry) (s : ℕ) → Sa
 unfolding head_of eligible
 head_is_first_arrival script past s same = least_is_first ready_below (λ r. is_of script s r.posted && may_start script past r.posted) (ready past) (arrivals past)
     (ranks_key (λ r. r.key)) (arrivals_rise past) same
+
+-- Two short histories, by computing.
+
+at : ℕ → Kind → Entry
+at seat kind = record { seat = seat; kind = kind }
+
+unfolded : List Ready → List (ℕ × ℕ × ℕ × ℕ)
+unfolded rs = map (λ r. (r.posted.task, r.key.place, r.key.ripe, r.key.post)) rs
+
+-- an immediate task arrives at its post, a refused one never; at a tick those arrive that are ripe, the earliest first, and
+-- those of one moment by their posts
+worked_ticks : unfolded (arrivals (at 0 (kinds.Post 7 0 5 true) ∷ at 0 (kinds.Post 8 0 3 true) ∷ at 0 (kinds.Post 9 0 0 true) ∷ at 0 (kinds.Post 10 1 3 true)
+    ∷ at 0 (kinds.Post 11 0 9 true) ∷ at 0 (kinds.Tick 6) ∷ at 0 (kinds.Post 12 0 0 false) ∷ at 0 (kinds.Tick 9) ∷ []))
+    ≡ (9, 2, 0, 2) ∷ (8, 5, 3, 1) ∷ (10, 5, 3, 3) ∷ (7, 5, 5, 0) ∷ (11, 7, 9, 4) ∷ []
+unfolding arrivals posts fold_past now_of tick_from at unfolded
+worked_ticks = refl
+
+-- a delay counts from the moment of the post, and a tick that comes again gives no second key
+worked_again : unfolded (arrivals (at 0 (kinds.Tick 4) ∷ at 0 (kinds.Post 1 0 2 true) ∷ at 0 (kinds.Tick 5) ∷ at 0 (kinds.Post 2 0 1 true)
+    ∷ at 0 (kinds.Tick 6) ∷ at 0 (kinds.Tick 6) ∷ at 0 (kinds.Post 3 0 0 true) ∷ []))
+    ≡ (1, 4, 6, 1) ∷ (2, 4, 6, 3) ∷ (3, 6, 0, 6) ∷ []
+unfolding arrivals posts fold_past now_of tick_from at unfolded
+worked_again = refl
