@@ -6,9 +6,10 @@ ghost use Rattle.script_model.specs.Postings.{IsPostedOnce};
 ghost use Rattle.hist_model.specs.Legal.{is_legal};
 ghost use Rattle.hist_model.specs.Laws.Rising.{Rises};
 
-/// In every legal history the moments of the ticks never fall, so that no tick has come to a moment ahead; each order
-/// that was drawn is below the next draw; and only a task that was taken has an open scope. Where the script's postings
-/// name each task once, no two main tasks have one order.
+/// In every legal history the moments of the ticks never fall, so that no tick has come to a moment ahead; the tasks that
+/// have keys are those that arrived, and the main tasks that have orders likewise; each order that was drawn is below the
+/// next draw; and only a task that was taken has an open scope. Where the script's postings name each task once, no two
+/// main tasks have one order.
 pub fn moments_and_orders_rise()
     ensures rises { (script : Plan) (past : List Entry) → is_legal script past ≡ true → Rises past }
     ensures distinct { (script : Plan) (past : List Entry) → IsPostedOnce script → is_legal script past ≡ true → OrdersDistinct past }

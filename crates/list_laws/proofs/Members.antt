@@ -1,7 +1,7 @@
 -- What holds of the elements of one list and of another, and lists of the same elements.
 use Rattle.std.proofs.Common.{◌≡◌, Bool, true, false, cond, List, [], ◌∷◌, ◌++◌, map, append_assoc, refl, sym, ap, ◌∙◌, subst, Option, Some, None}
 use Rattle.std.specs.Prelude.{filter, Contains}
-use Rattle.std.specs.Option.{option_map, option_or}
+use Rattle.std.specs.Option.{option_map, option_or, IfSome}
 use Rattle.std.specs.List.{AllByRecursion, filter_map, cons_option}
 use Rattle.std.proofs.lemmas.Option.{none-some}
 use Rattle.std.proofs.lemmas.List.{append-nil}
@@ -24,6 +24,17 @@ AllByRecursion-through P (x ∷ xs) ys within all = (AllByRecursion-contains P y
 pub AllByRecursion-unmapped : {A B : Type 0} (P : B → Type 0) (f : A → B) (xs : List A) → AllByRecursion P (map f xs) → AllByRecursion (λ x. P (f x)) xs
 AllByRecursion-unmapped P f [] all = tt
 AllByRecursion-unmapped P f (x ∷ xs) all = (all.0, AllByRecursion-unmapped P f xs all.1)
+
+-- what holds of what is made of the elements
+pub AllByRecursion-made : {A B : Type 0} (P : B → Type 0) (f : A → Option B) (xs : List A) → AllByRecursion P (filter_map f xs)
+    → AllByRecursion (λ x. IfSome (f x) P) xs
+AllByRecursion-made P f [] all = tt
+AllByRecursion-made {B = B} P f (x ∷ xs) all = by (f x) all (AllByRecursion-made P f xs)
+  where
+    by : (o : Option B) → AllByRecursion P (cons_option o (filter_map f xs)) → (AllByRecursion P (filter_map f xs) → AllByRecursion (λ y. IfSome (f y) P) xs)
+        → IfSome o P × AllByRecursion (λ y. IfSome (f y) P) xs
+    by None h rest = (tt, rest h)
+    by (Some y) h rest = (h.0, rest h.1)
 
 -- Lists of the same elements.
 

@@ -8,7 +8,7 @@ use Rattle.std.proofs.lemmas.Option.{none-some}
 use Rattle.std.proofs.lemmas.List.Elements.{All-from_recursion, recursion_from_All, All-contains, All-contains_itself}
 use Rattle.list_laws.specs.Lists.{count, least}
 use Rattle.list_laws.specs.Sorts.{insert_by, sort_by, Rises, Differ, SameMembers}
-use Rattle.list_laws.proofs.Lists.{some-injective, filter_always, count-cons, filter_none, filter_passes, least_from-is, AllByRecursion-append, AllByRecursion-both, AllByRecursion-filter}
+use Rattle.list_laws.proofs.Lists.{some-injective, filter_always, count-cons, filter_none, filter_passes, least_from-is, AllByRecursion-append, AllByRecursion-map, AllByRecursion-both, AllByRecursion-filter}
 use Rattle.list_laws.proofs.Members.{AllByRecursion-contains, AllByRecursion-contains_itself, AllByRecursion-through}
 use Rattle.list_laws.proofs.Least.{Ranks, least_is_least, unfiltered}
 
@@ -107,6 +107,25 @@ rises-append below (x ∷ xs) ys of_xs of_ys before = (
   AllByRecursion-append (λ y. below x y ≡ true) xs ys of_xs.0 before.0,
   rises-append below xs ys of_xs.1 of_ys before.1,
 )
+
+-- the two are one, or one goes before the other
+abbrev Apart : {A : Type 0} → (A → A → Bool) → A → A → Type 0
+Apart below a b = (a ≡ b) ⊎ ((below a b ≡ true) ⊎ (below b a ≡ true))
+
+-- of two elements of a rising list one goes before the other, or they are one
+pub rises_apart : {A : Type 0} (below : A → A → Bool) (xs : List A) (a b : A) → Rises below xs → Contains xs a → Contains xs b
+    → (a ≡ b) ⊎ ((below a b ≡ true) ⊎ (below b a ≡ true))
+rises_apart {A = A} below xs a b rises of_a of_b = AllByRecursion-contains (Apart below a) xs b (AllByRecursion-contains (λ x. AllByRecursion (Apart below x) xs) xs a
+    (all xs rises) of_a) of_b
+  where
+    all : (ys : List A) → Rises below ys → AllByRecursion (λ x. AllByRecursion (Apart below x) ys) ys
+    all [] rising = tt
+    all (y ∷ ys) rising = (
+      (inl refl, AllByRecursion-map (λ z. below y z ≡ true) (Apart below y) ys (λ z before. inr (inl before)) rising.0),
+      AllByRecursion-map (λ z. (below y z ≡ true) × AllByRecursion (Apart below z) ys) (λ z. AllByRecursion (Apart below z) (y ∷ ys)) ys
+          (λ z h. (inr (inr h.0), h.1))
+          (AllByRecursion-both (λ z. below y z ≡ true) (λ z. AllByRecursion (Apart below z) ys) ys rising.0 (all ys rising.1)),
+    )
 
 pub rises-map : {A B : Type 0} (below : A → A → Bool) (above : B → B → Bool) (f : A → B) (xs : List A)
     → ((a b : A) → below a b ≡ true → above (f a) (f b) ≡ true) → Rises below xs → Rises above (map f xs)

@@ -1,6 +1,6 @@
 -- The main arrivals: they rise in order, they are the accepted main tasks that have orders, and the front of a lane is
 -- the first of them that is in it.
-use Rattle.std.proofs.Common.{◌≡◌, ℕ, suc, ◌+◌, ◌<◌, ◌≤◌, Bool, true, false, cond, List, [], ◌∷◌, ◌++◌, length, map, take, append_assoc, refl, sym, ap, ◌∙◌, subst, Option, Some, None, arith}
+use Rattle.std.proofs.Common.{◌≡◌, ℕ, suc, ◌+◌, ◌<◌, ◌≤◌, Bool, true, false, cond, List, [], ◌∷◌, ◌++◌, length, map, take, refl, sym, ap, ◌∙◌, subst, Option, Some, None, arith}
 use Rattle.std.specs.Prelude.{not, ◌&&◌, nat_lt, nat_le, find, filter, is_none, option_and_then}
 use Rattle.std.specs.Option.{option_map, option_or}
 use Rattle.std.specs.List.{AllByRecursion, filter_map}
@@ -301,15 +301,6 @@ main_arrivals_are_ordered_grows past e none same = rw (main_arrivals_push past e
     by (kinds.Main task queue delay true) is = added (kinds.Main task queue delay true) is refl (posted task queue delay is (nat_lt 0 delay) refl)
     by (kinds.Tick moment) is = subst (λ kind. SameMembers (main_arrivals past ++ drawing_by past kind) (ordered (past ++ e ∷ []))) (sym is) (ticked moment is)
     by kind is = added kind is refl refl
-
--- as long as no tick has come to a moment ahead, at any time so far
-pub main_arrivals_are_ordered : (past : List Entry) → ((before rest : List Entry) → before ++ rest ≡ past → NoTickAhead before)
-    → SameMembers (main_arrivals past) (ordered past)
-main_arrivals_are_ordered = push_induction
-    (λ past. ((before rest : List Entry) → before ++ rest ≡ past → NoTickAhead before) → SameMembers (main_arrivals past) (ordered past))
-    (λ none. main_arrivals_are_ordered_at_start)
-    (λ past e same none. main_arrivals_are_ordered_grows past e (none past (e ∷ []) refl)
-        (same (λ before rest is. none before (rest ++ e ∷ []) (sym (append_assoc before rest (e ∷ [])) ∙ ap (λ xs. xs ++ e ∷ []) is))))
 
 -- The front of a lane is the first arrival in it.
 

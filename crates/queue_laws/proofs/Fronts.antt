@@ -7,6 +7,7 @@ use Rattle.std.proofs.Common.{◌≡◌, ℕ, Bool, true, false, cond, eqb, List
 use Rattle.std.specs.Prelude.{not, ◌&&◌, ◌||◌, nat_lt, nat_le, filter, ◌==◌}
 use Rattle.std.specs.Option.{option_map, option_map_or, option_to_list}
 use Rattle.std.specs.List.{flat_map, range_with_len}
+use Rattle.std.proofs.Math.Bool.{and-true}
 use Rattle.std.proofs.lemmas.Bool.{true≢false}
 use Rattle.task_base.specs.Plan.{Plan}
 use Rattle.task_base.specs.declared.entry.Entry.{Entry}
@@ -82,10 +83,6 @@ open_fronts_same script past e quiet =
         (λ f. open_but_closed script past e f (λ q v now. no_vote q v now e.kind quiet) (λ q now. no_fence q now e.kind quiet)
         ∙ ap (λ b. is_open script past f && not b) (no_close f.queue e.kind quiet) ∙ and-true (is_open script past f))
   where
-    and-true : (b : Bool) → (b && true) ≡ b
-    and-true true = refl
-    and-true false = refl
-
     no_vote : (q v : ℕ) (now : Bool) (kind : Kind) → moves_main_queues kind ≡ false → vote_after q v now kind ≡ now
     no_vote q v now (kinds.Vote queue voter on) h = absurd (true≢false h)
     no_vote q v now kind h = refl

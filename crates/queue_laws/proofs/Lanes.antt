@@ -10,6 +10,7 @@ use Rattle.std.specs.Option.{option_map, option_or}
 use Rattle.std.specs.List.{filter_map, cons_option, AllByRecursion}
 use Rattle.std.proofs.lemmas.Bool.{true≢false, lt-ltb, le-ltb}
 use Rattle.std.proofs.lemmas.Option.{none-some, cond_some}
+use Rattle.std.proofs.Math.Bool.{or-false, and-true}
 use Rattle.std.proofs.lemmas.List.{append-nil}
 use Rattle.std.proofs.lemmas.List.Elements.{filter-append, filter_map-append}
 use Rattle.task_base.specs.Plan.{Plan}
@@ -28,8 +29,9 @@ use Rattle.queue_laws.specs.Orders.{moves_orders, OrdersBelow, order_at_tick_of}
 use Rattle.task_model.proofs.Growth.{main_posts_push, is_main_taken_push, class_of_push}
 use Rattle.list_laws.proofs.Lists.{some-injective, keep, filter-keep, filter_congr, filter_map_congr_in, filter-filter, filter-filter_map, filter_passes, least-push, least-map, AllByRecursion-map, AllByRecursion-filter}
 use Rattle.pool_laws.proofs.Keys.Ready.{AllByRecursion-filter_map}
+use Rattle.list_laws.proofs.Members.{filter_map-option_map}
 use Rattle.list_laws.proofs.Least.{least_is_least, no_least, ranks_by}
-use Rattle.queue_laws.proofs.Orders.{unordered, or-false, main_places, drawn, order_is, order_of_same, order_at_post, order_tick}
+use Rattle.queue_laws.proofs.Orders.{unordered, main_places, drawn, order_is, order_of_same, order_at_post, order_tick}
 
 -- Lanes.
 
@@ -163,10 +165,6 @@ lane_at_post script past e q lane task queue delay is immediate untaken =
     lanes : (l : Lane) → is_of_lane l new ≡ is_immediate l
     lanes Immediate = ap not immediate
     lanes Delayed = immediate
-
-    and-true : (b : Bool) → (b && true) ≡ b
-    and-true true = refl
-    and-true false = refl
 
     in_lane : is_in_lane past q lane new ≡ (eqb queue q && is_immediate lane)
     in_lane = ap (λ b. eqb queue q && is_of_lane lane new && not b) untaken ∙ and-true (eqb queue q && is_of_lane lane new)
@@ -377,17 +375,6 @@ immediate_at_tick script past e q moment is =
         (cond (b && is_none (tick_from past p.ripe)) (drawn_at past moment p) (order_of past p)))
         (immediate (eqb p.home q) (is_delayed p) (not (is_main_taken past p.task)) inside)
 
--- elements made in another way are the elements changed
-filter_map-map : {A B C : Type 0} (f : A → Option C) (g : A → Option B) (h : B → C) (xs : List A) → AllByRecursion (λ x. f x ≡ option_map h (g x)) xs
-    → filter_map f xs ≡ map h (filter_map g xs)
-filter_map-map f g h [] all = refl
-filter_map-map {B = B} {C = C} f g h (x ∷ xs) all = ap (λ o. cons_option o (filter_map f xs)) all.0
-    ∙ ap (λ ys. cons_option (option_map h (g x)) ys) (filter_map-map f g h xs all.1) ∙ by (g x)
-  where
-    by : (o : Option B) → cons_option (option_map h o) (map h (filter_map g xs)) ≡ map h (cons_option o (filter_map g xs))
-    by None = refl
-    by (Some y) = refl
-
 pub front_at_rank : (script : Plan) (past : List Entry) (e : Entry) (q : ℕ) (lane : Lane) (queue class : ℕ) → e.kind ≡ kinds.Rank queue class
     → front_of script (past ++ e ∷ []) q lane ≡ (if queue == q then option_map (with_class class)
         (front_of script past q lane) else front_of script past q lane)
@@ -408,10 +395,12 @@ front_at_rank script past e q lane queue class is =
         ≡ cond b (option_map (with_class class) (least order_below (lane_of script past q lane))) (least order_below (lane_of script past q lane))
     by false same = ap (least order_below) (lane_same_at script past e q lane ps (ap moves_orders is) same (old_lane past q lane))
     by true given =
-        ap (least order_below) (filter_map-map (front_with script (past ++ e ∷ []) q lane) (front_with script past q lane) (with_class class) ps
+        ap (least order_below) (filter_map_congr_in (front_with script (past ++ e ∷ []) q lane)
+            (λ p. option_map (with_class class) (front_with script past q lane p)) ps
             (AllByRecursion-map (λ p. p.place < length past)
             (λ p. front_with script (past ++ e ∷ []) q lane p ≡ option_map (with_class class) (front_with script past q lane p)) ps made
-            (old_lane past q lane)))
+            (old_lane past q lane))
+            ∙ filter_map-option_map (front_with script past q lane) (with_class class) ps)
         ∙ least-map order_below order_below (with_class class) (lane_of script past q lane) (λ a b. refl)
       where
         over : (p : Posted) (o : Option ℕ) → option_map (λ order. record { queue = q; lane = lane; task = p.task; order = order; class = class }) o

@@ -9,6 +9,7 @@ use Rattle.std.specs.Option.{option_or}
 use Rattle.std.specs.List.{AllByRecursion}
 use Rattle.std.proofs.lemmas.Bool.{true≢false, ltb-true}
 use Rattle.std.proofs.lemmas.Option.{none-some, cond_some}
+use Rattle.std.proofs.Math.Bool.{or-false}
 use Rattle.std.proofs.lemmas.List.{append-nil, take-append-le}
 use Rattle.std.proofs.Math.Seq.{take-append_seam}
 use Rattle.task_base.specs.declared.entry.Entry.{Entry}
@@ -25,10 +26,6 @@ use Rattle.queue_laws.specs.Orders.{moves_ripening, moves_orders, OrdersBelow, o
 use Rattle.task_model.proofs.Growth.{now_of_push, main_posts_push, is_closed_push, draws_push}
 use Rattle.list_laws.proofs.Lists.{some-injective, filter_congr, filter_split, count_below, AllByRecursion-map, AllByRecursion-append, AllByRecursion-members, AllByRecursion-at}
 use Rattle.pool_laws.proofs.Keys.Ready.{main_posts_within, tick_from_push, tick_from_stays, tick_within}
-
-pub or-false : (b : Bool) → (b || false) ≡ b
-or-false true = refl
-or-false false = refl
 
 -- each accepted main task has its place in the past
 pub main_places : (past : List Entry) → AllByRecursion (λ p. p.place < length past) (main_posts past)
@@ -195,12 +192,6 @@ ripening_same past e moment quiet =
         ∙ ap (λ n. is_delayed p && not (is_closed past p.home) && nat_lt n p.ripe && nat_le p.ripe moment) (now_of_push past e
             ∙ still (now_of past) e.kind quiet)
 
--- Orders are below the next draw.
-
-pub orders_below_at_start : OrdersBelow []
-unfolding main_posts fold_past
-orders_below_at_start = tt
-
 -- an immediate task, and one whose tick has come, keeps its order
 order_same_immediate : (past rest : List Entry) (p : Posted) → p.place < length past → is_delayed p ≡ false → order_of (past ++ rest) p ≡ order_of past p
 order_same_immediate past rest p lt immediate =
@@ -229,81 +220,3 @@ order_tick past e p moment is lt = by (is_delayed p) refl (tick_from past p.ripe
     by false immediate o was = order_same_immediate past (e ∷ []) p lt immediate
     by true delayed None was = order_at_tick past e p moment is delayed was
     by true delayed (Some place) was = order_same_ticked past (e ∷ []) p place lt was
-
--- fewer ripen before a task than ripen with it
-ripe_count : (past : List Entry) (moment : ℕ) (front : List Posted) (p : Posted) (back : List Posted) → front ++ p ∷ back ≡ main_posts past
-    → ripens past moment p ≡ true → count (λ q. ripens_before q p) (ripening past moment) < length (ripening past moment)
-unfolding ripening
-ripe_count past moment front p back is ripe = rw (← is, filter_split (ripens past moment) front p back ripe)
-    (count_below (λ q. ripens_before q p) (filter (ripens past moment) front) p (filter (ripens past moment) back) not_itself)
-  where
-    less : (n : ℕ) → nat_lt n n ≡ false
-    less n = grind arith
-
-    not_itself : ripens_before p p ≡ false
-    not_itself = ap (λ b. b || (eqb p.ripe p.ripe && nat_lt p.place p.place)) (less p.ripe) ∙ ap (λ b. eqb p.ripe p.ripe && b) (less p.place)
-        ∙ neither (eqb p.ripe p.ripe)
-      where
-        neither : (b : Bool) → (b && false) ≡ false
-        neither true = refl
-        neither false = refl
-
-pub orders_below_grows : (past : List Entry) (e : Entry) → NoTickAhead past → OrdersBelow past → OrdersBelow (past ++ e ∷ [])
-orders_below_grows past e none below =
-    subst (AllByRecursion (λ p. (n : ℕ) → order_of (past ++ e ∷ []) p ≡ Some n → n < next_draw (past ++ e ∷ []))) (sym (main_posts_push past e))
-    (AllByRecursion-append (λ p. (n : ℕ) → order_of (past ++ e ∷ []) p ≡ Some n → n < next_draw (past ++ e ∷ [])) (main_posts past)
-        (main_posted_by past e.kind) old (new e.kind refl))
-  where
-    grown : (kind : Kind) → e.kind ≡ kind → draws (past ++ e ∷ []) ≡ draws past + drawn_by past kind
-    grown kind is = draws_push past e ∙ ap (λ k. draws past + drawn_by past k) is
-
-    later : (n : ℕ) → n < 2 + draws past → n < 2 + draws (past ++ e ∷ [])
-    later n lt = let more : draws (past ++ e ∷ []) ≡ draws past + drawn_by past e.kind = grown e.kind refl in omega (arith, lt, more)
-
-    old : AllByRecursion (λ p. (n : ℕ) → order_of (past ++ e ∷ []) p ≡ Some n → n < next_draw (past ++ e ∷ [])) (main_posts past)
-    old = AllByRecursion-members (λ p. (n : ℕ) → order_of (past ++ e ∷ []) p ≡ Some n → n < next_draw (past ++ e ∷ [])) (main_posts past)
-        (λ front p back is n ordered. at front p back is n e.kind refl ordered)
-      where
-        place : (front : List Posted) (p : Posted) (back : List Posted) → front ++ p ∷ back ≡ main_posts past → p.place < length past
-        place front p back is = AllByRecursion-at (λ q. q.place < length past) front p back
-            (subst (AllByRecursion (λ q. q.place < length past)) (sym is) (main_places past))
-
-        known : (front : List Posted) (p : Posted) (back : List Posted) → front ++ p ∷ back ≡ main_posts past → (n : ℕ) → order_of past p ≡ Some n
-            → n < next_draw past
-        known front p back is = AllByRecursion-at (λ q. (n : ℕ) → order_of past q ≡ Some n → n < next_draw past) front p back
-            (subst (AllByRecursion (λ q. (n : ℕ) → order_of past q ≡ Some n → n < next_draw past)) (sym is) below)
-
-        ticked : (front : List Posted) (p : Posted) (back : List Posted) → front ++ p ∷ back ≡ main_posts past → (n moment : ℕ) → e.kind ≡ kinds.Tick moment
-            → (b : Bool) → cond b (drawn_at past moment p) (order_of past p) ≡ Some n → n < next_draw (past ++ e ∷ [])
-        ticked front p back is n moment tick true drew =
-            let both : (ripens past moment p ≡ true) × (next_draw past + count (λ q. ripens_before q p) (ripening past moment) ≡ n) = cond_some
-                (ripens past moment p) (next_draw past + count (λ q. ripens_before q p) (ripening past moment)) n drew in
-            let fewer : count (λ q. ripens_before q p) (ripening past moment) < length (ripening past moment) = ripe_count past moment front p back is both.0 in
-            let more : draws (past ++ e ∷ []) ≡ draws past + length (ripening past moment) = grown (kinds.Tick moment) tick in
-            let sum : next_draw past + count (λ q. ripens_before q p) (ripening past moment) ≡ n = both.1 in
-            omega (arith, fewer, more, sum)
-        ticked front p back is n moment tick false kept = later n (known front p back is n kept)
-
-        at : (front : List Posted) (p : Posted) (back : List Posted) → front ++ p ∷ back ≡ main_posts past → (n : ℕ) (kind : Kind) → e.kind ≡ kind
-            → order_of (past ++ e ∷ []) p ≡ Some n → n < next_draw (past ++ e ∷ [])
-        at front p back is n (kinds.Tick moment) tick ordered = ticked front p back is n moment tick (is_delayed p && is_none (tick_from past p.ripe))
-            (sym (order_tick past e p moment tick (place front p back is)) ∙ ordered)
-        at front p back is n kind other ordered = later n (known front p back is n
-            (sym (order_of_same past e p (place front p back is) (ap moves_orders other)) ∙ ordered))
-
-    posted : (task queue delay : ℕ) → e.kind ≡ kinds.Main task queue delay true → (b : Bool) → nat_lt 0 delay ≡ b → (n : ℕ)
-        → order_of (past ++ e ∷ []) (post_behind past task queue delay) ≡ Some n → n < next_draw (past ++ e ∷ [])
-    posted task queue delay is false immediate n ordered =
-        let first : next_draw past ≡ n = some-injective (sym (order_at_post past e task queue delay immediate) ∙ ordered) in
-        let more : draws (past ++ e ∷ []) ≡ draws past + 1 = grown (kinds.Main task queue delay true) is
-            ∙ ap (λ (b : Bool). draws past + cond b 0 1) immediate in
-        omega (arith, first, more)
-    posted task queue delay is true delayed n ordered =
-        let positive : 0 < delay = ltb-true 0 delay delayed in
-        absurd (none-some n (sym (unordered past e (post_behind past task queue delay) (ap moves_orders is) delayed
-            (none (now_of past + delay) (omega (arith, positive)))) ∙ ordered))
-
-    new : (kind : Kind) → e.kind ≡ kind → AllByRecursion (λ p. (n : ℕ) → order_of (past ++ e ∷ []) p ≡ Some n → n < next_draw (past ++ e ∷ []))
-        (main_posted_by past kind)
-    new (kinds.Main task queue delay true) is = ((λ n ordered. posted task queue delay is (nat_lt 0 delay) refl n ordered), tt)
-    new kind is = tt

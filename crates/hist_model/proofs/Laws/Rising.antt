@@ -10,7 +10,9 @@ use Rattle.task_base.specs.declared.step.Step.{Step}
 use Rattle.task_base.specs.declared.step.Step.TheVariants as steps
 use Rattle.task_base.specs.declared.step.Scope.{Scope}
 use Rattle.list_laws.specs.Lists.{holds_of}
+use Rattle.list_laws.specs.Sorts.{SameMembers}
 use Rattle.task_model.specs.Past.{fold_past}
+use Rattle.task_model.specs.Orders.{ordered, main_arrivals}
 use Rattle.task_model.specs.Time.{now_of, now_after}
 use Rattle.task_model.specs.Posts.{is_taken, takes, is_main_taken, main_takes}
 use Rattle.task_model.specs.Seats.{Running, running, next_act}
@@ -19,8 +21,9 @@ use Rattle.queue_laws.specs.Orders.{OrdersDistinct}
 use Rattle.script_model.specs.Postings.{IsPostedOnce}
 use Rattle.task_model.proofs.Growth.{is_taken_push, is_main_taken_push, open_scope_push}
 use Rattle.pool_laws.proofs.Keys.Ready.{no_tick_ahead_at_start, no_tick_ahead_grows}
-use Rattle.queue_laws.proofs.Orders.{orders_below_at_start, orders_below_grows}
-use Rattle.queue_laws.proofs.Distinct.{orders_distinct_at_start, orders_distinct_grows}
+use Rattle.pool_laws.proofs.Keys.Arrivals.{arrivals_are_ready_at_start, arrivals_are_ready_grows}
+use Rattle.queue_laws.proofs.Arrivals.{main_arrivals_are_ordered_at_start, main_arrivals_are_ordered_grows}
+use Rattle.queue_laws.proofs.Distinct.{orders_below, orders_distinct}
 use Rattle.hist_model.specs.Allowed.{enters, by_script, by_task, may_come, is_allowed}
 use Rattle.hist_model.specs.Legal.{is_legal}
 use Rattle.hist_model.specs.Laws.Consistent.{RunsAs, IsConsistent}
@@ -83,13 +86,21 @@ scopes_next script past seat kind h c t free main_free none = none
 
 nothing_risen : Rises []
 unfolding open_scope fold_past
-nothing_risen = record { no_tick_ahead = no_tick_ahead_at_start; orders_below = orders_below_at_start; scopes_of_taken = λ t free main_free. refl }
+nothing_risen = record {
+  no_tick_ahead = no_tick_ahead_at_start;
+  arrivals_are_ready = arrivals_are_ready_at_start;
+  main_arrivals_are_ordered = main_arrivals_are_ordered_at_start;
+  orders_below = orders_below [] main_arrivals_are_ordered_at_start;
+  scopes_of_taken = λ t free main_free. refl;
+}
 
 risen_next : (script : Plan) (past : List Entry) (e : Entry) → is_legal script past ≡ true → is_allowed script past e ≡ true → Rises past
     → Rises (past ++ e ∷ [])
 risen_next script past e legal allowed r = record {
   no_tick_ahead = no_tick_ahead_grows past e (moment_rises script past e.seat e.kind may) r.no_tick_ahead;
-  orders_below = orders_below_grows past e r.no_tick_ahead r.orders_below;
+  arrivals_are_ready = arrivals_are_ready_grows past e r.no_tick_ahead r.arrivals_are_ready;
+  main_arrivals_are_ordered = ordered_next;
+  orders_below = orders_below (past ++ e ∷ []) ordered_next;
   scopes_of_taken = λ t free main_free.
       let before = first (is_taken past t) (takes t e.kind) (sym (is_taken_push past e t) ∙ free) in
       let main_before = first (is_main_taken past t) (main_takes t e.kind) (sym (is_main_taken_push past e t) ∙ main_free) in
@@ -97,6 +108,9 @@ risen_next script past e legal allowed r = record {
           (r.scopes_of_taken t before main_before);
 }
   where
+    ordered_next : SameMembers (main_arrivals (past ++ e ∷ [])) (ordered (past ++ e ∷ []))
+    ordered_next = main_arrivals_are_ordered_grows past e r.no_tick_ahead r.main_arrivals_are_ordered
+
     may : may_come script past e.seat e.kind ≡ true
     may = (and_parts (leb e.seat script.workers) (may_come script past e.seat e.kind) allowed).1
 
@@ -106,8 +120,6 @@ risen_next script past e legal allowed r = record {
 pub legal_rises : (script : Plan) (past : List Entry) → is_legal script past ≡ true → Rises past
 legal_rises script = legal_induction script Rises nothing_risen (risen_next script)
 
--- where each task is posted once, no two main tasks draw one order
+-- no two main tasks draw one order
 pub orders_are_distinct : (script : Plan) (past : List Entry) → IsPostedOnce script → is_legal script past ≡ true → OrdersDistinct past
-orders_are_distinct script past once = legal_induction script OrdersDistinct orders_distinct_at_start
-    (λ before e legal allowed distinct. orders_distinct_grows before e (legal_rises script before legal).no_tick_ahead
-        (each_is_accepted_once script before once legal).main (legal_rises script before legal).orders_below distinct) past
+orders_are_distinct script past once legal = orders_distinct past (legal_rises script past legal).main_arrivals_are_ordered

@@ -1,6 +1,6 @@
 -- The arrivals: they rise in key, they are the accepted tasks that have keys, and the head of a sequence is the first of
 -- them that is of it and may start.
-use Rattle.std.proofs.Common.{◌≡◌, ℕ, ◌+◌, ◌<◌, Bool, true, false, cond, eqb, List, [], ◌∷◌, ◌++◌, length, map, append_assoc, refl, sym, ap, ◌∙◌, subst, Option, Some, None, inl, inr, arith}
+use Rattle.std.proofs.Common.{◌≡◌, ℕ, ◌+◌, ◌<◌, Bool, true, false, cond, eqb, List, [], ◌∷◌, ◌++◌, length, map, refl, sym, ap, ◌∙◌, subst, Option, Some, None, inl, inr, arith}
 use Rattle.std.specs.Prelude.{◌&&◌, ◌||◌, ◌⊎◌, nat_lt, nat_le, find, filter, is_none}
 use Rattle.std.specs.Option.{option_map, option_or}
 use Rattle.std.specs.List.{AllByRecursion, filter_map}
@@ -243,15 +243,6 @@ arrivals_are_ready_grows past e none same = by e.kind refl
                 (same_members-refl (arriving_by past (kinds.Tick moment))))
             (arriving_is_ripe past moment))
     by kind is = kept (arrivals_same past e (ap moves_ready is)) (ready_same past e (ap moves_ready is))
-
--- as long as no tick has come to a moment ahead, at any time so far
-pub arrivals_are_ready : (past : List Entry) → ((before rest : List Entry) → before ++ rest ≡ past → NoTickAhead before)
-    → SameMembers (arrivals past) (ready past)
-arrivals_are_ready = push_induction
-    (λ past. ((before rest : List Entry) → before ++ rest ≡ past → NoTickAhead before) → SameMembers (arrivals past) (ready past))
-    (λ none. arrivals_are_ready_at_start)
-    (λ past e same none. arrivals_are_ready_grows past e (none past (e ∷ []) refl)
-        (same (λ before rest is. none before (rest ++ e ∷ []) (sym (append_assoc before rest (e ∷ [])) ∙ ap (λ xs. xs ++ e ∷ []) is))))
 
 -- The head of a sequence is the first arrival of it that may start.
 
