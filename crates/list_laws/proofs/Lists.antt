@@ -20,9 +20,9 @@ pub filter-filter : {A : Type 0} (p q : A → Bool) (xs : List A) → filter p (
 filter-filter p q [] = refl
 filter-filter p q (x ∷ xs) = elim (q x) as (λ b. filter p (cond b (x ∷ filter q xs) (filter q xs))
     ≡ cond (b && p x) (x ∷ filter (λ y. q y && p y) xs) (filter (λ y. q y && p y) xs)) [
-  | true ↦ ap (λ rest. cond (p x) (x ∷ rest) rest) (filter-filter p q xs)
-  | false ↦ filter-filter p q xs
-]
+      | true ↦ ap (λ rest. cond (p x) (x ∷ rest) rest) (filter-filter p q xs)
+      | false ↦ filter-filter p q xs
+    ]
 
 -- a test that each element passes keeps the list
 pub filter_all : {A : Type 0} (p : A → Bool) (xs : List A) → AllByRecursion (λ x. p x ≡ true) xs → filter p xs ≡ xs
@@ -238,8 +238,11 @@ list_any_none p (x ∷ xs) h = rw (h.0) (list_any_none p xs h.1)
 
 pub AllByRecursion-range : (P : ℕ → Type 0) (start len : ℕ) → ((x : ℕ) → start ≤ x → x < start + len → P x) → AllByRecursion P (range_with_len start len)
 AllByRecursion-range P start zero h = tt
-AllByRecursion-range P start (suc len) h = (h start (omega arith) (omega arith), AllByRecursion-range P (start + 1) len
-    (λ x from to. h x (omega (arith, from)) (omega (arith, to))))
+AllByRecursion-range P start (suc len) h = (
+  h start (omega arith) (omega arith),
+  AllByRecursion-range P (start + 1) len
+      (λ x from to. h x (omega (arith, from)) (omega (arith, to))),
+)
 
 pub range_without : (m start len : ℕ) → m < start → count (λ x. eqb m x) (range_with_len start len) ≡ 0
 range_without m start zero below = refl
@@ -285,8 +288,11 @@ count-append p xs ys = ap length (filter-append p xs ys) ∙ length-append (filt
 members_from : {A : Type 0} (P : A → Type 0) (before xs : List A) → ((front : List A) (x : A) (back : List A) → front ++ x ∷ back ≡ before ++ xs → P x)
     → AllByRecursion P xs
 members_from P before [] h = tt
-members_from P before (x ∷ xs) h = (h before x xs refl, members_from P (before ++ x ∷ []) xs
-    (λ front y back is. h front y back (is ∙ append_assoc before (x ∷ []) xs)))
+members_from P before (x ∷ xs) h = (
+  h before x xs refl,
+  members_from P (before ++ x ∷ []) xs
+      (λ front y back is. h front y back (is ∙ append_assoc before (x ∷ []) xs)),
+)
 
 -- what holds of each element, where it stands in the list
 pub AllByRecursion-members : {A : Type 0} (P : A → Type 0) (xs : List A) → ((front : List A) (x : A) (back : List A) → front ++ x ∷ back ≡ xs → P x)
@@ -453,9 +459,9 @@ pub filter-map : {A B : Type 0} (p : B → Bool) (f : A → B) (xs : List A) →
 filter-map p f [] = refl
 filter-map p f (x ∷ xs) = elim (p (f x)) as (λ b. cond b (f x ∷ filter p (map f xs)) (filter p (map f xs))
     ≡ map f (cond b (x ∷ filter (λ y. p (f y)) xs) (filter (λ y. p (f y)) xs))) [
-  | true ↦ ap (λ rest. f x ∷ rest) (filter-map p f xs)
-  | false ↦ filter-map p f xs
-]
+      | true ↦ ap (λ rest. f x ∷ rest) (filter-map p f xs)
+      | false ↦ filter-map p f xs
+    ]
 
 pub AllByRecursion-mapped : {A B : Type 0} (P : B → Type 0) (f : A → B) (xs : List A) → AllByRecursion (λ x. P (f x)) xs → AllByRecursion P (map f xs)
 AllByRecursion-mapped P f [] h = tt

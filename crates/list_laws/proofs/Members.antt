@@ -61,7 +61,7 @@ same_members-map {A = A} {B = B} f xs ys same = record { forth = half xs ys same
     half : (ms ns : List A) → AllByRecursion (Contains ns) ms → AllByRecursion (Contains (map f ns)) (map f ms)
     half ms ns within = AllByRecursion-mapped (Contains (map f ns)) f ms
         (AllByRecursion-through (λ x. Contains (map f ns) (f x)) ms ns within
-            (AllByRecursion-unmapped (Contains (map f ns)) f ns (AllByRecursion-contains_itself (map f ns))))
+        (AllByRecursion-unmapped (Contains (map f ns)) f ns (AllByRecursion-contains_itself (map f ns))))
 
 -- what is made of the elements in one of two ways
 either_made : {A B : Type 0} (P : B → Type 0) (f g : A → Option B) (xs : List A) → AllByRecursion P (filter_map f xs) → AllByRecursion P (filter_map g xs)

@@ -1,14 +1,13 @@
 -- A sort keeps the elements and puts them in order; the first of a list that rises is its least.
-use Rattle.std.proofs.Common.{◌≡◌, ℕ, ◌+◌, Bool, true, false, cond, List, [], ◌∷◌, ◌++◌, map, length, refl, sym, ap, ◌∙◌, subst, Option, Some, None, inl, inr, arith}
+use Rattle.std.proofs.Common.{◌≡◌, ◌+◌, Bool, true, false, cond, List, [], ◌∷◌, ◌++◌, map, length, refl, sym, ap, ◌∙◌, subst, Option, Some, None, inl, inr, arith}
 use Rattle.std.specs.Prelude.{◌⊎◌, filter, find, Contains}
-use Rattle.std.specs.List.{AllByRecursion, filter_map, cons_option}
-use Rattle.std.specs.Option.{option_map, option_or}
+use Rattle.std.specs.List.{AllByRecursion}
 use Rattle.std.proofs.lemmas.Bool.{true≢false}
 use Rattle.std.proofs.lemmas.Option.{none-some}
-use Rattle.std.proofs.lemmas.List.Elements.{All-from_recursion, recursion_from_All, All-contains, All-contains_itself}
+use Rattle.std.proofs.lemmas.List.Elements.{All-contains}
 use Rattle.list_laws.specs.Lists.{count, least}
 use Rattle.list_laws.specs.Sorts.{insert_by, sort_by, Rises, Differ, SameMembers}
-use Rattle.list_laws.proofs.Lists.{some-injective, filter_always, count-cons, filter_none, filter_passes, least_from-is, AllByRecursion-append, AllByRecursion-map, AllByRecursion-both, AllByRecursion-filter}
+use Rattle.list_laws.proofs.Lists.{some-injective, filter_always, count-cons, filter_none, filter_passes, AllByRecursion-append, AllByRecursion-map, AllByRecursion-both, AllByRecursion-filter}
 use Rattle.list_laws.proofs.Members.{AllByRecursion-contains, AllByRecursion-contains_itself, AllByRecursion-through}
 use Rattle.list_laws.proofs.Least.{Ranks, least_is_least, unfiltered}
 
@@ -47,8 +46,8 @@ count-insert_by : {A : Type 0} (p : A → Bool) (below : A → A → Bool) (x : 
 count-insert_by p below x [] = refl
 count-insert_by p below x (y ∷ ys) = elim (below y x) as (λ b. count p (cond b (y ∷ insert_by below x ys) (x ∷ y ∷ ys)) ≡ count p (x ∷ y ∷ ys)) [
   | true ↦
-        let inserted : count p (insert_by below x ys) ≡ count p (x ∷ ys) = count-insert_by p below x ys in
-        omega (arith, inserted, count-cons p y (insert_by below x ys), count-cons p x ys, count-cons p x (y ∷ ys), count-cons p y ys)
+      let inserted : count p (insert_by below x ys) ≡ count p (x ∷ ys) = count-insert_by p below x ys in
+      omega (arith, inserted, count-cons p y (insert_by below x ys), count-cons p x ys, count-cons p x (y ∷ ys), count-cons p y ys)
   | false ↦ refl
 ]
 
@@ -187,9 +186,9 @@ least_is_first {A = A} below p xs ys ranks rises same = by (find p ys) refl
     found : (y : A) → find p ys ≡ Some y → least below (filter p xs) ≡ Some y
     found y is =
         let of_y : Contains xs y × (p y ≡ true)
-            × AllByRecursion (λ z. p z ≡ true → (y ≡ z) ⊎ (below y z ≡ true)) ys = find-some below p (Contains xs) ys y rises is same.forth in
+        × AllByRecursion (λ z. p z ≡ true → (y ≡ z) ⊎ (below y z ≡ true)) ys = find-some below p (Contains xs) ys y rises is same.forth in
         at of_y.1 (kept of_y.0 of_y.1) (AllByRecursion-through (λ z. p z ≡ true → (y ≡ z) ⊎ (below y z ≡ true)) xs ys same.back of_y.2)
-            (least below (filter p xs)) refl
+        (least below (filter p xs)) refl
       where
         kept : Contains xs y → p y ≡ true → Contains (filter p xs) y
         kept member = AllByRecursion-contains (λ z. p z ≡ true → Contains (filter p xs) z) xs y
@@ -208,8 +207,8 @@ least_is_first {A = A} below p xs ys ranks rises same = by (find p ys) refl
             empty (z ∷ zs) contained none_of = none-some _ (sym none_of)
         at passes member all (Some z) some =
             some ∙ equal z
-                (AllByRecursion-contains (λ w. (y ≡ w) ⊎ (below y w ≡ true)) (filter p xs) z kept_all (least_is_least below ranks (filter p xs) z some).member)
-                (All-contains (λ w. below w z ≡ false) (filter p xs) y (least_is_least below ranks (filter p xs) z some).none_below member)
+            (AllByRecursion-contains (λ w. (y ≡ w) ⊎ (below y w ≡ true)) (filter p xs) z kept_all (least_is_least below ranks (filter p xs) z some).member)
+            (All-contains (λ w. below w z ≡ false) (filter p xs) y (least_is_least below ranks (filter p xs) z some).none_below member)
           where
             pass : (ws : List A) → AllByRecursion (λ w. (p w ≡ true → (y ≡ w) ⊎ (below y w ≡ true)) × (p w ≡ true)) ws
                 → AllByRecursion (λ w. (y ≡ w) ⊎ (below y w ≡ true)) ws
@@ -233,4 +232,3 @@ same_members-sort_by below xs = record {
   forth = AllByRecursion-sort_by (Contains xs) below xs (AllByRecursion-contains_itself xs);
   back = AllByRecursion-sorted (Contains (sort_by below xs)) below xs (AllByRecursion-contains_itself (sort_by below xs));
 }
-

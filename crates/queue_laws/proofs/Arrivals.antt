@@ -4,8 +4,8 @@ use Rattle.std.proofs.Common.{◌≡◌, ℕ, suc, ◌+◌, ◌<◌, ◌≤◌, 
 use Rattle.std.specs.Prelude.{not, ◌&&◌, nat_lt, nat_le, find, filter, is_none, option_and_then}
 use Rattle.std.specs.Option.{option_map, option_or}
 use Rattle.std.specs.List.{AllByRecursion, filter_map}
-use Rattle.std.proofs.lemmas.Bool.{true≢false, lt-ltb, ltb-true}
-use Rattle.std.proofs.lemmas.Option.{none-some, cond_some}
+use Rattle.std.proofs.lemmas.Bool.{lt-ltb, ltb-true}
+use Rattle.std.proofs.lemmas.Option.{none-some}
 use Rattle.std.proofs.lemmas.List.{append-nil}
 use Rattle.std.proofs.lemmas.List.Elements.{filter_map-append}
 use Rattle.task_base.specs.Plan.{Plan}
@@ -21,12 +21,12 @@ use Rattle.task_model.specs.Time.{now_of, tick_from}
 use Rattle.task_model.specs.Posts.{Posted, is_delayed, ripens_before, post_behind, main_posted_by, main_posts}
 use Rattle.task_model.specs.Refusal.{is_closed}
 use Rattle.task_model.specs.Orders.{Ordered, ordered, numbered_from, drawing_by, main_arrivals, ripens, ripening, next_draw, draws, drawn_by, drawn_at, order_of}
-use Rattle.task_model.specs.MainQueues.{Front, class_of, front_with, is_in_lane, order_below, front_of}
+use Rattle.task_model.specs.MainQueues.{class_of, front_with, is_in_lane, order_below, front_of}
 use Rattle.pool_laws.specs.Keys.{NoTickAhead}
 use Rattle.queue_laws.specs.Orders.{moves_orders, order_at_tick_of, ordered_below}
-use Rattle.queue_laws.specs.Fronts.{lane_of, front_for}
+use Rattle.queue_laws.specs.Fronts.{front_for}
 use Rattle.list_laws.proofs.Lists.{some-injective, count-cons, filter_none, filter_map_congr, filter_map_congr_in, filter-filter_map, least-map, AllByRecursion-map, AllByRecursion-append, AllByRecursion-always}
-use Rattle.list_laws.proofs.Least.{Ranks, ranks_by}
+use Rattle.list_laws.proofs.Least.{ranks_by}
 use Rattle.list_laws.proofs.Members.{same_members-refl, same_members-trans, same_members-append, same_members-map, same_members-either, map-congr_in, filter_map-passing, filter_map-option_map, push_induction}
 use Rattle.list_laws.proofs.Sorts.{count-sort_by, length-sort_by, rises-sort_by, rises-append, differ-filter, least_is_first, same_members-sort_by}
 use Rattle.task_model.proofs.Growth.{main_posts_push, main_arrivals_push, draws_push}
@@ -60,9 +60,11 @@ main_arrivals_at_tick past e moment is = main_arrivals_push past e ∙ ap (λ ki
 -- numbers from n upward, one for each task
 numbered_within : (n : ℕ) (ps : List Posted) → AllByRecursion (λ o. (n ≤ o.order) × (o.order < n + length ps)) (numbered_from n ps)
 numbered_within n [] = tt
-numbered_within n (p ∷ ps) = ((omega arith, omega arith),
-    AllByRecursion-map (λ o. (n + 1 ≤ o.order) × (o.order < n + 1 + length ps)) (λ o. (n ≤ o.order) × (o.order < n + suc (length ps))) (numbered_from (n + 1) ps)
-        (λ o h. (omega (arith, h.0), omega (arith, h.1))) (numbered_within (n + 1) ps))
+numbered_within n (p ∷ ps) = (
+  (omega arith, omega arith),
+  AllByRecursion-map (λ o. (n + 1 ≤ o.order) × (o.order < n + 1 + length ps)) (λ o. (n ≤ o.order) × (o.order < n + suc (length ps))) (numbered_from (n + 1) ps)
+      (λ o h. (omega (arith, h.0), omega (arith, h.1))) (numbered_within (n + 1) ps),
+)
 
 numbered_rises : (n : ℕ) (ps : List Posted) → Rises ordered_below (numbered_from n ps)
 numbered_rises n [] = tt
@@ -101,11 +103,11 @@ pub main_arrivals_below : (past : List Entry) → AllByRecursion (λ o. o.order 
 unfolding main_arrivals fold_past
 main_arrivals_below = push_induction (λ past. AllByRecursion (λ o. o.order < next_draw past) (main_arrivals past)) tt
     (λ past e below. subst (AllByRecursion (λ o. o.order < next_draw (past ++ e ∷ []))) (sym (main_arrivals_push past e))
-        (AllByRecursion-append (λ o. o.order < next_draw (past ++ e ∷ [])) (main_arrivals past) (drawing_by past e.kind)
-            (AllByRecursion-map (λ o. o.order < next_draw past) (λ o. o.order < next_draw (past ++ e ∷ [])) (main_arrivals past)
-                (λ o lt. omega (arith, lt, draws_push past e)) below)
-            (AllByRecursion-map (λ o. (next_draw past ≤ o.order) × (o.order < next_draw (past ++ e ∷ []))) (λ o. o.order < next_draw (past ++ e ∷ []))
-                (drawing_by past e.kind) (λ o h. h.1) (drawing_within past e))))
+    (AllByRecursion-append (λ o. o.order < next_draw (past ++ e ∷ [])) (main_arrivals past) (drawing_by past e.kind)
+    (AllByRecursion-map (λ o. o.order < next_draw past) (λ o. o.order < next_draw (past ++ e ∷ [])) (main_arrivals past)
+    (λ o lt. omega (arith, lt, draws_push past e)) below)
+    (AllByRecursion-map (λ o. (next_draw past ≤ o.order) × (o.order < next_draw (past ++ e ∷ []))) (λ o. o.order < next_draw (past ++ e ∷ []))
+    (drawing_by past e.kind) (λ o h. h.1) (drawing_within past e))))
 
 drawing_rises : (past : List Entry) (kind : Kind) → Rises ordered_below (drawing_by past kind)
 drawing_rises past (kinds.Main task queue delay true) = by (nat_lt 0 delay)
@@ -120,13 +122,13 @@ pub main_arrivals_rise : (past : List Entry) → Rises ordered_below (main_arriv
 unfolding main_arrivals fold_past
 main_arrivals_rise = push_induction (λ past. Rises ordered_below (main_arrivals past)) tt
     (λ past e rises. subst (Rises ordered_below) (sym (main_arrivals_push past e))
-        (rises-append ordered_below (main_arrivals past) (drawing_by past e.kind) rises (drawing_rises past e.kind)
-            (AllByRecursion-map (λ o. o.order < next_draw past) (λ o. AllByRecursion (λ q. ordered_below o q ≡ true) (drawing_by past e.kind))
-                (main_arrivals past)
-                (λ o lt. AllByRecursion-map (λ q. (next_draw past ≤ q.order) × (q.order < next_draw (past ++ e ∷ []))) (λ q. ordered_below o q ≡ true)
-                    (drawing_by past e.kind)
-                    (λ q h. let le : next_draw past ≤ q.order = h.0 in lt-ltb o.order q.order (omega (arith, lt, le))) (drawing_within past e))
-                (main_arrivals_below past))))
+    (rises-append ordered_below (main_arrivals past) (drawing_by past e.kind) rises (drawing_rises past e.kind)
+    (AllByRecursion-map (λ o. o.order < next_draw past) (λ o. AllByRecursion (λ q. ordered_below o q ≡ true) (drawing_by past e.kind))
+    (main_arrivals past)
+    (λ o lt. AllByRecursion-map (λ q. (next_draw past ≤ q.order) × (q.order < next_draw (past ++ e ∷ []))) (λ q. ordered_below o q ≡ true)
+    (drawing_by past e.kind)
+    (λ q h. let le : next_draw past ≤ q.order = h.0 in lt-ltb o.order q.order (omega (arith, lt, le))) (drawing_within past e))
+    (main_arrivals_below past))))
 
 -- The main arrivals are the accepted main tasks that have orders.
 
@@ -139,23 +141,25 @@ numbered_is : (n : ℕ) (ps : List Posted) → Rises ripens_before ps
 numbered_is n [] rises = refl
 numbered_is n (x ∷ xs) rises =
     ap (λ os. record { posted = x; order = n } ∷ os) (numbered_is (n + 1) xs rises.1
-        ∙ map-congr_in (λ p. record { posted = p; order = n + 1 + count (λ q. ripens_before q p) xs })
-            (λ p. record { posted = p; order = n + count (λ q. ripens_before q p) (x ∷ xs) }) xs
-            (AllByRecursion-map (λ p. ripens_before x p ≡ true)
-                (λ p. record { posted = p; order = n + 1 + count (λ q. ripens_before q p) xs }
-                    ≡ record { posted = p; order = n + count (λ q. ripens_before q p) (x ∷ xs) }) xs
-                (λ p before. ap (λ m. record { posted = p; order = m }) (behind p before)) rises.0))
+    ∙ map-congr_in (λ p. record { posted = p; order = n + 1 + count (λ q. ripens_before q p) xs })
+    (λ p. record { posted = p; order = n + count (λ q. ripens_before q p) (x ∷ xs) }) xs
+    (AllByRecursion-map (λ p. ripens_before x p ≡ true)
+    (λ p. record { posted = p; order = n + 1 + count (λ q. ripens_before q p) xs }
+    ≡ record { posted = p; order = n + count (λ q. ripens_before q p) (x ∷ xs) }) xs
+    (λ p before. ap (λ m. record { posted = p; order = m }) (behind p before)) rises.0))
     ∙ ap (λ m. record { posted = x; order = m } ∷ map (λ p. record { posted = p; order = n + count (λ q. ripens_before q p) (x ∷ xs) }) xs) first
   where
     behind : (p : Posted) → ripens_before x p ≡ true → n + 1 + count (λ q. ripens_before q p) xs ≡ n + count (λ q. ripens_before q p) (x ∷ xs)
     behind p before =
         let one : count (λ q. ripens_before q p) (x ∷ xs) ≡ count (λ q. ripens_before q p) xs + 1 =
-            count-cons (λ q. ripens_before q p) x xs ∙ ap (λ (b : Bool). count (λ q. ripens_before q p) xs + cond b 1 0) before in
+        count-cons (λ q. ripens_before q p) x xs ∙ ap (λ (b : Bool). count (λ q. ripens_before q p) xs + cond b 1 0) before in
         omega (arith, one)
 
     none : count (λ q. ripens_before q x) (x ∷ xs) ≡ 0
-    none = ap length (filter_none (λ q. ripens_before q x) (x ∷ xs) (ranks_ripens.itself x,
-        AllByRecursion-map (λ p. ripens_before x p ≡ true) (λ p. ripens_before p x ≡ false) xs (λ p before. ranks_ripens.one_way x p before) rises.0))
+    none = ap length (filter_none (λ q. ripens_before q x) (x ∷ xs) (
+      ranks_ripens.itself x,
+      AllByRecursion-map (λ p. ripens_before x p ≡ true) (λ p. ripens_before p x ≡ false) xs (λ p before. ranks_ripens.one_way x p before) rises.0,
+    ))
 
     first : n ≡ n + count (λ q. ripens_before q x) (x ∷ xs)
     first = omega (arith, none)
@@ -165,10 +169,12 @@ drawing_ripens : (past : List Entry) (moment : ℕ)
     → SameMembers (drawing_by past (kinds.Tick moment)) (filter_map (with_order (drawn_at past moment)) (main_posts past))
 unfolding ripening
 drawing_ripens past moment =
-    rw (numbered_is (next_draw past) sorted (rises-sort_by ripens_before ranks_ripens newly
-            (differ-filter ripens_before (ripens past moment) (main_posts past) (main_posts_differ past))),
-        map-congr_in (λ p. record { posted = p; order = next_draw past + count (λ q. ripens_before q p) sorted }) made sorted counted,
-        filter_map-passing (with_order (drawn_at past moment)) (ripens past moment) made (main_posts past) (λ p. by p (ripens past moment p)))
+    rw (
+      numbered_is (next_draw past) sorted (rises-sort_by ripens_before ranks_ripens newly
+          (differ-filter ripens_before (ripens past moment) (main_posts past) (main_posts_differ past))),
+      map-congr_in (λ p. record { posted = p; order = next_draw past + count (λ q. ripens_before q p) sorted }) made sorted counted,
+      filter_map-passing (with_order (drawn_at past moment)) (ripens past moment) made (main_posts past) (λ p. by p (ripens past moment p)),
+    )
     (same_members-map made sorted newly (same_members-sort_by ripens_before newly))
   where
     newly : List Posted
@@ -238,8 +244,8 @@ ordered_grown past e order same =
     ∙ filter_map-append (with_order (order_of (past ++ e ∷ []))) (main_posts past) (main_posted_by past e.kind)
     ∙ ap (λ os. os ++ filter_map (with_order (order_of (past ++ e ∷ []))) (main_posted_by past e.kind))
     (filter_map_congr_in (with_order (order_of (past ++ e ∷ []))) (with_order order) (main_posts past)
-        (AllByRecursion-map (λ p. p.place < length past) (λ p. with_order (order_of (past ++ e ∷ [])) p ≡ with_order order p) (main_posts past)
-            (λ p lt. ap (option_map (λ n. record { posted = p; order = n })) (same p lt)) (main_places past)))
+    (AllByRecursion-map (λ p. p.place < length past) (λ p. with_order (order_of (past ++ e ∷ [])) p ≡ with_order order p) (main_posts past)
+    (λ p lt. ap (option_map (λ n. record { posted = p; order = n })) (same p lt)) (main_places past)))
 
 pub main_arrivals_are_ordered_at_start : SameMembers (main_arrivals []) (ordered [])
 unfolding main_arrivals ordered main_posts fold_past
@@ -275,15 +281,15 @@ main_arrivals_are_ordered_grows past e none same = rw (main_arrivals_push past e
     ticked moment is = same_members-trans (main_arrivals past ++ drawing_by past (kinds.Tick moment))
         (ordered past ++ filter_map (with_order (drawn_at past moment)) (main_posts past)) (ordered (past ++ e ∷ []))
         (same_members-append (main_arrivals past) (ordered past) (drawing_by past (kinds.Tick moment))
-            (filter_map (with_order (drawn_at past moment)) (main_posts past)) same (drawing_ripens past moment))
+        (filter_map (with_order (drawn_at past moment)) (main_posts past)) same (drawing_ripens past moment))
         (subst (SameMembers (ordered past ++ filter_map (with_order (drawn_at past moment)) (main_posts past)))
-            (filter_map_congr (λ p. option_or (with_order (order_of past) p) (with_order (drawn_at past moment) p))
-                (with_order (order_at_tick_of past moment)) (main_posts past) (λ p. either p _ _ _ (order_or_drawn past moment p none).0)
-            ∙ sym (ordered_grown past e (order_at_tick_of past moment) (λ p lt. order_tick past e p moment is lt)
-                ∙ ap (λ kind. filter_map (with_order (order_at_tick_of past moment)) (main_posts past) ++ filter_map after (main_posted_by past kind)) is
-                ∙ append-nil (filter_map (with_order (order_at_tick_of past moment)) (main_posts past))))
-            (same_members-either (with_order (order_of past)) (with_order (drawn_at past moment)) (main_posts past)
-                (λ p o h. apart p (order_of past p) o h (order_or_drawn past moment p none).1)))
+        (filter_map_congr (λ p. option_or (with_order (order_of past) p) (with_order (drawn_at past moment) p))
+        (with_order (order_at_tick_of past moment)) (main_posts past) (λ p. either p _ _ _ (order_or_drawn past moment p none).0)
+        ∙ sym (ordered_grown past e (order_at_tick_of past moment) (λ p lt. order_tick past e p moment is lt)
+        ∙ ap (λ kind. filter_map (with_order (order_at_tick_of past moment)) (main_posts past) ++ filter_map after (main_posted_by past kind)) is
+        ∙ append-nil (filter_map (with_order (order_at_tick_of past moment)) (main_posts past))))
+        (same_members-either (with_order (order_of past)) (with_order (drawn_at past moment)) (main_posts past)
+        (λ p o h. apart p (order_of past p) o h (order_or_drawn past moment p none).1)))
       where
         with : Posted → ℕ → Ordered
         with p n = record { posted = p; order = n }
@@ -310,14 +316,14 @@ unfolding ordered
 front_is_first_arrival script past q lane same =
     front_is_least script past q lane
     ∙ ap (least order_below)
-        (filter_map_congr (front_with script past q lane) (λ p. option_map (front_for script past q lane) (with_order (order_of past) p))
-            (filter (is_in_lane past q lane) (main_posts past)) (λ p. over p (order_of past p))
-        ∙ filter_map-option_map (with_order (order_of past)) (front_for script past q lane) (filter (is_in_lane past q lane) (main_posts past))
-        ∙ ap (map (front_for script past q lane)) (filter-filter_map (λ o. is_in_lane past q lane o.posted) (is_in_lane past q lane) (with_order (order_of past))
-            (main_posts past) (λ p o. made p (order_of past p) o)))
+    (filter_map_congr (front_with script past q lane) (λ p. option_map (front_for script past q lane) (with_order (order_of past) p))
+    (filter (is_in_lane past q lane) (main_posts past)) (λ p. over p (order_of past p))
+    ∙ filter_map-option_map (with_order (order_of past)) (front_for script past q lane) (filter (is_in_lane past q lane) (main_posts past))
+    ∙ ap (map (front_for script past q lane)) (filter-filter_map (λ o. is_in_lane past q lane o.posted) (is_in_lane past q lane) (with_order (order_of past))
+    (main_posts past) (λ p o. made p (order_of past p) o)))
     ∙ least-map ordered_below order_below (front_for script past q lane) (filter (λ o. is_in_lane past q lane o.posted) (ordered past)) (λ a b. refl)
     ∙ ap (option_map (front_for script past q lane)) (least_is_first ordered_below (λ o. is_in_lane past q lane o.posted) (ordered past) (main_arrivals past)
-        (ranks_by (λ o. o.order)) (main_arrivals_rise past) same)
+    (ranks_by (λ o. o.order)) (main_arrivals_rise past) same)
   where
     over : (p : Posted) (o : Option ℕ)
         → option_map (λ order. record { queue = q; lane = lane; task = p.task; order = order; class = class_of script past q }) o

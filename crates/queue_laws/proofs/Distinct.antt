@@ -1,5 +1,5 @@
 -- The orders of main tasks: each is below the next draw, and no two tasks have one. Both hold since the main arrivals rise.
-use Rattle.std.proofs.Common.{◌≡◌, ℕ, ◌<◌, Bool, true, List, [], ◌∷◌, refl, sym, ap, ◌∙◌, subst, Option, Some, inl, inr, arith}
+use Rattle.std.proofs.Common.{◌≡◌, ℕ, ◌<◌, true, List, [], ◌∷◌, sym, ap, ◌∙◌, subst, Option, Some, inl, inr}
 use Rattle.std.specs.Prelude.{◌⊎◌, Contains}
 use Rattle.std.specs.Option.{option_map, IfSome}
 use Rattle.std.specs.List.{AllByRecursion}
@@ -31,7 +31,7 @@ by_arrivals P past same all = AllByRecursion-map (λ p. IfSome (option_map (with
     (λ p. (n : ℕ) → order_of past p ≡ Some n → P (with p n)) (main_posts past)
     (λ p h n is. subst (λ (o : Option ℕ). IfSome (option_map (with p) o) P) is h)
     (AllByRecursion-made P (λ p. option_map (with p) (order_of past p)) (main_posts past)
-        (AllByRecursion-through P (ordered past) (main_arrivals past) same.back all))
+    (AllByRecursion-through P (ordered past) (main_arrivals past) same.back all))
 
 pub orders_below : (past : List Entry) → SameMembers (main_arrivals past) (ordered past) → OrdersBelow past
 orders_below past same = by_arrivals (λ o. o.order < next_draw past) past same (main_arrivals_below past)
@@ -57,7 +57,7 @@ orders_distinct past same = apart (main_posts past) (main_posts_differ past)
       AllByRecursion-map (λ q. ((ripens_before p q ≡ true) ⊎ (ripens_before q p ≡ true)) × arrives q)
           (λ q. (n : ℕ) → order_of past p ≡ Some n → order_of past q ≡ Some n → ⊥) ps
           (λ q h n of_p of_q. never p q n h.0 (rises_apart ordered_below (main_arrivals past) (with p n) (with q n)
-              (main_arrivals_rise past) (all.0 n of_p) (h.1 n of_q)))
+          (main_arrivals_rise past) (all.0 n of_p) (h.1 n of_q)))
           (AllByRecursion-both (λ q. (ripens_before p q ≡ true) ⊎ (ripens_before q p ≡ true)) arrives ps differ.0 all.1),
       apart ps differ.1 all.1,
     )

@@ -4,7 +4,7 @@
 -- the end of its lane, and becomes the front only where there was none; a delayed one waits for its tick, which leaves
 -- the lanes of immediate tasks; a task that is taken leaves its lane; a new class leaves the fronts under that class.
 -- No other kind changes a lane.
-use Rattle.std.proofs.Common.{◌≡◌, ℕ, ◌+◌, ◌<◌, ◌≤◌, Bool, true, false, cond, eqb, List, [], ◌∷◌, ◌++◌, length, map, take, subst, refl, sym, ap, ◌∙◌, Option, Some, None, arith}
+use Rattle.std.proofs.Common.{◌≡◌, ℕ, ◌+◌, ◌<◌, ◌≤◌, Bool, true, false, cond, eqb, List, [], ◌∷◌, ◌++◌, length, take, subst, refl, sym, ap, ◌∙◌, Option, Some, None, arith}
 use Rattle.std.specs.Prelude.{not, ◌&&◌, ◌||◌, nat_lt, filter, option_and_then, is_none, ◌==◌, if◌then◌else◌}
 use Rattle.std.specs.Option.{option_map, option_or}
 use Rattle.std.specs.List.{filter_map, cons_option, AllByRecursion}
@@ -46,7 +46,7 @@ front_with_same : (script : Plan) (past : List Entry) (e : Entry) (q : ℕ) (lan
     → front_with script (past ++ e ∷ []) q lane p ≡ front_with script past q lane p
 front_with_same script past e q lane p quiet class lt =
     ap (λ o. option_map (λ order. record { queue = q; lane = lane; task = p.task; order = order; class = class_of script (past ++ e ∷ []) q }) o)
-        (order_of_same past e p lt quiet)
+    (order_of_same past e p lt quiet)
     ∙ ap (λ c. option_map (λ order. record { queue = q; lane = lane; task = p.task; order = order; class = c }) (order_of past p)) class
 
 lane_same_at : (script : Plan) (past : List Entry) (e : Entry) (q : ℕ) (lane : Lane) (ps : List Posted) → moves_orders e.kind ≡ false
@@ -73,12 +73,12 @@ pub lane_same : (script : Plan) (past : List Entry) (e : Entry) (q : ℕ) (lane 
     → lane_of script (past ++ e ∷ []) q lane ≡ lane_of script past q lane
 lane_same script past e q lane quiet =
     ap (λ ps. filter_map (front_with script (past ++ e ∷ []) q lane) (filter (is_in_lane (past ++ e ∷ []) q lane) ps)) (main_posts_push past e
-        ∙ ap (λ xs. main_posts past ++ xs) (no_post e.kind quiet) ∙ append-nil (main_posts past))
+    ∙ ap (λ xs. main_posts past ++ xs) (no_post e.kind quiet) ∙ append-nil (main_posts past))
     ∙ ap (filter_map (front_with script (past ++ e ∷ []) q lane))
-        (filter_congr (is_in_lane (past ++ e ∷ []) q lane) (is_in_lane past q lane) (main_posts past)
-        (in_lane_same past e q lane (λ t. no_take t e.kind quiet)))
+    (filter_congr (is_in_lane (past ++ e ∷ []) q lane) (is_in_lane past q lane) (main_posts past)
+    (in_lane_same past e q lane (λ t. no_take t e.kind quiet)))
     ∙ lane_same_at script past e q lane (filter (is_in_lane past q lane) (main_posts past)) (no_tick_of_lanes e.kind quiet) (class_of_push script past e q
-        ∙ no_rank (class_of script past q) e.kind quiet) (old_lane past q lane)
+    ∙ no_rank (class_of script past q) e.kind quiet) (old_lane past q lane)
   where
     no_post : (kind : Kind) → moves_lanes kind ≡ false → main_posted_by past kind ≡ []
     no_post (kinds.Main task queue delay true) h = absurd (true≢false h)
@@ -108,16 +108,16 @@ pub lane_at_take : (script : Plan) (past : List Entry) (e : Entry) (q : ℕ) (la
     → lane_of script (past ++ e ∷ []) q lane ≡ filter (λ f. not (f.task == task)) (lane_of script past q lane)
 lane_at_take script past e q lane task queue found is =
     ap (λ ps. filter_map (front_with script (past ++ e ∷ []) q lane) (filter (is_in_lane (past ++ e ∷ []) q lane) ps)) (main_posts_push past e
-        ∙ ap (λ kind. main_posts past ++ main_posted_by past kind) is ∙ append-nil (main_posts past))
+    ∙ ap (λ kind. main_posts past ++ main_posted_by past kind) is ∙ append-nil (main_posts past))
     ∙ ap (filter_map (front_with script (past ++ e ∷ []) q lane))
-        (filter_congr (is_in_lane (past ++ e ∷ []) q lane) (λ p. is_in_lane past q lane p && not (eqb p.task task)) (main_posts past) same
-        ∙ sym (filter-filter (λ p. not (eqb p.task task)) (is_in_lane past q lane) (main_posts past)))
+    (filter_congr (is_in_lane (past ++ e ∷ []) q lane) (λ p. is_in_lane past q lane p && not (eqb p.task task)) (main_posts past) same
+    ∙ sym (filter-filter (λ p. not (eqb p.task task)) (is_in_lane past q lane) (main_posts past)))
     ∙ lane_same_at script past e q lane (filter (λ p. not (eqb p.task task)) (filter (is_in_lane past q lane) (main_posts past))) (ap moves_orders is)
-        (class_of_push script past e q ∙ ap (class_after q (class_of script past q)) is)
-        (AllByRecursion-filter (λ p. p.place < length past) (λ p. not (eqb p.task task)) (filter (is_in_lane past q lane) (main_posts past))
-        (old_lane past q lane))
+    (class_of_push script past e q ∙ ap (class_after q (class_of script past q)) is)
+    (AllByRecursion-filter (λ p. p.place < length past) (λ p. not (eqb p.task task)) (filter (is_in_lane past q lane) (main_posts past))
+    (old_lane past q lane))
     ∙ filter-filter_map (λ f. not (eqb f.task task)) (λ p. not (eqb p.task task)) (front_with script past q lane)
-        (filter (is_in_lane past q lane) (main_posts past)) (λ p f made. ap (λ t. not (eqb t task)) (front_task script past q lane p f made))
+    (filter (is_in_lane past q lane) (main_posts past)) (λ p f made. ap (λ t. not (eqb t task)) (front_task script past q lane p f made))
   where
     swapped : (a b c d : Bool) → (a && b && not (c || d)) ≡ ((a && b && not c) && not d)
     swapped false b c d = refl
@@ -128,24 +128,24 @@ lane_at_take script past e q lane task queue found is =
     same : (p : Posted) → is_in_lane (past ++ e ∷ []) q lane p ≡ (is_in_lane past q lane p && not (eqb p.task task))
     same p =
         ap (λ b. eqb p.home q && is_of_lane lane p && not b) (is_main_taken_push past e p.task
-            ∙ ap (λ kind. is_main_taken past p.task || main_takes p.task kind) is ∙ ap (λ b. is_main_taken past p.task || b) (turned task p.task))
+        ∙ ap (λ kind. is_main_taken past p.task || main_takes p.task kind) is ∙ ap (λ b. is_main_taken past p.task || b) (turned task p.task))
         ∙ swapped (eqb p.home q) (is_of_lane lane p) (is_main_taken past p.task) (eqb p.task task)
 
 -- a lane at a post, by what the new task looks like there
 lane_at_new : (script : Plan) (past : List Entry) (e : Entry) (q : ℕ) (lane : Lane) (task queue delay : ℕ) → e.kind ≡ kinds.Main task queue delay true
     → lane_of script (past ++ e ∷ []) q lane ≡ lane_of script past q lane
-        ++ filter_map (front_with script (past ++ e ∷ []) q lane) (filter (is_in_lane past q lane) (post_behind past task queue delay ∷ []))
+    ++ filter_map (front_with script (past ++ e ∷ []) q lane) (filter (is_in_lane past q lane) (post_behind past task queue delay ∷ []))
 lane_at_new script past e q lane task queue delay is =
     ap (λ ps. filter_map (front_with script (past ++ e ∷ []) q lane) (filter (is_in_lane (past ++ e ∷ []) q lane) ps)) (main_posts_push past e
-        ∙ ap (λ kind. main_posts past ++ main_posted_by past kind) is)
+    ∙ ap (λ kind. main_posts past ++ main_posted_by past kind) is)
     ∙ ap (filter_map (front_with script (past ++ e ∷ []) q lane))
-        (filter_congr (is_in_lane (past ++ e ∷ []) q lane) (is_in_lane past q lane) (main_posts past ++ new ∷ [])
-        (in_lane_same past e q lane (λ t. ap (main_takes t) is)) ∙ filter-append (is_in_lane past q lane) (main_posts past) (new ∷ []))
+    (filter_congr (is_in_lane (past ++ e ∷ []) q lane) (is_in_lane past q lane) (main_posts past ++ new ∷ [])
+    (in_lane_same past e q lane (λ t. ap (main_takes t) is)) ∙ filter-append (is_in_lane past q lane) (main_posts past) (new ∷ []))
     ∙ filter_map-append (front_with script (past ++ e ∷ []) q lane) (filter (is_in_lane past q lane) (main_posts past))
-        (filter (is_in_lane past q lane) (new ∷ []))
+    (filter (is_in_lane past q lane) (new ∷ []))
     ∙ ap (λ fs. fs ++ filter_map (front_with script (past ++ e ∷ []) q lane) (filter (is_in_lane past q lane) (new ∷ [])))
-        (lane_same_at script past e q lane (filter (is_in_lane past q lane) (main_posts past)) (ap moves_orders is) (class_of_push script past e q
-        ∙ ap (class_after q (class_of script past q)) is) (old_lane past q lane))
+    (lane_same_at script past e q lane (filter (is_in_lane past q lane) (main_posts past)) (ap moves_orders is) (class_of_push script past e q
+    ∙ ap (class_after q (class_of script past q)) is) (old_lane past q lane))
   where
     new : Posted
     new = post_behind past task queue delay
@@ -153,7 +153,7 @@ lane_at_new script past e q lane task queue delay is =
 pub lane_at_post : (script : Plan) (past : List Entry) (e : Entry) (q : ℕ) (lane : Lane) (task queue delay : ℕ) → e.kind ≡ kinds.Main task queue delay true
     → nat_lt 0 delay ≡ false → is_main_taken past task ≡ false
     → lane_of script (past ++ e ∷ []) q lane ≡ lane_of script past q lane
-        ++ (if queue == q && is_immediate lane then front_behind script past q lane task ∷ [] else [])
+    ++ (if queue == q && is_immediate lane then front_behind script past q lane task ∷ [] else [])
 lane_at_post script past e q lane task queue delay is immediate untaken =
     lane_at_new script past e q lane task queue delay is
     ∙ ap (λ fs. lane_of script past q lane ++ fs)
@@ -173,9 +173,9 @@ lane_at_post script past e q lane task queue delay is immediate untaken =
     looks : front_with script (past ++ e ∷ []) q lane new ≡ Some (front_behind script past q lane task)
     looks =
         ap (λ o. option_map (λ order. record { queue = q; lane = lane; task = task; order = order; class = class_of script (past ++ e ∷ []) q }) o)
-            (order_at_post past e task queue delay immediate)
+        (order_at_post past e task queue delay immediate)
         ∙ ap (λ c. Some (record { queue = q; lane = lane; task = task; order = next_draw past; class = c })) (class_of_push script past e q
-            ∙ ap (class_after q (class_of script past q)) is)
+        ∙ ap (class_after q (class_of script past q)) is)
 
     by : (b : Bool) → filter_map (front_with script (past ++ e ∷ []) q lane) (cond b (new ∷ []) []) ≡ cond b (front_behind script past q lane task ∷ []) []
     by true = ap (λ o. cons_option o []) looks
@@ -217,7 +217,7 @@ lane_below : (script : Plan) (past : List Entry) (q : ℕ) (lane : Lane) → Ord
     → AllByRecursion (λ f. f.order < next_draw past) (lane_of script past q lane)
 lane_below script past q lane below =
     AllByRecursion-filter_map (λ p. (n : ℕ) → order_of past p ≡ Some n → n < next_draw past) (λ f. f.order < next_draw past) (front_with script past q lane)
-        (filter (is_in_lane past q lane) (main_posts past))
+    (filter (is_in_lane past q lane) (main_posts past))
     (λ p f bound made. by p f (order_of past p) bound made)
     (AllByRecursion-filter (λ p. (n : ℕ) → order_of past p ≡ Some n → n < next_draw past) (is_in_lane past q lane) (main_posts past) below)
   where
@@ -231,7 +231,7 @@ lane_below script past q lane below =
 pub front_at_post : (script : Plan) (past : List Entry) (e : Entry) (q : ℕ) (lane : Lane) (task queue delay : ℕ) → e.kind ≡ kinds.Main task queue delay true
     → nat_lt 0 delay ≡ false → is_main_taken past task ≡ false → OrdersBelow past
     → front_of script (past ++ e ∷ []) q lane ≡ option_or (front_of script past q lane)
-        (if queue == q && is_immediate lane then Some (front_behind script past q lane task) else None)
+    (if queue == q && is_immediate lane then Some (front_behind script past q lane task) else None)
 front_at_post script past e q lane task queue delay is immediate untaken below =
     front_is_least script (past ++ e ∷ []) q lane
     ∙ ap (least order_below) (lane_at_post script past e q lane task queue delay is immediate untaken)
@@ -260,20 +260,20 @@ pub lane_at_tick : (script : Plan) (past : List Entry) (e : Entry) (q : ℕ) (la
     → lane_of script (past ++ e ∷ []) q lane ≡ filter_map (front_at_tick_of script past q lane moment) (filter (is_in_lane past q lane) (main_posts past))
 lane_at_tick script past e q lane moment is =
     ap (λ ps. filter_map (front_with script (past ++ e ∷ []) q lane) (filter (is_in_lane (past ++ e ∷ []) q lane) ps)) (main_posts_push past e
-        ∙ ap (λ kind. main_posts past ++ main_posted_by past kind) is ∙ append-nil (main_posts past))
+    ∙ ap (λ kind. main_posts past ++ main_posted_by past kind) is ∙ append-nil (main_posts past))
     ∙ ap (filter_map (front_with script (past ++ e ∷ []) q lane))
-        (filter_congr (is_in_lane (past ++ e ∷ []) q lane) (is_in_lane past q lane) (main_posts past) (in_lane_same past e q lane (λ t. ap (main_takes t) is)))
+    (filter_congr (is_in_lane (past ++ e ∷ []) q lane) (is_in_lane past q lane) (main_posts past) (in_lane_same past e q lane (λ t. ap (main_takes t) is)))
     ∙ filter_map_congr_in (front_with script (past ++ e ∷ []) q lane) (front_at_tick_of script past q lane moment)
-        (filter (is_in_lane past q lane) (main_posts past))
+    (filter (is_in_lane past q lane) (main_posts past))
     (AllByRecursion-map (λ p. p.place < length past) (λ p. front_with script (past ++ e ∷ []) q lane p ≡ front_at_tick_of script past q lane moment p)
-        (filter (is_in_lane past q lane) (main_posts past)) same (old_lane past q lane))
+    (filter (is_in_lane past q lane) (main_posts past)) same (old_lane past q lane))
   where
     same : (p : Posted) → p.place < length past → front_with script (past ++ e ∷ []) q lane p ≡ front_at_tick_of script past q lane moment p
     same p lt =
         ap (λ o. option_map (λ order. record { queue = q; lane = lane; task = p.task; order = order; class = class_of script (past ++ e ∷ []) q }) o)
-            (order_tick past e p moment is lt)
+        (order_tick past e p moment is lt)
         ∙ ap (λ c. option_map (λ order. record { queue = q; lane = lane; task = p.task; order = order; class = c }) (order_at_tick_of past moment p))
-            (class_of_push script past e q ∙ ap (class_after q (class_of script past q)) is)
+        (class_of_push script past e q ∙ ap (class_after q (class_of script past q)) is)
 
 -- a task of the past at a tick: it keeps its order, or draws
 tick_parts : (script : Plan) (past : List Entry) (q : ℕ) (lane : Lane) (moment : ℕ) (p : Posted) → ((n : ℕ) → order_of past p ≡ Some n → n < next_draw past)
@@ -289,22 +289,28 @@ tick_parts script past q lane moment p bound = by (is_delayed p) refl (tick_from
 
     kept : (o : Option ℕ) → ((n : ℕ) → o ≡ Some n → n < next_draw past)
         → (keep (λ f. nat_lt f.order (next_draw past)) (option_map made o) ≡ option_map made o)
-            × (keep (λ f. not (nat_lt f.order (next_draw past))) (option_map made o) ≡ None)
+        × (keep (λ f. not (nat_lt f.order (next_draw past))) (option_map made o) ≡ None)
     kept None f = (refl, refl)
-    kept (Some n) f = (ap (λ b. cond b (Some (made n)) None) (lt-ltb n (next_draw past) (f n refl)), ap (λ b. cond (not b) (Some (made n)) None)
-        (lt-ltb n (next_draw past) (f n refl)))
+    kept (Some n) f = (
+      ap (λ b. cond b (Some (made n)) None) (lt-ltb n (next_draw past) (f n refl)),
+      ap (λ b. cond (not b) (Some (made n)) None)
+          (lt-ltb n (next_draw past) (f n refl)),
+    )
 
     fresh : (o : Option ℕ) → ((n : ℕ) → o ≡ Some n → next_draw past ≤ n)
         → (keep (λ f. nat_lt f.order (next_draw past)) (option_map made o) ≡ None)
-            × (keep (λ f. not (nat_lt f.order (next_draw past))) (option_map made o) ≡ option_map made o)
+        × (keep (λ f. not (nat_lt f.order (next_draw past))) (option_map made o) ≡ option_map made o)
     fresh None f = (refl, refl)
-    fresh (Some n) f = (ap (λ b. cond b (Some (made n)) None) (le-ltb n (next_draw past) (f n refl)), ap (λ b. cond (not b) (Some (made n)) None)
-        (le-ltb n (next_draw past) (f n refl)))
+    fresh (Some n) f = (
+      ap (λ b. cond b (Some (made n)) None) (le-ltb n (next_draw past) (f n refl)),
+      ap (λ b. cond (not b) (Some (made n)) None)
+          (le-ltb n (next_draw past) (f n refl)),
+    )
 
     above : (n : ℕ) → drawn_at past moment p ≡ Some n → next_draw past ≤ n
     above n drew =
         let sum : next_draw past + count (λ r. ripens_before r p) (ripening past moment)
-            ≡ n = (cond_some (ripens past moment p) (next_draw past + count (λ r. ripens_before r p) (ripening past moment)) n drew).1 in
+        ≡ n = (cond_some (ripens past moment p) (next_draw past + count (λ r. ripens_before r p) (ripening past moment)) n drew).1 in
         omega (arith, sum)
 
     unordered_yet : is_delayed p ≡ true → tick_from past p.ripe ≡ None → order_of past p ≡ None
@@ -315,9 +321,9 @@ tick_parts script past q lane moment p bound = by (is_delayed p) refl (tick_from
 
     by : (d : Bool) → is_delayed p ≡ d → (o : Option ℕ) → tick_from past p.ripe ≡ o
         → (keep (λ f. nat_lt f.order (next_draw past)) (option_map made (cond (d && is_none o) (drawn_at past moment p) (order_of past p)))
-            ≡ option_map made (order_of past p))
+        ≡ option_map made (order_of past p))
         × (keep (λ f. not (nat_lt f.order (next_draw past))) (option_map made (cond (d && is_none o) (drawn_at past moment p) (order_of past p)))
-            ≡ option_map made (cond (d && is_none o) (drawn_at past moment p) no_order))
+        ≡ option_map made (cond (d && is_none o) (drawn_at past moment p) no_order))
     by false immediate o was = kept (order_of past p) bound
     by true delayed (Some place) was = kept (order_of past p) bound
     by true delayed None was =
@@ -336,10 +342,10 @@ lane_old_at_tick script past e q lane moment is below =
     ap (filter (λ f. nat_lt f.order (next_draw past))) (lane_at_tick script past e q lane moment is)
     ∙ filter-keep (λ f. nat_lt f.order (next_draw past)) (front_at_tick_of script past q lane moment) (filter (is_in_lane past q lane) (main_posts past))
     ∙ filter_map_congr_in (λ p. keep (λ f. nat_lt f.order (next_draw past)) (front_at_tick_of script past q lane moment p)) (front_with script past q lane)
-        (filter (is_in_lane past q lane) (main_posts past))
+    (filter (is_in_lane past q lane) (main_posts past))
     (AllByRecursion-map (λ p. (n : ℕ) → order_of past p ≡ Some n → n < next_draw past)
-        (λ p. keep (λ f. nat_lt f.order (next_draw past)) (front_at_tick_of script past q lane moment p) ≡ front_with script past q lane p)
-        (filter (is_in_lane past q lane) (main_posts past)) (λ p bound. (tick_parts script past q lane moment p bound).0) (lane_bound past q lane below))
+    (λ p. keep (λ f. nat_lt f.order (next_draw past)) (front_at_tick_of script past q lane moment p) ≡ front_with script past q lane p)
+    (filter (is_in_lane past q lane) (main_posts past)) (λ p bound. (tick_parts script past q lane moment p bound).0) (lane_bound past q lane below))
 
 -- the others are those that draw
 pub lane_new_at_tick : (script : Plan) (past : List Entry) (e : Entry) (q : ℕ) (lane : Lane) (moment : ℕ) → e.kind ≡ kinds.Tick moment → OrdersBelow past
@@ -349,10 +355,10 @@ lane_new_at_tick script past e q lane moment is below =
     ap (filter (λ f. not (nat_lt f.order (next_draw past)))) (lane_at_tick script past e q lane moment is)
     ∙ filter-keep (λ f. not (nat_lt f.order (next_draw past))) (front_at_tick_of script past q lane moment) (filter (is_in_lane past q lane) (main_posts past))
     ∙ filter_map_congr_in (λ p. keep (λ f. not (nat_lt f.order (next_draw past))) (front_at_tick_of script past q lane moment p))
-        (drawn_at_tick_of script past q lane moment) (filter (is_in_lane past q lane) (main_posts past))
+    (drawn_at_tick_of script past q lane moment) (filter (is_in_lane past q lane) (main_posts past))
     (AllByRecursion-map (λ p. (n : ℕ) → order_of past p ≡ Some n → n < next_draw past)
-        (λ p. keep (λ f. not (nat_lt f.order (next_draw past))) (front_at_tick_of script past q lane moment p) ≡ drawn_at_tick_of script past q lane moment p)
-        (filter (is_in_lane past q lane) (main_posts past)) (λ p bound. (tick_parts script past q lane moment p bound).1) (lane_bound past q lane below))
+    (λ p. keep (λ f. not (nat_lt f.order (next_draw past))) (front_at_tick_of script past q lane moment p) ≡ drawn_at_tick_of script past q lane moment p)
+    (filter (is_in_lane past q lane) (main_posts past)) (λ p bound. (tick_parts script past q lane moment p bound).1) (lane_bound past q lane below))
 
 -- a tick leaves the lanes of the immediate tasks
 pub immediate_at_tick : (script : Plan) (past : List Entry) (e : Entry) (q moment : ℕ) → e.kind ≡ kinds.Tick moment
@@ -360,10 +366,10 @@ pub immediate_at_tick : (script : Plan) (past : List Entry) (e : Entry) (q momen
 immediate_at_tick script past e q moment is =
     lane_at_tick script past e q Immediate moment is
     ∙ filter_map_congr_in (front_at_tick_of script past q Immediate moment) (front_with script past q Immediate)
-        (filter (is_in_lane past q Immediate) (main_posts past))
+    (filter (is_in_lane past q Immediate) (main_posts past))
     (AllByRecursion-map (λ p. is_in_lane past q Immediate p ≡ true)
-        (λ p. front_at_tick_of script past q Immediate moment p ≡ front_with script past q Immediate p)
-        (filter (is_in_lane past q Immediate) (main_posts past)) same (filter_passes (is_in_lane past q Immediate) (main_posts past)))
+    (λ p. front_at_tick_of script past q Immediate moment p ≡ front_with script past q Immediate p)
+    (filter (is_in_lane past q Immediate) (main_posts past)) same (filter_passes (is_in_lane past q Immediate) (main_posts past)))
   where
     immediate : (a d t : Bool) → (a && not d && t) ≡ true → d ≡ false
     immediate true true t h = absurd (true≢false (sym h))
@@ -377,13 +383,13 @@ immediate_at_tick script past e q moment is =
 
 pub front_at_rank : (script : Plan) (past : List Entry) (e : Entry) (q : ℕ) (lane : Lane) (queue class : ℕ) → e.kind ≡ kinds.Rank queue class
     → front_of script (past ++ e ∷ []) q lane ≡ (if queue == q then option_map (with_class class)
-        (front_of script past q lane) else front_of script past q lane)
+    (front_of script past q lane) else front_of script past q lane)
 front_at_rank script past e q lane queue class is =
     front_is_least script (past ++ e ∷ []) q lane
     ∙ ap (λ ps. least order_below (filter_map (front_with script (past ++ e ∷ []) q lane) (filter (is_in_lane (past ++ e ∷ []) q lane) ps)))
-        (main_posts_push past e ∙ ap (λ kind. main_posts past ++ main_posted_by past kind) is ∙ append-nil (main_posts past))
+    (main_posts_push past e ∙ ap (λ kind. main_posts past ++ main_posted_by past kind) is ∙ append-nil (main_posts past))
     ∙ ap (λ ps. least order_below (filter_map (front_with script (past ++ e ∷ []) q lane) ps))
-        (filter_congr (is_in_lane (past ++ e ∷ []) q lane) (is_in_lane past q lane) (main_posts past) (in_lane_same past e q lane (λ t. ap (main_takes t) is)))
+    (filter_congr (is_in_lane (past ++ e ∷ []) q lane) (is_in_lane past q lane) (main_posts past) (in_lane_same past e q lane (λ t. ap (main_takes t) is)))
     ∙ by (eqb queue q) (class_of_push script past e q ∙ ap (class_after q (class_of script past q)) is)
     ∙ ap (λ o. cond (eqb queue q) (option_map (with_class class) o) o) (sym (front_is_least script past q lane))
   where
@@ -396,11 +402,11 @@ front_at_rank script past e q lane queue class is =
     by false same = ap (least order_below) (lane_same_at script past e q lane ps (ap moves_orders is) same (old_lane past q lane))
     by true given =
         ap (least order_below) (filter_map_congr_in (front_with script (past ++ e ∷ []) q lane)
-            (λ p. option_map (with_class class) (front_with script past q lane p)) ps
-            (AllByRecursion-map (λ p. p.place < length past)
-            (λ p. front_with script (past ++ e ∷ []) q lane p ≡ option_map (with_class class) (front_with script past q lane p)) ps made
-            (old_lane past q lane))
-            ∙ filter_map-option_map (front_with script past q lane) (with_class class) ps)
+        (λ p. option_map (with_class class) (front_with script past q lane p)) ps
+        (AllByRecursion-map (λ p. p.place < length past)
+        (λ p. front_with script (past ++ e ∷ []) q lane p ≡ option_map (with_class class) (front_with script past q lane p)) ps made
+        (old_lane past q lane))
+        ∙ filter_map-option_map (front_with script past q lane) (with_class class) ps)
         ∙ least-map order_below order_below (with_class class) (lane_of script past q lane) (λ a b. refl)
       where
         over : (p : Posted) (o : Option ℕ) → option_map (λ order. record { queue = q; lane = lane; task = p.task; order = order; class = class }) o
@@ -414,7 +420,7 @@ front_at_rank script past e q lane queue class is =
         made p lt =
             ap (λ c. option_map (λ order. record { queue = q; lane = lane; task = p.task; order = order; class = c }) (order_of (past ++ e ∷ []) p)) given
             ∙ ap (λ o. option_map (λ order. record { queue = q; lane = lane; task = p.task; order = order; class = class }) o)
-                (order_of_same past e p lt (ap moves_orders is))
+            (order_of_same past e p lt (ap moves_orders is))
             ∙ over p (order_of past p)
 
 pub front_is_first : (script : Plan) (past : List Entry) (q : ℕ) (lane : Lane) (f : Front) → front_of script past q lane ≡ Some f

@@ -3,28 +3,26 @@
 -- What one more entry does to the orders of main tasks. An order that was drawn stays; an immediate task draws at
 -- its post, and a delayed one at the first tick at or past its ripe moment, where its queue is not closed. Each order
 -- that was drawn is below the next draw.
-use Rattle.std.proofs.Common.{◌≡◌, ℕ, zero, suc, ◌+◌, ◌<◌, Bool, true, false, cond, eqb, List, [], ◌∷◌, ◌++◌, length, take, subst, refl, sym, ap, ◌∙◌, Option, Some, None, arith}
+use Rattle.std.proofs.Common.{◌≡◌, ℕ, zero, suc, ◌+◌, ◌<◌, Bool, true, false, cond, eqb, List, [], ◌∷◌, ◌++◌, length, take, refl, sym, ap, ◌∙◌, Option, Some, None, arith}
 use Rattle.std.specs.Prelude.{not, ◌&&◌, ◌||◌, nat_lt, nat_le, filter, slice_get, option_and_then, is_none}
 use Rattle.std.specs.Option.{option_or}
 use Rattle.std.specs.List.{AllByRecursion}
 use Rattle.std.proofs.lemmas.Bool.{true≢false, ltb-true}
-use Rattle.std.proofs.lemmas.Option.{none-some, cond_some}
+use Rattle.std.proofs.lemmas.Option.{none-some}
 use Rattle.std.proofs.Math.Bool.{or-false}
 use Rattle.std.proofs.lemmas.List.{append-nil, take-append-le}
 use Rattle.std.proofs.Math.Seq.{take-append_seam}
 use Rattle.task_base.specs.declared.entry.Entry.{Entry}
 use Rattle.task_base.specs.declared.entry.Kind.{Kind}
 use Rattle.task_base.specs.declared.entry.Kind.TheVariants as kinds
-use Rattle.list_laws.specs.Lists.{count}
-use Rattle.task_model.specs.Past.{fold_past}
 use Rattle.task_model.specs.Time.{now_of, now_after, is_tick_from, tick_from}
-use Rattle.task_model.specs.Posts.{Posted, is_delayed, post_behind, main_posts, main_posted_by, ripens_before}
+use Rattle.task_model.specs.Posts.{Posted, is_delayed, post_behind, main_posts, main_posted_by}
 use Rattle.task_model.specs.Refusal.{is_closed, closes}
-use Rattle.task_model.specs.Orders.{ripens, ripening, next_draw, draws, drawn_by, drawn_at, moment_of, moment_at, order_of}
-use Rattle.pool_laws.specs.Keys.{tick_by, NoTickAhead}
-use Rattle.queue_laws.specs.Orders.{moves_ripening, moves_orders, OrdersBelow, order_at_tick_of}
-use Rattle.task_model.proofs.Growth.{now_of_push, main_posts_push, is_closed_push, draws_push}
-use Rattle.list_laws.proofs.Lists.{some-injective, filter_congr, filter_split, count_below, AllByRecursion-map, AllByRecursion-append, AllByRecursion-members, AllByRecursion-at}
+use Rattle.task_model.specs.Orders.{ripens, ripening, next_draw, drawn_at, moment_of, moment_at, order_of}
+use Rattle.pool_laws.specs.Keys.{tick_by}
+use Rattle.queue_laws.specs.Orders.{moves_ripening, moves_orders, order_at_tick_of}
+use Rattle.task_model.proofs.Growth.{now_of_push, main_posts_push, is_closed_push}
+use Rattle.list_laws.proofs.Lists.{filter_congr, AllByRecursion-map}
 use Rattle.pool_laws.proofs.Keys.Ready.{main_posts_within, tick_from_push, tick_from_stays, tick_within}
 
 -- each accepted main task has its place in the past
@@ -119,9 +117,9 @@ pub order_at_tick : (past : List Entry) (e : Entry) (p : Posted) (moment : ℕ) 
 order_at_tick past e p moment is delayed none =
     order_is (past ++ e ∷ []) p
     ∙ ap (λ (b : Bool). cond b (option_and_then (drawn (past ++ e ∷ []) p) (tick_from (past ++ e ∷ []) p.ripe))
-        (Some (next_draw (take p.place (past ++ e ∷ []))))) delayed
+    (Some (next_draw (take p.place (past ++ e ∷ []))))) delayed
     ∙ ap (option_and_then (drawn (past ++ e ∷ []) p)) (tick_from_push past e p.ripe ∙ ap (λ o. option_or o (tick_by past p.ripe e.kind)) none
-        ∙ ap (tick_by past p.ripe) is)
+    ∙ ap (tick_by past p.ripe) is)
     ∙ by (nat_le p.ripe moment) refl
   where
     here : drawn (past ++ e ∷ []) p (length past) ≡ drawn_at past moment p
@@ -154,7 +152,7 @@ pub order_at_post : (past : List Entry) (e : Entry) (task queue delay : ℕ) →
 order_at_post past e task queue delay immediate =
     order_is (past ++ e ∷ []) (post_behind past task queue delay)
     ∙ ap (λ (b : Bool). cond b (option_and_then (drawn (past ++ e ∷ []) (post_behind past task queue delay))
-        (tick_from (past ++ e ∷ []) (post_behind past task queue delay).ripe)) (Some (next_draw (take (length past) (past ++ e ∷ []))))) immediate
+    (tick_from (past ++ e ∷ []) (post_behind past task queue delay).ripe)) (Some (next_draw (take (length past) (past ++ e ∷ []))))) immediate
     ∙ ap (λ before. Some (next_draw before)) (take-append_seam past (e ∷ []))
 
 -- a delayed task has no order at its post
@@ -163,14 +161,14 @@ pub unordered : (past : List Entry) (e : Entry) (p : Posted) → moves_orders e.
 unordered past e p quiet delayed unripe =
     order_is (past ++ e ∷ []) p
     ∙ ap (λ (b : Bool). cond b (option_and_then (drawn (past ++ e ∷ []) p) (tick_from (past ++ e ∷ []) p.ripe))
-        (Some (next_draw (take p.place (past ++ e ∷ []))))) delayed
+    (Some (next_draw (take p.place (past ++ e ∷ []))))) delayed
     ∙ ap (option_and_then (drawn (past ++ e ∷ []) p)) (tick_same past e quiet p.ripe ∙ unripe)
 
 pub ripening_same : (past : List Entry) (e : Entry) (moment : ℕ) → moves_ripening e.kind ≡ false → ripening (past ++ e ∷ []) moment ≡ ripening past moment
 unfolding ripening
 ripening_same past e moment quiet =
     ap (filter (ripens (past ++ e ∷ []) moment)) (main_posts_push past e ∙ ap (λ xs. main_posts past ++ xs) (no_post e.kind quiet)
-        ∙ append-nil (main_posts past))
+    ∙ append-nil (main_posts past))
     ∙ filter_congr (ripens (past ++ e ∷ []) moment) (ripens past moment) (main_posts past) same
   where
     no_post : (kind : Kind) → moves_ripening kind ≡ false → main_posted_by past kind ≡ []
@@ -188,19 +186,19 @@ ripening_same past e moment quiet =
     same : (p : Posted) → ripens (past ++ e ∷ []) moment p ≡ ripens past moment p
     same p =
         ap (λ b. is_delayed p && not b && nat_lt (now_of (past ++ e ∷ [])) p.ripe && nat_le p.ripe moment) (is_closed_push past e p.home
-            ∙ ap (λ b. is_closed past p.home || b) (no_close p.home e.kind quiet) ∙ or-false (is_closed past p.home))
+        ∙ ap (λ b. is_closed past p.home || b) (no_close p.home e.kind quiet) ∙ or-false (is_closed past p.home))
         ∙ ap (λ n. is_delayed p && not (is_closed past p.home) && nat_lt n p.ripe && nat_le p.ripe moment) (now_of_push past e
-            ∙ still (now_of past) e.kind quiet)
+        ∙ still (now_of past) e.kind quiet)
 
 -- an immediate task, and one whose tick has come, keeps its order
 order_same_immediate : (past rest : List Entry) (p : Posted) → p.place < length past → is_delayed p ≡ false → order_of (past ++ rest) p ≡ order_of past p
 order_same_immediate past rest p lt immediate =
     order_is (past ++ rest) p
     ∙ ap (λ (b : Bool). cond b (option_and_then (drawn (past ++ rest) p) (tick_from (past ++ rest) p.ripe)) (Some (next_draw (take p.place (past ++ rest)))))
-        immediate
+    immediate
     ∙ ap (λ before. Some (next_draw before)) (take-append-le p.place past rest (omega (arith, lt)))
     ∙ sym (order_is past p ∙ ap (λ (b : Bool). cond b (option_and_then (drawn past p) (tick_from past p.ripe)) (Some (next_draw (take p.place past))))
-        immediate)
+    immediate)
 
 order_same_ticked : (past rest : List Entry) (p : Posted) (place : ℕ) → p.place < length past → tick_from past p.ripe ≡ Some place
     → order_of (past ++ rest) p ≡ order_of past p
