@@ -1,4 +1,10 @@
-pub mod Lists
+pub mod Values
+pub mod Elements
+pub mod Filters
+pub mod Tests
+pub mod Counts
+pub mod Ranges
+pub mod Ranks
 pub mod Least
 pub mod Members
 pub mod Sorts

@@ -1,42 +1,12 @@
--- What holds of the elements of one list and of another, and lists of the same elements.
-use Rattle.std.proofs.Common.{◌≡◌, Bool, true, false, cond, List, [], ◌∷◌, ◌++◌, map, append_assoc, refl, sym, ap, ◌∙◌, subst, Option, Some, None}
-use Rattle.std.specs.Prelude.{filter, Contains}
-use Rattle.std.specs.Option.{option_map, option_or, IfSome}
-use Rattle.std.specs.List.{AllByRecursion, filter_map, cons_option}
-use Rattle.std.proofs.lemmas.Option.{none-some}
-use Rattle.std.proofs.lemmas.List.{append-nil}
-use Rattle.std.proofs.lemmas.List.Elements.{All-from_recursion, recursion_from_All, All-contains, All-contains_itself, Contains-append_left, Contains-append_right}
-use Rattle.list_laws.specs.Sorts.{SameMembers}
-use Rattle.list_laws.proofs.Lists.{AllByRecursion-append, AllByRecursion-front, AllByRecursion-back, AllByRecursion-map, AllByRecursion-mapped}
-
--- what holds of all of a list holds of each that it contains
-pub AllByRecursion-contains : {A : Type 0} (P : A → Type 0) (xs : List A) (x : A) → AllByRecursion P xs → Contains xs x → P x
-AllByRecursion-contains P xs x all = All-contains P xs x (All-from_recursion P xs all)
-
-pub AllByRecursion-contains_itself : {A : Type 0} (xs : List A) → AllByRecursion (Contains xs) xs
-AllByRecursion-contains_itself xs = recursion_from_All (Contains xs) xs (All-contains_itself xs)
-
--- what holds of all of a list holds of all that are in it
-pub AllByRecursion-through : {A : Type 0} (P : A → Type 0) (xs ys : List A) → AllByRecursion (Contains ys) xs → AllByRecursion P ys → AllByRecursion P xs
-AllByRecursion-through P [] ys within all = tt
-AllByRecursion-through P (x ∷ xs) ys within all = (AllByRecursion-contains P ys x all within.0, AllByRecursion-through P xs ys within.1 all)
-
-pub AllByRecursion-unmapped : {A B : Type 0} (P : B → Type 0) (f : A → B) (xs : List A) → AllByRecursion P (map f xs) → AllByRecursion (λ x. P (f x)) xs
-AllByRecursion-unmapped P f [] all = tt
-AllByRecursion-unmapped P f (x ∷ xs) all = (all.0, AllByRecursion-unmapped P f xs all.1)
-
--- what holds of what is made of the elements
-pub AllByRecursion-made : {A B : Type 0} (P : B → Type 0) (f : A → Option B) (xs : List A) → AllByRecursion P (filter_map f xs)
-    → AllByRecursion (λ x. IfSome (f x) P) xs
-AllByRecursion-made P f [] all = tt
-AllByRecursion-made {B = B} P f (x ∷ xs) all = by (f x) all (AllByRecursion-made P f xs)
-  where
-    by : (o : Option B) → AllByRecursion P (cons_option o (filter_map f xs)) → (AllByRecursion P (filter_map f xs) → AllByRecursion (λ y. IfSome (f y) P) xs)
-        → IfSome o P × AllByRecursion (λ y. IfSome (f y) P) xs
-    by None h rest = (tt, rest h)
-    by (Some y) h rest = (h.0, rest h.1)
-
 -- Lists of the same elements.
+use Rattle.std.proofs.Common.{◌≡◌, List, [], ◌∷◌, ◌++◌, map, refl, sym, Option, Some, None}
+use Rattle.std.specs.Prelude.{Contains}
+use Rattle.std.specs.Option.{option_or}
+use Rattle.std.specs.List.{filter_map, cons_option, AllByRecursion}
+use Rattle.std.proofs.lemmas.List.Elements.{Contains-append_left, Contains-append_right}
+use Rattle.std.proofs.lemmas.Option.{none-some}
+use Rattle.list_laws.specs.Sorts.{SameMembers}
+use Rattle.list_laws.proofs.Elements.{AllByRecursion-map, AllByRecursion-append, AllByRecursion-front, AllByRecursion-back, AllByRecursion-mapped, AllByRecursion-unmapped, AllByRecursion-contains_itself, AllByRecursion-through}
 
 pub same_members-refl : {A : Type 0} (xs : List A) → SameMembers xs xs
 same_members-refl xs = record { forth = AllByRecursion-contains_itself xs; back = AllByRecursion-contains_itself xs }
@@ -111,35 +81,3 @@ same_members-either {A = A} {B = B} f g xs apart = record { forth = forth; back 
     back = either_made (Contains joined) f g xs
         (AllByRecursion-front (Contains joined) (filter_map f xs) (filter_map g xs) (AllByRecursion-contains_itself joined))
         (AllByRecursion-back (Contains joined) (filter_map f xs) (filter_map g xs) (AllByRecursion-contains_itself joined))
-
--- what is made of the elements that pass a test
-pub filter_map-passing : {A B : Type 0} (f : A → Option B) (p : A → Bool) (g : A → B) (xs : List A) → ((x : A) → f x ≡ cond (p x) (Some (g x)) None)
-    → filter_map f xs ≡ map g (filter p xs)
-filter_map-passing f p g [] is = refl
-filter_map-passing {A = A} {B = B} f p g (x ∷ xs) is = ap (λ o. cons_option o (filter_map f xs)) (is x)
-    ∙ ap (λ ys. cons_option (cond (p x) (Some (g x)) None) ys) (filter_map-passing f p g xs is) ∙ by (p x)
-  where
-    by : (b : Bool) → cons_option (cond b (Some (g x)) None) (map g (filter p xs)) ≡ map g (cond b (x ∷ filter p xs) (filter p xs))
-    by true = refl
-    by false = refl
-
-pub map-congr_in : {A B : Type 0} (f g : A → B) (xs : List A) → AllByRecursion (λ x. f x ≡ g x) xs → map f xs ≡ map g xs
-map-congr_in f g [] h = refl
-map-congr_in f g (x ∷ xs) h = rw (h.0, map-congr_in f g xs h.1) refl
-
--- what is made of what is made
-pub filter_map-option_map : {A B C : Type 0} (f : A → Option B) (g : B → C) (xs : List A) → filter_map (λ x. option_map g (f x)) xs ≡ map g (filter_map f xs)
-filter_map-option_map f g [] = refl
-filter_map-option_map {B = B} f g (x ∷ xs) = ap (cons_option (option_map g (f x))) (filter_map-option_map f g xs) ∙ by (f x)
-  where
-    by : (o : Option B) → cons_option (option_map g o) (map g (filter_map f xs)) ≡ map g (cons_option o (filter_map f xs))
-    by None = refl
-    by (Some y) = refl
-
--- what holds of the empty list, and of one more element at the end, holds of all lists
-pub push_induction : {A : Type 0} (P : List A → Type 0) → P [] → ((xs : List A) (x : A) → P xs → P (xs ++ x ∷ [])) → (xs : List A) → P xs
-push_induction {A = A} P none more xs = onward [] xs none more
-  where
-    onward : (before rest : List A) → P before → ((ys : List A) (y : A) → P ys → P (ys ++ y ∷ [])) → P (before ++ rest)
-    onward before [] h step = subst P (sym (append-nil before)) h
-    onward before (y ∷ rest) h step = subst P (append_assoc before (y ∷ []) rest) (onward (before ++ y ∷ []) rest (step before y h) step)

@@ -1,17 +1,19 @@
 -- A sort keeps the elements and puts them in order; the first of a list that rises is its least.
-use Rattle.std.proofs.Common.{◌≡◌, ◌+◌, Bool, true, false, cond, List, [], ◌∷◌, ◌++◌, map, length, refl, sym, ap, ◌∙◌, subst, Option, Some, None, inl, inr, arith}
+use Rattle.std.proofs.Common.{◌≡◌, ◌+◌, Bool, true, false, cond, List, [], ◌∷◌, ◌++◌, length, map, refl, sym, ap, ◌∙◌, Option, Some, None, inl, inr, arith, subst}
 use Rattle.std.specs.Prelude.{◌⊎◌, filter, find, Contains}
 use Rattle.std.specs.List.{AllByRecursion}
+use Rattle.std.proofs.lemmas.List.Elements.{All-contains}
 use Rattle.std.proofs.lemmas.Bool.{true≢false}
 use Rattle.std.proofs.lemmas.Option.{none-some}
-use Rattle.std.proofs.lemmas.List.Elements.{All-contains}
-use Rattle.list_laws.specs.Lists.{count, least}
+use Rattle.list_laws.specs.Lists.{count, least, Ranks}
 use Rattle.list_laws.specs.Sorts.{insert_by, sort_by, Rises, Differ, SameMembers}
-use Rattle.list_laws.proofs.Lists.{some-injective, filter_always, count-cons, filter_none, filter_passes, AllByRecursion-append, AllByRecursion-map, AllByRecursion-both, AllByRecursion-filter}
-use Rattle.list_laws.proofs.Members.{AllByRecursion-contains, AllByRecursion-contains_itself, AllByRecursion-through}
-use Rattle.list_laws.proofs.Least.{Ranks, least_is_least, unfiltered}
-
--- Sorts.
+use Rattle.list_laws.proofs.Values.{some-injective}
+use Rattle.list_laws.proofs.Elements.{AllByRecursion-map, AllByRecursion-both, AllByRecursion-append, AllByRecursion-filter, unfiltered, AllByRecursion-contains, AllByRecursion-contains_itself, AllByRecursion-through}
+use Rattle.list_laws.proofs.Filters.{filter_always, filter_none, filter_passes}
+use Rattle.list_laws.proofs.Tests.{find-none}
+use Rattle.list_laws.proofs.Counts.{count-cons}
+use Rattle.list_laws.proofs.Ranks.{ranks-trans}
+use Rattle.list_laws.proofs.Least.{least_is_least}
 
 -- of what x is put into, all hold where x and the rest do
 pub AllByRecursion-insert_by : {A : Type 0} (P : A → Type 0) (below : A → A → Bool) (x : A) (ys : List A) → P x → AllByRecursion P ys
@@ -65,13 +67,11 @@ length-sort_by below xs =
     ∙ count-sort_by (λ x. true) below xs
     ∙ ap length (filter_always (λ x. true) xs (λ x. refl))
 
--- what goes before one goes before all that this one goes before
-pub ranks-trans : {A : Type 0} (below : A → A → Bool) → Ranks below → (a b c : A) → below a b ≡ true → below b c ≡ true → below a c ≡ true
-ranks-trans {A = A} below ranks a b c ab bc = by (below a c) refl
-  where
-    by : (t : Bool) → below a c ≡ t → below a c ≡ true
-    by true is = is
-    by false is = absurd (true≢false (sym ab ∙ ranks.through a c b is (ranks.one_way b c bc)))
+pub same_members-sort_by : {A : Type 0} (below : A → A → Bool) (xs : List A) → SameMembers (sort_by below xs) xs
+same_members-sort_by below xs = record {
+  forth = AllByRecursion-sort_by (Contains xs) below xs (AllByRecursion-contains_itself xs);
+  back = AllByRecursion-sorted (Contains (sort_by below xs)) below xs (AllByRecursion-contains_itself (sort_by below xs));
+}
 
 rises-insert_by : {A : Type 0} (below : A → A → Bool) → Ranks below → (x : A) (ys : List A)
     → AllByRecursion (λ y. (below x y ≡ true) ⊎ (below y x ≡ true)) ys → Rises below ys → Rises below (insert_by below x ys)
@@ -95,8 +95,6 @@ pub rises-sort_by : {A : Type 0} (below : A → A → Bool) → Ranks below → 
 rises-sort_by below ranks [] differ = tt
 rises-sort_by below ranks (x ∷ xs) differ = rises-insert_by below ranks x (sort_by below xs)
     (AllByRecursion-sort_by (λ y. (below x y ≡ true) ⊎ (below y x ≡ true)) below xs differ.0) (rises-sort_by below ranks xs differ.1)
-
--- Lists that rise.
 
 -- a rising list behind another, all of which goes before it
 pub rises-append : {A : Type 0} (below : A → A → Bool) (xs ys : List A) → Rises below xs → Rises below ys
@@ -149,16 +147,6 @@ differ-push below (x ∷ xs) y differ last = (
   AllByRecursion-append (λ z. (below x z ≡ true) ⊎ (below z x ≡ true)) xs (y ∷ []) differ.0 (last.0, tt),
   differ-push below xs y differ.1 last.1,
 )
-
--- where none is found, all fail
-find-none : {A : Type 0} (p : A → Bool) (xs : List A) → find p xs ≡ None → AllByRecursion (λ x. p x ≡ false) xs
-find-none p [] none = tt
-find-none p (x ∷ xs) none = by (p x) none (find-none p xs)
-  where
-    by : (b : Bool) → cond b (Some x) (find p xs) ≡ None → (find p xs ≡ None → AllByRecursion (λ y. p y ≡ false) xs)
-        → (b ≡ false) × AllByRecursion (λ y. p y ≡ false) xs
-    by true h rest = absurd (none-some x (sym h))
-    by false h rest = (refl, rest h)
 
 -- what is found passes, is of the list, and goes before all others that pass
 find-some : {A : Type 0} (below : A → A → Bool) (p : A → Bool) (P : A → Type 0) (xs : List A) (x : A) → Rises below xs → find p xs ≡ Some x
@@ -226,9 +214,3 @@ least_is_first {A = A} below p xs ys ranks rises same = by (find p ys) refl
     by : (o : Option A) → find p ys ≡ o → least below (filter p xs) ≡ find p ys
     by None none = fails none ∙ sym none
     by (Some y) some = found y some ∙ sym some
-
-pub same_members-sort_by : {A : Type 0} (below : A → A → Bool) (xs : List A) → SameMembers (sort_by below xs) xs
-same_members-sort_by below xs = record {
-  forth = AllByRecursion-sort_by (Contains xs) below xs (AllByRecursion-contains_itself xs);
-  back = AllByRecursion-sorted (Contains (sort_by below xs)) below xs (AllByRecursion-contains_itself (sort_by below xs));
-}

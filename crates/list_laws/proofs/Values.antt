@@ -1,0 +1,10 @@
+-- Numbers and options that are equal.
+use Rattle.std.proofs.Common.{◌≡◌, ℕ, true, eqb, ap, Some, arith}
+use Rattle.std.specs.Option.{option_map_or}
+
+-- a number is equal to itself, as a test
+pub eqb-same : (n : ℕ) → eqb n n ≡ true
+eqb-same n = grind arith
+
+pub some-injective : {A : Type 0} {x y : A} → Some x ≡ Some y → x ≡ y
+some-injective {A} {x} {y} is = ap (λ o. option_map_or (λ z. z) o x) is
