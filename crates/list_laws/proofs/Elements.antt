@@ -41,6 +41,16 @@ pub AllByRecursion-from_index : {A : Type 0} (P : A → Type 0) (xs : List A) �
 AllByRecursion-from_index P [] h = tt
 AllByRecursion-from_index P (x ∷ xs) h = (h 0 x (omega arith), AllByRecursion-from_index P xs (λ i d lt. h (suc i) d (omega arith)))
 
+-- the element at a place of a joined list
+pub slice_get-front : {A : Type 0} (xs ys : List A) (i : ℕ) → i < length xs → slice_get (xs ++ ys) i ≡ slice_get xs i
+slice_get-front [] ys i lt = absurd (omega (arith, lt))
+slice_get-front (x ∷ xs) ys zero lt = refl
+slice_get-front (x ∷ xs) ys (suc i) lt = slice_get-front xs ys i (omega (arith, lt))
+
+pub slice_get-end : {A : Type 0} (xs : List A) (y : A) → slice_get (xs ++ y ∷ []) (length xs) ≡ Some y
+slice_get-end [] y = refl
+slice_get-end (x ∷ xs) y = slice_get-end xs y
+
 pub slice_get_all : {A : Type 0} (P : A → Type 0) (xs : List A) (i : ℕ) → AllByRecursion P xs → IfSome (slice_get xs i) P
 slice_get_all P [] i h = tt
 slice_get_all P (x ∷ xs) zero h = h.0

@@ -25,9 +25,13 @@ use Rattle.task_model.specs.MainQueues.{class_of, front_with, is_in_lane, order_
 use Rattle.pool_laws.specs.Keys.{NoTickAhead}
 use Rattle.queue_laws.specs.Orders.{moves_orders, order_at_tick_of, ordered_below}
 use Rattle.queue_laws.specs.Fronts.{front_for}
-use Rattle.list_laws.proofs.Lists.{some-injective, count-cons, filter_none, filter_map_congr, filter_map_congr_in, filter-filter_map, least-map, AllByRecursion-map, AllByRecursion-append, AllByRecursion-always}
-use Rattle.list_laws.proofs.Least.{ranks_by}
-use Rattle.list_laws.proofs.Members.{same_members-refl, same_members-trans, same_members-append, same_members-map, same_members-either, map-congr_in, filter_map-passing, filter_map-option_map, push_induction}
+use Rattle.list_laws.proofs.Values.{some-injective}
+use Rattle.list_laws.proofs.Counts.{count-cons}
+use Rattle.list_laws.proofs.Filters.{filter_none, filter_map_congr, filter_map_congr_in, filter-filter_map, map-congr_in, filter_map-passing, filter_map-option_map}
+use Rattle.list_laws.proofs.Least.{least-map}
+use Rattle.list_laws.proofs.Elements.{AllByRecursion-map, AllByRecursion-append, AllByRecursion-always, push_induction}
+use Rattle.list_laws.proofs.Ranks.{ranks_by}
+use Rattle.list_laws.proofs.Members.{same_members-refl, same_members-trans, same_members-append, same_members-map, same_members-either}
 use Rattle.list_laws.proofs.Sorts.{count-sort_by, length-sort_by, rises-sort_by, rises-append, differ-filter, least_is_first, same_members-sort_by}
 use Rattle.task_model.proofs.Growth.{main_posts_push, main_arrivals_push, draws_push}
 use Rattle.pool_laws.proofs.Keys.Arrivals.{ranks_ripens, main_posts_differ}

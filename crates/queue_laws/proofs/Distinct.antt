@@ -9,9 +9,9 @@ use Rattle.list_laws.specs.Sorts.{Differ, SameMembers}
 use Rattle.task_model.specs.Posts.{Posted, ripens_before, main_posts}
 use Rattle.task_model.specs.Orders.{Ordered, ordered, main_arrivals, next_draw, order_of}
 use Rattle.queue_laws.specs.Orders.{OrdersBelow, Distinct, OrdersDistinct, ordered_below}
-use Rattle.list_laws.proofs.Lists.{AllByRecursion-map, AllByRecursion-both}
-use Rattle.list_laws.proofs.Least.{Ranks, ranks_by}
-use Rattle.list_laws.proofs.Members.{AllByRecursion-through, AllByRecursion-contains_itself, AllByRecursion-made}
+use Rattle.list_laws.proofs.Elements.{AllByRecursion-map, AllByRecursion-both, AllByRecursion-through, AllByRecursion-contains_itself, AllByRecursion-made}
+use Rattle.list_laws.specs.Lists.{Ranks}
+use Rattle.list_laws.proofs.Ranks.{ranks_by}
 use Rattle.list_laws.proofs.Sorts.{rises_apart}
 use Rattle.pool_laws.proofs.Keys.Arrivals.{ranks_ripens, main_posts_differ}
 use Rattle.queue_laws.proofs.Arrivals.{main_arrivals_below, main_arrivals_rise}

@@ -1,5 +1,3 @@
--- What one more entry does to the open fronts, and to the choice among them.
---
 -- What one more entry does to the open fronts and to the choice among them. After a close no front of that queue is
 -- open, and the others are as before; where no lane changes, the fronts stay, and fences, votes and closes decide
 -- which of them are open. The kinds of the pool and of the jobs change none of it.
@@ -18,7 +16,8 @@ use Rattle.task_model.specs.Refusal.{is_closed, closes}
 use Rattle.task_model.specs.MainQueues.{of_least_class, Front, fence_of, fence_after, votes_on, vote_after, voters_of, is_enabled, front_of, is_open, fronts_of, open_fronts, chosen_fronts, streak_of, streak_after, chosen_of}
 use Rattle.queue_laws.specs.Fronts.{moves_main_queues, moves_lanes, all_fronts}
 use Rattle.task_model.proofs.Growth.{is_closed_push, fence_of_push, votes_on_push, streak_of_push}
-use Rattle.list_laws.proofs.Lists.{filter_congr, filter-filter, list_all_congr}
+use Rattle.list_laws.proofs.Filters.{filter_congr, filter-filter}
+use Rattle.list_laws.proofs.Tests.{list_all_congr}
 use Rattle.queue_laws.proofs.Lanes.{front_same}
 
 -- Open fronts.

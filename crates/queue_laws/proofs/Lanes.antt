@@ -1,5 +1,3 @@
--- What one more entry does to the lanes of the main queues, and to their fronts.
---
 -- What one more entry does to the lanes of the main queues, and to their fronts. An accepted immediate task goes to
 -- the end of its lane, and becomes the front only where there was none; a delayed one waits for its tick, which leaves
 -- the lanes of immediate tasks; a task that is taken leaves its lane; a new class leaves the fronts under that class.
@@ -19,7 +17,7 @@ use Rattle.task_base.specs.declared.entry.Kind.{Kind}
 use Rattle.task_base.specs.declared.entry.Kind.TheVariants as kinds
 use Rattle.task_base.specs.declared.script.Lane.{Lane}
 use Rattle.task_base.specs.declared.script.Lane.TheVariants.{Immediate, Delayed}
-use Rattle.list_laws.specs.Lists.{count, least, IsLeast}
+use Rattle.list_laws.specs.Lists.{count, least, IsLeast, keep}
 use Rattle.task_model.specs.Time.{now_of, tick_from}
 use Rattle.task_model.specs.Posts.{Posted, is_delayed, post_behind, main_posts, main_posted_by, is_main_taken, main_takes, ripens_before}
 use Rattle.task_model.specs.Orders.{ripens, ripening, next_draw, drawn_at, order_of}
@@ -27,13 +25,13 @@ use Rattle.task_model.specs.MainQueues.{Front, class_of, class_after, is_of_lane
 use Rattle.queue_laws.specs.Fronts.{moves_lanes, lane_of, front_behind, front_at_tick_of, drawn_at_tick_of, with_class}
 use Rattle.queue_laws.specs.Orders.{moves_orders, OrdersBelow, order_at_tick_of}
 use Rattle.task_model.proofs.Growth.{main_posts_push, is_main_taken_push, class_of_push}
-use Rattle.list_laws.proofs.Lists.{some-injective, keep, filter-keep, filter_congr, filter_map_congr_in, filter-filter, filter-filter_map, filter_passes, least-push, least-map, AllByRecursion-map, AllByRecursion-filter}
+use Rattle.list_laws.proofs.Values.{eqb-turned, option_or-none, some-injective}
+use Rattle.list_laws.proofs.Filters.{filter-keep, filter_congr, filter_map_congr_in, filter-filter, filter-filter_map, filter_passes, filter_map-option_map}
+use Rattle.list_laws.proofs.Least.{least-push, least-map, least_is_least, no_least}
+use Rattle.list_laws.proofs.Elements.{AllByRecursion-map, AllByRecursion-filter}
 use Rattle.pool_laws.proofs.Keys.Ready.{AllByRecursion-filter_map}
-use Rattle.list_laws.proofs.Members.{filter_map-option_map}
-use Rattle.list_laws.proofs.Least.{least_is_least, no_least, ranks_by}
+use Rattle.list_laws.proofs.Ranks.{ranks_by}
 use Rattle.queue_laws.proofs.Orders.{unordered, main_places, drawn, order_is, order_of_same, order_at_post, order_tick}
-
--- Lanes.
 
 -- the front of a lane is its task of least order
 pub front_is_least : (script : Plan) (past : List Entry) (q : ℕ) (lane : Lane) → front_of script past q lane ≡ least order_below (lane_of script past q lane)
@@ -101,9 +99,6 @@ front_task script past q lane p f is = by (order_of past p) is
     by None none = absurd (none-some f none)
     by (Some n) some = ap (λ x. x.task) (sym (some-injective some))
 
-turned : (a b : ℕ) → eqb a b ≡ eqb b a
-turned a b = grind arith
-
 pub lane_at_take : (script : Plan) (past : List Entry) (e : Entry) (q : ℕ) (lane : Lane) (task queue found : ℕ) → e.kind ≡ kinds.MainTake task queue found
     → lane_of script (past ++ e ∷ []) q lane ≡ filter (λ f. not (f.task == task)) (lane_of script past q lane)
 lane_at_take script past e q lane task queue found is =
@@ -128,7 +123,7 @@ lane_at_take script past e q lane task queue found is =
     same : (p : Posted) → is_in_lane (past ++ e ∷ []) q lane p ≡ (is_in_lane past q lane p && not (eqb p.task task))
     same p =
         ap (λ b. eqb p.home q && is_of_lane lane p && not b) (is_main_taken_push past e p.task
-        ∙ ap (λ kind. is_main_taken past p.task || main_takes p.task kind) is ∙ ap (λ b. is_main_taken past p.task || b) (turned task p.task))
+        ∙ ap (λ kind. is_main_taken past p.task || main_takes p.task kind) is ∙ ap (λ b. is_main_taken past p.task || b) (eqb-turned task p.task))
         ∙ swapped (eqb p.home q) (is_of_lane lane p) (is_main_taken past p.task) (eqb p.task task)
 
 -- a lane at a post, by what the new task looks like there
@@ -241,10 +236,6 @@ front_at_post script past e q lane task queue delay is immediate untaken below =
     new : Front
     new = front_behind script past q lane task
 
-    or-none : (o : Option Front) → option_or o None ≡ o
-    or-none (Some f) = refl
-    or-none None = refl
-
     all : AllByRecursion (λ f. order_below new f ≡ false) (lane_of script past q lane)
     all = AllByRecursion-map (λ f. f.order < next_draw past) (λ f. order_below new f ≡ false) (lane_of script past q lane)
         (λ f lt. le-ltb (next_draw past) f.order (omega (arith, lt))) (lane_below script past q lane below)
@@ -252,7 +243,7 @@ front_at_post script past e q lane task queue delay is immediate untaken below =
     by : (b : Bool) → least order_below (lane_of script past q lane ++ cond b (new ∷ []) [])
         ≡ option_or (least order_below (lane_of script past q lane)) (cond b (Some new) None)
     by true = least-push order_below (lane_of script past q lane) new all
-    by false = ap (least order_below) (append-nil (lane_of script past q lane)) ∙ sym (or-none (least order_below (lane_of script past q lane)))
+    by false = ap (least order_below) (append-nil (lane_of script past q lane)) ∙ sym (option_or-none (least order_below (lane_of script past q lane)))
 
 -- Ticks and classes.
 

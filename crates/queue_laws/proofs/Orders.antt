@@ -1,8 +1,5 @@
--- What one more entry does to the orders of main tasks.
---
--- What one more entry does to the orders of main tasks. An order that was drawn stays; an immediate task draws at
--- its post, and a delayed one at the first tick at or past its ripe moment, where its queue is not closed. Each order
--- that was drawn is below the next draw.
+-- What one more entry does to the orders of main tasks. An order that was drawn stays; an immediate task draws at its post,
+-- and a delayed one at the first tick at or past its ripe moment, where its queue is not closed.
 use Rattle.std.proofs.Common.{◌≡◌, ℕ, zero, suc, ◌+◌, ◌<◌, Bool, true, false, cond, eqb, List, [], ◌∷◌, ◌++◌, length, take, refl, sym, ap, ◌∙◌, Option, Some, None, arith}
 use Rattle.std.specs.Prelude.{not, ◌&&◌, ◌||◌, nat_lt, nat_le, filter, slice_get, option_and_then, is_none}
 use Rattle.std.specs.Option.{option_or}
@@ -22,24 +19,15 @@ use Rattle.task_model.specs.Orders.{ripens, ripening, next_draw, drawn_at, momen
 use Rattle.pool_laws.specs.Keys.{tick_by}
 use Rattle.queue_laws.specs.Orders.{moves_ripening, moves_orders, order_at_tick_of}
 use Rattle.task_model.proofs.Growth.{now_of_push, main_posts_push, is_closed_push}
-use Rattle.list_laws.proofs.Lists.{filter_congr, AllByRecursion-map}
+use Rattle.list_laws.proofs.Filters.{filter_congr}
+use Rattle.list_laws.proofs.Values.{option_or-none}
+use Rattle.list_laws.proofs.Elements.{slice_get-front, slice_get-end, AllByRecursion-map}
 use Rattle.pool_laws.proofs.Keys.Ready.{main_posts_within, tick_from_push, tick_from_stays, tick_within}
 
 -- each accepted main task has its place in the past
 pub main_places : (past : List Entry) → AllByRecursion (λ p. p.place < length past) (main_posts past)
 main_places past = AllByRecursion-map (λ p. nat_lt p.place (length past) ≡ true) (λ p. p.place < length past) (main_posts past)
     (λ p is. ltb-true p.place (length past) is) (main_posts_within past)
-
--- Orders.
-
-slice_get-front : {A : Type 0} (xs ys : List A) (i : ℕ) → i < length xs → slice_get (xs ++ ys) i ≡ slice_get xs i
-slice_get-front [] ys i lt = absurd (omega (arith, lt))
-slice_get-front (x ∷ xs) ys zero lt = refl
-slice_get-front (x ∷ xs) ys (suc i) lt = slice_get-front xs ys i (omega (arith, lt))
-
-slice_get-end : {A : Type 0} (xs : List A) (y : A) → slice_get (xs ++ y ∷ []) (length xs) ≡ Some y
-slice_get-end [] y = refl
-slice_get-end (x ∷ xs) y = slice_get-end xs y
 
 -- what a delayed task drew at the tick at a place
 abbrev pub drawn : List Entry → Posted → ℕ → Option ℕ
@@ -97,11 +85,7 @@ no_tick kind h moment = refl
 
 pub tick_same : (past : List Entry) (e : Entry) → moves_orders e.kind ≡ false → (moment : ℕ) → tick_from (past ++ e ∷ []) moment ≡ tick_from past moment
 tick_same past e quiet moment = tick_from_push past e moment
-    ∙ ap (λ (b : Bool). option_or (tick_from past moment) (cond b (Some (length past)) None)) (no_tick e.kind quiet moment) ∙ or-none (tick_from past moment)
-  where
-    or-none : (o : Option ℕ) → option_or o None ≡ o
-    or-none (Some n) = refl
-    or-none None = refl
+    ∙ ap (λ (b : Bool). option_or (tick_from past moment) (cond b (Some (length past)) None)) (no_tick e.kind quiet moment) ∙ option_or-none (tick_from past moment)
 
 pub order_of_same : (past : List Entry) (e : Entry) (p : Posted) → p.place < length past → moves_orders e.kind ≡ false
     → order_of (past ++ e ∷ []) p ≡ order_of past p

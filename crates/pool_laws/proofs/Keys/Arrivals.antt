@@ -19,9 +19,11 @@ use Rattle.task_model.specs.Posts.{Posted, is_delayed, ripens_before, post_behin
 use Rattle.task_model.specs.Keys.{Ready, key_at, key_of, ready, ready_behind, becomes_ripe, ripe_behind, arriving_by, arrivals}
 use Rattle.task_model.specs.Sequences.{is_of, may_start, eligible, head_of}
 use Rattle.pool_laws.specs.Keys.{key_by, moves_ready, ready_at_tick_of, ripe_at_tick_of, ready_below, NoTickAhead}
-use Rattle.list_laws.proofs.Lists.{filter_map_congr, AllByRecursion-map, AllByRecursion-append, AllByRecursion-mapped, AllByRecursion-always}
-use Rattle.list_laws.proofs.Least.{Ranks, ranks_by, ranks_then_by, by_same, by_less}
-use Rattle.list_laws.proofs.Members.{same_members-refl, same_members-trans, same_members-append, same_members-map, same_members-either, filter_map-passing, push_induction}
+use Rattle.list_laws.proofs.Filters.{filter_map_congr, filter_map-passing}
+use Rattle.list_laws.proofs.Elements.{AllByRecursion-map, AllByRecursion-append, AllByRecursion-mapped, AllByRecursion-always, push_induction}
+use Rattle.list_laws.specs.Lists.{Ranks}
+use Rattle.list_laws.proofs.Ranks.{ranks_by, ranks_then_by, by_same, by_less}
+use Rattle.list_laws.proofs.Members.{same_members-refl, same_members-trans, same_members-append, same_members-map, same_members-either}
 use Rattle.list_laws.proofs.Sorts.{rises-sort_by, rises-append, rises-map, differ-filter, differ-push, least_is_first, same_members-sort_by}
 use Rattle.task_model.proofs.Growth.{posts_push, main_posts_push, arrivals_push}
 use Rattle.pool_laws.proofs.Choice.Least.{ranks_key}
