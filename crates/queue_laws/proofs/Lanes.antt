@@ -38,25 +38,41 @@ pub front_is_least : (script : Plan) (past : List Entry) (q : ℕ) (lane : Lane)
 unfolding front_of
 front_is_least script past q lane = refl
 
+-- a lane after one more entry, by which tasks of the past are in it then, and what they look like there
+lane_grown : (script : Plan) (past : List Entry) (e : Entry) (q : ℕ) (lane : Lane) (test : Posted → Bool) (made : Posted → Option Front)
+    → ((p : Posted) → is_in_lane (past ++ e ∷ []) q lane p ≡ test p)
+    → ((p : Posted) → p.place < length past → front_with script (past ++ e ∷ []) q lane p ≡ made p)
+    → lane_of script (past ++ e ∷ []) q lane ≡ filter_map made (filter test (main_posts past))
+        ++ filter_map (front_with script (past ++ e ∷ []) q lane) (filter test (main_posted_by past e.kind))
+lane_grown script past e q lane test made tests makes =
+    ap (λ ps. filter_map after (filter (is_in_lane (past ++ e ∷ []) q lane) ps)) (main_posts_push past e)
+    ∙ ap (filter_map after) (filter_congr (is_in_lane (past ++ e ∷ []) q lane) test (main_posts past ++ main_posted_by past e.kind) tests
+        ∙ filter-append test (main_posts past) (main_posted_by past e.kind))
+    ∙ filter_map-append after (filter test (main_posts past)) (filter test (main_posted_by past e.kind))
+    ∙ ap (λ fs. fs ++ filter_map after (filter test (main_posted_by past e.kind)))
+        (filter_map_congr_in after made (filter test (main_posts past))
+        (AllByRecursion-map (λ p. p.place < length past) (λ p. after p ≡ made p) (filter test (main_posts past)) makes
+        (AllByRecursion-filter (λ p. p.place < length past) test (main_posts past) (main_places past))))
+  where
+    after : Posted → Option Front
+    after = front_with script (past ++ e ∷ []) q lane
+
+-- the same at an entry that is no post
+lane_kept : (script : Plan) (past : List Entry) (e : Entry) (q : ℕ) (lane : Lane) (test : Posted → Bool) (made : Posted → Option Front)
+    → main_posted_by past e.kind ≡ []
+    → ((p : Posted) → is_in_lane (past ++ e ∷ []) q lane p ≡ test p)
+    → ((p : Posted) → p.place < length past → front_with script (past ++ e ∷ []) q lane p ≡ made p)
+    → lane_of script (past ++ e ∷ []) q lane ≡ filter_map made (filter test (main_posts past))
+lane_kept script past e q lane test made no_post tests makes =
+    lane_grown script past e q lane test made tests makes
+    ∙ ap (λ ps. filter_map made (filter test (main_posts past)) ++ filter_map (front_with script (past ++ e ∷ []) q lane) (filter test ps)) no_post
+    ∙ append-nil (filter_map made (filter test (main_posts past)))
+
 -- an entry that is no tick and gives no class leaves what a task of the past looks like in its lane
 front_with_same : (script : Plan) (past : List Entry) (e : Entry) (q : ℕ) (lane : Lane) (p : Posted) → moves_orders e.kind ≡ false
     → class_of script (past ++ e ∷ []) q ≡ class_of script past q → p.place < length past
     → front_with script (past ++ e ∷ []) q lane p ≡ front_with script past q lane p
-front_with_same script past e q lane p quiet class lt =
-    ap (λ o. option_map (λ order. record { queue = q; lane = lane; task = p.task; order = order; class = class_of script (past ++ e ∷ []) q }) o)
-    (order_of_same past e p lt quiet)
-    ∙ ap (λ c. option_map (λ order. record { queue = q; lane = lane; task = p.task; order = order; class = c }) (order_of past p)) class
-
-lane_same_at : (script : Plan) (past : List Entry) (e : Entry) (q : ℕ) (lane : Lane) (ps : List Posted) → moves_orders e.kind ≡ false
-    → class_of script (past ++ e ∷ []) q ≡ class_of script past q → AllByRecursion (λ p. p.place < length past) ps
-    → filter_map (front_with script (past ++ e ∷ []) q lane) ps ≡ filter_map (front_with script past q lane) ps
-lane_same_at script past e q lane ps quiet class all = filter_map_congr_in (front_with script (past ++ e ∷ []) q lane) (front_with script past q lane) ps
-    (AllByRecursion-map (λ p. p.place < length past) (λ p. front_with script (past ++ e ∷ []) q lane p ≡ front_with script past q lane p) ps
-    (λ p lt. front_with_same script past e q lane p quiet class lt) all)
-
--- the tasks of the past in a lane
-old_lane : (past : List Entry) (q : ℕ) (lane : Lane) → AllByRecursion (λ p. p.place < length past) (filter (is_in_lane past q lane) (main_posts past))
-old_lane past q lane = AllByRecursion-filter (λ p. p.place < length past) (is_in_lane past q lane) (main_posts past) (main_places past)
+front_with_same script past e q lane p quiet class lt = rw (order_of_same past e p lt quiet, class) refl
 
 in_lane_same : (past : List Entry) (e : Entry) (q : ℕ) (lane : Lane) → ((t : ℕ) → main_takes t e.kind ≡ false) → (p : Posted)
     → is_in_lane (past ++ e ∷ []) q lane p ≡ is_in_lane past q lane p
@@ -69,14 +85,10 @@ no_tick_of_lanes kind h = refl
 
 pub lane_same : (script : Plan) (past : List Entry) (e : Entry) (q : ℕ) (lane : Lane) → moves_lanes e.kind ≡ false
     → lane_of script (past ++ e ∷ []) q lane ≡ lane_of script past q lane
-lane_same script past e q lane quiet =
-    ap (λ ps. filter_map (front_with script (past ++ e ∷ []) q lane) (filter (is_in_lane (past ++ e ∷ []) q lane) ps)) (main_posts_push past e
-    ∙ ap (λ xs. main_posts past ++ xs) (no_post e.kind quiet) ∙ append-nil (main_posts past))
-    ∙ ap (filter_map (front_with script (past ++ e ∷ []) q lane))
-    (filter_congr (is_in_lane (past ++ e ∷ []) q lane) (is_in_lane past q lane) (main_posts past)
-    (in_lane_same past e q lane (λ t. no_take t e.kind quiet)))
-    ∙ lane_same_at script past e q lane (filter (is_in_lane past q lane) (main_posts past)) (no_tick_of_lanes e.kind quiet) (class_of_push script past e q
-    ∙ no_rank (class_of script past q) e.kind quiet) (old_lane past q lane)
+lane_same script past e q lane quiet = lane_kept script past e q lane (is_in_lane past q lane) (front_with script past q lane) (no_post e.kind quiet)
+    (in_lane_same past e q lane (λ t. no_take t e.kind quiet))
+    (λ p. front_with_same script past e q lane p (no_tick_of_lanes e.kind quiet)
+        (class_of_push script past e q ∙ no_rank (class_of script past q) e.kind quiet))
   where
     no_post : (kind : Kind) → moves_lanes kind ≡ false → main_posted_by past kind ≡ []
     no_post (kinds.Main task queue delay true) h = absurd (true≢false h)
@@ -102,17 +114,12 @@ front_task script past q lane p f is = by (order_of past p) is
 pub lane_at_take : (script : Plan) (past : List Entry) (e : Entry) (q : ℕ) (lane : Lane) (task queue found : ℕ) → e.kind ≡ kinds.MainTake task queue found
     → lane_of script (past ++ e ∷ []) q lane ≡ filter (λ f. not (f.task == task)) (lane_of script past q lane)
 lane_at_take script past e q lane task queue found is =
-    ap (λ ps. filter_map (front_with script (past ++ e ∷ []) q lane) (filter (is_in_lane (past ++ e ∷ []) q lane) ps)) (main_posts_push past e
-    ∙ ap (λ kind. main_posts past ++ main_posted_by past kind) is ∙ append-nil (main_posts past))
-    ∙ ap (filter_map (front_with script (past ++ e ∷ []) q lane))
-    (filter_congr (is_in_lane (past ++ e ∷ []) q lane) (λ p. is_in_lane past q lane p && not (eqb p.task task)) (main_posts past) same
-    ∙ sym (filter-filter (λ p. not (eqb p.task task)) (is_in_lane past q lane) (main_posts past)))
-    ∙ lane_same_at script past e q lane (filter (λ p. not (eqb p.task task)) (filter (is_in_lane past q lane) (main_posts past))) (ap moves_orders is)
-    (class_of_push script past e q ∙ ap (class_after q (class_of script past q)) is)
-    (AllByRecursion-filter (λ p. p.place < length past) (λ p. not (eqb p.task task)) (filter (is_in_lane past q lane) (main_posts past))
-    (old_lane past q lane))
+    lane_kept script past e q lane (λ p. is_in_lane past q lane p && not (eqb p.task task)) (front_with script past q lane) (ap (main_posted_by past) is) same
+        (λ p. front_with_same script past e q lane p (ap moves_orders is)
+            (class_of_push script past e q ∙ ap (class_after q (class_of script past q)) is))
+    ∙ ap (filter_map (front_with script past q lane)) (sym (filter-filter (λ p. not (eqb p.task task)) (is_in_lane past q lane) (main_posts past)))
     ∙ filter-filter_map (λ f. not (eqb f.task task)) (λ p. not (eqb p.task task)) (front_with script past q lane)
-    (filter (is_in_lane past q lane) (main_posts past)) (λ p f made. ap (λ t. not (eqb t task)) (front_task script past q lane p f made))
+        (filter (is_in_lane past q lane) (main_posts past)) (λ p f made. ap (λ t. not (eqb t task)) (front_task script past q lane p f made))
   where
     swapped : (a b c d : Bool) → (a && b && not (c || d)) ≡ ((a && b && not c) && not d)
     swapped false b c d = refl
@@ -131,19 +138,11 @@ lane_at_new : (script : Plan) (past : List Entry) (e : Entry) (q : ℕ) (lane : 
     → lane_of script (past ++ e ∷ []) q lane ≡ lane_of script past q lane
     ++ filter_map (front_with script (past ++ e ∷ []) q lane) (filter (is_in_lane past q lane) (post_behind past task queue delay ∷ []))
 lane_at_new script past e q lane task queue delay is =
-    ap (λ ps. filter_map (front_with script (past ++ e ∷ []) q lane) (filter (is_in_lane (past ++ e ∷ []) q lane) ps)) (main_posts_push past e
-    ∙ ap (λ kind. main_posts past ++ main_posted_by past kind) is)
-    ∙ ap (filter_map (front_with script (past ++ e ∷ []) q lane))
-    (filter_congr (is_in_lane (past ++ e ∷ []) q lane) (is_in_lane past q lane) (main_posts past ++ new ∷ [])
-    (in_lane_same past e q lane (λ t. ap (main_takes t) is)) ∙ filter-append (is_in_lane past q lane) (main_posts past) (new ∷ []))
-    ∙ filter_map-append (front_with script (past ++ e ∷ []) q lane) (filter (is_in_lane past q lane) (main_posts past))
-    (filter (is_in_lane past q lane) (new ∷ []))
-    ∙ ap (λ fs. fs ++ filter_map (front_with script (past ++ e ∷ []) q lane) (filter (is_in_lane past q lane) (new ∷ [])))
-    (lane_same_at script past e q lane (filter (is_in_lane past q lane) (main_posts past)) (ap moves_orders is) (class_of_push script past e q
-    ∙ ap (class_after q (class_of script past q)) is) (old_lane past q lane))
-  where
-    new : Posted
-    new = post_behind past task queue delay
+    lane_grown script past e q lane (is_in_lane past q lane) (front_with script past q lane) (in_lane_same past e q lane (λ t. ap (main_takes t) is))
+        (λ p. front_with_same script past e q lane p (ap moves_orders is)
+            (class_of_push script past e q ∙ ap (class_after q (class_of script past q)) is))
+    ∙ ap (λ ps. lane_of script past q lane ++ filter_map (front_with script (past ++ e ∷ []) q lane) (filter (is_in_lane past q lane) ps))
+        (ap (main_posted_by past) is)
 
 pub lane_at_post : (script : Plan) (past : List Entry) (e : Entry) (q : ℕ) (lane : Lane) (task queue delay : ℕ) → e.kind ≡ kinds.Main task queue delay true
     → nat_lt 0 delay ≡ false → is_main_taken past task ≡ false
@@ -250,21 +249,9 @@ front_at_post script past e q lane task queue delay is immediate untaken below =
 pub lane_at_tick : (script : Plan) (past : List Entry) (e : Entry) (q : ℕ) (lane : Lane) (moment : ℕ) → e.kind ≡ kinds.Tick moment
     → lane_of script (past ++ e ∷ []) q lane ≡ filter_map (front_at_tick_of script past q lane moment) (filter (is_in_lane past q lane) (main_posts past))
 lane_at_tick script past e q lane moment is =
-    ap (λ ps. filter_map (front_with script (past ++ e ∷ []) q lane) (filter (is_in_lane (past ++ e ∷ []) q lane) ps)) (main_posts_push past e
-    ∙ ap (λ kind. main_posts past ++ main_posted_by past kind) is ∙ append-nil (main_posts past))
-    ∙ ap (filter_map (front_with script (past ++ e ∷ []) q lane))
-    (filter_congr (is_in_lane (past ++ e ∷ []) q lane) (is_in_lane past q lane) (main_posts past) (in_lane_same past e q lane (λ t. ap (main_takes t) is)))
-    ∙ filter_map_congr_in (front_with script (past ++ e ∷ []) q lane) (front_at_tick_of script past q lane moment)
-    (filter (is_in_lane past q lane) (main_posts past))
-    (AllByRecursion-map (λ p. p.place < length past) (λ p. front_with script (past ++ e ∷ []) q lane p ≡ front_at_tick_of script past q lane moment p)
-    (filter (is_in_lane past q lane) (main_posts past)) same (old_lane past q lane))
-  where
-    same : (p : Posted) → p.place < length past → front_with script (past ++ e ∷ []) q lane p ≡ front_at_tick_of script past q lane moment p
-    same p lt =
-        ap (λ o. option_map (λ order. record { queue = q; lane = lane; task = p.task; order = order; class = class_of script (past ++ e ∷ []) q }) o)
-        (order_tick past e p moment is lt)
-        ∙ ap (λ c. option_map (λ order. record { queue = q; lane = lane; task = p.task; order = order; class = c }) (order_at_tick_of past moment p))
-        (class_of_push script past e q ∙ ap (class_after q (class_of script past q)) is)
+    lane_kept script past e q lane (is_in_lane past q lane) (front_at_tick_of script past q lane moment) (ap (main_posted_by past) is)
+    (in_lane_same past e q lane (λ t. ap (main_takes t) is))
+    (λ p lt. rw (order_tick past e p moment is lt, class_of_push script past e q ∙ ap (class_after q (class_of script past q)) is) refl)
 
 -- a task of the past at a tick: it keeps its order, or draws
 tick_parts : (script : Plan) (past : List Entry) (q : ℕ) (lane : Lane) (moment : ℕ) (p : Posted) → ((n : ℕ) → order_of past p ≡ Some n → n < next_draw past)
@@ -377,42 +364,29 @@ pub front_at_rank : (script : Plan) (past : List Entry) (e : Entry) (q : ℕ) (l
     (front_of script past q lane) else front_of script past q lane)
 front_at_rank script past e q lane queue class is =
     front_is_least script (past ++ e ∷ []) q lane
-    ∙ ap (λ ps. least order_below (filter_map (front_with script (past ++ e ∷ []) q lane) (filter (is_in_lane (past ++ e ∷ []) q lane) ps)))
-    (main_posts_push past e ∙ ap (λ kind. main_posts past ++ main_posted_by past kind) is ∙ append-nil (main_posts past))
-    ∙ ap (λ ps. least order_below (filter_map (front_with script (past ++ e ∷ []) q lane) ps))
-    (filter_congr (is_in_lane (past ++ e ∷ []) q lane) (is_in_lane past q lane) (main_posts past) (in_lane_same past e q lane (λ t. ap (main_takes t) is)))
     ∙ by (eqb queue q) (class_of_push script past e q ∙ ap (class_after q (class_of script past q)) is)
     ∙ ap (λ o. cond (eqb queue q) (option_map (with_class class) o) o) (sym (front_is_least script past q lane))
   where
-    ps : List Posted
-    ps = filter (is_in_lane past q lane) (main_posts past)
+    over : (p : Posted) (o : Option ℕ) → option_map (λ order. record { queue = q; lane = lane; task = p.task; order = order; class = class }) o
+        ≡ option_map (with_class class) (option_map (λ order. record
+        { queue = q; lane = lane; task = p.task; order = order; class = class_of script past q }) o)
+    over p None = refl
+    over p (Some n) = refl
+
+    kept : (made : Posted → Option Front) → ((p : Posted) → p.place < length past → front_with script (past ++ e ∷ []) q lane p ≡ made p)
+        → lane_of script (past ++ e ∷ []) q lane ≡ filter_map made (filter (is_in_lane past q lane) (main_posts past))
+    kept made = lane_kept script past e q lane (is_in_lane past q lane) made (ap (main_posted_by past) is)
+        (in_lane_same past e q lane (λ t. ap (main_takes t) is))
 
     by : (b : Bool) → class_of script (past ++ e ∷ []) q ≡ cond b class (class_of script past q)
-        → least order_below (filter_map (front_with script (past ++ e ∷ []) q lane) ps)
+        → least order_below (lane_of script (past ++ e ∷ []) q lane)
         ≡ cond b (option_map (with_class class) (least order_below (lane_of script past q lane))) (least order_below (lane_of script past q lane))
-    by false same = ap (least order_below) (lane_same_at script past e q lane ps (ap moves_orders is) same (old_lane past q lane))
+    by false same = ap (least order_below) (kept (front_with script past q lane) (λ p. front_with_same script past e q lane p (ap moves_orders is) same))
     by true given =
-        ap (least order_below) (filter_map_congr_in (front_with script (past ++ e ∷ []) q lane)
-        (λ p. option_map (with_class class) (front_with script past q lane p)) ps
-        (AllByRecursion-map (λ p. p.place < length past)
-        (λ p. front_with script (past ++ e ∷ []) q lane p ≡ option_map (with_class class) (front_with script past q lane p)) ps made
-        (old_lane past q lane))
-        ∙ filter_map-option_map (front_with script past q lane) (with_class class) ps)
+        ap (least order_below) (kept (λ p. option_map (with_class class) (front_with script past q lane p))
+            (λ p lt. rw (order_of_same past e p lt (ap moves_orders is), given) (over p (order_of past p)))
+            ∙ filter_map-option_map (front_with script past q lane) (with_class class) (filter (is_in_lane past q lane) (main_posts past)))
         ∙ least-map order_below order_below (with_class class) (lane_of script past q lane) (λ a b. refl)
-      where
-        over : (p : Posted) (o : Option ℕ) → option_map (λ order. record { queue = q; lane = lane; task = p.task; order = order; class = class }) o
-            ≡ option_map (with_class class) (option_map (λ order. record
-            { queue = q; lane = lane; task = p.task; order = order; class = class_of script past q }) o)
-        over p None = refl
-        over p (Some n) = refl
-
-        made : (p : Posted) → p.place < length past → front_with script (past ++ e ∷ []) q lane p
-            ≡ option_map (with_class class) (front_with script past q lane p)
-        made p lt =
-            ap (λ c. option_map (λ order. record { queue = q; lane = lane; task = p.task; order = order; class = c }) (order_of (past ++ e ∷ []) p)) given
-            ∙ ap (λ o. option_map (λ order. record { queue = q; lane = lane; task = p.task; order = order; class = class }) o)
-            (order_of_same past e p lt (ap moves_orders is))
-            ∙ over p (order_of past p)
 
 pub front_is_first : (script : Plan) (past : List Entry) (q : ℕ) (lane : Lane) (f : Front) → front_of script past q lane ≡ Some f
     → IsLeast order_below (lane_of script past q lane) f
