@@ -165,11 +165,7 @@ lane_at_post script past e q lane task queue delay is immediate untaken =
         ∙ ap (λ b. eqb queue q && b) (lanes lane)
 
     looks : front_with script (past ++ e ∷ []) q lane new ≡ Some (front_behind script past q lane task)
-    looks =
-        ap (λ o. option_map (λ order. record { queue = q; lane = lane; task = task; order = order; class = class_of script (past ++ e ∷ []) q }) o)
-        (order_at_post past e task queue delay immediate)
-        ∙ ap (λ c. Some (record { queue = q; lane = lane; task = task; order = next_draw past; class = c })) (class_of_push script past e q
-        ∙ ap (class_after q (class_of script past q)) is)
+    looks = rw (order_at_post past e task queue delay immediate, class_of_push script past e q ∙ ap (class_after q (class_of script past q)) is) refl
 
     by : (b : Bool) → filter_map (front_with script (past ++ e ∷ []) q lane) (cond b (new ∷ []) []) ≡ cond b (front_behind script past q lane task ∷ []) []
     by true = ap (λ o. cons_option o []) looks
@@ -191,8 +187,7 @@ lane_at_delayed_post script past e q lane task queue delay is delayed unripe =
     no_order = unordered past e new (ap moves_orders is) delayed unripe
 
     by : (b : Bool) → filter_map (front_with script (past ++ e ∷ []) q lane) (cond b (new ∷ []) []) ≡ []
-    by true = ap (λ o. cons_option (option_map (λ order. record
-        { queue = q; lane = lane; task = task; order = order; class = class_of script (past ++ e ∷ []) q }) o) []) no_order
+    by true = rw no_order refl
     by false = refl
 
 pub front_same : (script : Plan) (past : List Entry) (e : Entry) (q : ℕ) (lane : Lane) → moves_lanes e.kind ≡ false

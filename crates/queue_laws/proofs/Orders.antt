@@ -134,19 +134,12 @@ order_at_tick past e p moment is delayed none =
 pub order_at_post : (past : List Entry) (e : Entry) (task queue delay : ℕ) → nat_lt 0 delay ≡ false
     → order_of (past ++ e ∷ []) (post_behind past task queue delay) ≡ Some (next_draw past)
 order_at_post past e task queue delay immediate =
-    order_is (past ++ e ∷ []) (post_behind past task queue delay)
-    ∙ ap (λ (b : Bool). cond b (option_and_then (drawn (past ++ e ∷ []) (post_behind past task queue delay))
-    (tick_from (past ++ e ∷ []) (post_behind past task queue delay).ripe)) (Some (next_draw (take (length past) (past ++ e ∷ []))))) immediate
-    ∙ ap (λ before. Some (next_draw before)) (take-append_seam past (e ∷ []))
+    rw (order_is (past ++ e ∷ []) (post_behind past task queue delay), immediate, take-append_seam past (e ∷ [])) refl
 
 -- a delayed task has no order at its post
 pub unordered : (past : List Entry) (e : Entry) (p : Posted) → moves_orders e.kind ≡ false → is_delayed p ≡ true → tick_from past p.ripe ≡ None
     → order_of (past ++ e ∷ []) p ≡ None
-unordered past e p quiet delayed unripe =
-    order_is (past ++ e ∷ []) p
-    ∙ ap (λ (b : Bool). cond b (option_and_then (drawn (past ++ e ∷ []) p) (tick_from (past ++ e ∷ []) p.ripe))
-    (Some (next_draw (take p.place (past ++ e ∷ []))))) delayed
-    ∙ ap (option_and_then (drawn (past ++ e ∷ []) p)) (tick_same past e quiet p.ripe ∙ unripe)
+unordered past e p quiet delayed unripe = rw (order_is (past ++ e ∷ []) p, delayed, tick_same past e quiet p.ripe ∙ unripe) refl
 
 pub ripening_same : (past : List Entry) (e : Entry) (moment : ℕ) → moves_ripening e.kind ≡ false → ripening (past ++ e ∷ []) moment ≡ ripening past moment
 unfolding ripening
@@ -177,12 +170,7 @@ ripening_same past e moment quiet =
 -- an immediate task, and one whose tick has come, keeps its order
 order_same_immediate : (past rest : List Entry) (p : Posted) → p.place < length past → is_delayed p ≡ false → order_of (past ++ rest) p ≡ order_of past p
 order_same_immediate past rest p lt immediate =
-    order_is (past ++ rest) p
-    ∙ ap (λ (b : Bool). cond b (option_and_then (drawn (past ++ rest) p) (tick_from (past ++ rest) p.ripe)) (Some (next_draw (take p.place (past ++ rest)))))
-    immediate
-    ∙ ap (λ before. Some (next_draw before)) (take-append-le p.place past rest (omega (arith, lt)))
-    ∙ sym (order_is past p ∙ ap (λ (b : Bool). cond b (option_and_then (drawn past p) (tick_from past p.ripe)) (Some (next_draw (take p.place past))))
-    immediate)
+    rw (order_is (past ++ rest) p, order_is past p, immediate, take-append-le p.place past rest (omega (arith, lt))) refl
 
 order_same_ticked : (past rest : List Entry) (p : Posted) (place : ℕ) → p.place < length past → tick_from past p.ripe ≡ Some place
     → order_of (past ++ rest) p ≡ order_of past p
