@@ -4,7 +4,7 @@ use Rattle.std.proofs.Common.{◌≡◌, ℕ, suc, ◌+◌, ◌<◌, ◌≤◌, 
 use Rattle.std.specs.Prelude.{not, ◌&&◌, nat_lt, nat_le, find, filter, is_none, option_and_then}
 use Rattle.std.specs.Option.{option_map, option_or}
 use Rattle.std.specs.List.{AllByRecursion, filter_map}
-use Rattle.std.proofs.lemmas.Bool.{lt-ltb, ltb-true}
+use Rattle.std.proofs.lemmas.Bool.{true≢false, lt-ltb, ltb-true}
 use Rattle.std.proofs.lemmas.Option.{none-some}
 use Rattle.std.proofs.lemmas.List.{append-nil}
 use Rattle.std.proofs.lemmas.List.Elements.{filter_map-append}
@@ -22,7 +22,7 @@ use Rattle.task_model.specs.Posts.{Posted, is_delayed, ripens_before, post_behin
 use Rattle.task_model.specs.Refusal.{is_closed}
 use Rattle.task_model.specs.Orders.{Ordered, ordered, numbered_from, drawing_by, main_arrivals, ripens, ripening, next_draw, draws, drawn_by, drawn_at, order_of}
 use Rattle.task_model.specs.MainQueues.{class_of, front_with, is_in_lane, order_below, front_of}
-use Rattle.pool_laws.specs.Keys.{NoTickAhead}
+use Rattle.pool_laws.specs.Keys.{NoTickAhead, moves_main_posts}
 use Rattle.queue_laws.specs.Orders.{moves_orders, order_at_tick_of, ordered_below}
 use Rattle.queue_laws.specs.Fronts.{front_for}
 use Rattle.list_laws.proofs.Values.{some-injective}
@@ -39,6 +39,16 @@ use Rattle.queue_laws.proofs.Orders.{main_places, drawn, order_is, order_of_same
 use Rattle.queue_laws.proofs.Lanes.{front_is_least}
 
 -- What one more entry does to the main arrivals.
+
+pub main_arrivals_same : (past : List Entry) (e : Entry) → moves_main_posts e.kind ≡ false → moves_orders e.kind ≡ false
+    → main_arrivals (past ++ e ∷ []) ≡ main_arrivals past
+main_arrivals_same past e no_post no_tick =
+    main_arrivals_push past e ∙ ap (λ xs. main_arrivals past ++ xs) (none e.kind no_post no_tick) ∙ append-nil (main_arrivals past)
+  where
+    none : (kind : Kind) → moves_main_posts kind ≡ false → moves_orders kind ≡ false → drawing_by past kind ≡ []
+    none (kinds.Main task queue delay true) h k = absurd (true≢false h)
+    none (kinds.Tick now) h k = absurd (true≢false k)
+    none kind h k = refl
 
 pub main_arrivals_at_post : (past : List Entry) (e : Entry) (task queue delay : ℕ) → e.kind ≡ kinds.Main task queue delay true → nat_lt 0 delay ≡ false
     → main_arrivals (past ++ e ∷ []) ≡ main_arrivals past ++ record { posted = post_behind past task queue delay; order = next_draw past } ∷ []

@@ -238,7 +238,7 @@ arrivals_are_ready_grows past e none same = by e.kind refl
     by : (kind : Kind) → e.kind ≡ kind → SameMembers (arrivals (past ++ e ∷ [])) (ready (past ++ e ∷ []))
     by (kinds.Post task runner delay true) is = posted task runner delay is (nat_lt 0 delay) refl
     by (kinds.Tick moment) is =
-        rw (arrivals_push past e ∙ ap (λ kind. arrivals past ++ arriving_by past kind) is, ready_at_tick past e moment is)
+        rw (arrivals_at_tick past e moment is, ready_at_tick past e moment is)
         (same_members-trans (arrivals past ++ arriving_by past (kinds.Tick moment)) (ready past ++ arriving_by past (kinds.Tick moment))
             (ready_at_tick_of past moment)
             (same_members-append (arrivals past) (ready past) (arriving_by past (kinds.Tick moment)) (arriving_by past (kinds.Tick moment)) same
