@@ -23,7 +23,7 @@ use Rattle.task_model.specs.Posts.{Posted, is_delayed, post_behind, main_posts, 
 use Rattle.task_model.specs.Orders.{ripens, ripening, next_draw, drawn_at, order_of}
 use Rattle.task_model.specs.MainQueues.{Front, class_of, class_after, is_of_lane, is_immediate, front_with, is_in_lane, order_below, front_of}
 use Rattle.queue_laws.specs.Fronts.{moves_lanes, lane_of, front_behind, front_at_tick_of, drawn_at_tick_of, with_class}
-use Rattle.queue_laws.specs.Orders.{moves_orders, OrdersBelow, order_at_tick_of}
+use Rattle.queue_laws.specs.Orders.{moves_orders, OrdersBelow}
 use Rattle.task_model.proofs.Growth.{main_posts_push, is_main_taken_push, class_of_push}
 use Rattle.list_laws.proofs.Values.{eqb-turned, option_or-none, some-injective}
 use Rattle.list_laws.proofs.Filters.{filter-keep, filter_congr, filter_map_congr_in, filter-filter, filter-filter_map, filter_passes, filter_map-option_map}
@@ -43,16 +43,16 @@ lane_grown : (script : Plan) (past : List Entry) (e : Entry) (q : ℕ) (lane : L
     → ((p : Posted) → is_in_lane (past ++ e ∷ []) q lane p ≡ test p)
     → ((p : Posted) → p.place < length past → front_with script (past ++ e ∷ []) q lane p ≡ made p)
     → lane_of script (past ++ e ∷ []) q lane ≡ filter_map made (filter test (main_posts past))
-        ++ filter_map (front_with script (past ++ e ∷ []) q lane) (filter test (main_posted_by past e.kind))
+    ++ filter_map (front_with script (past ++ e ∷ []) q lane) (filter test (main_posted_by past e.kind))
 lane_grown script past e q lane test made tests makes =
     ap (λ ps. filter_map after (filter (is_in_lane (past ++ e ∷ []) q lane) ps)) (main_posts_push past e)
     ∙ ap (filter_map after) (filter_congr (is_in_lane (past ++ e ∷ []) q lane) test (main_posts past ++ main_posted_by past e.kind) tests
-        ∙ filter-append test (main_posts past) (main_posted_by past e.kind))
+    ∙ filter-append test (main_posts past) (main_posted_by past e.kind))
     ∙ filter_map-append after (filter test (main_posts past)) (filter test (main_posted_by past e.kind))
     ∙ ap (λ fs. fs ++ filter_map after (filter test (main_posted_by past e.kind)))
-        (filter_map_congr_in after made (filter test (main_posts past))
-        (AllByRecursion-map (λ p. p.place < length past) (λ p. after p ≡ made p) (filter test (main_posts past)) makes
-        (AllByRecursion-filter (λ p. p.place < length past) test (main_posts past) (main_places past))))
+    (filter_map_congr_in after made (filter test (main_posts past))
+    (AllByRecursion-map (λ p. p.place < length past) (λ p. after p ≡ made p) (filter test (main_posts past)) makes
+    (AllByRecursion-filter (λ p. p.place < length past) test (main_posts past) (main_places past))))
   where
     after : Posted → Option Front
     after = front_with script (past ++ e ∷ []) q lane
@@ -88,7 +88,7 @@ pub lane_same : (script : Plan) (past : List Entry) (e : Entry) (q : ℕ) (lane 
 lane_same script past e q lane quiet = lane_kept script past e q lane (is_in_lane past q lane) (front_with script past q lane) (no_post e.kind quiet)
     (in_lane_same past e q lane (λ t. no_take t e.kind quiet))
     (λ p. front_with_same script past e q lane p (no_tick_of_lanes e.kind quiet)
-        (class_of_push script past e q ∙ no_rank (class_of script past q) e.kind quiet))
+    (class_of_push script past e q ∙ no_rank (class_of script past q) e.kind quiet))
   where
     no_post : (kind : Kind) → moves_lanes kind ≡ false → main_posted_by past kind ≡ []
     no_post (kinds.Main task queue delay true) h = absurd (true≢false h)
@@ -115,11 +115,11 @@ pub lane_at_take : (script : Plan) (past : List Entry) (e : Entry) (q : ℕ) (la
     → lane_of script (past ++ e ∷ []) q lane ≡ filter (λ f. not (f.task == task)) (lane_of script past q lane)
 lane_at_take script past e q lane task queue found is =
     lane_kept script past e q lane (λ p. is_in_lane past q lane p && not (eqb p.task task)) (front_with script past q lane) (ap (main_posted_by past) is) same
-        (λ p. front_with_same script past e q lane p (ap moves_orders is)
-            (class_of_push script past e q ∙ ap (class_after q (class_of script past q)) is))
+    (λ p. front_with_same script past e q lane p (ap moves_orders is)
+    (class_of_push script past e q ∙ ap (class_after q (class_of script past q)) is))
     ∙ ap (filter_map (front_with script past q lane)) (sym (filter-filter (λ p. not (eqb p.task task)) (is_in_lane past q lane) (main_posts past)))
     ∙ filter-filter_map (λ f. not (eqb f.task task)) (λ p. not (eqb p.task task)) (front_with script past q lane)
-        (filter (is_in_lane past q lane) (main_posts past)) (λ p f made. ap (λ t. not (eqb t task)) (front_task script past q lane p f made))
+    (filter (is_in_lane past q lane) (main_posts past)) (λ p f made. ap (λ t. not (eqb t task)) (front_task script past q lane p f made))
   where
     swapped : (a b c d : Bool) → (a && b && not (c || d)) ≡ ((a && b && not c) && not d)
     swapped false b c d = refl
@@ -139,10 +139,10 @@ lane_at_new : (script : Plan) (past : List Entry) (e : Entry) (q : ℕ) (lane : 
     ++ filter_map (front_with script (past ++ e ∷ []) q lane) (filter (is_in_lane past q lane) (post_behind past task queue delay ∷ []))
 lane_at_new script past e q lane task queue delay is =
     lane_grown script past e q lane (is_in_lane past q lane) (front_with script past q lane) (in_lane_same past e q lane (λ t. ap (main_takes t) is))
-        (λ p. front_with_same script past e q lane p (ap moves_orders is)
-            (class_of_push script past e q ∙ ap (class_after q (class_of script past q)) is))
+    (λ p. front_with_same script past e q lane p (ap moves_orders is)
+    (class_of_push script past e q ∙ ap (class_after q (class_of script past q)) is))
     ∙ ap (λ ps. lane_of script past q lane ++ filter_map (front_with script (past ++ e ∷ []) q lane) (filter (is_in_lane past q lane) ps))
-        (ap (main_posted_by past) is)
+    (ap (main_posted_by past) is)
 
 pub lane_at_post : (script : Plan) (past : List Entry) (e : Entry) (q : ℕ) (lane : Lane) (task queue delay : ℕ) → e.kind ≡ kinds.Main task queue delay true
     → nat_lt 0 delay ≡ false → is_main_taken past task ≡ false
@@ -379,8 +379,8 @@ front_at_rank script past e q lane queue class is =
     by false same = ap (least order_below) (kept (front_with script past q lane) (λ p. front_with_same script past e q lane p (ap moves_orders is) same))
     by true given =
         ap (least order_below) (kept (λ p. option_map (with_class class) (front_with script past q lane p))
-            (λ p lt. rw (order_of_same past e p lt (ap moves_orders is), given) (over p (order_of past p)))
-            ∙ filter_map-option_map (front_with script past q lane) (with_class class) (filter (is_in_lane past q lane) (main_posts past)))
+        (λ p lt. rw (order_of_same past e p lt (ap moves_orders is), given) (over p (order_of past p)))
+        ∙ filter_map-option_map (front_with script past q lane) (with_class class) (filter (is_in_lane past q lane) (main_posts past)))
         ∙ least-map order_below order_below (with_class class) (lane_of script past q lane) (λ a b. refl)
 
 pub front_is_first : (script : Plan) (past : List Entry) (q : ℕ) (lane : Lane) (f : Front) → front_of script past q lane ≡ Some f

@@ -31,7 +31,6 @@ use Rattle.hist_model.specs.Laws.Rising.{Rises}
 use Rattle.hist_model.proofs.Laws.Legal.{legal_induction}
 use Rattle.hist_model.proofs.Laws.Choice.{found}
 use Rattle.hist_model.proofs.Laws.Consistent.{not_both, legal_is_consistent}
-use Rattle.hist_model.proofs.Laws.PostedOnce.{each_is_accepted_once}
 
 -- an entry that is allowed does not set the moment back
 moment_rises : (script : Plan) (past : List Entry) (seat : ℕ) (kind : Kind) → may_come script past seat kind ≡ true → now_of past ≤ now_after (now_of past) kind
@@ -105,7 +104,7 @@ risen_next script past e legal allowed r = record {
       let before = first (is_taken past t) (takes t e.kind) (sym (is_taken_push past e t) ∙ free) in
       let main_before = first (is_main_taken past t) (main_takes t e.kind) (sym (is_main_taken_push past e t) ∙ main_free) in
       open_scope_push past e t ∙ scopes_next script past e.seat e.kind may (legal_is_consistent script past legal) t before main_before
-          (r.scopes_of_taken t before main_before);
+      (r.scopes_of_taken t before main_before);
 }
   where
     ordered_next : SameMembers (main_arrivals (past ++ e ∷ [])) (ordered (past ++ e ∷ []))

@@ -4,7 +4,7 @@ use Rattle.std.proofs.Common.{◌≡◌, ℕ, ◌+◌, ◌<◌, Bool, true, fals
 use Rattle.std.specs.Prelude.{◌&&◌, ◌||◌, ◌⊎◌, nat_lt, nat_le, find, filter, is_none}
 use Rattle.std.specs.Option.{option_map, option_or}
 use Rattle.std.specs.List.{AllByRecursion, filter_map}
-use Rattle.std.proofs.lemmas.Bool.{true≢false, lt-ltb, ltb-true, eq-eqb, le-ltb, cases_order}
+use Rattle.std.proofs.lemmas.Bool.{true≢false, lt-ltb, ltb-true, cases_order}
 use Rattle.std.proofs.lemmas.Option.{none-some}
 use Rattle.std.proofs.lemmas.List.{append-nil, length-append}
 use Rattle.task_base.specs.Plan.{Plan}
@@ -50,16 +50,16 @@ differ_push past xs added within (inl none) differ = subst (Differ ripens_before
 differ_push past xs added within (inr new) differ =
     subst (λ ys. Differ ripens_before (xs ++ ys)) (sym new.1)
     (differ-push ripens_before xs new.0 differ
-        (AllByRecursion-map (λ p. nat_lt p.place (length past) ≡ true) (λ p. (ripens_before p new.0 ≡ true) ⊎ (ripens_before new.0 p ≡ true)) xs
-            (λ p is. let lt : p.place < length past = ltb-true p.place (length past) is in
-                let at : new.0.place ≡ length past = new.2 in one_ripens_first p new.0 (omega (arith, lt, at))) within))
+    (AllByRecursion-map (λ p. nat_lt p.place (length past) ≡ true) (λ p. (ripens_before p new.0 ≡ true) ⊎ (ripens_before new.0 p ≡ true)) xs
+    (λ p is. let lt : p.place < length past = ltb-true p.place (length past) is in
+    let at : new.0.place ≡ length past = new.2 in one_ripens_first p new.0 (omega (arith, lt, at))) within))
 
 -- of two accepted tasks, one ripens before the other
 pub posts_differ : (past : List Entry) → Differ ripens_before (posts past)
 unfolding posts fold_past
 posts_differ = push_induction (λ past. Differ ripens_before (posts past)) tt
     (λ past e differ. subst (Differ ripens_before) (sym (posts_push past e))
-        (differ_push past (posts past) (posted_by past e.kind) (posts_within past) (added past e.kind) differ))
+    (differ_push past (posts past) (posted_by past e.kind) (posts_within past) (added past e.kind) differ))
   where
     added : (past : List Entry) (kind : Kind)
         → (posted_by past kind ≡ []) ⊎ ((p : Posted) × (posted_by past kind ≡ p ∷ []) × (p.place ≡ length past))
@@ -70,7 +70,7 @@ pub main_posts_differ : (past : List Entry) → Differ ripens_before (main_posts
 unfolding main_posts fold_past
 main_posts_differ = push_induction (λ past. Differ ripens_before (main_posts past)) tt
     (λ past e differ. subst (Differ ripens_before) (sym (main_posts_push past e))
-        (differ_push past (main_posts past) (main_posted_by past e.kind) (main_posts_within past) (added past e.kind) differ))
+    (differ_push past (main_posts past) (main_posted_by past e.kind) (main_posts_within past) (added past e.kind) differ))
   where
     added : (past : List Entry) (kind : Kind)
         → (main_posted_by past kind ≡ []) ⊎ ((p : Posted) × (main_posted_by past kind ≡ p ∷ []) × (p.place ≡ length past))
@@ -127,11 +127,11 @@ pub arrivals_within : (past : List Entry) → AllByRecursion (λ r. r.key.place 
 unfolding arrivals fold_past
 arrivals_within = push_induction (λ past. AllByRecursion (λ r. r.key.place < length past) (arrivals past)) tt
     (λ past e within. subst (AllByRecursion (λ r. r.key.place < length (past ++ e ∷ []))) (sym (arrivals_push past e))
-        (AllByRecursion-append (λ r. r.key.place < length (past ++ e ∷ [])) (arrivals past) (arriving_by past e.kind)
-            (AllByRecursion-map (λ r. r.key.place < length past) (λ r. r.key.place < length (past ++ e ∷ [])) (arrivals past)
-                (λ r lt. omega (arith, lt, length-append past (e ∷ []))) within)
-            (AllByRecursion-map (λ r. r.key.place ≡ length past) (λ r. r.key.place < length (past ++ e ∷ [])) (arriving_by past e.kind)
-                (λ r at. omega (arith, at, length-append past (e ∷ []))) (arriving_here past e.kind))))
+    (AllByRecursion-append (λ r. r.key.place < length (past ++ e ∷ [])) (arrivals past) (arriving_by past e.kind)
+    (AllByRecursion-map (λ r. r.key.place < length past) (λ r. r.key.place < length (past ++ e ∷ [])) (arrivals past)
+    (λ r lt. omega (arith, lt, length-append past (e ∷ []))) within)
+    (AllByRecursion-map (λ r. r.key.place ≡ length past) (λ r. r.key.place < length (past ++ e ∷ [])) (arriving_by past e.kind)
+    (λ r at. omega (arith, at, length-append past (e ∷ []))) (arriving_here past e.kind))))
 
 -- what arrives at an entry rises in key
 arriving_rises : (past : List Entry) (kind : Kind) → Rises ready_below (arriving_by past kind)
@@ -155,10 +155,10 @@ pub arrivals_rise : (past : List Entry) → Rises ready_below (arrivals past)
 unfolding arrivals fold_past
 arrivals_rise = push_induction (λ past. Rises ready_below (arrivals past)) tt
     (λ past e rises. subst (Rises ready_below) (sym (arrivals_push past e))
-        (rises-append ready_below (arrivals past) (arriving_by past e.kind) rises (arriving_rises past e.kind)
-            (AllByRecursion-map (λ r. r.key.place < length past) (λ r. AllByRecursion (λ q. ready_below r q ≡ true) (arriving_by past e.kind)) (arrivals past)
-                (λ r lt. AllByRecursion-map (λ q. q.key.place ≡ length past) (λ q. ready_below r q ≡ true) (arriving_by past e.kind)
-                    (λ q at. first past r q (omega (arith, lt, at))) (arriving_here past e.kind)) (arrivals_within past))))
+    (rises-append ready_below (arrivals past) (arriving_by past e.kind) rises (arriving_rises past e.kind)
+    (AllByRecursion-map (λ r. r.key.place < length past) (λ r. AllByRecursion (λ q. ready_below r q ≡ true) (arriving_by past e.kind)) (arrivals past)
+    (λ r lt. AllByRecursion-map (λ q. q.key.place ≡ length past) (λ q. ready_below r q ≡ true) (arriving_by past e.kind)
+    (λ q at. first past r q (omega (arith, lt, at))) (arriving_here past e.kind)) (arrivals_within past))))
   where
     first : (past : List Entry) (r q : Ready) → r.key.place < q.key.place → ready_below r q ≡ true
     first past r q lt = by_less (λ x. x.key.place) (λ a b. nat_lt a.key.ripe b.key.ripe || (eqb a.key.ripe b.key.ripe && nat_lt a.key.post b.key.post)) r q lt
@@ -174,19 +174,19 @@ arriving_is_ripe : (past : List Entry) (moment : ℕ) → SameMembers (ready pas
 unfolding ready
 arriving_is_ripe past moment =
     same_members-trans (ready past ++ arriving_by past (kinds.Tick moment)) (ready past ++ filter_map (ripe_at_tick_of past moment) (posts past))
-        (ready_at_tick_of past moment)
+    (ready_at_tick_of past moment)
     (same_members-append (ready past) (ready past) (arriving_by past (kinds.Tick moment)) (filter_map (ripe_at_tick_of past moment) (posts past))
-        (same_members-refl (ready past))
-        (subst (SameMembers (arriving_by past (kinds.Tick moment)))
-            (sym (filter_map-passing (ripe_at_tick_of past moment) (becomes_ripe past moment) (ripe_behind past) (posts past)
-                (λ p. made p (is_delayed p) (tick_from past p.ripe) (nat_le p.ripe moment))))
-            (same_members-map (ripe_behind past) (sort_by ripens_before newly) newly (same_members-sort_by ripens_before newly))))
+    (same_members-refl (ready past))
+    (subst (SameMembers (arriving_by past (kinds.Tick moment)))
+    (sym (filter_map-passing (ripe_at_tick_of past moment) (becomes_ripe past moment) (ripe_behind past) (posts past)
+    (λ p. made p (is_delayed p) (tick_from past p.ripe) (nat_le p.ripe moment))))
+    (same_members-map (ripe_behind past) (sort_by ripens_before newly) newly (same_members-sort_by ripens_before newly))))
     (subst (SameMembers (ready past ++ filter_map (ripe_at_tick_of past moment) (posts past)))
-        (filter_map_congr (λ p. option_or (option_map (λ key. record { posted = p; key = key }) (key_of past p)) (ripe_at_tick_of past moment p))
-            (λ p. option_map (λ key. record { posted = p; key = key }) (option_or (key_of past p) (key_by past p (kinds.Tick moment)))) (posts past)
-            (λ p. either p (key_of past p)))
-        (same_members-either (λ p. option_map (λ key. record { posted = p; key = key }) (key_of past p)) (ripe_at_tick_of past moment) (posts past)
-            (λ p r. apart p (key_of past p) r)))
+    (filter_map_congr (λ p. option_or (option_map (λ key. record { posted = p; key = key }) (key_of past p)) (ripe_at_tick_of past moment p))
+    (λ p. option_map (λ key. record { posted = p; key = key }) (option_or (key_of past p) (key_by past p (kinds.Tick moment)))) (posts past)
+    (λ p. either p (key_of past p)))
+    (same_members-either (λ p. option_map (λ key. record { posted = p; key = key }) (key_of past p)) (ripe_at_tick_of past moment) (posts past)
+    (λ p r. apart p (key_of past p) r)))
   where
     newly : List Posted
     newly = filter (becomes_ripe past moment) (posts past)
@@ -199,7 +199,7 @@ arriving_is_ripe past moment =
 
     made : (p : Posted) (delayed : Bool) (ticked : Option ℕ) (come : Bool)
         → cond (is_none (cond delayed (option_map (at_tick p) ticked) (Some (key_at p.place))))
-            (option_map (with p) (cond delayed (option_map (at_tick p) (cond come (Some (length past)) None)) None)) None
+        (option_map (with p) (cond delayed (option_map (at_tick p) (cond come (Some (length past)) None)) None)) None
         ≡ cond (delayed && come && is_none ticked) (Some (ripe_behind past p)) None
     made p false ticked come = refl
     made p true None true = refl
@@ -229,21 +229,21 @@ arrivals_are_ready_grows past e none same = by e.kind refl
     posted task runner delay is false immediate =
         rw (arrivals_at_post past e task runner delay is immediate, ready_at_post past e task runner delay is immediate)
         (same_members-append (arrivals past) (ready past) (ready_behind past task runner delay ∷ []) (ready_behind past task runner delay ∷ []) same
-            (same_members-refl (ready_behind past task runner delay ∷ [])))
+        (same_members-refl (ready_behind past task runner delay ∷ [])))
     posted task runner delay is true delayed =
         let positive : 0 < delay = ltb-true 0 delay delayed in
         kept (arrivals_at_delayed_post past e task runner delay is delayed)
-            (ready_at_delayed_post past e task runner delay is delayed (none (now_of past + delay) (omega (arith, positive))))
+        (ready_at_delayed_post past e task runner delay is delayed (none (now_of past + delay) (omega (arith, positive))))
 
     by : (kind : Kind) → e.kind ≡ kind → SameMembers (arrivals (past ++ e ∷ [])) (ready (past ++ e ∷ []))
     by (kinds.Post task runner delay true) is = posted task runner delay is (nat_lt 0 delay) refl
     by (kinds.Tick moment) is =
         rw (arrivals_at_tick past e moment is, ready_at_tick past e moment is)
         (same_members-trans (arrivals past ++ arriving_by past (kinds.Tick moment)) (ready past ++ arriving_by past (kinds.Tick moment))
-            (ready_at_tick_of past moment)
-            (same_members-append (arrivals past) (ready past) (arriving_by past (kinds.Tick moment)) (arriving_by past (kinds.Tick moment)) same
-                (same_members-refl (arriving_by past (kinds.Tick moment))))
-            (arriving_is_ripe past moment))
+        (ready_at_tick_of past moment)
+        (same_members-append (arrivals past) (ready past) (arriving_by past (kinds.Tick moment)) (arriving_by past (kinds.Tick moment)) same
+        (same_members-refl (arriving_by past (kinds.Tick moment))))
+        (arriving_is_ripe past moment))
     by kind is = kept (arrivals_same past e (ap moves_ready is)) (ready_same past e (ap moves_ready is))
 
 -- The head of a sequence is the first arrival of it that may start.
