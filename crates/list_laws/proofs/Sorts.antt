@@ -112,7 +112,8 @@ Apart below a b = (a ≡ b) ⊎ ((below a b ≡ true) ⊎ (below b a ≡ true))
 -- of two elements of a rising list one goes before the other, or they are one
 pub rises_apart : {A : Type 0} (below : A → A → Bool) (xs : List A) (a b : A) → Rises below xs → Contains xs a → Contains xs b
     → (a ≡ b) ⊎ ((below a b ≡ true) ⊎ (below b a ≡ true))
-rises_apart {A = A} below xs a b rises of_a of_b = AllByRecursion-contains (Apart below a) xs b (AllByRecursion-contains (λ x. AllByRecursion (Apart below x) xs) xs a
+rises_apart {A = A} below xs a b rises of_a of_b = AllByRecursion-contains (Apart below a) xs b
+    (AllByRecursion-contains (λ x. AllByRecursion (Apart below x) xs) xs a
     (all xs rises) of_a) of_b
   where
     all : (ys : List A) → Rises below ys → AllByRecursion (λ x. AllByRecursion (Apart below x) ys) ys

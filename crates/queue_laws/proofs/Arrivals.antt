@@ -204,7 +204,8 @@ drawing_ripens past moment =
     counted = AllByRecursion-always _ sorted
         (λ p. ap (λ m. record { posted = p; order = next_draw past + m }) (count-sort_by (λ q. ripens_before q p) ripens_before newly))
 
-    by : (p : Posted) (b : Bool) → option_map (λ n. record { posted = p; order = n }) (cond b (Some (next_draw past + count (λ q. ripens_before q p) newly)) None)
+    by : (p : Posted) (b : Bool) → option_map (λ n. record { posted = p; order = n })
+        (cond b (Some (next_draw past + count (λ q. ripens_before q p) newly)) None)
         ≡ cond b (Some (made p)) None
     by p true = refl
     by p false = refl

@@ -85,7 +85,8 @@ no_tick kind h moment = refl
 
 pub tick_same : (past : List Entry) (e : Entry) → moves_orders e.kind ≡ false → (moment : ℕ) → tick_from (past ++ e ∷ []) moment ≡ tick_from past moment
 tick_same past e quiet moment = tick_from_push past e moment
-    ∙ ap (λ (b : Bool). option_or (tick_from past moment) (cond b (Some (length past)) None)) (no_tick e.kind quiet moment) ∙ option_or-none (tick_from past moment)
+    ∙ ap (λ (b : Bool). option_or (tick_from past moment) (cond b (Some (length past)) None)) (no_tick e.kind quiet moment)
+        ∙ option_or-none (tick_from past moment)
 
 pub order_of_same : (past : List Entry) (e : Entry) (p : Posted) → p.place < length past → moves_orders e.kind ≡ false
     → order_of (past ++ e ∷ []) p ≡ order_of past p

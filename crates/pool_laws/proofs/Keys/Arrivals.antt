@@ -251,7 +251,8 @@ arrivals_are_ready_grows past e none same = by e.kind refl
 pub head_is_first_arrival : (script : Plan) (past : List Entry) (s : ℕ) → SameMembers (arrivals past) (ready past)
     → head_of script past s ≡ find (λ r. is_of script s r.posted && may_start script past r.posted) (arrivals past)
 unfolding head_of eligible
-head_is_first_arrival script past s same = least_is_first ready_below (λ r. is_of script s r.posted && may_start script past r.posted) (ready past) (arrivals past)
+head_is_first_arrival script past s same = least_is_first ready_below (λ r. is_of script s r.posted && may_start script past r.posted) (ready past)
+    (arrivals past)
     (ranks_key (λ r. r.key)) (arrivals_rise past) same
 
 -- Two short histories, by computing.
