@@ -353,23 +353,23 @@ front_is_first_arrival script past q lane same =
 
 -- Two short histories, by computing.
 
-at : ℕ → Kind → Entry
-at seat kind = record { seat = seat; kind = kind }
+did : Kind → Entry
+did kind = record { seat = 0; kind = kind }
 
-drew : List Ordered → List (ℕ × ℕ)
-drew os = map (λ o. (o.posted.task, o.order)) os
+rows : List Ordered → List (ℕ × ℕ)
+rows os = map (λ o. (o.posted.task, o.order)) os
 
 -- an immediate task draws at its post, a fence by now draws too; at a tick those draw that ripen, the earliest first, and
 -- those of one moment by their posts
-worked_draws : drew (main_arrivals (at 0 (kinds.Main 7 0 5 true) ∷ at 0 (kinds.Main 8 0 3 true) ∷ at 0 (kinds.Main 9 1 0 true) ∷ at 0 (kinds.Main 10 1 3 true)
-    ∷ at 0 (kinds.Fence 0 Now) ∷ at 0 (kinds.Tick 6) ∷ at 0 (kinds.Main 11 0 0 false) ∷ at 0 (kinds.Main 12 0 0 true) ∷ []))
+worked_draws : rows (main_arrivals (did (kinds.Main 7 0 5 true) ∷ did (kinds.Main 8 0 3 true) ∷ did (kinds.Main 9 1 0 true) ∷ did (kinds.Main 10 1 3 true)
+    ∷ did (kinds.Fence 0 Now) ∷ did (kinds.Tick 6) ∷ did (kinds.Main 11 0 0 false) ∷ did (kinds.Main 12 0 0 true) ∷ []))
     ≡ (9, 2) ∷ (8, 4) ∷ (10, 5) ∷ (7, 6) ∷ (12, 7) ∷ []
-unfolding main_arrivals main_posts fold_past now_of ripening draws is_closed at drew
+unfolding main_arrivals main_posts fold_past now_of ripening draws is_closed did rows
 worked_draws = refl
 
 -- a task of a queue that was closed before it ripens draws nothing
-worked_closed : drew (main_arrivals (at 0 (kinds.Main 1 0 2 true) ∷ at 0 (kinds.Main 2 1 2 true) ∷ at 0 (kinds.Close 0) ∷ at 0 (kinds.Tick 2)
-    ∷ at 0 (kinds.Main 3 1 0 true) ∷ []))
+worked_closed : rows (main_arrivals (did (kinds.Main 1 0 2 true) ∷ did (kinds.Main 2 1 2 true) ∷ did (kinds.Close 0) ∷ did (kinds.Tick 2)
+    ∷ did (kinds.Main 3 1 0 true) ∷ []))
     ≡ (2, 2) ∷ (3, 3) ∷ []
-unfolding main_arrivals main_posts fold_past now_of ripening draws is_closed at drew
+unfolding main_arrivals main_posts fold_past now_of ripening draws is_closed did rows
 worked_closed = refl

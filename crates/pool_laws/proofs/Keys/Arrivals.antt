@@ -257,23 +257,23 @@ head_is_first_arrival script past s same = least_is_first ready_below (λ r. is_
 
 -- Two short histories, by computing.
 
-at : ℕ → Kind → Entry
-at seat kind = record { seat = seat; kind = kind }
+did : Kind → Entry
+did kind = record { seat = 0; kind = kind }
 
-unfolded : List Ready → List (ℕ × ℕ × ℕ × ℕ)
-unfolded rs = map (λ r. (r.posted.task, r.key.place, r.key.ripe, r.key.post)) rs
+rows : List Ready → List (ℕ × ℕ × ℕ × ℕ)
+rows rs = map (λ r. (r.posted.task, r.key.place, r.key.ripe, r.key.post)) rs
 
 -- an immediate task arrives at its post, a refused one never; at a tick those arrive that are ripe, the earliest first, and
 -- those of one moment by their posts
-worked_ticks : unfolded (arrivals (at 0 (kinds.Post 7 0 5 true) ∷ at 0 (kinds.Post 8 0 3 true) ∷ at 0 (kinds.Post 9 0 0 true) ∷ at 0 (kinds.Post 10 1 3 true)
-    ∷ at 0 (kinds.Post 11 0 9 true) ∷ at 0 (kinds.Tick 6) ∷ at 0 (kinds.Post 12 0 0 false) ∷ at 0 (kinds.Tick 9) ∷ []))
+worked_ticks : rows (arrivals (did (kinds.Post 7 0 5 true) ∷ did (kinds.Post 8 0 3 true) ∷ did (kinds.Post 9 0 0 true) ∷ did (kinds.Post 10 1 3 true)
+    ∷ did (kinds.Post 11 0 9 true) ∷ did (kinds.Tick 6) ∷ did (kinds.Post 12 0 0 false) ∷ did (kinds.Tick 9) ∷ []))
     ≡ (9, 2, 0, 2) ∷ (8, 5, 3, 1) ∷ (10, 5, 3, 3) ∷ (7, 5, 5, 0) ∷ (11, 7, 9, 4) ∷ []
-unfolding arrivals posts fold_past now_of tick_from at unfolded
+unfolding arrivals posts fold_past now_of tick_from did rows
 worked_ticks = refl
 
 -- a delay counts from the moment of the post, and a tick that comes again gives no second key
-worked_again : unfolded (arrivals (at 0 (kinds.Tick 4) ∷ at 0 (kinds.Post 1 0 2 true) ∷ at 0 (kinds.Tick 5) ∷ at 0 (kinds.Post 2 0 1 true)
-    ∷ at 0 (kinds.Tick 6) ∷ at 0 (kinds.Tick 6) ∷ at 0 (kinds.Post 3 0 0 true) ∷ []))
+worked_again : rows (arrivals (did (kinds.Tick 4) ∷ did (kinds.Post 1 0 2 true) ∷ did (kinds.Tick 5) ∷ did (kinds.Post 2 0 1 true)
+    ∷ did (kinds.Tick 6) ∷ did (kinds.Tick 6) ∷ did (kinds.Post 3 0 0 true) ∷ []))
     ≡ (1, 4, 6, 1) ∷ (2, 4, 6, 3) ∷ (3, 6, 0, 6) ∷ []
-unfolding arrivals posts fold_past now_of tick_from at unfolded
+unfolding arrivals posts fold_past now_of tick_from did rows
 worked_again = refl
