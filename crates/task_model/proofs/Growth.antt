@@ -3,6 +3,7 @@ use Rattle.std.proofs.Common.{◌≡◌, ℕ, ◌+◌, ◌%◌, ◌^◌, Bool, t
 use Rattle.std.specs.Prelude.{◌||◌, is_some, slice_get, filter}
 use Rattle.std.specs.List.{list_any}
 use Rattle.std.specs.Option.{option_map_or}
+use Rattle.std.proofs.Math.Bool.{or-false}
 use Rattle.std.proofs.lemmas.List.{append-nil, length-append}
 use Rattle.std.proofs.lemmas.List.Elements.{filter-append}
 use Rattle.std.proofs.lemmas.List.Folds.{list_any-append}
@@ -15,7 +16,7 @@ use Rattle.task_traits.specs.declared.phase.Phase.TheVariants as phases
 use Rattle.list_laws.specs.Lists.{count}
 use Rattle.task_model.specs.Past.{fold_past, fold_past_from}
 use Rattle.task_model.specs.Time.{now_of, now_after}
-use Rattle.task_model.specs.Posts.{posts, posted_by, main_posts, main_posted_by, is_taken, takes, is_ended, ends, is_main_taken, main_takes}
+use Rattle.task_model.specs.Posts.{posts, posted_by, main_posts, main_posted_by, is_taken, takes, is_ended, ends, is_main_taken, main_takes, is_main_ended, main_ends}
 use Rattle.task_model.specs.Phase.{phase_of, phase_after}
 use Rattle.task_model.specs.Policies.{policy_of, policy_after}
 use Rattle.task_model.specs.Refusal.{is_closed, closes}
@@ -37,10 +38,6 @@ pub fold_past-push : {A : Type 0} (step : List Entry → A → Entry → A) (sta
     → fold_past step start (past ++ e ∷ []) ≡ step past (fold_past step start past) e
 unfolding fold_past
 fold_past-push step start past e = fold_past_from-push step [] start past e
-
-or-false : (b : Bool) → (b || false) ≡ b
-or-false true = refl
-or-false false = refl
 
 -- a test that some entry passes
 any-push : (test : Kind → Bool) (past : List Entry) (e : Entry)
@@ -80,6 +77,10 @@ is_ended_push past e t = any-push (ends t) past e
 pub is_main_taken_push : (past : List Entry) (e : Entry) (t : ℕ) → is_main_taken (past ++ e ∷ []) t ≡ (is_main_taken past t || main_takes t e.kind)
 unfolding is_main_taken
 is_main_taken_push past e t = any-push (main_takes t) past e
+
+pub is_main_ended_push : (past : List Entry) (e : Entry) (t : ℕ) → is_main_ended (past ++ e ∷ []) t ≡ (is_main_ended past t || main_ends t e.kind)
+unfolding is_main_ended
+is_main_ended_push past e t = any-push (main_ends t) past e
 
 pub phase_of_push : (past : List Entry) (e : Entry) → phase_of (past ++ e ∷ []) ≡ phase_after (phase_of past) e.kind
 unfolding phase_of

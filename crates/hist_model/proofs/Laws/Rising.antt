@@ -1,8 +1,9 @@
 -- Moments, orders and scopes in every legal past.
 use Rattle.std.proofs.Common.{◌≡◌, ℕ, ◌≤◌, Bool, true, false, cond, eqb, leb, List, [], ◌∷◌, ◌++◌, refl, sym, ap, ◌∙◌, Some, None, arith}
-use Rattle.std.specs.Prelude.{◌&&◌, ◌||◌, ◌^◌}
-use Rattle.std.proofs.lemmas.Bool.{eqb-true, leb-true, and_parts}
+use Rattle.std.specs.Prelude.{◌&&◌, ◌||◌}
+use Rattle.std.proofs.lemmas.Bool.{eqb-true, leb-true, and_parts, both_ways, or_parts}
 use Rattle.task_base.specs.Plan.{Plan}
+use Rattle.task_base.specs.declared.limits.TheConstants.{LAST_MOMENT}
 use Rattle.task_base.specs.declared.entry.Entry.{Entry}
 use Rattle.task_base.specs.declared.entry.Kind.{Kind}
 use Rattle.task_base.specs.declared.entry.Kind.TheVariants as kinds
@@ -21,23 +22,20 @@ use Rattle.task_model.proofs.Growth.{is_taken_push, is_main_taken_push, open_sco
 use Rattle.pool_laws.proofs.Keys.Ready.{no_tick_ahead_at_start, no_tick_ahead_grows}
 use Rattle.queue_laws.proofs.Orders.{orders_below_at_start, orders_below_grows}
 use Rattle.queue_laws.proofs.Distinct.{orders_distinct_at_start, orders_distinct_grows}
-use Rattle.hist_model.specs.Allowed.{enters, by_script, by_task, may_come, is_allowed}
-use Rattle.hist_model.specs.Legal.{is_legal}
+use Rattle.hist_model.specs.Allowed.{enters, by_script, by_task, may_come, IsAllowed}
+use Rattle.hist_model.specs.Legal.{IsLegal}
 use Rattle.hist_model.specs.Laws.Consistent.{RunsAs, IsConsistent}
 use Rattle.hist_model.specs.Laws.Rising.{Rises}
 use Rattle.hist_model.proofs.Laws.Legal.{legal_induction}
 use Rattle.hist_model.proofs.Laws.Choice.{found}
-use Rattle.hist_model.proofs.Laws.Consistent.{not_both, legal_is_consistent}
+use Rattle.hist_model.proofs.Laws.Consistent.{legal_is_consistent}
 use Rattle.hist_model.proofs.Laws.PostedOnce.{each_is_accepted_once}
 
 -- an entry that is allowed does not set the moment back
 moment_rises : (script : Plan) (past : List Entry) (seat : ℕ) (kind : Kind) → may_come script past seat kind ≡ true → now_of past ≤ now_after (now_of past) kind
 unfolding may_come
 moment_rises script past seat (kinds.Tick now) h = leb-true (now_of past) now
-    (second (by_script script past seat (kinds.Tick now)) (leb (now_of past) now) (leb now (2 ^ 62)) h)
-  where
-    second : (a b c : Bool) → (a && b && c) ≡ true → b ≡ true
-    second a b c k = grind (arith, k)
+    (and_parts (by_script script past seat (kinds.Tick now)) _ (and_parts _ (leb now LAST_MOMENT) h).0).1
 moment_rises script past seat kind h = omega arith
 
 -- who opens a scope runs the task
@@ -56,8 +54,8 @@ opens_as_running script past seat task scope h =
 -- what a seat runs was taken
 was_taken : (script : Plan) (past : List Entry) (seat : ℕ) (w : Running) (main : Bool) → RunsAs script past seat w main → is_taken past w.task ≡ false
     → is_main_taken past w.task ≡ false → ⊥
-was_taken script past seat w false r free main_free = not_both (is_taken past w.task) r.taken free
-was_taken script past seat w true r free main_free = not_both (is_main_taken past w.task) r.taken main_free
+was_taken script past seat w false r free main_free = both_ways (is_taken past w.task) free r.taken
+was_taken script past seat w true r free main_free = both_ways (is_main_taken past w.task) main_free r.taken
 
 -- an entry that is allowed opens scopes of taken tasks alone
 scopes_next : (script : Plan) (past : List Entry) (seat : ℕ) (kind : Kind) → may_come script past seat kind ≡ true → IsConsistent script past → (t : ℕ)
@@ -85,14 +83,14 @@ nothing_risen : Rises []
 unfolding open_scope fold_past
 nothing_risen = record { no_tick_ahead = no_tick_ahead_at_start; orders_below = orders_below_at_start; scopes_of_taken = λ t free main_free. refl }
 
-risen_next : (script : Plan) (past : List Entry) (e : Entry) → is_legal script past ≡ true → is_allowed script past e ≡ true → Rises past
+risen_next : (script : Plan) (past : List Entry) (e : Entry) → IsLegal script past → IsAllowed script past e → Rises past
     → Rises (past ++ e ∷ [])
 risen_next script past e legal allowed r = record {
   no_tick_ahead = no_tick_ahead_grows past e (moment_rises script past e.seat e.kind may) r.no_tick_ahead;
   orders_below = orders_below_grows past e r.no_tick_ahead r.orders_below;
   scopes_of_taken = λ t free main_free.
-      let before = first (is_taken past t) (takes t e.kind) (sym (is_taken_push past e t) ∙ free) in
-      let main_before = first (is_main_taken past t) (main_takes t e.kind) (sym (is_main_taken_push past e t) ∙ main_free) in
+      let before = (or_parts (is_taken past t) (takes t e.kind) (sym (is_taken_push past e t) ∙ free)).0 in
+      let main_before = (or_parts (is_main_taken past t) (main_takes t e.kind) (sym (is_main_taken_push past e t) ∙ main_free)).0 in
       open_scope_push past e t ∙ scopes_next script past e.seat e.kind may (legal_is_consistent script past legal) t before main_before
           (r.scopes_of_taken t before main_before);
 }
@@ -100,14 +98,11 @@ risen_next script past e legal allowed r = record {
     may : may_come script past e.seat e.kind ≡ true
     may = (and_parts (leb e.seat script.workers) (may_come script past e.seat e.kind) allowed).1
 
-    first : (a b : Bool) → (a || b) ≡ false → a ≡ false
-    first a b k = grind (arith, k)
-
-pub legal_rises : (script : Plan) (past : List Entry) → is_legal script past ≡ true → Rises past
+pub legal_rises : (script : Plan) (past : List Entry) → IsLegal script past → Rises past
 legal_rises script = legal_induction script Rises nothing_risen (risen_next script)
 
 -- where each task is posted once, no two main tasks draw one order
-pub orders_are_distinct : (script : Plan) (past : List Entry) → IsPostedOnce script → is_legal script past ≡ true → OrdersDistinct past
+pub orders_are_distinct : (script : Plan) (past : List Entry) → IsPostedOnce script → IsLegal script past → OrdersDistinct past
 orders_are_distinct script past once = legal_induction script OrdersDistinct orders_distinct_at_start
     (λ before e legal allowed distinct. orders_distinct_grows before e (legal_rises script before legal).no_tick_ahead
         (each_is_accepted_once script before once legal).main (legal_rises script before legal).orders_below distinct) past

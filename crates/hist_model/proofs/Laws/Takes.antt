@@ -130,13 +130,15 @@ main_take_is script past seat task queue value h = of_parts (three (by_script sc
 pub end_is : (script : Plan) (past : List Entry) (seat task left : ℕ) → may_come script past seat (kinds.End task left) ≡ true
     → (w : Running) × (running past seat ≡ Some w) × (w.is_main ≡ false) × (w.task ≡ task)
 unfolding may_come
-end_is script past seat task left h = of_found (found (λ w. not w.is_main && eqb w.task task && has_done script past seat left w) (running past seat) h)
-  where
-    three : (a b c : Bool) → (not a && b && c) ≡ true → (a ≡ false) × (b ≡ true)
-    three a b c k = (grind (arith, k), grind (arith, k))
+end_is script past seat task left h =
+    let w = found (λ w. not w.is_main && eqb w.task task && has_done script past seat left w) (running past seat) h in
+    let parts = and_parts _ (eqb w.value.task task) (and_parts _ (has_done script past seat left w.value) w.passes).0 in
+    (w.value, w.is, not-true w.value.is_main parts.0, eqb-true w.value.task task parts.1)
 
-    of_found : Found Running (λ w. not w.is_main && eqb w.task task && has_done script past seat left w) (running past seat)
-        → (w : Running) × (running past seat ≡ Some w) × (w.is_main ≡ false) × (w.task ≡ task)
-    of_found w =
-        let parts = three w.value.is_main (eqb w.value.task task) (has_done script past seat left w.value) w.passes in
-        (w.value, w.is, parts.0, eqb-true w.value.task task parts.1)
+pub main_end_is : (script : Plan) (past : List Entry) (seat task left : ℕ) → may_come script past seat (kinds.MainEnd task left) ≡ true
+    → (w : Running) × (running past seat ≡ Some w) × (w.is_main ≡ true) × (w.task ≡ task)
+unfolding may_come
+main_end_is script past seat task left h =
+    let w = found (λ w. w.is_main && eqb w.task task && has_done script past seat left w) (running past seat) (and_parts (eqb seat 0) _ h).1 in
+    let parts = and_parts _ (eqb w.value.task task) (and_parts _ (has_done script past seat left w.value) w.passes).0 in
+    (w.value, w.is, parts.0, eqb-true w.value.task task parts.1)
