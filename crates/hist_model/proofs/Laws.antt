@@ -13,3 +13,7 @@ pub mod PostedOnce
 pub mod Differing
 pub mod OneThing
 pub mod Rising
+pub mod OneSeat
+pub mod Phases
+pub mod Claims
+pub mod HoldsApart

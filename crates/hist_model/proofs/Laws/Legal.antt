@@ -4,8 +4,8 @@ use Rattle.std.specs.Prelude.{◌&&◌, is_none}
 use Rattle.std.proofs.lemmas.Bool.{and_parts}
 use Rattle.task_base.specs.Plan.{Plan}
 use Rattle.task_base.specs.declared.entry.Entry.{Entry}
-use Rattle.hist_model.specs.Allowed.{is_allowed}
-use Rattle.hist_model.specs.Legal.{legal_from, is_legal, illegal_from, first_illegal, IsIllegalAt}
+use Rattle.hist_model.specs.Allowed.{is_allowed, IsAllowed}
+use Rattle.hist_model.specs.Legal.{legal_from, is_legal, illegal_from, first_illegal, IsIllegalAt, IsLegal}
 
 legal_from_append : (script : Plan) (past xs ys : List Entry)
     → legal_from script past (xs ++ ys) ≡ (legal_from script past xs && legal_from script (past ++ xs) ys)
@@ -18,7 +18,7 @@ legal_from_append script past (x ∷ xs) ys = elim (is_allowed script past x) as
 ]
 
 -- the empty history is legal
-pub nothing_is_legal : (script : Plan) → is_legal script [] ≡ true
+pub nothing_is_legal : (script : Plan) → IsLegal script []
 unfolding is_legal
 nothing_is_legal script = refl
 
@@ -32,13 +32,13 @@ is_legal_push script past e = legal_from_append script [] past (e ∷ []) ∙ ap
     last false = refl
 
 -- the front of a legal history is legal
-pub front_is_legal : (script : Plan) (past rest : List Entry) → is_legal script (past ++ rest) ≡ true → is_legal script past ≡ true
+pub front_is_legal : (script : Plan) (past rest : List Entry) → IsLegal script (past ++ rest) → IsLegal script past
 unfolding is_legal
 front_is_legal script past rest h = (and_parts (legal_from script [] past) (legal_from script past rest) (sym (legal_from_append script [] past rest) ∙ h)).0
 
 -- each entry of a legal history is allowed after those before it
-pub each_is_allowed : (script : Plan) (past : List Entry) (e : Entry) (rest : List Entry) → is_legal script (past ++ e ∷ rest) ≡ true
-    → is_allowed script past e ≡ true
+pub each_is_allowed : (script : Plan) (past : List Entry) (e : Entry) (rest : List Entry) → IsLegal script (past ++ e ∷ rest)
+    → IsAllowed script past e
 each_is_allowed script past e rest h =
     (and_parts (is_legal script past) (is_allowed script past e) (sym (is_legal_push script past e)
         ∙ front_is_legal script (past ++ e ∷ []) rest (ap (is_legal script) (append_assoc past (e ∷ []) rest) ∙ h))).1
@@ -46,12 +46,12 @@ each_is_allowed script past e rest h =
 -- what holds of the empty history, and of a longer one where it holds of the shorter one and the new entry is allowed,
 -- holds of every legal history
 pub legal_induction : (script : Plan) (P : List Entry → Type 0) → P []
-    → ((past : List Entry) (e : Entry) → is_legal script past ≡ true → is_allowed script past e ≡ true → P past → P (past ++ e ∷ [])) → (past : List Entry)
-    → is_legal script past ≡ true → P past
+    → ((past : List Entry) (e : Entry) → IsLegal script past → IsAllowed script past e → P past → P (past ++ e ∷ [])) → (past : List Entry)
+    → IsLegal script past → P past
 unfolding is_legal
 legal_induction script P start step past h = walk [] past refl start h
   where
-    walk : (front rest : List Entry) → is_legal script front ≡ true → P front → legal_from script front rest ≡ true → P (front ++ rest)
+    walk : (front rest : List Entry) → IsLegal script front → P front → legal_from script front rest ≡ true → P (front ++ rest)
     walk front [] legal holds k = subst P (sym (append-nil front)) holds
     walk front (e ∷ rest) legal holds k =
         let parts = and_parts (is_allowed script front e) (legal_from script (front ++ e ∷ []) rest) k in
@@ -82,14 +82,14 @@ first_illegal_some script log place h = walk [] log refl h
     none : {X : Type 0} → None ≡ Some place → X
     none e = absurd cc
 
-    walk : (front rest : List Entry) → is_legal script front ≡ true → illegal_from script front rest ≡ Some place → IsIllegalAt script (front ++ rest) place
+    walk : (front rest : List Entry) → IsLegal script front → illegal_from script front rest ≡ Some place → IsIllegalAt script (front ++ rest) place
     walk front [] legal k = none k
     walk front (e ∷ rest) legal k = at (is_allowed script front e) refl k
         (λ allowed later. subst (λ l. IsIllegalAt script l place) (append_assoc front (e ∷ []) rest)
         (walk (front ++ e ∷ []) rest (is_legal_push script front e ∙ ap (λ b. b && is_allowed script front e) legal ∙ allowed) later))
       where
         at : (b : Bool) → is_allowed script front e ≡ b → cond b (illegal_from script (front ++ e ∷ []) rest) (Some (length front)) ≡ Some place
-            → (is_allowed script front e ≡ true → illegal_from script (front ++ e ∷ []) rest ≡ Some place → IsIllegalAt script (front ++ e ∷ rest) place)
+            → (IsAllowed script front e → illegal_from script (front ++ e ∷ []) rest ≡ Some place → IsIllegalAt script (front ++ e ∷ rest) place)
             → IsIllegalAt script (front ++ e ∷ rest) place
         at true is m later = later is m
         at false is m later = record {

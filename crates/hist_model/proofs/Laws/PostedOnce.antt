@@ -11,8 +11,8 @@ use Rattle.task_model.specs.Past.{fold_past}
 use Rattle.task_model.specs.Posts.{Posted, post_behind, posts, posted_by, main_posts, main_posted_by, is_taken, is_ended, is_main_taken, Before, InOrder}
 use Rattle.task_model.proofs.Growth.{posts_push, main_posts_push}
 use Rattle.list_laws.proofs.Lists.{eqb-same, AllByRecursion-append, AllByRecursion-map, AllByRecursion-both}
-use Rattle.hist_model.specs.Allowed.{is_allowed}
-use Rattle.hist_model.specs.Legal.{is_legal}
+use Rattle.hist_model.specs.Allowed.{IsAllowed}
+use Rattle.hist_model.specs.Legal.{IsLegal}
 use Rattle.hist_model.specs.Laws.Postings.{kind_posts, posted_in, AreAcceptedOnce, IsNew}
 use Rattle.script_model.specs.Postings.{times, IsPostedOnce}
 use Rattle.hist_model.proofs.Laws.Legal.{is_legal_push, legal_induction}
@@ -40,16 +40,16 @@ once_in_one : (t : ℕ) → times t (t ∷ []) ≡ 1
 once_in_one t = rw (eqb-same t) refl
 
 -- what is posted now was not posted before
-not_posted_before : (script : Plan) (past : List Entry) (e : Entry) (t : ℕ) → IsPostedOnce script → is_legal script past ≡ true
-    → is_allowed script past e ≡ true → kind_posts e.kind ≡ t ∷ [] → times t (posted_in past) ≡ 0
+not_posted_before : (script : Plan) (past : List Entry) (e : Entry) (t : ℕ) → IsPostedOnce script → IsLegal script past
+    → IsAllowed script past e → kind_posts e.kind ≡ t ∷ [] → times t (posted_in past) ≡ 0
 not_posted_before script past e t once legal allowed posts_it =
-    let longer : is_legal script (past ++ e ∷ []) ≡ true = is_legal_push script past e ∙ rw (legal, allowed) refl in
+    let longer : IsLegal script (past ++ e ∷ []) = is_legal_push script past e ∙ rw (legal, allowed) refl in
     let one : times t (kind_posts e.kind) ≡ 1 = ap (times t) posts_it ∙ once_in_one t in
     omega (arith, posted_at_most_once script (past ++ e ∷ []) t once longer, posted_in_push t past e, one)
 
 -- the history knows nothing of a task that is posted now
-pub a_posted_task_is_new : (script : Plan) (past : List Entry) (e : Entry) (t : ℕ) → IsPostedOnce script → is_legal script past ≡ true
-    → is_allowed script past e ≡ true → kind_posts e.kind ≡ t ∷ [] → IsNew past t
+pub a_posted_task_is_new : (script : Plan) (past : List Entry) (e : Entry) (t : ℕ) → IsPostedOnce script → IsLegal script past
+    → IsAllowed script past e → kind_posts e.kind ≡ t ∷ [] → IsNew past t
 a_posted_task_is_new script past e t once legal allowed posts_it =
     let zero_times : times t (posted_in past) ≡ 0 = not_posted_before script past e t once legal allowed posts_it in
     let known : Counted script past = counted script once past legal in
@@ -117,7 +117,7 @@ main_next past (kinds.Main task queue delay true) order places new = in_order_pu
 main_next past (kinds.Main task queue delay false) order places new = subst InOrder (sym (append-nil (main_posts past))) order
 main_next past kind order places new = subst InOrder (sym (append-nil (main_posts past))) order
 
-ordered_next : (script : Plan) → IsPostedOnce script → (past : List Entry) (e : Entry) → is_legal script past ≡ true → is_allowed script past e ≡ true
+ordered_next : (script : Plan) → IsPostedOnce script → (past : List Entry) (e : Entry) → IsLegal script past → IsAllowed script past e
     → Ordered past → Ordered (past ++ e ∷ [])
 ordered_next script once past e legal allowed known = record {
   pool = subst InOrder (sym (posts_push past e)) (pool_next past e.kind known.pool known.pool_places
@@ -138,7 +138,7 @@ unfolding fold_past posts main_posts
 nothing_ordered = record { pool = tt; main = tt; pool_places = tt; main_places = tt }
 
 -- the accepted tasks are in order and differ
-pub each_is_accepted_once : (script : Plan) (past : List Entry) → IsPostedOnce script → is_legal script past ≡ true → AreAcceptedOnce past
+pub each_is_accepted_once : (script : Plan) (past : List Entry) → IsPostedOnce script → IsLegal script past → AreAcceptedOnce past
 each_is_accepted_once script past once legal =
     let order : Ordered past = legal_induction script Ordered nothing_ordered (ordered_next script once) past legal in
     let known : Counted script past = counted script once past legal in

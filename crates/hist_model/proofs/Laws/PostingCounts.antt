@@ -15,8 +15,8 @@ use Rattle.task_model.specs.Posts.{Posted, post_behind, posts, posted_by, main_p
 use Rattle.task_model.specs.Refusal.{is_refused, is_closed}
 use Rattle.task_model.proofs.Growth.{posts_push, main_posts_push, is_taken_push, is_main_taken_push}
 use Rattle.list_laws.proofs.Lists.{eqb-same, count-append}
-use Rattle.hist_model.specs.Allowed.{by_script, by_task, may_come, is_allowed}
-use Rattle.hist_model.specs.Legal.{is_legal}
+use Rattle.hist_model.specs.Allowed.{by_script, by_task, may_come, IsAllowed}
+use Rattle.hist_model.specs.Legal.{IsLegal}
 use Rattle.hist_model.specs.Laws.Postings.{kind_posts, posted_in}
 use Rattle.script_model.specs.Postings.{posts_of_step, posts_of_action, postings, times, IsPostedOnce}
 use Rattle.hist_model.proofs.Laws.Legal.{legal_induction}
@@ -201,7 +201,7 @@ left_next script past t seat (kinds.MainTake task queue value) once known le h =
     omega (arith, left_takes script t task past (record { seat = seat; kind = kinds.MainTake task queue value }) le (rw (eqb-same task) refl) free)
 left_next script past t seat kind once known le h = omega (arith, left_goes_on script t past (record { seat = seat; kind = kind }) le refl)
 
-counted_next : (script : Plan) → IsPostedOnce script → (past : List Entry) (e : Entry) → is_legal script past ≡ true → is_allowed script past e ≡ true
+counted_next : (script : Plan) → IsPostedOnce script → (past : List Entry) (e : Entry) → IsLegal script past → IsAllowed script past e
     → Counted script past → Counted script (past ++ e ∷ [])
 unfolding has_left
 counted_next script once past e legal allowed known =
@@ -217,9 +217,9 @@ counted_next script once past e legal allowed known =
     seat_within : leb e.seat script.workers ≡ true → e.seat ≤ script.workers
     seat_within h = grind arith
 
-pub counted : (script : Plan) → IsPostedOnce script → (past : List Entry) → is_legal script past ≡ true → Counted script past
+pub counted : (script : Plan) → IsPostedOnce script → (past : List Entry) → IsLegal script past → Counted script past
 counted script once past legal = legal_induction script (Counted script) (nothing_counted script) (counted_next script once) past legal
 
 -- a task is posted at most once
-pub posted_at_most_once : (script : Plan) (past : List Entry) (t : ℕ) → IsPostedOnce script → is_legal script past ≡ true → times t (posted_in past) ≤ 1
+pub posted_at_most_once : (script : Plan) (past : List Entry) (t : ℕ) → IsPostedOnce script → IsLegal script past → times t (posted_in past) ≤ 1
 posted_at_most_once script past t once legal = let known : Counted script past = counted script once past legal in omega (arith, known.within t, once t)

@@ -1,5 +1,5 @@
 -- What every legal past gives about tasks and seats.
-use Rattle.std.specs.Prelude.{◌≡◌, ℕ, ◌≤◌, Bool, true, false, List, Some, Contains}
+use Rattle.std.specs.Prelude.{◌≡◌, ℕ, ◌<◌, ◌≤◌, Bool, true, false, List, Some, Contains}
 use Rattle.task_base.specs.Plan.{Plan}
 use Rattle.task_base.specs.declared.entry.Entry.{Entry}
 use Rattle.task_model.specs.Posts.{Posted, posts, main_posts, is_taken, is_ended, is_main_taken, is_main_ended}
@@ -7,6 +7,7 @@ use Rattle.task_base.specs.Runners.{sequence_of}
 use Rattle.task_base.specs.declared.script.Action.{Action}
 use Rattle.task_base.specs.declared.script.Action.TheVariants as actions
 use Rattle.task_model.specs.Seats.{Running, Holding, running, holding}
+use Rattle.task_model.specs.Jobs.{claimed}
 use Rattle.hist_model.specs.Views.{own_entries}
 use Rattle.hist_model.specs.Script.{Current, current}
 
@@ -64,6 +65,14 @@ pub record RunsAtDriver (past : List Entry) (t : ℕ) : Type 0 where
   pub is_main : now.is_main ≡ true
   pub task_is : now.task ≡ t
   pub alone : (other : ℕ) (w : Running) → running past other ≡ Some w → w.is_main ≡ true → w.task ≡ t → other ≡ 0
+
+-- who holds an item is a seat of the script, and the item was claimed; no two seats hold one item of a job, or one number
+-- in it
+pub record HoldsApart (script : Plan) (past : List Entry) : Type 0 where
+  pub known : (seat : ℕ) (h : Holding) → holding past seat ≡ Some h → seat ≤ script.workers
+  pub is_claimed : (seat : ℕ) (h : Holding) → holding past seat ≡ Some h → h.item < claimed past h.job
+  pub one_number : (a b : ℕ) (h k : Holding) → holding past a ≡ Some h → holding past b ≡ Some k → h.job ≡ k.job → h.id ≡ k.id → a ≡ b
+  pub one_item : (a b : ℕ) (h k : Holding) → holding past a ≡ Some h → holding past b ≡ Some k → h.job ≡ k.job → h.item ≡ k.item → a ≡ b
 
 -- the action runs main tasks
 abbrev pub is_pump : Action → Bool
