@@ -262,7 +262,8 @@ ripened_before_posted_script = record {
   queues = [];
   tasks = [] ∷ [] ∷ [] ∷ [] ∷ [];
   jobs = [];
-  actions = actions.Policy policies.Nothing ∷ actions.Post 0 0 5 ∷ actions.Post 1 0 3 ∷ actions.Post 2 0 3 ∷ actions.Tick 1 ∷ actions.Post 3 0 0 ∷ actions.Policy policies.All ∷ actions.Flush ∷ [];
+  actions = actions.Policy policies.Nothing ∷ actions.Post 0 0 5 ∷ actions.Post 1 0 3 ∷ actions.Post 2 0 3 ∷ actions.Tick 1 ∷ actions.Post 3 0 0 ∷
+      actions.Policy policies.All ∷ actions.Flush ∷ [];
 }
 
 abbrev ripened_before_posted_log : List Entry
@@ -335,7 +336,8 @@ streak_ended_by_another_class_script = record {
   queues = queue_of 3 0 ∷ queue_of 2 0 ∷ [];
   tasks = [] ∷ [] ∷ [] ∷ [] ∷ [] ∷ [] ∷ [];
   jobs = [];
-  actions = actions.Main 0 0 1 ∷ actions.Main 1 0 1 ∷ actions.Main 2 0 1 ∷ actions.Main 3 0 1 ∷ actions.Main 5 1 2 ∷ actions.Tick 1 ∷ actions.Main 4 0 0 ∷ actions.Pump 3 ∷ actions.Tick 1 ∷ actions.Pump 2 ∷ [];
+  actions = actions.Main 0 0 1 ∷ actions.Main 1 0 1 ∷ actions.Main 2 0 1 ∷ actions.Main 3 0 1 ∷ actions.Main 5 1 2 ∷ actions.Tick 1 ∷ actions.Main 4 0 0 ∷
+      actions.Pump 3 ∷ actions.Tick 1 ∷ actions.Pump 2 ∷ [];
 }
 
 abbrev streak_ended_by_another_class_log : List Entry

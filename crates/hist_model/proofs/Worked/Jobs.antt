@@ -65,7 +65,8 @@ cancel_and_refused_job_script = record {
   queues = [];
   tasks = [];
   jobs = job_of UserVisible SkipOnShutdown 4 2 (steps.Add 1 ∷ []) ∷ job_of UserVisible SkipOnShutdown 4 2 (steps.Add 1 ∷ []) ∷ [];
-  actions = actions.Policy policies.Nothing ∷ actions.StartJob 0 ∷ actions.Cancel 0 ∷ actions.Join 0 ∷ actions.Shutdown ∷ actions.StartJob 1 ∷ actions.Join 1 ∷ [];
+  actions = actions.Policy policies.Nothing ∷ actions.StartJob 0 ∷ actions.Cancel 0 ∷ actions.Join 0 ∷ actions.Shutdown ∷ actions.StartJob 1 ∷ actions.Join 1 ∷
+      [];
 }
 
 abbrev cancel_and_refused_job_log : List Entry
@@ -207,11 +208,14 @@ page_load_script = record {
   foreground_best = 2;
   background = 1;
   threshold = 1000;
-  runners = runner_of Parallel UserVisible SkipOnShutdown true ∷ runner_of Sequenced UserBlocking BlockShutdown false ∷ runner_of (Single 2) BestEffort ContinueOnShutdown false ∷ [];
+  runners = runner_of Parallel UserVisible SkipOnShutdown true ∷ runner_of Sequenced UserBlocking BlockShutdown false ∷
+      runner_of (Single 2) BestEffort ContinueOnShutdown false ∷ [];
   queues = queue_of 1 1 ∷ queue_of 4 0 ∷ [];
-  tasks = (steps.Add 1 ∷ []) ∷ (steps.Add 2 ∷ []) ∷ (steps.Block May ∷ steps.Add 3 ∷ steps.Unblock ∷ steps.Main 0 0 0 ∷ []) ∷ (steps.Add 4 ∷ steps.Post 1 1 0 ∷ []) ∷ (steps.Set 9 ∷ []) ∷ (steps.Mul 2 ∷ []) ∷ (steps.Add 5 ∷ []) ∷ [];
+  tasks = (steps.Add 1 ∷ []) ∷ (steps.Add 2 ∷ []) ∷ (steps.Block May ∷ steps.Add 3 ∷ steps.Unblock ∷ steps.Main 0 0 0 ∷ []) ∷
+      (steps.Add 4 ∷ steps.Post 1 1 0 ∷ []) ∷ (steps.Set 9 ∷ []) ∷ (steps.Mul 2 ∷ []) ∷ (steps.Add 5 ∷ []) ∷ [];
   jobs = job_of UserVisible BlockShutdown 32 4 (steps.Mul 3 ∷ steps.Add 1 ∷ []) ∷ [];
-  actions = actions.Main 3 1 0 ∷ actions.Main 4 0 5 ∷ actions.Post 2 0 0 ∷ actions.Post 5 1 0 ∷ actions.Post 6 2 0 ∷ actions.StartJob 0 ∷ actions.Pump 2 ∷ actions.Tick 2 ∷ actions.Join 0 ∷ actions.Flush ∷ actions.Pump 4 ∷ actions.Shutdown ∷ [];
+  actions = actions.Main 3 1 0 ∷ actions.Main 4 0 5 ∷ actions.Post 2 0 0 ∷ actions.Post 5 1 0 ∷ actions.Post 6 2 0 ∷ actions.StartJob 0 ∷ actions.Pump 2 ∷
+      actions.Tick 2 ∷ actions.Join 0 ∷ actions.Flush ∷ actions.Pump 4 ∷ actions.Shutdown ∷ [];
 }
 
 abbrev page_load_log : List Entry

@@ -116,7 +116,8 @@ priority_before_posting_order_script = record {
   foreground_best = 2;
   background = 0;
   threshold = 1000000;
-  runners = runner_of Parallel BestEffort SkipOnShutdown false ∷ runner_of Parallel UserVisible SkipOnShutdown false ∷ runner_of Parallel UserBlocking SkipOnShutdown false ∷ [];
+  runners = runner_of Parallel BestEffort SkipOnShutdown false ∷ runner_of Parallel UserVisible SkipOnShutdown false ∷
+      runner_of Parallel UserBlocking SkipOnShutdown false ∷ [];
   queues = [];
   tasks = (steps.Add 1 ∷ []) ∷ (steps.Add 1 ∷ []) ∷ (steps.Add 1 ∷ []) ∷ [];
   jobs = [];
@@ -168,11 +169,13 @@ foreground_holds_best_effort_script = record {
   foreground_best = 2;
   background = 0;
   threshold = 1000000;
-  runners = runner_of Parallel BestEffort SkipOnShutdown false ∷ runner_of Parallel UserVisible SkipOnShutdown false ∷ runner_of Parallel UserBlocking SkipOnShutdown false ∷ [];
+  runners = runner_of Parallel BestEffort SkipOnShutdown false ∷ runner_of Parallel UserVisible SkipOnShutdown false ∷
+      runner_of Parallel UserBlocking SkipOnShutdown false ∷ [];
   queues = [];
   tasks = (steps.Add 1 ∷ []) ∷ (steps.Add 1 ∷ []) ∷ (steps.Add 1 ∷ []) ∷ [];
   jobs = [];
-  actions = actions.Policy policies.Nothing ∷ actions.Post 0 0 0 ∷ actions.Post 1 1 0 ∷ actions.Post 2 2 0 ∷ actions.Policy policies.Foreground ∷ actions.Flush ∷ [];
+  actions = actions.Policy policies.Nothing ∷ actions.Post 0 0 0 ∷ actions.Post 1 1 0 ∷ actions.Post 2 2 0 ∷ actions.Policy policies.Foreground ∷
+      actions.Flush ∷ [];
 }
 
 abbrev foreground_holds_best_effort_log : List Entry
@@ -262,7 +265,8 @@ ripening_order_script = record {
   queues = [];
   tasks = (steps.Add 1 ∷ []) ∷ (steps.Mul 2 ∷ []) ∷ (steps.Set 7 ∷ []) ∷ [];
   jobs = [];
-  actions = actions.Policy policies.Nothing ∷ actions.Post 0 0 5 ∷ actions.Post 1 0 3 ∷ actions.Post 2 0 0 ∷ actions.Tick 1 ∷ actions.Policy policies.All ∷ actions.Flush ∷ [];
+  actions = actions.Policy policies.Nothing ∷ actions.Post 0 0 5 ∷ actions.Post 1 0 3 ∷ actions.Post 2 0 0 ∷ actions.Tick 1 ∷ actions.Policy policies.All ∷
+      actions.Flush ∷ [];
 }
 
 abbrev ripening_order_log : List Entry
