@@ -13,18 +13,10 @@ use Rattle.task_base.specs.declared.step.Scope.TheVariants.{May}
 use Rattle.task_base.specs.declared.step.Step.TheVariants as steps
 use Rattle.task_traits.specs.declared.traits.Behaviour.TheVariants.{SkipOnShutdown, BlockShutdown}
 use Rattle.task_traits.specs.declared.traits.Priority.TheVariants.{BestEffort, UserVisible, UserBlocking}
-use Rattle.hist_model.proofs.Worked.Rows.{judge, read, written, IsRight, runner_of, queue_of, job_of, by}
+use Rattle.hist_model.proofs.Worked.Rows.{judge, read, written, IsRight, runner_of, queue_of, job_of, by, plain}
 
 abbrev refused_before_done_script : Plan
-refused_before_done_script = record {
-  workers = 1;
-  foreground = 4;
-  foreground_best = 2;
-  background = 0;
-  threshold = 1000000;
-  runners = [];
-  queues = [];
-  tasks = [];
+refused_before_done_script = record plain {
   jobs = job_of UserVisible SkipOnShutdown 0 4 (steps.Add 7 ∷ []) ∷ [];
   actions = actions.Shutdown ∷ actions.StartJob 0 ∷ actions.Cancel 0 ∷ actions.Join 0 ∷ [];
 }
@@ -47,15 +39,8 @@ unfolding judge read written
 refused_before_done = record { reads = refl; writes = refl; judged = refl }
 
 abbrev inside_after_the_script_script : Plan
-inside_after_the_script_script = record {
+inside_after_the_script_script = record plain {
   workers = 2;
-  foreground = 4;
-  foreground_best = 2;
-  background = 0;
-  threshold = 1000000;
-  runners = [];
-  queues = [];
-  tasks = [];
   jobs = job_of UserVisible SkipOnShutdown 3 4 (steps.Add 1 ∷ []) ∷ [];
   actions = actions.StartJob 0 ∷ actions.Tick 1 ∷ [];
 }
@@ -78,14 +63,10 @@ unfolding judge read written
 inside_after_the_script = record { reads = refl; writes = refl; judged = refl }
 
 abbrev best_effort_yields_by_the_group_script : Plan
-best_effort_yields_by_the_group_script = record {
-  workers = 1;
+best_effort_yields_by_the_group_script = record plain {
   foreground = 2;
   foreground_best = 1;
-  background = 0;
-  threshold = 1000000;
   runners = runner_of Parallel UserBlocking SkipOnShutdown false ∷ [];
-  queues = [];
   tasks = [] ∷ [];
   jobs = job_of BestEffort SkipOnShutdown 2 1 (steps.Add 0 ∷ []) ∷ [];
   actions = actions.StartJob 0 ∷ actions.Post 0 0 0 ∷ actions.Flush ∷ [];
@@ -111,14 +92,10 @@ unfolding judge read written
 best_effort_yields_by_the_group = record { reads = refl; writes = refl; judged = refl }
 
 abbrev driver_does_not_make_way_script : Plan
-driver_does_not_make_way_script = record {
-  workers = 1;
+driver_does_not_make_way_script = record plain {
   foreground = 1;
   foreground_best = 1;
-  background = 0;
-  threshold = 1000000;
   runners = runner_of Parallel UserVisible SkipOnShutdown false ∷ runner_of Parallel UserBlocking SkipOnShutdown false ∷ [];
-  queues = [];
   tasks = [] ∷ (steps.Post 0 1 0 ∷ []) ∷ [];
   jobs = job_of BestEffort SkipOnShutdown 2 1 (steps.Add 0 ∷ []) ∷ [];
   actions = actions.StartJob 0 ∷ actions.Post 1 0 0 ∷ actions.Join 0 ∷ actions.Flush ∷ [];
@@ -148,16 +125,13 @@ unfolding judge read written
 driver_does_not_make_way = record { reads = refl; writes = refl; judged = refl }
 
 abbrev threshold_from_the_opening_script : Plan
-threshold_from_the_opening_script = record {
+threshold_from_the_opening_script = record plain {
   workers = 2;
   foreground = 1;
   foreground_best = 1;
-  background = 0;
   threshold = 5;
   runners = runner_of Parallel UserVisible SkipOnShutdown true ∷ [];
-  queues = [];
   tasks = (steps.Block May ∷ steps.Unblock ∷ []) ∷ [] ∷ [];
-  jobs = [];
   actions = actions.Tick 1 ∷ actions.Post 0 0 0 ∷ actions.Post 1 0 0 ∷ actions.Tick 2 ∷ actions.Flush ∷ [];
 }
 
@@ -185,16 +159,9 @@ unfolding judge read written
 threshold_from_the_opening = record { reads = refl; writes = refl; judged = refl }
 
 abbrev forbidden_task_is_passed_over_script : Plan
-forbidden_task_is_passed_over_script = record {
-  workers = 1;
-  foreground = 4;
-  foreground_best = 2;
-  background = 0;
-  threshold = 1000000;
+forbidden_task_is_passed_over_script = record plain {
   runners = runner_of Sequenced UserVisible BlockShutdown false ∷ [];
-  queues = [];
   tasks = [] ∷ (steps.Add 2 ∷ []) ∷ [];
-  jobs = [];
   actions = actions.Policy policies.Nothing ∷ actions.Post 0 0 5 ∷ actions.Tick 1 ∷ actions.Post 1 0 0 ∷ actions.Shutdown ∷ [];
 }
 
@@ -218,16 +185,9 @@ unfolding judge read written
 forbidden_task_is_passed_over = record { reads = refl; writes = refl; judged = refl }
 
 abbrev delayed_block_refused_after_shutdown_script : Plan
-delayed_block_refused_after_shutdown_script = record {
-  workers = 1;
-  foreground = 4;
-  foreground_best = 2;
-  background = 0;
-  threshold = 1000000;
+delayed_block_refused_after_shutdown_script = record plain {
   runners = runner_of Sequenced UserVisible BlockShutdown false ∷ [];
-  queues = [];
   tasks = [] ∷ [] ∷ (steps.Post 0 0 5 ∷ steps.Post 1 0 0 ∷ []) ∷ [];
-  jobs = [];
   actions = actions.Post 2 0 0 ∷ actions.Shutdown ∷ [];
 }
 
@@ -252,16 +212,9 @@ unfolding judge read written
 delayed_block_refused_after_shutdown = record { reads = refl; writes = refl; judged = refl }
 
 abbrev ripened_before_posted_script : Plan
-ripened_before_posted_script = record {
-  workers = 1;
-  foreground = 4;
-  foreground_best = 2;
-  background = 0;
-  threshold = 1000000;
+ripened_before_posted_script = record plain {
   runners = runner_of Sequenced UserVisible SkipOnShutdown false ∷ [];
-  queues = [];
   tasks = [] ∷ [] ∷ [] ∷ [] ∷ [];
-  jobs = [];
   actions = actions.Policy policies.Nothing ∷ actions.Post 0 0 5 ∷ actions.Post 1 0 3 ∷ actions.Post 2 0 3 ∷ actions.Tick 1 ∷ actions.Post 3 0 0 ∷
       actions.Policy policies.All ∷ actions.Flush ∷ [];
 }
@@ -294,16 +247,10 @@ unfolding judge read written
 ripened_before_posted = record { reads = refl; writes = refl; judged = refl }
 
 abbrev fence_holds_the_delayed_lane_script : Plan
-fence_holds_the_delayed_lane_script = record {
+fence_holds_the_delayed_lane_script = record plain {
   workers = 2;
-  foreground = 4;
-  foreground_best = 2;
-  background = 0;
-  threshold = 1000000;
-  runners = [];
   queues = queue_of 0 0 ∷ [];
   tasks = [] ∷ [] ∷ [];
-  jobs = [];
   actions = actions.Main 0 0 5 ∷ actions.Main 1 0 0 ∷ actions.Fence 0 Now ∷ actions.Tick 1 ∷ actions.Pump 2 ∷ [];
 }
 
@@ -326,16 +273,10 @@ unfolding judge read written
 fence_holds_the_delayed_lane = record { reads = refl; writes = refl; judged = refl }
 
 abbrev streak_ended_by_another_class_script : Plan
-streak_ended_by_another_class_script = record {
+streak_ended_by_another_class_script = record plain {
   workers = 2;
-  foreground = 4;
-  foreground_best = 2;
-  background = 0;
-  threshold = 1000000;
-  runners = [];
   queues = queue_of 3 0 ∷ queue_of 2 0 ∷ [];
   tasks = [] ∷ [] ∷ [] ∷ [] ∷ [] ∷ [] ∷ [];
-  jobs = [];
   actions = actions.Main 0 0 1 ∷ actions.Main 1 0 1 ∷ actions.Main 2 0 1 ∷ actions.Main 3 0 1 ∷ actions.Main 5 1 2 ∷ actions.Tick 1 ∷ actions.Main 4 0 0 ∷
       actions.Pump 3 ∷ actions.Tick 1 ∷ actions.Pump 2 ∷ [];
 }
@@ -370,15 +311,7 @@ unfolding judge read written
 streak_ended_by_another_class = record { reads = refl; writes = refl; judged = refl }
 
 abbrev done_then_cancelled_script : Plan
-done_then_cancelled_script = record {
-  workers = 1;
-  foreground = 4;
-  foreground_best = 2;
-  background = 0;
-  threshold = 1000000;
-  runners = [];
-  queues = [];
-  tasks = [];
+done_then_cancelled_script = record plain {
   jobs = job_of UserVisible SkipOnShutdown 1 4 (steps.Add 7 ∷ []) ∷ [];
   actions = actions.StartJob 0 ∷ actions.Flush ∷ actions.Cancel 0 ∷ actions.Join 0 ∷ [];
 }
@@ -402,14 +335,10 @@ unfolding judge read written
 done_then_cancelled = record { reads = refl; writes = refl; judged = refl }
 
 abbrev held_work_makes_no_way_script : Plan
-held_work_makes_no_way_script = record {
-  workers = 1;
+held_work_makes_no_way_script = record plain {
   foreground = 1;
   foreground_best = 1;
-  background = 0;
-  threshold = 1000000;
   runners = runner_of Parallel UserVisible SkipOnShutdown false ∷ [];
-  queues = [];
   tasks = [] ∷ [];
   jobs = job_of BestEffort SkipOnShutdown 2 1 (steps.Add 0 ∷ []) ∷ [];
   actions = actions.StartJob 0 ∷ actions.Tick 1 ∷ actions.Policy policies.Nothing ∷ actions.Post 0 0 0 ∷ actions.Tick 1 ∷ [];

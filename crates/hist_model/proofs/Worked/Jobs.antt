@@ -13,18 +13,11 @@ use Rattle.task_traits.specs.declared.traits.Behaviour.TheVariants.{ContinueOnSh
 use Rattle.task_traits.specs.declared.traits.Priority.TheVariants.{BestEffort, UserVisible, UserBlocking}
 use Rattle.std.specs.Prelude.{codes, Some, None}
 use Rattle.hist_model.specs.Legal.{first_illegal}
-use Rattle.hist_model.proofs.Worked.Rows.{judge, read, written, IsRight, runner_of, queue_of, job_of, by}
+use Rattle.hist_model.proofs.Worked.Rows.{judge, read, written, IsRight, runner_of, queue_of, job_of, by, plain}
 
 abbrev job_joined_alone_script : Plan
-job_joined_alone_script = record {
+job_joined_alone_script = record plain {
   workers = 2;
-  foreground = 4;
-  foreground_best = 2;
-  background = 0;
-  threshold = 1000000;
-  runners = [];
-  queues = [];
-  tasks = [];
   jobs = job_of UserVisible SkipOnShutdown 10 3 (steps.Mul 2 ∷ steps.Add 1 ∷ []) ∷ [];
   actions = actions.Policy policies.Nothing ∷ actions.StartJob 0 ∷ actions.Join 0 ∷ [];
 }
@@ -55,15 +48,7 @@ unfolding judge read written
 job_joined_alone = record { reads = refl; writes = refl; judged = refl }
 
 abbrev cancel_and_refused_job_script : Plan
-cancel_and_refused_job_script = record {
-  workers = 1;
-  foreground = 4;
-  foreground_best = 2;
-  background = 0;
-  threshold = 1000000;
-  runners = [];
-  queues = [];
-  tasks = [];
+cancel_and_refused_job_script = record plain {
   jobs = job_of UserVisible SkipOnShutdown 4 2 (steps.Add 1 ∷ []) ∷ job_of UserVisible SkipOnShutdown 4 2 (steps.Add 1 ∷ []) ∷ [];
   actions = actions.Policy policies.Nothing ∷ actions.StartJob 0 ∷ actions.Cancel 0 ∷ actions.Join 0 ∷ actions.Shutdown ∷ actions.StartJob 1 ∷ actions.Join 1 ∷
       [];
@@ -90,14 +75,10 @@ unfolding judge read written
 cancel_and_refused_job = record { reads = refl; writes = refl; judged = refl }
 
 abbrev job_yields_script : Plan
-job_yields_script = record {
-  workers = 1;
+job_yields_script = record plain {
   foreground = 1;
   foreground_best = 1;
-  background = 0;
-  threshold = 1000000;
   runners = runner_of Parallel UserBlocking SkipOnShutdown false ∷ [];
-  queues = [];
   tasks = (steps.Add 1 ∷ []) ∷ [];
   jobs = job_of UserVisible SkipOnShutdown 3 1 (steps.Add 1 ∷ []) ∷ [];
   actions = actions.StartJob 0 ∷ actions.Post 0 0 0 ∷ actions.Flush ∷ [];
@@ -144,15 +125,7 @@ unfolding judge
 job_does_not_yield = refl
 
 abbrev cancel_with_worker_inside_script : Plan
-cancel_with_worker_inside_script = record {
-  workers = 1;
-  foreground = 4;
-  foreground_best = 2;
-  background = 0;
-  threshold = 1000000;
-  runners = [];
-  queues = [];
-  tasks = [];
+cancel_with_worker_inside_script = record plain {
   jobs = job_of UserVisible SkipOnShutdown 4 2 (steps.Add 1 ∷ []) ∷ [];
   actions = actions.StartJob 0 ∷ actions.Cancel 0 ∷ [];
 }
@@ -202,10 +175,8 @@ unfolding judge
 goes_on_after_the_cancel = refl
 
 abbrev page_load_script : Plan
-page_load_script = record {
+page_load_script = record plain {
   workers = 4;
-  foreground = 4;
-  foreground_best = 2;
   background = 1;
   threshold = 1000;
   runners = runner_of Parallel UserVisible SkipOnShutdown true ∷ runner_of Sequenced UserBlocking BlockShutdown false ∷

@@ -12,19 +12,12 @@ use Rattle.task_traits.specs.declared.traits.Behaviour.TheVariants.{SkipOnShutdo
 use Rattle.task_traits.specs.declared.traits.Priority.TheVariants.{BestEffort, UserVisible, UserBlocking}
 use Rattle.std.specs.Prelude.{codes, Some, None}
 use Rattle.hist_model.specs.Legal.{first_illegal}
-use Rattle.hist_model.proofs.Worked.Rows.{judge, read, written, IsRight, runner_of, by}
+use Rattle.hist_model.proofs.Worked.Rows.{judge, read, written, IsRight, runner_of, by, plain}
 
 abbrev first_run_script : Plan
-first_run_script = record {
-  workers = 1;
-  foreground = 4;
-  foreground_best = 2;
-  background = 0;
-  threshold = 1000000;
+first_run_script = record plain {
   runners = runner_of Sequenced UserVisible SkipOnShutdown false ∷ [];
-  queues = [];
   tasks = (steps.Add 5 ∷ []) ∷ [];
-  jobs = [];
   actions = actions.Post 0 0 0 ∷ actions.Flush ∷ [];
 }
 
@@ -44,16 +37,9 @@ unfolding judge read written
 first_run = record { reads = refl; writes = refl; judged = refl }
 
 abbrev state_moves_along_script : Plan
-state_moves_along_script = record {
-  workers = 1;
-  foreground = 4;
-  foreground_best = 2;
-  background = 0;
-  threshold = 1000000;
+state_moves_along_script = record plain {
   runners = runner_of Sequenced UserVisible SkipOnShutdown false ∷ [];
-  queues = [];
   tasks = (steps.Add 5 ∷ []) ∷ (steps.Mul 3 ∷ []) ∷ [];
-  jobs = [];
   actions = actions.Policy policies.Nothing ∷ actions.Post 0 0 0 ∷ actions.Post 1 0 0 ∷ actions.Policy policies.All ∷ actions.Flush ∷ [];
 }
 
@@ -110,17 +96,10 @@ unfolding judge
 cut_after_a_take = refl
 
 abbrev priority_before_posting_order_script : Plan
-priority_before_posting_order_script = record {
-  workers = 1;
-  foreground = 4;
-  foreground_best = 2;
-  background = 0;
-  threshold = 1000000;
+priority_before_posting_order_script = record plain {
   runners = runner_of Parallel BestEffort SkipOnShutdown false ∷ runner_of Parallel UserVisible SkipOnShutdown false ∷
       runner_of Parallel UserBlocking SkipOnShutdown false ∷ [];
-  queues = [];
   tasks = (steps.Add 1 ∷ []) ∷ (steps.Add 1 ∷ []) ∷ (steps.Add 1 ∷ []) ∷ [];
-  jobs = [];
   actions = actions.Policy policies.Nothing ∷ actions.Post 0 0 0 ∷ actions.Post 1 1 0 ∷ actions.Post 2 2 0 ∷ actions.Policy policies.All ∷ actions.Flush ∷ [];
 }
 
@@ -163,17 +142,10 @@ unfolding judge
 lower_priority_first = refl
 
 abbrev foreground_holds_best_effort_script : Plan
-foreground_holds_best_effort_script = record {
-  workers = 1;
-  foreground = 4;
-  foreground_best = 2;
-  background = 0;
-  threshold = 1000000;
+foreground_holds_best_effort_script = record plain {
   runners = runner_of Parallel BestEffort SkipOnShutdown false ∷ runner_of Parallel UserVisible SkipOnShutdown false ∷
       runner_of Parallel UserBlocking SkipOnShutdown false ∷ [];
-  queues = [];
   tasks = (steps.Add 1 ∷ []) ∷ (steps.Add 1 ∷ []) ∷ (steps.Add 1 ∷ []) ∷ [];
-  jobs = [];
   actions = actions.Policy policies.Nothing ∷ actions.Post 0 0 0 ∷ actions.Post 1 1 0 ∷ actions.Post 2 2 0 ∷ actions.Policy policies.Foreground ∷
       actions.Flush ∷ [];
 }
@@ -221,16 +193,9 @@ unfolding judge
 held_back_work_taken = refl
 
 abbrev ties_by_post_place_script : Plan
-ties_by_post_place_script = record {
-  workers = 1;
-  foreground = 4;
-  foreground_best = 2;
-  background = 0;
-  threshold = 1000000;
+ties_by_post_place_script = record plain {
   runners = runner_of Sequenced UserVisible SkipOnShutdown false ∷ runner_of Sequenced UserVisible SkipOnShutdown false ∷ [];
-  queues = [];
   tasks = (steps.Add 1 ∷ []) ∷ (steps.Add 1 ∷ []) ∷ [];
-  jobs = [];
   actions = actions.Policy policies.Nothing ∷ actions.Post 0 1 0 ∷ actions.Post 1 0 0 ∷ actions.Policy policies.All ∷ actions.Flush ∷ [];
 }
 
@@ -255,16 +220,9 @@ unfolding judge read written
 ties_by_post_place = record { reads = refl; writes = refl; judged = refl }
 
 abbrev ripening_order_script : Plan
-ripening_order_script = record {
-  workers = 1;
-  foreground = 4;
-  foreground_best = 2;
-  background = 0;
-  threshold = 1000000;
+ripening_order_script = record plain {
   runners = runner_of Sequenced UserVisible SkipOnShutdown false ∷ [];
-  queues = [];
   tasks = (steps.Add 1 ∷ []) ∷ (steps.Mul 2 ∷ []) ∷ (steps.Set 7 ∷ []) ∷ [];
-  jobs = [];
   actions = actions.Policy policies.Nothing ∷ actions.Post 0 0 5 ∷ actions.Post 1 0 3 ∷ actions.Post 2 0 0 ∷ actions.Tick 1 ∷ actions.Policy policies.All ∷
       actions.Flush ∷ [];
 }
@@ -294,16 +252,9 @@ unfolding judge read written
 ripening_order = record { reads = refl; writes = refl; judged = refl }
 
 abbrev shutdown_skips_and_blocks_script : Plan
-shutdown_skips_and_blocks_script = record {
-  workers = 1;
-  foreground = 4;
-  foreground_best = 2;
-  background = 0;
-  threshold = 1000000;
+shutdown_skips_and_blocks_script = record plain {
   runners = runner_of Parallel UserVisible SkipOnShutdown false ∷ runner_of Parallel UserVisible BlockShutdown false ∷ [];
-  queues = [];
   tasks = (steps.Add 1 ∷ []) ∷ (steps.Add 2 ∷ []) ∷ (steps.Add 3 ∷ []) ∷ [];
-  jobs = [];
   actions = actions.Policy policies.Nothing ∷ actions.Post 0 0 0 ∷ actions.Post 1 1 0 ∷ actions.Shutdown ∷ actions.Post 2 1 0 ∷ [];
 }
 
@@ -327,16 +278,9 @@ unfolding judge read written
 shutdown_skips_and_blocks = record { reads = refl; writes = refl; judged = refl }
 
 abbrev block_task_posts_during_shutdown_script : Plan
-block_task_posts_during_shutdown_script = record {
-  workers = 1;
-  foreground = 4;
-  foreground_best = 2;
-  background = 0;
-  threshold = 1000000;
+block_task_posts_during_shutdown_script = record plain {
   runners = runner_of Parallel UserVisible BlockShutdown false ∷ [];
-  queues = [];
   tasks = (steps.Add 1 ∷ []) ∷ (steps.Add 2 ∷ steps.Post 0 0 0 ∷ []) ∷ [];
-  jobs = [];
   actions = actions.Policy policies.Nothing ∷ actions.Post 1 0 0 ∷ actions.Shutdown ∷ [];
 }
 
@@ -361,16 +305,9 @@ unfolding judge read written
 block_task_posts_during_shutdown = record { reads = refl; writes = refl; judged = refl }
 
 abbrev delayed_work_does_not_block_script : Plan
-delayed_work_does_not_block_script = record {
-  workers = 1;
-  foreground = 4;
-  foreground_best = 2;
-  background = 0;
-  threshold = 1000000;
+delayed_work_does_not_block_script = record plain {
   runners = runner_of Parallel UserVisible BlockShutdown false ∷ [];
-  queues = [];
   tasks = (steps.Add 1 ∷ []) ∷ [];
-  jobs = [];
   actions = actions.Post 0 0 5 ∷ actions.Shutdown ∷ actions.Tick 1 ∷ [];
 }
 
@@ -390,16 +327,12 @@ unfolding judge read written
 delayed_work_does_not_block = record { reads = refl; writes = refl; judged = refl }
 
 abbrev will_block_script : Plan
-will_block_script = record {
+will_block_script = record plain {
   workers = 2;
   foreground = 1;
   foreground_best = 1;
-  background = 0;
-  threshold = 1000000;
   runners = runner_of Parallel UserVisible SkipOnShutdown true ∷ [];
-  queues = [];
   tasks = (steps.Block Will ∷ steps.Add 1 ∷ steps.Unblock ∷ []) ∷ (steps.Add 2 ∷ []) ∷ [];
-  jobs = [];
   actions = actions.Post 0 0 0 ∷ actions.Post 1 0 0 ∷ actions.Flush ∷ [];
 }
 
@@ -442,16 +375,13 @@ unfolding judge
 no_room_before_the_scope = refl
 
 abbrev may_block_script : Plan
-may_block_script = record {
+may_block_script = record plain {
   workers = 2;
   foreground = 1;
   foreground_best = 1;
-  background = 0;
   threshold = 5;
   runners = runner_of Parallel UserVisible SkipOnShutdown true ∷ [];
-  queues = [];
   tasks = (steps.Block May ∷ steps.Add 1 ∷ steps.Unblock ∷ []) ∷ (steps.Add 2 ∷ []) ∷ [];
-  jobs = [];
   actions = actions.Post 0 0 0 ∷ actions.Post 1 0 0 ∷ actions.Tick 2 ∷ actions.Flush ∷ [];
 }
 

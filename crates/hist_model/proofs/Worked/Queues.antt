@@ -7,19 +7,13 @@ use Rattle.task_base.specs.declared.script.Action.TheVariants as actions
 use Rattle.task_base.specs.declared.script.FenceAt.TheVariants.{Now, Start}
 use Rattle.task_base.specs.declared.step.Step.TheVariants as steps
 use Rattle.std.specs.Prelude.{codes}
-use Rattle.hist_model.proofs.Worked.Rows.{judge, read, written, IsRight, queue_of, by}
+use Rattle.hist_model.proofs.Worked.Rows.{judge, read, written, IsRight, queue_of, by, plain}
 
 abbrev fence_now_script : Plan
-fence_now_script = record {
+fence_now_script = record plain {
   workers = 2;
-  foreground = 4;
-  foreground_best = 2;
-  background = 0;
-  threshold = 1000000;
-  runners = [];
   queues = queue_of 3 0 ∷ [];
   tasks = (steps.Add 1 ∷ []) ∷ (steps.Add 2 ∷ []) ∷ [];
-  jobs = [];
   actions = actions.Main 0 0 0 ∷ actions.Fence 0 Now ∷ actions.Main 1 0 0 ∷ actions.Pump 5 ∷ actions.Unfence 0 ∷ actions.Pump 5 ∷ [];
 }
 
@@ -45,16 +39,10 @@ unfolding judge read written
 fence_now = record { reads = refl; writes = refl; judged = refl }
 
 abbrev fence_replaced_script : Plan
-fence_replaced_script = record {
+fence_replaced_script = record plain {
   workers = 2;
-  foreground = 4;
-  foreground_best = 2;
-  background = 0;
-  threshold = 1000000;
-  runners = [];
   queues = queue_of 3 0 ∷ [];
   tasks = (steps.Add 1 ∷ []) ∷ (steps.Add 2 ∷ []) ∷ (steps.Add 4 ∷ []) ∷ [];
-  jobs = [];
   actions = actions.Main 0 0 0 ∷ actions.Fence 0 Start ∷ actions.Main 1 0 0 ∷ actions.Fence 0 Now ∷ actions.Main 2 0 0 ∷ actions.Pump 5 ∷ [];
 }
 
@@ -80,16 +68,10 @@ unfolding judge read written
 fence_replaced = record { reads = refl; writes = refl; judged = refl }
 
 abbrev starvation_bound_script : Plan
-starvation_bound_script = record {
+starvation_bound_script = record plain {
   workers = 2;
-  foreground = 4;
-  foreground_best = 2;
-  background = 0;
-  threshold = 1000000;
-  runners = [];
   queues = queue_of 3 0 ∷ [];
   tasks = (steps.Add 1 ∷ []) ∷ (steps.Add 1 ∷ []) ∷ (steps.Add 1 ∷ []) ∷ (steps.Add 1 ∷ []) ∷ (steps.Add 1 ∷ []) ∷ [];
-  jobs = [];
   actions = actions.Main 0 0 1 ∷ actions.Main 1 0 1 ∷ actions.Main 2 0 1 ∷ actions.Main 3 0 1 ∷ actions.Tick 1 ∷ actions.Main 4 0 0 ∷ actions.Pump 5 ∷ [];
 }
 
@@ -121,16 +103,10 @@ unfolding judge read written
 starvation_bound = record { reads = refl; writes = refl; judged = refl }
 
 abbrev voters_and_closing_script : Plan
-voters_and_closing_script = record {
+voters_and_closing_script = record plain {
   workers = 2;
-  foreground = 4;
-  foreground_best = 2;
-  background = 0;
-  threshold = 1000000;
-  runners = [];
   queues = queue_of 3 1 ∷ [];
   tasks = (steps.Add 1 ∷ []) ∷ (steps.Add 1 ∷ []) ∷ [];
-  jobs = [];
   actions = actions.Vote 0 0 false ∷ actions.Main 0 0 0 ∷ actions.Pump 1 ∷ actions.Vote 0 0 true ∷ actions.Pump 1 ∷ actions.Close 0 ∷ actions.Main 1 0 0 ∷ [];
 }
 
@@ -154,16 +130,10 @@ unfolding judge read written
 voters_and_closing = record { reads = refl; writes = refl; judged = refl }
 
 abbrev classes_script : Plan
-classes_script = record {
+classes_script = record plain {
   workers = 2;
-  foreground = 4;
-  foreground_best = 2;
-  background = 0;
-  threshold = 1000000;
-  runners = [];
   queues = queue_of 3 0 ∷ queue_of 2 0 ∷ [];
   tasks = (steps.Add 1 ∷ []) ∷ (steps.Add 1 ∷ []) ∷ (steps.Add 1 ∷ []) ∷ [];
-  jobs = [];
   actions = actions.Main 0 0 0 ∷ actions.Main 1 1 0 ∷ actions.Pump 1 ∷ actions.Rank 0 0 ∷ actions.Main 2 1 0 ∷ actions.Pump 5 ∷ [];
 }
 

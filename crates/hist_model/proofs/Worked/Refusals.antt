@@ -11,20 +11,13 @@ use Rattle.task_base.specs.declared.step.Scope.TheVariants.{May, Will}
 use Rattle.task_base.specs.declared.step.Step.TheVariants as steps
 use Rattle.task_traits.specs.declared.traits.Behaviour.TheVariants.{SkipOnShutdown, BlockShutdown}
 use Rattle.task_traits.specs.declared.traits.Priority.TheVariants.{BestEffort, UserVisible, UserBlocking}
-use Rattle.hist_model.proofs.Worked.Rows.{judge, AreRefused, runner_of, queue_of, job_of, by, at}
+use Rattle.hist_model.proofs.Worked.Rows.{judge, AreRefused, runner_of, queue_of, job_of, by, at, plain}
 
 -- one sequenced runner, and one task on it
 abbrev one_task : Plan
-one_task = record {
-  workers = 1;
-  foreground = 4;
-  foreground_best = 2;
-  background = 0;
-  threshold = 1000000;
+one_task = record plain {
   runners = runner_of Sequenced UserVisible SkipOnShutdown false ∷ [];
-  queues = [];
   tasks = (steps.Add 5 ∷ []) ∷ [];
-  jobs = [];
   actions = actions.Post 0 0 0 ∷ actions.Flush ∷ [];
 }
 
@@ -59,16 +52,9 @@ one_task_refuses = refl
 
 -- a script that waits for nothing
 abbrev unfinished : Plan
-unfinished = record {
-  workers = 1;
-  foreground = 4;
-  foreground_best = 2;
-  background = 0;
-  threshold = 1000000;
+unfinished = record plain {
   runners = runner_of Sequenced UserVisible SkipOnShutdown false ∷ [];
-  queues = [];
   tasks = (steps.Add 5 ∷ []) ∷ [];
-  jobs = [];
   actions = actions.Post 0 0 0 ∷ [];
 }
 
@@ -81,16 +67,9 @@ unfinished_refuses = refl
 
 -- a skip task and block tasks, and a shutdown
 abbrev shutting : Plan
-shutting = record {
-  workers = 1;
-  foreground = 4;
-  foreground_best = 2;
-  background = 0;
-  threshold = 1000000;
+shutting = record plain {
   runners = runner_of Parallel UserVisible SkipOnShutdown false ∷ runner_of Parallel UserVisible BlockShutdown false ∷ [];
-  queues = [];
   tasks = (steps.Add 1 ∷ []) ∷ (steps.Add 2 ∷ []) ∷ (steps.Add 3 ∷ []) ∷ [];
-  jobs = [];
   actions = actions.Post 0 0 0 ∷ actions.Post 1 1 0 ∷ actions.Shutdown ∷ actions.Post 2 1 0 ∷ [];
 }
 
@@ -110,16 +89,10 @@ shutting_refuses = refl
 
 -- two workers, two sequenced tasks, and a parallel one that matters more
 abbrev sequenced : Plan
-sequenced = record {
+sequenced = record plain {
   workers = 2;
-  foreground = 4;
-  foreground_best = 2;
-  background = 0;
-  threshold = 1000000;
   runners = runner_of Sequenced UserVisible SkipOnShutdown false ∷ runner_of Parallel UserBlocking SkipOnShutdown false ∷ [];
-  queues = [];
   tasks = (steps.Add 5 ∷ []) ∷ (steps.Mul 3 ∷ steps.Set 18446744073709551615 ∷ steps.Add 2 ∷ []) ∷ [] ∷ [];
-  jobs = [];
   actions = actions.Post 0 0 0 ∷ actions.Post 1 0 0 ∷ actions.Post 2 1 0 ∷ actions.Flush ∷ [];
 }
 
@@ -140,16 +113,9 @@ sequenced_refuses = refl
 
 -- a delayed task, and two readings of the clock
 abbrev delayed : Plan
-delayed = record {
-  workers = 1;
-  foreground = 4;
-  foreground_best = 2;
-  background = 0;
-  threshold = 1000000;
+delayed = record plain {
   runners = runner_of Parallel UserVisible SkipOnShutdown false ∷ [];
-  queues = [];
   tasks = (steps.Add 1 ∷ []) ∷ [];
-  jobs = [];
   actions = actions.Post 0 0 5 ∷ actions.Tick 2 ∷ actions.Flush ∷ [];
 }
 
@@ -168,16 +134,10 @@ delayed_refuses = refl
 
 -- a runner that is bound to the second worker
 abbrev bound : Plan
-bound = record {
+bound = record plain {
   workers = 2;
-  foreground = 4;
-  foreground_best = 2;
-  background = 0;
-  threshold = 1000000;
   runners = runner_of (Single 2) UserVisible SkipOnShutdown false ∷ [];
-  queues = [];
   tasks = (steps.Add 1 ∷ []) ∷ [];
-  jobs = [];
   actions = actions.Post 0 0 0 ∷ actions.Flush ∷ [];
 }
 
@@ -190,16 +150,11 @@ bound_refuses = refl
 
 -- one best-effort task at a time
 abbrev best_effort : Plan
-best_effort = record {
+best_effort = record plain {
   workers = 2;
-  foreground = 4;
   foreground_best = 1;
-  background = 0;
-  threshold = 1000000;
   runners = runner_of Parallel BestEffort SkipOnShutdown false ∷ [];
-  queues = [];
   tasks = [] ∷ [] ∷ [];
-  jobs = [];
   actions = actions.Post 0 0 0 ∷ actions.Post 1 0 0 ∷ actions.Flush ∷ [];
 }
 
@@ -212,16 +167,10 @@ best_effort_refuses = refl
 
 -- a task that posts another one behind a scope
 abbrev acting : Plan
-acting = record {
+acting = record plain {
   workers = 2;
-  foreground = 4;
-  foreground_best = 2;
-  background = 0;
-  threshold = 1000000;
   runners = runner_of Parallel UserVisible SkipOnShutdown true ∷ [];
-  queues = [];
   tasks = (steps.Add 1 ∷ []) ∷ (steps.Block Will ∷ steps.Unblock ∷ steps.Post 0 0 0 ∷ []) ∷ [];
-  jobs = [];
   actions = actions.Post 1 0 0 ∷ actions.Flush ∷ [];
 }
 
@@ -240,16 +189,10 @@ acting_refuses = refl
 
 -- a main queue with a fence
 abbrev queued : Plan
-queued = record {
+queued = record plain {
   workers = 2;
-  foreground = 4;
-  foreground_best = 2;
-  background = 0;
-  threshold = 1000000;
-  runners = [];
   queues = queue_of 3 1 ∷ [];
   tasks = (steps.Add 1 ∷ []) ∷ (steps.Add 2 ∷ []) ∷ [];
-  jobs = [];
   actions = actions.Main 0 0 0 ∷ actions.Fence 0 Now ∷ actions.Main 1 0 0 ∷ actions.Pump 5 ∷ actions.Vote 0 0 false ∷ actions.Close 0 ∷ [];
 }
 
@@ -269,16 +212,10 @@ queued_refuses = refl
 
 -- four delayed main tasks and an immediate one
 abbrev laned : Plan
-laned = record {
+laned = record plain {
   workers = 2;
-  foreground = 4;
-  foreground_best = 2;
-  background = 0;
-  threshold = 1000000;
-  runners = [];
   queues = queue_of 3 0 ∷ [];
   tasks = (steps.Add 1 ∷ []) ∷ (steps.Add 1 ∷ []) ∷ (steps.Add 1 ∷ []) ∷ (steps.Add 1 ∷ []) ∷ (steps.Add 1 ∷ []) ∷ [];
-  jobs = [];
   actions = actions.Main 0 0 1 ∷ actions.Main 1 0 1 ∷ actions.Main 2 0 1 ∷ actions.Main 3 0 1 ∷ actions.Tick 1 ∷ actions.Main 4 0 0 ∷ actions.Pump 5 ∷ [];
 }
 
@@ -296,16 +233,10 @@ laned_refuses = refl
 
 -- two main queues of different classes
 abbrev ranked : Plan
-ranked = record {
+ranked = record plain {
   workers = 2;
-  foreground = 4;
-  foreground_best = 2;
-  background = 0;
-  threshold = 1000000;
-  runners = [];
   queues = queue_of 3 0 ∷ queue_of 2 0 ∷ [];
   tasks = (steps.Add 1 ∷ []) ∷ (steps.Add 1 ∷ []) ∷ [];
-  jobs = [];
   actions = actions.Main 0 0 0 ∷ actions.Main 1 1 0 ∷ actions.Pump 1 ∷ [];
 }
 
@@ -318,14 +249,9 @@ ranked_refuses = refl
 
 -- a job that two may enter, and a task beside it
 abbrev working : Plan
-working = record {
+working = record plain {
   workers = 3;
-  foreground = 4;
-  foreground_best = 2;
-  background = 0;
-  threshold = 1000000;
   runners = runner_of Parallel UserVisible SkipOnShutdown false ∷ [];
-  queues = [];
   tasks = (steps.Add 1 ∷ []) ∷ [];
   jobs = job_of UserVisible SkipOnShutdown 4 2 (steps.Add 1 ∷ []) ∷ [];
   actions = actions.StartJob 0 ∷ actions.Post 0 0 0 ∷ actions.Join 0 ∷ actions.Flush ∷ [];

@@ -1,5 +1,5 @@
 -- How worked histories are checked: by computing, with all definitions open.
-use Rattle.std.proofs.Common.{◌≡◌, ℕ, Bool, true, List}
+use Rattle.std.proofs.Common.{◌≡◌, ℕ, Bool, true, List, []}
 use Rattle.std.specs.Prelude.{Option, Some, None, Result, Ok, map}
 use Rattle.task_base.specs.Plan.{Plan, JobPlan}
 use Rattle.task_base.specs.declared.entry.Entry.{Entry}
@@ -61,6 +61,21 @@ pub record IsRight (script : Plan) (log : List Entry) (text lines : List ℕ) : 
   pub reads : read text ≡ Ok script
   pub writes : written log ≡ lines
   pub judged : judge script log ≡ (true, true, None)
+
+-- a script that says nothing, of which the others differ by what they say
+abbrev pub plain : Plan
+plain = record {
+  workers = 1;
+  foreground = 4;
+  foreground_best = 2;
+  background = 0;
+  threshold = 1000000;
+  runners = [];
+  queues = [];
+  tasks = [];
+  jobs = [];
+  actions = [];
+}
 
 abbrev pub runner_of : RunnerKind → Priority → Behaviour → Bool → Runner
 runner_of kind priority behaviour may_block = record { kind = kind; traits = record { priority = priority; behaviour = behaviour; may_block = may_block } }
