@@ -56,11 +56,29 @@ unfoldable pub written : List Entry → List ℕ
 unfolding log_text digits
 written log = log_text log
 
--- the first text is the script, the second the log, and the log is legal and whole for the script
-pub record IsRight (script : Plan) (log : List Entry) (text lines : List ℕ) : Type 0 where
-  pub reads : read text ≡ Ok script
-  pub writes : written log ≡ lines
-  pub judged : judge script log ≡ (true, true, None)
+-- a history that was worked out: its script and its entries, and the text of each
+pub record Worked : Type 0 where
+  pub script : Plan
+  pub log : List Entry
+  pub text : List ℕ
+  pub lines : List ℕ
+
+abbrev pub worked : Plan → List Entry → List ℕ → List ℕ → Worked
+worked script log text lines = record { script = script; log = log; text = text; lines = lines }
+
+-- what its texts and its entries are found to be: the script of the first text, the text of the entries, and the judgement
+abbrev Findings : Type 0
+Findings = Result Plan (ℕ × ℕ) × List ℕ × (Bool × Bool × Option ℕ)
+
+abbrev found : Worked → Findings
+found w = (read w.text, written w.log, judge w.script w.log)
+
+abbrev wanted : Worked → Findings
+wanted w = (Ok w.script, w.lines, (true, true, None))
+
+-- the first text of each is its script, the second its log, and the log is legal and whole for the script
+abbrev pub AreRight : List Worked → Type 0
+AreRight rows = map found rows ≡ map wanted rows
 
 -- a script that says nothing, of which the others differ by what they say
 abbrev pub plain : Plan
