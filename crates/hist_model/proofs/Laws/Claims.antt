@@ -19,7 +19,7 @@ use Rattle.pool_laws.proofs.Seats.Running.{holding_here, holding_other, inside_s
 use Rattle.hist_model.specs.Allowed.{enters_job, same_number, next_item, may_come}
 use Rattle.hist_model.specs.Legal.{IsLegal}
 use Rattle.hist_model.specs.Laws.Consistent.{HoldsApart}
-use Rattle.hist_model.proofs.Laws.Legal.{legal_induction}
+use Rattle.hist_model.proofs.Laws.Legal.{entry_induction}
 use Rattle.hist_model.proofs.Laws.OneThing.{job_take_free, job_step_holds}
 
 none_is : {A : Type 0} (o : Option A) → is_none o ≡ true → o ≡ None
@@ -103,7 +103,5 @@ nothing_claimed script j = let nobody : inside script [] j ≡ [] = filter_never
 
 -- the claimed items of a job are those that are done and those that are held
 pub claimed_is : (script : Plan) (past : List Entry) (j : ℕ) → IsLegal script past → claimed past j ≡ done past j + length (inside script past j)
-claimed_is script past j legal = legal_induction script (AllClaimed script) (nothing_claimed script)
-    (λ before e h allowed all.
-        let parts = and_parts (leb e.seat script.workers) (may_come script before e.seat e.kind) allowed in
-        claims_next script before e.seat e.kind (leb-true e.seat script.workers parts.0) parts.1 all) past legal j
+claimed_is script past j legal = entry_induction script (AllClaimed script) (nothing_claimed script)
+    (λ before e known may all. claims_next script before e.seat e.kind known may all) past legal j

@@ -1,7 +1,7 @@
 -- Every legal past is consistent.
 use Rattle.std.proofs.Common.{◌≡◌, ℕ, ◌≤◌, Bool, true, false, eqb, leb, List, [], ◌∷◌, ◌++◌, refl, sym, ap, subst, ◌∙◌, Option, Some, None, ◌⊎◌, inl, inr, arith}
 use Rattle.std.specs.Prelude.{not, ◌&&◌, ◌||◌, Contains}
-use Rattle.std.proofs.lemmas.Bool.{eqb-true, and_parts, or_cases, or_right, both_ways, false_from_ne_true, true≢false}
+use Rattle.std.proofs.lemmas.Bool.{eqb-true, and_parts, or_cases, or_right, both_ways, false_from_ne_true, true≢false, eq-eqb}
 use Rattle.std.proofs.lemmas.Option.{none-some, same_Some}
 use Rattle.std.proofs.lemmas.List.Elements.{Contains-append_left}
 use Rattle.std.proofs.Math.Bool.{or-false}
@@ -19,8 +19,7 @@ use Rattle.hist_model.specs.Allowed.{may_come}
 use Rattle.hist_model.specs.Legal.{IsLegal}
 use Rattle.hist_model.specs.Laws.Choice.{IsTake, IsMainTake}
 use Rattle.hist_model.specs.Laws.Consistent.{RunsPoolTask, RunsMainTask, RunsAs, IsConsistent}
-use Rattle.list_laws.proofs.Lists.{eqb-same}
-use Rattle.hist_model.proofs.Laws.Legal.{legal_induction}
+use Rattle.hist_model.proofs.Laws.Legal.{entry_induction}
 use Rattle.hist_model.proofs.Laws.Takes.{take_is, main_take_is, end_is, main_end_is}
 
 -- the past with one more entry
@@ -203,7 +202,7 @@ one_ended script past e v runs_it after ends_it c = nothing_taken script past e 
 
     not_another : (s : ℕ) (w : Running) → running past s ≡ Some w → eqb e.seat s ≡ false → ends_as w.is_main w.task e.kind ≡ true → ⊥
     not_another s w h other ends_now = let is = ends_it w.is_main w.task ends_now in
-        both_ways (eqb e.seat s) other (ap (eqb e.seat) (one_as script past c s e.seat w v h runs_it w.is_main refl is.0 (sym is.1)) ∙ eqb-same e.seat)
+        both_ways (eqb e.seat s) other (ap (eqb e.seat) (one_as script past c s e.seat w v h runs_it w.is_main refl is.0 (sym is.1)) ∙ eq-eqb e.seat e.seat refl)
 
     goes_on : (s : ℕ) (w : Running)
         → ((running past s ≡ Some w) × (eqb e.seat s ≡ false)) ⊎ ((s ≡ e.seat) × (running_after (running past e.seat) e.kind ≡ Some w))
@@ -238,7 +237,7 @@ not_ended script past c main t free = false_from_ne_true (ended_as main past t)
 nobody_runs : (script : Plan) (past : List Entry) (s seat : ℕ) (w : Running) → runs_sequence script past s ≡ false → seat ≤ script.workers
     → running past seat ≡ Some w → w.is_main ≡ false → sequence_of script w.home w.task ≡ s → ⊥
 nobody_runs script past s seat w idle known runs pool same = both_ways (runs_sequence script past s) idle
-    (seat_runs script past s seat (omega (arith, known)) (rw (runs, pool, same, eqb-same s) refl))
+    (seat_runs script past s seat (omega (arith, known)) (rw (runs, pool, same, eq-eqb s s refl) refl))
 
 take_consistent : (script : Plan) (past : List Entry) (seat task runner value : ℕ) → IsTake script past seat task runner value → IsConsistent script past
     → IsConsistent script (behind past seat (kinds.Take task runner value))
@@ -257,7 +256,7 @@ take_consistent script past seat task runner value t c = one_taken script past e
       posted = subst (λ ps. Contains ps t.head.posted) (sym (posts_push past e)) (Contains-append_left (posts past) [] t.head.posted t.is_head.accepted);
       task_is = t.task_is;
       home_is = t.home_is;
-      taken = is_taken_push past e task ∙ or_right (is_taken past task) (eqb task task) (eqb-same task);
+      taken = is_taken_push past e task ∙ or_right (is_taken past task) (eqb task task) (eq-eqb task task refl);
       not_ended = not_ended_stays false past e task (not_ended script past c false task t.not_taken) refl;
       worker = t.worker;
       known = t.known;
@@ -287,7 +286,7 @@ main_take_consistent script past seat task queue value t c = one_taken script pa
           (Contains-append_left (main_posts past) [] t.is_front.accepted t.is_front.posted);
       task_is = t.is_front.task_is ∙ t.task_is;
       home_is = t.is_front.queue_is ∙ t.queue_is;
-      taken = is_main_taken_push past e task ∙ or_right (is_main_taken past task) (eqb task task) (eqb-same task);
+      taken = is_main_taken_push past e task ∙ or_right (is_main_taken past task) (eqb task task) (eq-eqb task task refl);
       not_ended = not_ended_stays true past e task
           (not_ended script past c true task (ap (is_main_taken past) (sym t.task_is) ∙ t.is_front.not_taken)) refl;
       driver = t.driver;
@@ -322,5 +321,5 @@ nothing_consistent script = record {
 
 -- what every legal past gives
 pub legal_is_consistent : (script : Plan) (past : List Entry) → IsLegal script past → IsConsistent script past
-legal_is_consistent script = legal_induction script (IsConsistent script) (nothing_consistent script)
-    (λ past e h allowed c. step script past e.seat e.kind (and_parts (leb e.seat script.workers) (may_come script past e.seat e.kind) allowed).1 c)
+legal_is_consistent script = entry_induction script (IsConsistent script) (nothing_consistent script)
+    (λ past e known may c. step script past e.seat e.kind may c)

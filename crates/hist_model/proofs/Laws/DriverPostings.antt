@@ -23,11 +23,6 @@ use Rattle.hist_model.proofs.Laws.Agenda.{current_is_first, agenda_push}
 pub times-append : (t : ℕ) (xs ys : List ℕ) → times t (xs ++ ys) ≡ times t xs + times t ys
 times-append t xs ys = count-append (λ u. eqb u t) xs ys
 
--- the first of three tests that are passed
-pub first_test : (a b c : Bool) → ((a && b) && c) ≡ true → a ≡ true
-first_test true b c h = refl
-first_test false b c h = absurd cc
-
 -- how often actions post a task
 abbrev pub actions_post : ℕ → List Action → ℕ
 actions_post t xs = times t (flat_map posts_of_action xs)
@@ -63,7 +58,7 @@ wanted_post : (t : ℕ) (own : List Entry) (xs : List Action) (made : List Entry
     → actions_post t (next_agenda xs made (record { seat = seat; kind = kinds.Post task runner delay ok })).actions + times t (task ∷ []) ≤ actions_post t xs
 wanted_post t own [] made seat task runner delay ok h = absurd cc
 wanted_post t own (actions.Post u r d ∷ xs) made seat task runner delay ok h = one_behind t u task (actions.Post u r d) xs
-    (eqb-true task u (first_test (eqb task u) (eqb runner r) (eqb delay d) h)) refl
+    (eqb-true task u (and_parts (eqb task u) (eqb runner r) (and_parts _ (eqb delay d) h).0).0) refl
 wanted_post t own (x ∷ xs) made seat task runner delay ok h = absurd cc
 
 wanted_main : (t : ℕ) (own : List Entry) (xs : List Action) (made : List Entry) (seat task queue delay : ℕ) (ok : Bool)
@@ -71,7 +66,7 @@ wanted_main : (t : ℕ) (own : List Entry) (xs : List Action) (made : List Entry
     → actions_post t (next_agenda xs made (record { seat = seat; kind = kinds.Main task queue delay ok })).actions + times t (task ∷ []) ≤ actions_post t xs
 wanted_main t own [] made seat task queue delay ok h = absurd cc
 wanted_main t own (actions.Main u q d ∷ xs) made seat task queue delay ok h = one_behind t u task (actions.Main u q d) xs
-    (eqb-true task u (first_test (eqb task u) (eqb queue q) (eqb delay d) h)) refl
+    (eqb-true task u (and_parts (eqb task u) (eqb queue q) (and_parts _ (eqb delay d) h).0).0) refl
 wanted_main t own (x ∷ xs) made seat task queue delay ok h = absurd cc
 
 -- how often the actions that the driver has left post a task

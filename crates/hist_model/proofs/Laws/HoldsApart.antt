@@ -18,7 +18,7 @@ use Rattle.pool_laws.proofs.Seats.Running.{holding_here, holding_other}
 use Rattle.hist_model.specs.Allowed.{enters_job, same_number, next_item, may_come}
 use Rattle.hist_model.specs.Legal.{IsLegal}
 use Rattle.hist_model.specs.Laws.Consistent.{HoldsApart}
-use Rattle.hist_model.proofs.Laws.Legal.{legal_induction}
+use Rattle.hist_model.proofs.Laws.Legal.{entry_induction}
 use Rattle.hist_model.proofs.Laws.OneThing.{job_step_holds}
 
 -- two numbers that are the same, as a test
@@ -176,7 +176,5 @@ nothing_held script = record {
 
 -- in every legal history what seats hold is claimed, and no two hold one item of a job, or one number in it
 pub legal_holds_apart : (script : Plan) (past : List Entry) → IsLegal script past → HoldsApart script past
-legal_holds_apart script = legal_induction script (HoldsApart script) (nothing_held script)
-    (λ past e h allowed c.
-        let parts = and_parts (leb e.seat script.workers) (may_come script past e.seat e.kind) allowed in
-        step script past e.seat e.kind (leb-true e.seat script.workers parts.0) parts.1 c)
+legal_holds_apart script = entry_induction script (HoldsApart script) (nothing_held script)
+    (λ past e known may c. step script past e.seat e.kind known may c)

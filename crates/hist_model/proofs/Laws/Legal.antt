@@ -1,10 +1,12 @@
 -- Legal histories, entry by entry.
-use Rattle.std.proofs.Common.{◌≡◌, ℕ, cond, length, Some, None, Bool, true, false, List, [], ◌∷◌, ◌++◌, refl, sym, ap, subst, ◌∙◌, append_assoc, append-nil}
+use Rattle.std.proofs.Common.{◌≡◌, ℕ, ◌≤◌, leb, cond, length, Some, None, Bool, true, false, List, [], ◌∷◌, ◌++◌, refl, sym, ap, subst, ◌∙◌, append_assoc, append-nil}
 use Rattle.std.specs.Prelude.{◌&&◌, is_none}
-use Rattle.std.proofs.lemmas.Bool.{and_parts}
+use Rattle.std.proofs.Math.Bool.{and-true}
+use Rattle.std.proofs.lemmas.Bool.{and_parts, leb-true}
+use Rattle.std.proofs.lemmas.Option.{none-some, same_Some}
 use Rattle.task_base.specs.Plan.{Plan}
 use Rattle.task_base.specs.declared.entry.Entry.{Entry}
-use Rattle.hist_model.specs.Allowed.{is_allowed, IsAllowed}
+use Rattle.hist_model.specs.Allowed.{may_come, is_allowed, IsAllowed}
 use Rattle.hist_model.specs.Legal.{legal_from, is_legal, illegal_from, first_illegal, IsIllegalAt, IsLegal}
 
 legal_from_append : (script : Plan) (past xs ys : List Entry)
@@ -25,11 +27,7 @@ nothing_is_legal script = refl
 -- a longer history is legal exactly where the shorter one is and the new entry is allowed after it
 pub is_legal_push : (script : Plan) (past : List Entry) (e : Entry) → is_legal script (past ++ e ∷ []) ≡ (is_legal script past && is_allowed script past e)
 unfolding is_legal
-is_legal_push script past e = legal_from_append script [] past (e ∷ []) ∙ ap (λ b. legal_from script [] past && b) (last (is_allowed script past e))
-  where
-    last : (b : Bool) → (b && true) ≡ b
-    last true = refl
-    last false = refl
+is_legal_push script past e = legal_from_append script [] past (e ∷ []) ∙ ap (λ b. legal_from script [] past && b) (and-true (is_allowed script past e))
 
 -- the front of a legal history is legal
 pub front_is_legal : (script : Plan) (past rest : List Entry) → IsLegal script (past ++ rest) → IsLegal script past
@@ -58,6 +56,14 @@ legal_induction script P start step past h = walk [] past refl start h
         let longer = is_legal_push script front e ∙ ap (λ b. b && is_allowed script front e) legal ∙ parts.0 in
         subst P (append_assoc front (e ∷ []) rest) (walk (front ++ e ∷ []) rest longer (step front e legal parts.0 holds) parts.1)
 
+-- so does what an entry that may come, of a seat of the script, leaves
+pub entry_induction : (script : Plan) (P : List Entry → Type 0) → P []
+    → ((past : List Entry) (e : Entry) → e.seat ≤ script.workers → may_come script past e.seat e.kind ≡ true → P past → P (past ++ e ∷ []))
+    → (past : List Entry) → IsLegal script past → P past
+entry_induction script P start step = legal_induction script P start (λ past e legal allowed holds.
+    let parts = and_parts (leb e.seat script.workers) (may_come script past e.seat e.kind) allowed in
+    step past e (leb-true e.seat script.workers parts.0) parts.1 holds)
+
 -- there is no place that is not allowed exactly where the history is legal
 illegal_from_none : (script : Plan) (past rest : List Entry) → is_none (illegal_from script past rest) ≡ legal_from script past rest
 illegal_from_none script past [] = refl
@@ -76,14 +82,8 @@ pub first_illegal_some : (script : Plan) (log : List Entry) (place : ℕ) → fi
 unfolding first_illegal is_legal
 first_illegal_some script log place h = walk [] log refl h
   where
-    number : (a b : ℕ) → Some a ≡ Some b → a ≡ b
-    number a b e = cc
-
-    none : {X : Type 0} → None ≡ Some place → X
-    none e = absurd cc
-
     walk : (front rest : List Entry) → IsLegal script front → illegal_from script front rest ≡ Some place → IsIllegalAt script (front ++ rest) place
-    walk front [] legal k = none k
+    walk front [] legal k = absurd (none-some place k)
     walk front (e ∷ rest) legal k = at (is_allowed script front e) refl k
         (λ allowed later. subst (λ l. IsIllegalAt script l place) (append_assoc front (e ∷ []) rest)
         (walk (front ++ e ∷ []) rest (is_legal_push script front e ∙ ap (λ b. b && is_allowed script front e) legal ∙ allowed) later))
@@ -97,7 +97,7 @@ first_illegal_some script log place h = walk [] log refl h
           entry = e;
           rest = rest;
           parts = refl;
-          place_is = number (length front) place m;
+          place_is = same_Some (length front) place m;
           legal_before = legal;
           not_allowed = is;
         }

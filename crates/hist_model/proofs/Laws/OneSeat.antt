@@ -1,20 +1,19 @@
 -- What was taken and has not ended is run by one seat.
 use Rattle.std.proofs.Common.{◌≡◌, ℕ, Bool, true, false, eqb, leb, List, [], ◌∷◌, ◌++◌, refl, sym, ap, subst, ◌∙◌, Option, Some, None, ◌⊎◌, inl, inr}
 use Rattle.std.specs.Prelude.{◌||◌, is_none, ◌&&◌}
-use Rattle.std.proofs.lemmas.Bool.{eqb-true, and_parts, or_cases, or_parts, both_ways, true≢false}
+use Rattle.std.proofs.lemmas.Bool.{eqb-true, and_parts, or_cases, or_parts, both_ways, true≢false, eq-eqb}
 use Rattle.std.proofs.lemmas.Option.{same_Some}
 use Rattle.task_base.specs.Plan.{Plan}
 use Rattle.task_base.specs.declared.entry.Entry.{Entry}
 use Rattle.task_base.specs.declared.entry.Kind.{Kind}
 use Rattle.task_base.specs.declared.entry.Kind.TheVariants as kinds
-use Rattle.list_laws.proofs.Lists.{eqb-same}
 use Rattle.task_model.specs.Posts.{is_taken, is_ended, is_main_taken, is_main_ended}
 use Rattle.task_model.specs.Seats.{Running, running, running_after, holding}
 use Rattle.pool_laws.proofs.Seats.Running.{running_here, running_other}
 use Rattle.hist_model.specs.Allowed.{may_come}
 use Rattle.hist_model.specs.Legal.{IsLegal}
 use Rattle.hist_model.specs.Laws.Consistent.{RunsAs, RunsAtOneSeat, RunsAtDriver}
-use Rattle.hist_model.proofs.Laws.Legal.{legal_induction}
+use Rattle.hist_model.proofs.Laws.Legal.{entry_induction}
 use Rattle.hist_model.proofs.Laws.Takes.{take_is, end_is, main_end_is}
 use Rattle.hist_model.proofs.Laws.Consistent.{taken_as, ended_as, takes_as, ends_as, taken_as_push, ended_as_push, legal_is_consistent}
 use Rattle.hist_model.proofs.Laws.OneThing.{main_take_free}
@@ -42,12 +41,12 @@ goes_on script past seat (kinds.End task left) w may runs no_end =
     let (v, is, pool, task_is) = end_is script past seat task left may in
     let same : v ≡ w = same_Some v w (sym is ∙ runs) in
     absurd (both_ways (ends_as w.is_main w.task (kinds.End task left)) no_end (subst (λ x. ends_as x.is_main x.task (kinds.End task left) ≡ true) same
-        (rw (pool, task_is) (eqb-same task))))
+        (rw (pool, task_is) (eq-eqb task task refl))))
 goes_on script past seat (kinds.MainEnd task left) w may runs no_end =
     let (v, is, main, task_is) = main_end_is script past seat task left may in
     let same : v ≡ w = same_Some v w (sym is ∙ runs) in
     absurd (both_ways (ends_as w.is_main w.task (kinds.MainEnd task left)) no_end (subst (λ x. ends_as x.is_main x.task (kinds.MainEnd task left) ≡ true) same
-        (rw (main, task_is) (eqb-same task))))
+        (rw (main, task_is) (eq-eqb task task refl))))
 goes_on script past seat kind w may runs no_end = refl
 
 -- an entry that takes a task leaves it running
@@ -90,7 +89,7 @@ all_run_next script past e may all main t taken not_ended =
     by (inr now) = let (w, is, as_main, task_is) = takes_it main t e.kind (running past e.seat) now in record {
       seat = e.seat;
       now = w;
-      running_is = running_here past e e.seat (eqb-same e.seat) ∙ is;
+      running_is = running_here past e e.seat (eq-eqb e.seat e.seat refl) ∙ is;
       as_main = as_main;
       task_is = task_is;
     }
@@ -101,8 +100,7 @@ nothing_runs false t taken not_ended = absurd (true≢false (sym taken))
 nothing_runs true t taken not_ended = absurd (true≢false (sym taken))
 
 all_run : (script : Plan) (past : List Entry) → IsLegal script past → AllRun past
-all_run script = legal_induction script AllRun nothing_runs
-    (λ past e h allowed all. all_run_next script past e (and_parts (leb e.seat script.workers) (may_come script past e.seat e.kind) allowed).1 all)
+all_run script = entry_induction script AllRun nothing_runs (λ past e known may all. all_run_next script past e may all)
 
 -- a pool task that was taken and has not ended is run by one seat, a worker
 pub runs_at_one_seat : (script : Plan) (past : List Entry) (t : ℕ) → IsLegal script past → is_taken past t ≡ true → is_ended past t ≡ false

@@ -24,7 +24,7 @@ use Rattle.hist_model.specs.Allowed.{by_script, enters_job, is_job, is_ready_wor
 use Rattle.hist_model.specs.Legal.{IsLegal}
 use Rattle.hist_model.specs.Laws.Consistent.{is_pump, is_join, DoesOneThing}
 use Rattle.hist_model.proofs.Laws.Agenda.{current_stays}
-use Rattle.hist_model.proofs.Laws.Legal.{legal_induction}
+use Rattle.hist_model.proofs.Laws.Legal.{entry_induction}
 use Rattle.hist_model.proofs.Laws.Choice.{Found, found}
 use Rattle.hist_model.proofs.Laws.Takes.{IsReadyWorker, ready_worker, by_driver, take_is}
 use Rattle.hist_model.proofs.Laws.Own.{running_own, holding_own, own_entries_push}
@@ -309,5 +309,5 @@ nothing_done script = record { pumps = λ w r. absurd (none-some w r); joins = �
 
 -- in every legal history each seat does one thing at a time
 pub legal_does_one_thing : (script : Plan) (past : List Entry) → IsLegal script past → DoesOneThing script past
-legal_does_one_thing script = legal_induction script (DoesOneThing script) (nothing_done script)
-    (λ past e h allowed d. step script past e.seat e.kind (and_parts (leb e.seat script.workers) (may_come script past e.seat e.kind) allowed).1 d)
+legal_does_one_thing script = entry_induction script (DoesOneThing script) (nothing_done script)
+    (λ past e known may d. step script past e.seat e.kind may d)

@@ -2,7 +2,7 @@
 use Rattle.std.proofs.Common.{◌≡◌, ℕ, ◌≤◌, ◌<◌, Bool, true, false, cond, eqb, List, [], ◌∷◌, ◌++◌, length, refl, sym, ap, subst, ◌∙◌, Some, None, arith, length-append, append-nil}
 use Rattle.std.specs.Prelude.{is_some, filter}
 use Rattle.std.specs.List.{find, AllByRecursion}
-use Rattle.std.proofs.lemmas.Bool.{false_from_ne_true}
+use Rattle.std.proofs.lemmas.Bool.{false_from_ne_true, eq-eqb, both_ways, eqb-false}
 use Rattle.task_base.specs.Plan.{Plan}
 use Rattle.task_base.specs.declared.entry.Entry.{Entry}
 use Rattle.task_base.specs.declared.entry.Kind.{Kind}
@@ -10,34 +10,18 @@ use Rattle.task_base.specs.declared.entry.Kind.TheVariants as kinds
 use Rattle.task_model.specs.Past.{fold_past}
 use Rattle.task_model.specs.Posts.{Posted, post_behind, posts, posted_by, main_posts, main_posted_by, is_taken, is_ended, is_main_taken, Before, InOrder}
 use Rattle.task_model.proofs.Growth.{posts_push, main_posts_push}
-use Rattle.list_laws.proofs.Lists.{eqb-same, AllByRecursion-append, AllByRecursion-map, AllByRecursion-both}
+use Rattle.list_laws.proofs.Lists.{AllByRecursion-append, AllByRecursion-map, AllByRecursion-both}
+use Rattle.list_laws.proofs.Finds.{none_counted, none_found, found_counts}
 use Rattle.hist_model.specs.Allowed.{IsAllowed}
 use Rattle.hist_model.specs.Legal.{IsLegal}
 use Rattle.hist_model.specs.Laws.Postings.{kind_posts, posted_in, AreAcceptedOnce, IsNew}
 use Rattle.script_model.specs.Postings.{times, IsPostedOnce}
 use Rattle.hist_model.proofs.Laws.Legal.{is_legal_push, legal_induction}
 use Rattle.hist_model.proofs.Laws.Consistent.{legal_is_consistent}
-use Rattle.hist_model.proofs.Laws.PostingCounts.{of_task, none_of_task, positive, Counted, counted, posted_in_push, posted_at_most_once}
-
--- no post of the list is found for a task that none names
-none_found : (t : ℕ) (ps : List Posted) → of_task t ps ≡ 0 → find (λ p. eqb p.task t) ps ≡ None
-none_found t [] h = refl
-none_found t (p ∷ ps) h = at (eqb p.task t) h (none_found t ps)
-  where
-    at : (b : Bool) → length (cond b (p ∷ filter (λ q. eqb q.task t) ps) (filter (λ q. eqb q.task t) ps)) ≡ 0
-        → (of_task t ps ≡ 0 → find (λ q. eqb q.task t) ps ≡ None) → cond b (Some p) (find (λ q. eqb q.task t) ps) ≡ None
-    at true k next = absurd (omega arith)
-    at false k next = next k
-
--- a task for which a post is found is named
-found_counts : (t : ℕ) (ps : List Posted) → is_some (find (λ p. eqb p.task t) ps) ≡ true → 1 ≤ of_task t ps
-found_counts t ps h = positive (of_task t ps) (λ none. absurd (differs (ap is_some (none_found t ps none))))
-  where
-    differs : is_some (find (λ p. eqb p.task t) ps) ≡ false → ⊥
-    differs k = absurd cc
+use Rattle.hist_model.proofs.Laws.PostingCounts.{of_task, Counted, counted, posted_in_push, posted_at_most_once}
 
 once_in_one : (t : ℕ) → times t (t ∷ []) ≡ 1
-once_in_one t = rw (eqb-same t) refl
+once_in_one t = rw (eq-eqb t t refl) refl
 
 -- what is posted now was not posted before
 not_posted_before : (script : Plan) (past : List Entry) (e : Entry) (t : ℕ) → IsPostedOnce script → IsLegal script past
@@ -56,15 +40,12 @@ a_posted_task_is_new script past e t once legal allowed posts_it =
     let free : is_taken past t ≡ false = false_from_ne_true (is_taken past t) (λ k. omega (arith, zero_times, known.taken t k, known.accepted t)) in
     record {
       not_posted = zero_times;
-      not_accepted = none_found t (posts past) (omega (arith, zero_times, known.accepted t));
-      not_main_accepted = none_found t (main_posts past) (omega (arith, zero_times, known.accepted t));
+      not_accepted = none_found (λ p. eqb p.task t) (posts past) (omega (arith, zero_times, known.accepted t));
+      not_main_accepted = none_found (λ p. eqb p.task t) (main_posts past) (omega (arith, zero_times, known.accepted t));
       not_taken = free;
       not_main_taken = false_from_ne_true (is_main_taken past t) (λ k. omega (arith, zero_times, known.main_taken t k, known.accepted t));
-      not_ended = false_from_ne_true (is_ended past t) (λ k. apart_of (is_taken past t) free ((legal_is_consistent script past legal).taken_before_ended t k));
+      not_ended = false_from_ne_true (is_ended past t) (λ k. both_ways (is_taken past t) free ((legal_is_consistent script past legal).taken_before_ended t k));
     }
-  where
-    apart_of : (b : Bool) → b ≡ false → b ≡ true → ⊥
-    apart_of b h k = absurd cc
 
 in_order_push : (ps : List Posted) (q : Posted) → InOrder ps → AllByRecursion (λ p. Before p q) ps → InOrder (ps ++ q ∷ [])
 in_order_push [] q h before = (tt, tt)
@@ -81,11 +62,8 @@ behind_all : (past : List Entry) (ps : List Posted) (task home delay : ℕ) → 
     → AllByRecursion (λ p. Before p (post_behind past task home delay)) ps
 behind_all past ps task home delay places none =
     AllByRecursion-map (λ p. (p.place < length past) × (eqb p.task task ≡ false)) (λ p. Before p (post_behind past task home delay)) ps
-    (λ p known. record { earlier = known.0; another = differs p known.1 })
-    (AllByRecursion-both (λ p. p.place < length past) (λ p. eqb p.task task ≡ false) ps places (none_of_task task ps none))
-  where
-    differs : (p : Posted) → eqb p.task task ≡ false → p.task ≡ task → ⊥
-    differs p off same = let yes : eqb p.task task ≡ true = ap (λ v. eqb v task) same ∙ eqb-same task in absurd cc
+    (λ p known. record { earlier = known.0; another = eqb-false p.task task known.1 })
+    (AllByRecursion-both (λ p. p.place < length past) (λ p. eqb p.task task ≡ false) ps places (none_counted (λ p. eqb p.task task) ps none))
 
 places_next : (past : List Entry) (e : Entry) (ps more : List Posted) → AllByRecursion (λ p. p.place < length past) ps
     → AllByRecursion (λ p. p.place ≡ length past) more → AllByRecursion (λ p. p.place < length (past ++ e ∷ [])) (ps ++ more)
@@ -145,6 +123,6 @@ each_is_accepted_once script past once legal =
     record {
       pool = order.pool;
       main = order.main;
-      apart = λ t one other. omega (arith, found_counts t (posts past) one, found_counts t
-          (main_posts past) other, known.accepted t, posted_at_most_once script past t once legal);
+      apart = λ t one other. omega (arith, found_counts (λ p. eqb p.task t) (posts past) one,
+          found_counts (λ p. eqb p.task t) (main_posts past) other, known.accepted t, posted_at_most_once script past t once legal);
     }

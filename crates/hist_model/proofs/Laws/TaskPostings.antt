@@ -2,7 +2,7 @@
 use Rattle.std.proofs.Common.{◌≡◌, ℕ, zero, suc, ◌+◌, ◌≤◌, Bool, true, false, cond, eqb, List, [], ◌∷◌, ◌++◌, refl, sym, ap, subst, ◌∙◌, Option, Some, None, arith, add-one}
 use Rattle.std.specs.Prelude.{◌||◌, not, filter, flat_map, slice_get, option_and_then}
 use Rattle.std.specs.Option.{option_map_or}
-use Rattle.std.proofs.lemmas.Bool.{eqb-true}
+use Rattle.std.proofs.lemmas.Bool.{eqb-true, eq-eqb, and_parts}
 use Rattle.task_base.specs.Plan.{Plan}
 use Rattle.task_base.specs.Steps.{is_act}
 use Rattle.task_base.specs.declared.step.Step.{Step}
@@ -14,11 +14,10 @@ use Rattle.list_laws.specs.Lists.{holds_of}
 use Rattle.task_model.specs.Posts.{is_taken, takes, is_main_taken, main_takes}
 use Rattle.task_model.specs.Seats.{Running, running, running_after, acts_done, acts_after, steps_of}
 use Rattle.task_model.proofs.Growth.{running_push, acts_done_push, is_taken_push, is_main_taken_push}
-use Rattle.list_laws.proofs.Lists.{eqb-same}
 use Rattle.hist_model.specs.Allowed.{enters, by_task}
 use Rattle.hist_model.specs.Laws.Postings.{kind_posts}
 use Rattle.script_model.specs.Postings.{posts_of_step, times}
-use Rattle.hist_model.proofs.Laws.DriverPostings.{times-append, first_test}
+use Rattle.hist_model.proofs.Laws.DriverPostings.{times-append}
 
 -- how often the steps behind the first n post a task
 rest_posts : ℕ → ℕ → List Step → ℕ
@@ -88,9 +87,9 @@ seat_goes_on script t w n kind h = omega arith
 -- an act step that enters this kind posts what the entry posts
 enters_posts : (t u : ℕ) (step : Step) (kind : Kind) → enters u step kind ≡ true → times t (kind_posts kind) ≤ times t (posts_of_step step)
 enters_posts t u (steps.Post v r d) (kinds.Post task runner delay ok) h = let same : task
-    ≡ v = eqb-true task v (first_test (eqb task v) (eqb runner r) (eqb delay d) h) in rw same (omega arith)
+    ≡ v = eqb-true task v (and_parts (eqb task v) (eqb runner r) (and_parts _ (eqb delay d) h).0).0 in rw same (omega arith)
 enters_posts t u (steps.Main v q d) (kinds.Main task queue delay ok) h = let same : task
-    ≡ v = eqb-true task v (first_test (eqb task v) (eqb queue q) (eqb delay d) h) in rw same (omega arith)
+    ≡ v = eqb-true task v (and_parts (eqb task v) (eqb queue q) (and_parts _ (eqb delay d) h).0).0 in rw same (omega arith)
 enters_posts t u step (kinds.Post task runner delay ok) h = absurd cc
 enters_posts t u step (kinds.Main task queue delay ok) h = absurd cc
 enters_posts t u step kind h = omega arith
@@ -156,7 +155,7 @@ seat_at_other script t past e i other = rw (running_push past e i, acts_done_pus
 seat_at_own : (script : Plan) (t : ℕ) (past : List Entry) (e : Entry)
     → seat_at script t (past ++ e ∷ []) e.seat ≡ seat_has script t (running_after (running past e.seat) e.kind) (acts_after (acts_done past e.seat) e.kind)
 unfolding seat_at
-seat_at_own script t past e = rw (running_push past e e.seat, acts_done_push past e e.seat, eqb-same e.seat) refl
+seat_at_own script t past e = rw (running_push past e e.seat, acts_done_push past e e.seat, eq-eqb e.seat e.seat refl) refl
 
 seats_have_change : (script : Plan) (t : ℕ) (past : List Entry) (e : Entry) → e.seat ≤ script.workers
     → seats_have script t (past ++ e ∷ []) + seat_at script t past e.seat ≡ seats_have script t past + seat_at script t (past ++ e ∷ []) e.seat
