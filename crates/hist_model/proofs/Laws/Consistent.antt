@@ -46,6 +46,19 @@ abbrev pub ends_as : Bool → ℕ → Kind → Bool
 ends_as false t kind = ends t kind
 ends_as true t kind = main_ends t kind
 
+-- the accepted tasks of the pool, or the accepted main tasks, and what an entry adds to them
+abbrev pub posts_as : Bool → List Entry → List Posted
+posts_as false past = posts past
+posts_as true past = main_posts past
+
+abbrev pub posted_as : Bool → List Entry → Kind → List Posted
+posted_as false past kind = posted_by past kind
+posted_as true past kind = main_posted_by past kind
+
+pub posts_as_push : (main : Bool) (past : List Entry) (e : Entry) → posts_as main (past ++ e ∷ []) ≡ posts_as main past ++ posted_as main past e.kind
+posts_as_push false past e = posts_push past e
+posts_as_push true past e = main_posts_push past e
+
 pub taken_as_push : (main : Bool) (past : List Entry) (e : Entry) (t : ℕ) → taken_as main (past ++ e ∷ []) t ≡ (taken_as main past t || takes_as main t e.kind)
 taken_as_push false past e t = is_taken_push past e t
 taken_as_push true past e t = is_main_taken_push past e t
@@ -61,6 +74,11 @@ taken_stays main past e t h = taken_as_push main past e t ∙ ap (λ b. b || tak
 not_ended_stays : (main : Bool) (past : List Entry) (e : Entry) (t : ℕ) → ended_as main past t ≡ false → ends_as main t e.kind ≡ false
     → ended_as main (past ++ e ∷ []) t ≡ false
 not_ended_stays main past e t h k = ended_as_push main past e t ∙ ap (λ b. b || ends_as main t e.kind) h ∙ k
+
+-- what was accepted stays so
+posted_stays : (main : Bool) (past : List Entry) (e : Entry) (p : Posted) → Contains (posts_as main past) p → Contains (posts_as main (past ++ e ∷ [])) p
+posted_stays main past e p h = subst (λ ps. Contains ps p) (sym (posts_as_push main past e))
+    (Contains-append_left (posts_as main past) (posted_as main past e.kind) p h)
 
 -- what runs was taken and has not ended
 pub as_runs : (script : Plan) (past : List Entry) (s : ℕ) (w : Running) (main : Bool) → RunsAs script past s w main
@@ -85,7 +103,7 @@ runs_later : (script : Plan) (past : List Entry) (e : Entry) (s : ℕ) (w : Runn
     → ends_as main w.task e.kind ≡ false → RunsAs script (past ++ e ∷ []) s w main
 runs_later script past e s w false r goes_on = record {
   accepted = r.accepted;
-  posted = subst (λ ps. Contains ps r.accepted) (sym (posts_push past e)) (Contains-append_left (posts past) (posted_by past e.kind) r.accepted r.posted);
+  posted = posted_stays false past e r.accepted r.posted;
   task_is = r.task_is;
   home_is = r.home_is;
   taken = taken_stays false past e w.task r.taken;
@@ -95,8 +113,7 @@ runs_later script past e s w false r goes_on = record {
 }
 runs_later script past e s w true r goes_on = record {
   accepted = r.accepted;
-  posted = subst (λ ps. Contains ps r.accepted) (sym (main_posts_push past e))
-      (Contains-append_left (main_posts past) (main_posted_by past e.kind) r.accepted r.posted);
+  posted = posted_stays true past e r.accepted r.posted;
   task_is = r.task_is;
   home_is = r.home_is;
   taken = taken_stays true past e w.task r.taken;
@@ -253,7 +270,7 @@ take_consistent script past seat task runner value t c = one_taken script past e
     runs : RunsPoolTask script (past ++ e ∷ []) seat taken
     runs = record {
       accepted = t.head.posted;
-      posted = subst (λ ps. Contains ps t.head.posted) (sym (posts_push past e)) (Contains-append_left (posts past) [] t.head.posted t.is_head.accepted);
+      posted = posted_stays false past e t.head.posted t.is_head.accepted;
       task_is = t.task_is;
       home_is = t.home_is;
       taken = is_taken_push past e task ∙ or_right (is_taken past task) (eqb task task) (eq-eqb task task refl);
@@ -282,8 +299,7 @@ main_take_consistent script past seat task queue value t c = one_taken script pa
     runs : RunsMainTask (past ++ e ∷ []) seat taken
     runs = record {
       accepted = t.is_front.accepted;
-      posted = subst (λ ps. Contains ps t.is_front.accepted) (sym (main_posts_push past e))
-          (Contains-append_left (main_posts past) [] t.is_front.accepted t.is_front.posted);
+      posted = posted_stays true past e t.is_front.accepted t.is_front.posted;
       task_is = t.is_front.task_is ∙ t.task_is;
       home_is = t.is_front.queue_is ∙ t.queue_is;
       taken = is_main_taken_push past e task ∙ or_right (is_main_taken past task) (eqb task task) (eq-eqb task task refl);

@@ -17,7 +17,7 @@ use Rattle.hist_model.specs.Legal.{IsLegal}
 use Rattle.hist_model.specs.Laws.Postings.{kind_posts, posted_in, AreAcceptedOnce, IsNew}
 use Rattle.script_model.specs.Postings.{times, IsPostedOnce}
 use Rattle.hist_model.proofs.Laws.Legal.{is_legal_push, legal_induction}
-use Rattle.hist_model.proofs.Laws.Consistent.{legal_is_consistent}
+use Rattle.hist_model.proofs.Laws.Consistent.{posts_as, posted_as, posts_as_push, legal_is_consistent}
 use Rattle.hist_model.proofs.Laws.PostingCounts.{of_task, Counted, counted, posted_in_push, posted_at_most_once}
 
 once_in_one : (t : ℕ) → times t (t ∷ []) ≡ 1
@@ -37,13 +37,13 @@ pub a_posted_task_is_new : (script : Plan) (past : List Entry) (e : Entry) (t : 
 a_posted_task_is_new script past e t once legal allowed posts_it =
     let zero_times : times t (posted_in past) ≡ 0 = not_posted_before script past e t once legal allowed posts_it in
     let known : Counted script past = counted script once past legal in
-    let free : is_taken past t ≡ false = false_from_ne_true (is_taken past t) (λ k. omega (arith, zero_times, known.taken t k, known.accepted t)) in
+    let free : is_taken past t ≡ false = false_from_ne_true (is_taken past t) (λ k. omega (arith, zero_times, known.taken false t k, known.accepted t)) in
     record {
       not_posted = zero_times;
       not_accepted = none_found (λ p. eqb p.task t) (posts past) (omega (arith, zero_times, known.accepted t));
       not_main_accepted = none_found (λ p. eqb p.task t) (main_posts past) (omega (arith, zero_times, known.accepted t));
       not_taken = free;
-      not_main_taken = false_from_ne_true (is_main_taken past t) (λ k. omega (arith, zero_times, known.main_taken t k, known.accepted t));
+      not_main_taken = false_from_ne_true (is_main_taken past t) (λ k. omega (arith, zero_times, known.taken true t k, known.accepted t));
       not_ended = false_from_ne_true (is_ended past t) (λ k. both_ways (is_taken past t) free ((legal_is_consistent script past legal).taken_before_ended t k));
     }
 
@@ -51,11 +51,10 @@ in_order_push : (ps : List Posted) (q : Posted) → InOrder ps → AllByRecursio
 in_order_push [] q h before = (tt, tt)
 in_order_push (p ∷ ps) q h before = (AllByRecursion-append (Before p) ps (q ∷ []) h.0 (before.0, tt), in_order_push ps q h.1 before.1)
 
+-- the accepted tasks are in order and were posted in the past, of the pool and of main queues
 record Ordered (past : List Entry) : Type 0 where
-  pool : InOrder (posts past)
-  main : InOrder (main_posts past)
-  pool_places : AllByRecursion (λ p. p.place < length past) (posts past)
-  main_places : AllByRecursion (λ p. p.place < length past) (main_posts past)
+  order : (main : Bool) → InOrder (posts_as main past)
+  places : (main : Bool) → AllByRecursion (λ p. p.place < length past) (posts_as main past)
 
 -- a post behind the past is in order behind posts of it that name other tasks
 behind_all : (past : List Entry) (ps : List Posted) (task home delay : ℕ) → AllByRecursion (λ p. p.place < length past) ps → of_task task ps ≡ 0
@@ -71,49 +70,52 @@ places_next past e ps more places new = AllByRecursion-append (λ p. p.place < l
     (AllByRecursion-map (λ p. p.place < length past) (λ p. p.place < length (past ++ e ∷ [])) ps (λ p below. omega (arith, length-append past (e ∷ []))) places)
     (AllByRecursion-map (λ p. p.place ≡ length past) (λ p. p.place < length (past ++ e ∷ [])) more (λ p here. omega (arith, length-append past (e ∷ []))) new)
 
-posted_here : (past : List Entry) (kind : Kind) → AllByRecursion (λ p. p.place ≡ length past) (posted_by past kind)
-posted_here past (kinds.Post task runner delay true) = (refl, tt)
-posted_here past (kinds.Post task runner delay false) = tt
-posted_here past kind = tt
+posted_here : (main : Bool) (past : List Entry) (kind : Kind) → AllByRecursion (λ p. p.place ≡ length past) (posted_as main past kind)
+posted_here false past (kinds.Post task runner delay true) = (refl, tt)
+posted_here true past (kinds.Main task queue delay true) = (refl, tt)
+posted_here false past (kinds.Post task runner delay false) = tt
+posted_here true past (kinds.Main task queue delay false) = tt
+posted_here false past kind = tt
+posted_here true past kind = tt
 
-main_posted_here : (past : List Entry) (kind : Kind) → AllByRecursion (λ p. p.place ≡ length past) (main_posted_by past kind)
-main_posted_here past (kinds.Main task queue delay true) = (refl, tt)
-main_posted_here past (kinds.Main task queue delay false) = tt
-main_posted_here past kind = tt
-
-pool_next : (past : List Entry) (kind : Kind) → InOrder (posts past) → AllByRecursion (λ p. p.place < length past) (posts past)
-    → ((t : ℕ) → kind_posts kind ≡ t ∷ [] → of_task t (posts past) ≡ 0) → InOrder (posts past ++ posted_by past kind)
-pool_next past (kinds.Post task runner delay true) order places new = in_order_push (posts past) (post_behind past task runner delay) order
+order_next : (main : Bool) (past : List Entry) (kind : Kind) → InOrder (posts_as main past)
+    → AllByRecursion (λ p. p.place < length past) (posts_as main past)
+    → ((t : ℕ) → kind_posts kind ≡ t ∷ [] → of_task t (posts_as main past) ≡ 0) → InOrder (posts_as main past ++ posted_as main past kind)
+order_next false past (kinds.Post task runner delay true) order places new = in_order_push (posts past) (post_behind past task runner delay) order
     (behind_all past (posts past) task runner delay places (new task refl))
-pool_next past (kinds.Post task runner delay false) order places new = subst InOrder (sym (append-nil (posts past))) order
-pool_next past kind order places new = subst InOrder (sym (append-nil (posts past))) order
-
-main_next : (past : List Entry) (kind : Kind) → InOrder (main_posts past) → AllByRecursion (λ p. p.place < length past) (main_posts past)
-    → ((t : ℕ) → kind_posts kind ≡ t ∷ [] → of_task t (main_posts past) ≡ 0) → InOrder (main_posts past ++ main_posted_by past kind)
-main_next past (kinds.Main task queue delay true) order places new = in_order_push (main_posts past) (post_behind past task queue delay) order
+order_next true past (kinds.Main task queue delay true) order places new = in_order_push (main_posts past) (post_behind past task queue delay) order
     (behind_all past (main_posts past) task queue delay places (new task refl))
-main_next past (kinds.Main task queue delay false) order places new = subst InOrder (sym (append-nil (main_posts past))) order
-main_next past kind order places new = subst InOrder (sym (append-nil (main_posts past))) order
+order_next false past (kinds.Post task runner delay false) order places new = subst InOrder (sym (append-nil (posts past))) order
+order_next true past (kinds.Main task queue delay false) order places new = subst InOrder (sym (append-nil (main_posts past))) order
+order_next false past kind order places new = subst InOrder (sym (append-nil (posts past))) order
+order_next true past kind order places new = subst InOrder (sym (append-nil (main_posts past))) order
 
 ordered_next : (script : Plan) → IsPostedOnce script → (past : List Entry) (e : Entry) → IsLegal script past → IsAllowed script past e
     → Ordered past → Ordered (past ++ e ∷ [])
 ordered_next script once past e legal allowed known = record {
-  pool = subst InOrder (sym (posts_push past e)) (pool_next past e.kind known.pool known.pool_places
-      (λ t is. omega (arith, counts.accepted t, not_posted_before script past e t once legal allowed is)));
-  main = subst InOrder (sym (main_posts_push past e)) (main_next past e.kind known.main known.main_places
-      (λ t is. omega (arith, counts.accepted t, not_posted_before script past e t once legal allowed is)));
-  pool_places = subst (AllByRecursion (λ p. p.place < length (past ++ e ∷ []))) (sym (posts_push past e))
-      (places_next past e (posts past) (posted_by past e.kind) known.pool_places (posted_here past e.kind));
-  main_places = subst (AllByRecursion (λ p. p.place < length (past ++ e ∷ []))) (sym (main_posts_push past e))
-      (places_next past e (main_posts past) (main_posted_by past e.kind) known.main_places (main_posted_here past e.kind));
+  order = λ main. subst InOrder (sym (posts_as_push main past e)) (order_next main past e.kind (known.order main) (known.places main) (not_before main));
+  places = λ main. subst (AllByRecursion (λ p. p.place < length (past ++ e ∷ []))) (sym (posts_as_push main past e))
+      (places_next past e (posts_as main past) (posted_as main past e.kind) (known.places main) (posted_here main past e.kind));
 }
   where
     counts : Counted script past
     counts = counted script once past legal
 
+    not_before : (main : Bool) (t : ℕ) → kind_posts e.kind ≡ t ∷ [] → of_task t (posts_as main past) ≡ 0
+    not_before false t is = omega (arith, counts.accepted t, not_posted_before script past e t once legal allowed is)
+    not_before true t is = omega (arith, counts.accepted t, not_posted_before script past e t once legal allowed is)
+
 nothing_ordered : Ordered []
 unfolding fold_past posts main_posts
-nothing_ordered = record { pool = tt; main = tt; pool_places = tt; main_places = tt }
+nothing_ordered = record { order = order; places = places }
+  where
+    order : (main : Bool) → InOrder (posts_as main [])
+    order false = tt
+    order true = tt
+
+    places : (main : Bool) → AllByRecursion (λ p. p.place < 0) (posts_as main [])
+    places false = tt
+    places true = tt
 
 -- the accepted tasks are in order and differ
 pub each_is_accepted_once : (script : Plan) (past : List Entry) → IsPostedOnce script → IsLegal script past → AreAcceptedOnce past
@@ -121,8 +123,8 @@ each_is_accepted_once script past once legal =
     let order : Ordered past = legal_induction script Ordered nothing_ordered (ordered_next script once) past legal in
     let known : Counted script past = counted script once past legal in
     record {
-      pool = order.pool;
-      main = order.main;
+      pool = order.order false;
+      main = order.order true;
       apart = λ t one other. omega (arith, found_counts (λ p. eqb p.task t) (posts past) one,
           found_counts (λ p. eqb p.task t) (main_posts past) other, known.accepted t, posted_at_most_once script past t once legal);
     }

@@ -4,7 +4,7 @@ use Rattle.std.specs.Prelude.{◌||◌, not, Contains, filter, flat_map}
 use Rattle.std.specs.List.{AllByRecursion}
 use Rattle.std.proofs.lemmas.List.Concat.{flat_map-append}
 use Rattle.std.proofs.lemmas.List.Elements.{All-from_recursion, All-contains}
-use Rattle.std.proofs.lemmas.Bool.{eqb-true, and_parts, eq-eqb, or_cases, false_from_ne_true}
+use Rattle.std.proofs.lemmas.Bool.{eqb-true, and_parts, eq-eqb, or_cases, false_from_ne_true, true≢false}
 use Rattle.task_base.specs.Plan.{Plan}
 use Rattle.task_base.specs.declared.entry.Entry.{Entry}
 use Rattle.task_base.specs.declared.entry.Kind.{Kind}
@@ -22,6 +22,7 @@ use Rattle.hist_model.specs.Laws.Postings.{kind_posts, posted_in}
 use Rattle.script_model.specs.Postings.{posts_of_step, posts_of_action, postings, times, IsPostedOnce}
 use Rattle.hist_model.proofs.Laws.Legal.{entry_induction}
 use Rattle.hist_model.proofs.Laws.Takes.{take_is, main_take_is}
+use Rattle.hist_model.proofs.Laws.Consistent.{taken_as, takes_as, taken_as_push, posts_as, posted_as, posts_as_push}
 use Rattle.hist_model.proofs.Laws.DriverPostings.{times-append, driver_has, driver_has_less, driver_posts, driver_begins}
 use Rattle.hist_model.proofs.Laws.TaskPostings.{seats_have, seats_have_less, seats_post, seats_take, seats_begin, takes_nothing, is_untaken, tasks_have, tasks_have_less, tasks_take, tasks_begin}
 
@@ -32,20 +33,21 @@ of_task t ps = count (λ p. eqb p.task t) ps
 of_task-append : (t : ℕ) (xs ys : List Posted) → of_task t (xs ++ ys) ≡ of_task t xs + of_task t ys
 of_task-append t xs ys = count-append (λ p. eqb p.task t) xs ys
 
--- a task that is taken from the pool is accepted there, and was not taken
-taken_is : (script : Plan) (past : List Entry) (seat task runner value : ℕ) → may_come script past seat (kinds.Take task runner value) ≡ true
-    → (1 ≤ of_task task (posts past)) × (is_taken past task ≡ false)
-taken_is script past seat task runner value h =
-    let t = take_is script past seat task runner value h in
-    (subst (λ u. 1 ≤ of_task u (posts past)) t.task_is (contained_counts (λ p. eqb p.task t.head.posted.task) (posts past) t.head.posted t.is_head.accepted (eq-eqb t.head.posted.task t.head.posted.task refl)), t.not_taken)
-
--- a task that is taken from a main queue is accepted there, and was not taken
-main_taken_is : (script : Plan) (past : List Entry) (seat task queue value : ℕ) → may_come script past seat (kinds.MainTake task queue value) ≡ true
-    → (1 ≤ of_task task (main_posts past)) × (is_main_taken past task ≡ false)
-main_taken_is script past seat task queue value h =
-    let t = main_take_is script past seat task queue value h in
-    (subst (λ u. 1 ≤ of_task u (main_posts past)) (t.is_front.task_is ∙ t.task_is)
-        (contained_counts (λ p. eqb p.task t.is_front.accepted.task) (main_posts past) t.is_front.accepted t.is_front.posted (eq-eqb t.is_front.accepted.task t.is_front.accepted.task refl)), ap (is_main_taken past) (sym t.task_is) ∙ t.is_front.not_taken)
+-- a task that is taken is accepted, and was not taken, of the pool and of a main queue
+taken_is : (script : Plan) (past : List Entry) (seat : ℕ) (kind : Kind) (main : Bool) (u : ℕ) → may_come script past seat kind ≡ true
+    → takes_as main u kind ≡ true → (1 ≤ of_task u (posts_as main past)) × (taken_as main past u ≡ false)
+taken_is script past seat (kinds.Take task runner value) false u may h =
+    let t = take_is script past seat task runner value may in
+    let same = eqb-true task u h in
+    (contained_counts (λ p. eqb p.task u) (posts past) t.head.posted t.is_head.accepted (eq-eqb t.head.posted.task u (t.task_is ∙ same)),
+        ap (is_taken past) (sym same) ∙ t.not_taken)
+taken_is script past seat (kinds.MainTake task queue value) true u may h =
+    let t = main_take_is script past seat task queue value may in
+    let same = t.task_is ∙ eqb-true task u h in
+    (contained_counts (λ p. eqb p.task u) (main_posts past) t.is_front.accepted t.is_front.posted
+        (eq-eqb t.is_front.accepted.task u (t.is_front.task_is ∙ same)), ap (is_main_taken past) (sym same) ∙ t.is_front.not_taken)
+taken_is script past seat kind false u may h = absurd (true≢false (sym h))
+taken_is script past seat kind true u may h = absurd (true≢false (sym h))
 
 -- one more entry of what was posted
 pub posted_in_push : (t : ℕ) (past : List Entry) (e : Entry) → times t (posted_in (past ++ e ∷ [])) ≡ times t (posted_in past) + times t (kind_posts e.kind)
@@ -72,41 +74,28 @@ accepted_posts t past kind = omega arith
 -- what holds of the postings of a legal history: what was taken is accepted; what is accepted was posted; what was posted
 -- and what is left to be posted are no more than the script's postings
 pub record Counted (script : Plan) (past : List Entry) : Type 0 where
-  pub taken : (u : ℕ) → is_taken past u ≡ true → 1 ≤ of_task u (posts past)
-  pub main_taken : (u : ℕ) → is_main_taken past u ≡ true → 1 ≤ of_task u (main_posts past)
+  pub taken : (main : Bool) (u : ℕ) → taken_as main past u ≡ true → 1 ≤ of_task u (posts_as main past)
   pub accepted : (t : ℕ) → of_task t (posts past) + of_task t (main_posts past) ≤ times t (posted_in past)
   pub within : (t : ℕ) → times t (posted_in past) + (driver_has script t past + tasks_have script t past + seats_have script t past) ≤ times t (postings script)
 
 nothing_counted : (script : Plan) → Counted script []
 unfolding fold_past is_taken is_main_taken posts main_posts posted_in postings
 nothing_counted script = record {
-  taken = λ u h. absurd cc;
-  main_taken = λ u h. absurd cc;
+  taken = none_taken;
   accepted = λ t. omega arith;
   within = λ t. omega (arith, driver_begins script t, tasks_begin script t, seats_begin script t, times-append t (flat_map posts_of_action script.actions)
       (flat_map (λ steps. flat_map posts_of_step steps) script.tasks));
 }
-
-taken_next : (script : Plan) (past : List Entry) (e : Entry) → Counted script past → may_come script past e.seat e.kind ≡ true → (u : ℕ)
-    → is_taken (past ++ e ∷ []) u ≡ true → 1 ≤ of_task u (posts (past ++ e ∷ []))
-taken_next script past e known allowed u h = rw (posts_push past e, of_task-append u (posts past) (posted_by past e.kind))
-    (⊎_elim (λ k. omega (arith, known.taken u k)) (λ k. omega (arith, now e.kind allowed k))
-    (or_cases (is_taken past u) (takes u e.kind) (sym (is_taken_push past e u) ∙ h)))
   where
-    now : (kind : Kind) → may_come script past e.seat kind ≡ true → takes u kind ≡ true → 1 ≤ of_task u (posts past)
-    now (kinds.Take task runner value) a k = subst (λ v. 1 ≤ of_task v (posts past)) (eqb-true task u k) (taken_is script past e.seat task runner value a).0
-    now kind a k = absurd cc
+    none_taken : (main : Bool) (u : ℕ) → taken_as main [] u ≡ true → 1 ≤ of_task u (posts_as main [])
+    none_taken false u h = absurd (true≢false (sym h))
+    none_taken true u h = absurd (true≢false (sym h))
 
-main_taken_next : (script : Plan) (past : List Entry) (e : Entry) → Counted script past → may_come script past e.seat e.kind ≡ true → (u : ℕ)
-    → is_main_taken (past ++ e ∷ []) u ≡ true → 1 ≤ of_task u (main_posts (past ++ e ∷ []))
-main_taken_next script past e known allowed u h = rw (main_posts_push past e, of_task-append u (main_posts past) (main_posted_by past e.kind))
-    (⊎_elim (λ k. omega (arith, known.main_taken u k)) (λ k. omega (arith, now e.kind allowed k))
-    (or_cases (is_main_taken past u) (main_takes u e.kind) (sym (is_main_taken_push past e u) ∙ h)))
-  where
-    now : (kind : Kind) → may_come script past e.seat kind ≡ true → main_takes u kind ≡ true → 1 ≤ of_task u (main_posts past)
-    now (kinds.MainTake task queue value) a k = subst (λ v. 1 ≤ of_task v (main_posts past)) (eqb-true task u k)
-        (main_taken_is script past e.seat task queue value a).0
-    now kind a k = absurd cc
+taken_next : (script : Plan) (past : List Entry) (e : Entry) → Counted script past → may_come script past e.seat e.kind ≡ true → (main : Bool) (u : ℕ)
+    → taken_as main (past ++ e ∷ []) u ≡ true → 1 ≤ of_task u (posts_as main (past ++ e ∷ []))
+taken_next script past e known may main u h = rw (posts_as_push main past e, of_task-append u (posts_as main past) (posted_as main past e.kind))
+    (⊎_elim (λ k. omega (arith, known.taken main u k)) (λ k. omega (arith, (taken_is script past e.seat e.kind main u may k).0))
+    (or_cases (taken_as main past u) (takes_as main u e.kind) (sym (taken_as_push main past e u) ∙ h)))
 
 accepted_next : (script : Plan) (past : List Entry) (e : Entry) → Counted script past → (t : ℕ)
     → of_task t (posts (past ++ e ∷ [])) + of_task t (main_posts (past ++ e ∷ [])) ≤ times t (posted_in (past ++ e ∷ []))
@@ -154,15 +143,17 @@ left_next script past t seat (kinds.Main task queue delay ok) once known le h = 
     (and_parts (by_script script past seat (kinds.Main task queue delay ok) || by_task script past seat (kinds.Main task queue delay ok))
         (cond (is_closed past queue) (not ok) ok) h).0
 left_next script past t seat (kinds.Take task runner value) once known le h =
-    let now : (1 ≤ of_task task (posts past)) × (is_taken past task ≡ false) = taken_is script past seat task runner value h in
+    let now : (1 ≤ of_task task (posts past)) × (is_taken past task ≡ false) =
+        taken_is script past seat (kinds.Take task runner value) false task h (eq-eqb task task refl) in
     let other : is_main_taken past task ≡ false = false_from_ne_true (is_main_taken past task)
-        (λ k. omega (arith, now.0, known.main_taken task k, known.accepted task, known.within task, once task)) in
+        (λ k. omega (arith, now.0, known.taken true task k, known.accepted task, known.within task, once task)) in
     let free : is_untaken past task ≡ true = rw (now.1, other) refl in
     omega (arith, left_takes script t task past (record { seat = seat; kind = kinds.Take task runner value }) le (rw (eq-eqb task task refl) refl) free)
 left_next script past t seat (kinds.MainTake task queue value) once known le h =
-    let now : (1 ≤ of_task task (main_posts past)) × (is_main_taken past task ≡ false) = main_taken_is script past seat task queue value h in
+    let now : (1 ≤ of_task task (main_posts past)) × (is_main_taken past task ≡ false) =
+        taken_is script past seat (kinds.MainTake task queue value) true task h (eq-eqb task task refl) in
     let other : is_taken past task ≡ false = false_from_ne_true (is_taken past task)
-        (λ k. omega (arith, now.0, known.taken task k, known.accepted task, known.within task, once task)) in
+        (λ k. omega (arith, now.0, known.taken false task k, known.accepted task, known.within task, once task)) in
     let free : is_untaken past task ≡ true = rw (other, now.1) refl in
     omega (arith, left_takes script t task past (record { seat = seat; kind = kinds.MainTake task queue value }) le (rw (eq-eqb task task refl) refl) free)
 left_next script past t seat kind once known le h = omega (arith, left_goes_on script t past (record { seat = seat; kind = kind }) le refl)
@@ -172,7 +163,6 @@ counted_next : (script : Plan) → IsPostedOnce script → (past : List Entry) (
 unfolding has_left
 counted_next script once past e le may known = record {
   taken = taken_next script past e known may;
-  main_taken = main_taken_next script past e known may;
   accepted = accepted_next script past e known;
   within = λ t. omega (arith, posted_in_push t past e, known.within t, left_next script past t e.seat e.kind once known le may);
 }

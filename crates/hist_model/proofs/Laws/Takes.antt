@@ -32,18 +32,15 @@ pub record IsReadyWorker (script : Plan) (past : List Entry) (seat : ℕ) : Type
   pub goes_on : is_finished script past ≡ false
 
 pub ready_worker : (script : Plan) (past : List Entry) (seat : ℕ) → is_ready_worker script past seat ≡ true → IsReadyWorker script past seat
-ready_worker script past seat h = of_parts (four (leb 1 seat) (leb seat script.workers) (is_free past seat) (not (is_finished script past)) h)
-  where
-    four : (a b c d : Bool) → (a && b && c && d) ≡ true → (a ≡ true) × (b ≡ true) × (c ≡ true) × (d ≡ true)
-    four a b c d k = (grind (arith, k), grind (arith, k), grind (arith, k), grind (arith, k))
-
-    of_parts : (leb 1 seat ≡ true) × (leb seat script.workers ≡ true) × (is_free past seat ≡ true) × (not (is_finished script past) ≡ true)
-        → IsReadyWorker script past seat
-    of_parts (first, second, third, fourth) = record {
-      worker = leb-true 1 seat first;
-      known = leb-true seat script.workers second;
-      free = third;
-      goes_on = not-true (is_finished script past) fourth;
+ready_worker script past seat h =
+    let last = and_parts _ (not (is_finished script past)) h in
+    let third = and_parts _ (is_free past seat) last.0 in
+    let first = and_parts (leb 1 seat) (leb seat script.workers) third.0 in
+    record {
+      worker = leb-true 1 seat first.0;
+      known = leb-true seat script.workers first.1;
+      free = third.1;
+      goes_on = not-true (is_finished script past) last.1;
     }
 
 pub take_is : (script : Plan) (past : List Entry) (seat task runner value : ℕ) → may_come script past seat (kinds.Take task runner value) ≡ true
@@ -101,30 +98,21 @@ by_driver script past seat kind h = eqb-true seat 0 (and_parts (eqb seat 0) (is_
 pub main_take_is : (script : Plan) (past : List Entry) (seat task queue value : ℕ) → may_come script past seat (kinds.MainTake task queue value) ≡ true
     → IsMainTake script past seat task queue value
 unfolding may_come
-main_take_is script past seat task queue value h = of_parts (three (by_script script past seat (kinds.MainTake task queue value))
-    (holds_of (is_front task queue) (chosen_of script past)) (eqb value (main_cell_of past queue)) h)
-  where
-    three : (a b c : Bool) → (a && b && c) ≡ true → (a ≡ true) × (b ≡ true) × (c ≡ true)
-    three a b c k = (grind (arith, k), grind (arith, k), grind (arith, k))
-
-    of_front : seat ≡ 0 → value ≡ main_cell_of past queue → (f : Front) → chosen_of script past ≡ Some f → (eqb f.task task && eqb f.queue queue) ≡ true
-        → IsMainTake script past seat task queue value
-    of_front driver cell f is same = record {
-      front = f;
-      is_front = (chosen_is script past f is).0;
-      opened = (chosen_is script past f is).1;
-      task_is = eqb-true f.task task (and_parts (eqb f.task task) (eqb f.queue queue) same).0;
-      queue_is = eqb-true f.queue queue (and_parts (eqb f.task task) (eqb f.queue queue) same).1;
-      found_is = cell;
-      driver = driver;
+main_take_is script past seat task queue value h =
+    let last = and_parts _ (eqb value (main_cell_of past queue)) h in
+    let wanted = and_parts (by_script script past seat (kinds.MainTake task queue value)) (holds_of (is_front task queue) (chosen_of script past)) last.0 in
+    let front = found (is_front task queue) (chosen_of script past) wanted.1 in
+    let same = and_parts (eqb front.value.task task) (eqb front.value.queue queue) front.passes in
+    let is = chosen_is script past front.value front.is in
+    record {
+      front = front.value;
+      is_front = is.0;
+      opened = is.1;
+      task_is = eqb-true front.value.task task same.0;
+      queue_is = eqb-true front.value.queue queue same.1;
+      found_is = eqb-true value (main_cell_of past queue) last.1;
+      driver = by_driver script past seat (kinds.MainTake task queue value) wanted.0;
     }
-
-    of_parts : (by_script script past seat (kinds.MainTake task queue value) ≡ true) × (holds_of (is_front task queue) (chosen_of script past) ≡ true)
-        × (eqb value (main_cell_of past queue) ≡ true) → IsMainTake script past seat task queue value
-    of_parts (wanted, chosen, cell) =
-        let front = found (is_front task queue) (chosen_of script past) chosen in
-        of_front (by_driver script past seat (kinds.MainTake task queue value) wanted)
-            (eqb-true value (main_cell_of past queue) cell) front.value front.is front.passes
 
 -- what is known of an allowed end: the seat runs the task, of the pool or a main task
 pub end_is : (script : Plan) (past : List Entry) (seat task left : ℕ) → may_come script past seat (kinds.End task left) ≡ true
