@@ -13,13 +13,14 @@ use Rattle.list_laws.specs.Lists.{holds_of}
 use Rattle.task_model.specs.Posts.{Posted, posts, posted_by, main_posts, main_posted_by, is_taken, takes, is_ended, ends, is_main_taken, main_takes, is_main_ended, main_ends}
 use Rattle.task_base.specs.Runners.{sequence_of}
 use Rattle.task_model.specs.Seats.{Running, running, running_after, runs_of, runs_sequence}
-use Rattle.pool_laws.proofs.Seats.Running.{running_here, running_other, seat_runs}
+use Rattle.pool_laws.proofs.Seats.Running.{seat_runs}
 use Rattle.task_model.proofs.Growth.{posts_push, main_posts_push, is_taken_push, is_ended_push, is_main_taken_push, is_main_ended_push, running_push}
 use Rattle.hist_model.specs.Allowed.{may_come}
 use Rattle.hist_model.specs.Legal.{IsLegal}
 use Rattle.hist_model.specs.Laws.Choice.{IsTake, IsMainTake}
 use Rattle.hist_model.specs.Laws.Consistent.{RunsPoolTask, RunsMainTask, RunsAs, IsConsistent}
 use Rattle.hist_model.proofs.Laws.Legal.{entry_induction}
+use Rattle.hist_model.proofs.Laws.Whose.{RunsBehind, runs_behind}
 use Rattle.hist_model.proofs.Laws.Takes.{take_is, main_take_is, end_is, main_end_is}
 
 -- the past with one more entry
@@ -121,16 +122,6 @@ runs_later script past e s w true r goes_on = record {
   driver = r.driver;
 }
 
--- what a seat runs behind an entry it ran before, and the entry is another seat's, or it is what the entry's seat runs
-whose : (past : List Entry) (e : Entry) (s : ℕ) (w : Running) → running (past ++ e ∷ []) s ≡ Some w
-    → ((running past s ≡ Some w) × (eqb e.seat s ≡ false)) ⊎ ((s ≡ e.seat) × (running_after (running past e.seat) e.kind ≡ Some w))
-whose past e s w h = at (eqb e.seat s) refl
-  where
-    at : (b : Bool) → eqb e.seat s ≡ b
-        → ((running past s ≡ Some w) × (eqb e.seat s ≡ false)) ⊎ ((s ≡ e.seat) × (running_after (running past e.seat) e.kind ≡ Some w))
-    at true is = inr (sym (eqb-true e.seat s is), sym (running_here past e s is) ∙ h)
-    at false is = inl (sym (running_other past e s is) ∙ h, is)
-
 -- it ran before and goes on, or it is what the entry takes
 abbrev Now : List Entry → Entry → Option Running → ℕ → Running → Type 0
 Now past e taken s w = ((running past s ≡ Some w) × (ends_as w.is_main w.task e.kind ≡ false)) ⊎ ((s ≡ e.seat) × (taken ≡ Some w))
@@ -193,15 +184,13 @@ one_taken : (script : Plan) (past : List Entry) (e : Entry) (taken : Running) �
     → ((main : Bool) (t : ℕ) → ends_as main t e.kind ≡ false) → RunsAs script (past ++ e ∷ []) e.seat taken taken.is_main
     → ((s : ℕ) (v : Running) → running past s ≡ Some v → v.is_main ≡ false → taken.is_main ≡ false → IsApart script v taken)
     → IsConsistent script past → IsConsistent script (past ++ e ∷ [])
-one_taken script past e taken after no_end as_taken apart c = consistent_next script past e (Some taken) (λ s w h. now s w (whose past e s w h))
+one_taken script past e taken after no_end as_taken apart c = consistent_next script past e (Some taken) (λ s w h. now s w (runs_behind past e s w h))
     (λ main t ends_it. absurd (both_ways (ends_as main t e.kind) (no_end main t) ends_it))
     (λ w is. subst (λ x. RunsAs script (past ++ e ∷ []) e.seat x x.is_main) (same_Some taken w is) as_taken)
     (λ w is. subst (λ x. (s : ℕ) (v : Running) → running past s ≡ Some v → v.is_main ≡ false → x.is_main ≡ false → IsApart script v x)
         (same_Some taken w is) apart) c
   where
-    now : (s : ℕ) (w : Running)
-        → ((running past s ≡ Some w) × (eqb e.seat s ≡ false)) ⊎ ((s ≡ e.seat) × (running_after (running past e.seat) e.kind ≡ Some w))
-        → Now past e (Some taken) s w
+    now : (s : ℕ) (w : Running) → RunsBehind past e s w → Now past e (Some taken) s w
     now s w (inl x) = inl (x.0, no_end w.is_main w.task)
     now s w (inr x) = inr (x.0, sym after ∙ x.1)
 
@@ -210,7 +199,7 @@ one_ended : (script : Plan) (past : List Entry) (e : Entry) (v : Running) → ru
     → running_after (running past e.seat) e.kind ≡ None
     → ((main : Bool) (t : ℕ) → ends_as main t e.kind ≡ true → (v.is_main ≡ main) × (v.task ≡ t))
     → IsConsistent script past → IsConsistent script (past ++ e ∷ [])
-one_ended script past e v runs_it after ends_it c = nothing_taken script past e (λ s w h. goes_on s w (whose past e s w h)) was_taken c
+one_ended script past e v runs_it after ends_it c = nothing_taken script past e (λ s w h. goes_on s w (runs_behind past e s w h)) was_taken c
   where
     was_taken : (main : Bool) (t : ℕ) → ends_as main t e.kind ≡ true → taken_as main past t ≡ true
     was_taken main t h = let is = ends_it main t h in
@@ -221,21 +210,17 @@ one_ended script past e v runs_it after ends_it c = nothing_taken script past e 
     not_another s w h other ends_now = let is = ends_it w.is_main w.task ends_now in
         both_ways (eqb e.seat s) other (ap (eqb e.seat) (one_as script past c s e.seat w v h runs_it w.is_main refl is.0 (sym is.1)) ∙ eq-eqb e.seat e.seat refl)
 
-    goes_on : (s : ℕ) (w : Running)
-        → ((running past s ≡ Some w) × (eqb e.seat s ≡ false)) ⊎ ((s ≡ e.seat) × (running_after (running past e.seat) e.kind ≡ Some w))
-        → (running past s ≡ Some w) × (ends_as w.is_main w.task e.kind ≡ false)
+    goes_on : (s : ℕ) (w : Running) → RunsBehind past e s w → (running past s ≡ Some w) × (ends_as w.is_main w.task e.kind ≡ false)
     goes_on s w (inl x) = (x.0, false_from_ne_true (ends_as w.is_main w.task e.kind) (not_another s w x.0 x.1))
     goes_on s w (inr x) = absurd (none-some w (sym after ∙ x.1))
 
 -- an entry that moves no task
 still : (script : Plan) (past : List Entry) (e : Entry) → ((now : Option Running) → running_after now e.kind ≡ now)
     → ((main : Bool) (t : ℕ) → ends_as main t e.kind ≡ false) → IsConsistent script past → IsConsistent script (past ++ e ∷ [])
-still script past e same no_end c = nothing_taken script past e (λ s w h. goes_on s w (whose past e s w h))
+still script past e same no_end c = nothing_taken script past e (λ s w h. goes_on s w (runs_behind past e s w h))
     (λ main t ends_it. absurd (both_ways (ends_as main t e.kind) (no_end main t) ends_it)) c
   where
-    goes_on : (s : ℕ) (w : Running)
-        → ((running past s ≡ Some w) × (eqb e.seat s ≡ false)) ⊎ ((s ≡ e.seat) × (running_after (running past e.seat) e.kind ≡ Some w))
-        → (running past s ≡ Some w) × (ends_as w.is_main w.task e.kind ≡ false)
+    goes_on : (s : ℕ) (w : Running) → RunsBehind past e s w → (running past s ≡ Some w) × (ends_as w.is_main w.task e.kind ≡ false)
     goes_on s w (inl x) = (x.0, no_end w.is_main w.task)
     goes_on s w (inr x) = (ap (running past) x.0 ∙ sym (same (running past e.seat)) ∙ x.1, no_end w.is_main w.task)
 

@@ -14,11 +14,11 @@ use Rattle.task_model.specs.Seats.{Holding, holding, holding_after, inside}
 use Rattle.task_model.specs.Jobs.{claimed, claims, item_value, holds_id, is_free_id, free_id}
 use Rattle.task_model.specs.Sources.{leaves}
 use Rattle.task_model.proofs.Growth.{claimed_push}
-use Rattle.pool_laws.proofs.Seats.Running.{holding_here, holding_other}
 use Rattle.hist_model.specs.Allowed.{enters_job, same_number, next_item, may_come}
 use Rattle.hist_model.specs.Legal.{IsLegal}
 use Rattle.hist_model.specs.Laws.Consistent.{HoldsApart}
 use Rattle.hist_model.proofs.Laws.Legal.{entry_induction}
+use Rattle.hist_model.proofs.Laws.Whose.{HoldsBehind, holds_behind}
 use Rattle.hist_model.proofs.Laws.OneThing.{job_step_holds}
 
 -- two numbers that are the same, as a test
@@ -31,41 +31,28 @@ record IsNewlyHeld (past later : List Entry) (seat : ℕ) (h : Holding) : Type 0
   is_claimed : h.item < claimed later h.job
   apart : (s : ℕ) (k : Holding) → holding past s ≡ Some k → eqb seat s ≡ false → k.job ≡ h.job → (k.id ≡ h.id → ⊥) × (k.item ≡ h.item → ⊥)
 
--- what a seat holds behind an entry it held before, and the entry is another seat's, or it is what the entry's seat holds
-whose : (past : List Entry) (e : Entry) (s : ℕ) (h : Holding) → holding (past ++ e ∷ []) s ≡ Some h
-    → ((holding past s ≡ Some h) × (eqb e.seat s ≡ false)) ⊎ ((s ≡ e.seat) × (holding_after (holding past e.seat) e.kind ≡ Some h))
-whose past e s h is = at (eqb e.seat s) refl
-  where
-    at : (b : Bool) → eqb e.seat s ≡ b
-        → ((holding past s ≡ Some h) × (eqb e.seat s ≡ false)) ⊎ ((s ≡ e.seat) × (holding_after (holding past e.seat) e.kind ≡ Some h))
-    at true own = inr (sym (eqb-true e.seat s own), sym (holding_here past e s own) ∙ is)
-    at false other = inl (sym (holding_other past e s other) ∙ is, other)
-
 -- an entry behind which its seat holds what no other does
 apart_next : (script : Plan) (past : List Entry) (e : Entry) → e.seat ≤ script.workers
     → ((h : Holding) → holding_after (holding past e.seat) e.kind ≡ Some h → IsNewlyHeld past (past ++ e ∷ []) e.seat h)
     → HoldsApart script past → HoldsApart script (past ++ e ∷ [])
 apart_next script past e seat_known new c = record {
-  known = λ s h is. known s h (whose past e s h is);
-  is_claimed = λ s h is. is_claimed s h (whose past e s h is);
-  one_number = λ a b h k x y job id. one a b h k (whose past e a h x) (whose past e b k y) job
+  known = λ s h is. known s h (holds_behind past e s h is);
+  is_claimed = λ s h is. is_claimed s h (holds_behind past e s h is);
+  one_number = λ a b h k x y job id. one a b h k (holds_behind past e a h x) (holds_behind past e b k y) job
       (λ p q. c.one_number a b h k p q job id) (λ differ. differ.0 id) (λ differ. differ.0 (sym id));
-  one_item = λ a b h k x y job item. one a b h k (whose past e a h x) (whose past e b k y) job
+  one_item = λ a b h k x y job item. one a b h k (holds_behind past e a h x) (holds_behind past e b k y) job
       (λ p q. c.one_item a b h k p q job item) (λ differ. differ.1 item) (λ differ. differ.1 (sym item));
 }
   where
-    Whose : ℕ → Holding → Type 0
-    Whose s h = ((holding past s ≡ Some h) × (eqb e.seat s ≡ false)) ⊎ ((s ≡ e.seat) × (holding_after (holding past e.seat) e.kind ≡ Some h))
-
-    known : (s : ℕ) (h : Holding) → Whose s h → s ≤ script.workers
+    known : (s : ℕ) (h : Holding) → HoldsBehind past e s h → s ≤ script.workers
     known s h (inl x) = c.known s h x.0
     known s h (inr x) = omega (arith, x.0, seat_known)
 
-    is_claimed : (s : ℕ) (h : Holding) → Whose s h → h.item < claimed (past ++ e ∷ []) h.job
+    is_claimed : (s : ℕ) (h : Holding) → HoldsBehind past e s h → h.item < claimed (past ++ e ∷ []) h.job
     is_claimed s h (inl x) = omega (arith, c.is_claimed s h x.0, claimed_push past e h.job)
     is_claimed s h (inr x) = (new h x.1).is_claimed
 
-    one : (a b : ℕ) (h k : Holding) → Whose a h → Whose b k → h.job ≡ k.job
+    one : (a b : ℕ) (h k : Holding) → HoldsBehind past e a h → HoldsBehind past e b k → h.job ≡ k.job
         → (holding past a ≡ Some h → holding past b ≡ Some k → a ≡ b)
         → ((h.id ≡ k.id → ⊥) × (h.item ≡ k.item → ⊥) → ⊥) → ((k.id ≡ h.id → ⊥) × (k.item ≡ h.item → ⊥) → ⊥) → a ≡ b
     one a b h k (inl x) (inl y) job both first second = both x.0 y.0

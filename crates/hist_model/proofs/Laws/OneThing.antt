@@ -1,7 +1,7 @@
 -- In every legal history each seat does one thing at a time.
 use Rattle.std.proofs.Common.{◌≡◌, ℕ, ◌≤◌, Bool, true, false, cond, eqb, leb, List, [], ◌∷◌, ◌++◌, length, refl, sym, ap, subst, ◌∙◌, Option, Some, None, ◌⊎◌, inl, inr, arith}
 use Rattle.std.specs.Prelude.{◌&&◌, ◌||◌, is_none}
-use Rattle.std.proofs.lemmas.Bool.{eqb-true, and_parts, or_cases, both_ways}
+use Rattle.std.proofs.lemmas.Bool.{eqb-true, eqb-false, and_parts, or_cases, both_ways}
 use Rattle.std.proofs.lemmas.Option.{none-some, same_Some}
 use Rattle.task_base.specs.Plan.{Plan}
 use Rattle.task_base.specs.declared.entry.Entry.{Entry}
@@ -26,6 +26,7 @@ use Rattle.hist_model.specs.Laws.Consistent.{is_pump, is_join, DoesOneThing}
 use Rattle.hist_model.proofs.Laws.Agenda.{current_stays}
 use Rattle.hist_model.proofs.Laws.Legal.{entry_induction}
 use Rattle.hist_model.proofs.Laws.Choice.{Found, found}
+use Rattle.hist_model.proofs.Laws.Whose.{RunsBehind, runs_behind, HoldsBehind, holds_behind}
 use Rattle.hist_model.proofs.Laws.Takes.{IsReadyWorker, ready_worker, by_driver, take_is}
 use Rattle.hist_model.proofs.Laws.Own.{running_own, holding_own, own_entries_push}
 
@@ -273,35 +274,32 @@ own_joins script past kind may d h k = let (c, is, join) = d.joins h k in
 step : (script : Plan) (past : List Entry) (seat : ℕ) (kind : Kind) → may_come script past seat kind ≡ true → DoesOneThing script past
     → DoesOneThing script (past ++ record { seat = seat; kind = kind } ∷ [])
 step script past seat kind may d = record {
-  pumps = λ w r. pumps w (eqb seat 0) refl (sym (running_push past (record { seat = seat; kind = kind }) 0) ∙ r);
-  joins = λ h k. joins h (eqb seat 0) refl (sym (holding_push past (record { seat = seat; kind = kind }) 0) ∙ k);
-  one_thing = λ s w h r k. thing s w h (eqb seat s) refl (sym (running_push past (record { seat = seat; kind = kind }) s) ∙ r)
-      (sym (holding_push past (record { seat = seat; kind = kind }) s) ∙ k);
+  pumps = λ w r. pumps w (runs_behind past e 0 w r);
+  joins = λ h k. joins h (holds_behind past e 0 h k);
+  one_thing = λ s w h r k. thing s w h (runs_behind past e s w r) (holds_behind past e s h k);
 }
   where
-    pumps : (w : Running) (b : Bool) → eqb seat 0 ≡ b → cond (eqb seat 0) (running_after (running past 0) kind) (running past 0) ≡ Some w
-        → At script (past ++ record { seat = seat; kind = kind } ∷ []) is_pump
-    pumps w true own r = subst (λ s. At script (past ++ record { seat = s; kind = kind } ∷ []) is_pump) (sym (eqb-true seat 0 own))
-        (own_pumps script past kind (subst (λ s. may_come script past s kind ≡ true) (eqb-true seat 0 own) may) d w
-        (ap (λ b. cond b (running_after (running past 0) kind) (running past 0)) (sym own) ∙ r))
-    pumps w false other r = other_at script past seat kind is_pump other
-        (d.pumps w (ap (λ b. cond b (running_after (running past 0) kind) (running past 0)) (sym other) ∙ r))
+    e : Entry
+    e = record { seat = seat; kind = kind }
 
-    joins : (h : Holding) (b : Bool) → eqb seat 0 ≡ b → cond (eqb seat 0) (holding_after (holding past 0) kind) (holding past 0) ≡ Some h
-        → At script (past ++ record { seat = seat; kind = kind } ∷ []) is_join
-    joins h true own k = subst (λ s. At script (past ++ record { seat = s; kind = kind } ∷ []) is_join) (sym (eqb-true seat 0 own))
-        (own_joins script past kind (subst (λ s. may_come script past s kind ≡ true) (eqb-true seat 0 own) may) d h
-        (ap (λ b. cond b (holding_after (holding past 0) kind) (holding past 0)) (sym own) ∙ k))
-    joins h false other k = other_at script past seat kind is_join other
-        (d.joins h (ap (λ b. cond b (holding_after (holding past 0) kind) (holding past 0)) (sym other) ∙ k))
+    pumps : (w : Running) → RunsBehind past e 0 w → At script (past ++ e ∷ []) is_pump
+    pumps w (inl (before, other)) = other_at script past seat kind is_pump other (d.pumps w before)
+    pumps w (inr (driver, now)) = subst (λ s. may_come script past s kind ≡ true → running_after (running past s) kind ≡ Some w
+        → At script (past ++ record { seat = s; kind = kind } ∷ []) is_pump) driver (λ allowed runs. own_pumps script past kind allowed d w runs) may now
 
-    thing : (s : ℕ) (w : Running) (h : Holding) (b : Bool) → eqb seat s ≡ b → cond (eqb seat s) (running_after (running past s) kind) (running past s) ≡ Some w
-        → cond (eqb seat s) (holding_after (holding past s) kind) (holding past s) ≡ Some h → ⊥
-    thing s w h true own r k = own_thing script past s kind (subst (λ x. may_come script past x kind ≡ true) (eqb-true seat s own) may) d w h
-        (ap (λ b. cond b (running_after (running past s) kind) (running past s)) (sym own) ∙ r)
-            (ap (λ b. cond b (holding_after (holding past s) kind) (holding past s)) (sym own) ∙ k)
-    thing s w h false other r k = d.one_thing s w h (ap (λ b. cond b (running_after (running past s) kind) (running past s)) (sym other) ∙ r)
-        (ap (λ b. cond b (holding_after (holding past s) kind) (holding past s)) (sym other) ∙ k)
+    joins : (h : Holding) → HoldsBehind past e 0 h → At script (past ++ e ∷ []) is_join
+    joins h (inl (before, other)) = other_at script past seat kind is_join other (d.joins h before)
+    joins h (inr (driver, now)) = subst (λ s. may_come script past s kind ≡ true → holding_after (holding past s) kind ≡ Some h
+        → At script (past ++ record { seat = s; kind = kind } ∷ []) is_join) driver (λ allowed holds. own_joins script past kind allowed d h holds) may now
+
+    mixed : (s : ℕ) → eqb seat s ≡ false → s ≡ seat → ⊥
+    mixed s other own = eqb-false seat s other (sym own)
+
+    thing : (s : ℕ) (w : Running) (h : Holding) → RunsBehind past e s w → HoldsBehind past e s h → ⊥
+    thing s w h (inl (runs, other)) (inl (holds, other_too)) = d.one_thing s w h runs holds
+    thing s w h (inl (runs, other)) (inr (own, holds)) = mixed s other own
+    thing s w h (inr (own, runs)) (inl (holds, other)) = mixed s other own
+    thing s w h (inr (own, runs)) (inr (own_too, holds)) = own_thing script past seat kind may d w h runs holds
 
 nothing_done : (script : Plan) → DoesOneThing script []
 unfolding running holding
