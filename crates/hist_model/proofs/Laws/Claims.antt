@@ -57,28 +57,29 @@ step_claims : (script : Plan) (past : List Entry) (seat job id item value : ℕ)
     → AllClaimed script (past ++ record { seat = seat; kind = kinds.JobStep job id item value next } ∷ [])
 step_claims script past seat job id item value next known held all j = by next (eqb job j) refl
   where
+    e : Option ℕ → Entry
+    e o = record { seat = seat; kind = kinds.JobStep job id item value o }
+
     after : Option ℕ → List Entry
-    after o = past ++ record { seat = seat; kind = kinds.JobStep job id item value o } ∷ []
+    after o = past ++ e o ∷ []
 
     more : (o : Option ℕ) (b : Bool) → eqb job j ≡ b → claimed (after o) j ≡ claimed past j + cond (b && is_some o) 1 0
-    more o b is = claimed_push past (record { seat = seat; kind = kinds.JobStep job id item value o }) j
-        ∙ ap (λ c. claimed past j + cond (c && is_some o) 1 0) is
+    more o b is = claimed_push past (e o) j ∙ ap (λ c. claimed past j + cond (c && is_some o) 1 0) is
 
     one_done : (o : Option ℕ) (b : Bool) → eqb job j ≡ b → done (after o) j ≡ done past j + cond (is_some (cond b (Some value) None)) 1 0
-    one_done o b is = done_push past (record { seat = seat; kind = kinds.JobStep job id item value o }) j
-        ∙ ap (λ (c : Bool). done past j + cond (is_some (cond c (Some value) None)) 1 0) is
+    one_done o b is = done_push past (e o) j ∙ ap (λ (c : Bool). done past j + cond (is_some (cond c (Some value) None)) 1 0) is
 
     by : (o : Option ℕ) (b : Bool) → eqb job j ≡ b → claimed (after o) j ≡ done (after o) j + length (inside script (after o) j)
-    by (Some n) true is = rw (inside_at_step script past (record { seat = seat; kind = kinds.JobStep job id item value (Some n) }) j job id item value n refl held)
+    by (Some n) true is = rw (inside_at_step script past (e (Some n)) j job id item value n refl held)
         (omega (arith, more (Some n) true is, one_done (Some n) true is, all j))
-    by (Some n) false is = rw (inside_at_step script past (record { seat = seat; kind = kinds.JobStep job id item value (Some n) }) j job id item value n refl held)
+    by (Some n) false is = rw (inside_at_step script past (e (Some n)) j job id item value n refl held)
         (omega (arith, more (Some n) false is, one_done (Some n) false is, all j))
     by None true is =
         let one_less : length (inside script past j) ≡ length (inside script (after None) j) + 1 =
         subst (λ m. length (inside script past m) ≡ length (inside script (after None) m) + 1) (eqb-true job j is)
-            (inside_at_leave script past (record { seat = seat; kind = kinds.JobStep job id item value None }) job id item value refl (omega (arith, known)) held) in
+            (inside_at_leave script past (e None) job id item value refl (omega (arith, known)) held) in
         omega (arith, more None true is, one_done None true is, one_less, all j)
-    by None false is = rw (inside_at_other_leave script past (record { seat = seat; kind = kinds.JobStep job id item value None }) j job id item value refl is held)
+    by None false is = rw (inside_at_other_leave script past (e None) j job id item value refl is held)
         (omega (arith, more None false is, one_done None false is, all j))
 
 -- who ends an item of a job holds one of it
@@ -98,7 +99,8 @@ claims_next script past seat kind known may all = λ j. rw (inside_same script p
 
 nothing_claimed : (script : Plan) → AllClaimed script []
 unfolding claimed done inside holding
-nothing_claimed script j = let nobody : inside script [] j ≡ [] = filter_never (λ seat. holds_of (λ h. eqb h.job j) (holding [] seat)) (all_seats script) (λ seat. refl) in
+nothing_claimed script j = let nobody : inside script [] j ≡ [] = filter_never (λ seat. holds_of (λ h. eqb h.job j) (holding [] seat)) (all_seats script)
+    (λ seat. refl) in
     rw nobody refl
 
 -- the claimed items of a job are those that are done and those that are held

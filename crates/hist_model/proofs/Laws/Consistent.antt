@@ -208,7 +208,8 @@ one_ended script past e v runs_it after ends_it c = nothing_taken script past e 
 
     not_another : (s : ℕ) (w : Running) → running past s ≡ Some w → eqb e.seat s ≡ false → ends_as w.is_main w.task e.kind ≡ true → ⊥
     not_another s w h other ends_now = let is = ends_it w.is_main w.task ends_now in
-        both_ways (eqb e.seat s) other (ap (eqb e.seat) (one_as script past c s e.seat w v h runs_it w.is_main refl is.0 (sym is.1)) ∙ eq-eqb e.seat e.seat refl)
+        both_ways (eqb e.seat s) other (ap (eqb e.seat) (one_as script past c s e.seat w v h runs_it w.is_main refl is.0 (sym is.1))
+            ∙ eq-eqb e.seat e.seat refl)
 
     goes_on : (s : ℕ) (w : Running) → RunsBehind past e s w → (running past s ≡ Some w) × (ends_as w.is_main w.task e.kind ≡ false)
     goes_on s w (inl x) = (x.0, false_from_ne_true (ends_as w.is_main w.task e.kind) (not_another s w x.0 x.1))

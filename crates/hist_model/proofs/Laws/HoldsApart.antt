@@ -105,7 +105,8 @@ unfolding may_come
 step_takes script past seat job id item value next may = (and_parts _ (same_number next (next_item script past seat job)) may).1
 
 -- the seat goes on under its number with the least unclaimed item
-step_apart : (script : Plan) (past : List Entry) (seat job id item value next : ℕ) → may_come script past seat (kinds.JobStep job id item value (Some next)) ≡ true
+step_apart : (script : Plan) (past : List Entry) (seat job id item value next : ℕ)
+    → may_come script past seat (kinds.JobStep job id item value (Some next)) ≡ true
     → HoldsApart script past → (h : Holding) → record { job = job; id = id; item = next } ≡ h
     → IsNewlyHeld past (past ++ record { seat = seat; kind = kinds.JobStep job id item value (Some next) } ∷ []) seat h
 step_apart script past seat job id item value next may c h is =
@@ -126,7 +127,8 @@ step_apart script past seat job id item value next may c h is =
             at false l = eqb-true next (claimed past job) l
 
     not_mine : (s : ℕ) (k : Holding) → holding past s ≡ Some k → eqb seat s ≡ false → k.job ≡ job → k.id ≡ id → ⊥
-    not_mine s k holds other of_job same = let (mine, mine_is, mine_job, mine_id, mine_item) = job_step_holds script past seat job id item value (Some next) may in
+    not_mine s k holds other of_job same = let (mine, mine_is, mine_job, mine_id, mine_item) = job_step_holds script past seat job id item value
+        (Some next) may in
         both_ways (eqb seat s) other (eq-eqb seat s (c.one_number seat s mine k mine_is holds (mine_job ∙ sym of_job) (mine_id ∙ sym same)))
 
 -- a seat that goes on with what it holds

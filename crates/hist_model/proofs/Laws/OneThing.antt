@@ -106,7 +106,8 @@ join_goes_on : (script : Plan) (past : List Entry) (kind : Kind) (c : Current) (
     → may_come script past 0 kind ≡ true → completes c.action c.made kind ≡ false
 unfolding may_come
 join_goes_on script past kind c h join holds may = at c.action c.made kind join
-    (λ job reply is. no_joined job reply (and_parts (by_script script past 0 (kinds.Joined job reply)) _ (and_parts _ _ (ap (may_come script past 0) is ∙ may)).0).0)
+    (λ job reply is. no_joined job reply (and_parts (by_script script past 0 (kinds.Joined job reply)) _
+        (and_parts _ _ (ap (may_come script past 0) is ∙ may)).0).0)
   where
     no_joined : (job : ℕ) (reply : JobReply) → by_script script past 0 (kinds.Joined job reply) ≡ true → ⊥
     no_joined job reply wanted =
