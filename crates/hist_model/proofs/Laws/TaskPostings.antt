@@ -1,5 +1,5 @@
 -- The postings that the tasks have left: those of the tasks that no seat has taken, and those of what each seat runs.
-use Rattle.std.proofs.Common.{◌≡◌, ℕ, zero, suc, ◌+◌, ◌≤◌, Bool, true, false, cond, eqb, List, [], ◌∷◌, ◌++◌, refl, sym, ap, subst, ◌∙◌, Option, Some, None, arith, add-one}
+use Rattle.std.proofs.Common.{◌≡◌, ℕ, zero, suc, ◌+◌, ◌≤◌, Bool, true, false, cond, eqb, List, [], ◌∷◌, ◌++◌, refl, sym, ap, subst, ◌∙◌, Option, Some, None, arith, add-one, zero-add}
 use Rattle.std.specs.Prelude.{◌||◌, not, filter, flat_map, slice_get, option_and_then}
 use Rattle.std.specs.Option.{option_map_or}
 use Rattle.std.proofs.lemmas.Bool.{eqb-true, eq-eqb, and_parts}
@@ -38,9 +38,6 @@ rest_next t zero (y ∷ xs) x h = let same : y ≡ x = cc in subst
     (λ z. rest_posts t zero xs + times t (posts_of_step z) ≡ times t (posts_of_step y) + rest_posts t zero xs) same (omega arith)
 rest_next t (suc n) (y ∷ xs) x h = rest_next t n xs x h
 
-from_nothing : (n : ℕ) → 0 + n ≡ n
-from_nothing n = omega arith
-
 -- how often a task of these steps posts a task
 pub steps_post : ℕ → List Step → ℕ
 steps_post t xs = rest_posts t zero (filter is_act xs)
@@ -50,8 +47,8 @@ unfolding steps_post rest_posts
 steps_post_all t [] = refl
 steps_post_all t (steps.Post u r d ∷ xs) = ap (λ n. times t (u ∷ []) + n) (steps_post_all t xs) ∙ sym (times-append t (u ∷ []) (flat_map posts_of_step xs))
 steps_post_all t (steps.Main u r d ∷ xs) = ap (λ n. times t (u ∷ []) + n) (steps_post_all t xs) ∙ sym (times-append t (u ∷ []) (flat_map posts_of_step xs))
-steps_post_all t (steps.Block s ∷ xs) = from_nothing (steps_post t xs) ∙ steps_post_all t xs
-steps_post_all t (steps.Unblock ∷ xs) = from_nothing (steps_post t xs) ∙ steps_post_all t xs
+steps_post_all t (steps.Block s ∷ xs) = zero-add (steps_post t xs) ∙ steps_post_all t xs
+steps_post_all t (steps.Unblock ∷ xs) = zero-add (steps_post t xs) ∙ steps_post_all t xs
 steps_post_all t (x ∷ xs) = steps_post_all t xs
 
 -- how often a seat that runs this and has entered n act steps has a posting of a task left
@@ -86,14 +83,15 @@ seat_goes_on script t w n kind h = omega arith
 
 -- an act step that enters this kind posts what the entry posts
 enters_posts : (t u : ℕ) (step : Step) (kind : Kind) → enters u step kind ≡ true → times t (kind_posts kind) ≤ times t (posts_of_step step)
-enters_posts t u (steps.Post v r d) (kinds.Post task runner delay ok) h = let same : task
-    ≡ v = eqb-true task v (and_parts (eqb task v) (eqb runner r) (and_parts _ (eqb delay d) h).0).0 in rw same (omega arith)
-enters_posts t u (steps.Main v q d) (kinds.Main task queue delay ok) h = let same : task
-    ≡ v = eqb-true task v (and_parts (eqb task v) (eqb queue q) (and_parts _ (eqb delay d) h).0).0 in rw same (omega arith)
+enters_posts t u (steps.Post v r d) (kinds.Post task runner delay ok) h =
+    rw (eqb-true task v (and_parts (eqb task v) (eqb runner r) (and_parts _ (eqb delay d) h).0).0) (omega arith)
+enters_posts t u (steps.Main v q d) (kinds.Main task queue delay ok) h =
+    rw (eqb-true task v (and_parts (eqb task v) (eqb queue q) (and_parts _ (eqb delay d) h).0).0) (omega arith)
 enters_posts t u step (kinds.Post task runner delay ok) h = absurd cc
 enters_posts t u step (kinds.Main task queue delay ok) h = absurd cc
 enters_posts t u step kind h = omega arith
 
+-- such an entry is one more act step, and what the seat runs goes on
 entered : (u n : ℕ) (w : Option Running) (step : Step) (kind : Kind) → enters u step kind ≡ true → (acts_after n kind ≡ n + 1) × (running_after w kind ≡ w)
 entered u n w (steps.Post v r d) (kinds.Post task runner delay ok) h = (refl, refl)
 entered u n w (steps.Main v q d) (kinds.Main task queue delay ok) h = (refl, refl)
@@ -194,7 +192,7 @@ seats_take script t u past e le h = omega (arith, seats_have_change script t pas
 seats_begin_from : (script : Plan) (t n : ℕ) → seats_sum (seat_at script t []) n ≡ 0
 unfolding seats_sum seat_at seat_has running
 seats_begin_from script t zero = refl
-seats_begin_from script t (suc n) = from_nothing (seats_sum (seat_at script t []) n) ∙ seats_begin_from script t n
+seats_begin_from script t (suc n) = zero-add (seats_sum (seat_at script t []) n) ∙ seats_begin_from script t n
 
 pub seats_begin : (script : Plan) (t : ℕ) → seats_have script t [] ≡ 0
 seats_begin script t = seats_begin_from script t script.workers
@@ -252,21 +250,14 @@ was_untaken past e u = rw (is_taken_push past e u, is_main_taken_push past e u)
     (at (is_taken past u) (takes u e.kind) (is_main_taken past u) (main_takes u e.kind))
   where
     at : (a b c d : Bool) → not ((a || b) || (c || d)) ≡ true → not (a || c) ≡ true
-    at true b c d h = absurd cc
-    at false true c d h = absurd cc
-    at false false true d h = absurd cc
-    at false false false d h = refl
+    at a b c d h = grind (arith, h)
 
 is_now_taken : (past : List Entry) (e : Entry) (u : ℕ) → (takes u e.kind || main_takes u e.kind) ≡ true → is_untaken (past ++ e ∷ []) u ≡ false
 is_now_taken past e u = rw (is_taken_push past e u, is_main_taken_push past e u)
     (at (is_taken past u) (takes u e.kind) (is_main_taken past u) (main_takes u e.kind))
   where
     at : (a b c d : Bool) → (b || d) ≡ true → not ((a || b) || (c || d)) ≡ false
-    at true b c d h = refl
-    at false true c d h = refl
-    at false false true d h = refl
-    at false false false true h = refl
-    at false false false false h = absurd cc
+    at a b c d h = grind (arith, h)
 
 pub tasks_have_less : (script : Plan) (t : ℕ) (past : List Entry) (e : Entry) → tasks_have script t (past ++ e ∷ []) ≤ tasks_have script t past
 unfolding tasks_have
