@@ -1,7 +1,7 @@
 -- Moments, orders and scopes in every legal past.
 use Rattle.std.proofs.Common.{◌≡◌, ℕ, ◌≤◌, Bool, true, false, cond, eqb, leb, List, [], ◌∷◌, ◌++◌, refl, sym, ap, ◌∙◌, Some, None, arith}
 use Rattle.std.specs.Prelude.{◌&&◌, ◌||◌}
-use Rattle.std.proofs.lemmas.Bool.{eqb-true, leb-true, and_parts, both_ways, or_parts}
+use Rattle.std.proofs.lemmas.Bool.{cond_both, eqb-true, leb-true, and_parts, both_ways, or_parts}
 use Rattle.task_base.specs.Plan.{Plan}
 use Rattle.task_base.specs.declared.limits.TheConstants.{LAST_MOMENT}
 use Rattle.task_base.specs.declared.entry.Entry.{Entry}
@@ -60,7 +60,9 @@ was_taken script past seat w true r free main_free = both_ways (is_main_taken pa
 -- an entry that is allowed opens scopes of taken tasks alone
 scopes_next : (script : Plan) (past : List Entry) (seat : ℕ) (kind : Kind) → may_come script past seat kind ≡ true → IsConsistent script past → (t : ℕ)
     → is_taken past t ≡ false → is_main_taken past t ≡ false → open_scope past t ≡ None → scope_after t past (open_scope past t) kind ≡ None
-scopes_next script past seat (kinds.Enter task scope) h c t free main_free none = at (eqb task t) refl
+scopes_next script past seat (kinds.Enter task scope) h c t free main_free none =
+    cond_both (eqb task t) (Some (record { scope = scope; since = now_of past })) (open_scope past t) (λ o. o ≡ None) (λ same. absurd (not_now same))
+        (λ other. none)
   where
     runs : (w : Running) × (running past seat ≡ Some w) × (w.task ≡ task)
     runs = opens_as_running script past seat task scope h
@@ -68,15 +70,8 @@ scopes_next script past seat (kinds.Enter task scope) h c t free main_free none 
     not_now : eqb task t ≡ true → ⊥
     not_now same = was_taken script past seat runs.0 runs.0.is_main (c.runs seat runs.0 runs.1) (ap (is_taken past) (runs.2 ∙ eqb-true task t same) ∙ free)
         (ap (is_main_taken past) (runs.2 ∙ eqb-true task t same) ∙ main_free)
-
-    at : (b : Bool) → eqb task t ≡ b → cond b (Some (record { scope = scope; since = now_of past })) (open_scope past t) ≡ None
-    at true same = absurd (not_now same)
-    at false same = none
-scopes_next script past seat (kinds.Leave task) h c t free main_free none = at (eqb task t)
-  where
-    at : (b : Bool) → cond b None (open_scope past t) ≡ None
-    at true = refl
-    at false = none
+scopes_next script past seat (kinds.Leave task) h c t free main_free none = cond_both (eqb task t) None (open_scope past t) (λ o. o ≡ None) (λ is. refl)
+    (λ is. none)
 scopes_next script past seat kind h c t free main_free none = none
 
 nothing_risen : Rises []

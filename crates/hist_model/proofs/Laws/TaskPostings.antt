@@ -2,7 +2,8 @@
 use Rattle.std.proofs.Common.{◌≡◌, ℕ, zero, suc, ◌+◌, ◌≤◌, Bool, true, false, cond, eqb, List, [], ◌∷◌, ◌++◌, refl, sym, ap, subst, ◌∙◌, Option, Some, None, arith, add-one, zero-add}
 use Rattle.std.specs.Prelude.{◌||◌, not, filter, flat_map, slice_get, option_and_then}
 use Rattle.std.specs.Option.{option_map_or}
-use Rattle.std.proofs.lemmas.Bool.{eqb-true, eq-eqb, and_parts}
+use Rattle.std.proofs.Math.Bool.{or-false}
+use Rattle.std.proofs.lemmas.Bool.{cond_both, eqb-true, eq-eqb, and_parts}
 use Rattle.task_base.specs.Plan.{Plan}
 use Rattle.task_base.specs.Steps.{is_act}
 use Rattle.task_base.specs.declared.step.Step.{Step}
@@ -181,11 +182,8 @@ seats_take script t u past e le h = omega (arith, seats_have_change script t pas
   where
     begins : (w : Option Running) (n : ℕ) (kind : Kind) → (takes u kind || main_takes u kind) ≡ true
         → seat_has script t (running_after w kind) (acts_after n kind) ≡ steps_post t (steps_of script u)
-    begins w n (kinds.Take task runner found) k = ap (λ v. rest_posts t 0 (filter is_act (steps_of script v))) (is_task (eqb task u) refl k)
-      where
-        is_task : (b : Bool) → eqb task u ≡ b → (b || false) ≡ true → task ≡ u
-        is_task true is l = eqb-true task u is
-        is_task false is l = absurd cc
+    begins w n (kinds.Take task runner found) k =
+        ap (λ v. rest_posts t 0 (filter is_act (steps_of script v))) (eqb-true task u (sym (or-false (eqb task u)) ∙ k))
     begins w n (kinds.MainTake task queue found) k = ap (λ v. rest_posts t 0 (filter is_act (steps_of script v))) (eqb-true task u k)
     begins w n kind k = absurd cc
 
@@ -203,11 +201,7 @@ weigh test t i [] = 0
 weigh test t i (x ∷ xs) = cond (test i) (steps_post t x) 0 + weigh test t (suc i) xs
 
 cond_less : (f g : ℕ → Bool) (i n : ℕ) → ((j : ℕ) → g j ≡ true → f j ≡ true) → cond (g i) n 0 ≤ cond (f i) n 0
-cond_less f g i n fewer = at (g i) refl
-  where
-    at : (b : Bool) → g i ≡ b → cond b n 0 ≤ cond (f i) n 0
-    at true is = rw (fewer i is) (omega arith)
-    at false is = omega arith
+cond_less f g i n fewer = cond_both (g i) n 0 (λ m. m ≤ cond (f i) n 0) (λ is. rw (fewer i is) (omega arith)) (λ is. omega arith)
 
 weigh_less : (f g : ℕ → Bool) (t i : ℕ) (xs : List (List Step)) → ((j : ℕ) → g j ≡ true → f j ≡ true) → weigh g t i xs ≤ weigh f t i xs
 unfolding weigh
@@ -230,12 +224,9 @@ weigh_drops f g t i u (suc k) (x ∷ xs) at was is fewer = let next : u ≡ suc 
 weigh_all : (f : ℕ → Bool) (t i : ℕ) (xs : List (List Step)) → weigh f t i xs ≤ times t (flat_map (λ steps. flat_map posts_of_step steps) xs)
 unfolding weigh
 weigh_all f t i [] = omega arith
-weigh_all f t i (x ∷ xs) = omega (arith, one (f i), weigh_all f t (suc i) xs, times-append t (flat_map posts_of_step x)
+weigh_all f t i (x ∷ xs) = omega (arith, cond_both (f i) (steps_post t x) 0 (λ m. m ≤ times t (flat_map posts_of_step x))
+    (λ is. omega (arith, steps_post_all t x)) (λ is. omega arith), weigh_all f t (suc i) xs, times-append t (flat_map posts_of_step x)
     (flat_map (λ steps. flat_map posts_of_step steps) xs))
-  where
-    one : (b : Bool) → cond b (steps_post t x) 0 ≤ times t (flat_map posts_of_step x)
-    one true = omega (arith, steps_post_all t x)
-    one false = omega arith
 
 -- the task was taken neither from the pool nor from a main queue
 abbrev pub is_untaken : List Entry → ℕ → Bool
