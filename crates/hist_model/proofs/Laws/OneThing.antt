@@ -1,5 +1,5 @@
 -- In every legal history each seat does one thing at a time.
-use Rattle.std.proofs.Common.{◌≡◌, ℕ, ◌≤◌, Bool, true, false, cond, eqb, leb, List, [], ◌∷◌, ◌++◌, length, refl, sym, ap, subst, ◌∙◌, Option, Some, None, ◌⊎◌, inl, inr, arith}
+use Rattle.std.proofs.Common.{◌≡◌, ℕ, ◌≤◌, Bool, true, false, cond, eqb, leb, List, [], ◌∷◌, ◌++◌, length, refl, sym, ap, subst, ◌∙◌, Option, Some, None, ◌⊎◌, inl, inr, ⊎_elim, arith}
 use Rattle.std.specs.Prelude.{◌&&◌, ◌||◌, is_none}
 use Rattle.std.proofs.lemmas.Bool.{eqb-true, eqb-false, and_parts, or_cases, both_ways}
 use Rattle.std.proofs.lemmas.Option.{none-some, same_Some}
@@ -27,7 +27,7 @@ use Rattle.hist_model.proofs.Laws.Agenda.{current_stays}
 use Rattle.hist_model.proofs.Laws.Legal.{entry_induction}
 use Rattle.hist_model.proofs.Laws.Choice.{Found, found}
 use Rattle.hist_model.proofs.Laws.Whose.{RunsBehind, runs_behind, HoldsBehind, holds_behind}
-use Rattle.hist_model.proofs.Laws.Takes.{IsReadyWorker, ready_worker, by_driver, take_is}
+use Rattle.hist_model.proofs.Laws.Takes.{IsReadyWorker, by_driver, take_is, job_take_is}
 use Rattle.hist_model.proofs.Laws.Own.{running_own, holding_own, own_entries_push}
 
 -- what the driver is at
@@ -152,44 +152,26 @@ main_take_free script past seat task queue value h =
 -- a job is entered by a free worker, or at a join
 job_take_at : (script : Plan) (past : List Entry) (seat job id item : ℕ) → may_come script past seat (kinds.JobTake job id item) ≡ true
     → IsReadyWorker script past seat ⊎ ((seat ≡ 0) × At script past is_join)
-unfolding may_come
-job_take_at script past seat job id item h =
-    either (is_ready_worker script past seat) (holds_of (λ c. is_job job c.source) (best_of script past seat))
-        (by_script script past seat (kinds.JobTake job id item)) (may_enter script past job) refl refl
-    (and_parts (enters_job script past seat job (kinds.JobTake job id item)) _ (and_parts _ (eqb item (claimed past job)) h).0).0
-  where
-    either : (a b c d : Bool) → is_ready_worker script past seat ≡ a → by_script script past seat (kinds.JobTake job id item) ≡ c
-        → ((a && b) || (c && d)) ≡ true → IsReadyWorker script past seat ⊎ ((seat ≡ 0) × At script past is_join)
-    either true b c d ready wanted k = inl (ready_worker script past seat ready)
-    either false b true d ready wanted k =
-        let c = wanted_by script past seat (kinds.JobTake job id item) wanted in
-        inr (by_driver script past seat (kinds.JobTake job id item) wanted,
-            (c.value, c.is, join_wants (own_entries 0 past) c.value.action c.value.made job id item c.passes))
-    either false b false d ready wanted k = absurd cc
+job_take_at script past seat job id item h = ⊎_elim (λ k. inl k.0)
+    (λ k. let c = wanted_by script past seat (kinds.JobTake job id item) k.0 in
+        inr (by_driver script past seat (kinds.JobTake job id item) k.0,
+            (c.value, c.is, join_wants (own_entries 0 past) c.value.action c.value.made job id item c.passes)))
+    (job_take_is script past seat job id item h)
 
 -- a seat that enters a job holds nothing
 pub job_take_free : (script : Plan) (past : List Entry) (seat job id item : ℕ) → may_come script past seat (kinds.JobTake job id item) ≡ true
     → is_none (holding past seat) ≡ true
-unfolding may_come
-job_take_free script past seat job id item h =
-    by (or_cases (is_ready_worker script past seat && holds_of (λ c. is_job job c.source) (best_of script past seat))
-        (by_script script past seat (kinds.JobTake job id item) && may_enter script past job)
-    (and_parts (enters_job script past seat job (kinds.JobTake job id item)) _ (and_parts _ (eqb item (claimed past job)) h).0).0)
+job_take_free script past seat job id item h = ⊎_elim
+    (λ k. (and_parts (is_none (running past seat)) (is_none (holding past seat)) k.0.free).1)
+    (λ k. let c = wanted_by script past seat (kinds.JobTake job id item) k.0 in
+        rw (by_driver script past seat (kinds.JobTake job id item) k.0, ← holding_own past 0)
+            (needs (own_entries 0 past) c.value.action c.value.made c.passes))
+    (job_take_is script past seat job id item h)
   where
     needs : (own : List Entry) (action : Action) (made : List Entry) → wants own action made (kinds.JobTake job id item) ≡ true
         → is_none (holding own 0) ≡ true
     needs own (actions.Join j) made k = (and_parts (eqb job j) (is_none (holding own 0)) k).1
     needs own action made k = absurd cc
-
-    by : ((is_ready_worker script past seat && holds_of (λ c. is_job job c.source) (best_of script past seat)) ≡ true)
-        ⊎ ((by_script script past seat (kinds.JobTake job id item) && may_enter script past job) ≡ true) → is_none (holding past seat) ≡ true
-    by (inl k) = (and_parts (is_none (running past seat)) (is_none (holding past seat))
-        (ready_worker script past seat (and_parts (is_ready_worker script past seat) _ k).0).free).1
-    by (inr k) =
-        let wanted = (and_parts (by_script script past seat (kinds.JobTake job id item)) (may_enter script past job) k).0 in
-        let c = wanted_by script past seat (kinds.JobTake job id item) wanted in
-        rw (by_driver script past seat (kinds.JobTake job id item) wanted, ← holding_own past 0)
-            (needs (own_entries 0 past) c.value.action c.value.made c.passes)
 
 -- who ends an item held it, under this number of this job
 pub job_step_holds : (script : Plan) (past : List Entry) (seat job id item value : ℕ) (next : Option ℕ)

@@ -1,5 +1,5 @@
 -- What shutdown refuses, forbids and waits for, in every legal history.
-use Rattle.std.proofs.Common.{◌≡◌, ℕ, ◌+◌, Bool, true, false, cond, eqb, List, [], ◌∷◌, ◌++◌, length, refl, sym, ap, ◌∙◌, arith}
+use Rattle.std.proofs.Common.{◌≡◌, ℕ, ◌+◌, Bool, true, false, cond, eqb, List, [], ◌∷◌, ◌++◌, length, refl, sym, ap, ◌∙◌, ⊎_elim, arith}
 use Rattle.std.specs.Prelude.{Some, not, ◌&&◌, ◌||◌, filter, if◌then◌else◌}
 use Rattle.std.specs.List.{AllByRecursion, range_with_len}
 use Rattle.std.proofs.lemmas.Bool.{eqb-true, and_parts, not-true}
@@ -16,7 +16,7 @@ use Rattle.task_model.specs.Phase.{phase_of, is_started}
 use Rattle.task_model.specs.Posts.{posts}
 use Rattle.task_model.specs.Refusal.{is_refused, is_closed, is_job_forbidden}
 use Rattle.task_model.specs.Seats.{all_seats}
-use Rattle.task_model.specs.Jobs.{may_enter, is_job_accepted, is_cancelled, has_unclaimed, claimed, free_id}
+use Rattle.task_model.specs.Jobs.{may_enter, MayEnter, is_job_accepted, is_cancelled, has_unclaimed, claimed, free_id}
 use Rattle.task_model.specs.Sources.{best_of}
 use Rattle.task_model.specs.Blockers.{open_blocks, open_jobs, running_skips, seats_in_skip_jobs, block_part, skip_part, is_open_block, is_running_skip, is_open_job, is_in_skip_job, blockers_of}
 use Rattle.hist_model.specs.Allowed.{by_script, enters_job, is_job, is_ready_worker, same_number, may_come}
@@ -25,7 +25,7 @@ use Rattle.hist_model.specs.Laws.Choice.{IsWaitingSource, IsTake}
 use Rattle.hist_model.specs.Laws.Shutdown.{MayStart, HasWaited, KeepsShutdown}
 use Rattle.hist_model.proofs.Laws.Legal.{each_is_allowed}
 use Rattle.hist_model.proofs.Laws.Choice.{found, best_is}
-use Rattle.hist_model.proofs.Laws.Takes.{take_is}
+use Rattle.hist_model.proofs.Laws.Takes.{take_is, job_take_is}
 
 -- a reply that is the opposite of a refusal
 reply : (wanted refused ok : Bool) → (wanted && (if refused then not ok else ok)) ≡ true → ok ≡ not refused
@@ -55,31 +55,22 @@ waited script past seat h = record {
     none = eqb-true all 0 (and_parts (by_script script past seat kinds.Done && is_started (phase_of past)) (eqb all 0) h).1
 
 -- a job that may be entered is not forbidden
-enters_free : (script : Plan) (past : List Entry) (j : ℕ) → may_enter script past j ≡ true → is_job_forbidden script past j ≡ false
+enters_free : (script : Plan) (past : List Entry) (j : ℕ) → MayEnter script past j → is_job_forbidden script past j ≡ false
 unfolding may_enter
 enters_free script past j h = not-true (is_job_forbidden script past j)
     (and_parts _ (not (is_job_forbidden script past j)) (and_parts _ (has_unclaimed script past j) (and_parts _ _ h).0).0).1
 
 -- a job is entered only where it may be
 pub job_take_enters : (script : Plan) (past : List Entry) (seat job id item : ℕ) → may_come script past seat (kinds.JobTake job id item) ≡ true
-    → may_enter script past job ≡ true
-unfolding may_come
-job_take_enters script past seat job id item h = either (is_ready_worker script past seat) (holds_of (λ c. is_job job c.source) (best_of script past seat))
-    (by_script script past seat (kinds.JobTake job id item)) (may_enter script past job) refl refl
-    (and_parts (enters_job script past seat job (kinds.JobTake job id item)) _ (and_parts _ (eqb item (claimed past job)) h).0).0
+    → MayEnter script past job
+job_take_enters script past seat job id item h = ⊎_elim
+    (λ k. let c = found (λ x. is_job job x.source) (best_of script past seat) k.1 in
+        of_source c.value.source (best_is script past seat c.value c.is).waits c.passes)
+    (λ k. k.1) (job_take_is script past seat job id item h)
   where
-    of_source : (source : TaskSource) → IsWaitingSource script past source → is_job job source ≡ true → may_enter script past job ≡ true
+    of_source : (source : TaskSource) → IsWaitingSource script past source → is_job job source ≡ true → MayEnter script past job
     of_source (Sequence s) waits is = absurd cc
     of_source (Job j) waits is = ap (may_enter script past) (sym (eqb-true j job is)) ∙ waits
-
-    either : (a b c d : Bool) → holds_of (λ x. is_job job x.source) (best_of script past seat) ≡ b → may_enter script past job ≡ d
-        → ((a && b) || (c && d)) ≡ true → may_enter script past job ≡ true
-    either a true c d chosen enters k = let c = found (λ x. is_job job x.source) (best_of script past seat) chosen in
-        of_source c.value.source (best_is script past seat c.value c.is).waits c.passes
-    either a false c d chosen enters k = enters ∙ right a c d k
-      where
-        right : (x y z : Bool) → ((x && false) || (y && z)) ≡ true → z ≡ true
-        right x y z e = grind (arith, e)
 
 started : (script : Plan) (past : List Entry) (seat task runner value : ℕ) → IsTake script past seat task runner value → MayStart script past task runner
 started script past seat task runner value t = record {

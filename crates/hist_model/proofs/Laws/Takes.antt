@@ -1,7 +1,7 @@
 -- What is known of an allowed take.
-use Rattle.std.proofs.Common.{◌≡◌, ℕ, ◌≤◌, Bool, true, false, eqb, leb, List, sym, ap, subst, ◌∙◌, Some, arith}
+use Rattle.std.proofs.Common.{◌≡◌, ℕ, ◌≤◌, Bool, true, false, eqb, leb, List, sym, ap, subst, ◌∙◌, Some, ◌⊎◌, inl, inr, ⊎_elim, arith}
 use Rattle.std.specs.Prelude.{not, ◌&&◌}
-use Rattle.std.proofs.lemmas.Bool.{eqb-true, leb-true, and_parts, not-true}
+use Rattle.std.proofs.lemmas.Bool.{or_cases, eqb-true, leb-true, and_parts, not-true}
 use Rattle.task_base.specs.Plan.{Plan}
 use Rattle.task_base.specs.declared.entry.Entry.{Entry}
 use Rattle.task_base.specs.declared.entry.Kind.{Kind}
@@ -16,11 +16,12 @@ use Rattle.task_base.specs.Runners.{sequence_of}
 use Rattle.task_model.specs.Sequences.{head_of}
 use Rattle.task_model.specs.Seats.{Running, running, runs_sequence, is_free}
 use Rattle.task_model.specs.Cells.{cell_of, main_cell_of}
+use Rattle.task_model.specs.Jobs.{claimed, may_enter, MayEnter}
 use Rattle.task_model.specs.Sources.{Candidate, best_of}
 use Rattle.task_model.specs.MainQueues.{Front, chosen_of}
 use Rattle.hist_model.specs.Views.{own_entries}
 use Rattle.hist_model.specs.Script.{is_wanted, is_finished}
-use Rattle.hist_model.specs.Allowed.{is_head_of, is_ready_worker, is_front, has_done, by_script, may_come}
+use Rattle.hist_model.specs.Allowed.{enters_job, is_job, is_head_of, is_ready_worker, is_front, has_done, by_script, may_come}
 use Rattle.hist_model.specs.Laws.Choice.{IsHead, IsWaitingSource, IsTake, IsMainTake}
 use Rattle.hist_model.proofs.Laws.Choice.{Found, found, head_is, best_is, chosen_is}
 
@@ -113,6 +114,19 @@ main_take_is script past seat task queue value h =
       found_is = eqb-true value (main_cell_of past queue) last.1;
       driver = by_driver script past seat (kinds.MainTake task queue value) wanted.0;
     }
+
+-- a job is entered by a free worker whose best source it is, or by the script where it may be entered
+pub job_take_is : (script : Plan) (past : List Entry) (seat job id item : ℕ) → may_come script past seat (kinds.JobTake job id item) ≡ true
+    → (IsReadyWorker script past seat × (holds_of (λ c. is_job job c.source) (best_of script past seat) ≡ true))
+    ⊎ ((by_script script past seat (kinds.JobTake job id item) ≡ true) × MayEnter script past job)
+unfolding may_come
+job_take_is script past seat job id item h =
+    ⊎_elim (λ k. let parts = and_parts (is_ready_worker script past seat) (holds_of (λ c. is_job job c.source) (best_of script past seat)) k in
+        inl (ready_worker script past seat parts.0, parts.1))
+    (λ k. inr (and_parts (by_script script past seat (kinds.JobTake job id item)) (may_enter script past job) k))
+    (or_cases (is_ready_worker script past seat && holds_of (λ c. is_job job c.source) (best_of script past seat))
+        (by_script script past seat (kinds.JobTake job id item) && may_enter script past job)
+    (and_parts (enters_job script past seat job (kinds.JobTake job id item)) _ (and_parts _ (eqb item (claimed past job)) h).0).0)
 
 -- what is known of an allowed end: the seat runs the task, of the pool or a main task
 pub end_is : (script : Plan) (past : List Entry) (seat task left : ℕ) → may_come script past seat (kinds.End task left) ≡ true
