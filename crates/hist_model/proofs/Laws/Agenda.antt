@@ -16,9 +16,9 @@ current_from_is [] own = refl
 current_from_is (x ∷ xs) own = elim (behind_action x own) as
     (λ o. option_map_or (λ left. current_from xs left) o (Some (record { action = x; made = own }))
     ≡ current_of (option_map_or (λ left. agenda_from xs left) o (record { actions = x ∷ xs; made = own }))) [
-  | None ↦ refl
-  | Some left ↦ current_from_is xs left
-]
+      | None ↦ refl
+      | Some left ↦ current_from_is xs left
+    ]
 
 pub current_is_first : (script : Plan) (own : List Entry) → current script own ≡ current_of (agenda script own)
 unfolding current agenda
@@ -46,7 +46,7 @@ pump_more n (x ∷ own) left e h = at (is_main_none x.kind || (is_main_end x.kin
     at : (b : Bool) → (behind_pump (cond (is_main_end x.kind) (n - 1) n) own ≡ Some left
         → behind_pump (cond (is_main_end x.kind) (n - 1) n) (own ++ e ∷ []) ≡ Some (left ++ e ∷ []))
         → cond b (Some own) (behind_pump (cond (is_main_end x.kind) (n - 1) n) own) ≡ Some left
-            → cond b (Some (own ++ e ∷ [])) (behind_pump (cond (is_main_end x.kind) (n - 1) n) (own ++ e ∷ [])) ≡ Some (left ++ e ∷ [])
+        → cond b (Some (own ++ e ∷ [])) (behind_pump (cond (is_main_end x.kind) (n - 1) n) (own ++ e ∷ [])) ≡ Some (left ++ e ∷ [])
     at true next k = let same : own ≡ left = cc in ap (λ y. Some (y ++ e ∷ [])) same
     at false next k = next k
 
@@ -89,8 +89,8 @@ pump_one n (x ∷ made) e h = at (is_main_none x.kind) (is_main_end x.kind) (pum
     at : (a b : Bool) → Gives (n - 1) → Gives n
         → cond (a || (b && leb n 1)) (Some made) (behind_pump (cond b (n - 1) n) made) ≡ None
         → cond (a || (b && leb n 1)) (Some (made ++ e ∷ [])) (behind_pump (cond b (n - 1) n) (made ++ e ∷ []))
-            ≡ cond (is_main_none e.kind || (is_main_end e.kind
-            && leb n (length (cond b (x ∷ filter (λ y. is_main_end y.kind) made) (filter (λ y. is_main_end y.kind) made)) + 1))) (Some []) None
+        ≡ cond (is_main_none e.kind || (is_main_end e.kind
+        && leb n (length (cond b (x ∷ filter (λ y. is_main_end y.kind) made) (filter (λ y. is_main_end y.kind) made)) + 1))) (Some []) None
     at true b less same k = absurd cc
     at false false less same k = same k
     at false true less same k = ended_one (leb n 1) refl k
@@ -138,20 +138,20 @@ pub current_stays : (script : Plan) (own : List Entry) (e : Entry) (c : Current)
     → current script (own ++ e ∷ []) ≡ Some (record { action = c.action; made = c.made ++ e ∷ [] })
 current_stays script own e c is goes_on =
     current_is_first script (own ++ e ∷ []) ∙ ap current_of (agenda_push script own e)
-        ∙ at (agenda script own).actions (agenda script own).made (sym (current_is_first script own) ∙ is)
+    ∙ at (agenda script own).actions (agenda script own).made (sym (current_is_first script own) ∙ is)
   where
     at : (xs : List Action) (made : List Entry) → first_of xs made ≡ Some c
         → current_of (next_agenda xs made e) ≡ Some (record { action = c.action; made = c.made ++ e ∷ [] })
     at [] made k = absurd cc
     at (x ∷ xs) made k = let same : record { action = x; made = made } ≡ c = cc in
         subst (λ d. completes d.action d.made e.kind ≡ false
-            → current_of (next_agenda (x ∷ xs) made e) ≡ Some (record { action = d.action; made = d.made ++ e ∷ [] })) same (λ no. rw no refl) goes_on
+        → current_of (next_agenda (x ∷ xs) made e) ≡ Some (record { action = d.action; made = d.made ++ e ∷ [] })) same (λ no. rw no refl) goes_on
 
 -- what is finished stays so
 pub finished_stays : (script : Plan) (own : List Entry) (e : Entry) → current script own ≡ None → current script (own ++ e ∷ []) ≡ None
 finished_stays script own e is =
     current_is_first script (own ++ e ∷ []) ∙ ap current_of (agenda_push script own e)
-        ∙ at (agenda script own).actions (agenda script own).made (sym (current_is_first script own) ∙ is)
+    ∙ at (agenda script own).actions (agenda script own).made (sym (current_is_first script own) ∙ is)
   where
     at : (xs : List Action) (made : List Entry) → first_of xs made ≡ None → current_of (next_agenda xs made e) ≡ None
     at [] made k = refl
@@ -183,7 +183,7 @@ pub next_begins : (script : Plan) (own : List Entry) (e : Entry) (c d : Current)
     → current script (own ++ e ∷ []) ≡ Some d → d.made ≡ []
 next_begins script own e c d is done now =
     at (agenda script own).actions (agenda script own).made (sym (current_is_first script own) ∙ is) (sym (ap current_of (agenda_push script own e))
-        ∙ sym (current_is_first script (own ++ e ∷ [])) ∙ now)
+    ∙ sym (current_is_first script (own ++ e ∷ [])) ∙ now)
   where
     at : (xs : List Action) (made : List Entry) → first_of xs made ≡ Some c → current_of (next_agenda xs made e) ≡ Some d → d.made ≡ []
     at [] made k l = absurd cc

@@ -1,5 +1,5 @@
 -- What is chosen from a list is one of its elements.
-use Rattle.std.proofs.Common.{◌≡◌, ℕ, Bool, true, false, eqb, arith, List, [], ◌∷◌, refl, subst, Option, Some, None}
+use Rattle.std.proofs.Common.{◌≡◌, ℕ, Bool, true, false, eqb, List, [], ◌∷◌, refl, subst, Option, Some, None}
 use Rattle.std.specs.Prelude.{not, length, ◌&&◌, Contains, filter, if◌then◌else◌}
 use Rattle.std.specs.List.{AllByRecursion, filter_map, cons_option, range_with_len, flat_map}
 use Rattle.std.specs.Option.{option_map, option_to_list}
@@ -10,7 +10,7 @@ use Rattle.task_base.specs.Plan.{Plan}
 use Rattle.task_base.specs.declared.entry.Entry.{Entry}
 use Rattle.task_model.specs.Policies.{is_held}
 use Rattle.task_model.specs.Seats.{runs_sequence}
-use Rattle.task_model.specs.Jobs.{JobPosted, job_post_of, may_enter}
+use Rattle.task_model.specs.Jobs.{job_post_of, may_enter}
 use Rattle.task_model.specs.Sources.{would_wait, Candidate, sequence_candidate, job_candidate, sequence_waiting, job_waiting, waiting, is_takeable, goes_before, best_of}
 use Rattle.list_laws.specs.Lists.{least, holds_of}
 use Rattle.task_model.specs.Posts.{Posted, posts, main_posts, is_main_taken}
@@ -73,17 +73,17 @@ ready_accepted : (past : List Entry) → AllByRecursion (IsReady past) (ready pa
 unfolding ready
 ready_accepted past =
     of_filter_map (Contains (posts past)) (IsReady past) (λ p. option_map (λ key. record { posted = p; key = key }) (key_of past p)) (posts past)
-        (each_is_one (posts past))
+    (each_is_one (posts past))
     (λ p r among is. let (key, has, made) = option_map_some (λ k. record { posted = p; key = k }) (key_of past p) r is in
-        subst (IsReady past) made (among, has))
+    subst (IsReady past) made (among, has))
 
 -- what is known of a head
 pub head_is : (script : Plan) (past : List Entry) (s : ℕ) (r : Ready) → head_of script past s ≡ Some r → IsHead script past s r
 unfolding head_of eligible
 head_is script past s r is = of_least (IsHead script past s) (λ a b. key_below a.key b.key) (filter test (ready past)) r
     (AllByRecursion-map (λ x. IsReady past x × (test x ≡ true)) (IsHead script past s) (filter test (ready past)) (λ x all.
-        let parts = and_parts (is_of script s x.posted) (may_start script past x.posted) all.1 in
-        record { accepted = all.0.0; keyed = all.0.1; of_sequence = parts.0; free = parts.1 })
+    let parts = and_parts (is_of script s x.posted) (may_start script past x.posted) all.1 in
+    record { accepted = all.0.0; keyed = all.0.1; of_sequence = parts.0; free = parts.1 })
     (of_filter (IsReady past) test (ready past) (ready_accepted past))) is
   where
     test : Ready → Bool
@@ -114,16 +114,16 @@ unfolding waiting would_wait
 each_waits script past = of_filter (λ c. IsWaitingSource script past c.source) (λ c. not (is_held past c.priority)) _
     (AllByRecursion-append (λ c. IsWaitingSource script past c.source) _ _
     (of_filter_map (λ s. Unit {0}) (λ c. IsWaitingSource script past c.source) (sequence_waiting script past) _
-        (AllByRecursion-always (λ s. Unit {0}) (range_with_len 0 (sequence_count script)) (λ s. tt)) (λ s c unit is. sequence_waits script past s c is))
+    (AllByRecursion-always (λ s. Unit {0}) (range_with_len 0 (sequence_count script)) (λ s. tt)) (λ s c unit is. sequence_waits script past s c is))
     (of_filter_map (λ j. Unit {0}) (λ c. IsWaitingSource script past c.source) (job_waiting script past) _
-        (AllByRecursion-always (λ j. Unit {0}) (range_with_len 0 (length script.jobs)) (λ j. tt)) (λ j c unit is. job_waits script past j c is)))
+    (AllByRecursion-always (λ j. Unit {0}) (range_with_len 0 (length script.jobs)) (λ j. tt)) (λ j c unit is. job_waits script past j c is)))
 
 -- what is known of the best source
 pub best_is : (script : Plan) (past : List Entry) (seat : ℕ) (c : Candidate) → best_of script past seat ≡ Some c → MayBeTaken script past seat c
 unfolding best_of
 best_is script past seat c is = of_least (MayBeTaken script past seat) goes_before (filter (is_takeable script past seat) (waiting script past)) c
     (AllByRecursion-map (λ x. (IsWaitingSource script past x.source × (not (is_held past x.priority) ≡ true)) × (is_takeable script past seat x ≡ true))
-        (MayBeTaken script past seat) (filter (is_takeable script past seat) (waiting script past))
+    (MayBeTaken script past seat) (filter (is_takeable script past seat) (waiting script past))
     (λ x all. record { waits = all.0.0; not_held = not-true (is_held past x.priority) all.0.1; takeable = all.1 })
     (of_filter _ (is_takeable script past seat) (waiting script past) (each_waits script past))) is
 
@@ -137,7 +137,7 @@ unfolding front_of
 front_is script past q lane f is = of_least (IsFront past) order_below
     (filter_map (front_with script past q lane) (filter (is_in_lane past q lane) (main_posts past))) f
     (of_filter_map (λ p. Contains (main_posts past) p × (is_in_lane past q lane p ≡ true)) (IsFront past) (front_with script past q lane)
-        (filter (is_in_lane past q lane) (main_posts past))
+    (filter (is_in_lane past q lane) (main_posts past))
     (of_filter (Contains (main_posts past)) (is_in_lane past q lane) (main_posts past) (each_is_one (main_posts past)))
     with_order) is
   where
@@ -145,7 +145,7 @@ front_is script past q lane f is = of_least (IsFront past) order_below
         → IsFront past g
     with_order p g among has =
         let (order, order_is, made) = option_map_some (λ n. record { queue = q; lane = lane; task = p.task; order = n; class = class_of script past q })
-            (order_of past p) g has in
+        (order_of past p) g has in
         let last = and_parts _ (not (is_main_taken past p.task)) among.1 in
         subst (IsFront past) made (record {
           accepted = p;

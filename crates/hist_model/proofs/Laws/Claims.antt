@@ -1,24 +1,20 @@
 -- The items of jobs in legal histories: those that are claimed, those that are done, and those that seats hold.
-use Rattle.std.proofs.Common.{◌≡◌, ℕ, ◌+◌, ◌<◌, ◌≤◌, Bool, true, false, cond, eqb, leb, List, [], ◌∷◌, ◌++◌, length, refl, sym, ap, subst, ◌∙◌, Option, Some, None, ◌⊎◌, inl, inr, arith}
-use Rattle.std.specs.Prelude.{◌&&◌, not, find, is_none, is_some}
-use Rattle.std.specs.List.{range_with_len}
-use Rattle.std.proofs.lemmas.Bool.{eq-eqb, eqb-true, leb-true, and_parts, both_ways, not-true, cond_both}
-use Rattle.std.proofs.lemmas.Option.{none-some, same_Some}
+use Rattle.std.proofs.Common.{◌≡◌, ℕ, ◌+◌, ◌≤◌, Bool, true, false, cond, eqb, List, [], ◌∷◌, ◌++◌, length, refl, ap, subst, ◌∙◌, Option, Some, None, arith}
+use Rattle.std.specs.Prelude.{◌&&◌, is_none, is_some}
+use Rattle.std.proofs.lemmas.Bool.{eq-eqb, eqb-true}
 use Rattle.task_base.specs.Plan.{Plan}
 use Rattle.task_base.specs.declared.entry.Entry.{Entry}
 use Rattle.task_base.specs.declared.entry.Kind.{Kind}
 use Rattle.task_base.specs.declared.entry.Kind.TheVariants as kinds
 use Rattle.list_laws.specs.Lists.{holds_of}
-use Rattle.list_laws.proofs.Lists.{range_all_at, filter_never}
-use Rattle.task_model.specs.Seats.{Holding, holding, holding_after, inside, all_seats}
-use Rattle.task_model.specs.Jobs.{claimed, claims, done, value_by, item_value, holds_id, is_free_id, free_id}
-use Rattle.task_model.specs.Sources.{leaves}
+use Rattle.list_laws.proofs.Lists.{filter_never}
+use Rattle.task_model.specs.Seats.{holding, inside, all_seats}
+use Rattle.task_model.specs.Jobs.{claimed, done}
 use Rattle.task_model.proofs.Growth.{claimed_push, done_push}
 use Rattle.pool_laws.specs.Seats.{holds_job}
-use Rattle.pool_laws.proofs.Seats.Running.{holding_here, holding_other, inside_same, inside_at_take, inside_at_other_take, inside_at_step, inside_at_leave, inside_at_other_leave}
-use Rattle.hist_model.specs.Allowed.{enters_job, same_number, next_item, may_come}
+use Rattle.pool_laws.proofs.Seats.Running.{inside_same, inside_at_take, inside_at_other_take, inside_at_step, inside_at_leave, inside_at_other_leave}
+use Rattle.hist_model.specs.Allowed.{may_come}
 use Rattle.hist_model.specs.Legal.{IsLegal}
-use Rattle.hist_model.specs.Laws.Consistent.{HoldsApart}
 use Rattle.hist_model.proofs.Laws.Legal.{entry_induction}
 use Rattle.hist_model.proofs.Laws.OneThing.{job_take_free, job_step_holds}
 
@@ -46,7 +42,7 @@ take_claims script past seat job id item known may all j = at (eqb job j) refl
         let more : claimed (past ++ e ∷ []) j ≡ claimed past j + 1 = claimed_push past e j ∙ ap (λ (b : Bool). claimed past j + cond b 1 0) same in
         let one_more : length (inside script (past ++ e ∷ []) j) ≡ length (inside script past j) + 1 =
         subst (λ n. length (inside script (past ++ e ∷ []) n) ≡ length (inside script past n) + 1) (eqb-true job j same)
-            (inside_at_take script past e job id item refl (omega (arith, known)) free) in
+        (inside_at_take script past e job id item refl (omega (arith, known)) free) in
         omega (arith, more, one_more, done_push past e j, all j)
     at false other =
         let no_more : claimed (past ++ e ∷ []) j ≡ claimed past j + 0 = claimed_push past e j ∙ ap (λ (b : Bool). claimed past j + cond b 1 0) other in
@@ -77,7 +73,7 @@ step_claims script past seat job id item value next known held all j = by next (
     by None true is =
         let one_less : length (inside script past j) ≡ length (inside script (after None) j) + 1 =
         subst (λ m. length (inside script past m) ≡ length (inside script (after None) m) + 1) (eqb-true job j is)
-            (inside_at_leave script past (e None) job id item value refl (omega (arith, known)) held) in
+        (inside_at_leave script past (e None) job id item value refl (omega (arith, known)) held) in
         omega (arith, more None true is, one_done None true is, one_less, all j)
     by None false is = rw (inside_at_other_leave script past (e None) j job id item value refl is held)
         (omega (arith, more None false is, one_done None false is, all j))

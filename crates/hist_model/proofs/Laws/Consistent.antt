@@ -1,20 +1,18 @@
 -- Every legal past is consistent.
-use Rattle.std.proofs.Common.{◌≡◌, ℕ, ◌≤◌, Bool, true, false, eqb, leb, List, [], ◌∷◌, ◌++◌, refl, sym, ap, subst, ◌∙◌, Option, Some, None, ◌⊎◌, inl, inr, arith}
-use Rattle.std.specs.Prelude.{not, ◌&&◌, ◌||◌, Contains}
-use Rattle.std.proofs.lemmas.Bool.{eqb-true, and_parts, or_cases, or_right, both_ways, false_from_ne_true, true≢false, eq-eqb}
+use Rattle.std.proofs.Common.{◌≡◌, ℕ, ◌≤◌, Bool, true, false, eqb, List, [], ◌∷◌, ◌++◌, refl, sym, ap, subst, ◌∙◌, Option, Some, None, ◌⊎◌, inl, inr, arith}
+use Rattle.std.specs.Prelude.{◌||◌, Contains}
+use Rattle.std.proofs.lemmas.Bool.{eqb-true, or_cases, or_right, both_ways, false_from_ne_true, true≢false, eq-eqb}
 use Rattle.std.proofs.lemmas.Option.{none-some, same_Some}
 use Rattle.std.proofs.lemmas.List.Elements.{Contains-append_left}
-use Rattle.std.proofs.Math.Bool.{or-false}
 use Rattle.task_base.specs.Plan.{Plan}
 use Rattle.task_base.specs.declared.entry.Entry.{Entry}
 use Rattle.task_base.specs.declared.entry.Kind.{Kind}
 use Rattle.task_base.specs.declared.entry.Kind.TheVariants as kinds
-use Rattle.list_laws.specs.Lists.{holds_of}
 use Rattle.task_model.specs.Posts.{Posted, posts, posted_by, main_posts, main_posted_by, is_taken, takes, is_ended, ends, is_main_taken, main_takes, is_main_ended, main_ends}
 use Rattle.task_base.specs.Runners.{sequence_of}
-use Rattle.task_model.specs.Seats.{Running, running, running_after, runs_of, runs_sequence}
+use Rattle.task_model.specs.Seats.{Running, running, running_after, runs_sequence}
 use Rattle.pool_laws.proofs.Seats.Running.{seat_runs}
-use Rattle.task_model.proofs.Growth.{posts_push, main_posts_push, is_taken_push, is_ended_push, is_main_taken_push, is_main_ended_push, running_push}
+use Rattle.task_model.proofs.Growth.{posts_push, main_posts_push, is_taken_push, is_ended_push, is_main_taken_push, is_main_ended_push}
 use Rattle.hist_model.specs.Allowed.{may_come}
 use Rattle.hist_model.specs.Legal.{IsLegal}
 use Rattle.hist_model.specs.Laws.Choice.{IsTake, IsMainTake}
@@ -188,7 +186,7 @@ one_taken script past e taken after no_end as_taken apart c = consistent_next sc
     (λ main t ends_it. absurd (both_ways (ends_as main t e.kind) (no_end main t) ends_it))
     (λ w is. subst (λ x. RunsAs script (past ++ e ∷ []) e.seat x x.is_main) (same_Some taken w is) as_taken)
     (λ w is. subst (λ x. (s : ℕ) (v : Running) → running past s ≡ Some v → v.is_main ≡ false → x.is_main ≡ false → IsApart script v x)
-        (same_Some taken w is) apart) c
+    (same_Some taken w is) apart) c
   where
     now : (s : ℕ) (w : Running) → RunsBehind past e s w → Now past e (Some taken) s w
     now s w (inl x) = inl (x.0, no_end w.is_main w.task)
@@ -209,7 +207,7 @@ one_ended script past e v runs_it after ends_it c = nothing_taken script past e 
     not_another : (s : ℕ) (w : Running) → running past s ≡ Some w → eqb e.seat s ≡ false → ends_as w.is_main w.task e.kind ≡ true → ⊥
     not_another s w h other ends_now = let is = ends_it w.is_main w.task ends_now in
         both_ways (eqb e.seat s) other (ap (eqb e.seat) (one_as script past c s e.seat w v h runs_it w.is_main refl is.0 (sym is.1))
-            ∙ eq-eqb e.seat e.seat refl)
+        ∙ eq-eqb e.seat e.seat refl)
 
     goes_on : (s : ℕ) (w : Running) → RunsBehind past e s w → (running past s ≡ Some w) × (ends_as w.is_main w.task e.kind ≡ false)
     goes_on s w (inl x) = (x.0, false_from_ne_true (ends_as w.is_main w.task e.kind) (not_another s w x.0 x.1))
@@ -302,12 +300,12 @@ step script past seat (kinds.MainTake task queue value) h c = main_take_consiste
     (main_take_is script past seat task queue value h) c
 step script past seat (kinds.End task left) h c = let (v, runs, pool, is) = end_is script past seat task left h in
     one_ended script past (record { seat = seat; kind = kinds.End task left }) v runs refl
-        (of_both (λ main t. ends_as main t (kinds.End task left) ≡ true → (v.is_main ≡ main) × (v.task ≡ t))
-        (λ t same. (pool, is ∙ eqb-true task t same)) (λ t same. absurd (true≢false (sym same)))) c
+    (of_both (λ main t. ends_as main t (kinds.End task left) ≡ true → (v.is_main ≡ main) × (v.task ≡ t))
+    (λ t same. (pool, is ∙ eqb-true task t same)) (λ t same. absurd (true≢false (sym same)))) c
 step script past seat (kinds.MainEnd task left) h c = let (v, runs, main, is) = main_end_is script past seat task left h in
     one_ended script past (record { seat = seat; kind = kinds.MainEnd task left }) v runs refl
-        (of_both (λ m t. ends_as m t (kinds.MainEnd task left) ≡ true → (v.is_main ≡ m) × (v.task ≡ t))
-        (λ t same. absurd (true≢false (sym same))) (λ t same. (main, is ∙ eqb-true task t same))) c
+    (of_both (λ m t. ends_as m t (kinds.MainEnd task left) ≡ true → (v.is_main ≡ m) × (v.task ≡ t))
+    (λ t same. absurd (true≢false (sym same))) (λ t same. (main, is ∙ eqb-true task t same))) c
 step script past seat kind h c = still script past (record { seat = seat; kind = kind }) (λ now. refl)
     (of_both (λ main t. ends_as main t kind ≡ false) (λ t. refl) (λ t. refl)) c
 

@@ -1,6 +1,6 @@
 -- The postings that the driver's actions have left.
 use Rattle.std.proofs.Common.{◌≡◌, ℕ, ◌+◌, ◌≤◌, Bool, true, false, cond, eqb, List, [], ◌∷◌, ◌++◌, refl, sym, ap, ◌∙◌, Option, Some, None, arith, append-nil}
-use Rattle.std.specs.Prelude.{◌&&◌, flat_map}
+use Rattle.std.specs.Prelude.{flat_map}
 use Rattle.std.specs.Option.{option_map_or}
 use Rattle.std.proofs.lemmas.List.Elements.{filter-append}
 use Rattle.std.proofs.lemmas.Bool.{eqb-true, and_parts}
@@ -99,7 +99,7 @@ script_wants script own kind h = ap (holds_of (λ c. wants own c.action c.made k
 
 posts_of_wanted : (script : Plan) (t : ℕ) (own : List Entry) (seat : ℕ) (kind : Kind) → is_wanted script own kind ≡ true
     → actions_post t (agenda script (own ++ (record { seat = seat; kind = kind }) ∷ [])).actions
-        + times t (kind_posts kind) ≤ actions_post t (agenda script own).actions
+    + times t (kind_posts kind) ≤ actions_post t (agenda script own).actions
 posts_of_wanted script t own seat (kinds.Post task runner delay ok) h = rw
     (agenda_push script own (record { seat = seat; kind = kinds.Post task runner delay ok }))
     (wanted_post t own (agenda script own).actions (agenda script own).made seat task runner delay ok

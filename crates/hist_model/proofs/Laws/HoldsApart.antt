@@ -1,8 +1,8 @@
 -- In every legal history no two seats hold one item of a job, or one number in it.
-use Rattle.std.proofs.Common.{◌≡◌, ℕ, ◌+◌, ◌<◌, ◌≤◌, Bool, true, false, cond, eqb, leb, List, [], ◌∷◌, ◌++◌, length, refl, sym, ap, subst, ◌∙◌, Option, Some, None, ◌⊎◌, inl, inr, arith}
-use Rattle.std.specs.Prelude.{◌&&◌, not, find}
+use Rattle.std.proofs.Common.{◌≡◌, ℕ, ◌+◌, ◌<◌, ◌≤◌, Bool, true, false, cond, eqb, List, [], ◌∷◌, ◌++◌, length, refl, sym, ap, subst, ◌∙◌, Option, Some, None, inl, inr, arith}
+use Rattle.std.specs.Prelude.{◌&&◌, not}
 use Rattle.std.specs.List.{range_with_len}
-use Rattle.std.proofs.lemmas.Bool.{eq-eqb, eqb-true, leb-true, and_parts, both_ways, not-true, true≢false}
+use Rattle.std.proofs.lemmas.Bool.{eq-eqb, eqb-true, and_parts, both_ways, not-true, true≢false}
 use Rattle.std.proofs.lemmas.Option.{none-some, same_Some}
 use Rattle.task_base.specs.Plan.{Plan}
 use Rattle.task_base.specs.declared.entry.Entry.{Entry}
@@ -11,7 +11,7 @@ use Rattle.task_base.specs.declared.entry.Kind.TheVariants as kinds
 use Rattle.list_laws.proofs.Lists.{range_all_at}
 use Rattle.list_laws.proofs.Finds.{find_passes}
 use Rattle.task_model.specs.Seats.{Holding, holding, holding_after, inside}
-use Rattle.task_model.specs.Jobs.{claimed, claims, item_value, holds_id, is_free_id, free_id}
+use Rattle.task_model.specs.Jobs.{claimed, holds_id, is_free_id, free_id}
 use Rattle.task_model.specs.Sources.{leaves}
 use Rattle.task_model.proofs.Growth.{claimed_push}
 use Rattle.hist_model.specs.Allowed.{enters_job, same_number, next_item, may_come}
@@ -72,8 +72,8 @@ free_number : (script : Plan) (past : List Entry) (id : ℕ) (s : ℕ) (k : Hold
     → is_free_id script past job id ≡ true → k.id ≡ id → ⊥
 free_number script past id s k job c holds of_job free same =
     both_ways (holds_id job id (holding past s))
-        (not-true (holds_id job id (holding past s))
-        (range_all_at (λ seat. not (holds_id job id (holding past seat))) 0 (script.workers + 1) s free (omega arith) (omega (arith, c.known s k holds))))
+    (not-true (holds_id job id (holding past s))
+    (range_all_at (λ seat. not (holds_id job id (holding past seat))) 0 (script.workers + 1) s free (omega arith) (omega (arith, c.known s k holds))))
     (rw (holds, of_job, same, eq-eqb job job refl, eq-eqb id id refl) refl)
 
 -- the seat takes a free number and the least unclaimed item
@@ -148,7 +148,7 @@ step script past seat (kinds.JobTake job id item) known may c = apart_next scrip
     (λ h is. take_apart script past seat job id item may c h (same_Some _ h is)) c
 step script past seat (kinds.JobStep job id item value (Some next)) known may c =
     apart_next script past (record { seat = seat; kind = kinds.JobStep job id item value (Some next) }) known
-        (λ h is. step_apart script past seat job id item value next may c h (same_Some _ h is)) c
+    (λ h is. step_apart script past seat job id item value next may c h (same_Some _ h is)) c
 step script past seat (kinds.JobStep job id item value None) known may c =
     apart_next script past (record { seat = seat; kind = kinds.JobStep job id item value None }) known (λ h is. absurd (none-some h is)) c
 step script past seat kind known may c = apart_next script past (record { seat = seat; kind = kind }) known

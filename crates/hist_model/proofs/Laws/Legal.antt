@@ -1,5 +1,5 @@
 -- Legal histories, entry by entry.
-use Rattle.std.proofs.Common.{◌≡◌, ℕ, ◌≤◌, leb, cond, length, Some, None, Bool, true, false, List, [], ◌∷◌, ◌++◌, refl, sym, ap, subst, ◌∙◌, append_assoc, append-nil}
+use Rattle.std.proofs.Common.{◌≡◌, ℕ, ◌≤◌, leb, cond, length, Some, Bool, true, false, List, [], ◌∷◌, ◌++◌, refl, sym, ap, subst, ◌∙◌, append_assoc, append-nil}
 use Rattle.std.specs.Prelude.{◌&&◌, is_none}
 use Rattle.std.proofs.Math.Bool.{and-true}
 use Rattle.std.proofs.lemmas.Bool.{and_parts, leb-true}
@@ -14,10 +14,10 @@ legal_from_append : (script : Plan) (past xs ys : List Entry)
 legal_from_append script past [] ys = ap (λ b. legal_from script b ys) (sym (append-nil past))
 legal_from_append script past (x ∷ xs) ys = elim (is_allowed script past x) as
     (λ b. (b && legal_from script (past ++ x ∷ []) (xs ++ ys)) ≡ ((b && legal_from script (past ++ x ∷ []) xs) && legal_from script (past ++ x ∷ xs) ys)) [
-  | true ↦ legal_from_append script (past ++ x ∷ []) xs ys ∙ ap (λ b. legal_from script (past ++ x ∷ []) xs && legal_from script b ys)
-      (append_assoc past (x ∷ []) xs)
-  | false ↦ refl
-]
+      | true ↦ legal_from_append script (past ++ x ∷ []) xs ys ∙ ap (λ b. legal_from script (past ++ x ∷ []) xs && legal_from script b ys)
+          (append_assoc past (x ∷ []) xs)
+      | false ↦ refl
+    ]
 
 -- the empty history is legal
 pub nothing_is_legal : (script : Plan) → IsLegal script []
@@ -39,7 +39,7 @@ pub each_is_allowed : (script : Plan) (past : List Entry) (e : Entry) (rest : Li
     → IsAllowed script past e
 each_is_allowed script past e rest h =
     (and_parts (is_legal script past) (is_allowed script past e) (sym (is_legal_push script past e)
-        ∙ front_is_legal script (past ++ e ∷ []) rest (ap (is_legal script) (append_assoc past (e ∷ []) rest) ∙ h))).1
+    ∙ front_is_legal script (past ++ e ∷ []) rest (ap (is_legal script) (append_assoc past (e ∷ []) rest) ∙ h))).1
 
 -- what holds of the empty history, and of a longer one where it holds of the shorter one and the new entry is allowed,
 -- holds of every legal history
@@ -69,9 +69,9 @@ illegal_from_none : (script : Plan) (past rest : List Entry) → is_none (illega
 illegal_from_none script past [] = refl
 illegal_from_none script past (e ∷ rest) = elim (is_allowed script past e) as
     (λ b. is_none (cond b (illegal_from script (past ++ e ∷ []) rest) (Some (length past))) ≡ (b && legal_from script (past ++ e ∷ []) rest)) [
-  | true ↦ illegal_from_none script (past ++ e ∷ []) rest
-  | false ↦ refl
-]
+      | true ↦ illegal_from_none script (past ++ e ∷ []) rest
+      | false ↦ refl
+    ]
 
 pub first_illegal_none : (script : Plan) (log : List Entry) → is_none (first_illegal script log) ≡ is_legal script log
 unfolding first_illegal is_legal

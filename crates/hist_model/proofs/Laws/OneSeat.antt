@@ -1,6 +1,6 @@
 -- What was taken and has not ended is run by one seat.
-use Rattle.std.proofs.Common.{◌≡◌, ℕ, Bool, true, false, eqb, leb, List, [], ◌∷◌, ◌++◌, refl, sym, ap, subst, ◌∙◌, Option, Some, None, ◌⊎◌, inl, inr}
-use Rattle.std.specs.Prelude.{◌||◌, is_none, ◌&&◌}
+use Rattle.std.proofs.Common.{◌≡◌, ℕ, Bool, true, false, eqb, List, [], ◌∷◌, ◌++◌, refl, sym, ap, subst, ◌∙◌, Option, Some, ◌⊎◌, inl, inr}
+use Rattle.std.specs.Prelude.{is_none}
 use Rattle.std.proofs.lemmas.Bool.{eqb-true, and_parts, or_cases, or_parts, both_ways, true≢false, eq-eqb}
 use Rattle.std.proofs.lemmas.Option.{same_Some}
 use Rattle.task_base.specs.Plan.{Plan}
@@ -41,12 +41,12 @@ goes_on script past seat (kinds.End task left) w may runs no_end =
     let (v, is, pool, task_is) = end_is script past seat task left may in
     let same : v ≡ w = same_Some v w (sym is ∙ runs) in
     absurd (both_ways (ends_as w.is_main w.task (kinds.End task left)) no_end (subst (λ x. ends_as x.is_main x.task (kinds.End task left) ≡ true) same
-        (rw (pool, task_is) (eq-eqb task task refl))))
+    (rw (pool, task_is) (eq-eqb task task refl))))
 goes_on script past seat (kinds.MainEnd task left) w may runs no_end =
     let (v, is, main, task_is) = main_end_is script past seat task left may in
     let same : v ≡ w = same_Some v w (sym is ∙ runs) in
     absurd (both_ways (ends_as w.is_main w.task (kinds.MainEnd task left)) no_end (subst (λ x. ends_as x.is_main x.task (kinds.MainEnd task left) ≡ true) same
-        (rw (main, task_is) (eq-eqb task task refl))))
+    (rw (main, task_is) (eq-eqb task task refl))))
 goes_on script past seat kind w may runs no_end = refl
 
 -- an entry that takes a task leaves it running

@@ -1,7 +1,7 @@
 -- In every legal history each seat does one thing at a time.
-use Rattle.std.proofs.Common.{◌≡◌, ℕ, ◌≤◌, Bool, true, false, cond, eqb, leb, List, [], ◌∷◌, ◌++◌, length, refl, sym, ap, subst, ◌∙◌, Option, Some, None, ◌⊎◌, inl, inr, ⊎_elim, arith}
-use Rattle.std.specs.Prelude.{◌&&◌, ◌||◌, is_none}
-use Rattle.std.proofs.lemmas.Bool.{eqb-true, eqb-false, and_parts, or_cases, both_ways}
+use Rattle.std.proofs.Common.{◌≡◌, ℕ, ◌≤◌, Bool, true, false, cond, eqb, List, [], ◌∷◌, ◌++◌, length, refl, sym, ap, subst, ◌∙◌, Option, Some, None, ◌⊎◌, inl, inr, ⊎_elim, arith}
+use Rattle.std.specs.Prelude.{◌&&◌, is_none}
+use Rattle.std.proofs.lemmas.Bool.{eqb-true, eqb-false, and_parts, both_ways}
 use Rattle.std.proofs.lemmas.Option.{none-some, same_Some}
 use Rattle.task_base.specs.Plan.{Plan}
 use Rattle.task_base.specs.declared.entry.Entry.{Entry}
@@ -12,15 +12,12 @@ use Rattle.task_base.specs.declared.script.Action.{Action}
 use Rattle.task_base.specs.declared.script.Action.TheVariants as actions
 use Rattle.list_laws.specs.Lists.{holds_of}
 use Rattle.task_model.specs.Seats.{Running, Holding, running, running_after, holding, holding_after, is_free}
-use Rattle.task_model.specs.Jobs.{claimed, may_enter, free_id}
-use Rattle.task_model.specs.Sources.{best_of}
-use Rattle.task_model.specs.MainQueues.{chosen_of, open_fronts}
+use Rattle.task_model.specs.MainQueues.{open_fronts}
 use Rattle.task_model.specs.Cells.{main_cell_of}
-use Rattle.task_model.proofs.Growth.{running_push, holding_push}
 use Rattle.hist_model.specs.Views.{own_entries}
 use Rattle.hist_model.specs.Script.{Current, current, wants, is_wanted}
 use Rattle.hist_model.specs.Laws.Agenda.{completes}
-use Rattle.hist_model.specs.Allowed.{by_script, enters_job, is_job, is_ready_worker, same_number, is_front, may_come}
+use Rattle.hist_model.specs.Allowed.{by_script, may_come}
 use Rattle.hist_model.specs.Legal.{IsLegal}
 use Rattle.hist_model.specs.Laws.Consistent.{is_pump, is_join, DoesOneThing}
 use Rattle.hist_model.proofs.Laws.Agenda.{current_stays}
@@ -73,9 +70,12 @@ stays_at script past kind test c is passes goes_on = (
 -- an entry of a worker leaves the driver where it is
 other_at : (script : Plan) (past : List Entry) (seat : ℕ) (kind : Kind) (test : Action → Bool) → eqb seat 0 ≡ false → At script past test
     → At script (past ++ record { seat = seat; kind = kind } ∷ []) test
-other_at script past seat kind test other (c, is, passes) =
-    (c, ap (current script) (own_entries_push past (record { seat = seat; kind = kind }) 0
-        ∙ ap (λ b. cond b (own_entries 0 past ++ record { seat = seat; kind = kind } ∷ []) (own_entries 0 past)) other) ∙ is, passes)
+other_at script past seat kind test other (c, is, passes) = (
+  c,
+  ap (current script) (own_entries_push past (record { seat = seat; kind = kind }) 0
+      ∙ ap (λ b. cond b (own_entries 0 past ++ record { seat = seat; kind = kind } ∷ []) (own_entries 0 past)) other) ∙ is,
+  passes,
+)
 
 -- what a pump goes on through
 pump_goes_on : (script : Plan) (past : List Entry) (kind : Kind) (c : Current) (w v : Running) → is_pump c.action ≡ true → running past 0 ≡ Some w
@@ -107,7 +107,7 @@ join_goes_on : (script : Plan) (past : List Entry) (kind : Kind) (c : Current) (
 unfolding may_come
 join_goes_on script past kind c h join holds may = at c.action c.made kind join
     (λ job reply is. no_joined job reply (and_parts (by_script script past 0 (kinds.Joined job reply)) _
-        (and_parts _ _ (ap (may_come script past 0) is ∙ may)).0).0)
+    (and_parts _ _ (ap (may_come script past 0) is ∙ may)).0).0)
   where
     no_joined : (job : ℕ) (reply : JobReply) → by_script script past 0 (kinds.Joined job reply) ≡ true → ⊥
     no_joined job reply wanted =
@@ -130,9 +130,10 @@ main_take_at : (script : Plan) (past : List Entry) (seat task queue value : ℕ)
 unfolding may_come
 main_take_at script past seat task queue value h =
     let wanted = (and_parts (by_script script past seat (kinds.MainTake task queue value)) _ (and_parts _ (eqb value (main_cell_of past queue)) h).0).0 in
-    let c = wanted_by script past seat (kinds.MainTake task queue value) wanted in
-    (by_driver script past seat (kinds.MainTake task queue value) wanted,
-        (c.value, c.is, pump_wants (own_entries 0 past) c.value.action c.value.made task queue value c.passes))
+    let c = wanted_by script past seat (kinds.MainTake task queue value) wanted in (
+      by_driver script past seat (kinds.MainTake task queue value) wanted,
+      (c.value, c.is, pump_wants (own_entries 0 past) c.value.action c.value.made task queue value c.passes),
+    )
 
 -- and by a driver that runs nothing
 pub main_take_free : (script : Plan) (past : List Entry) (seat task queue value : ℕ) → may_come script past seat (kinds.MainTake task queue value) ≡ true
@@ -142,7 +143,7 @@ main_take_free script past seat task queue value h =
     let wanted = (and_parts (by_script script past seat (kinds.MainTake task queue value)) _ (and_parts _ (eqb value (main_cell_of past queue)) h).0).0 in
     let c = wanted_by script past seat (kinds.MainTake task queue value) wanted in
     rw (by_driver script past seat (kinds.MainTake task queue value) wanted, ← running_own past 0)
-        (needs (own_entries 0 past) c.value.action c.value.made c.passes)
+    (needs (own_entries 0 past) c.value.action c.value.made c.passes)
   where
     needs : (own : List Entry) (action : Action) (made : List Entry) → wants own action made (kinds.MainTake task queue value) ≡ true
         → is_none (running own 0) ≡ true
@@ -154,8 +155,10 @@ job_take_at : (script : Plan) (past : List Entry) (seat job id item : ℕ) → m
     → IsReadyWorker script past seat ⊎ ((seat ≡ 0) × At script past is_join)
 job_take_at script past seat job id item h = ⊎_elim (λ k. inl k.0)
     (λ k. let c = wanted_by script past seat (kinds.JobTake job id item) k.0 in
-        inr (by_driver script past seat (kinds.JobTake job id item) k.0,
-            (c.value, c.is, join_wants (own_entries 0 past) c.value.action c.value.made job id item c.passes)))
+    inr (
+      by_driver script past seat (kinds.JobTake job id item) k.0,
+      (c.value, c.is, join_wants (own_entries 0 past) c.value.action c.value.made job id item c.passes),
+    ))
     (job_take_is script past seat job id item h)
 
 -- a seat that enters a job holds nothing
@@ -164,8 +167,8 @@ pub job_take_free : (script : Plan) (past : List Entry) (seat job id item : ℕ)
 job_take_free script past seat job id item h = ⊎_elim
     (λ k. (and_parts (is_none (running past seat)) (is_none (holding past seat)) k.0.free).1)
     (λ k. let c = wanted_by script past seat (kinds.JobTake job id item) k.0 in
-        rw (by_driver script past seat (kinds.JobTake job id item) k.0, ← holding_own past 0)
-            (needs (own_entries 0 past) c.value.action c.value.made c.passes))
+    rw (by_driver script past seat (kinds.JobTake job id item) k.0, ← holding_own past 0)
+    (needs (own_entries 0 past) c.value.action c.value.made c.passes))
     (job_take_is script past seat job id item h)
   where
     needs : (own : List Entry) (action : Action) (made : List Entry) → wants own action made (kinds.JobTake job id item) ≡ true
@@ -248,7 +251,7 @@ own_joins script past (kinds.JobStep job id item value (Some next)) may d h k =
     let held = job_step_holds script past 0 job id item value (Some next) may in
     let (c, is, join) = d.joins held.0 held.1 in
     stays_at script past (kinds.JobStep job id item value (Some next)) is_join c is join
-        (join_goes_on script past (kinds.JobStep job id item value (Some next)) c held.0 join held.1 may)
+    (join_goes_on script past (kinds.JobStep job id item value (Some next)) c held.0 join held.1 may)
 own_joins script past (kinds.JobStep job id item value None) may d h k = absurd (none-some h k)
 own_joins script past kind may d h k = let (c, is, join) = d.joins h k in
     stays_at script past kind is_join c is join (join_goes_on script past kind c h join k may)

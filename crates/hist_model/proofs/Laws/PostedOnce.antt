@@ -1,15 +1,13 @@
 -- What follows for the accepted tasks, and for a task that is posted now.
-use Rattle.std.proofs.Common.{◌≡◌, ℕ, ◌≤◌, ◌<◌, Bool, true, false, cond, eqb, List, [], ◌∷◌, ◌++◌, length, refl, sym, ap, subst, ◌∙◌, Some, None, arith, length-append, append-nil}
-use Rattle.std.specs.Prelude.{is_some, filter}
-use Rattle.std.specs.List.{find, AllByRecursion}
+use Rattle.std.proofs.Common.{◌≡◌, ℕ, ◌<◌, Bool, true, false, eqb, List, [], ◌∷◌, ◌++◌, length, refl, sym, ap, subst, ◌∙◌, arith, length-append, append-nil}
+use Rattle.std.specs.List.{AllByRecursion}
 use Rattle.std.proofs.lemmas.Bool.{false_from_ne_true, eq-eqb, both_ways, eqb-false}
 use Rattle.task_base.specs.Plan.{Plan}
 use Rattle.task_base.specs.declared.entry.Entry.{Entry}
 use Rattle.task_base.specs.declared.entry.Kind.{Kind}
 use Rattle.task_base.specs.declared.entry.Kind.TheVariants as kinds
 use Rattle.task_model.specs.Past.{fold_past}
-use Rattle.task_model.specs.Posts.{Posted, post_behind, posts, posted_by, main_posts, main_posted_by, is_taken, is_ended, is_main_taken, Before, InOrder}
-use Rattle.task_model.proofs.Growth.{posts_push, main_posts_push}
+use Rattle.task_model.specs.Posts.{Posted, post_behind, posts, main_posts, is_taken, is_ended, is_main_taken, Before, InOrder}
 use Rattle.list_laws.proofs.Lists.{AllByRecursion-append, AllByRecursion-map, AllByRecursion-both}
 use Rattle.list_laws.proofs.Finds.{none_counted, none_found, found_counts}
 use Rattle.hist_model.specs.Allowed.{IsAllowed}
@@ -125,6 +123,11 @@ each_is_accepted_once script past once legal =
     record {
       pool = order.order false;
       main = order.order true;
-      apart = λ t one other. omega (arith, found_counts (λ p. eqb p.task t) (posts past) one,
-          found_counts (λ p. eqb p.task t) (main_posts past) other, known.accepted t, posted_at_most_once script past t once legal);
+      apart = λ t one other. omega (
+        arith,
+        found_counts (λ p. eqb p.task t) (posts past) one,
+        found_counts (λ p. eqb p.task t) (main_posts past) other,
+        known.accepted t,
+        posted_at_most_once script past t once legal,
+      );
     }

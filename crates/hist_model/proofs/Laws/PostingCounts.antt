@@ -1,9 +1,7 @@
 -- A task is posted at most once.
-use Rattle.std.proofs.Common.{◌≡◌, ℕ, zero, suc, ◌+◌, ◌≤◌, Bool, true, false, cond, eqb, leb, List, [], ◌∷◌, ◌++◌, length, refl, sym, ap, subst, ◌∙◌, arith, append-nil, ⊎_elim}
-use Rattle.std.specs.Prelude.{◌||◌, not, Contains, filter, flat_map}
-use Rattle.std.specs.List.{AllByRecursion}
+use Rattle.std.proofs.Common.{◌≡◌, ℕ, ◌+◌, ◌≤◌, Bool, true, false, cond, eqb, List, [], ◌∷◌, ◌++◌, length, refl, sym, ap, ◌∙◌, arith, append-nil, ⊎_elim}
+use Rattle.std.specs.Prelude.{◌||◌, not, flat_map}
 use Rattle.std.proofs.lemmas.List.Concat.{flat_map-append}
-use Rattle.std.proofs.lemmas.List.Elements.{All-from_recursion, All-contains}
 use Rattle.std.proofs.lemmas.Bool.{eqb-true, and_parts, eq-eqb, or_cases, false_from_ne_true, true≢false}
 use Rattle.task_base.specs.Plan.{Plan}
 use Rattle.task_base.specs.declared.entry.Entry.{Entry}
@@ -13,10 +11,10 @@ use Rattle.list_laws.specs.Lists.{count}
 use Rattle.task_model.specs.Past.{fold_past}
 use Rattle.task_model.specs.Posts.{Posted, post_behind, posts, posted_by, main_posts, main_posted_by, is_taken, takes, is_main_taken, main_takes}
 use Rattle.task_model.specs.Refusal.{is_refused, is_closed}
-use Rattle.task_model.proofs.Growth.{posts_push, main_posts_push, is_taken_push, is_main_taken_push}
+use Rattle.task_model.proofs.Growth.{posts_push, main_posts_push}
 use Rattle.list_laws.proofs.Lists.{count-append}
 use Rattle.list_laws.proofs.Finds.{contained_counts}
-use Rattle.hist_model.specs.Allowed.{by_script, by_task, may_come, IsAllowed}
+use Rattle.hist_model.specs.Allowed.{by_script, by_task, may_come}
 use Rattle.hist_model.specs.Legal.{IsLegal}
 use Rattle.hist_model.specs.Laws.Postings.{kind_posts, posted_in}
 use Rattle.script_model.specs.Postings.{posts_of_step, posts_of_action, postings, times, IsPostedOnce}
@@ -38,14 +36,17 @@ taken_is : (script : Plan) (past : List Entry) (seat : ℕ) (kind : Kind) (main 
     → takes_as main u kind ≡ true → (1 ≤ of_task u (posts_as main past)) × (taken_as main past u ≡ false)
 taken_is script past seat (kinds.Take task runner value) false u may h =
     let t = take_is script past seat task runner value may in
-    let same = eqb-true task u h in
-    (contained_counts (λ p. eqb p.task u) (posts past) t.head.posted t.is_head.accepted (eq-eqb t.head.posted.task u (t.task_is ∙ same)),
-        ap (is_taken past) (sym same) ∙ t.not_taken)
+    let same = eqb-true task u h in (
+      contained_counts (λ p. eqb p.task u) (posts past) t.head.posted t.is_head.accepted (eq-eqb t.head.posted.task u (t.task_is ∙ same)),
+      ap (is_taken past) (sym same) ∙ t.not_taken,
+    )
 taken_is script past seat (kinds.MainTake task queue value) true u may h =
     let t = main_take_is script past seat task queue value may in
-    let same = t.task_is ∙ eqb-true task u h in
-    (contained_counts (λ p. eqb p.task u) (main_posts past) t.is_front.accepted t.is_front.posted
-        (eq-eqb t.is_front.accepted.task u (t.is_front.task_is ∙ same)), ap (is_main_taken past) (sym same) ∙ t.is_front.not_taken)
+    let same = t.task_is ∙ eqb-true task u h in (
+      contained_counts (λ p. eqb p.task u) (main_posts past) t.is_front.accepted t.is_front.posted
+          (eq-eqb t.is_front.accepted.task u (t.is_front.task_is ∙ same)),
+      ap (is_main_taken past) (sym same) ∙ t.is_front.not_taken,
+    )
 taken_is script past seat kind false u may h = absurd (true≢false (sym h))
 taken_is script past seat kind true u may h = absurd (true≢false (sym h))
 
@@ -83,8 +84,14 @@ unfolding fold_past is_taken is_main_taken posts main_posts posted_in postings
 nothing_counted script = record {
   taken = none_taken;
   accepted = λ t. omega arith;
-  within = λ t. omega (arith, driver_begins script t, tasks_begin script t, seats_begin script t, times-append t (flat_map posts_of_action script.actions)
-      (flat_map (λ steps. flat_map posts_of_step steps) script.tasks));
+  within = λ t. omega (
+    arith,
+    driver_begins script t,
+    tasks_begin script t,
+    seats_begin script t,
+    times-append t (flat_map posts_of_action script.actions)
+        (flat_map (λ steps. flat_map posts_of_step steps) script.tasks),
+  );
 }
   where
     none_taken : (main : Bool) (u : ℕ) → taken_as main [] u ≡ true → 1 ≤ of_task u (posts_as main [])
@@ -99,8 +106,14 @@ taken_next script past e known may main u h = rw (posts_as_push main past e, of_
 
 accepted_next : (script : Plan) (past : List Entry) (e : Entry) → Counted script past → (t : ℕ)
     → of_task t (posts (past ++ e ∷ [])) + of_task t (main_posts (past ++ e ∷ [])) ≤ times t (posted_in (past ++ e ∷ []))
-accepted_next script past e known t = rw (posts_push past e, main_posts_push past e, of_task-append t (posts past) (posted_by past e.kind), of_task-append t
-    (main_posts past) (main_posted_by past e.kind), posted_in_push t past e)
+accepted_next script past e known t = rw (
+  posts_push past e,
+  main_posts_push past e,
+  of_task-append t (posts past) (posted_by past e.kind),
+  of_task-append t
+      (main_posts past) (main_posted_by past e.kind),
+  posted_in_push t past e,
+)
     (omega (arith, known.accepted t, accepted_posts t past e.kind))
 
 -- all postings that are left
@@ -137,23 +150,23 @@ unfolding may_come
 left_next script past t seat (kinds.Post task runner delay ok) once known le h = left_posts script t past
     (record { seat = seat; kind = kinds.Post task runner delay ok }) le refl
     (and_parts (by_script script past seat (kinds.Post task runner delay ok) || by_task script past seat (kinds.Post task runner delay ok))
-        (cond (is_refused script past runner delay) (not ok) ok) h).0
+    (cond (is_refused script past runner delay) (not ok) ok) h).0
 left_next script past t seat (kinds.Main task queue delay ok) once known le h = left_posts script t past
     (record { seat = seat; kind = kinds.Main task queue delay ok }) le refl
     (and_parts (by_script script past seat (kinds.Main task queue delay ok) || by_task script past seat (kinds.Main task queue delay ok))
-        (cond (is_closed past queue) (not ok) ok) h).0
+    (cond (is_closed past queue) (not ok) ok) h).0
 left_next script past t seat (kinds.Take task runner value) once known le h =
     let now : (1 ≤ of_task task (posts past)) × (is_taken past task ≡ false) =
-        taken_is script past seat (kinds.Take task runner value) false task h (eq-eqb task task refl) in
+    taken_is script past seat (kinds.Take task runner value) false task h (eq-eqb task task refl) in
     let other : is_main_taken past task ≡ false = false_from_ne_true (is_main_taken past task)
-        (λ k. omega (arith, now.0, known.taken true task k, known.accepted task, known.within task, once task)) in
+    (λ k. omega (arith, now.0, known.taken true task k, known.accepted task, known.within task, once task)) in
     let free : is_untaken past task ≡ true = rw (now.1, other) refl in
     omega (arith, left_takes script t task past (record { seat = seat; kind = kinds.Take task runner value }) le (rw (eq-eqb task task refl) refl) free)
 left_next script past t seat (kinds.MainTake task queue value) once known le h =
     let now : (1 ≤ of_task task (main_posts past)) × (is_main_taken past task ≡ false) =
-        taken_is script past seat (kinds.MainTake task queue value) true task h (eq-eqb task task refl) in
+    taken_is script past seat (kinds.MainTake task queue value) true task h (eq-eqb task task refl) in
     let other : is_taken past task ≡ false = false_from_ne_true (is_taken past task)
-        (λ k. omega (arith, now.0, known.taken false task k, known.accepted task, known.within task, once task)) in
+    (λ k. omega (arith, now.0, known.taken false task k, known.accepted task, known.within task, once task)) in
     let free : is_untaken past task ≡ true = rw (other, now.1) refl in
     omega (arith, left_takes script t task past (record { seat = seat; kind = kinds.MainTake task queue value }) le (rw (eq-eqb task task refl) refl) free)
 left_next script past t seat kind once known le h = omega (arith, left_goes_on script t past (record { seat = seat; kind = kind }) le refl)

@@ -1,6 +1,5 @@
 -- Moments, orders and scopes in every legal past.
-use Rattle.std.proofs.Common.{◌≡◌, ℕ, ◌≤◌, Bool, true, false, cond, eqb, leb, List, [], ◌∷◌, ◌++◌, refl, sym, ap, ◌∙◌, Some, None, arith}
-use Rattle.std.specs.Prelude.{◌&&◌, ◌||◌}
+use Rattle.std.proofs.Common.{◌≡◌, ℕ, ◌≤◌, Bool, true, false, eqb, leb, List, [], ◌∷◌, ◌++◌, refl, sym, ap, ◌∙◌, Some, None, arith}
 use Rattle.std.proofs.lemmas.Bool.{cond_both, eqb-true, leb-true, and_parts, both_ways, or_parts}
 use Rattle.task_base.specs.Plan.{Plan}
 use Rattle.task_base.specs.declared.limits.TheConstants.{LAST_MOMENT}
@@ -62,7 +61,7 @@ scopes_next : (script : Plan) (past : List Entry) (seat : ℕ) (kind : Kind) →
     → is_taken past t ≡ false → is_main_taken past t ≡ false → open_scope past t ≡ None → scope_after t past (open_scope past t) kind ≡ None
 scopes_next script past seat (kinds.Enter task scope) h c t free main_free none =
     cond_both (eqb task t) (Some (record { scope = scope; since = now_of past })) (open_scope past t) (λ o. o ≡ None) (λ same. absurd (not_now same))
-        (λ other. none)
+    (λ other. none)
   where
     runs : (w : Running) × (running past seat ≡ Some w) × (w.task ≡ task)
     runs = opens_as_running script past seat task scope h
@@ -87,7 +86,7 @@ risen_next script past e legal allowed r = record {
       let before = (or_parts (is_taken past t) (takes t e.kind) (sym (is_taken_push past e t) ∙ free)).0 in
       let main_before = (or_parts (is_main_taken past t) (main_takes t e.kind) (sym (is_main_taken_push past e t) ∙ main_free)).0 in
       open_scope_push past e t ∙ scopes_next script past e.seat e.kind may (legal_is_consistent script past legal) t before main_before
-          (r.scopes_of_taken t before main_before);
+      (r.scopes_of_taken t before main_before);
 }
   where
     may : may_come script past e.seat e.kind ≡ true
@@ -100,4 +99,4 @@ legal_rises script = legal_induction script Rises nothing_risen (risen_next scri
 pub orders_are_distinct : (script : Plan) (past : List Entry) → IsPostedOnce script → IsLegal script past → OrdersDistinct past
 orders_are_distinct script past once = legal_induction script OrdersDistinct orders_distinct_at_start
     (λ before e legal allowed distinct. orders_distinct_grows before e (legal_rises script before legal).no_tick_ahead
-        (each_is_accepted_once script before once legal).main (legal_rises script before legal).orders_below distinct) past
+    (each_is_accepted_once script before once legal).main (legal_rises script before legal).orders_below distinct) past

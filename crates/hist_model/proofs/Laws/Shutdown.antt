@@ -1,7 +1,7 @@
 -- What shutdown refuses, forbids and waits for, in every legal history.
-use Rattle.std.proofs.Common.{◌≡◌, ℕ, ◌+◌, Bool, true, false, cond, eqb, List, [], ◌∷◌, ◌++◌, length, refl, sym, ap, ◌∙◌, ⊎_elim, arith}
-use Rattle.std.specs.Prelude.{Some, not, ◌&&◌, ◌||◌, filter, if◌then◌else◌}
-use Rattle.std.specs.List.{AllByRecursion, range_with_len}
+use Rattle.std.proofs.Common.{◌≡◌, ℕ, ◌+◌, Bool, true, false, eqb, List, ◌∷◌, ◌++◌, length, refl, sym, ap, ◌∙◌, ⊎_elim, arith}
+use Rattle.std.specs.Prelude.{not, ◌&&◌, if◌then◌else◌}
+use Rattle.std.specs.List.{range_with_len}
 use Rattle.std.proofs.lemmas.Bool.{eqb-true, and_parts, not-true}
 use Rattle.std.proofs.lemmas.List.Elements.{All-from_recursion}
 use Rattle.task_base.specs.Plan.{Plan}
@@ -10,16 +10,15 @@ use Rattle.task_base.specs.declared.entry.Kind.{Kind}
 use Rattle.task_base.specs.declared.entry.Kind.TheVariants as kinds
 use Rattle.task_base.specs.declared.source.TaskSource.{TaskSource}
 use Rattle.task_base.specs.declared.source.TaskSource.TheVariants.{Sequence, Job}
-use Rattle.list_laws.specs.Lists.{count, holds_of}
 use Rattle.list_laws.proofs.Finds.{none_counted}
 use Rattle.task_model.specs.Phase.{phase_of, is_started}
 use Rattle.task_model.specs.Posts.{posts}
 use Rattle.task_model.specs.Refusal.{is_refused, is_closed, is_job_forbidden}
 use Rattle.task_model.specs.Seats.{all_seats}
-use Rattle.task_model.specs.Jobs.{may_enter, MayEnter, is_job_accepted, is_cancelled, has_unclaimed, claimed, free_id}
+use Rattle.task_model.specs.Jobs.{may_enter, MayEnter, has_unclaimed}
 use Rattle.task_model.specs.Sources.{best_of}
 use Rattle.task_model.specs.Blockers.{open_blocks, open_jobs, running_skips, seats_in_skip_jobs, block_part, skip_part, is_open_block, is_running_skip, is_open_job, is_in_skip_job, blockers_of}
-use Rattle.hist_model.specs.Allowed.{by_script, enters_job, is_job, is_ready_worker, same_number, may_come}
+use Rattle.hist_model.specs.Allowed.{by_script, is_job, may_come}
 use Rattle.hist_model.specs.Legal.{IsLegal}
 use Rattle.hist_model.specs.Laws.Choice.{IsWaitingSource, IsTake}
 use Rattle.hist_model.specs.Laws.Shutdown.{MayStart, HasWaited, KeepsShutdown}
@@ -65,7 +64,7 @@ pub job_take_enters : (script : Plan) (past : List Entry) (seat job id item : �
     → MayEnter script past job
 job_take_enters script past seat job id item h = ⊎_elim
     (λ k. let c = found (λ x. is_job job x.source) (best_of script past seat) k.1 in
-        of_source c.value.source (best_is script past seat c.value c.is).waits c.passes)
+    of_source c.value.source (best_is script past seat c.value c.is).waits c.passes)
     (λ k. k.1) (job_take_is script past seat job id item h)
   where
     of_source : (source : TaskSource) → IsWaitingSource script past source → is_job job source ≡ true → MayEnter script past job

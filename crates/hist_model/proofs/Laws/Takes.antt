@@ -1,5 +1,5 @@
 -- What is known of an allowed take.
-use Rattle.std.proofs.Common.{◌≡◌, ℕ, ◌≤◌, Bool, true, false, eqb, leb, List, sym, ap, subst, ◌∙◌, Some, ◌⊎◌, inl, inr, ⊎_elim, arith}
+use Rattle.std.proofs.Common.{◌≡◌, ℕ, ◌≤◌, true, false, eqb, leb, List, sym, ap, subst, ◌∙◌, Some, ◌⊎◌, inl, inr, ⊎_elim}
 use Rattle.std.specs.Prelude.{not, ◌&&◌}
 use Rattle.std.proofs.lemmas.Bool.{or_cases, eqb-true, leb-true, and_parts, not-true}
 use Rattle.task_base.specs.Plan.{Plan}
@@ -18,7 +18,7 @@ use Rattle.task_model.specs.Seats.{Running, running, runs_sequence, is_free}
 use Rattle.task_model.specs.Cells.{cell_of, main_cell_of}
 use Rattle.task_model.specs.Jobs.{claimed, may_enter, MayEnter}
 use Rattle.task_model.specs.Sources.{Candidate, best_of}
-use Rattle.task_model.specs.MainQueues.{Front, chosen_of}
+use Rattle.task_model.specs.MainQueues.{chosen_of}
 use Rattle.hist_model.specs.Views.{own_entries}
 use Rattle.hist_model.specs.Script.{is_wanted, is_finished}
 use Rattle.hist_model.specs.Allowed.{enters_job, is_job, is_head_of, is_ready_worker, is_front, has_done, by_script, may_come}
@@ -82,11 +82,11 @@ take_is script past seat task runner value h = of_best (found (λ c. is_head_of 
     of_source (Job j) waits k = absurd cc
     of_source (Sequence s) waits k =
         let parts = and_parts (holds_of (λ r. eqb r.posted.task task && eqb r.posted.home runner) (head_of script past s))
-            (eqb value (cell_of script past s)) k in
+        (eqb value (cell_of script past s)) k in
         let head = found (λ r. eqb r.posted.task task && eqb r.posted.home runner) (head_of script past s) parts.0 in
         let same = and_parts (eqb head.value.posted.task task) (eqb head.value.posted.home runner) head.passes in
         of_head s waits.2 (eqb-true value (cell_of script past s) parts.1) head.value (head_is script past s head.value head.is) (eqb-true _ _ same.0)
-            (eqb-true _ _ same.1)
+        (eqb-true _ _ same.1)
 
     of_best : Found Candidate (λ c. is_head_of script past task runner value c.source) (best_of script past seat) → IsTake script past seat task runner value
     of_best c = of_source c.value.source (best_is script past seat c.value c.is).waits c.passes
@@ -122,10 +122,10 @@ pub job_take_is : (script : Plan) (past : List Entry) (seat job id item : ℕ) �
 unfolding may_come
 job_take_is script past seat job id item h =
     ⊎_elim (λ k. let parts = and_parts (is_ready_worker script past seat) (holds_of (λ c. is_job job c.source) (best_of script past seat)) k in
-        inl (ready_worker script past seat parts.0, parts.1))
+    inl (ready_worker script past seat parts.0, parts.1))
     (λ k. inr (and_parts (by_script script past seat (kinds.JobTake job id item)) (may_enter script past job) k))
     (or_cases (is_ready_worker script past seat && holds_of (λ c. is_job job c.source) (best_of script past seat))
-        (by_script script past seat (kinds.JobTake job id item) && may_enter script past job)
+    (by_script script past seat (kinds.JobTake job id item) && may_enter script past job)
     (and_parts (enters_job script past seat job (kinds.JobTake job id item)) _ (and_parts _ (eqb item (claimed past job)) h).0).0)
 
 -- what is known of an allowed end: the seat runs the task, of the pool or a main task

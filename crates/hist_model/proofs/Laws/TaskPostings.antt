@@ -164,21 +164,36 @@ seats_have_change script t past e le = seats_sum_change (seat_at script t past) 
 pub seats_have_less : (script : Plan) (t : ℕ) (past : List Entry) (e : Entry) → e.seat ≤ script.workers → takes_nothing e.kind ≡ true
     → seats_have script t (past ++ e ∷ []) ≤ seats_have script t past
 unfolding seat_at
-seats_have_less script t past e le h = omega (arith, seats_have_change script t past e le, seat_at_own script t past e, seat_goes_on script t
-    (running past e.seat) (acts_done past e.seat) e.kind h)
+seats_have_less script t past e le h = omega (
+  arith,
+  seats_have_change script t past e le,
+  seat_at_own script t past e,
+  seat_goes_on script t
+      (running past e.seat) (acts_done past e.seat) e.kind h,
+)
 
 pub seats_post : (script : Plan) (t : ℕ) (past : List Entry) (e : Entry) → e.seat ≤ script.workers → by_task script past e.seat e.kind ≡ true
     → seats_have script t (past ++ e ∷ []) + times t (kind_posts e.kind) ≤ seats_have script t past
 unfolding by_task seat_at
-seats_post script t past e le h = omega (arith, seats_have_change script t past e le, seat_at_own script t past e, seat_posts script t (acts_done past e.seat)
-    (running past e.seat) e.kind h)
+seats_post script t past e le h = omega (
+  arith,
+  seats_have_change script t past e le,
+  seat_at_own script t past e,
+  seat_posts script t (acts_done past e.seat)
+      (running past e.seat) e.kind h,
+)
 
 -- an entry that takes a task gives the seat that task's postings
 pub seats_take : (script : Plan) (t u : ℕ) (past : List Entry) (e : Entry) → e.seat ≤ script.workers → (takes u e.kind || main_takes u e.kind) ≡ true
     → seats_have script t (past ++ e ∷ []) ≤ seats_have script t past + steps_post t (steps_of script u)
 unfolding seat_at seat_has steps_post
-seats_take script t u past e le h = omega (arith, seats_have_change script t past e le, seat_at_own script t past e, begins (running past e.seat)
-    (acts_done past e.seat) e.kind h)
+seats_take script t u past e le h = omega (
+  arith,
+  seats_have_change script t past e le,
+  seat_at_own script t past e,
+  begins (running past e.seat)
+      (acts_done past e.seat) e.kind h,
+)
   where
     begins : (w : Option Running) (n : ℕ) (kind : Kind) → (takes u kind || main_takes u kind) ≡ true
         → seat_has script t (running_after w kind) (acts_after n kind) ≡ steps_post t (steps_of script u)
@@ -224,9 +239,14 @@ weigh_drops f g t i u (suc k) (x ∷ xs) at was is fewer = let next : u ≡ suc 
 weigh_all : (f : ℕ → Bool) (t i : ℕ) (xs : List (List Step)) → weigh f t i xs ≤ times t (flat_map (λ steps. flat_map posts_of_step steps) xs)
 unfolding weigh
 weigh_all f t i [] = omega arith
-weigh_all f t i (x ∷ xs) = omega (arith, cond_both (f i) (steps_post t x) 0 (λ m. m ≤ times t (flat_map posts_of_step x))
-    (λ is. omega (arith, steps_post_all t x)) (λ is. omega arith), weigh_all f t (suc i) xs, times-append t (flat_map posts_of_step x)
-    (flat_map (λ steps. flat_map posts_of_step steps) xs))
+weigh_all f t i (x ∷ xs) = omega (
+  arith,
+  cond_both (f i) (steps_post t x) 0 (λ m. m ≤ times t (flat_map posts_of_step x))
+      (λ is. omega (arith, steps_post_all t x)) (λ is. omega arith),
+  weigh_all f t (suc i) xs,
+  times-append t (flat_map posts_of_step x)
+      (flat_map (λ steps. flat_map posts_of_step steps) xs),
+)
 
 -- the task was taken neither from the pool nor from a main queue
 abbrev pub is_untaken : List Entry → ℕ → Bool

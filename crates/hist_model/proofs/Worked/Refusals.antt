@@ -1,5 +1,5 @@
 -- Histories that are not legal, and the first place that is not allowed.
-use Rattle.std.proofs.Common.{◌≡◌, true, false, [], ◌∷◌, refl}
+use Rattle.std.proofs.Common.{true, false, [], ◌∷◌, refl}
 use Rattle.std.specs.Prelude.{Some, None}
 use Rattle.task_base.specs.Plan.{Plan}
 use Rattle.task_base.specs.declared.entry.Kind.TheVariants as kinds
@@ -82,7 +82,7 @@ shutting_refuses : AreRefused shutting (
     at 4 (by 0 (kinds.Post 0 0 0 true) ∷ by 1 (kinds.Take 0 0 0) ∷ by 0 (kinds.Post 1 1 0 true) ∷ by 0 kinds.Shutdown ∷ by 0 kinds.Done ∷ []) ∷
     -- after the end of shutdown a block task is refused
     at 6 (by 0 (kinds.Post 0 0 0 true) ∷ by 0 (kinds.Post 1 1 0 true) ∷ by 0 kinds.Shutdown ∷ by 1 (kinds.Take 1 1 0) ∷ by 1 (kinds.End 1 2) ∷ by 0 kinds.Done ∷
-        by 0 (kinds.Post 2 1 0 true) ∷ []) ∷
+    by 0 (kinds.Post 2 1 0 true) ∷ []) ∷
     [])
 unfolding judge
 shutting_refuses = refl
@@ -199,7 +199,7 @@ queued = record plain {
 queued_refuses : AreRefused queued (
     -- the fence stands before the task
     at 5 (by 0 (kinds.Main 0 0 0 true) ∷ by 0 (kinds.Fence 0 Now) ∷ by 0 (kinds.Main 1 0 0 true) ∷ by 0 (kinds.MainTake 0 0 0) ∷ by 0 (kinds.MainEnd 0 1) ∷
-        by 0 (kinds.MainTake 1 0 1) ∷ []) ∷
+    by 0 (kinds.MainTake 1 0 1) ∷ []) ∷
     -- a front is open
     at 3 (by 0 (kinds.Main 0 0 0 true) ∷ by 0 (kinds.Fence 0 Now) ∷ by 0 (kinds.Main 1 0 0 true) ∷ by 0 kinds.MainNone ∷ []) ∷
     -- the driver runs the main tasks
@@ -222,11 +222,11 @@ laned = record plain {
 laned_refuses : AreRefused laned (
     -- three delayed tasks went before
     at 12 (by 0 (kinds.Main 0 0 1 true) ∷ by 0 (kinds.Main 1 0 1 true) ∷ by 0 (kinds.Main 2 0 1 true) ∷ by 0 (kinds.Main 3 0 1 true) ∷ by 0 (kinds.Tick 10) ∷
-        by 0 (kinds.Main 4 0 0 true) ∷ by 0 (kinds.MainTake 0 0 0) ∷ by 0 (kinds.MainEnd 0 1) ∷ by 0 (kinds.MainTake 1 0 1) ∷ by 0 (kinds.MainEnd 1 2) ∷
-        by 0 (kinds.MainTake 2 0 2) ∷ by 0 (kinds.MainEnd 2 3) ∷ by 0 (kinds.MainTake 3 0 3) ∷ []) ∷
+    by 0 (kinds.Main 4 0 0 true) ∷ by 0 (kinds.MainTake 0 0 0) ∷ by 0 (kinds.MainEnd 0 1) ∷ by 0 (kinds.MainTake 1 0 1) ∷ by 0 (kinds.MainEnd 1 2) ∷
+    by 0 (kinds.MainTake 2 0 2) ∷ by 0 (kinds.MainEnd 2 3) ∷ by 0 (kinds.MainTake 3 0 3) ∷ []) ∷
     -- the delayed tasks drew lesser orders
     at 6 (by 0 (kinds.Main 0 0 1 true) ∷ by 0 (kinds.Main 1 0 1 true) ∷ by 0 (kinds.Main 2 0 1 true) ∷ by 0 (kinds.Main 3 0 1 true) ∷ by 0 (kinds.Tick 10) ∷
-        by 0 (kinds.Main 4 0 0 true) ∷ by 0 (kinds.MainTake 4 0 0) ∷ []) ∷
+    by 0 (kinds.Main 4 0 0 true) ∷ by 0 (kinds.MainTake 4 0 0) ∷ []) ∷
     [])
 unfolding judge
 laned_refuses = refl
@@ -260,7 +260,7 @@ working = record plain {
 working_refuses : AreRefused working (
     -- two are inside
     at 5 (by 0 (kinds.JobPost 0 true) ∷ by 1 (kinds.JobTake 0 0 0) ∷ by 0 (kinds.Post 0 0 0 true) ∷ by 2 (kinds.Take 0 0 0) ∷ by 3 (kinds.JobTake 0 1 1) ∷
-        by 0 (kinds.JobTake 0 2 2) ∷ []) ∷
+    by 0 (kinds.JobTake 0 2 2) ∷ []) ∷
     -- the other worker has the number
     at 4 (by 0 (kinds.JobPost 0 true) ∷ by 1 (kinds.JobTake 0 0 0) ∷ by 0 (kinds.Post 0 0 0 true) ∷ by 2 (kinds.Take 0 0 0) ∷ by 3 (kinds.JobTake 0 0 1) ∷ []) ∷
     -- the item is claimed
