@@ -7,7 +7,7 @@ use Rattle.task_base.specs.declared.entry.Entry.{Entry}
 use Rattle.task_base.specs.declared.entry.Kind.{Kind}
 use Rattle.task_base.specs.declared.entry.Kind.TheVariants as kinds
 use Rattle.list_laws.specs.Lists.{holds_of}
-use Rattle.list_laws.proofs.Lists.{filter_never}
+use Rattle.list_laws.proofs.Filters.{filter_never}
 use Rattle.task_model.specs.Seats.{holding, inside, all_seats}
 use Rattle.task_model.specs.Jobs.{claimed, done}
 use Rattle.task_model.proofs.Growth.{claimed_push, done_push}

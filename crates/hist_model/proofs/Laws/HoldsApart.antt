@@ -8,7 +8,7 @@ use Rattle.task_base.specs.Plan.{Plan}
 use Rattle.task_base.specs.declared.entry.Entry.{Entry}
 use Rattle.task_base.specs.declared.entry.Kind.{Kind}
 use Rattle.task_base.specs.declared.entry.Kind.TheVariants as kinds
-use Rattle.list_laws.proofs.Lists.{range_all_at}
+use Rattle.list_laws.proofs.Ranges.{range_all_at}
 use Rattle.list_laws.proofs.Finds.{find_passes}
 use Rattle.task_model.specs.Seats.{Holding, holding, holding_after, inside}
 use Rattle.task_model.specs.Jobs.{claimed, holds_id, is_free_id, free_id}

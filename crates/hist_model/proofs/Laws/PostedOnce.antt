@@ -8,7 +8,7 @@ use Rattle.task_base.specs.declared.entry.Kind.{Kind}
 use Rattle.task_base.specs.declared.entry.Kind.TheVariants as kinds
 use Rattle.task_model.specs.Past.{fold_past}
 use Rattle.task_model.specs.Posts.{Posted, post_behind, posts, main_posts, is_taken, is_ended, is_main_taken, Before, InOrder}
-use Rattle.list_laws.proofs.Lists.{AllByRecursion-append, AllByRecursion-map, AllByRecursion-both}
+use Rattle.list_laws.proofs.Elements.{AllByRecursion-append, AllByRecursion-map, AllByRecursion-both}
 use Rattle.list_laws.proofs.Finds.{none_counted, none_found, found_counts}
 use Rattle.hist_model.specs.Allowed.{IsAllowed}
 use Rattle.hist_model.specs.Legal.{IsLegal}
