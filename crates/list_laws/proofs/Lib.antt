@@ -8,3 +8,4 @@ pub mod Ranks
 pub mod Least
 pub mod Members
 pub mod Sorts
+pub mod Finds

@@ -16,7 +16,7 @@ use Rattle.task_traits.specs.declared.phase.Phase.TheVariants as phases
 use Rattle.list_laws.specs.Lists.{count}
 use Rattle.task_model.specs.Past.{fold_past, fold_past_from}
 use Rattle.task_model.specs.Time.{now_of, now_after}
-use Rattle.task_model.specs.Posts.{posts, posted_by, main_posts, main_posted_by, is_taken, takes, is_ended, ends, is_main_taken, main_takes}
+use Rattle.task_model.specs.Posts.{posts, posted_by, main_posts, main_posted_by, is_taken, takes, is_ended, ends, is_main_taken, main_takes, is_main_ended, main_ends}
 use Rattle.task_model.specs.Keys.{arrivals, arriving_by}
 use Rattle.task_model.specs.Phase.{phase_of, phase_after}
 use Rattle.task_model.specs.Policies.{policy_of, policy_after}
@@ -86,6 +86,10 @@ is_ended_push past e t = any-push (ends t) past e
 pub is_main_taken_push : (past : List Entry) (e : Entry) (t : ℕ) → is_main_taken (past ++ e ∷ []) t ≡ (is_main_taken past t || main_takes t e.kind)
 unfolding is_main_taken
 is_main_taken_push past e t = any-push (main_takes t) past e
+
+pub is_main_ended_push : (past : List Entry) (e : Entry) (t : ℕ) → is_main_ended (past ++ e ∷ []) t ≡ (is_main_ended past t || main_ends t e.kind)
+unfolding is_main_ended
+is_main_ended_push past e t = any-push (main_ends t) past e
 
 pub phase_of_push : (past : List Entry) (e : Entry) → phase_of (past ++ e ∷ []) ≡ phase_after (phase_of past) e.kind
 unfolding phase_of
