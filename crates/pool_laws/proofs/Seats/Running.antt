@@ -12,9 +12,10 @@
 -- What the notions over all seats say of each: all is quiet exactly where each seat is free, and a sequence runs exactly
 -- where a seat runs a task of it.
 use Rattle.std.proofs.Common.{◌≡◌, ℕ, ◌+◌, Bool, true, false, cond, eqb, List, [], ◌∷◌, ◌++◌, length, refl, sym, ap, ◌∙◌, Option, Some, None, arith}
-use Rattle.std.specs.Prelude.{not, ◌&&◌, ◌||◌, is_none, option_and_then, slice_get, filter, ◌==◌}
+use Rattle.std.specs.Prelude.{not, ◌&&◌, ◌||◌, is_none, option_and_then, slice_get, filter, fold, ◌==◌, if◌then◌else◌}
 use Rattle.std.specs.List.{list_any}
 use Rattle.std.proofs.lemmas.Bool.{true≢false, eqb-true}
+use Rattle.std.proofs.lemmas.List.Sums.{fold-append}
 use Rattle.task_base.specs.Plan.{Plan}
 use Rattle.task_base.specs.declared.entry.Entry.{Entry}
 use Rattle.task_base.specs.declared.entry.Kind.{Kind}
@@ -23,7 +24,8 @@ use Rattle.list_laws.specs.Lists.{count, holds_of}
 use Rattle.task_base.specs.Runners.{sequence_of}
 use Rattle.task_base.specs.Steps.{is_act}
 use Rattle.task_model.specs.Seats.{Running, Holding, running, running_after, holding, holding_after, acts_done, acts_after, is_free, is_quiet, runs_of, runs_sequence, inside, all_seats, steps_of, next_act}
-use Rattle.pool_laws.specs.Seats.{moves_main, moves_running, moves_holding, IsSeat, moves_seats, runs_pool_task, holds_job}
+use Rattle.task_model.specs.Capacity.{taken_after, taken_with}
+use Rattle.pool_laws.specs.Seats.{priority_of_running, moves_main, moves_running, moves_holding, IsSeat, moves_seats, runs_pool_task, holds_job}
 use Rattle.task_model.proofs.Growth.{running_push, holding_push, acts_done_push}
 use Rattle.list_laws.proofs.Lists.{filter_congr, list_any_congr, list_all_congr, list_any_none, count_change, any_change, any_from_count, range_with, AllByRecursion-range, range_all_at, range_any_at, list_all-from_recursion}
 
@@ -60,6 +62,39 @@ pub next_act_other : (script : Plan) (past : List Entry) (e : Entry) (seat : ℕ
 next_act_other script past e seat other =
     ap (λ o. option_and_then (λ w. slice_get (filter is_act (steps_of script w.task)) (acts_done (past ++ e ∷ []) seat)) o) (running_other past e seat other)
     ∙ ap (λ n. option_and_then (λ w. slice_get (filter is_act (steps_of script w.task)) n) (running past seat)) (acts_other past e seat other)
+
+-- what one more entry does to the priority that a seat's task was taken with
+pub taken_with_push : (script : Plan) (past : List Entry) (e : Entry) (seat : ℕ)
+    → taken_with script (past ++ e ∷ []) seat
+        ≡ (if e.seat == seat then taken_after script (taken_with script past seat) e.kind else taken_with script past seat)
+unfolding taken_with
+taken_with_push script past e seat = fold-append (λ now x. cond (eqb x.seat seat) (taken_after script now x.kind) now) None past (e ∷ [])
+
+-- it is the priority of the task's runner
+pub taken_with_is : (script : Plan) (past : List Entry) (seat : ℕ)
+    → taken_with script past seat ≡ option_and_then (priority_of_running script) (running past seat)
+unfolding taken_with running
+taken_with_is script past seat = from None past
+  where
+    after : (now : Option Running) (kind : Kind)
+        → taken_after script (option_and_then (priority_of_running script) now) kind ≡ option_and_then (priority_of_running script) (running_after now kind)
+    after now (Take task runner found) = refl
+    after now (End task left) = refl
+    after now (MainTake task queue found) = refl
+    after now (MainEnd task left) = refl
+    after now kind = refl
+
+    step : (now : Option Running) (b : Bool) (kind : Kind)
+        → cond b (taken_after script (option_and_then (priority_of_running script) now) kind) (option_and_then (priority_of_running script) now)
+            ≡ option_and_then (priority_of_running script) (cond b (running_after now kind) now)
+    step now true kind = after now kind
+    step now false kind = refl
+
+    from : (now : Option Running) (rest : List Entry)
+        → fold (λ before x. cond (eqb x.seat seat) (taken_after script before x.kind) before) (option_and_then (priority_of_running script) now) rest
+            ≡ option_and_then (priority_of_running script) (fold (λ before x. cond (eqb x.seat seat) (running_after before x.kind) before) now rest)
+    from now [] = refl
+    from now (x ∷ rest) = rw (step now (eqb x.seat seat) x.kind) (from (cond (eqb x.seat seat) (running_after now x.kind) now) rest)
 
 pub running_same : (past : List Entry) (e : Entry) (seat : ℕ) → moves_running e.kind ≡ false → running (past ++ e ∷ []) seat ≡ running past seat
 running_same past e seat quiet = running_push past e seat ∙ ap (λ o. cond (eqb e.seat seat) o (running past seat)) (still (running past seat) e.kind quiet)
