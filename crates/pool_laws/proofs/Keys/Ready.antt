@@ -72,7 +72,7 @@ abbrev pub with_key : (Posted → Option Key) → Posted → Option Ready
 with_key key p = option_map (λ k. record { posted = p; key = k }) (key p)
 
 -- the key of an accepted task behind an entry of the kind
-abbrev later_key : List Entry → Kind → Posted → Option Key
+abbrev pub later_key : List Entry → Kind → Posted → Option Key
 later_key past kind p = option_or (key_of past p) (key_by past p kind)
 
 -- what one more entry does to the tasks that have keys, all kinds at once
