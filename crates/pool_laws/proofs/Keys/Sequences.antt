@@ -49,8 +49,7 @@ may_start_same script past e no_take no_phase p =
 
 chosen_same : (script : Plan) (past : List Entry) (e : Entry) (s : ℕ) → ((t : ℕ) → takes t e.kind ≡ false)
     → ((phase : Phase) → phase_after phase e.kind ≡ phase) → (xs : List Ready) → filter (chosen script (past ++ e ∷ []) s) xs ≡ filter (chosen script past s) xs
-chosen_same script past e s no_take no_phase xs = filter_congr (chosen script (past ++ e ∷ []) s) (chosen script past s) xs
-    (λ r. rw (may_start_same script past e no_take no_phase r.posted) refl)
+chosen_same script past e s no_take no_phase xs = filter_congr _ _ xs (λ r. rw (may_start_same script past e no_take no_phase r.posted) refl)
 
 pub eligible_same : (script : Plan) (past : List Entry) (e : Entry) (s : ℕ) → moves_sequences e.kind ≡ false
     → eligible script (past ++ e ∷ []) s ≡ eligible script past s
@@ -85,7 +84,7 @@ pub eligible_at_post : (script : Plan) (past : List Entry) (e : Entry) (s task r
 unfolding eligible
 eligible_at_post script past e s task runner delay is immediate =
     chosen_at script past e s (kinds.Post task runner delay true) is (λ t. refl) (λ phase. refl) (ready (past ++ e ∷ []))
-    ∙ rw (ready_at_post past e task runner delay is immediate) (filter-append (chosen script past s) (ready past) (ready_behind past task runner delay ∷ []))
+    ∙ rw (ready_at_post past e task runner delay is immediate) (filter-append _ (ready past) _)
 
 pub eligible_at_delayed_post : (script : Plan) (past : List Entry) (e : Entry) (s task runner delay : ℕ) → e.kind ≡ kinds.Post task runner delay true
     → nat_lt 0 delay ≡ true
@@ -105,8 +104,7 @@ pub eligible_at_take : (script : Plan) (past : List Entry) (e : Entry) (s task r
     → eligible script (past ++ e ∷ []) s ≡ filter (λ r. not (r.posted.task == task)) (eligible script past s)
 unfolding eligible
 eligible_at_take script past e s task runner found is =
-    rw (ready_same past e (ap moves_ready is), filter-filter (λ r. not (eqb r.posted.task task)) (chosen script past s) (ready past))
-    (filter_congr (chosen script (past ++ e ∷ []) s) (λ r. chosen script past s r && not (eqb r.posted.task task)) (ready past) same)
+    rw (ready_same past e (ap moves_ready is), filter-filter) (filter_congr _ _ _ same)
   where
     swapped : (of taken this allowed : Bool) → (of && (not (taken || this) && allowed)) ≡ ((of && (not taken && allowed)) && not this)
     swapped false taken this allowed = refl
@@ -118,22 +116,17 @@ eligible_at_take script past e s task runner found is =
 
     same : (r : Ready) → chosen script (past ++ e ∷ []) s r ≡ (chosen script past s r && not (eqb r.posted.task task))
     same r = rw (is_taken_push past e r.posted.task, phase_of_push past e, is, turned task r.posted.task)
-        (swapped (is_of script s r.posted) (is_taken past r.posted.task) (eqb r.posted.task task) (not (is_forbidden script past r.posted)))
+        (swapped _ _ _ (not (is_forbidden script past r.posted)))
 
 -- a sequence has no eligible task that is not posted to it
 no_member : (script : Plan) (past : List Entry) (s task : ℕ) → is_task_of script past s task ≡ false
     → AllByRecursion (λ r. not (eqb r.posted.task task) ≡ true) (eligible script past s)
 unfolding eligible
 no_member script past s task none =
-    AllByRecursion-map (λ r. ((eqb r.posted.task task && is_of script s r.posted) ≡ false) × (chosen script past s r ≡ true))
-        (λ r. not (eqb r.posted.task task) ≡ true) (filter (chosen script past s) (ready past))
-        (λ r h. one (eqb r.posted.task task) (is_of script s r.posted) (may_start script past r.posted) h.0 h.1)
-    (AllByRecursion-both (λ r. (eqb r.posted.task task && is_of script s r.posted) ≡ false) (λ r. chosen script past s r ≡ true)
-        (filter (chosen script past s) (ready past))
-    (AllByRecursion-filter (λ r. (eqb r.posted.task task && is_of script s r.posted) ≡ false) (chosen script past s) (ready past)
-        (AllByRecursion-ready (λ p. (eqb p.task task && is_of script s p) ≡ false) past
-            (AllByRecursion-not_any (λ p. eqb p.task task && is_of script s p) (posts past) none)))
-    (filter_passes (chosen script past s) (ready past)))
+    AllByRecursion-map _ _ _ (λ r h. one (eqb r.posted.task task) _ _ h.0 h.1)
+        (AllByRecursion-both _ _ _
+            (AllByRecursion-filter _ _ _ (AllByRecursion-ready (λ p. (eqb p.task task && is_of script s p) ≡ false) past (AllByRecursion-not_any _ _ none)))
+            (filter_passes (chosen script past s) (ready past)))
   where
     one : (t of may : Bool) → (t && of) ≡ false → (of && may) ≡ true → not t ≡ true
     one false of may h k = refl
@@ -145,15 +138,13 @@ pub eligible_at_other_take : (script : Plan) (past : List Entry) (e : Entry) (s 
     → is_task_of script past s task ≡ false → eligible script (past ++ e ∷ []) s ≡ eligible script past s
 eligible_at_other_take script past e s task runner found is none =
     eligible_at_take script past e s task runner found is
-    ∙ filter_all (λ r. not (eqb r.posted.task task)) (eligible script past s) (no_member script past s task none)
+    ∙ filter_all _ _ (no_member script past s task none)
 
 pub eligible_at_shutdown : (script : Plan) (past : List Entry) (e : Entry) (s : ℕ) → e.kind ≡ kinds.Shutdown
     → eligible script (past ++ e ∷ []) s ≡ filter (λ r. not (is_forbidden script (past ++ e ∷ []) r.posted)) (eligible script past s)
 unfolding eligible
 eligible_at_shutdown script past e s is =
-    rw (ready_same past e (ap moves_ready is),
-        filter-filter (λ r. not (is_forbidden script (past ++ e ∷ []) r.posted)) (chosen script past s) (ready past))
-    (filter_congr (chosen script (past ++ e ∷ []) s) (λ r. chosen script past s r && not (is_forbidden script (past ++ e ∷ []) r.posted)) (ready past) same)
+    rw (ready_same past e (ap moves_ready is), filter-filter) (filter_congr _ _ _ same)
   where
     later : (phase : Phase) (b : Behaviour) → forbids phase b ≡ true → forbids (started_from phase) b ≡ true
     later phases.Running b h = absurd (true≢false (sym h))
@@ -168,13 +159,11 @@ eligible_at_shutdown script past e s is =
 
     same : (r : Ready) → chosen script (past ++ e ∷ []) s r ≡ (chosen script past s r && not (is_forbidden script (past ++ e ∷ []) r.posted))
     same r = rw (is_taken_push past e r.posted.task, phase_of_push past e, is, or-false (is_taken past r.posted.task))
-        (joined (is_of script s r.posted) (is_taken past r.posted.task) (is_forbidden script past r.posted)
-            (forbids (started_from (phase_of past)) (effective_at script r.posted.home r.posted.delay))
-            (later (phase_of past) (effective_at script r.posted.home r.posted.delay)))
+        (joined _ _ _ _ (later (phase_of past) (effective_at script r.posted.home r.posted.delay)))
 
 pub eligible_at_done : (script : Plan) (past : List Entry) (e : Entry) (s : ℕ) → e.kind ≡ kinds.Done → eligible script (past ++ e ∷ []) s ≡ []
 unfolding eligible
-eligible_at_done script past e s is = filter_never (chosen script (past ++ e ∷ []) s) (ready (past ++ e ∷ [])) none
+eligible_at_done script past e s is = filter_never _ _ none
   where
     done : phase_of (past ++ e ∷ []) ≡ phases.Done
     done = rw (phase_of_push past e, is) refl
@@ -191,8 +180,7 @@ pub eligible_by_posts : (script : Plan) (past : List Entry) (s : ℕ)
     → eligible script past s ≡ filter_map (λ p. option_map (λ key. record { posted = p; key = key }) (key_of past p))
         (filter (λ p. is_of script s p && may_start script past p) (posts past))
 unfolding eligible ready
-eligible_by_posts script past s = sym (filter-filter_map (chosen script past s) (startable script past s) (with_key (key_of past)) (posts past)
-    (λ p r made. by p (key_of past p) r made))
+eligible_by_posts script past s = sym (filter-filter_map _ _ _ _ (λ p r made. by p (key_of past p) r made))
   where
     by : (p : Posted) (o : Option Key) (r : Ready) → option_map (λ key. record { posted = p; key = key }) o ≡ Some r
         → chosen script past s r ≡ startable script past s p
@@ -203,9 +191,7 @@ eligible_by_posts script past s = sym (filter-filter_map (chosen script past s) 
 posts_at_tick : (script : Plan) (past : List Entry) (e : Entry) (s moment : ℕ) → e.kind ≡ kinds.Tick moment
     → eligible script (past ++ e ∷ []) s ≡ filter_map (with_key (key_of (past ++ e ∷ []))) (filter (startable script past s) (posts past))
 posts_at_tick script past e s moment is =
-    eligible_by_posts script (past ++ e ∷ []) s
-    ∙ rw (posts_same past e (ap moves_posts is),
-        filter_congr (startable script (past ++ e ∷ []) s) (startable script past s) (posts past) same) refl
+    eligible_by_posts script (past ++ e ∷ []) s ∙ rw (posts_same past e (ap moves_posts is), filter_congr _ _ _ same) refl
   where
     same : (p : Posted) → startable script (past ++ e ∷ []) s p ≡ startable script past s p
     same p = rw (may_start_same script past e (λ t. ap (takes t) is) (λ phase. ap (phase_after phase) is) p) refl
@@ -215,7 +201,7 @@ at_tick : (script : Plan) (past : List Entry) (e : Entry) (s moment : ℕ) → e
     → eligible script (past ++ e ∷ []) s ≡ filter_map (with_key (later_key past (kinds.Tick moment))) (filter (startable script past s) (posts past))
 at_tick script past e s moment is =
     posts_at_tick script past e s moment is
-    ∙ filter_map_congr (with_key (key_of (past ++ e ∷ []))) (with_key (later_key past (kinds.Tick moment))) (filter (startable script past s) (posts past))
+    ∙ filter_map_congr _ _ (filter (startable script past s) (posts past))
         (λ p. ap (option_map (λ key. record { posted = p; key = key })) (key_of_push past e p ∙ rw is refl))
 
 -- the key of a tick has its place behind the past
@@ -261,20 +247,15 @@ at_tick_is past moment p within =
 
 -- the posts of a past that may start, at a tick
 all_at_tick : (script : Plan) (past : List Entry) (s moment : ℕ) → AllByRecursion (AtTick past moment) (filter (startable script past s) (posts past))
-all_at_tick script past s moment = AllByRecursion-map (λ p. nat_lt p.place (length past) ≡ true) (AtTick past moment)
-    (filter (startable script past s) (posts past)) (λ p within. at_tick_is past moment p within)
-    (AllByRecursion-filter (λ p. nat_lt p.place (length past) ≡ true) (startable script past s) (posts past) (posts_within past))
+all_at_tick script past s moment = AllByRecursion-map _ _ _ (at_tick_is past moment) (AllByRecursion-filter _ _ _ (posts_within past))
 
 -- at a tick the tasks that were eligible stay so under their keys
 pub eligible_old_at_tick : (script : Plan) (past : List Entry) (e : Entry) (s moment : ℕ) → e.kind ≡ kinds.Tick moment
     → filter (λ r. nat_lt r.key.place (length past)) (eligible script (past ++ e ∷ []) s) ≡ eligible script past s
 eligible_old_at_tick script past e s moment is =
     ap (filter (old_key past)) (at_tick script past e s moment is)
-    ∙ filter-keep (old_key past) (with_key (later_key past (kinds.Tick moment))) (filter (startable script past s) (posts past))
-    ∙ filter_map_congr_in (λ p. keep (old_key past) (with_key (later_key past (kinds.Tick moment)) p)) (with_key (key_of past))
-        (filter (startable script past s) (posts past))
-        (AllByRecursion-map (AtTick past moment) (λ p. keep (old_key past) (with_key (later_key past (kinds.Tick moment)) p) ≡ with_key (key_of past) p)
-            (filter (startable script past s) (posts past)) (λ p parts. parts.old) (all_at_tick script past s moment))
+    ∙ filter-keep _ _ (filter (startable script past s) (posts past))
+    ∙ filter_map_congr_in _ _ _ (AllByRecursion-map _ _ _ (λ p parts. parts.old) (all_at_tick script past s moment))
     ∙ sym (eligible_by_posts script past s)
 
 -- the others are those of the sequence that become ripe, and may start
@@ -283,12 +264,8 @@ pub eligible_new_at_tick : (script : Plan) (past : List Entry) (e : Entry) (s mo
     ≡ filter_map (ripe_at_tick_of past moment) (filter (λ p. is_of script s p && may_start script past p) (posts past))
 eligible_new_at_tick script past e s moment is =
     ap (filter (λ r. not (old_key past r))) (at_tick script past e s moment is)
-    ∙ filter-keep (λ r. not (old_key past r)) (with_key (later_key past (kinds.Tick moment))) (filter (startable script past s) (posts past))
-    ∙ filter_map_congr_in (λ p. keep (λ r. not (old_key past r)) (with_key (later_key past (kinds.Tick moment)) p)) (ripe_at_tick_of past moment)
-        (filter (startable script past s) (posts past))
-        (AllByRecursion-map (AtTick past moment)
-            (λ p. keep (λ r. not (old_key past r)) (with_key (later_key past (kinds.Tick moment)) p) ≡ ripe_at_tick_of past moment p)
-            (filter (startable script past s) (posts past)) (λ p parts. parts.new) (all_at_tick script past s moment))
+    ∙ filter-keep _ _ (filter (startable script past s) (posts past))
+    ∙ filter_map_congr_in _ _ _ (AllByRecursion-map _ _ _ (λ p parts. parts.new) (all_at_tick script past s moment))
 
 -- a tick leaves the sequences none of whose tasks become ripe
 pub eligible_at_other_tick : (script : Plan) (past : List Entry) (e : Entry) (s moment : ℕ) → e.kind ≡ kinds.Tick moment
@@ -296,13 +273,9 @@ pub eligible_at_other_tick : (script : Plan) (past : List Entry) (e : Entry) (s 
     → eligible script (past ++ e ∷ []) s ≡ eligible script past s
 eligible_at_other_tick script past e s moment is unripe =
     posts_at_tick script past e s moment is
-    ∙ filter_map_congr_in (with_key (key_of (past ++ e ∷ []))) (with_key (key_of past)) (filter (startable script past s) (posts past))
-    (AllByRecursion-map (λ p. is_unripe script past s moment p × (startable script past s p ≡ true))
-        (λ p. with_key (key_of (past ++ e ∷ [])) p ≡ with_key (key_of past) p) (filter (startable script past s) (posts past))
-    (λ p known. ap (option_map (λ key. record { posted = p; key = key })) (same p known.0 known.1))
-    (AllByRecursion-both (is_unripe script past s moment) (λ p. startable script past s p ≡ true) (filter (startable script past s) (posts past))
-    (AllByRecursion-filter (is_unripe script past s moment) (startable script past s) (posts past) unripe)
-    (filter_passes (startable script past s) (posts past))))
+    ∙ filter_map_congr_in _ _ _
+        (AllByRecursion-map _ _ _ (λ p known. ap (option_map (λ key. record { posted = p; key = key })) (same p known.0 known.1))
+            (AllByRecursion-both _ _ _ (AllByRecursion-filter _ _ _ unripe) (filter_passes _ (posts past))))
     ∙ sym (eligible_by_posts script past s)
   where
     key : Posted → ℕ → Key
@@ -317,7 +290,7 @@ eligible_at_other_tick script past e s moment is unripe =
 
         kept : is_delayed p ≡ true → tick_from (past ++ e ∷ []) p.ripe ≡ tick_from past p.ripe
         kept delayed = rw (tick_from_push past e p.ripe, is)
-            (ticks (tick_from past p.ripe) (not_ripe delayed (and_parts (is_of script s p) (may_start script past p) starts).0))
+            (ticks (tick_from past p.ripe) (not_ripe delayed (and_parts _ _ starts).0))
 
         by : (b : Bool) → is_delayed p ≡ b → cond b (option_map (key p) (tick_from (past ++ e ∷ []) p.ripe)) (Some (key_at p.place))
             ≡ cond b (option_map (key p) (tick_from past p.ripe)) (Some (key_at p.place))
@@ -331,7 +304,7 @@ head_same script past e s quiet = ap (least ready_below) (eligible_same script p
 
 all_within : (script : Plan) (past : List Entry) (s : ℕ) → AllByRecursion (λ r. nat_lt r.key.place (length past) ≡ true) (eligible script past s)
 unfolding eligible
-all_within script past s = AllByRecursion-filter (λ r. nat_lt r.key.place (length past) ≡ true) (chosen script past s) (ready past) (keys_within past)
+all_within script past s = AllByRecursion-filter _ _ _ (keys_within past)
 
 -- a task that is posted becomes the head only where there was none
 pub head_at_post : (script : Plan) (past : List Entry) (e : Entry) (s task runner delay : ℕ) → e.kind ≡ kinds.Post task runner delay true
@@ -351,13 +324,12 @@ head_at_post script past e s task runner delay is immediate = ap (least ready_be
         rw (le-ltb (length past) r.key.place (omega (arith, lt)), ne_eqb (length past) r.key.place (λ same. omega (arith, lt, same))) refl
 
     all : AllByRecursion (λ r. ready_below new r ≡ false) (eligible script past s)
-    all = AllByRecursion-map (λ r. nat_lt r.key.place (length past) ≡ true) (λ r. ready_below new r ≡ false) (eligible script past s) above
-        (all_within script past s)
+    all = AllByRecursion-map _ _ _ above (all_within script past s)
 
     by : (b : Bool) → least ready_below (eligible script past s ++ cond b (new ∷ []) [])
         ≡ option_or (least ready_below (eligible script past s)) (cond b (Some new) None)
-    by true = least-push ready_below (eligible script past s) new all
-    by false = rw (append-nil (eligible script past s)) (sym (option_or-none (least ready_below (eligible script past s))))
+    by true = least-push _ _ new all
+    by false = rw (append-nil _) (sym (option_or-none (least ready_below (eligible script past s))))
 
 pub head_at_delayed_post : (script : Plan) (past : List Entry) (e : Entry) (s task runner delay : ℕ) → e.kind ≡ kinds.Post task runner delay true
     → nat_lt 0 delay ≡ true
