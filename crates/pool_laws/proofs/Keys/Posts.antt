@@ -18,14 +18,14 @@ use Rattle.list_laws.proofs.Lists.{AllByRecursion-map, AllByRecursion-both}
 use Rattle.pool_laws.proofs.Keys.Ready.{posts_within, main_posts_within}
 
 pub posts_same : (past : List Entry) (e : Entry) → moves_posts e.kind ≡ false → posts (past ++ e ∷ []) ≡ posts past
-posts_same past e quiet = rw (posts_push past e, none e.kind quiet) (append-nil (posts past))
+posts_same past e quiet = rw (posts_push past e, none e.kind quiet) (append-nil _)
   where
     none : (kind : Kind) → moves_posts kind ≡ false → posted_by past kind ≡ []
     none (Post task runner delay true) h = absurd (true≢false h)
     none kind h = refl
 
 pub main_posts_same : (past : List Entry) (e : Entry) → moves_main_posts e.kind ≡ false → main_posts (past ++ e ∷ []) ≡ main_posts past
-main_posts_same past e quiet = rw (main_posts_push past e, none e.kind quiet) (append-nil (main_posts past))
+main_posts_same past e quiet = rw (main_posts_push past e, none e.kind quiet) (append-nil _)
   where
     none : (kind : Kind) → moves_main_posts kind ≡ false → main_posted_by past kind ≡ []
     none (Main task queue delay true) h = absurd (true≢false h)
@@ -34,11 +34,11 @@ main_posts_same past e quiet = rw (main_posts_push past e, none e.kind quiet) (a
 -- the post of a task stays; where it had none, it is the new one, if that is of the task
 pub post_of_grows : (past : List Entry) (e : Entry) (t : ℕ) → post_of (past ++ e ∷ []) t
     ≡ option_or (post_of past t) (find (λ p. p.task == t) (posted_by past e.kind))
-post_of_grows past e t = rw (posts_push past e) (find-append (λ p. eqb p.task t) (posts past) (posted_by past e.kind))
+post_of_grows past e t = rw (posts_push past e) (find-append _ (posts past) _)
 
 pub main_post_of_grows : (past : List Entry) (e : Entry) (t : ℕ)
     → main_post_of (past ++ e ∷ []) t ≡ option_or (main_post_of past t) (find (λ p. p.task == t) (main_posted_by past e.kind))
-main_post_of_grows past e t = rw (main_posts_push past e) (find-append (λ p. eqb p.task t) (main_posts past) (main_posted_by past e.kind))
+main_post_of_grows past e t = rw (main_posts_push past e) (find-append _ (main_posts past) _)
 
 -- where none is found, all are of other tasks
 others : (t : ℕ) (xs : List Posted) → find (λ p. eqb p.task t) xs ≡ None → AllByRecursion (λ p. eqb p.task t ≡ false) xs
@@ -63,9 +63,8 @@ in_order_push (x ∷ xs) p order before = (more xs order.0, in_order_push xs p o
 all_before : (past : List Entry) (xs : List Posted) (task home delay : ℕ) → AllByRecursion (λ p. nat_lt p.place (length past) ≡ true) xs
     → find (λ p. eqb p.task task) xs ≡ None → AllByRecursion (λ p. Before p (post_behind past task home delay)) xs
 all_before past xs task home delay within none =
-    AllByRecursion-map (λ p. (nat_lt p.place (length past) ≡ true) × (eqb p.task task ≡ false)) (λ p. Before p (post_behind past task home delay)) xs
-        (λ p h. record { earlier = ltb-true p.place (length past) h.0; another = eqb-false p.task task h.1 })
-    (AllByRecursion-both (λ p. nat_lt p.place (length past) ≡ true) (λ p. eqb p.task task ≡ false) xs within (others task xs none))
+    AllByRecursion-map _ _ xs (λ p h. record { earlier = ltb-true p.place (length past) h.0; another = eqb-false p.task task h.1 })
+        (AllByRecursion-both _ _ xs within (others task xs none))
 
 -- the posts stay in order, and of tasks of their own, at the post of a task that had none
 pub posts_in_order : (past : List Entry) (e : Entry) (task runner delay : ℕ) → e.kind ≡ Post task runner delay true → post_of past task ≡ None

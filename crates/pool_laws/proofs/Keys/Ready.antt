@@ -81,8 +81,8 @@ grown : (past : List Entry) (e : Entry) (kind : Kind) → e.kind ≡ kind
 unfolding ready
 grown past e kind is =
     ap (filter_map (with_key (key_of (past ++ e ∷ [])))) grows
-    ∙ filter_map-append (with_key (key_of (past ++ e ∷ []))) (posts past) (posted_by past kind)
-    ∙ rw (filter_map_congr (with_key (key_of (past ++ e ∷ []))) (with_key (later_key past kind)) (posts past) same) refl
+    ∙ filter_map-append _ (posts past) _
+    ∙ rw (filter_map_congr _ _ _ same) refl
   where
     grows : posts (past ++ e ∷ []) ≡ posts past ++ posted_by past kind
     grows = rw (posts_push past e, is) refl
@@ -98,7 +98,7 @@ added : (past : List Entry) (e : Entry) (kind : Kind) → e.kind ≡ kind → ((
     → ready (past ++ e ∷ []) ≡ ready past ++ filter_map (with_key (key_of (past ++ e ∷ []))) (posted_by past kind)
 unfolding ready
 added past e kind is no_tick = grown past e kind is
-    ∙ rw (filter_map_congr (with_key (later_key past kind)) (with_key (key_of past)) (posts past) (λ p. rw (same p) refl)) refl
+    ∙ rw (filter_map_congr (with_key (later_key past kind)) (with_key (key_of past)) _ (λ p. rw (same p) refl)) refl
   where
     no_key : Option Key
     no_key = None
@@ -111,7 +111,7 @@ added past e kind is no_tick = grown past e kind is
     same p = rw (by p (is_delayed p)) (option_or-none (key_of past p))
 
 pub ready_same : (past : List Entry) (e : Entry) → moves_ready e.kind ≡ false → ready (past ++ e ∷ []) ≡ ready past
-ready_same past e quiet = added past e e.kind refl (no_tick e.kind quiet) ∙ rw (no_post e.kind quiet) (append-nil (ready past))
+ready_same past e quiet = added past e e.kind refl (no_tick e.kind quiet) ∙ rw (no_post e.kind quiet) (append-nil _)
   where
     no_tick : (kind : Kind) → moves_ready kind ≡ false → (moment : ℕ) → is_tick_from moment kind ≡ false
     no_tick (Tick now) h moment = absurd (true≢false h)
@@ -128,13 +128,13 @@ ready_at_post past e task runner delay is immediate = added past e (Post task ru
 pub ready_at_delayed_post : (past : List Entry) (e : Entry) (task runner delay : ℕ) → e.kind ≡ Post task runner delay true → nat_lt 0 delay ≡ true
     → tick_from past (now_of past + delay) ≡ None → ready (past ++ e ∷ []) ≡ ready past
 ready_at_delayed_post past e task runner delay is delayed unripe =
-    added past e (Post task runner delay true) is (λ moment. refl) ∙ rw (delayed, still) (append-nil (ready past))
+    added past e (Post task runner delay true) is (λ moment. refl) ∙ rw (delayed, still) (append-nil _)
   where
     still : tick_from (past ++ e ∷ []) (now_of past + delay) ≡ None
     still = rw (tick_from_push past e (now_of past + delay), unripe, is) refl
 
 pub ready_at_tick : (past : List Entry) (e : Entry) (moment : ℕ) → e.kind ≡ Tick moment → ready (past ++ e ∷ []) ≡ ready_at_tick_of past moment
-ready_at_tick past e moment is = grown past e (Tick moment) is ∙ append-nil (filter_map (with_key (later_key past (Tick moment))) (posts past))
+ready_at_tick past e moment is = grown past e (Tick moment) is ∙ append-nil _
 
 -- what holds of each element of a list holds of what is made of them
 pub AllByRecursion-filter_map : {A B : Type 0} (P : A → Type 0) (Q : B → Type 0) (f : A → Option B) (xs : List A)
@@ -158,16 +158,13 @@ pub places_from : (added : List Entry → Kind → List Posted) → ((before : L
     → AllByRecursion (λ p. p.place ≡ length before) (added before kind)) → (before : List Entry) (known : List Posted) (rest : List Entry)
     → AllByRecursion (within (length before)) known → AllByRecursion (within (length before + length rest))
     (fold_past_from (λ b k x. k ++ added b x.kind) before known rest)
-places_from added at before known [] all = AllByRecursion-map (within (length before)) (within (length before + 0)) known
-    (λ p. within_more (length before) (length before + 0) p (omega arith)) all
+places_from added at before known [] all = AllByRecursion-map _ _ _ (λ p. within_more (length before) (length before + 0) p (omega arith)) all
 places_from added at before known (x ∷ rest) all =
     subst (λ n. AllByRecursion (within n) (fold_past_from (λ b k y. k ++ added b y.kind) (before ++ x ∷ []) (known ++ added before x.kind) rest)) longer
     (places_from added at (before ++ x ∷ []) (known ++ added before x.kind) rest
-    (AllByRecursion-append (within (length (before ++ x ∷ []))) known (added before x.kind)
-    (AllByRecursion-map (within (length before)) (within (length (before ++ x ∷ []))) known
-        (λ p. within_more (length before) (length (before ++ x ∷ [])) p (omega (arith, one))) all)
-    (AllByRecursion-map (λ p. p.place ≡ length before) (within (length (before ++ x ∷ []))) (added before x.kind)
-        (λ p is. lt-ltb p.place (length (before ++ x ∷ [])) (omega (arith, one, is))) (at before x.kind))))
+    (AllByRecursion-append _ _ _
+        (AllByRecursion-map _ _ _ (λ p. within_more (length before) (length (before ++ x ∷ [])) p (omega (arith, one))) all)
+        (AllByRecursion-map _ _ _ (λ p is. lt-ltb p.place (length (before ++ x ∷ [])) (omega (arith, one, is))) (at before x.kind))))
   where
     one : length (before ++ x ∷ []) ≡ length before + 1
     one = length-append before (x ∷ [])
@@ -210,7 +207,7 @@ key_within past p key in_past is = by (is_delayed p) is
 -- each key of the past has its place in the past
 pub keys_within : (past : List Entry) → AllByRecursion (λ r. nat_lt r.key.place (length past) ≡ true) (ready past)
 unfolding ready
-keys_within past = AllByRecursion-filter_map (within (length past)) (λ r. nat_lt r.key.place (length past) ≡ true) (with_key (key_of past)) (posts past)
+keys_within past = AllByRecursion-filter_map _ _ _ _
     (λ p r in_past is. kept p (key_of past p) (λ key some. key_within past p key in_past some) r is) (posts_within past)
   where
     kept : (p : Posted) (o : Option Key) → ((key : Key) → o ≡ Some key → nat_lt key.place (length past) ≡ true) → (r : Ready)
@@ -221,8 +218,7 @@ keys_within past = AllByRecursion-filter_map (within (length past)) (λ r. nat_l
 -- what holds of each accepted task holds of each that has a key
 pub AllByRecursion-ready : (P : Posted → Type 0) (past : List Entry) → AllByRecursion P (posts past) → AllByRecursion (λ r. P r.posted) (ready past)
 unfolding ready
-AllByRecursion-ready P past all = AllByRecursion-filter_map P (λ r. P r.posted) (with_key (key_of past)) (posts past)
-    (λ p r is some. kept p (key_of past p) is r some) all
+AllByRecursion-ready P past all = AllByRecursion-filter_map P _ _ _ (λ p r is some. kept p (key_of past p) is r some) all
   where
     kept : (p : Posted) (o : Option Key) → P p → (r : Ready) → option_map (λ k. record { posted = p; key = k }) o ≡ Some r → P r.posted
     kept p None is r none = absurd (none-some r none)

@@ -111,12 +111,12 @@ seats_parts a b h = or_parts a b h
 
 pub is_free_same : (past : List Entry) (e : Entry) (seat : ℕ) → moves_seats e.kind ≡ false → is_free (past ++ e ∷ []) seat ≡ is_free past seat
 is_free_same past e seat quiet =
-    let parts : (moves_running e.kind ≡ false) × (moves_holding e.kind ≡ false) = or_parts (moves_running e.kind) (moves_holding e.kind) quiet in
+    let parts : (moves_running e.kind ≡ false) × (moves_holding e.kind ≡ false) = or_parts _ _ quiet in
     rw (running_same past e seat parts.0, holding_same past e seat parts.1) refl
 
 pub is_quiet_same : (script : Plan) (past : List Entry) (e : Entry) → moves_seats e.kind ≡ false → is_quiet script (past ++ e ∷ []) ≡ is_quiet script past
 unfolding is_quiet
-is_quiet_same script past e quiet = list_all_congr (is_free (past ++ e ∷ [])) (is_free past) (all_seats script) (λ seat. is_free_same past e seat quiet)
+is_quiet_same script past e quiet = list_all_congr _ _ _ (λ seat. is_free_same past e seat quiet)
 
 -- the seats of the script
 pub seat_once : (script : Plan) (seat : ℕ) → IsSeat script seat → count (λ x. eqb seat x) (all_seats script) ≡ 1
@@ -125,12 +125,11 @@ seat_once script seat is = range_with seat 0 (script.workers + 1) (omega arith) 
 -- all is quiet where each seat is free
 pub quiet_is_free : (script : Plan) (past : List Entry) (seat : ℕ) → is_quiet script past ≡ true → IsSeat script seat → is_free past seat ≡ true
 unfolding is_quiet
-quiet_is_free script past seat quiet is = range_all_at (is_free past) 0 (script.workers + 1) seat quiet (omega arith) (omega (arith, is))
+quiet_is_free script past seat quiet is = range_all_at _ 0 (script.workers + 1) seat quiet (omega arith) (omega (arith, is))
 
 pub free_is_quiet : (script : Plan) (past : List Entry) → ((seat : ℕ) → IsSeat script seat → is_free past seat ≡ true) → is_quiet script past ≡ true
 unfolding is_quiet
-free_is_quiet script past free = list_all-from_recursion (is_free past) (all_seats script)
-    (AllByRecursion-range (λ seat. is_free past seat ≡ true) 0 (script.workers + 1) (λ seat from to. free seat (omega (arith, to))))
+free_is_quiet script past free = list_all-from_recursion _ _ (AllByRecursion-range _ 0 (script.workers + 1) (λ seat from to. free seat (omega (arith, to))))
 
 -- Sequences that run.
 
@@ -154,25 +153,23 @@ runs_other script past e s seat other = rw (running_other past e seat other) ref
 pub seat_runs : (script : Plan) (past : List Entry) (s seat : ℕ) → IsSeat script seat → holds_of (runs_of script s) (running past seat) ≡ true
     → runs_sequence script past s ≡ true
 unfolding runs_sequence
-seat_runs script past s seat is runs_it = range_any_at (runs script past s) 0 (script.workers + 1) seat runs_it (omega arith) (omega (arith, is))
+seat_runs script past s seat is runs_it = range_any_at _ 0 (script.workers + 1) seat runs_it (omega arith) (omega (arith, is))
 
 pub no_seat_runs : (script : Plan) (past : List Entry) (s : ℕ) → ((seat : ℕ) → IsSeat script seat → holds_of (runs_of script s) (running past seat) ≡ false)
     → runs_sequence script past s ≡ false
 unfolding runs_sequence
-no_seat_runs script past s none = list_any_none (runs script past s) (all_seats script)
-    (AllByRecursion-range (λ x. runs script past s x ≡ false) 0 (script.workers + 1) (λ x from to. none x (omega (arith, to))))
+no_seat_runs script past s none = list_any_none _ _ (AllByRecursion-range _ 0 (script.workers + 1) (λ x from to. none x (omega (arith, to))))
 
 pub runs_same : (script : Plan) (past : List Entry) (e : Entry) (s : ℕ) → moves_running e.kind ≡ false
     → runs_sequence script (past ++ e ∷ []) s ≡ runs_sequence script past s
 unfolding runs_sequence
-runs_same script past e s quiet = list_any_congr (runs script (past ++ e ∷ []) s) (runs script past s) (all_seats script)
-    (λ seat. rw (running_same past e seat quiet) refl)
+runs_same script past e s quiet = list_any_congr _ _ (all_seats script) (λ seat. rw (running_same past e seat quiet) refl)
 
 -- an entry of a seat that runs no task of the sequence, before it and after it
 runs_kept : (script : Plan) (past : List Entry) (e : Entry) (s : ℕ) → runs script past s e.seat ≡ runs_after script past e s
     → runs_sequence script (past ++ e ∷ []) s ≡ runs_sequence script past s
 unfolding runs_sequence
-runs_kept script past e s same = list_any_congr (runs script (past ++ e ∷ []) s) (runs script past s) (all_seats script) (λ seat. by seat (eqb e.seat seat) refl)
+runs_kept script past e s same = list_any_congr _ _ _ (λ seat. by seat (eqb e.seat seat) refl)
   where
     by : (seat : ℕ) (b : Bool) → eqb e.seat seat ≡ b → runs script (past ++ e ∷ []) s seat ≡ runs script past s seat
     by seat true is = rw (runs_here script past e s seat is, ← eqb-true e.seat seat is) (sym same)
@@ -198,7 +195,7 @@ pub runs_at_take : (script : Plan) (past : List Entry) (e : Entry) (s task runne
     → runs_sequence script (past ++ e ∷ []) s ≡ (runs_sequence script past s || sequence_of script runner task == s)
 unfolding runs_sequence
 runs_at_take script past e s task runner found is seat free =
-    any_change (λ x. eqb e.seat x) (runs script past s) (runs script (past ++ e ∷ []) s) (eqb (sequence_of script runner task) s) (all_seats script)
+    any_change (λ x. eqb e.seat x) _ _ (eqb (sequence_of script runner task) s) _
         (λ x here. rw (← eqb-true e.seat x here, free) refl) (λ x here. runs_here script past e s x here ∙ rw is refl)
         (λ x other. sym (runs_other script past e s x other))
     ∙ rw (any_from_count (λ x. eqb e.seat x) (all_seats script) 0 (seat_once script e.seat seat)) (rw (and-true (eqb (sequence_of script runner task) s)) refl)
@@ -242,13 +239,12 @@ in_job_other past e j seat other = rw (holding_other past e seat other) refl
 pub inside_same : (script : Plan) (past : List Entry) (e : Entry) (j : ℕ) → moves_holding e.kind ≡ false
     → inside script (past ++ e ∷ []) j ≡ inside script past j
 unfolding inside
-inside_same script past e j quiet = filter_congr (in_job (past ++ e ∷ []) j) (in_job past j) (all_seats script)
-    (λ seat. rw (holding_same past e seat quiet) refl)
+inside_same script past e j quiet = filter_congr _ _ (all_seats script) (λ seat. rw (holding_same past e seat quiet) refl)
 
 inside_kept : (script : Plan) (past : List Entry) (e : Entry) (j : ℕ) → in_job past j e.seat ≡ in_job_after past e j
     → inside script (past ++ e ∷ []) j ≡ inside script past j
 unfolding inside
-inside_kept script past e j same = filter_congr (in_job (past ++ e ∷ []) j) (in_job past j) (all_seats script) (λ seat. by seat (eqb e.seat seat) refl)
+inside_kept script past e j same = filter_congr _ _ _ (λ seat. by seat (eqb e.seat seat) refl)
   where
     by : (seat : ℕ) (b : Bool) → eqb e.seat seat ≡ b → in_job (past ++ e ∷ []) j seat ≡ in_job past j seat
     by seat true is = rw (in_job_here past e j seat is, ← eqb-true e.seat seat is) (sym same)
@@ -260,7 +256,7 @@ inside_change : (script : Plan) (past : List Entry) (e : Entry) (j : ℕ) (b c :
     → length (inside script past j) + cond c 1 0 ≡ length (inside script (past ++ e ∷ []) j) + cond b 1 0
 unfolding inside
 inside_change script past e j b c seat before after =
-    count_change (λ x. eqb e.seat x) (in_job past j) (in_job (past ++ e ∷ []) j) b c (all_seats script) (seat_once script e.seat seat)
+    count_change (λ x. eqb e.seat x) _ _ b c _ (seat_once script e.seat seat)
     (λ x here. rw (← eqb-true e.seat x here) before) (λ x here. in_job_here past e j x here ∙ after) (λ x other. sym (in_job_other past e j x other))
 
 -- one more seat is inside the job that it enters
