@@ -39,7 +39,7 @@ worker_once script seat is = range_with seat 1 script.workers is.0 is.1
 
 -- what holds of each worker's seat
 workers : (P : ℕ → Type 0) (script : Plan) → ((seat : ℕ) → IsWorker script seat → P seat) → AllByRecursion P (worker_seats script)
-workers P script h = AllByRecursion-range P 1 script.workers (λ x from to. h x (from, to))
+workers P script h = AllByRecursion-range P 1 _ (λ x from to. h x (from, to))
 
 -- no worker's seat is the driver's
 not_driver : (script : Plan) (e : Entry) (seat : ℕ) → e.seat ≡ 0 → IsWorker script seat → eqb e.seat seat ≡ false
@@ -83,21 +83,17 @@ unfolding load best_load
 loads_kept script past later group same = record { all_is = by (is_in script group); best_is = by (is_best_in script group) }
   where
     by : (test : Priority → Bool) → load_of script later test ≡ load_of script past test
-    by test = ap length (filter_congr_in (λ seat. holds_of test (work_at script later seat)) (λ seat. holds_of test (work_at script past seat))
-        (worker_seats script) (workers (λ seat. holds_of test (work_at script later seat) ≡ holds_of test (work_at script past seat)) script
-        (λ seat is. ap (holds_of test) (same seat is))))
+    by test = ap length (filter_congr_in _ _ _ (workers _ script (λ seat is. ap (holds_of test) (same seat is))))
 
 -- the load, by what the entry's seat did and does
 load_change : (script : Plan) (past : List Entry) (e : Entry) (before after : Option Priority) (test : Priority → Bool) → IsWorker script e.seat
     → work script (running past e.seat) (holding past e.seat) ≡ before → work_after script past e ≡ after
     → load_of script past test + share (holds_of test after) ≡ load_of script (past ++ e ∷ []) test + share (holds_of test before)
 load_change script past e before after test worker was becomes =
-    count_change_in (λ x. eqb e.seat x) (λ x. holds_of test (work_at script past x)) (λ x. holds_of test (work_at script (past ++ e ∷ []) x))
-        (holds_of test before) (holds_of test after) (worker_seats script) (worker_once script e.seat worker)
+    count_change_in (λ x. eqb e.seat x) _ _ _ _ _ (worker_once script e.seat worker)
     (λ x here. ap (holds_of test) (rw (← eqb-true e.seat x here) (work_is script past e.seat ∙ was)))
     (λ x here. ap (holds_of test) (work_here script past e x here ∙ becomes))
-    (AllByRecursion-always (λ x. eqb e.seat x ≡ false → holds_of test (work_at script past x) ≡ holds_of test (work_at script (past ++ e ∷ []) x))
-        (worker_seats script) (λ x other. sym (ap (holds_of test) (work_other script past e x other))))
+    (AllByRecursion-always _ _ (λ x other. sym (ap (holds_of test) (work_other script past e x other))))
 
 -- a seat that is free does no work
 pub free_parts : (past : List Entry) (seat : ℕ) → is_free past seat ≡ true → (running past seat ≡ None) × (holding past seat ≡ None)
@@ -136,7 +132,7 @@ loads_less script past e group priority worker was becomes = record { all_is = b
 pub load_same : (script : Plan) (past : List Entry) (e : Entry) (group : Group) → moves_seats e.kind ≡ false
     → Loads script (past ++ e ∷ []) group (load script past group) (best_load script past group)
 load_same script past e group quiet =
-    let parts : (moves_running e.kind ≡ false) × (moves_holding e.kind ≡ false) = or_parts (moves_running e.kind) (moves_holding e.kind) quiet in
+    let parts : (moves_running e.kind ≡ false) × (moves_holding e.kind ≡ false) = or_parts _ _ quiet in
     loads_kept script past (past ++ e ∷ []) group
         (λ seat is. work_same script past (past ++ e ∷ []) seat (running_same past e seat parts.0) (holding_same past e seat parts.1))
 
@@ -247,8 +243,7 @@ capacities_kept script past later group same =
     record { all_is = rw (by (is_in script group)) refl; best_is = rw (by (is_best_in script group)) refl }
   where
     by : (test : Priority → Bool) → blocked_of script later test ≡ blocked_of script past test
-    by test = ap length (filter_congr_in (is_blocked script later test) (is_blocked script past test) (worker_seats script)
-        (workers (λ seat. is_blocked script later test seat ≡ is_blocked script past test seat) script (same test)))
+    by test = ap length (filter_congr_in _ _ _ (workers _ script (same test)))
 
 capacities_from : (script : Plan) (past later : List Entry) (group : Group) (priority : Priority) (counts : Bool)
     → ((test : Priority → Bool) → blocked_of script later test ≡ blocked_of script past test + share (test priority && counts))
@@ -264,12 +259,8 @@ blocked_change : (script : Plan) (past : List Entry) (e : Entry) (test : Priorit
     → is_blocked script past test e.seat ≡ b → is_blocked script (past ++ e ∷ []) test e.seat ≡ c
     → blocked_of script past test + share c ≡ blocked_of script (past ++ e ∷ []) test + share b
 blocked_change script past e test b c worker others before after =
-    count_change_in (λ x. eqb e.seat x) (is_blocked script past test) (is_blocked script (past ++ e ∷ []) test) b c (worker_seats script)
-        (worker_once script e.seat worker)
-    (λ x here. rw (← eqb-true e.seat x here) before)
-    (λ x here. rw (← eqb-true e.seat x here) after)
-    (workers (λ x. eqb e.seat x ≡ false → is_blocked script past test x ≡ is_blocked script (past ++ e ∷ []) test x) script
-        (λ x w other. sym (others x w other)))
+    count_change_in (λ x. eqb e.seat x) _ _ b c _ (worker_once script e.seat worker) (λ x here. rw (← eqb-true e.seat x here) before)
+        (λ x here. rw (← eqb-true e.seat x here) after) (workers _ script (λ x w other. sym (others x w other)))
 
 -- the moment and the scopes after an entry that is no tick, and opens and closes nothing of the task
 now_kept : (past : List Entry) (e : Entry) (kind : Kind) → e.kind ≡ kind → ((n : ℕ) → now_after n kind ≡ n) → now_of (past ++ e ∷ []) ≡ now_of past
@@ -514,9 +505,9 @@ room_at script past later priority loads capacities =
 pub has_room_same : (script : Plan) (past : List Entry) (e : Entry) (priority : Priority) → moves_room e.kind ≡ false
     → has_room script (past ++ e ∷ []) priority ≡ has_room script past priority
 has_room_same script past e priority quiet =
-    let parts : (moves_capacity e.kind ≡ false) × (moves_holding e.kind ≡ false) = or_parts (moves_capacity e.kind) (moves_holding e.kind) quiet in
+    let parts : (moves_capacity e.kind ≡ false) × (moves_holding e.kind ≡ false) = or_parts _ _ quiet in
     room_at script past (past ++ e ∷ []) priority
-        (load_same script past e (group_of script priority) (or_from (moves_running e.kind) (moves_holding e.kind) (no_running e.kind parts.0) parts.1))
+        (load_same script past e (group_of script priority) (or_from _ _ (no_running e.kind parts.0) parts.1))
         (capacity_same script past e (group_of script priority) parts.0)
 
 pub room_at_main : (script : Plan) (past : List Entry) (e : Entry) (priority : Priority) → moves_main e.kind ≡ true → e.seat ≡ 0

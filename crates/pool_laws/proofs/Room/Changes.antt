@@ -28,14 +28,14 @@ use Rattle.pool_laws.proofs.Seats.Running.{running_same}
 use Rattle.pool_laws.proofs.Room.Capacity.{free_parts, blocked, blocked_is, room_by_numbers, room_at, capacities_kept, scope_kept, load_same, load_at_driver, load_at_take, load_at_end, load_at_job_take, load_at_step, load_at_leave, capacity_same, capacity_at_take, capacity_at_open_end, capacity_at_enter, capacity_at_leave}
 
 -- the same numbers, read the other way
-loads_turned : (script : Plan) (past later : List Entry) (group : Group) → Loads script past group (load script later group) (best_load script later group)
+loads_turned : {script : Plan} {past later : List Entry} {group : Group} → Loads script past group (load script later group) (best_load script later group)
     → Loads script later group (load script past group) (best_load script past group)
-loads_turned script past later group same = record { all_is = sym same.all_is; best_is = sym same.best_is }
+loads_turned same = record { all_is = sym same.all_is; best_is = sym same.best_is }
 
-capacities_turned : (script : Plan) (past later : List Entry) (group : Group)
+capacities_turned : {script : Plan} {past later : List Entry} {group : Group}
     → Capacities script past group (capacity script later group) (best_capacity script later group)
     → Capacities script later group (capacity script past group) (best_capacity script past group)
-capacities_turned script past later group same = record { all_is = sym same.all_is; best_is = sym same.best_is }
+capacities_turned same = record { all_is = sym same.all_is; best_is = sym same.best_is }
 
 -- the driver's jobs leave the room
 pub room_at_driver : (script : Plan) (past : List Entry) (e : Entry) (priority : Priority) → e.seat ≡ 0 → moves_capacity e.kind ≡ false
@@ -50,7 +50,7 @@ pub room_at_other_take : (script : Plan) (past : List Entry) (e : Entry) (priori
         → has_room script (past ++ e ∷ []) priority ≡ has_room script past priority
 room_at_other_take script past e priority task runner found is worker free none apart =
     room_at script past (past ++ e ∷ []) priority
-        (simp (not-true (is_in script (group_of script priority) (priority_of script runner)) apart, add-zero) at (load_at_take script past e (group_of script priority) task runner found is worker free))
+        (simp (not-true _ apart, add-zero) at (load_at_take script past e (group_of script priority) task runner found is worker free))
         (capacity_at_take script past e (group_of script priority) task runner found is (free_parts past e.seat free).0 none)
 
 pub room_at_other_end : (script : Plan) (past : List Entry) (e : Entry) (priority : Priority) (task left : ℕ) (w : Running) → e.kind ≡ End task left
@@ -59,16 +59,16 @@ pub room_at_other_end : (script : Plan) (past : List Entry) (e : Entry) (priorit
     → is_apart script (priority_of script w.home) priority ≡ true → has_room script (past ++ e ∷ []) priority ≡ has_room script past priority
 room_at_other_end script past e priority task left w is worker runs pool none apart =
     room_at script past (past ++ e ∷ []) priority
-        (loads_turned script past (past ++ e ∷ []) (group_of script priority) (simp (not-true (is_in script (group_of script priority) (priority_of script w.home)) apart, add-zero) at (load_at_end script past e (group_of script priority) task left w is worker runs pool none)))
-        (capacities_turned script past (past ++ e ∷ []) (group_of script priority)
-            (simp (not-true (is_in script (group_of script priority) (priority_of script w.home)) apart, add-zero) at (capacity_at_open_end script past e (group_of script priority) task left w is worker runs pool)))
+        (loads_turned (simp (not-true _ apart, add-zero) at (load_at_end script past e (group_of script priority) task left w is worker runs pool none)))
+        (capacities_turned
+            (simp (not-true _ apart, add-zero) at (capacity_at_open_end script past e (group_of script priority) task left w is worker runs pool)))
 
 pub room_at_other_job_take : (script : Plan) (past : List Entry) (e : Entry) (priority : Priority) (job id item : ℕ) → e.kind ≡ JobTake job id item
     → IsWorker script e.seat → is_free past e.seat ≡ true
     → is_apart script (priority_of_job script job) priority ≡ true → has_room script (past ++ e ∷ []) priority ≡ has_room script past priority
 room_at_other_job_take script past e priority job id item is worker free apart =
     room_at script past (past ++ e ∷ []) priority
-        (simp (not-true (is_in script (group_of script priority) (priority_of_job script job)) apart, add-zero) at (load_at_job_take script past e (group_of script priority) job id item is worker free))
+        (simp (not-true _ apart, add-zero) at (load_at_job_take script past e (group_of script priority) job id item is worker free))
         (capacity_same script past e (group_of script priority) (ap moves_capacity is))
 
 -- a worker that claims the next item leaves the room of all
@@ -85,7 +85,7 @@ pub room_at_other_job_leave : (script : Plan) (past : List Entry) (e : Entry) (p
     → is_apart script (priority_of_job script job) priority ≡ true → has_room script (past ++ e ∷ []) priority ≡ has_room script past priority
 room_at_other_job_leave script past e priority job id item value is worker none held apart =
     room_at script past (past ++ e ∷ []) priority
-        (loads_turned script past (past ++ e ∷ []) (group_of script priority) (simp (not-true (is_in script (group_of script priority) (priority_of_job script job)) apart, add-zero) at (load_at_leave script past e (group_of script priority) job id item value is worker none held)))
+        (loads_turned (simp (not-true _ apart, add-zero) at (load_at_leave script past e (group_of script priority) job id item value is worker none held)))
         (capacity_same script past e (group_of script priority) (ap moves_capacity is))
 
 pub room_at_other_enter : (script : Plan) (past : List Entry) (e : Entry) (priority : Priority) (task : ℕ) (scope : Scope) (w : Running)
@@ -95,7 +95,7 @@ pub room_at_other_enter : (script : Plan) (past : List Entry) (e : Entry) (prior
     → is_apart script (priority_of script w.home) priority ≡ true → has_room script (past ++ e ∷ []) priority ≡ has_room script past priority
 room_at_other_enter script past e priority task scope w is worker runs pool its none alone apart =
     room_at script past (past ++ e ∷ []) priority (load_same script past e (group_of script priority) (ap moves_seats is))
-        (simp (not-true (is_in script (group_of script priority) (priority_of script w.home)) apart, add-zero) at
+        (simp (not-true _ apart, add-zero) at
             (capacity_at_enter script past e (group_of script priority) task scope w is worker runs pool its none alone))
 
 pub room_at_other_leave : (script : Plan) (past : List Entry) (e : Entry) (priority : Priority) (task : ℕ) (opened : OpenScope) (w : Running)
@@ -105,7 +105,7 @@ pub room_at_other_leave : (script : Plan) (past : List Entry) (e : Entry) (prior
     → is_apart script (priority_of script w.home) priority ≡ true → has_room script (past ++ e ∷ []) priority ≡ has_room script past priority
 room_at_other_leave script past e priority task opened w is worker runs pool its some alone apart =
     room_at script past (past ++ e ∷ []) priority (load_same script past e (group_of script priority) (ap moves_seats is))
-        (capacities_turned script past (past ++ e ∷ []) (group_of script priority) (simp (not-true (is_in script (group_of script priority) (priority_of script w.home)) apart, add-zero) at
+        (capacities_turned (simp (not-true _ apart, add-zero) at
             (capacity_at_leave script past e (group_of script priority) task opened w is worker runs pool its some alone)))
 
 -- Ticks.
@@ -149,9 +149,9 @@ capacity_at_tick script past e group moment is le = record { all_le = more (limi
     more : (n : ℕ) (test : Priority → Bool) → n + blocked_of script past test ≤ n + blocked_of script (past ++ e ∷ []) test
     more n test =
         let grown : blocked_of script past test ≤ blocked_of script (past ++ e ∷ []) test =
-        count_mono (is_blocked script past test) (is_blocked script (past ++ e ∷ []) test) (worker_seats script)
+        count_mono _ _ (worker_seats script)
             (λ seat h. rw (blocked_at_tick script past e moment test seat is)
-                (blocked_later script test (now_of past) moment (open_scope past) (running past seat) le (rw (blocked_is script past test seat) at h))) in
+                (blocked_later script _ _ _ _ (running past seat) le (rw (blocked_is script past test seat) at h))) in
         omega (arith, grown)
 
 -- two tests that follow from each other
@@ -185,8 +185,7 @@ more_room a b c d same le h = let lt : b < c = ltb-true b c h in lt-ltb a d (ome
 pub room_at_tick : (script : Plan) (past : List Entry) (e : Entry) (priority : Priority) (moment : ℕ) → e.kind ≡ Tick moment → now_of past ≤ moment
     → has_room script past priority ≡ true → has_room script (past ++ e ∷ []) priority ≡ true
 room_at_tick script past e priority moment is le room =
-    let parts = and_parts (nat_lt (load script past group) (capacity script past group))
-        (not (is_best_effort priority) || nat_lt (best_load script past group) (best_capacity script past group)) (rw (room_by_numbers script past priority) at room) in
+    let parts = and_parts _ _ (rw (room_by_numbers script past priority) at room) in
     rw (room_by_numbers script (past ++ e ∷ []) priority)
         (and_from _ _ (more_room _ _ _ _ loads.all_is kept.all_le parts.0) (by (not (is_best_effort priority)) parts.1))
   where
