@@ -19,7 +19,7 @@ use Rattle.list_laws.specs.Lists.{holds_of}
 use Rattle.task_model.specs.Time.{now_of, now_after}
 use Rattle.task_model.specs.Seats.{Running, running, worker_seats, is_free, holding}
 use Rattle.task_base.specs.Groups.{Group, is_best_effort, group_of, has_come}
-use Rattle.task_model.specs.Capacity.{OpenScope, limit, best_limit, priority_of, priority_of_job, is_in, is_best_in, open_scope, scope_counts, is_blocked, blocked_of, load, best_load, capacity, best_capacity, has_room}
+use Rattle.task_model.specs.Capacity.{OpenScope, limit, best_limit, priority_of, priority_of_job, is_in, is_best_in, open_scope, scope_counts, is_blocked, blocked_of, load, best_load, capacity, best_capacity, has_room, HasRoom}
 use Rattle.pool_laws.specs.Seats.{priority_of_running, moves_running, moves_seats, holds_job}
 use Rattle.pool_laws.specs.Room.{share, IsWorker, Loads, Capacities, moves_capacity, scopes, is_apart, CapacityKept, runs_task, NoneComes}
 use Rattle.task_model.proofs.Growth.{now_of_push}
@@ -183,7 +183,7 @@ more_room a b c d same le h = let lt : b < c = ltb-true b c h in lt-ltb a d (ome
 
 -- at a tick no room is lost
 pub room_at_tick : (script : Plan) (past : List Entry) (e : Entry) (priority : Priority) (moment : ℕ) → e.kind ≡ Tick moment → now_of past ≤ moment
-    → has_room script past priority ≡ true → has_room script (past ++ e ∷ []) priority ≡ true
+    → HasRoom script past priority → HasRoom script (past ++ e ∷ []) priority
 room_at_tick script past e priority moment is le room =
     let parts = and_parts _ _ (rw (room_by_numbers script past priority) at room) in
     rw (room_by_numbers script (past ++ e ∷ []) priority)
