@@ -1,6 +1,5 @@
 -- Lemmas on options, and on the first place in a list at which a test passes.
 use Rattle.std.proofs.Common.{◌≡◌, ℕ, suc, ◌+◌, ◌<◌, Bool, true, false, cond, List, [], ◌∷◌, ◌++◌, length, refl, ap, ◌∙◌, Option, Some, None, arith}
-use Rattle.std.specs.Prelude.{◌||◌}
 use Rattle.std.specs.Option.{option_map, option_or}
 use Rattle.std.specs.List.{list_any, position_from, AllByRecursion}
 use Rattle.std.proofs.lemmas.Bool.{or_parts}
@@ -23,7 +22,7 @@ position-append test i (x ∷ xs) ys = by (test x) (position-append test (i + 1)
   where
     by : (b : Bool) → position_from test (i + 1) (xs ++ ys) ≡ option_or (position_from test (i + 1) xs) (position_from test (i + suc (length xs)) ys)
         → cond b (Some i) (position_from test (i + 1) (xs ++ ys))
-            ≡ option_or (cond b (Some i) (position_from test (i + 1) xs)) (position_from test (i + suc (length xs)) ys)
+        ≡ option_or (cond b (Some i) (position_from test (i + 1) xs)) (position_from test (i + suc (length xs)) ys)
     by true rest = refl
     by false rest = rest
 

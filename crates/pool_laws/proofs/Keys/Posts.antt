@@ -1,6 +1,6 @@
 -- What one more entry does to the accepted tasks: only an accepted post changes them, the post of a task stays, and the
 -- posts stay in order and of tasks of their own, as long as no task is posted twice.
-use Rattle.std.proofs.Common.{◌≡◌, ℕ, Bool, true, false, cond, eqb, List, [], ◌∷◌, ◌++◌, length, refl, sym, ap, ◌∙◌, subst, Some, None}
+use Rattle.std.proofs.Common.{◌≡◌, ℕ, Bool, true, false, cond, eqb, List, [], ◌∷◌, ◌++◌, length, refl, sym, Some, None}
 use Rattle.std.specs.Prelude.{find, nat_lt, ◌==◌}
 use Rattle.std.specs.Option.{option_or}
 use Rattle.std.specs.List.{AllByRecursion}
@@ -64,7 +64,7 @@ all_before : (past : List Entry) (xs : List Posted) (task home delay : ℕ) → 
     → find (λ p. eqb p.task task) xs ≡ None → AllByRecursion (λ p. Before p (post_behind past task home delay)) xs
 all_before past xs task home delay within none =
     AllByRecursion-map _ _ xs (λ p h. record { earlier = ltb-true p.place (length past) h.0; another = eqb-false p.task task h.1 })
-        (AllByRecursion-both _ _ xs within (others task xs none))
+    (AllByRecursion-both _ _ xs within (others task xs none))
 
 -- the posts stay in order, and of tasks of their own, at the post of a task that had none
 pub posts_in_order : (past : List Entry) (e : Entry) (task runner delay : ℕ) → e.kind ≡ Post task runner delay true → post_of past task ≡ None
@@ -78,4 +78,4 @@ pub main_posts_in_order : (past : List Entry) (e : Entry) (task queue delay : �
 main_posts_in_order past e task queue delay is none order =
     rw (main_posts_push past e, is)
     (in_order_push (main_posts past) (post_behind past task queue delay) order
-        (all_before past (main_posts past) task queue delay (main_posts_within past) none))
+    (all_before past (main_posts past) task queue delay (main_posts_within past) none))

@@ -13,7 +13,7 @@
 use Rattle.std.proofs.Common.{◌≡◌, ℕ, suc, ◌+◌, ◌<◌, ◌≤◌, subst, Bool, true, false, cond, List, [], ◌∷◌, ◌++◌, length, refl, ap, ◌∙◌, Option, Some, None, arith}
 use Rattle.std.specs.Option.{option_map, option_or}
 use Rattle.std.specs.Prelude.{nat_lt}
-use Rattle.std.specs.List.{filter_map, position_from, cons_option, AllByRecursion}
+use Rattle.std.specs.List.{filter_map, cons_option, AllByRecursion}
 use Rattle.std.proofs.lemmas.Option.{none-some}
 use Rattle.std.proofs.lemmas.Bool.{true≢false, ltb-true, lt-ltb, lt-leb}
 use Rattle.std.proofs.Math.Nat.{zero-add}
@@ -25,7 +25,7 @@ use Rattle.task_base.specs.declared.entry.Kind.TheVariants.{Post, Main, Tick}
 use Rattle.task_base.specs.declared.source.Key.{Key}
 use Rattle.task_model.specs.Time.{now_of, now_after, is_tick_from, tick_from}
 use Rattle.task_model.specs.Past.{fold_past, fold_past_from}
-use Rattle.task_model.specs.Posts.{Posted, is_delayed, post_behind, posted_by, posts, main_posted_by, main_posts}
+use Rattle.task_model.specs.Posts.{Posted, is_delayed, posted_by, posts, main_posted_by, main_posts}
 use Rattle.task_model.specs.Keys.{Ready, key_at, key_of, ready}
 use Rattle.pool_laws.specs.Keys.{tick_by, key_by, moves_ready, NoTickAhead, ready_behind, ready_at_tick_of}
 use Rattle.task_model.proofs.Growth.{now_of_push, posts_push}
@@ -50,7 +50,7 @@ key_of_push past e p = by (is_delayed p)
   where
     by : (b : Bool) → cond b (option_map (ticked p) (tick_from (past ++ e ∷ []) p.ripe)) (Some (key_at p.place))
         ≡ option_or (cond b (option_map (ticked p) (tick_from past p.ripe)) (Some (key_at p.place)))
-            (cond b (option_map (ticked p) (tick_by past p.ripe e.kind)) None)
+        (cond b (option_map (ticked p) (tick_by past p.ripe e.kind)) None)
     by true = rw (tick_from_push past e p.ripe) (option_map-or (ticked p) (tick_from past p.ripe) (tick_by past p.ripe e.kind))
     by false = refl
 
@@ -163,8 +163,8 @@ places_from added at before known (x ∷ rest) all =
     subst (λ n. AllByRecursion (within n) (fold_past_from (λ b k y. k ++ added b y.kind) (before ++ x ∷ []) (known ++ added before x.kind) rest)) longer
     (places_from added at (before ++ x ∷ []) (known ++ added before x.kind) rest
     (AllByRecursion-append _ _ _
-        (AllByRecursion-map _ _ _ (λ p. within_more (length before) (length (before ++ x ∷ [])) p (omega (arith, one))) all)
-        (AllByRecursion-map _ _ _ (λ p is. lt-ltb p.place (length (before ++ x ∷ [])) (omega (arith, one, is))) (at before x.kind))))
+    (AllByRecursion-map _ _ _ (λ p. within_more (length before) (length (before ++ x ∷ [])) p (omega (arith, one))) all)
+    (AllByRecursion-map _ _ _ (λ p is. lt-ltb p.place (length (before ++ x ∷ [])) (omega (arith, one, is))) (at before x.kind))))
   where
     one : length (before ++ x ∷ []) ≡ length before + 1
     one = length-append before (x ∷ [])

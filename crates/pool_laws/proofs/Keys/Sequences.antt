@@ -9,7 +9,7 @@
 use Rattle.std.proofs.Common.{◌≡◌, ℕ, ◌<◌, Bool, true, false, cond, eqb, List, [], ◌∷◌, ◌++◌, length, refl, sym, ap, ◌∙◌, Option, Some, None, arith}
 use Rattle.std.specs.Prelude.{is_none, not, ◌&&◌, ◌||◌, nat_lt, nat_le, filter, ◌+◌, if◌then◌else◌, ◌==◌}
 use Rattle.std.specs.Option.{option_map, option_or}
-use Rattle.std.specs.List.{list_any, filter_map, AllByRecursion}
+use Rattle.std.specs.List.{filter_map, AllByRecursion}
 use Rattle.std.proofs.lemmas.Bool.{true≢false, and_parts, ltb-true, le-ltb, lt-leb, ne_eqb}
 use Rattle.std.proofs.Math.Bool.{or-false, and-false, and_comm}
 use Rattle.std.proofs.lemmas.Option.{none-some}
@@ -27,12 +27,12 @@ use Rattle.list_laws.specs.Lists.{least}
 use Rattle.task_model.specs.Phase.{phase_of, phase_after, started_from}
 use Rattle.task_base.specs.declared.source.Key.{Key}
 use Rattle.task_model.specs.Time.{tick_from, now_of}
-use Rattle.task_model.specs.Posts.{Posted, is_delayed, posts, posted_by, is_taken, takes}
+use Rattle.task_model.specs.Posts.{Posted, is_delayed, posts, is_taken, takes}
 use Rattle.task_model.specs.Keys.{Ready, ready, key_at, key_of}
 use Rattle.task_model.specs.Refusal.{effective_at, is_forbidden}
 use Rattle.task_model.specs.Sequences.{is_of, may_start, eligible, head_of}
-use Rattle.pool_laws.specs.Keys.{moves_ready, moves_posts, tick_by, key_by, ready_behind, moves_sequences, joins, is_task_of, ready_below, ripe_at_tick_of, is_unripe, ready_at_tick_of}
-use Rattle.task_model.proofs.Growth.{posts_push, phase_of_push, is_taken_push}
+use Rattle.pool_laws.specs.Keys.{moves_ready, moves_posts, key_by, ready_behind, moves_sequences, joins, is_task_of, ready_below, ripe_at_tick_of, is_unripe, ready_at_tick_of}
+use Rattle.task_model.proofs.Growth.{phase_of_push, is_taken_push}
 use Rattle.list_laws.proofs.Lists.{some-injective, keep, filter-keep, filter_map_congr, filter_congr, filter_passes, filter_map_congr_in, filter-filter_map, AllByRecursion-both, filter-filter, filter_all, filter_never, least-push, AllByRecursion-map, AllByRecursion-filter}
 use Rattle.list_laws.proofs.Options.{option_or-none, AllByRecursion-not_any}
 use Rattle.pool_laws.proofs.Keys.Posts.{posts_same}
@@ -80,7 +80,7 @@ chosen_at script past e s kind is no_take no_phase xs =
 pub eligible_at_post : (script : Plan) (past : List Entry) (e : Entry) (s task runner delay : ℕ) → e.kind ≡ kinds.Post task runner delay true
     → nat_lt 0 delay ≡ false
     → eligible script (past ++ e ∷ []) s ≡ eligible script past s
-        ++ (if joins script past s task runner delay then ready_behind past task runner delay ∷ [] else [])
+    ++ (if joins script past s task runner delay then ready_behind past task runner delay ∷ [] else [])
 unfolding eligible
 eligible_at_post script past e s task runner delay is immediate =
     chosen_at script past e s (kinds.Post task runner delay true) is (λ t. refl) (λ phase. refl) (ready (past ++ e ∷ []))
@@ -124,9 +124,9 @@ no_member : (script : Plan) (past : List Entry) (s task : ℕ) → is_task_of sc
 unfolding eligible
 no_member script past s task none =
     AllByRecursion-map _ _ _ (λ r h. one (eqb r.posted.task task) _ _ h.0 h.1)
-        (AllByRecursion-both _ _ _
-            (AllByRecursion-filter _ _ _ (AllByRecursion-ready (λ p. (eqb p.task task && is_of script s p) ≡ false) past (AllByRecursion-not_any _ _ none)))
-            (filter_passes (chosen script past s) (ready past)))
+    (AllByRecursion-both _ _ _
+    (AllByRecursion-filter _ _ _ (AllByRecursion-ready (λ p. (eqb p.task task && is_of script s p) ≡ false) past (AllByRecursion-not_any _ _ none)))
+    (filter_passes (chosen script past s) (ready past)))
   where
     one : (t of may : Bool) → (t && of) ≡ false → (of && may) ≡ true → not t ≡ true
     one false of may h k = refl
@@ -178,7 +178,7 @@ startable script past s p = is_of script s p && may_start script past p
 -- the eligible tasks, by the posts of the sequence that may start
 pub eligible_by_posts : (script : Plan) (past : List Entry) (s : ℕ)
     → eligible script past s ≡ filter_map (λ p. option_map (λ key. record { posted = p; key = key }) (key_of past p))
-        (filter (λ p. is_of script s p && may_start script past p) (posts past))
+    (filter (λ p. is_of script s p && may_start script past p) (posts past))
 unfolding eligible ready
 eligible_by_posts script past s = sym (filter-filter_map _ _ _ _ (λ p r made. by p (key_of past p) r made))
   where
@@ -202,7 +202,7 @@ at_tick : (script : Plan) (past : List Entry) (e : Entry) (s moment : ℕ) → e
 at_tick script past e s moment is =
     posts_at_tick script past e s moment is
     ∙ filter_map_congr _ _ (filter (startable script past s) (posts past))
-        (λ p. ap (option_map (λ key. record { posted = p; key = key })) (key_of_push past e p ∙ rw is refl))
+    (λ p. ap (option_map (λ key. record { posted = p; key = key })) (key_of_push past e p ∙ rw is refl))
 
 -- the key of a tick has its place behind the past
 fresh_place : (past : List Entry) (p : Posted) (moment : ℕ) (key : Key) → key_by past p (kinds.Tick moment) ≡ Some key → nat_lt key.place (length past) ≡ false
@@ -241,7 +241,7 @@ at_tick_is past moment p within =
     old : (o : Option Key) → ((key : Key) → o ≡ Some key → nat_lt key.place (length past) ≡ true)
         → (keep (old_key past) (option_map made (option_or o (key_by past p (kinds.Tick moment)))) ≡ option_map made o)
         × (keep (λ r. not (old_key past r)) (option_map made (option_or o (key_by past p (kinds.Tick moment))))
-            ≡ cond (is_none o) (option_map made (key_by past p (kinds.Tick moment))) None)
+        ≡ cond (is_none o) (option_map made (key_by past p (kinds.Tick moment))) None)
     old None f = new (key_by past p (kinds.Tick moment)) (λ key is. fresh_place past p moment key is)
     old (Some key) f = (rw (f key refl) refl, rw (f key refl) refl)
 
@@ -274,8 +274,8 @@ pub eligible_at_other_tick : (script : Plan) (past : List Entry) (e : Entry) (s 
 eligible_at_other_tick script past e s moment is unripe =
     posts_at_tick script past e s moment is
     ∙ filter_map_congr_in _ _ _
-        (AllByRecursion-map _ _ _ (λ p known. ap (option_map (λ key. record { posted = p; key = key })) (same p known.0 known.1))
-            (AllByRecursion-both _ _ _ (AllByRecursion-filter _ _ _ unripe) (filter_passes _ (posts past))))
+    (AllByRecursion-map _ _ _ (λ p known. ap (option_map (λ key. record { posted = p; key = key })) (same p known.0 known.1))
+    (AllByRecursion-both _ _ _ (AllByRecursion-filter _ _ _ unripe) (filter_passes _ (posts past))))
     ∙ sym (eligible_by_posts script past s)
   where
     key : Posted → ℕ → Key
@@ -310,7 +310,7 @@ all_within script past s = AllByRecursion-filter _ _ _ (keys_within past)
 pub head_at_post : (script : Plan) (past : List Entry) (e : Entry) (s task runner delay : ℕ) → e.kind ≡ kinds.Post task runner delay true
     → nat_lt 0 delay ≡ false
     → head_of script (past ++ e ∷ []) s ≡ option_or (head_of script past s)
-        (if joins script past s task runner delay then Some (ready_behind past task runner delay) else None)
+    (if joins script past s task runner delay then Some (ready_behind past task runner delay) else None)
 unfolding head_of
 head_at_post script past e s task runner delay is immediate = ap (least ready_below) (eligible_at_post script past e s task runner delay is immediate)
     ∙ by (joins script past s task runner delay)
@@ -340,7 +340,7 @@ head_at_delayed_post script past e s task runner delay is delayed unripe = ap (l
 
 pub head_at_tick : (script : Plan) (past : List Entry) (e : Entry) (s moment : ℕ) → e.kind ≡ kinds.Tick moment
     → head_of script (past ++ e ∷ []) s ≡ least ready_below (filter (λ r. is_of script s r.posted && may_start script past r.posted)
-        (ready_at_tick_of past moment))
+    (ready_at_tick_of past moment))
 unfolding head_of
 head_at_tick script past e s moment is = ap (least ready_below) (eligible_at_tick script past e s moment is)
 

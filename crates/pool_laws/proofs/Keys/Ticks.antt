@@ -1,7 +1,7 @@
 -- What a tick does to the head of a sequence, and to its wait: the head that it had stays, and where it had none, the least of
 -- the tasks that become ripe is the head.
-use Rattle.std.proofs.Common.{◌≡◌, ℕ, suc, ◌<◌, ◌≤◌, Bool, true, false, cond, List, [], ◌∷◌, ◌++◌, length, refl, sym, ap, ◌∙◌, Option, Some, None, arith}
-use Rattle.std.specs.Prelude.{not, ◌&&◌, ◌||◌, ◌==◌, nat_lt, filter}
+use Rattle.std.proofs.Common.{◌≡◌, ℕ, ◌<◌, ◌≤◌, Bool, true, false, cond, List, [], ◌∷◌, ◌++◌, length, refl, sym, ap, ◌∙◌, Option, Some, None, arith}
+use Rattle.std.specs.Prelude.{not, ◌&&◌, nat_lt, filter}
 use Rattle.std.specs.Option.{option_map}
 use Rattle.std.proofs.lemmas.Bool.{ltb-true, ltb-false, lt-ltb, le-ltb, ne_eqb}
 use Rattle.std.proofs.lemmas.Option.{none-some}
@@ -91,7 +91,7 @@ pub head_stays_at_tick : (script : Plan) (past : List Entry) (e : Entry) (s mome
 unfolding head_of
 head_stays_at_tick script past e s moment r is head =
     least_leading ready_below (λ x. nat_lt x.key.place (length past)) (leads_by_place (length past)) (eligible script (past ++ e ∷ []) s) r
-        (ap (least ready_below) (eligible_old_at_tick script past e s moment is) ∙ head)
+    (ap (least ready_below) (eligible_old_at_tick script past e s moment is) ∙ head)
 
 -- a test that nothing passes is failed by all
 all_fail : {A : Type 0} (p : A → Bool) (xs : List A) → filter p xs ≡ [] → filter (λ x. not (p x)) xs ≡ xs
@@ -106,11 +106,11 @@ all_fail {A = A} p (x ∷ xs) h = by (p x) h (all_fail p xs)
 -- where there was none, the head is the least of those that become ripe
 pub head_new_at_tick : (script : Plan) (past : List Entry) (e : Entry) (s moment : ℕ) → e.kind ≡ kinds.Tick moment → head_of script past s ≡ None
     → head_of script (past ++ e ∷ []) s ≡ least ready_below (filter_map (ripe_at_tick_of past moment)
-        (filter (λ p. is_of script s p && may_start script past p) (posts past)))
+    (filter (λ p. is_of script s p && may_start script past p) (posts past)))
 unfolding head_of
 head_new_at_tick script past e s moment is none =
     ap (least ready_below)
-        (sym (all_fail _ _ (eligible_old_at_tick script past e s moment is ∙ no_head script past s none)) ∙ eligible_new_at_tick script past e s moment is)
+    (sym (all_fail _ _ (eligible_old_at_tick script past e s moment is ∙ no_head script past s none)) ∙ eligible_new_at_tick script past e s moment is)
 
 -- a sequence that waits goes on waiting at a tick, by the same head
 pub sequence_waiting_stays_at_tick : (script : Plan) (past : List Entry) (e : Entry) (s moment : ℕ) (c : Candidate) → e.kind ≡ kinds.Tick moment

@@ -14,7 +14,6 @@
 use Rattle.std.proofs.Common.{◌≡◌, ℕ, ◌+◌, ◌≤◌, Bool, true, false, cond, eqb, List, [], ◌∷◌, ◌++◌, length, refl, sym, ap, ◌∙◌, Option, Some, None, arith}
 use Rattle.std.specs.Prelude.{is_some, option_and_then, not, ◌&&◌, ◌||◌, is_none, nat_lt, ◌==◌}
 use Rattle.std.specs.List.{AllByRecursion}
-use Rattle.std.specs.Option.{option_map_or}
 use Rattle.std.proofs.lemmas.Bool.{true≢false, eqb-true, ne_eqb, or_parts, or_from}
 use Rattle.std.proofs.Math.Bool.{and-false}
 use Rattle.task_base.specs.Plan.{Plan}
@@ -26,12 +25,12 @@ use Rattle.list_laws.specs.Lists.{count, holds_of}
 use Rattle.task_model.specs.Time.{now_of, now_after}
 use Rattle.task_model.specs.Seats.{Running, Holding, running, running_after, holding, holding_after, is_free, worker_seats}
 use Rattle.task_base.specs.Groups.{Group, group_of, is_best_effort, has_come}
-use Rattle.task_model.specs.Capacity.{OpenScope, limit, best_limit, priority_of, priority_of_job, priority_of_holding, taken_with, work_at, is_in, is_best_in, load_of, open_scope, scope_after, scope_counts, is_blocked, blocked_of, load, best_load, capacity, best_capacity, has_room}
+use Rattle.task_model.specs.Capacity.{OpenScope, priority_of, priority_of_job, priority_of_holding, work_at, is_in, is_best_in, load_of, open_scope, scope_after, scope_counts, is_blocked, blocked_of, load, best_load, capacity, best_capacity, has_room}
 use Rattle.pool_laws.specs.Seats.{priority_of_running, moves_main, moves_running, moves_holding, moves_seats, holds_job}
 use Rattle.pool_laws.specs.Room.{share, IsWorker, Loads, Capacities, moves_capacity, runs_task, scopes, moves_room}
 use Rattle.task_model.proofs.Growth.{now_of_push, open_scope_push}
 use Rattle.list_laws.proofs.Lists.{eqb-same, filter_congr_in, count_change_in, range_with, AllByRecursion-range, AllByRecursion-always}
-use Rattle.pool_laws.proofs.Seats.Running.{taken_with_is, running_here, running_other, running_same, holding_here, holding_other, holding_same, seats_parts}
+use Rattle.pool_laws.proofs.Seats.Running.{taken_with_is, running_here, running_other, running_same, holding_here, holding_other, holding_same}
 use Rattle.task_base.specs.declared.step.Scope.{Scope}
 
 worker_once : (script : Plan) (seat : ℕ) → IsWorker script seat → count (λ x. eqb seat x) (worker_seats script) ≡ 1
@@ -47,12 +46,12 @@ not_driver script e seat driver worker = let from : 1 ≤ seat = worker.0 in ne_
 
 -- Work.
 
--- the priority of what a seat does, by what it runs and holds
-abbrev work : Plan → Option Running → Option Holding → Option Priority
+-- the priority of what a seat does, by the runner of the task that it runs, or the job of the item that it holds
+abbrev pub work : Plan → Option Running → Option Holding → Option Priority
 work script None held = priority_of_holding script held
 work script (Some w) held = priority_of_running script w
 
-work_is : (script : Plan) (past : List Entry) (seat : ℕ) → work_at script past seat ≡ work script (running past seat) (holding past seat)
+pub work_is : (script : Plan) (past : List Entry) (seat : ℕ) → work_at script past seat ≡ work script (running past seat) (holding past seat)
 work_is script past seat = rw (taken_with_is script past seat) (by (running past seat))
   where
     by : (run : Option Running) → cond (is_some run) (option_and_then (priority_of_running script) run) (priority_of_holding script (holding past seat))
@@ -134,7 +133,7 @@ pub load_same : (script : Plan) (past : List Entry) (e : Entry) (group : Group) 
 load_same script past e group quiet =
     let parts : (moves_running e.kind ≡ false) × (moves_holding e.kind ≡ false) = or_parts _ _ quiet in
     loads_kept script past (past ++ e ∷ []) group
-        (λ seat is. work_same script past (past ++ e ∷ []) seat (running_same past e seat parts.0) (holding_same past e seat parts.1))
+    (λ seat is. work_same script past (past ++ e ∷ []) seat (running_same past e seat parts.0) (holding_same past e seat parts.1))
 
 -- the driver's work is not counted
 pub load_at_driver : (script : Plan) (past : List Entry) (e : Entry) (group : Group) → e.seat ≡ 0
@@ -197,7 +196,7 @@ load_at_leave script past e group job id item value is worker none held =
 
 -- Blocked seats.
 
--- whether a seat is blocked, by the moment, the open scopes, and what it runs
+-- whether a seat is blocked, by the moment, the open scopes, and the runner of the task that it runs
 abbrev pub blocked : Plan → (Priority → Bool) → ℕ → (ℕ → Option OpenScope) → Option Running → Bool
 blocked script test now scope run = holds_of (λ w. holds_of test (priority_of_running script w)
     && holds_of (λ opened. has_come opened.scope (opened.since + script.threshold) now) (scope w.task)) run
@@ -260,7 +259,7 @@ blocked_change : (script : Plan) (past : List Entry) (e : Entry) (test : Priorit
     → blocked_of script past test + share c ≡ blocked_of script (past ++ e ∷ []) test + share b
 blocked_change script past e test b c worker others before after =
     count_change_in (λ x. eqb e.seat x) _ _ b c _ (worker_once script e.seat worker) (λ x here. rw (← eqb-true e.seat x here) before)
-        (λ x here. rw (← eqb-true e.seat x here) after) (workers _ script (λ x w other. sym (others x w other)))
+    (λ x here. rw (← eqb-true e.seat x here) after) (workers _ script (λ x w other. sym (others x w other)))
 
 -- the moment and the scopes after an entry that is no tick, and opens and closes nothing of the task
 now_kept : (past : List Entry) (e : Entry) (kind : Kind) → e.kind ≡ kind → ((n : ℕ) → now_after n kind ≡ n) → now_of (past ++ e ∷ []) ≡ now_of past
@@ -323,7 +322,8 @@ capacity_at_main script past e group main driver = capacities_kept script past (
 capacities_here : (script : Plan) (past : List Entry) (e : Entry) (group : Group) → now_of (past ++ e ∷ []) ≡ now_of past → ((t : ℕ) → scopes t e.kind ≡ false)
     → ((test : Priority → Bool) → is_blocked script (past ++ e ∷ []) test e.seat ≡ is_blocked script past test e.seat)
     → Capacities script (past ++ e ∷ []) group (capacity script past group) (best_capacity script past group)
-capacities_here script past e group still quiet same = capacities_kept script past (past ++ e ∷ []) group (λ test seat worker. by test seat (eqb e.seat seat) refl)
+capacities_here script past e group still quiet same =
+    capacities_kept script past (past ++ e ∷ []) group (λ test seat worker. by test seat (eqb e.seat seat) refl)
   where
     by : (test : Priority → Bool) (seat : ℕ) (b : Bool) → eqb e.seat seat ≡ b → is_blocked script (past ++ e ∷ []) test seat ≡ is_blocked script past test seat
     by test seat true here = rw (← eqb-true e.seat seat here) (same test)
@@ -341,7 +341,7 @@ pub capacity_at_take : (script : Plan) (past : List Entry) (e : Entry) (group : 
 capacity_at_take script past e group task runner found is free none =
     capacities_here script past e group (now_kept past e (Take task runner found) is (λ n. refl)) (λ t. rw is refl)
     (λ test. rw (blocked_here script past e test, becomes, blocked_is script past test e.seat, free)
-        (unblocked script test (now_of (past ++ e ∷ [])) (open_scope (past ++ e ∷ [])) taken (rw (scope_kept past e task (ap (scopes task) is)) none)))
+    (unblocked script test (now_of (past ++ e ∷ [])) (open_scope (past ++ e ∷ [])) taken (rw (scope_kept past e task (ap (scopes task) is)) none)))
   where
     taken : Running
     taken = record { task = task; home = runner; found = found; is_main = false }
@@ -356,7 +356,7 @@ pub capacity_at_end : (script : Plan) (past : List Entry) (e : Entry) (group : G
 capacity_at_end script past e group task left w is runs none =
     capacities_here script past e group (now_kept past e (End task left) is (λ n. refl)) (λ t. rw is refl)
     (λ test. rw (blocked_here script past e test, blocked_is script past test e.seat, is, runs)
-        (sym (unblocked script test (now_of past) (open_scope past) w none)))
+    (sym (unblocked script test (now_of past) (open_scope past) w none)))
 
 -- where it has not, its scope counts no more
 pub capacity_at_open_end : (script : Plan) (past : List Entry) (e : Entry) (group : Group) (task left : ℕ) (w : Running) → e.kind ≡ End task left
@@ -364,9 +364,9 @@ pub capacity_at_open_end : (script : Plan) (past : List Entry) (e : Entry) (grou
     → running past e.seat ≡ Some w → w.is_main ≡ false
     → Capacities script past group
     (capacity script (past ++ e ∷ []) group + share (is_in script group (priority_of script w.home)
-        && holds_of (scope_counts script past) (open_scope past w.task)))
+    && holds_of (scope_counts script past) (open_scope past w.task)))
     (best_capacity script (past ++ e ∷ []) group + share (is_best_in script group (priority_of script w.home)
-        && holds_of (scope_counts script past) (open_scope past w.task)))
+    && holds_of (scope_counts script past) (open_scope past w.task)))
 capacity_at_open_end script past e group task left w is worker runs pool =
     capacities_from script (past ++ e ∷ []) past group (priority_of script w.home) counts by
   where
@@ -374,9 +374,12 @@ capacity_at_open_end script past e group task left w is worker runs pool =
     counts = holds_of (scope_counts script past) (open_scope past w.task)
 
     by : (test : Priority → Bool) → blocked_of script past test ≡ blocked_of script (past ++ e ∷ []) test + share (test (priority_of script w.home) && counts)
-    by test = omega (arith, blocked_change script past e test (test (priority_of script w.home) && counts) false worker
-        (λ seat at other. blocked_other script past e test seat other (now_kept past e (End task left) is (λ n. refl)) (λ t. rw is refl))
-        (rw (blocked_is script past test e.seat, runs, pool) refl) (rw (blocked_here script past e test, is) refl))
+    by test = omega (
+      arith,
+      blocked_change script past e test (test (priority_of script w.home) && counts) false worker
+          (λ seat at other. blocked_other script past e test seat other (now_kept past e (End task left) is (λ n. refl)) (λ t. rw is refl))
+          (rw (blocked_is script past test e.seat, runs, pool) refl) (rw (blocked_here script past e test, is) refl),
+    )
 
 -- an entry that opens or closes a scope of the task leaves the moment, what the seats run, and the other scopes
 record ScopeFacts (past : List Entry) (e : Entry) (task : ℕ) : Type 0 where
@@ -386,7 +389,7 @@ record ScopeFacts (past : List Entry) (e : Entry) (task : ℕ) : Type 0 where
 
 scope_facts : (past : List Entry) (e : Entry) (task : ℕ) → scopes task e.kind ≡ true → ScopeFacts past e task
 scope_facts past e task is = record
-  { now = now_kept past e e.kind refl (no_tick e.kind is); run = λ seat. running_same past e seat (no_run e.kind is); others = others e.kind is }
+    { now = now_kept past e e.kind refl (no_tick e.kind is); run = λ seat. running_same past e seat (no_run e.kind is); others = others e.kind is }
   where
     no_tick : (kind : Kind) → scopes task kind ≡ true → (n : ℕ) → now_after n kind ≡ n
     no_tick (Tick now) h n = absurd (true≢false (sym h))
@@ -429,7 +432,7 @@ pub capacity_at_enter : (script : Plan) (past : List Entry) (e : Entry) (group :
     → Capacities script (past ++ e ∷ []) group
     (capacity script past group + share (is_in script group (priority_of script w.home) && has_come scope (now_of past + script.threshold) (now_of past)))
     (best_capacity script past group + share (is_best_in script group (priority_of script w.home)
-        && has_come scope (now_of past + script.threshold) (now_of past)))
+    && has_come scope (now_of past + script.threshold) (now_of past)))
 capacity_at_enter script past e group task scope w is worker runs pool its none alone =
     capacities_from script past (past ++ e ∷ []) group (priority_of script w.home) counts by
   where
@@ -446,11 +449,14 @@ capacity_at_enter script past e group task scope w is worker runs pool its none 
     now_open = rw (its, open_scope_push past e task, is, eqb-same task) refl
 
     by : (test : Priority → Bool) → blocked_of script (past ++ e ∷ []) test ≡ blocked_of script past test + share (test (priority_of script w.home) && counts)
-    by test = omega (arith, blocked_change script past e test false (test (priority_of script w.home) && counts) worker
-        (λ seat at other. blocked_apart script past e task test seat entered (alone seat at other))
-        (rw (blocked_is script past test e.seat, runs) (unblocked script test (now_of past) (open_scope past) w (rw its none)))
-        (rw (blocked_is script (past ++ e ∷ []) test e.seat, facts.run e.seat, runs, facts.now)
-            (blocked_by script test (now_of past) (open_scope (past ++ e ∷ [])) w (record { scope = scope; since = now_of past }) pool now_open)))
+    by test = omega (
+      arith,
+      blocked_change script past e test false (test (priority_of script w.home) && counts) worker
+          (λ seat at other. blocked_apart script past e task test seat entered (alone seat at other))
+          (rw (blocked_is script past test e.seat, runs) (unblocked script test (now_of past) (open_scope past) w (rw its none)))
+          (rw (blocked_is script (past ++ e ∷ []) test e.seat, facts.run e.seat, runs, facts.now)
+          (blocked_by script test (now_of past) (open_scope (past ++ e ∷ [])) w (record { scope = scope; since = now_of past }) pool now_open)),
+    )
 
 -- a scope that is closed counts no more, if it did
 pub capacity_at_leave : (script : Plan) (past : List Entry) (e : Entry) (group : Group) (task : ℕ) (opened : OpenScope) (w : Running) → e.kind ≡ Leave task
@@ -471,11 +477,14 @@ capacity_at_leave script past e group task opened w is worker runs pool its was_
 
     by : (test : Priority → Bool) → blocked_of script past test ≡ blocked_of script (past ++ e ∷ []) test
         + share (test (priority_of script w.home) && scope_counts script past opened)
-    by test = omega (arith, blocked_change script past e test (test (priority_of script w.home) && scope_counts script past opened) false worker
-        (λ seat at other. blocked_apart script past e task test seat left (alone seat at other))
-        (rw (blocked_is script past test e.seat, runs) (blocked_by script test (now_of past) (open_scope past) w opened pool (rw its was_open)))
-        (rw (blocked_is script (past ++ e ∷ []) test e.seat, (scope_facts past e task left).run e.seat, runs)
-            (unblocked script test (now_of (past ++ e ∷ [])) (open_scope (past ++ e ∷ [])) w now_closed)))
+    by test = omega (
+      arith,
+      blocked_change script past e test (test (priority_of script w.home) && scope_counts script past opened) false worker
+          (λ seat at other. blocked_apart script past e task test seat left (alone seat at other))
+          (rw (blocked_is script past test e.seat, runs) (blocked_by script test (now_of past) (open_scope past) w opened pool (rw its was_open)))
+          (rw (blocked_is script (past ++ e ∷ []) test e.seat, (scope_facts past e task left).run e.seat, runs)
+          (unblocked script test (now_of (past ++ e ∷ [])) (open_scope (past ++ e ∷ [])) w now_closed)),
+    )
 
 -- Room.
 
@@ -507,8 +516,8 @@ pub has_room_same : (script : Plan) (past : List Entry) (e : Entry) (priority : 
 has_room_same script past e priority quiet =
     let parts : (moves_capacity e.kind ≡ false) × (moves_holding e.kind ≡ false) = or_parts _ _ quiet in
     room_at script past (past ++ e ∷ []) priority
-        (load_same script past e (group_of script priority) (or_from _ _ (no_running e.kind parts.0) parts.1))
-        (capacity_same script past e (group_of script priority) parts.0)
+    (load_same script past e (group_of script priority) (or_from _ _ (no_running e.kind parts.0) parts.1))
+    (capacity_same script past e (group_of script priority) parts.0)
 
 pub room_at_main : (script : Plan) (past : List Entry) (e : Entry) (priority : Priority) → moves_main e.kind ≡ true → e.seat ≡ 0
     → has_room script (past ++ e ∷ []) priority ≡ has_room script past priority

@@ -5,7 +5,7 @@
 --
 -- Where the moment does not fall, a tick makes neither what may run nor the room less, since a scope that counts goes on
 -- counting; and it leaves both where no open scope begins to count.
-use Rattle.std.proofs.Common.{◌≡◌, ℕ, ◌+◌, ◌<◌, ◌≤◌, Bool, true, false, List, [], ◌∷◌, ◌++◌, refl, sym, ap, ◌∙◌, Option, Some, None, arith}
+use Rattle.std.proofs.Common.{◌≡◌, ℕ, ◌+◌, ◌<◌, ◌≤◌, Bool, true, false, List, [], ◌∷◌, ◌++◌, refl, sym, ap, Option, Some, None, arith}
 use Rattle.std.specs.Prelude.{not, ◌&&◌, ◌||◌, nat_lt, ◌==◌}
 use Rattle.std.proofs.lemmas.Bool.{not-true, and_from, and_parts, ltb-true, lt-ltb, leb-true, le-leb}
 use Rattle.std.proofs.Math.Nat.{add-zero}
@@ -16,12 +16,12 @@ use Rattle.task_base.specs.declared.step.Scope.{Scope}
 use Rattle.task_base.specs.declared.step.Scope.TheVariants.{May, Will}
 use Rattle.task_traits.specs.declared.traits.Priority.{Priority}
 use Rattle.list_laws.specs.Lists.{holds_of}
-use Rattle.task_model.specs.Time.{now_of, now_after}
+use Rattle.task_model.specs.Time.{now_of}
 use Rattle.task_model.specs.Seats.{Running, running, worker_seats, is_free, holding}
 use Rattle.task_base.specs.Groups.{Group, is_best_effort, group_of, has_come}
 use Rattle.task_model.specs.Capacity.{OpenScope, limit, best_limit, priority_of, priority_of_job, is_in, is_best_in, open_scope, scope_counts, is_blocked, blocked_of, load, best_load, capacity, best_capacity, has_room, HasRoom}
 use Rattle.pool_laws.specs.Seats.{priority_of_running, moves_running, moves_seats, holds_job}
-use Rattle.pool_laws.specs.Room.{share, IsWorker, Loads, Capacities, moves_capacity, scopes, is_apart, CapacityKept, runs_task, NoneComes}
+use Rattle.pool_laws.specs.Room.{IsWorker, Loads, Capacities, moves_capacity, scopes, is_apart, CapacityKept, runs_task, NoneComes}
 use Rattle.task_model.proofs.Growth.{now_of_push}
 use Rattle.list_laws.proofs.Lists.{count_mono}
 use Rattle.pool_laws.proofs.Seats.Running.{running_same}
@@ -47,11 +47,11 @@ room_at_driver script past e priority driver quiet = room_at script past (past +
 pub room_at_other_take : (script : Plan) (past : List Entry) (e : Entry) (priority : Priority) (task runner found : ℕ) → e.kind ≡ Take task runner found
     → IsWorker script e.seat → is_free past e.seat ≡ true
     → open_scope past task ≡ None → is_apart script (priority_of script runner) priority ≡ true
-        → has_room script (past ++ e ∷ []) priority ≡ has_room script past priority
+    → has_room script (past ++ e ∷ []) priority ≡ has_room script past priority
 room_at_other_take script past e priority task runner found is worker free none apart =
     room_at script past (past ++ e ∷ []) priority
-        (simp (not-true _ apart, add-zero) at (load_at_take script past e (group_of script priority) task runner found is worker free))
-        (capacity_at_take script past e (group_of script priority) task runner found is (free_parts past e.seat free).0 none)
+    (simp (not-true _ apart, add-zero) at (load_at_take script past e (group_of script priority) task runner found is worker free))
+    (capacity_at_take script past e (group_of script priority) task runner found is (free_parts past e.seat free).0 none)
 
 pub room_at_other_end : (script : Plan) (past : List Entry) (e : Entry) (priority : Priority) (task left : ℕ) (w : Running) → e.kind ≡ End task left
     → IsWorker script e.seat
@@ -59,17 +59,17 @@ pub room_at_other_end : (script : Plan) (past : List Entry) (e : Entry) (priorit
     → is_apart script (priority_of script w.home) priority ≡ true → has_room script (past ++ e ∷ []) priority ≡ has_room script past priority
 room_at_other_end script past e priority task left w is worker runs pool none apart =
     room_at script past (past ++ e ∷ []) priority
-        (loads_turned (simp (not-true _ apart, add-zero) at (load_at_end script past e (group_of script priority) task left w is worker runs pool none)))
-        (capacities_turned
-            (simp (not-true _ apart, add-zero) at (capacity_at_open_end script past e (group_of script priority) task left w is worker runs pool)))
+    (loads_turned (simp (not-true _ apart, add-zero) at (load_at_end script past e (group_of script priority) task left w is worker runs pool none)))
+    (capacities_turned
+    (simp (not-true _ apart, add-zero) at (capacity_at_open_end script past e (group_of script priority) task left w is worker runs pool)))
 
 pub room_at_other_job_take : (script : Plan) (past : List Entry) (e : Entry) (priority : Priority) (job id item : ℕ) → e.kind ≡ JobTake job id item
     → IsWorker script e.seat → is_free past e.seat ≡ true
     → is_apart script (priority_of_job script job) priority ≡ true → has_room script (past ++ e ∷ []) priority ≡ has_room script past priority
 room_at_other_job_take script past e priority job id item is worker free apart =
     room_at script past (past ++ e ∷ []) priority
-        (simp (not-true _ apart, add-zero) at (load_at_job_take script past e (group_of script priority) job id item is worker free))
-        (capacity_same script past e (group_of script priority) (ap moves_capacity is))
+    (simp (not-true _ apart, add-zero) at (load_at_job_take script past e (group_of script priority) job id item is worker free))
+    (capacity_same script past e (group_of script priority) (ap moves_capacity is))
 
 -- a worker that claims the next item leaves the room of all
 pub room_at_step : (script : Plan) (past : List Entry) (e : Entry) (priority : Priority) (job id item value next : ℕ)
@@ -77,7 +77,7 @@ pub room_at_step : (script : Plan) (past : List Entry) (e : Entry) (priority : P
     → has_room script (past ++ e ∷ []) priority ≡ has_room script past priority
 room_at_step script past e priority job id item value next is held =
     room_at script past (past ++ e ∷ []) priority (load_at_step script past e (group_of script priority) job id item value next is held)
-        (capacity_same script past e (group_of script priority) (ap moves_capacity is))
+    (capacity_same script past e (group_of script priority) (ap moves_capacity is))
 
 pub room_at_other_job_leave : (script : Plan) (past : List Entry) (e : Entry) (priority : Priority) (job id item value : ℕ)
     → e.kind ≡ JobStep job id item value None → IsWorker script e.seat
@@ -85,8 +85,8 @@ pub room_at_other_job_leave : (script : Plan) (past : List Entry) (e : Entry) (p
     → is_apart script (priority_of_job script job) priority ≡ true → has_room script (past ++ e ∷ []) priority ≡ has_room script past priority
 room_at_other_job_leave script past e priority job id item value is worker none held apart =
     room_at script past (past ++ e ∷ []) priority
-        (loads_turned (simp (not-true _ apart, add-zero) at (load_at_leave script past e (group_of script priority) job id item value is worker none held)))
-        (capacity_same script past e (group_of script priority) (ap moves_capacity is))
+    (loads_turned (simp (not-true _ apart, add-zero) at (load_at_leave script past e (group_of script priority) job id item value is worker none held)))
+    (capacity_same script past e (group_of script priority) (ap moves_capacity is))
 
 pub room_at_other_enter : (script : Plan) (past : List Entry) (e : Entry) (priority : Priority) (task : ℕ) (scope : Scope) (w : Running)
     → e.kind ≡ Enter task scope → IsWorker script e.seat
@@ -95,8 +95,8 @@ pub room_at_other_enter : (script : Plan) (past : List Entry) (e : Entry) (prior
     → is_apart script (priority_of script w.home) priority ≡ true → has_room script (past ++ e ∷ []) priority ≡ has_room script past priority
 room_at_other_enter script past e priority task scope w is worker runs pool its none alone apart =
     room_at script past (past ++ e ∷ []) priority (load_same script past e (group_of script priority) (ap moves_seats is))
-        (simp (not-true _ apart, add-zero) at
-            (capacity_at_enter script past e (group_of script priority) task scope w is worker runs pool its none alone))
+    (simp (not-true _ apart, add-zero) at
+    (capacity_at_enter script past e (group_of script priority) task scope w is worker runs pool its none alone))
 
 pub room_at_other_leave : (script : Plan) (past : List Entry) (e : Entry) (priority : Priority) (task : ℕ) (opened : OpenScope) (w : Running)
     → e.kind ≡ Leave task → IsWorker script e.seat
@@ -105,8 +105,8 @@ pub room_at_other_leave : (script : Plan) (past : List Entry) (e : Entry) (prior
     → is_apart script (priority_of script w.home) priority ≡ true → has_room script (past ++ e ∷ []) priority ≡ has_room script past priority
 room_at_other_leave script past e priority task opened w is worker runs pool its some alone apart =
     room_at script past (past ++ e ∷ []) priority (load_same script past e (group_of script priority) (ap moves_seats is))
-        (capacities_turned (simp (not-true _ apart, add-zero) at
-            (capacity_at_leave script past e (group_of script priority) task opened w is worker runs pool its some alone)))
+    (capacities_turned (simp (not-true _ apart, add-zero) at
+    (capacity_at_leave script past e (group_of script priority) task opened w is worker runs pool its some alone)))
 
 -- Ticks.
 
@@ -143,15 +143,18 @@ blocked_at_tick script past e moment test seat is =
 pub capacity_at_tick : (script : Plan) (past : List Entry) (e : Entry) (group : Group) (moment : ℕ) → e.kind ≡ Tick moment → now_of past ≤ moment
     → CapacityKept script past (past ++ e ∷ []) group
 unfolding capacity best_capacity
-capacity_at_tick script past e group moment is le = record { all_le = more (limit script group) (is_in script group); best_le = more (best_limit script group)
-    (is_best_in script group) }
+capacity_at_tick script past e group moment is le = record {
+  all_le = more (limit script group) (is_in script group);
+  best_le = more (best_limit script group)
+      (is_best_in script group);
+}
   where
     more : (n : ℕ) (test : Priority → Bool) → n + blocked_of script past test ≤ n + blocked_of script (past ++ e ∷ []) test
     more n test =
         let grown : blocked_of script past test ≤ blocked_of script (past ++ e ∷ []) test =
         count_mono _ _ (worker_seats script)
-            (λ seat h. rw (blocked_at_tick script past e moment test seat is)
-                (blocked_later script _ _ _ _ (running past seat) le (rw (blocked_is script past test seat) at h))) in
+        (λ seat h. rw (blocked_at_tick script past e moment test seat is)
+        (blocked_later script _ _ _ _ (running past seat) le (rw (blocked_is script past test seat) at h))) in
         omega (arith, grown)
 
 -- two tests that follow from each other
@@ -165,7 +168,8 @@ pub capacity_at_quiet_tick : (script : Plan) (past : List Entry) (e : Entry) (gr
     → NoneComes script past moment
     → Capacities script (past ++ e ∷ []) group (capacity script past group) (best_capacity script past group)
 capacity_at_quiet_tick script past e group moment is le none = capacities_kept script past (past ++ e ∷ []) group
-    (λ test seat worker. rw (blocked_at_tick script past e moment test seat is, blocked_is script past test seat) (by test seat worker (running past seat) refl))
+    (λ test seat worker. rw (blocked_at_tick script past e moment test seat is, blocked_is script past test seat)
+    (by test seat worker (running past seat) refl))
   where
     come : (seat : ℕ) → IsWorker script seat → (w : Running) → running past seat ≡ Some w → (o : Option OpenScope) → open_scope past w.task ≡ o
         → holds_of (λ opened. has_come opened.scope (opened.since + script.threshold) moment) o ≡ holds_of (scope_counts script past) o
@@ -187,7 +191,7 @@ pub room_at_tick : (script : Plan) (past : List Entry) (e : Entry) (priority : P
 room_at_tick script past e priority moment is le room =
     let parts = and_parts _ _ (rw (room_by_numbers script past priority) at room) in
     rw (room_by_numbers script (past ++ e ∷ []) priority)
-        (and_from _ _ (more_room _ _ _ _ loads.all_is kept.all_le parts.0) (by (not (is_best_effort priority)) parts.1))
+    (and_from _ _ (more_room _ _ _ _ loads.all_is kept.all_le parts.0) (by (not (is_best_effort priority)) parts.1))
   where
     group : Group
     group = group_of script priority

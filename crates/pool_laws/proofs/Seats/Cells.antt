@@ -1,13 +1,12 @@
 -- What one more entry does to the cells: the end of a task leaves its value in the cell of its sequence, the end of a main
 -- task in that of its queue. No other kind changes a cell, and no end that of another sequence or queue.
-use Rattle.std.proofs.Common.{◌≡◌, false, cond, eqb, refl, ap, ◌∙◌}
-use Rattle.std.specs.Prelude.{not, ◌&&◌, ℕ, List, [], ◌∷◌, ◌++◌, ◌==◌, if◌then◌else◌, Some, true}
+use Rattle.std.proofs.Common.{◌≡◌, false, refl, ◌∙◌}
+use Rattle.std.specs.Prelude.{ℕ, List, [], ◌∷◌, ◌++◌, ◌==◌, if◌then◌else◌, Some, true}
 use Rattle.std.proofs.lemmas.Bool.{true≢false}
 use Rattle.task_base.specs.declared.entry.Kind.{Kind}
 use Rattle.task_base.specs.declared.entry.Kind.TheVariants.{End, MainEnd}
-use Rattle.list_laws.specs.Lists.{holds_of}
 use Rattle.task_base.specs.Runners.{sequence_of}
-use Rattle.task_model.specs.Seats.{runs_of, Running, running}
+use Rattle.task_model.specs.Seats.{Running, running}
 use Rattle.task_model.specs.Cells.{cell_of, cell_after, main_cell_of, main_cell_after}
 use Rattle.pool_laws.specs.Seats.{moves_cells, moves_main_cells}
 use Rattle.task_model.proofs.Growth.{cell_of_push, main_cell_of_push}

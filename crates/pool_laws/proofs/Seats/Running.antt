@@ -10,9 +10,8 @@
 -- its next item. No other kind changes that, and no entry of another job.
 --
 -- All is quiet exactly where each seat is free, and a sequence runs exactly where a seat runs a task of it.
-use Rattle.std.proofs.Common.{◌≡◌, ℕ, ◌+◌, Bool, true, false, cond, eqb, List, [], ◌∷◌, ◌++◌, length, refl, sym, ap, ◌∙◌, Option, Some, None, arith}
-use Rattle.std.specs.Prelude.{not, ◌&&◌, ◌||◌, is_none, option_and_then, slice_get, filter, fold, ◌==◌, if◌then◌else◌}
-use Rattle.std.specs.List.{list_any}
+use Rattle.std.proofs.Common.{◌≡◌, ℕ, ◌+◌, Bool, true, false, cond, eqb, List, [], ◌∷◌, ◌++◌, length, refl, sym, ◌∙◌, Option, Some, None, arith}
+use Rattle.std.specs.Prelude.{not, ◌||◌, option_and_then, fold, ◌==◌, if◌then◌else◌}
 use Rattle.std.proofs.lemmas.Bool.{true≢false, eqb-true, or_parts}
 use Rattle.std.proofs.Math.Bool.{and-true}
 use Rattle.std.proofs.lemmas.List.Sums.{fold-append}
@@ -22,8 +21,7 @@ use Rattle.task_base.specs.declared.entry.Kind.{Kind}
 use Rattle.task_base.specs.declared.entry.Kind.TheVariants.{Take, End, MainTake, MainEnd, JobTake, JobStep}
 use Rattle.list_laws.specs.Lists.{count, holds_of}
 use Rattle.task_base.specs.Runners.{sequence_of}
-use Rattle.task_base.specs.Steps.{is_act}
-use Rattle.task_model.specs.Seats.{Running, Holding, running, running_after, holding, holding_after, acts_done, acts_after, is_free, is_quiet, runs_of, runs_sequence, inside, all_seats, steps_of, next_act}
+use Rattle.task_model.specs.Seats.{Running, Holding, running, running_after, holding, holding_after, acts_done, is_free, is_quiet, runs_of, runs_sequence, inside, all_seats, next_act}
 use Rattle.task_model.specs.Capacity.{taken_after, taken_with}
 use Rattle.pool_laws.specs.Seats.{priority_of_running, moves_main, moves_running, moves_holding, IsSeat, moves_seats, runs_pool_task, holds_job}
 use Rattle.task_model.proofs.Growth.{running_push, holding_push, acts_done_push}
@@ -58,7 +56,7 @@ next_act_other script past e seat other = rw (running_other past e seat other, a
 -- what one more entry does to the priority that a seat's task was taken with
 pub taken_with_push : (script : Plan) (past : List Entry) (e : Entry) (seat : ℕ)
     → taken_with script (past ++ e ∷ []) seat
-        ≡ (if e.seat == seat then taken_after script (taken_with script past seat) e.kind else taken_with script past seat)
+    ≡ (if e.seat == seat then taken_after script (taken_with script past seat) e.kind else taken_with script past seat)
 unfolding taken_with
 taken_with_push script past e seat = fold-append (λ now x. cond (eqb x.seat seat) (taken_after script now x.kind) now) None past (e ∷ [])
 
@@ -78,13 +76,13 @@ taken_with_is script past seat = from None past
 
     step : (now : Option Running) (b : Bool) (kind : Kind)
         → cond b (taken_after script (option_and_then (priority_of_running script) now) kind) (option_and_then (priority_of_running script) now)
-            ≡ option_and_then (priority_of_running script) (cond b (running_after now kind) now)
+        ≡ option_and_then (priority_of_running script) (cond b (running_after now kind) now)
     step now true kind = after now kind
     step now false kind = refl
 
     from : (now : Option Running) (rest : List Entry)
         → fold (λ before x. cond (eqb x.seat seat) (taken_after script before x.kind) before) (option_and_then (priority_of_running script) now) rest
-            ≡ option_and_then (priority_of_running script) (fold (λ before x. cond (eqb x.seat seat) (running_after before x.kind) before) now rest)
+        ≡ option_and_then (priority_of_running script) (fold (λ before x. cond (eqb x.seat seat) (running_after before x.kind) before) now rest)
     from now [] = refl
     from now (x ∷ rest) = rw (step now (eqb x.seat seat) x.kind) (from (cond (eqb x.seat seat) (running_after now x.kind) now) rest)
 
@@ -196,8 +194,8 @@ pub runs_at_take : (script : Plan) (past : List Entry) (e : Entry) (s task runne
 unfolding runs_sequence
 runs_at_take script past e s task runner found is seat free =
     any_change (λ x. eqb e.seat x) _ _ (eqb (sequence_of script runner task) s) _
-        (λ x here. rw (← eqb-true e.seat x here, free) refl) (λ x here. runs_here script past e s x here ∙ rw is refl)
-        (λ x other. sym (runs_other script past e s x other))
+    (λ x here. rw (← eqb-true e.seat x here, free) refl) (λ x here. runs_here script past e s x here ∙ rw is refl)
+    (λ x other. sym (runs_other script past e s x other))
     ∙ rw (any_from_count (λ x. eqb e.seat x) (all_seats script) 0 (seat_once script e.seat seat)) (rw (and-true (eqb (sequence_of script runner task) s)) refl)
 
 -- a sequence that only the ending seat ran does not run any more
