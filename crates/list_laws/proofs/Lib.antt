@@ -9,3 +9,4 @@ pub mod Least
 pub mod Members
 pub mod Sorts
 pub mod Finds
+pub mod Options

@@ -11,7 +11,3 @@ some-injective {A} {x} {y} is = ap (λ o. option_map_or (λ z. z) o x) is
 
 pub eqb-turned : (a b : ℕ) → eqb a b ≡ eqb b a
 eqb-turned a b = grind arith
-
-pub option_or-none : {A : Type 0} (o : Option A) → option_or o None ≡ o
-option_or-none (Some x) = refl
-option_or-none None = refl

@@ -7,8 +7,8 @@ use Rattle.task_base.specs.declared.entry.Kind.{Kind}
 use Rattle.task_base.specs.declared.entry.Kind.TheVariants.{Post, Tick, Main}
 use Rattle.task_base.specs.declared.source.Key.{Key}
 use Rattle.task_model.specs.Time.{now_of, is_tick_from, tick_from}
-use Rattle.task_model.specs.Posts.{Posted, is_delayed, post_behind, posts}
-use Rattle.task_model.specs.Keys.{Ready, key_of}
+use Rattle.task_model.specs.Posts.{Posted, is_delayed, post_behind, posts, IsDelayed}
+use Rattle.task_model.specs.Keys.{Ready, key_of, key_at}
 use Rattle.task_base.specs.Keys.{key_below}
 use Rattle.task_base.specs.Plan.{Plan}
 use Rattle.task_base.specs.declared.entry.Kind.TheVariants as kinds
@@ -74,7 +74,7 @@ ripe_at_tick_of before moment p =
 
 -- a delayed task of the sequence that has no key is not ripe by the moment
 abbrev pub is_unripe : Plan → List Entry → ℕ → ℕ → Posted → Type 0
-is_unripe script past s moment p = is_delayed p ≡ true → is_of script s p ≡ true → tick_from past p.ripe ≡ None → moment < p.ripe
+is_unripe script past s moment p = IsDelayed p → is_of script s p ≡ true → tick_from past p.ripe ≡ None → moment < p.ripe
 
 -- the key of the first is below that of the second
 abbrev pub ready_below : Ready → Ready → Bool

@@ -8,7 +8,7 @@ use Rattle.task_traits.specs.declared.traits.Priority.{Priority}
 use Rattle.list_laws.specs.Lists.{holds_of}
 use Rattle.task_model.specs.Seats.{Running, running}
 use Rattle.task_base.specs.Groups.{Group, has_come, group_of}
-use Rattle.task_model.specs.Capacity.{OpenScope, is_in, open_scope, scope_counts, load, best_load, capacity, best_capacity}
+use Rattle.task_model.specs.Capacity.{OpenScope, is_in, open_scope, ScopeCounts, load, best_load, capacity, best_capacity}
 use Rattle.pool_laws.specs.Seats.{moves_holding}
 
 -- one where the test holds
@@ -67,4 +67,4 @@ pub record CapacityKept (script : Plan) (past later : List Entry) (group : Group
 abbrev pub NoneComes : Plan → List Entry → ℕ → Type 0
 NoneComes script past moment = (seat : ℕ) (w : Running) (opened : OpenScope) → IsWorker script seat → running past seat ≡ Some w
     → open_scope past w.task ≡ Some opened
-    → has_come opened.scope (opened.since + script.threshold) moment ≡ true → scope_counts script past opened ≡ true
+    → has_come opened.scope (opened.since + script.threshold) moment ≡ true → ScopeCounts script past opened

@@ -23,6 +23,12 @@ use Rattle.task_model.proofs.Growth.{main_posts_push}
 use Rattle.list_laws.proofs.Values.{some-injective}
 use Rattle.list_laws.proofs.Lists.{filter_split, count_less, AllByRecursion-members}
 use Rattle.queue_laws.proofs.Orders.{main_places, order_of_same, order_tick, order_at_post, unordered}
+use Rattle.list_laws.specs.Lists.{count, Ranks}
+use Rattle.task_model.specs.Posts.{Posted, Before, InOrder, is_delayed, post_behind, main_posted_by, main_posts, ripens_before}
+use Rattle.task_model.specs.Orders.{ripens, ripening, next_draw, drawn_at, order_of}
+use Rattle.queue_laws.specs.Orders.{moves_orders, OrdersBelow, Distinct, OrdersDistinct}
+use Rattle.list_laws.proofs.Elements.{AllByRecursion-at}
+use Rattle.list_laws.proofs.Ranks.{ranks_by, ranks_then_by}
 use Rattle.pool_laws.specs.Keys.{NoTickAhead}
 
 ranks_order : Ranks ordered_below

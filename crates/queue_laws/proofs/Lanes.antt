@@ -25,7 +25,8 @@ use Rattle.task_model.specs.MainQueues.{Front, class_of, class_after, is_of_lane
 use Rattle.queue_laws.specs.Fronts.{moves_lanes, lane_of, front_behind, front_at_tick_of, drawn_at_tick_of, with_class}
 use Rattle.queue_laws.specs.Orders.{moves_orders, OrdersBelow}
 use Rattle.task_model.proofs.Growth.{main_posts_push, is_main_taken_push, class_of_push}
-use Rattle.list_laws.proofs.Values.{eqb-turned, option_or-none, some-injective}
+use Rattle.list_laws.proofs.Values.{eqb-turned, some-injective}
+use Rattle.list_laws.proofs.Options.{option_or-none}
 use Rattle.list_laws.proofs.Filters.{filter-keep, filter_congr, filter_map_congr_in, filter-filter, filter-filter_map, filter_passes, filter_map-option_map}
 use Rattle.list_laws.proofs.Least.{least-push, least-map, least_is_least, no_least}
 use Rattle.list_laws.proofs.Elements.{AllByRecursion-map, AllByRecursion-filter}

@@ -20,9 +20,9 @@ use Rattle.pool_laws.specs.Keys.{tick_by, NoTickAhead}
 use Rattle.queue_laws.specs.Orders.{moves_ripening, moves_orders, order_at_tick_of, OrdersBelow}
 use Rattle.task_model.proofs.Growth.{now_of_push, main_posts_push, is_closed_push, draws_push}
 use Rattle.list_laws.proofs.Filters.{filter_congr}
-use Rattle.list_laws.proofs.Values.{option_or-none, some-injective}
+use Rattle.list_laws.proofs.Options.{option_or-none}
+use Rattle.list_laws.proofs.Values.{some-injective}
 use Rattle.list_laws.proofs.Elements.{slice_get-front, slice_get-end, AllByRecursion-map, AllByRecursion-append, AllByRecursion-at}
-use Rattle.list_laws.proofs.Lists.{filter_split, count_below, AllByRecursion-members}
 use Rattle.pool_laws.proofs.Keys.Ready.{main_posts_within, tick_from_push, tick_from_stays, tick_within}
 
 -- each accepted main task has its place in the past

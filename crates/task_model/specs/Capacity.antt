@@ -1,17 +1,17 @@
 -- How much work may run at once.
-use Rattle.std.specs.Prelude.{ℕ, ◌+◌, ◌==◌, Bool, not, ◌&&◌, ◌||◌, nat_lt, if◌then◌else◌, List, slice_get, Option, Some, None, IsTrue}
+use Rattle.std.specs.Prelude.{ℕ, ◌+◌, ◌==◌, Bool, not, ◌&&◌, ◌||◌, nat_lt, if◌then◌else◌, List, slice_get, Option, Some, None, IsTrue, fold, is_some}
 use Rattle.std.specs.Option.{option_map_or}
 use Rattle.task_base.specs.Plan.{Plan}
 use Rattle.task_base.specs.declared.entry.Entry.{Entry}
 use Rattle.task_base.specs.declared.entry.Kind.{Kind}
-use Rattle.task_base.specs.declared.entry.Kind.TheVariants.{Enter, Leave}
+use Rattle.task_base.specs.declared.entry.Kind.TheVariants.{Take, End, MainTake, MainEnd, Enter, Leave}
 use Rattle.task_base.specs.declared.step.Scope.{Scope}
 use Rattle.task_traits.specs.declared.traits.Priority.{Priority}
 use Rattle.task_traits.specs.declared.traits.Priority.TheVariants.{BestEffort}
 use Rattle.list_laws.specs.Lists.{count, holds_of}
 use Rattle.task_model.specs.Past.{fold_past}
 use Rattle.task_model.specs.Time.{now_of}
-use Rattle.task_model.specs.Seats.{Running, Holding, running, holding, worker_seats}
+use Rattle.task_model.specs.Seats.{Holding, running, holding, worker_seats}
 use Rattle.task_base.specs.Groups.{Group, Foreground, Background, is_best_effort, group_of, same_group, has_come}
 
 -- the priority of a runner's tasks
@@ -32,9 +32,18 @@ abbrev pub best_limit : Plan → Group → ℕ
 best_limit script Foreground = script.foreground_best
 best_limit script Background = script.background
 
--- the priority of a pool task that runs; a main task is no work of the pool
-abbrev pub priority_of_running : Plan → Running → Option Priority
-priority_of_running script w = if w.is_main then None else Some (priority_of script w.home)
+-- the priority that the seat's pool task counts with after an entry of its own: the one of its runner as it is taken;
+-- a main task is no work of the pool
+abbrev pub taken_after : Plan → Option Priority → Kind → Option Priority
+taken_after script now (Take task runner found) = Some (priority_of script runner)
+taken_after script now (MainTake task queue found) = None
+taken_after script now (End task left) = None
+taken_after script now (MainEnd task left) = None
+taken_after script now kind = now
+
+-- the priority that the pool task which the seat runs was taken with, if it runs one
+unfoldable pub taken_with : Plan → List Entry → ℕ → Option Priority
+taken_with script past seat = fold (λ now e. if e.seat == seat then taken_after script now e.kind else now) None past
 
 -- the priority of the item that a seat holds, if it holds one
 abbrev pub priority_of_holding : Plan → Option Holding → Option Priority
@@ -43,7 +52,8 @@ priority_of_holding script (Some h) = Some (priority_of_job script h.job)
 
 -- the priority of the pool's work that the seat does: a task, or an item of a job
 abbrev pub work_at : Plan → List Entry → ℕ → Option Priority
-work_at script past seat = option_map_or (priority_of_running script) (running past seat) (priority_of_holding script (holding past seat))
+work_at script past seat =
+    if is_some (running past seat) then taken_with script past seat else priority_of_holding script (holding past seat)
 
 -- work of the group
 abbrev pub is_in : Plan → Group → Priority → Bool
@@ -83,7 +93,7 @@ ScopeCounts script past opened = IsTrue (scope_counts script past opened)
 -- the seat runs a pool task of a priority that passes the test, and its open scope counts
 abbrev pub is_blocked : Plan → List Entry → (Priority → Bool) → ℕ → Bool
 is_blocked script past test seat =
-    holds_of (λ w. not w.is_main && test (priority_of script w.home) && holds_of (scope_counts script past) (open_scope past w.task)) (running past seat)
+    holds_of (λ w. holds_of test (taken_with script past seat) && holds_of (scope_counts script past) (open_scope past w.task)) (running past seat)
 
 -- how many workers are blocked in such a task
 abbrev pub blocked_of : Plan → List Entry → (Priority → Bool) → ℕ

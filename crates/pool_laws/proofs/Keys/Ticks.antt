@@ -1,9 +1,7 @@
--- A tick keeps the heads of sequences.
---
--- What a tick does to the head of a sequence, and to its wait: the head that it had stays, and where it had none, the
--- least of the tasks that become ripe is the head.
-use Rattle.std.proofs.Common.{◌≡◌, ℕ, suc, ◌<◌, ◌≤◌, Bool, true, false, cond, List, [], ◌∷◌, ◌++◌, length, refl, sym, ap, ◌∙◌, Option, Some, None, arith}
-use Rattle.std.specs.Prelude.{not, ◌&&◌, ◌||◌, ◌==◌, nat_lt, filter}
+-- What a tick does to the head of a sequence, and to its wait: the head that it had stays, and where it had none, the least of
+-- the tasks that become ripe is the head.
+use Rattle.std.proofs.Common.{◌≡◌, ℕ, ◌<◌, ◌≤◌, Bool, true, false, cond, List, [], ◌∷◌, ◌++◌, length, refl, sym, ap, ◌∙◌, Option, Some, None, arith}
+use Rattle.std.specs.Prelude.{not, ◌&&◌, nat_lt, filter}
 use Rattle.std.specs.Option.{option_map}
 use Rattle.std.proofs.lemmas.Bool.{ltb-true, ltb-false, lt-ltb, le-ltb, ne_eqb}
 use Rattle.std.proofs.lemmas.Option.{none-some}
@@ -43,7 +41,7 @@ least_passing {A = A} below p leads x (y ∷ ys) is = by (p y) refl (least_passi
         → least_from below x ys ≡ least_from below x (filter p ys)
         → least_from below (cond (below y x) y x) ys ≡ least_from below x (cond b (y ∷ filter p ys) (filter p ys))
     by true passes of_y of_x = pick (below y x) passes of_y of_x
-    by false fails of_y of_x = ap (λ (b : Bool). least_from below (cond b y x) ys) (leads.never x y is fails) ∙ of_x
+    by false fails of_y of_x = rw (leads.never x y is fails) of_x
 
 -- behind one that does not, those that pass count alone, if there are any
 least_failing : {A : Type 0} (below : A → A → Bool) (p : A → Bool) → Leads below p → (x : A) (xs : List A) (r : A) → p x ≡ false
@@ -59,8 +57,7 @@ least_failing {A = A} below p leads x (y ∷ ys) r is some = by (p y) refl some 
     by : (b : Bool) → p y ≡ b → least below (cond b (y ∷ filter p ys) (filter p ys)) ≡ Some r
         → (p y ≡ false → least below (filter p ys) ≡ Some r → least_from below y ys ≡ r) → (least below (filter p ys) ≡ Some r → least_from below x ys ≡ r)
         → least_from below (cond (below y x) y x) ys ≡ r
-    by true passes kept of_y of_x = ap (λ (b : Bool). least_from below (cond b y x) ys) (leads.before y x passes is) ∙ least_passing below p leads y ys passes
-        ∙ some-injective kept
+    by true passes kept of_y of_x = rw (leads.before y x passes is) (least_passing below p leads y ys passes ∙ some-injective kept)
     by false fails kept of_y of_x = pick (below y x) (of_y fails kept) (of_x kept)
 
 -- the least of those that pass is the least of all
@@ -70,8 +67,8 @@ least_leading below p leads [] r some = some
 least_leading below p leads (x ∷ xs) r some = by (p x) refl some
   where
     by : (b : Bool) → p x ≡ b → least below (cond b (x ∷ filter p xs) (filter p xs)) ≡ Some r → Some (least_from below x xs) ≡ Some r
-    by true passes kept = ap Some (least_passing below p leads x xs passes) ∙ kept
-    by false fails kept = ap Some (least_failing below p leads x xs r fails kept)
+    by true passes kept = rw (least_passing below p leads x xs passes) kept
+    by false fails kept = rw (least_failing below p leads x xs r fails kept) refl
 
 -- keys of earlier places lead
 leads_by_place : (n : ℕ) → Leads ready_below (λ r. nat_lt r.key.place n)
@@ -81,17 +78,12 @@ leads_by_place n = record { before = before; never = never }
     less a b h k = let lt : a < n = ltb-true a n h in let le : n ≤ b = ltb-false b n k in omega (arith, lt, le)
 
     before : (a b : Ready) → nat_lt a.key.place n ≡ true → nat_lt b.key.place n ≡ false → ready_below a b ≡ true
-    before a b h k = ap (λ t. t || ((a.key.place == b.key.place)
-        && (nat_lt a.key.ripe b.key.ripe || ((a.key.ripe == b.key.ripe) && nat_lt a.key.post b.key.post))))
-        (lt-ltb a.key.place b.key.place (less a.key.place b.key.place h k))
+    before a b h k = rw (lt-ltb a.key.place b.key.place (less a.key.place b.key.place h k)) refl
 
     never : (a b : Ready) → nat_lt a.key.place n ≡ true → nat_lt b.key.place n ≡ false → ready_below b a ≡ false
     never a b h k =
         let lt : a.key.place < b.key.place = less a.key.place b.key.place h k in
-        ap (λ t. t || ((b.key.place == a.key.place) && (nat_lt b.key.ripe a.key.ripe || ((b.key.ripe == a.key.ripe) && nat_lt b.key.post a.key.post))))
-            (le-ltb b.key.place a.key.place (omega (arith, lt)))
-        ∙ ap (λ t. t && (nat_lt b.key.ripe a.key.ripe || ((b.key.ripe == a.key.ripe) && nat_lt b.key.post a.key.post)))
-            (ne_eqb b.key.place a.key.place (λ same. omega (arith, lt, same)))
+        rw (le-ltb b.key.place a.key.place (omega (arith, lt)), ne_eqb b.key.place a.key.place (λ same. omega (arith, lt, same))) refl
 
 -- a task that was ripe before a tick goes before those that become ripe at it, so a head stays
 pub head_stays_at_tick : (script : Plan) (past : List Entry) (e : Entry) (s moment : ℕ) (r : Ready) → e.kind ≡ kinds.Tick moment
@@ -99,10 +91,7 @@ pub head_stays_at_tick : (script : Plan) (past : List Entry) (e : Entry) (s mome
 unfolding head_of
 head_stays_at_tick script past e s moment r is head =
     least_leading ready_below (λ x. nat_lt x.key.place (length past)) (leads_by_place (length past)) (eligible script (past ++ e ∷ []) s) r
-        (ap (least ready_below) (eligible_old_at_tick script past e s moment is) ∙ head)
-
-filled : {A : Type 0} (x : A) (xs : List A) → x ∷ xs ≡ [] → ⊥
-filled x xs is = let long : suc (length xs) ≡ 0 = ap length is in omega (arith, long)
+    (ap (least ready_below) (eligible_old_at_tick script past e s moment is) ∙ head)
 
 -- a test that nothing passes is failed by all
 all_fail : {A : Type 0} (p : A → Bool) (xs : List A) → filter p xs ≡ [] → filter (λ x. not (p x)) xs ≡ xs
@@ -111,19 +100,17 @@ all_fail {A = A} p (x ∷ xs) h = by (p x) h (all_fail p xs)
   where
     by : (b : Bool) → cond b (x ∷ filter p xs) (filter p xs) ≡ [] → (filter p xs ≡ [] → filter (λ y. not (p y)) xs ≡ xs)
         → cond (not b) (x ∷ filter (λ y. not (p y)) xs) (filter (λ y. not (p y)) xs) ≡ x ∷ xs
-    by true some rest = absurd (filled x (filter p xs) some)
-    by false none rest = ap (λ ys. x ∷ ys) (rest none)
+    by true some rest = absurd (cc)
+    by false none rest = rw (rest none) refl
 
 -- where there was none, the head is the least of those that become ripe
 pub head_new_at_tick : (script : Plan) (past : List Entry) (e : Entry) (s moment : ℕ) → e.kind ≡ kinds.Tick moment → head_of script past s ≡ None
     → head_of script (past ++ e ∷ []) s ≡ least ready_below (filter_map (ripe_at_tick_of past moment)
-        (filter (λ p. is_of script s p && may_start script past p) (posts past)))
+    (filter (λ p. is_of script s p && may_start script past p) (posts past)))
 unfolding head_of
 head_new_at_tick script past e s moment is none =
     ap (least ready_below)
-    (sym (all_fail (λ x. nat_lt x.key.place (length past)) (eligible script (past ++ e ∷ []) s) (eligible_old_at_tick script past e s moment is
-        ∙ no_head script past s none))
-    ∙ eligible_new_at_tick script past e s moment is)
+    (sym (all_fail _ _ (eligible_old_at_tick script past e s moment is ∙ no_head script past s none)) ∙ eligible_new_at_tick script past e s moment is)
 
 -- a sequence that waits goes on waiting at a tick, by the same head
 pub sequence_waiting_stays_at_tick : (script : Plan) (past : List Entry) (e : Entry) (s moment : ℕ) (c : Candidate) → e.kind ≡ kinds.Tick moment
@@ -135,4 +122,4 @@ sequence_waiting_stays_at_tick script past e s moment c is waits = sequence_wait
         → cond b None (option_map (sequence_candidate script s) (head_of script (past ++ e ∷ []) s)) ≡ Some c
     by true o head none = absurd (none-some c none)
     by false None head none = absurd (none-some c none)
-    by false (Some r) head some = ap (option_map (sequence_candidate script s)) (head_stays_at_tick script past e s moment r is head) ∙ some
+    by false (Some r) head some = rw (head_stays_at_tick script past e s moment r is head) some
