@@ -21,6 +21,10 @@ pub record Posted : Type 0 where
 abbrev pub is_delayed : Posted → Bool
 is_delayed p = nat_lt 0 p.delay
 
+-- the fact of it
+abbrev pub IsDelayed : Posted → Type 0
+IsDelayed p = IsTrue (is_delayed p)
+
 -- the first ripens before the second: by the ripe moment, then by the place of the post
 abbrev pub ripens_before : Posted → Posted → Bool
 ripens_before p q = nat_lt p.ripe q.ripe || (p.ripe == q.ripe && nat_lt p.place q.place)
