@@ -14,7 +14,7 @@ use Rattle.script_model.specs.Places.{said_at, ends_at, number_at, id_at, time_a
 use Rattle.script_model.specs.Bound.{events_of_action}
 use Rattle.script_model.specs.Postings.{posts_of_action, IsPostedOnce}
 use Rattle.script_model.specs.Draft.{Draft, empty_draft, is_declared, has_queue, has_voter, has_job, posted_in, is_any_posted, is_started, has_shutdown, ticks_of, ticks_in, events_in, opens_scope, may_block_on}
-use Rattle.task_base.specs.declared.limits.TheConstants.{MOST_TICKS, MOST_EVENTS}
+use Rattle.task_base.specs.declared.limits.TheConstants.{MOST_TICKS, MOST_EVENTS, MOST_MICROSECONDS}
 use Rattle.script_model.specs.Lines.{post_line, main_line, tick_line, policy_line, fence_line, unfence_line, vote_line, rank_line, close_line, pump_line, flush_line, start_job_line, join_line, cancel_line, shutdown_line, queue_command_read, action_command_read, command_read}
 use Rattle.script_model.specs.Grammar.{Reads}
 use Rattle.script_model.specs.Canonical.{runner_words, queue_words, task_words, job_words, action_words, config_lines, numbered, canonical_lines, IsValid}
@@ -25,7 +25,7 @@ use Rattle.script_model.proofs.Laws.SoundLaws.{room, post_room, reads_sound}
 use Rattle.script_model.proofs.Laws.CanonicalWords.{both_is, behind_is, line_is, number_is, id_is, time_is, plain_id, plain_time, plain_cons, policy_is, policy_plain, fence_is, fence_plain, vote_is, vote_plain}
 use Rattle.script_model.proofs.Laws.CanonicalLines.{IsLineRead, are_read-append, text_is_read, numbered_are_read, mapped_are_read, draft_at, all_at, sum_at, get_at, not_posted, posted_parts, posted_in_parts, posted_at, good_post, config_read, runner_read, queue_read, task_read, job_read}
 
-post_read : (d : Draft) (task : ℕ) (runner : ℕ) (delay : ℕ) → task ≤ 65536 → runner ≤ 65536 → delay ≤ 10 ^ 12
+post_read : (d : Draft) (task : ℕ) (runner : ℕ) (delay : ℕ) → task ≤ 65536 → runner ≤ 65536 → delay ≤ MOST_MICROSECONDS
     → Passed (post_room d (PostStep task runner delay) (Post task runner delay))
     → IsLineRead d (action_words (Post task runner delay)) (record d { actions = d.actions ++ Post task runner delay ∷ [] })
 unfolding command_read action_command_read post_line
@@ -43,7 +43,7 @@ post_read d task runner delay h_task h_runner h_delay passed =
           (plain_cons (decimal runner) (decimal delay ∷ []) (plain_id runner h_runner) (plain_cons (decimal delay) ([]) (plain_time delay h_delay) refl)));
     }
 
-main_read : (d : Draft) (task : ℕ) (queue : ℕ) (delay : ℕ) → task ≤ 65536 → queue ≤ 65536 → delay ≤ 10 ^ 12
+main_read : (d : Draft) (task : ℕ) (queue : ℕ) (delay : ℕ) → task ≤ 65536 → queue ≤ 65536 → delay ≤ MOST_MICROSECONDS
     → Passed (post_room d (MainStep task queue delay) (Main task queue delay))
     → IsLineRead d (action_words (Main task queue delay)) (record d { actions = d.actions ++ Main task queue delay ∷ [] })
 unfolding command_read action_command_read main_line

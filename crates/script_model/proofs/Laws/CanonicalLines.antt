@@ -24,7 +24,7 @@ use Rattle.script_model.specs.Places.{said_at, ends_at, number_at, id_at, time_a
 use Rattle.script_model.specs.Bound.{events_of_task, events_of_job}
 use Rattle.script_model.specs.Postings.{posts_of_step, posts_of_action, postings, times, IsPostedOnce}
 use Rattle.script_model.specs.Draft.{Draft, empty_draft, script_of, has_no_actions, is_bare, is_above_workers, is_declared, posted_in, is_any_posted, has_bad_scopes, is_bad_post, is_block, items_in, steps_in, events_in, opens_scope, may_block_on}
-use Rattle.task_base.specs.declared.limits.TheConstants.{MOST_RUNNERS, MOST_QUEUES, MOST_TASKS, MOST_JOBS, MOST_ITEMS, MOST_STEPS, MOST_EVENTS}
+use Rattle.task_base.specs.declared.limits.TheConstants.{MOST_WORKERS, MOST_RUNNERS, MOST_QUEUES, MOST_TASKS, MOST_JOBS, MOST_ITEMS, MOST_STEPS, MOST_EVENTS}
 use Rattle.script_model.specs.Lines.{workers_line, groups_line, threshold_line, runner_line, queue_line, task_line, job_line, command_read, words_read, line_read}
 use Rattle.script_model.specs.Grammar.{lines_read, script_read}
 use Rattle.script_model.specs.Canonical.{priority_word, behaviour_word, kind_word, steps_words, may_block_words, runner_words, queue_words, task_words, job_words, config_lines, numbered}
@@ -151,9 +151,9 @@ unfolding command_read workers_line
 workers_read s sound =
     let words = decimal s.workers ∷ [] in
     record {
-      reads = line_is (number_at 1 64 words 0 & ends_at words 1) (λ p. (not (is_bare empty_draft), declaration_late) ∷ (false, config_twice) ∷ [])
+      reads = line_is (number_at 1 MOST_WORKERS words 0 & ends_at words 1) (λ p. (not (is_bare empty_draft), declaration_late) ∷ (false, config_twice) ∷ [])
           (λ p. record empty_draft { workers = Some p.0 }) (s.workers, tt)
-          (both_is (number_at 1 64 words 0) (ends_at words 1) s.workers tt (number_is 1 64 s.workers sound.some_workers sound.few_workers (omega arith)) refl)
+          (both_is (number_at 1 MOST_WORKERS words 0) (ends_at words 1) s.workers tt (number_is 1 MOST_WORKERS s.workers sound.some_workers sound.few_workers (omega arith)) refl)
               (refl, (refl, tt));
       starts = refl;
       plain = plain_cons (codes "workers") words refl (plain_cons (decimal s.workers) [] (plain_id s.workers (omega (arith, sound.few_workers))) refl);
@@ -225,7 +225,7 @@ may_block_ends : (a b c f : List ℕ) (may_block : Bool) → ends_at (a ∷ b �
 may_block_ends a b c f true = refl
 may_block_ends a b c f false = refl
 
-seat_readable : (s : Plan) → s.workers ≤ 64 → (kind : RunnerKind) → IsSeatThere s kind → IsSeatWithin kind
+seat_readable : (s : Plan) → s.workers ≤ MOST_WORKERS → (kind : RunnerKind) → IsSeatThere s kind → IsSeatWithin kind
 seat_readable s few (Single seat) h = (h.0, omega (arith, h.1, few))
 seat_readable s few Parallel h = tt
 seat_readable s few Sequenced h = tt

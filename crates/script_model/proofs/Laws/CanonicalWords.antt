@@ -22,6 +22,7 @@ use Rattle.task_base.specs.declared.script.RunnerKind.{RunnerKind}
 use Rattle.task_base.specs.declared.script.RunnerKind.TheVariants.{Parallel, Sequenced, Single}
 use Rattle.task_base.specs.declared.script.FenceAt.{FenceAt}
 use Rattle.task_base.specs.declared.script.FenceAt.TheVariants.{Now, Start}
+use Rattle.task_base.specs.declared.limits.TheConstants.{MOST_WORKERS, MOST_MICROSECONDS}
 use Rattle.script_model.specs.Words.{is_word}
 use Rattle.script_model.specs.Reasons.{◌>>=◌, ◌&◌}
 use Rattle.script_model.specs.Places.{said_at, ends_at, number_from, number_at, id_at, time_at, priority_named, behaviour_named, policy_named, fence_named, vote_named, scope_named, kind_named, compute_read, post_read, step_said, step_read, all_read, steps_read}
@@ -51,8 +52,8 @@ number_is low high n lower upper wide = number_from-decimal low high n lower upp
 pub id_is : (n : ℕ) → n ≤ 65536 → number_from 0 (2 ^ 32 - 1) (decimal n) ≡ Ok n
 id_is n small = number_from-decimal 0 (2 ^ 32 - 1) n (omega arith) (omega (arith, small)) (omega (arith, small))
 
-pub time_is : (n : ℕ) → n ≤ 10 ^ 12 → number_from 0 (10 ^ 12) (decimal n) ≡ Ok n
-time_is n small = number_from-decimal 0 (10 ^ 12) n (omega arith) small (omega (arith, small))
+pub time_is : (n : ℕ) → n ≤ MOST_MICROSECONDS → number_from 0 MOST_MICROSECONDS (decimal n) ≡ Ok n
+time_is n small = number_from-decimal 0 MOST_MICROSECONDS n (omega arith) small (omega (arith, small))
 
 pub plain_number : (n : ℕ) → n ≤ 2 ^ 64 - 1 → is_plain_word (decimal n) ≡ true
 plain_number n small = decimal_plain n (omega (arith, small))
@@ -60,7 +61,7 @@ plain_number n small = decimal_plain n (omega (arith, small))
 pub plain_id : (n : ℕ) → n ≤ 65536 → is_plain_word (decimal n) ≡ true
 plain_id n small = decimal_plain n (omega (arith, small))
 
-pub plain_time : (n : ℕ) → n ≤ 10 ^ 12 → is_plain_word (decimal n) ≡ true
+pub plain_time : (n : ℕ) → n ≤ MOST_MICROSECONDS → is_plain_word (decimal n) ≡ true
 plain_time n small = decimal_plain n (omega (arith, small))
 
 pub plain_cons : (word : List ℕ) (words : List (List ℕ)) → is_plain_word word ≡ true → list_all is_plain_word words ≡ true
@@ -131,7 +132,7 @@ pub kind_is : (kind : RunnerKind) → IsSeatWithin kind → kind_named (kind_wor
 unfolding kind_named
 kind_is Parallel h = refl
 kind_is Sequenced h = refl
-kind_is (Single seat) h = ap (λ (r : Result ℕ ℕ). r >>= λ seat. Ok (Single seat)) (number_is 1 64 seat h.0 h.1 (omega arith))
+kind_is (Single seat) h = ap (λ (r : Result ℕ ℕ). r >>= λ seat. Ok (Single seat)) (number_is 1 MOST_WORKERS seat h.0 h.1 (omega arith))
 
 pub kind_plain : (kind : RunnerKind) → IsSeatWithin kind → is_plain_word (kind_word kind) ≡ true
 kind_plain Parallel h = refl
@@ -152,8 +153,8 @@ abbrev pub IsStepReadable : Step → Type 0
 IsStepReadable (Add by) = by ≤ 2 ^ 64 - 1
 IsStepReadable (Mul by) = by ≤ 2 ^ 64 - 1
 IsStepReadable (Set to) = to ≤ 2 ^ 64 - 1
-IsStepReadable (PostStep task runner delay) = (task ≤ 65536) × (runner ≤ 65536) × (delay ≤ 10 ^ 12)
-IsStepReadable (MainStep task queue delay) = (task ≤ 65536) × (queue ≤ 65536) × (delay ≤ 10 ^ 12)
+IsStepReadable (PostStep task runner delay) = (task ≤ 65536) × (runner ≤ 65536) × (delay ≤ MOST_MICROSECONDS)
+IsStepReadable (MainStep task queue delay) = (task ≤ 65536) × (queue ≤ 65536) × (delay ≤ MOST_MICROSECONDS)
 IsStepReadable (Block scope) = Unit {0}
 IsStepReadable Unblock = Unit {0}
 
@@ -162,7 +163,7 @@ compute_is made k small = ap (λ (r : Result (ℕ × Unit {0}) ℕ). r >>= λ p.
     (both_is (number_at 0 (2 ^ 64 - 1) (decimal k ∷ []) 0) (ends_at (decimal k ∷ []) 1) k tt
     (number_is 0 (2 ^ 64 - 1) k (omega arith) small (omega arith)) refl)
 
-post_is : (made : ℕ → ℕ → ℕ → Step) (task home delay : ℕ) → task ≤ 65536 → home ≤ 65536 → delay ≤ 10 ^ 12
+post_is : (made : ℕ → ℕ → ℕ → Step) (task home delay : ℕ) → task ≤ 65536 → home ≤ 65536 → delay ≤ MOST_MICROSECONDS
     → post_read made (decimal task ∷ decimal home ∷ decimal delay ∷ []) ≡ Ok (made task home delay)
 post_is made task home delay t h u =
     let words = decimal task ∷ decimal home ∷ decimal delay ∷ [] in

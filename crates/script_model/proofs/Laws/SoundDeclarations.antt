@@ -23,7 +23,7 @@ use Rattle.script_model.specs.Bound.{events_of_task, events_of_job}
 use Rattle.script_model.specs.Postings.{posts_of_step, posts_of_action, postings, times, IsPostedOnce}
 use Rattle.std.proofs.Math.ListN.{get_or-append}
 use Rattle.script_model.specs.Draft.{Draft, is_block, script_of, has_no_actions, is_bare, is_above_workers, is_declared, posted_in, is_any_posted, has_bad_scopes, is_bad_post, items_in, steps_in, events_in, workers_in, opens_scope, may_block_on}
-use Rattle.task_base.specs.declared.limits.TheConstants.{MOST_RUNNERS, MOST_QUEUES, MOST_TASKS, MOST_JOBS, MOST_ITEMS, MOST_STEPS, MOST_EVENTS}
+use Rattle.task_base.specs.declared.limits.TheConstants.{MOST_WORKERS, MOST_RUNNERS, MOST_QUEUES, MOST_TASKS, MOST_JOBS, MOST_ITEMS, MOST_STEPS, MOST_EVENTS, MOST_MICROSECONDS}
 use Rattle.script_model.specs.Lines.{workers_line, groups_line, threshold_line, runner_line, queue_line, task_line, job_line}
 use Rattle.script_model.specs.Laws.Sound.{IsSound, IsRunnerPost, IsQueuePost, IsSeatThere, IsQueueWithin, IsStepSound, IsTaskSound, IsJobSound, IsActionSound}
 use Rattle.list_laws.proofs.Lists.{count-append, AllByRecursion-map}
@@ -128,7 +128,7 @@ same_stays s z runners queues tasks = record {
 
 -- ---- configuration
 
-with_workers : (d : Draft) (n : ℕ) → 1 ≤ n → n ≤ 64 → is_bare d ≡ true → Keeps d → Keeps (record d { workers = Some n })
+with_workers : (d : Draft) (n : ℕ) → 1 ≤ n → n ≤ MOST_WORKERS → is_bare d ≡ true → Keeps d → Keeps (record d { workers = Some n })
 unfolding postings
 with_workers d n low high bare sound =
     let bare_now = bare_parts d bare in
@@ -165,9 +165,9 @@ with_workers d n low high bare sound =
 pub keeps_workers : (d d' : Draft) (words : List (List ℕ)) → Keeps d → workers_line d words ≡ Ok d' → Keeps d'
 unfolding workers_line
 keeps_workers d d' words sound e =
-    let g = line_ok (number_at 1 64 words 0 & ends_at words 1) (λ p. (not (is_bare d), declaration_late) ∷ (is_some d.workers, config_twice) ∷ [])
+    let g = line_ok (number_at 1 MOST_WORKERS words 0 & ends_at words 1) (λ p. (not (is_bare d), declaration_late) ∷ (is_some d.workers, config_twice) ∷ [])
         (λ p. record d { workers = Some p.0 }) d' e in
-    let n = number_at-within 1 64 words 0 g.0.0 (both_ok (number_at 1 64 words 0) (ends_at words 1) g.0.0 g.0.1 g.1).0 in
+    let n = number_at-within 1 MOST_WORKERS words 0 g.0.0 (both_ok (number_at 1 MOST_WORKERS words 0) (ends_at words 1) g.0.0 g.0.1 g.1).0 in
     subst Keeps g.3 (with_workers d g.0.0 n.0 n.1 (not_false (is_bare d) g.2.0) sound)
 
 with_groups : (d : Draft) (f fb b : ℕ) → 1 ≤ f → f ≤ 64 → 1 ≤ fb → fb ≤ f → b ≤ 64 → is_bare d ≡ true → Keeps d
@@ -222,7 +222,7 @@ keeps_groups d d' words sound e =
     let b = number_at-within 0 64 words 2 g.0.1.1.0 b2.0 in
     subst Keeps g.3 (with_groups d g.0.0 g.0.1.0 g.0.1.1.0 f.0 f.1 fb.0 (at_most g.0.0 g.0.1.0 g.2.0) b.1 (not_false (is_bare d) g.2.1.0) sound)
 
-with_threshold : (d : Draft) (u : ℕ) → u ≤ 10 ^ 12 → is_bare d ≡ true → Keeps d → Keeps (record d { threshold = Some u })
+with_threshold : (d : Draft) (u : ℕ) → u ≤ MOST_MICROSECONDS → is_bare d ≡ true → Keeps d → Keeps (record d { threshold = Some u })
 unfolding postings
 with_threshold d u high bare sound =
     let bare_now = bare_parts d bare in
@@ -261,7 +261,7 @@ unfolding threshold_line
 keeps_threshold d d' words sound e =
     let g = line_ok (time_at words 0 & ends_at words 1) (λ p. (not (is_bare d), declaration_late) ∷ (is_some d.threshold, config_twice) ∷ [])
         (λ p. record d { threshold = Some p.0 }) d' e in
-    let u = number_at-within 0 (10 ^ 12) words 0 g.0.0 (both_ok (time_at words 0) (ends_at words 1) g.0.0 g.0.1 g.1).0 in
+    let u = number_at-within 0 MOST_MICROSECONDS words 0 g.0.0 (both_ok (time_at words 0) (ends_at words 1) g.0.0 g.0.1 g.1).0 in
     subst Keeps g.3 (with_threshold d g.0.0 u.1 (not_false (is_bare d) g.2.0) sound)
 
 -- ---- runners and queues

@@ -20,7 +20,7 @@ use Rattle.script_model.specs.Bound.{events_of_action}
 use Rattle.script_model.specs.Postings.{posts_of_step, posts_of_action, postings}
 use Rattle.std.proofs.lemmas.Option.{slice_get_within}
 use Rattle.script_model.specs.Draft.{Draft, empty_draft, script_of, is_declared, has_queue, has_voter, has_job, posted_in, is_any_posted, is_bad_post, is_start_of, is_started, is_shutdown, has_shutdown, ticks_of, ticks_in, events_in}
-use Rattle.task_base.specs.declared.limits.TheConstants.{MOST_TICKS, MOST_EVENTS}
+use Rattle.task_base.specs.declared.limits.TheConstants.{MOST_TICKS, MOST_EVENTS, MOST_MICROSECONDS}
 use Rattle.script_model.specs.Lines.{workers_line, groups_line, threshold_line, runner_line, queue_line, task_line, job_line, post_line, main_line, tick_line, policy_line, fence_line, unfence_line, vote_line, rank_line, close_line, pump_line, flush_line, start_job_line, join_line, cancel_line, shutdown_line, queue_command_read, action_command_read, command_read, words_read, line_read}
 use Rattle.script_model.specs.Grammar.{lines_read, script_read, Reads}
 use Rattle.script_model.specs.Laws.Sound.{IsSound, IsActionSound, IsInOrder}
@@ -139,7 +139,7 @@ keeps_post d d' words sound e =
     let b0 = both_ok (id_at words 0) (id_at words 1 & time_at words 2 & ends_at words 3) g.0.0 g.0.1 g.1 in
     let b1 = both_ok (id_at words 1) (time_at words 2 & ends_at words 3) g.0.1.0 g.0.1.1 b0.1 in
     let b2 = both_ok (time_at words 2) (ends_at words 3) g.0.1.1.0 g.0.1.1.1 b1.1 in
-    let delay = number_at-within 0 (10 ^ 12) words 2 g.0.1.1.0 b2.0 in
+    let delay = number_at-within 0 MOST_MICROSECONDS words 2 g.0.1.1.0 b2.0 in
     let post = declared_runner_post d g.0.0 g.0.1.0 g.0.1.1.0 (not_false (is_declared d (PostStep g.0.0 g.0.1.0 g.0.1.1.0)) g.2.0) g.2.1.1.0 in
     subst Keeps {x = record d { actions = d.actions ++ Post g.0.0 g.0.1.0 g.0.1.1.0 ∷ [] }} g.3
         (with_action d (Post g.0.0 g.0.1.0 g.0.1.1.0) (post.1, delay.1) tt g.2.1.0 g.2.1.1.1 sound)
@@ -153,7 +153,7 @@ keeps_main d d' words sound e =
     let b0 = both_ok (id_at words 0) (id_at words 1 & time_at words 2 & ends_at words 3) g.0.0 g.0.1 g.1 in
     let b1 = both_ok (id_at words 1) (time_at words 2 & ends_at words 3) g.0.1.0 g.0.1.1 b0.1 in
     let b2 = both_ok (time_at words 2) (ends_at words 3) g.0.1.1.0 g.0.1.1.1 b1.1 in
-    let delay = number_at-within 0 (10 ^ 12) words 2 g.0.1.1.0 b2.0 in
+    let delay = number_at-within 0 MOST_MICROSECONDS words 2 g.0.1.1.0 b2.0 in
     let post = declared_queue_post d g.0.0 g.0.1.0 g.0.1.1.0 (not_false (is_declared d (MainStep g.0.0 g.0.1.0 g.0.1.1.0)) g.2.0) g.2.1.1.0 in
     subst Keeps {x = record d { actions = d.actions ++ Main g.0.0 g.0.1.0 g.0.1.1.0 ∷ [] }} g.3
         (with_action d (Main g.0.0 g.0.1.0 g.0.1.1.0) (post.1, delay.1) tt g.2.1.0 g.2.1.1.1 sound)

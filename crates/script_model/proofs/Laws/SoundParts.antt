@@ -5,6 +5,7 @@ use Rattle.std.specs.List.{list_any, AllByRecursion, slice_split}
 use Rattle.std.proofs.lemmas.Bool.Decides.{nat_tests}
 use Rattle.std.proofs.lemmas.Bool.{eqb-true}
 use Rattle.list_laws.specs.Lists.{count}
+use Rattle.task_base.specs.declared.limits.TheConstants.{MOST_WORKERS, MOST_MICROSECONDS}
 use Rattle.script_model.specs.Postings.{times}
 use Rattle.script_model.specs.Draft.{is_any_posted}
 use Rattle.script_model.proofs.Laws.FaultLaws.{ok_same}
@@ -103,17 +104,17 @@ named_all P [] word all x e = absurd cc
 named_all P (entry ∷ table) word all x e = either_way P (is_word word entry.0) (Ok entry.1) (named table word)
     (λ y h. subst P (ok_same {E = ℕ} entry.1 y h) all.0) (named_all P table word all.1) x e
 
--- a seat that a kind names is from 1 to 64
+-- a seat that a kind names is from 1 to the most workers
 abbrev pub IsSeatWithin : RunnerKind → Type 0
-IsSeatWithin (Single seat) = (1 ≤ seat) × (seat ≤ 64)
+IsSeatWithin (Single seat) = (1 ≤ seat) × (seat ≤ MOST_WORKERS)
 IsSeatWithin Parallel = Unit {0}
 IsSeatWithin Sequenced = Unit {0}
 
 pub kind_named-within : (word : List ℕ) (kind : RunnerKind) → kind_named word ≡ Ok kind → IsSeatWithin kind
 unfolding kind_named
-kind_named-within word kind e = either_way IsSeatWithin (is_word (take 7 word) (codes "single:")) (number_from 1 64 (drop 7 word) >>= λ seat. Ok (Single seat))
+kind_named-within word kind e = either_way IsSeatWithin (is_word (take 7 word) (codes "single:")) (number_from 1 MOST_WORKERS (drop 7 word) >>= λ seat. Ok (Single seat))
     (named ((codes "parallel", Parallel) ∷ (codes "sequenced", Sequenced) ∷ []) word)
-    (λ x h. let seat = bind_ok (number_from 1 64 (drop 7 word)) (λ seat. Ok (Single seat)) x h in
+    (λ x h. let seat = bind_ok (number_from 1 MOST_WORKERS (drop 7 word)) (λ seat. Ok (Single seat)) x h in
         subst IsSeatWithin (ok_same {E = ℕ} (Single seat.0) x seat.2) (number_from-within 1 64 (drop 7 word) seat.0 seat.1))
     (named_all IsSeatWithin ((codes "parallel", Parallel) ∷ (codes "sequenced", Sequenced) ∷ []) word (tt, (tt, tt))) kind e
 
@@ -124,7 +125,7 @@ compute_within made f words step e =
     let both = both_ok (number_at 0 (2 ^ 64 - 1) words 0) (ends_at words 1) p.0.0 p.0.1 p.1 in
     subst IsStepWithin (ok_same {E = ℕ} (made p.0.0) step p.2) (f p.0.0 (number_at-within 0 (2 ^ 64 - 1) words 0 p.0.0 both.0).1)
 
-post_within : (made : ℕ → ℕ → ℕ → Step) → ((task home delay : ℕ) → delay ≤ 10 ^ 12 → IsStepWithin (made task home delay))
+post_within : (made : ℕ → ℕ → ℕ → Step) → ((task home delay : ℕ) → delay ≤ MOST_MICROSECONDS → IsStepWithin (made task home delay))
     → (words : List (List ℕ)) (step : Step) → post_read made words ≡ Ok step → IsStepWithin step
 post_within made f words step e =
     let p = bind_ok (id_at words 0 & id_at words 1 & time_at words 2 & ends_at words 3) (λ p. Ok (made p.0 p.1.0 p.1.1.0)) step e in
@@ -132,7 +133,7 @@ post_within made f words step e =
     let b1 = both_ok (id_at words 1) (time_at words 2 & ends_at words 3) p.0.1.0 p.0.1.1 b0.1 in
     let b2 = both_ok (time_at words 2) (ends_at words 3) p.0.1.1.0 p.0.1.1.1 b1.1 in
     subst IsStepWithin (ok_same {E = ℕ} (made p.0.0 p.0.1.0 p.0.1.1.0) step p.2)
-        (f p.0.0 p.0.1.0 p.0.1.1.0 (number_at-within 0 (10 ^ 12) words 2 p.0.1.1.0 b2.0).1)
+        (f p.0.0 p.0.1.0 p.0.1.1.0 (number_at-within 0 MOST_MICROSECONDS words 2 p.0.1.1.0 b2.0).1)
 
 block_within : (words : List (List ℕ)) (step : Step) → block_read words ≡ Ok step → IsStepWithin step
 block_within words step e =

@@ -15,7 +15,7 @@ use Rattle.list_laws.specs.Lists.{count}
 use Rattle.script_model.specs.Bound.{events_bound_of}
 use Rattle.script_model.specs.Postings.{IsPostedOnce}
 use Rattle.script_model.specs.Draft.{opens_scope, may_block_on, is_voter, has_bad_scopes, is_start_of, is_shutdown, ticks_of}
-use Rattle.task_base.specs.declared.limits.TheConstants.{MOST_RUNNERS, MOST_QUEUES, MOST_TASKS, MOST_JOBS, MOST_ITEMS, MOST_STEPS, MOST_TICKS, MOST_EVENTS}
+use Rattle.task_base.specs.declared.limits.TheConstants.{MOST_WORKERS, MOST_RUNNERS, MOST_QUEUES, MOST_TASKS, MOST_JOBS, MOST_ITEMS, MOST_STEPS, MOST_TICKS, MOST_EVENTS, MOST_MICROSECONDS}
 
 -- ---- what is declared
 
@@ -49,8 +49,8 @@ abbrev pub IsStepWithin : Step → Type 0
 IsStepWithin (Add by) = by ≤ 2 ^ 64 - 1
 IsStepWithin (Mul by) = by ≤ 2 ^ 64 - 1
 IsStepWithin (Set to) = to ≤ 2 ^ 64 - 1
-IsStepWithin (PostStep task runner delay) = delay ≤ 10 ^ 12
-IsStepWithin (MainStep task queue delay) = delay ≤ 10 ^ 12
+IsStepWithin (PostStep task runner delay) = delay ≤ MOST_MICROSECONDS
+IsStepWithin (MainStep task queue delay) = delay ≤ MOST_MICROSECONDS
 IsStepWithin (Block scope) = Unit {0}
 IsStepWithin Unblock = Unit {0}
 
@@ -80,8 +80,8 @@ pub record IsJobSound (job : JobPlan) : Type 0 where
 
 -- an action names what is declared, and its numbers are in their ranges
 abbrev pub IsActionSound : Plan → Action → Type 0
-IsActionSound script (Post task runner delay) = IsRunnerPost script task runner × (delay ≤ 10 ^ 12)
-IsActionSound script (Main task queue delay) = IsQueuePost script task queue × (delay ≤ 10 ^ 12)
+IsActionSound script (Post task runner delay) = IsRunnerPost script task runner × (delay ≤ MOST_MICROSECONDS)
+IsActionSound script (Main task queue delay) = IsQueuePost script task queue × (delay ≤ MOST_MICROSECONDS)
 IsActionSound script (Tick count) = (1 ≤ count) × (count ≤ 65536)
 IsActionSound script (Policy policy) = Unit {0}
 IsActionSound script (Fence queue place) = queue < length script.queues
@@ -111,13 +111,13 @@ IsInOrder earlier action = Unit {0}
 pub record IsSound (script : Plan) : Type 0 where
   -- the configuration
   pub some_workers : 1 ≤ script.workers
-  pub few_workers : script.workers ≤ 64
+  pub few_workers : script.workers ≤ MOST_WORKERS
   pub some_foreground : 1 ≤ script.foreground
   pub few_foreground : script.foreground ≤ 64
   pub some_best : 1 ≤ script.foreground_best
   pub best_within : script.foreground_best ≤ script.foreground
   pub few_background : script.background ≤ 64
-  pub threshold_within : script.threshold ≤ 10 ^ 12
+  pub threshold_within : script.threshold ≤ MOST_MICROSECONDS
   -- the limits
   pub few_runners : length script.runners ≤ MOST_RUNNERS
   pub few_queues : length script.queues ≤ MOST_QUEUES
