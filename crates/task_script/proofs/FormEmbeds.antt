@@ -14,6 +14,7 @@ use Rattle.task_base.specs.declared.script.RunnerKind.{RunnerKind}
 use Rattle.task_base.specs.declared.script.RunnerKind.TheVariants.{Parallel, Sequenced, Single}
 use Rattle.task_traits.specs.declared.traits.Priority.{Priority}
 use Rattle.task_traits.specs.declared.traits.Behaviour.{Behaviour}
+use Rattle.task_base.specs.declared.limits.TheConstants.{MOST_WORKERS, MOST_RUNNERS, MOST_TASKS, MOST_STEPS, MOST_TICKS, MOST_EVENTS, MOST_MICROSECONDS}
 use Rattle.script_model.specs.Words.{is_word, begins_comment, is_all_ascii, lines_of, words_of}
 use Rattle.script_model.specs.Places.{number_from, priority_named, behaviour_named, kind_named, steps_read}
 use Rattle.script_model.specs.Bound.{events_of_task, events_of_action}
@@ -32,14 +33,14 @@ use Rattle.task_script.proofs.FormTotals.{sound-has_block, sound-posted, sound-s
 
 -- ---- what the grammar's lines give where nothing is against them
 
-workers_goes : (d : Draft) (number : List ℕ) (n : ℕ) → number_from 1 64 number ≡ Ok n → is_bare d ≡ true → is_some d.workers ≡ false
+workers_goes : (d : Draft) (number : List ℕ) (n : ℕ) → number_from 1 MOST_WORKERS number ≡ Ok n → is_bare d ≡ true → is_some d.workers ≡ false
     → workers_line d (number ∷ []) ≡ Ok (record d { workers = Some n })
 unfolding workers_line
 workers_goes d number n is bare unsaid = rw (is, bare, unsaid) refl
 
 runner_goes : (d : Draft) (number kind priority behaviour : List ℕ) (r : ℕ) (k : RunnerKind) (p : Priority) (b : Behaviour)
     → number_from 0 max_id number ≡ Ok r → kind_named kind ≡ Ok k → priority_named priority ≡ Ok p → behaviour_named behaviour ≡ Ok b
-    → eqb r (length d.runners) ≡ true → is_above_workers d k ≡ false → eqb (length d.actions) 0 ≡ true → ltb 4096 (length d.runners + 1) ≡ false
+    → eqb r (length d.runners) ≡ true → is_above_workers d k ≡ false → eqb (length d.actions) 0 ≡ true → ltb MOST_RUNNERS (length d.runners + 1) ≡ false
     → runner_line d (number ∷ kind ∷ priority ∷ behaviour ∷ []) ≡ Ok (record d { runners = d.runners ++ runner_made k p b ∷ [] })
 unfolding runner_line
 runner_goes d number kind priority behaviour r k p b r_is k_is p_is b_is next seated no_actions few = rw
@@ -48,18 +49,18 @@ runner_goes d number kind priority behaviour r k p b r_is k_is p_is b_is next se
 task_goes : (d : Draft) (number : List ℕ) (words : List (List ℕ)) (t : ℕ) (steps : List Step)
     → number_from 0 max_id number ≡ Ok t → steps_read words ≡ Ok steps → eqb t (length d.tasks) ≡ true → list_all (is_declared d) steps ≡ true
     → flat_map posts_of_step steps ≡ [] → eqb (length d.actions) 0 ≡ true → has_bad_scopes false steps ≡ false → list_any (is_bad_post d) steps ≡ false
-    → ltb 16384 (length d.tasks + 1) ≡ false → ltb 65536 (steps_in d + length steps) ≡ false → ltb 262144 (events_in d + events_of_task steps) ≡ false
+    → ltb MOST_TASKS (length d.tasks + 1) ≡ false → ltb MOST_STEPS (steps_in d + length steps) ≡ false → ltb MOST_EVENTS (events_in d + events_of_task steps) ≡ false
     → task_line d (number ∷ words) ≡ Ok (record d { tasks = d.tasks ++ steps ∷ [] })
 unfolding task_line
 task_goes d number words t steps t_is steps_are next declared posts no_actions scopes placed few_tasks few_steps few_events =
     rw (t_is, steps_are, next, declared, posts, no_actions, scopes, placed, few_tasks, few_steps, few_events) refl
 
-acted_goes : (d : Draft) (action : Action) → ltb 65536 (ticks_in d + ticks_of action) ≡ false → ltb 262144 (events_in d + events_of_action action) ≡ false
+acted_goes : (d : Draft) (action : Action) → ltb MOST_TICKS (ticks_in d + ticks_of action) ≡ false → ltb MOST_EVENTS (events_in d + events_of_action action) ≡ false
     → acted d action ≡ Ok (record d { actions = d.actions ++ action ∷ [] })
 acted_goes d action few_ticks few_events = rw (few_ticks, few_events) refl
 
 post_goes : (d : Draft) (task runner delay : List ℕ) (t r u : ℕ)
-    → number_from 0 max_id task ≡ Ok t → number_from 0 max_id runner ≡ Ok r → number_from 0 1000000000000 delay ≡ Ok u
+    → number_from 0 max_id task ≡ Ok t → number_from 0 max_id runner ≡ Ok r → number_from 0 MOST_MICROSECONDS delay ≡ Ok u
     → is_declared d (PostStep t r u) ≡ true → is_any_posted (posted_in d) (t ∷ []) ≡ false → is_bad_post d (PostStep t r u) ≡ false
     → post_line d (task ∷ runner ∷ delay ∷ []) ≡ acted d (Post t r u)
 unfolding post_line
@@ -75,10 +76,10 @@ shutdown_goes d never = rw never refl
 workers_same : (d d' : Draft) (words : List (List ℕ)) → form_workers d words ≡ Some d' → workers_line d words ≡ Ok d'
 unfolding form_workers
 workers_same d d' (number ∷ []) e =
-    let n = bind_some (number_in 1 64 number) (λ n. cond (is_none d.workers && is_bare d) (Some (record d { workers = Some n })) None) d' e in
+    let n = bind_some (number_in 1 MOST_WORKERS number) (λ n. cond (is_none d.workers && is_bare d) (Some (record d { workers = Some n })) None) d' e in
     let g = guard_some (is_none d.workers && is_bare d) (record d { workers = Some n.0 }) d' n.2 in
     let b = and_both (is_none d.workers) (is_bare d) g.0 in
-    workers_goes d number n.0 (number_from-same 1 64 number n.0 n.1) b.1 (not_said d.workers b.0) ∙ ap Ok g.1
+    workers_goes d number n.0 (number_from-same 1 MOST_WORKERS number n.0 n.1) b.1 (not_said d.workers b.0) ∙ ap Ok g.1
   where
     not_said : (o : Option ℕ) → is_none o ≡ true → is_some o ≡ false
     not_said None h = refl
@@ -108,14 +109,14 @@ runner_same d d' (number ∷ kind ∷ priority ∷ behaviour ∷ []) e =
     let k = bind_some (form_kind kind) (λ k. form_priority priority >>= λ p. form_behaviour behaviour >>= λ b. runner_added d r.0 k p b) d' r.2 in
     let p = bind_some (form_priority priority) (λ p. form_behaviour behaviour >>= λ b. runner_added d r.0 k.0 p b) d' k.2 in
     let b = bind_some (form_behaviour behaviour) (λ b. runner_added d r.0 k.0 p.0 b) d' p.2 in
-    let g = guard_some (eqb r.0 (length d.runners) && eqb (length d.actions) 0 && ltb (length d.runners) 4096)
+    let g = guard_some (eqb r.0 (length d.runners) && eqb (length d.actions) 0 && ltb (length d.runners) MOST_RUNNERS)
         (record d { runners = d.runners ++ runner_made k.0 p.0 b.0 ∷ [] }) d' b.2 in
-    let outer = and_both (eqb r.0 (length d.runners) && eqb (length d.actions) 0) (ltb (length d.runners) 4096) g.0 in
+    let outer = and_both (eqb r.0 (length d.runners) && eqb (length d.actions) 0) (ltb (length d.runners) MOST_RUNNERS) g.0 in
     let inner = and_both (eqb r.0 (length d.runners)) (eqb (length d.actions) 0) outer.0 in
     runner_goes d number kind priority behaviour r.0 k.0 p.0 b.0 (number_from-same 0 max_id number r.0 r.1) (kind_named-same kind k.0 k.1)
         (result_ok-some (priority_named priority) p.0 p.1)
     (result_ok-some (behaviour_named behaviour) b.0 b.1) inner.0 (shared_is_not_above d k.0 (form_kind-shared kind k.0 k.1)) inner.1
-    (fits 4096 (length d.runners + 1) (omega (arith, below _ _ outer.1)))
+    (fits MOST_RUNNERS (length d.runners + 1) (omega (arith, below _ _ outer.1)))
     ∙ ap Ok g.1
 runner_same d d' [] e = absurd cc
 runner_same d d' (a ∷ []) e = absurd cc
@@ -139,20 +140,20 @@ unfolding form_task
 task_same d d' (number ∷ words) sound e =
     let t = bind_some (number_in 0 max_id number) (λ t. form_steps words >>= λ steps. task_added d t steps) d' e in
     let steps = bind_some (form_steps words) (λ steps. task_added d t.0 steps) d' t.2 in
-    let g = guard_some (eqb t.0 (length d.tasks) && eqb (length d.actions) 0 && ltb (length d.tasks) 16384
-        && leb (steps_of_tasks d.tasks + length steps.0) 65536) (record d { tasks = d.tasks ++ steps.0 ∷ [] }) d' steps.2 in
-    let all = and_both (eqb t.0 (length d.tasks) && eqb (length d.actions) 0 && ltb (length d.tasks) 16384)
-        (leb (steps_of_tasks d.tasks + length steps.0) 65536) g.0 in
-    let outer = and_both (eqb t.0 (length d.tasks) && eqb (length d.actions) 0) (ltb (length d.tasks) 16384) all.0 in
+    let g = guard_some (eqb t.0 (length d.tasks) && eqb (length d.actions) 0 && ltb (length d.tasks) MOST_TASKS
+        && leb (steps_of_tasks d.tasks + length steps.0) MOST_STEPS) (record d { tasks = d.tasks ++ steps.0 ∷ [] }) d' steps.2 in
+    let all = and_both (eqb t.0 (length d.tasks) && eqb (length d.actions) 0 && ltb (length d.tasks) MOST_TASKS)
+        (leb (steps_of_tasks d.tasks + length steps.0) MOST_STEPS) g.0 in
+    let outer = and_both (eqb t.0 (length d.tasks) && eqb (length d.actions) 0) (ltb (length d.tasks) MOST_TASKS) all.0 in
     let inner = and_both (eqb t.0 (length d.tasks)) (eqb (length d.actions) 0) outer.0 in
     let compute : Computes steps.0 = form_steps-compute words steps.0 steps.1 in
     let few = below _ _ outer.1 in
     task_goes d number words t.0 steps.0 (number_from-same 0 max_id number t.0 t.1) (steps_read-same words steps.0 steps.1) inner.0
         (computes-declared d steps.0 compute)
     (computes-posts d steps.0 compute) inner.1 (computes-scopes steps.0 compute) (computes-misplaced d steps.0 compute)
-    (fits 16384 (length d.tasks + 1) (omega (arith, few)))
-    (fits 65536 (steps_in d + length steps.0) (omega (arith, sound-steps d sound, at_most _ _ all.1)))
-    (fits 262144 (events_in d + events_of_task steps.0) (omega (arith, few, bare_events d sound (eqb-true _ _ inner.1), computes-acts steps.0 compute)))
+    (fits MOST_TASKS (length d.tasks + 1) (omega (arith, few)))
+    (fits MOST_STEPS (steps_in d + length steps.0) (omega (arith, sound-steps d sound, at_most _ _ all.1)))
+    (fits MOST_EVENTS (events_in d + events_of_task steps.0) (omega (arith, few, bare_events d sound (eqb-true _ _ inner.1), computes-acts steps.0 compute)))
     ∙ ap Ok g.1
 task_same d d' [] sound e = absurd cc
 
@@ -161,11 +162,11 @@ fresh_here : (d : Draft) (t : ℕ) → IsSound d → is_posted d.actions t ≡ f
 fresh_here d t sound fresh = ap (λ (b : Bool). b || false) (sound-posted d t sound ∙ fresh)
 
 -- an action for which the entries are enough
-acted_same : (d : Draft) (action : Action) → IsSound d → ticks_of action ≡ 0 → form_events d + events_of_action action ≤ 262144
+acted_same : (d : Draft) (action : Action) → IsSound d → ticks_of action ≡ 0 → form_events d + events_of_action action ≤ MOST_EVENTS
     → acted d action ≡ Ok (record d { actions = d.actions ++ action ∷ [] })
 acted_same d action sound no_ticks room =
-    acted_goes d action (fits 65536 (ticks_in d + ticks_of action) (omega (arith, sound-ticks d sound, no_ticks)))
-    (fits 262144 (events_in d + events_of_action action) (omega (arith, room, sound-events d sound)))
+    acted_goes d action (fits MOST_TICKS (ticks_in d + ticks_of action) (omega (arith, sound-ticks d sound, no_ticks)))
+    (fits MOST_EVENTS (events_in d + events_of_action action) (omega (arith, room, sound-events d sound)))
 
 -- `post T R 0`
 post_same : (d d' : Draft) (words : List (List ℕ)) → IsSound d → form_post d words ≡ Some d' → post_line d words ≡ Ok d'
@@ -174,16 +175,16 @@ post_same d d' (task ∷ runner ∷ delay ∷ []) sound e =
     let t = bind_some (number_in 0 max_id task) (λ t. number_in 0 max_id runner >>= λ r. number_in 0 0 delay >>= λ u. post_added d t r u) d' e in
     let r = bind_some (number_in 0 max_id runner) (λ r. number_in 0 0 delay >>= λ u. post_added d t.0 r u) d' t.2 in
     let u = bind_some (number_in 0 0 delay) (λ u. post_added d t.0 r.0 u) d' r.2 in
-    let g = guard_some (ltb t.0 (length d.tasks) && ltb r.0 (length d.runners) && not (is_posted d.actions t.0) && ltb (form_events d) 262144)
+    let g = guard_some (ltb t.0 (length d.tasks) && ltb r.0 (length d.runners) && not (is_posted d.actions t.0) && ltb (form_events d) MOST_EVENTS)
         (record d { actions = d.actions ++ Post t.0 r.0 u.0 ∷ [] }) d' u.2 in
-    let all = and_both (ltb t.0 (length d.tasks) && ltb r.0 (length d.runners) && not (is_posted d.actions t.0)) (ltb (form_events d) 262144) g.0 in
+    let all = and_both (ltb t.0 (length d.tasks) && ltb r.0 (length d.runners) && not (is_posted d.actions t.0)) (ltb (form_events d) MOST_EVENTS) g.0 in
     let outer = and_both (ltb t.0 (length d.tasks) && ltb r.0 (length d.runners)) (not (is_posted d.actions t.0)) all.0 in
     let inner = and_both (ltb t.0 (length d.tasks)) (ltb r.0 (length d.runners)) outer.0 in
     let never : has_block d t.0 ≡ false = sound-has_block d t.0 sound (below _ _ inner.0) in
     let placed : is_bad_post d (PostStep t.0 r.0 u.0) ≡ false = blocks_not (has_block d t.0) _ never in
     let room = below _ _ all.1 in
     post_goes d task runner delay t.0 r.0 u.0 (number_from-same 0 max_id task t.0 t.1) (number_from-same 0 max_id runner r.0 r.1)
-    (number_from-wider 0 0 1000000000000 delay u.0 (omega arith) u.1) outer.0 (fresh_here d t.0 sound (not_true _ outer.1)) placed
+    (number_from-wider 0 0 MOST_MICROSECONDS delay u.0 (omega arith) u.1) outer.0 (fresh_here d t.0 sound (not_true _ outer.1)) placed
     ∙ acted_same d (Post t.0 r.0 u.0) sound refl (omega (arith, room)) ∙ ap Ok g.1
   where
     blocks_not : (b c : Bool) → b ≡ false → (b && c) ≡ false
@@ -198,7 +199,7 @@ post_same d d' (a ∷ b ∷ c ∷ f ∷ words) sound e = absurd cc
 flush_same : (d d' : Draft) (words : List (List ℕ)) → IsSound d → form_flush d words ≡ Some d' → flush_line d words ≡ Ok d'
 unfolding form_flush flush_line
 flush_same d d' [] sound e =
-    let g = guard_some (ltb (form_events d) 262144) (record d { actions = d.actions ++ Flush ∷ [] }) d' e in
+    let g = guard_some (ltb (form_events d) MOST_EVENTS) (record d { actions = d.actions ++ Flush ∷ [] }) d' e in
     let room = below _ _ g.0 in
     acted_same d Flush sound refl (omega (arith, room)) ∙ ap Ok g.1
 flush_same d d' (a ∷ words) sound e = absurd cc
@@ -207,8 +208,8 @@ flush_same d d' (a ∷ words) sound e = absurd cc
 shutdown_same : (d d' : Draft) (words : List (List ℕ)) → IsSound d → form_shutdown d words ≡ Some d' → shutdown_line d words ≡ Ok d'
 unfolding form_shutdown
 shutdown_same d d' [] sound e =
-    let g = guard_some (not (shuts_down d.actions) && ltb (form_events d + 1) 262144) (record d { actions = d.actions ++ Shutdown ∷ [] }) d' e in
-    let both = and_both (not (shuts_down d.actions)) (ltb (form_events d + 1) 262144) g.0 in
+    let g = guard_some (not (shuts_down d.actions) && ltb (form_events d + 1) MOST_EVENTS) (record d { actions = d.actions ++ Shutdown ∷ [] }) d' e in
+    let both = and_both (not (shuts_down d.actions)) (ltb (form_events d + 1) MOST_EVENTS) g.0 in
     let room = below _ _ both.1 in
     shutdown_goes d (not_true _ both.0) ∙ acted_same d Shutdown sound refl (omega (arith, room)) ∙ ap Ok g.1
 shutdown_same d d' (a ∷ words) sound e = absurd cc

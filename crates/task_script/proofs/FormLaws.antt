@@ -22,6 +22,7 @@ use Rattle.task_traits.specs.declared.traits.Priority.{Priority}
 use Rattle.task_traits.specs.declared.traits.Behaviour.{Behaviour}
 use Rattle.task_base.specs.declared.step.Step.{Step}
 use Rattle.task_base.specs.declared.step.Step.TheVariants.{Add, Mul, Set}
+use Rattle.task_base.specs.declared.limits.TheConstants.{MOST_WORKERS, MOST_RUNNERS, MOST_TASKS, MOST_STEPS, MOST_EVENTS}
 use Rattle.script_model.specs.Words.{number_of, is_word, begins_comment, is_all_ascii, lines_of, words_of}
 use Rattle.script_model.specs.Draft.{Draft, empty_draft, script_of, is_bare, is_shutdown}
 use Rattle.task_script.specs.FormDraft.{is_posted, shuts_down, steps_of_tasks, form_events}
@@ -162,8 +163,8 @@ starts_among-wants (action ∷ actions) = ap starts_among (flat_map-cons wants_o
 keeps_workers : (d d' : Draft) (words : List (List ℕ)) → IsSound d → form_workers d words ≡ Some d' → IsSound d'
 unfolding form_workers
 keeps_workers d d' (number ∷ []) sound e =
-    let n = bind_some (number_in 1 64 number) (λ n. cond (is_none d.workers && is_bare d) (Some (record d { workers = Some n })) None) d' e in
-    let bounds = number_in-bounds 1 64 number n.0 n.1 in
+    let n = bind_some (number_in 1 MOST_WORKERS number) (λ n. cond (is_none d.workers && is_bare d) (Some (record d { workers = Some n })) None) d' e in
+    let bounds = number_in-bounds 1 MOST_WORKERS number n.0 n.1 in
     let g = guard_some (is_none d.workers && is_bare d) (record d { workers = Some n.0 }) d' n.2 in
     subst IsSound g.1 (record {
       some_workers = bounds.0;
@@ -189,7 +190,7 @@ keeps_workers d d' [] sound e = absurd cc
 keeps_workers d d' (a ∷ b ∷ words) sound e = absurd cc
 
 -- a declaration keeps the script well formed where no action stands before it
-with_runner : (d : Draft) (made : Runner) → is_single made.kind ≡ false → IsSound d → length d.actions ≡ 0 → length d.runners < 4096
+with_runner : (d : Draft) (made : Runner) → is_single made.kind ≡ false → IsSound d → length d.actions ≡ 0 → length d.runners < MOST_RUNNERS
     → IsSound (record d { runners = d.runners ++ made ∷ [] })
 with_runner d made shared sound none few = record {
   some_workers = sound.some_workers;
@@ -211,7 +212,7 @@ with_runner d made shared sound none few = record {
   posts_sound = λ k t r u h. absurd (no_wants_at d k (WantsPost t r u) none h);
 }
 
-with_task : (d : Draft) (steps : List Step) → Computes steps → IsSound d → length d.actions ≡ 0 → length d.tasks < 16384
+with_task : (d : Draft) (steps : List Step) → Computes steps → IsSound d → length d.actions ≡ 0 → length d.tasks < MOST_TASKS
     → IsSound (record d { tasks = d.tasks ++ steps ∷ [] })
 with_task d steps compute sound none few = record {
   some_workers = sound.some_workers;
@@ -238,7 +239,7 @@ runner_made k p b = record { kind = k; traits = record { priority = p; behaviour
 
 abbrev pub runner_added : Draft → ℕ → RunnerKind → Priority → Behaviour → Option Draft
 runner_added d r k p b =
-    cond (eqb r (length d.runners) && eqb (length d.actions) 0 && ltb (length d.runners) 4096)
+    cond (eqb r (length d.runners) && eqb (length d.actions) 0 && ltb (length d.runners) MOST_RUNNERS)
         (Some (record d { runners = d.runners ++ runner_made k p b ∷ [] })) None
 
 -- `runner R KIND PRIORITY BEHAVIOUR`
@@ -250,9 +251,9 @@ keeps_runner d d' (number ∷ kind ∷ priority ∷ behaviour ∷ []) sound e =
     let k = bind_some (form_kind kind) (λ k. form_priority priority >>= λ p. form_behaviour behaviour >>= λ b. runner_added d r.0 k p b) d' r.2 in
     let p = bind_some (form_priority priority) (λ p. form_behaviour behaviour >>= λ b. runner_added d r.0 k.0 p b) d' k.2 in
     let b = bind_some (form_behaviour behaviour) (λ b. runner_added d r.0 k.0 p.0 b) d' p.2 in
-    let g = guard_some (eqb r.0 (length d.runners) && eqb (length d.actions) 0 && ltb (length d.runners) 4096)
+    let g = guard_some (eqb r.0 (length d.runners) && eqb (length d.actions) 0 && ltb (length d.runners) MOST_RUNNERS)
         (record d { runners = d.runners ++ runner_made k.0 p.0 b.0 ∷ [] }) d' b.2 in
-    let outer = and_both (eqb r.0 (length d.runners) && eqb (length d.actions) 0) (ltb (length d.runners) 4096) g.0 in
+    let outer = and_both (eqb r.0 (length d.runners) && eqb (length d.actions) 0) (ltb (length d.runners) MOST_RUNNERS) g.0 in
     let inner = and_both (eqb r.0 (length d.runners)) (eqb (length d.actions) 0) outer.0 in
     subst IsSound {x = record d { runners = d.runners ++ runner_made k.0 p.0 b.0 ∷ [] }} g.1
         (with_runner d (runner_made k.0 p.0 b.0) (form_kind-shared kind k.0 k.1) sound (eqb-true _ _ inner.1) (below _ _ outer.1))
@@ -264,7 +265,7 @@ keeps_runner d d' (a ∷ b ∷ c ∷ f ∷ g ∷ words) sound e = absurd cc
 
 abbrev pub task_added : Draft → ℕ → List Step → Option Draft
 task_added d t steps =
-    cond (eqb t (length d.tasks) && eqb (length d.actions) 0 && ltb (length d.tasks) 16384 && leb (steps_of_tasks d.tasks + length steps) 65536)
+    cond (eqb t (length d.tasks) && eqb (length d.actions) 0 && ltb (length d.tasks) MOST_TASKS && leb (steps_of_tasks d.tasks + length steps) MOST_STEPS)
         (Some (record d { tasks = d.tasks ++ steps ∷ [] })) None
 
 -- `task T STEPS`
@@ -273,11 +274,11 @@ unfolding form_task
 keeps_task d d' (number ∷ words) sound e =
     let t = bind_some (number_in 0 max_id number) (λ t. form_steps words >>= λ steps. task_added d t steps) d' e in
     let steps = bind_some (form_steps words) (λ steps. task_added d t.0 steps) d' t.2 in
-    let g = guard_some (eqb t.0 (length d.tasks) && eqb (length d.actions) 0 && ltb (length d.tasks) 16384
-        && leb (steps_of_tasks d.tasks + length steps.0) 65536) (record d { tasks = d.tasks ++ steps.0 ∷ [] }) d' steps.2 in
-    let all = and_both (eqb t.0 (length d.tasks) && eqb (length d.actions) 0 && ltb (length d.tasks) 16384)
-        (leb (steps_of_tasks d.tasks + length steps.0) 65536) g.0 in
-    let outer = and_both (eqb t.0 (length d.tasks) && eqb (length d.actions) 0) (ltb (length d.tasks) 16384) all.0 in
+    let g = guard_some (eqb t.0 (length d.tasks) && eqb (length d.actions) 0 && ltb (length d.tasks) MOST_TASKS
+        && leb (steps_of_tasks d.tasks + length steps.0) MOST_STEPS) (record d { tasks = d.tasks ++ steps.0 ∷ [] }) d' steps.2 in
+    let all = and_both (eqb t.0 (length d.tasks) && eqb (length d.actions) 0 && ltb (length d.tasks) MOST_TASKS)
+        (leb (steps_of_tasks d.tasks + length steps.0) MOST_STEPS) g.0 in
+    let outer = and_both (eqb t.0 (length d.tasks) && eqb (length d.actions) 0) (ltb (length d.tasks) MOST_TASKS) all.0 in
     let inner = and_both (eqb t.0 (length d.tasks)) (eqb (length d.actions) 0) outer.0 in
     subst IsSound {x = record d { tasks = d.tasks ++ steps.0 ∷ [] }} g.1
         (with_task d steps.0 (form_steps-compute words steps.0 steps.1) sound (eqb-true _ _ inner.1) (below _ _ outer.1))
@@ -285,7 +286,7 @@ keeps_task d d' [] sound e = absurd cc
 
 -- an action keeps the script well formed, if it is a sound post where it is a post
 with_action : (d : Draft) (action : Action) → is_form_action action ≡ true → IsSound d
-    → 2 * length d.tasks + length (all_wants (script_of d)) + length (wants_of action) ≤ 262144 →
+    → 2 * length d.tasks + length (all_wants (script_of d)) + length (wants_of action) ≤ MOST_EVENTS →
     length (wants_of action) + cond (shuts_down d.actions) 1 0 ≡ 1 + cond (shuts_down (d.actions ++ action ∷ [])) 1 0 →
     ((j : ℕ) → slice_get (wants_of action) j ≡ Some WantsShutdown → (j ≡ 0) × (shuts_down d.actions ≡ false)) →
     ((j t r u : ℕ) → slice_get (wants_of action) j ≡ Some (WantsPost t r u)
@@ -350,7 +351,7 @@ with_action d action of_form sound room once start post = record {
 
 abbrev pub post_added : Draft → ℕ → ℕ → ℕ → Option Draft
 post_added d t r u =
-    cond (ltb t (length d.tasks) && ltb r (length d.runners) && not (is_posted d.actions t) && ltb (form_events d) 262144)
+    cond (ltb t (length d.tasks) && ltb r (length d.runners) && not (is_posted d.actions t) && ltb (form_events d) MOST_EVENTS)
         (Some (record d { actions = d.actions ++ Post t r u ∷ [] })) None
 
 -- an action that does not start shutdown leaves the script as it was in this
@@ -381,9 +382,9 @@ keeps_post d d' (task ∷ runner ∷ delay ∷ []) sound e =
     let r = bind_some (number_in 0 max_id runner) (λ r. number_in 0 0 delay >>= λ u. post_added d t.0 r u) d' t.2 in
     let u = bind_some (number_in 0 0 delay) (λ u. post_added d t.0 r.0 u) d' r.2 in
     let now = number_in-bounds 0 0 delay u.0 u.1 in
-    let g = guard_some (ltb t.0 (length d.tasks) && ltb r.0 (length d.runners) && not (is_posted d.actions t.0) && ltb (form_events d) 262144)
+    let g = guard_some (ltb t.0 (length d.tasks) && ltb r.0 (length d.runners) && not (is_posted d.actions t.0) && ltb (form_events d) MOST_EVENTS)
         (record d { actions = d.actions ++ Post t.0 r.0 u.0 ∷ [] }) d' u.2 in
-    let all = and_both (ltb t.0 (length d.tasks) && ltb r.0 (length d.runners) && not (is_posted d.actions t.0)) (ltb (form_events d) 262144) g.0 in
+    let all = and_both (ltb t.0 (length d.tasks) && ltb r.0 (length d.runners) && not (is_posted d.actions t.0)) (ltb (form_events d) MOST_EVENTS) g.0 in
     let outer = and_both (ltb t.0 (length d.tasks) && ltb r.0 (length d.runners)) (not (is_posted d.actions t.0)) all.0 in
     let inner = and_both (ltb t.0 (length d.tasks)) (ltb r.0 (length d.runners)) outer.0 in
     let fresh : is_posted d.actions t.0 ≡ false = not_true _ outer.1 in
@@ -407,7 +408,7 @@ keeps_post d d' (a ∷ b ∷ c ∷ f ∷ words) sound e = absurd cc
 keeps_flush : (d d' : Draft) (words : List (List ℕ)) → IsSound d → form_flush d words ≡ Some d' → IsSound d'
 unfolding form_flush
 keeps_flush d d' [] sound e =
-    let g = guard_some (ltb (form_events d) 262144) (record d { actions = d.actions ++ Flush ∷ [] }) d' e in
+    let g = guard_some (ltb (form_events d) MOST_EVENTS) (record d { actions = d.actions ++ Flush ∷ [] }) d' e in
     let full = below _ _ g.0 in
     subst IsSound g.1 (with_action d Flush refl sound (omega (arith, full, sound.wants_count))
         (ap (λ (b : Bool). 1 + cond b 1 0) (sym (shuts_down-push d.actions Flush refl))) start none)
@@ -426,14 +427,14 @@ keeps_flush d d' (a ∷ words) sound e = absurd cc
 keeps_shutdown : (d d' : Draft) (words : List (List ℕ)) → IsSound d → form_shutdown d words ≡ Some d' → IsSound d'
 unfolding form_shutdown
 keeps_shutdown d d' [] sound e =
-    let g = guard_some (not (shuts_down d.actions) && ltb (form_events d + 1) 262144) (record d { actions = d.actions ++ Shutdown ∷ [] }) d' e in
-    let both = and_both (not (shuts_down d.actions)) (ltb (form_events d + 1) 262144) g.0 in
+    let g = guard_some (not (shuts_down d.actions) && ltb (form_events d + 1) MOST_EVENTS) (record d { actions = d.actions ++ Shutdown ∷ [] }) d' e in
+    let both = and_both (not (shuts_down d.actions)) (ltb (form_events d + 1) MOST_EVENTS) g.0 in
     let full = below _ _ both.1 in
     subst IsSound g.1 (with_action d Shutdown refl sound (omega (arith, full, sound.wants_count)) (once never) start none)
   where
     never : shuts_down d.actions ≡ false
-    never = not_true _ (and_both (not (shuts_down d.actions)) (ltb (form_events d + 1) 262144)
-        (guard_some (not (shuts_down d.actions) && ltb (form_events d + 1) 262144) (record d { actions = d.actions ++ Shutdown ∷ [] }) d' e).0).0
+    never = not_true _ (and_both (not (shuts_down d.actions)) (ltb (form_events d + 1) MOST_EVENTS)
+        (guard_some (not (shuts_down d.actions) && ltb (form_events d + 1) MOST_EVENTS) (record d { actions = d.actions ++ Shutdown ∷ [] }) d' e).0).0
 
     start : (j : ℕ) → slice_get (WantsShutdown ∷ WantsDone ∷ []) j ≡ Some WantsShutdown → (j ≡ 0) × (shuts_down d.actions ≡ false)
     start zero h = (refl, never)
