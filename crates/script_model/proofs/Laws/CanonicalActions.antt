@@ -239,8 +239,8 @@ action_room s sound done action rest e =
     let d = acted_at s done in
     let ticks = sum_at ticks_of done action rest s.actions e in
     let bound = sum_at events_of_action done action rest s.actions e in
-    let few_ticks : ticks_in d + ticks_of action ≤ MOST_TICKS = omega (arith, ticks, sound.few_ticks) in
-    let few_events : events_in d + events_of_action action ≤ MOST_EVENTS = omega (arith, bound, sound.few_events) in
+    let few_ticks : ticks_in d + ticks_of action ≤ MOST_TICKS = omega (arith, ticks, sound.limits.few_ticks) in
+    let few_events : events_in d + events_of_action action ≤ MOST_EVENTS = omega (arith, bound, sound.limits.few_events) in
     (le-ltb MOST_TICKS (ticks_in d + ticks_of action) few_ticks, (le-ltb MOST_EVENTS (events_in d + events_of_action action) few_events, tt))
 
 action_fresh : (s : Plan) → IsPostedOnce s → (done : List Action) (action : Action) (rest : List Action) → done ++ action ∷ rest ≡ s.actions
@@ -277,30 +277,30 @@ any_action_read : (s : Plan) → IsSound s → (done : List Action) (action : Ac
     → is_any_posted (posted_in (acted_at s done)) (posts_of_action action) ≡ false → Passed (room (acted_at s done) action)
     → IsLineRead (acted_at s done) (action_words action) (acted_at s (done ++ action ∷ []))
 any_action_read s sound done (Post task runner delay) made order fresh passed = post_read (acted_at s done) task runner delay
-    (omega (arith, made.0.task_declared, sound.few_tasks)) (omega (arith, made.0.runner_declared, sound.few_runners)) made.1
+    (omega (arith, made.0.task_declared, sound.limits.few_tasks)) (omega (arith, made.0.runner_declared, sound.limits.few_runners)) made.1
     (post_passed s done task runner delay made.0 fresh passed)
 any_action_read s sound done (Main task queue delay) made order fresh passed = main_read (acted_at s done) task queue delay
-    (omega (arith, made.0.task_declared, sound.few_tasks)) (omega (arith, made.0.queue_declared, sound.few_queues)) made.1
+    (omega (arith, made.0.task_declared, sound.limits.few_tasks)) (omega (arith, made.0.queue_declared, sound.limits.few_queues)) made.1
     (main_passed s done task queue delay made.0 fresh passed)
 any_action_read s sound done (Tick n) made order fresh passed = tick_read (acted_at s done) n made.0 made.1 passed
 any_action_read s sound done (PolicyAction policy) made order fresh passed = policy_read (acted_at s done) policy passed
-any_action_read s sound done (Fence queue place) made order fresh passed = fence_read (acted_at s done) queue place (omega (arith, made, sound.few_queues))
+any_action_read s sound done (Fence queue place) made order fresh passed = fence_read (acted_at s done) queue place (omega (arith, made, sound.limits.few_queues))
     (queue_passed s queue made, passed)
-any_action_read s sound done (Unfence queue) made order fresh passed = unfence_read (acted_at s done) queue (omega (arith, made, sound.few_queues))
+any_action_read s sound done (Unfence queue) made order fresh passed = unfence_read (acted_at s done) queue (omega (arith, made, sound.limits.few_queues))
     (queue_passed s queue made, passed)
 any_action_read s sound done (Vote queue voter on) made order fresh passed = vote_read (acted_at s done) queue voter on
-    (omega (arith, made.0, sound.few_queues)) made.1 (ap not made.2, passed)
+    (omega (arith, made.0, sound.limits.few_queues)) made.1 (ap not made.2, passed)
 any_action_read s sound done (Rank queue class) made order fresh passed = rank_read (acted_at s done) queue class
-    (omega (arith, made.0, sound.few_queues)) made.1 (queue_passed s queue made.0, passed)
-any_action_read s sound done (Close queue) made order fresh passed = close_read (acted_at s done) queue (omega (arith, made, sound.few_queues))
+    (omega (arith, made.0, sound.limits.few_queues)) made.1 (queue_passed s queue made.0, passed)
+any_action_read s sound done (Close queue) made order fresh passed = close_read (acted_at s done) queue (omega (arith, made, sound.limits.few_queues))
     (queue_passed s queue made, passed)
 any_action_read s sound done (Pump n) made order fresh passed = pump_read (acted_at s done) n made.0 made.1 passed
 any_action_read s sound done Flush made order fresh passed = flush_read (acted_at s done) passed
-any_action_read s sound done (StartJob job) made order fresh passed = start_job_read (acted_at s done) job (omega (arith, made, sound.few_jobs))
+any_action_read s sound done (StartJob job) made order fresh passed = start_job_read (acted_at s done) job (omega (arith, made, sound.limits.few_jobs))
     (job_passed s job made, (order, passed))
-any_action_read s sound done (Join job) made order fresh passed = join_read (acted_at s done) job (omega (arith, made, sound.few_jobs))
+any_action_read s sound done (Join job) made order fresh passed = join_read (acted_at s done) job (omega (arith, made, sound.limits.few_jobs))
     (job_passed s job made, (ap not order, passed))
-any_action_read s sound done (Cancel job) made order fresh passed = cancel_read (acted_at s done) job (omega (arith, made, sound.few_jobs))
+any_action_read s sound done (Cancel job) made order fresh passed = cancel_read (acted_at s done) job (omega (arith, made, sound.limits.few_jobs))
     (job_passed s job made, (ap not order, passed))
 any_action_read s sound done Shutdown made order fresh passed = shutdown_read (acted_at s done) (order, passed)
 
@@ -308,9 +308,9 @@ action_read : (s : Plan) → IsSound s → (done : List Action) (action : Action
     → IsLineRead (acted_at s done) (action_words action) (acted_at s (done ++ action ∷ []))
 action_read s sound done action rest e =
     let before : take (length done) s.actions ≡ done = ap (λ (xs : List Action). take (length done) xs) (sym e) ∙ take-append_seam done (action ∷ rest) in
-    any_action_read s sound done action (all_at (IsActionSound s) done action rest s.actions e sound.actions_sound)
-    (subst (λ (earlier : List Action). IsInOrder earlier action) before (sound.in_order (length done) action (get_at done action rest s.actions e)))
-    (action_fresh s sound.posted_once done action rest e) (action_room s sound done action rest e)
+    any_action_read s sound done action (all_at (IsActionSound s) done action rest s.actions e sound.actions.each_sound)
+    (subst (λ (earlier : List Action). IsInOrder earlier action) before (sound.actions.in_order (length done) action (get_at done action rest s.actions e)))
+    (action_fresh s sound.once.posted_once done action rest e) (action_room s sound done action rest e)
 
 -- ---- the script
 

@@ -153,10 +153,10 @@ workers_read s sound =
     record {
       reads = line_is (number_at 1 MOST_WORKERS words 0 & ends_at words 1) (λ p. (not (is_bare empty_draft), declaration_late) ∷ (false, config_twice) ∷ [])
           (λ p. record empty_draft { workers = Some p.0 }) (s.workers, tt)
-          (both_is (number_at 1 MOST_WORKERS words 0) (ends_at words 1) s.workers tt (number_is 1 MOST_WORKERS s.workers sound.some_workers sound.few_workers (omega arith)) refl)
+          (both_is (number_at 1 MOST_WORKERS words 0) (ends_at words 1) s.workers tt (number_is 1 MOST_WORKERS s.workers sound.config.some_workers sound.config.few_workers (omega arith)) refl)
               (refl, (refl, tt));
       starts = refl;
-      plain = plain_cons (codes "workers") words refl (plain_cons (decimal s.workers) [] (plain_id s.workers (omega (arith, sound.few_workers))) refl);
+      plain = plain_cons (codes "workers") words refl (plain_cons (decimal s.workers) [] (plain_id s.workers (omega (arith, sound.config.few_workers))) refl);
     }
 
 groups_read : (s : Plan) → IsSound s → IsLineRead (record empty_draft { workers = Some s.workers })
@@ -173,18 +173,18 @@ groups_read s sound =
           (λ p. record d { groups = Some (record { foreground = p.0; foreground_best = p.1.0; background = p.1.1.0 }) })
               (s.foreground, (s.foreground_best, (s.background, tt)))
           (both_is (number_at 1 64 words 0) (number_at 1 64 words 1 & number_at 0 64 words 2 & ends_at words 3) s.foreground
-              (s.foreground_best, (s.background, tt)) (number_is 1 64 s.foreground sound.some_foreground sound.few_foreground (omega arith))
+              (s.foreground_best, (s.background, tt)) (number_is 1 64 s.foreground sound.config.some_foreground sound.config.few_foreground (omega arith))
           (both_is (number_at 1 64 words 1) (number_at 0 64 words 2 & ends_at words 3) s.foreground_best (s.background, tt)
-              (number_is 1 64 s.foreground_best sound.some_best (omega (arith, sound.best_within, sound.few_foreground)) (omega arith))
+              (number_is 1 64 s.foreground_best sound.config.some_best (omega (arith, sound.config.best_within, sound.config.few_foreground)) (omega arith))
           (both_is (number_at 0 64 words 2) (ends_at words 3) s.background tt
-              (number_is 0 64 s.background (omega arith) sound.few_background (omega arith)) refl)))
-          (le-ltb s.foreground s.foreground_best sound.best_within, (refl, (refl, tt)));
+              (number_is 0 64 s.background (omega arith) sound.config.few_background (omega arith)) refl)))
+          (le-ltb s.foreground s.foreground_best sound.config.best_within, (refl, (refl, tt)));
       starts = refl;
       plain = plain_cons (codes "groups") words refl (plain_cons (decimal s.foreground) (decimal s.foreground_best ∷ decimal s.background ∷ [])
-          (plain_id s.foreground (omega (arith, sound.few_foreground)))
+          (plain_id s.foreground (omega (arith, sound.config.few_foreground)))
           (plain_cons (decimal s.foreground_best) (decimal s.background ∷ [])
-              (plain_id s.foreground_best (omega (arith, sound.best_within, sound.few_foreground)))
-              (plain_cons (decimal s.background) [] (plain_id s.background (omega (arith, sound.few_background))) refl)));
+              (plain_id s.foreground_best (omega (arith, sound.config.best_within, sound.config.few_foreground)))
+              (plain_cons (decimal s.background) [] (plain_id s.background (omega (arith, sound.config.few_background))) refl)));
     }
 
 threshold_read : (s : Plan) → IsSound s → IsLineRead (record empty_draft
@@ -198,9 +198,9 @@ threshold_read s sound =
     record {
       reads = line_is (time_at words 0 & ends_at words 1) (λ p. (not (is_bare d), declaration_late) ∷ (false, config_twice) ∷ [])
           (λ p. record d { threshold = Some p.0 }) (s.threshold, tt)
-          (both_is (time_at words 0) (ends_at words 1) s.threshold tt (time_is s.threshold sound.threshold_within) refl) (refl, (refl, tt));
+          (both_is (time_at words 0) (ends_at words 1) s.threshold tt (time_is s.threshold sound.config.threshold_within) refl) (refl, (refl, tt));
       starts = refl;
-      plain = plain_cons (codes "threshold") words refl (plain_cons (decimal s.threshold) [] (plain_time s.threshold sound.threshold_within) refl);
+      plain = plain_cons (codes "threshold") words refl (plain_cons (decimal s.threshold) [] (plain_time s.threshold sound.config.threshold_within) refl);
     }
 
 pub config_read : (s : Plan) → IsSound s → AreRead empty_draft (config_lines s) (draft_at s [] [] [] [] [])
@@ -249,9 +249,9 @@ runner_read s sound done runner rest e =
     let kind = runner.kind in let priority = runner.traits.priority in let behaviour = runner.traits.behaviour in let may_block = runner.traits.may_block in
     let words = decimal r ∷ kind_word kind ∷ priority_word priority ∷ behaviour_word behaviour ∷ may_block_words may_block in
     let counted = length_at done runner rest s.runners e in
-    let few : length done + 1 ≤ MOST_RUNNERS = omega (arith, counted, sound.few_runners) in
-    let seat : IsSeatThere s kind = all_at (λ (x : Runner). IsSeatThere s x.kind) done runner rest s.runners e sound.seats_there in
-    let readable = seat_readable s sound.few_workers kind seat in
+    let few : length done + 1 ≤ MOST_RUNNERS = omega (arith, counted, sound.limits.few_runners) in
+    let seat : IsSeatThere s kind = all_at (λ (x : Runner). IsSeatThere s x.kind) done runner rest s.runners e sound.declarations.seats_there in
+    let readable = seat_readable s sound.config.few_workers kind seat in
     record {
       reads = line_is (id_at words 0 & said_at kind_named words 1 & said_at priority_named words 2 & said_at behaviour_named words 3 & may_block_at words 4 &
           ends_at words 5)
@@ -285,8 +285,8 @@ queue_read s sound done queue rest e =
     let q = length done in
     let words = decimal q ∷ decimal queue.class ∷ decimal queue.voters ∷ [] in
     let counted = length_at done queue rest s.queues e in
-    let few : length done + 1 ≤ MOST_QUEUES = omega (arith, counted, sound.few_queues) in
-    let within : IsQueueWithin queue = all_at IsQueueWithin done queue rest s.queues e sound.queues_within in
+    let few : length done + 1 ≤ MOST_QUEUES = omega (arith, counted, sound.limits.few_queues) in
+    let within : IsQueueWithin queue = all_at IsQueueWithin done queue rest s.queues e sound.declarations.queues_within in
     record {
       reads = line_is (id_at words 0 & number_at 0 7 words 1 & number_at 0 16 words 2 & ends_at words 3)
           (λ p. (not (p.0 == length d.queues), out_of_order) ∷ (not (has_no_actions d), declaration_late) ∷
@@ -356,8 +356,8 @@ step_readable : (s : Plan) → IsSound s → (t : ℕ) → t ≤ 65536 → (step
 step_readable s sound t low (Add by) within h = within
 step_readable s sound t low (Mul by) within h = within
 step_readable s sound t low (Set to) within h = within
-step_readable s sound t low (PostStep task runner delay) within h = (omega (arith, low, h.0), omega (arith, h.1.runner_declared, sound.few_runners), within)
-step_readable s sound t low (MainStep task queue delay) within h = (omega (arith, low, h.0), omega (arith, h.1.queue_declared, sound.few_queues), within)
+step_readable s sound t low (PostStep task runner delay) within h = (omega (arith, low, h.0), omega (arith, h.1.runner_declared, sound.limits.few_runners), within)
+step_readable s sound t low (MainStep task queue delay) within h = (omega (arith, low, h.0), omega (arith, h.1.queue_declared, sound.limits.few_queues), within)
 step_readable s sound t low (Block scope) within h = tt
 step_readable s sound t low Unblock within h = tt
 
@@ -419,12 +419,12 @@ task_read s sound done steps rest e =
     let t = length done in
     let words = decimal t ∷ steps_words steps in
     let counted = length_at done steps rest s.tasks e in
-    let few : length done + 1 ≤ MOST_TASKS = omega (arith, counted, sound.few_tasks) in
+    let few : length done + 1 ≤ MOST_TASKS = omega (arith, counted, sound.limits.few_tasks) in
     let summed = sum_at (λ (x : List Step). length x) done steps rest s.tasks e in
     let bound = sum_at events_of_task done steps rest s.tasks e in
-    let few_steps : steps_in d + length steps ≤ MOST_STEPS = omega (arith, summed, sound.few_steps) in
-    let few_events : events_in d + events_of_task steps ≤ MOST_EVENTS = omega (arith, bound, sound.few_events) in
-    let made : IsTaskSound s t steps = sound.tasks_sound t steps (get_at done steps rest s.tasks e) in
+    let few_steps : steps_in d + length steps ≤ MOST_STEPS = omega (arith, summed, sound.limits.few_steps) in
+    let few_events : events_in d + events_of_task steps ≤ MOST_EVENTS = omega (arith, bound, sound.limits.few_events) in
+    let made : IsTaskSound s t steps = sound.declarations.tasks_sound t steps (get_at done steps rest s.tasks e) in
     let readable = steps_readable s sound t (omega (arith, few)) steps made.steps_within made.steps_sound in
     record {
       reads = line_is (id_at words 0 & steps_read (drop 1 words))
@@ -439,7 +439,7 @@ task_read s sound done steps rest e =
             (
               ap not (steps_declared s done steps made.steps_sound),
               (
-                task_fresh s sound.posted_once done steps rest e,
+                task_fresh s sound.once.posted_once done steps rest e,
                 (
                   refl,
                   (
@@ -504,14 +504,14 @@ job_read s sound done job rest e =
     let steps = job.steps in
     let words = decimal j ∷ priority_word job.priority ∷ behaviour_word job.behaviour ∷ decimal job.items ∷ decimal job.cap ∷ steps_words steps in
     let counted = length_at done job rest s.jobs e in
-    let few : length done + 1 ≤ MOST_JOBS = omega (arith, counted, sound.few_jobs) in
+    let few : length done + 1 ≤ MOST_JOBS = omega (arith, counted, sound.limits.few_jobs) in
     let items = sum_at (λ (x : JobPlan). x.items) done job rest s.jobs e in
     let summed = sum_at (λ (x : JobPlan). length x.steps) done job rest s.jobs e in
     let bound = sum_at events_of_job done job rest s.jobs e in
-    let few_items : items_in d + job.items ≤ MOST_ITEMS = omega (arith, items, sound.few_items) in
-    let few_steps : steps_in d + length steps ≤ MOST_STEPS = omega (arith, summed, sound.few_steps) in
-    let few_events : events_in d + events_of_job job ≤ MOST_EVENTS = omega (arith, bound, sound.few_events) in
-    let made : IsJobSound job = all_at IsJobSound done job rest s.jobs e sound.jobs_sound in
+    let few_items : items_in d + job.items ≤ MOST_ITEMS = omega (arith, items, sound.limits.few_items) in
+    let few_steps : steps_in d + length steps ≤ MOST_STEPS = omega (arith, summed, sound.limits.few_steps) in
+    let few_events : events_in d + events_of_job job ≤ MOST_EVENTS = omega (arith, bound, sound.limits.few_events) in
+    let made : IsJobSound job = all_at IsJobSound done job rest s.jobs e sound.declarations.jobs_sound in
     let readable = computing_readable steps made.steps_within made.steps_compute in
     let fresh : is_any_posted (posted_in d) (flat_map posts_of_step steps)
         ≡ false = ap (is_any_posted (posted_in d)) (computing_posts steps made.steps_compute) in

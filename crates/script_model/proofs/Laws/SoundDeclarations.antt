@@ -1,6 +1,6 @@
 -- What a configuration line or a declaration adds to a sound script keeps it sound.
 use Rattle.std.proofs.Common.{◌≡◌, ℕ, ◌+◌, ◌<◌, ◌≤◌, Bool, true, false, eqb, List, [], ◌∷◌, ◌++◌, length, drop, refl, sym, ap, subst, ◌∙◌, inl, inr, Option, Some, Ok, arith}
-use Rattle.std.specs.Prelude.{◌^◌, not, ◌&&◌, ◌==◌, nat_lt, slice_get, slice_index_or, is_some, flat_map, option_map, unwrap_or}
+use Rattle.std.specs.Prelude.{sum_by, not, ◌&&◌, ◌==◌, nat_lt, slice_get, slice_index_or, is_some, flat_map, option_map, unwrap_or}
 use Rattle.std.specs.List.{list_any, list_all, AllByRecursion}
 use Rattle.std.proofs.lemmas.Grind.{flat_map-append}
 use Rattle.std.proofs.lemmas.List.Concat.{flat_map-cons}
@@ -19,13 +19,13 @@ use Rattle.task_base.specs.declared.script.MainQueue.{MainQueue}
 use Rattle.task_base.specs.declared.script.Action.{Action}
 use Rattle.script_model.specs.Reasons.{◌&◌, out_of_range, out_of_order, undeclared, posted_twice, declaration_late, bad_block, job_use, config_twice, too_many}
 use Rattle.script_model.specs.Places.{said_at, ends_at, number_at, id_at, time_at, priority_named, behaviour_named, kind_named, may_block_at, steps_read}
-use Rattle.script_model.specs.Bound.{events_of_task, events_of_job}
+use Rattle.script_model.specs.Bound.{events_of_task, events_of_job, events_bound_of}
 use Rattle.script_model.specs.Postings.{posts_of_step, posts_of_action, postings, times, IsPostedOnce}
 use Rattle.std.proofs.Math.ListN.{get_or-append}
-use Rattle.script_model.specs.Draft.{Draft, is_block, script_of, has_no_actions, is_bare, is_above_workers, is_declared, posted_in, is_any_posted, has_bad_scopes, is_bad_post, items_in, steps_in, events_in, workers_in, opens_scope, may_block_on}
+use Rattle.script_model.specs.Draft.{Draft, Groups, is_block, script_of, has_no_actions, is_bare, is_above_workers, is_declared, posted_in, is_any_posted, has_bad_scopes, is_bad_post, items_in, steps_in, events_in, workers_in, opens_scope, may_block_on}
 use Rattle.task_base.specs.declared.limits.TheConstants.{MOST_WORKERS, MOST_RUNNERS, MOST_QUEUES, MOST_TASKS, MOST_JOBS, MOST_ITEMS, MOST_STEPS, MOST_EVENTS, MOST_MICROSECONDS}
 use Rattle.script_model.specs.Lines.{workers_line, groups_line, threshold_line, runner_line, queue_line, task_line, job_line}
-use Rattle.script_model.specs.Laws.Sound.{IsSound, IsRunnerPost, IsQueuePost, IsSeatThere, IsQueueWithin, IsStepSound, IsTaskSound, IsJobSound, IsActionSound}
+use Rattle.script_model.specs.Laws.Sound.{IsSound, IsConfigSound, AreActionsSound, IsRunnerPost, IsQueuePost, IsSeatThere, IsQueueWithin, IsStepSound, IsTaskSound, IsJobSound, IsActionSound}
 use Rattle.list_laws.proofs.Lists.{count-append, AllByRecursion-map}
 use Rattle.script_model.proofs.Laws.SoundParts.{both_ok, line_ok, number_at-within, said_ok, IsSeatWithin, kind_named-within, steps_read-within, not_false, and_both, or_neither, at_most, below, nothing, slice_get_front, slice_get_push, all_push, times_fresh}
 
@@ -43,9 +43,12 @@ bare_parts d e =
     let f = and_both (eqb (length d.runners) 0) (eqb (length d.queues) 0) c.0 in
     (nothing d.runners f.0, nothing d.actions a.1)
 
--- where nothing is done, all actions are sound
-no_actions_sound : (script : Plan) (actions : List Action) → actions ≡ [] → AllByRecursion (IsActionSound script) actions
-no_actions_sound script actions none = subst (AllByRecursion (IsActionSound script)) (sym none) tt
+-- where nothing is done, the actions are sound
+no_actions : (script : Plan) → script.actions ≡ [] → AreActionsSound script
+no_actions script none = record {
+  each_sound = subst (AllByRecursion (IsActionSound script)) (sym none) tt;
+  in_order = λ k action h. absurd (let e : slice_get [] k ≡ Some action = rw none at h in cc);
+}
 
 no_seats : (script : Plan) (runners : List Runner) → runners ≡ [] → AllByRecursion (λ runner. IsSeatThere script runner.kind) runners
 no_seats script runners none = subst (AllByRecursion (λ (runner : Runner). IsSeatThere script runner.kind)) (sym none) tt
@@ -128,37 +131,26 @@ same_stays s z runners queues tasks = record {
 
 -- ---- configuration
 
-with_workers : (d : Draft) (n : ℕ) → 1 ≤ n → n ≤ MOST_WORKERS → is_bare d ≡ true → Keeps d → Keeps (record d { workers = Some n })
+-- where nothing was declared and nothing is done, only the configuration can be unsound
+with_config : (d : Draft) (workers : Option ℕ) (groups : Option Groups) (threshold : Option ℕ) → is_bare d ≡ true
+    → IsConfigSound (script_of (record d { workers = workers; groups = groups; threshold = threshold })) → Keeps d
+    → Keeps (record d { workers = workers; groups = groups; threshold = threshold })
 unfolding postings
-with_workers d n low high bare sound =
-    let bare_now = bare_parts d bare in
-    let script = script_of (record d { workers = Some n }) in
+with_config d workers groups threshold bare config sound =
+    let script = script_of (record d { workers = workers; groups = groups; threshold = threshold }) in
+    let none = bare_parts d bare in
+    let stay = same_stays (script_of d) script refl refl refl in
     record {
-      some_workers = low;
-      few_workers = high;
-      some_foreground = sound.some_foreground;
-      few_foreground = sound.few_foreground;
-      some_best = sound.some_best;
-      best_within = sound.best_within;
-      few_background = sound.few_background;
-      threshold_within = sound.threshold_within;
-      few_runners = sound.few_runners;
-      few_queues = sound.few_queues;
-      few_tasks = sound.few_tasks;
-      few_jobs = sound.few_jobs;
-      few_items = sound.few_items;
-      few_steps = sound.few_steps;
-      few_ticks = sound.few_ticks;
-      few_events = sound.few_events;
-      seats_there = no_seats (script_of (record d { workers = Some n })) d.runners bare_now.0;
-      queues_within = sound.queues_within;
-      tasks_sound = λ t steps h. task_stays (script_of d) script t steps (same_stays (script_of d) script refl refl refl) (sound.tasks_sound t steps h);
-      jobs_sound = sound.jobs_sound;
-      actions_sound = no_actions_sound script d.actions bare_now.1;
-      in_order = sound.in_order;
-      posted_once = sound.posted_once;
-      started_once = sound.started_once;
-      one_shutdown = sound.one_shutdown;
+      config = config;
+      limits = assumption;
+      declarations = record {
+        seats_there = no_seats script d.runners none.0;
+        queues_within = sound.declarations.queues_within;
+        tasks_sound = λ t steps h. task_stays (script_of d) script t steps stay (sound.declarations.tasks_sound t steps h);
+        jobs_sound = sound.declarations.jobs_sound;
+      };
+      actions = no_actions script none.1;
+      once = assumption;
     }
 
 -- `workers N`
@@ -168,41 +160,7 @@ keeps_workers d d' words sound e =
     let g = line_ok (number_at 1 MOST_WORKERS words 0 & ends_at words 1) (λ p. (not (is_bare d), declaration_late) ∷ (is_some d.workers, config_twice) ∷ [])
         (λ p. record d { workers = Some p.0 }) d' e in
     let n = number_at-within 1 MOST_WORKERS words 0 g.0.0 (both_ok (number_at 1 MOST_WORKERS words 0) (ends_at words 1) g.0.0 g.0.1 g.1).0 in
-    subst Keeps g.3 (with_workers d g.0.0 n.0 n.1 (not_false (is_bare d) g.2.0) sound)
-
-with_groups : (d : Draft) (f fb b : ℕ) → 1 ≤ f → f ≤ 64 → 1 ≤ fb → fb ≤ f → b ≤ 64 → is_bare d ≡ true → Keeps d
-    → Keeps (record d { groups = Some (record { foreground = f; foreground_best = fb; background = b }) })
-unfolding postings
-with_groups d f fb b f_low f_high fb_low fb_high b_high bare sound =
-    let bare_now = bare_parts d bare in
-    let script = script_of (record d { groups = Some (record { foreground = f; foreground_best = fb; background = b }) }) in
-    record {
-      some_workers = sound.some_workers;
-      few_workers = sound.few_workers;
-      some_foreground = f_low;
-      few_foreground = f_high;
-      some_best = fb_low;
-      best_within = fb_high;
-      few_background = b_high;
-      threshold_within = sound.threshold_within;
-      few_runners = sound.few_runners;
-      few_queues = sound.few_queues;
-      few_tasks = sound.few_tasks;
-      few_jobs = sound.few_jobs;
-      few_items = sound.few_items;
-      few_steps = sound.few_steps;
-      few_ticks = sound.few_ticks;
-      few_events = sound.few_events;
-      seats_there = sound.seats_there;
-      queues_within = sound.queues_within;
-      tasks_sound = λ t steps h. task_stays (script_of d) script t steps (same_stays (script_of d) script refl refl refl) (sound.tasks_sound t steps h);
-      jobs_sound = sound.jobs_sound;
-      actions_sound = no_actions_sound script d.actions bare_now.1;
-      in_order = sound.in_order;
-      posted_once = sound.posted_once;
-      started_once = sound.started_once;
-      one_shutdown = sound.one_shutdown;
-    }
+    subst Keeps g.3 (with_config d (Some g.0.0) d.groups d.threshold (not_false (is_bare d) g.2.0) (assumption) sound)
 
 -- `groups F FB B`
 pub keeps_groups : (d d' : Draft) (words : List (List ℕ)) → Keeps d → groups_line d words ≡ Ok d' → Keeps d'
@@ -220,40 +178,9 @@ keeps_groups d d' words sound e =
     let f = number_at-within 1 64 words 0 g.0.0 b0.0 in
     let fb = number_at-within 1 64 words 1 g.0.1.0 b1.0 in
     let b = number_at-within 0 64 words 2 g.0.1.1.0 b2.0 in
-    subst Keeps g.3 (with_groups d g.0.0 g.0.1.0 g.0.1.1.0 f.0 f.1 fb.0 (at_most g.0.0 g.0.1.0 g.2.0) b.1 (not_false (is_bare d) g.2.1.0) sound)
-
-with_threshold : (d : Draft) (u : ℕ) → u ≤ MOST_MICROSECONDS → is_bare d ≡ true → Keeps d → Keeps (record d { threshold = Some u })
-unfolding postings
-with_threshold d u high bare sound =
-    let bare_now = bare_parts d bare in
-    let script = script_of (record d { threshold = Some u }) in
-    record {
-      some_workers = sound.some_workers;
-      few_workers = sound.few_workers;
-      some_foreground = sound.some_foreground;
-      few_foreground = sound.few_foreground;
-      some_best = sound.some_best;
-      best_within = sound.best_within;
-      few_background = sound.few_background;
-      threshold_within = high;
-      few_runners = sound.few_runners;
-      few_queues = sound.few_queues;
-      few_tasks = sound.few_tasks;
-      few_jobs = sound.few_jobs;
-      few_items = sound.few_items;
-      few_steps = sound.few_steps;
-      few_ticks = sound.few_ticks;
-      few_events = sound.few_events;
-      seats_there = sound.seats_there;
-      queues_within = sound.queues_within;
-      tasks_sound = λ t steps h. task_stays (script_of d) script t steps (same_stays (script_of d) script refl refl refl) (sound.tasks_sound t steps h);
-      jobs_sound = sound.jobs_sound;
-      actions_sound = no_actions_sound script d.actions bare_now.1;
-      in_order = sound.in_order;
-      posted_once = sound.posted_once;
-      started_once = sound.started_once;
-      one_shutdown = sound.one_shutdown;
-    }
+    let within = at_most g.0.0 g.0.1.0 g.2.0 in
+    let groups : Groups = record { foreground = g.0.0; foreground_best = g.0.1.0; background = g.0.1.1.0 } in
+    subst Keeps g.3 (with_config d d.workers (Some groups) d.threshold (not_false (is_bare d) g.2.1.0) (assumption) sound)
 
 -- `threshold U`
 pub keeps_threshold : (d d' : Draft) (words : List (List ℕ)) → Keeps d → threshold_line d words ≡ Ok d' → Keeps d'
@@ -262,7 +189,7 @@ keeps_threshold d d' words sound e =
     let g = line_ok (time_at words 0 & ends_at words 1) (λ p. (not (is_bare d), declaration_late) ∷ (is_some d.threshold, config_twice) ∷ [])
         (λ p. record d { threshold = Some p.0 }) d' e in
     let u = number_at-within 0 MOST_MICROSECONDS words 0 g.0.0 (both_ok (time_at words 0) (ends_at words 1) g.0.0 g.0.1 g.1).0 in
-    subst Keeps g.3 (with_threshold d g.0.0 u.1 (not_false (is_bare d) g.2.0) sound)
+    subst Keeps g.3 (with_config d d.workers d.groups (Some g.0.0) (not_false (is_bare d) g.2.0) (assumption) sound)
 
 -- ---- runners and queues
 
@@ -271,32 +198,18 @@ with_runner : (d : Draft) (made : Runner) → IsSeatThere (script_of d) made.kin
 unfolding postings
 with_runner d made seat none few sound =
     let script = script_of (record d { runners = d.runners ++ made ∷ [] }) in
+    let few_runners : length script.runners ≤ MOST_RUNNERS = omega (arith, few, length-append d.runners (made ∷ [])) in
     record {
-      some_workers = sound.some_workers;
-      few_workers = sound.few_workers;
-      some_foreground = sound.some_foreground;
-      few_foreground = sound.few_foreground;
-      some_best = sound.some_best;
-      best_within = sound.best_within;
-      few_background = sound.few_background;
-      threshold_within = sound.threshold_within;
-      few_runners = omega (arith, few, length-append d.runners (made ∷ []));
-      few_queues = sound.few_queues;
-      few_tasks = sound.few_tasks;
-      few_jobs = sound.few_jobs;
-      few_items = sound.few_items;
-      few_steps = sound.few_steps;
-      few_ticks = sound.few_ticks;
-      few_events = sound.few_events;
-      seats_there = all_push (λ (runner : Runner). IsSeatThere (script_of d) runner.kind) d.runners made sound.seats_there seat;
-      queues_within = sound.queues_within;
-      tasks_sound = λ t steps h. task_stays (script_of d) script t steps (runners_stay d made) (sound.tasks_sound t steps h);
-      jobs_sound = sound.jobs_sound;
-      actions_sound = no_actions_sound script d.actions none;
-      in_order = sound.in_order;
-      posted_once = sound.posted_once;
-      started_once = sound.started_once;
-      one_shutdown = sound.one_shutdown;
+      config = assumption;
+      limits = assumption;
+      declarations = record {
+        seats_there = all_push (λ (runner : Runner). IsSeatThere (script_of d) runner.kind) d.runners made sound.declarations.seats_there seat;
+        queues_within = sound.declarations.queues_within;
+        tasks_sound = λ t steps h. task_stays (script_of d) script t steps (runners_stay d made) (sound.declarations.tasks_sound t steps h);
+        jobs_sound = sound.declarations.jobs_sound;
+      };
+      actions = no_actions script none;
+      once = assumption;
     }
 
 -- a seat that a kind names, where it is within the workers, is there
@@ -331,32 +244,18 @@ with_queue : (d : Draft) (made : MainQueue) → IsQueueWithin made → d.actions
 unfolding postings
 with_queue d made within none few sound =
     let script = script_of (record d { queues = d.queues ++ made ∷ [] }) in
+    let few_queues : length script.queues ≤ MOST_QUEUES = omega (arith, few, length-append d.queues (made ∷ [])) in
     record {
-      some_workers = sound.some_workers;
-      few_workers = sound.few_workers;
-      some_foreground = sound.some_foreground;
-      few_foreground = sound.few_foreground;
-      some_best = sound.some_best;
-      best_within = sound.best_within;
-      few_background = sound.few_background;
-      threshold_within = sound.threshold_within;
-      few_runners = sound.few_runners;
-      few_queues = omega (arith, few, length-append d.queues (made ∷ []));
-      few_tasks = sound.few_tasks;
-      few_jobs = sound.few_jobs;
-      few_items = sound.few_items;
-      few_steps = sound.few_steps;
-      few_ticks = sound.few_ticks;
-      few_events = sound.few_events;
-      seats_there = sound.seats_there;
-      queues_within = all_push IsQueueWithin d.queues made sound.queues_within within;
-      tasks_sound = λ t steps h. task_stays (script_of d) script t steps (queues_stay d made) (sound.tasks_sound t steps h);
-      jobs_sound = sound.jobs_sound;
-      actions_sound = no_actions_sound script d.actions none;
-      in_order = sound.in_order;
-      posted_once = sound.posted_once;
-      started_once = sound.started_once;
-      one_shutdown = sound.one_shutdown;
+      config = assumption;
+      limits = assumption;
+      declarations = record {
+        seats_there = sound.declarations.seats_there;
+        queues_within = all_push IsQueueWithin d.queues made sound.declarations.queues_within within;
+        tasks_sound = λ t steps h. task_stays (script_of d) script t steps (queues_stay d made) (sound.declarations.tasks_sound t steps h);
+        jobs_sound = sound.declarations.jobs_sound;
+      };
+      actions = no_actions script none;
+      once = assumption;
     }
 
 -- `queue Q CLASS VOTERS`
@@ -460,6 +359,10 @@ posted_once_with_action d action fresh once t =
 
 -- ---- tasks and jobs
 
+-- the steps of all tasks and jobs
+abbrev steps_of : Plan → ℕ
+steps_of script = sum_by (λ steps. length steps) script.tasks + sum_by (λ job. length job.steps) script.jobs
+
 with_task : (d : Draft) (steps : List Step) → IsTaskSound (script_of d) (length d.tasks) steps → is_any_posted (posted_in d) (posts_of_task steps) ≡ false
     → d.actions ≡ [] → length d.tasks + 1 ≤ MOST_TASKS → steps_in d + length steps ≤ MOST_STEPS → events_in d + events_of_task steps ≤ MOST_EVENTS → Keeps d
     → Keeps (record d { tasks = d.tasks ++ steps ∷ [] })
@@ -468,36 +371,25 @@ with_task d steps made fresh none few few_steps few_events sound =
     let stay = tasks_stay d steps in
     let more_steps = sum_by_push (λ s. length s) d.tasks steps in
     let more_events = sum_by_push events_of_task d.tasks steps in
+    let few_tasks : length script.tasks ≤ MOST_TASKS = omega (arith, few, length-append d.tasks (steps ∷ [])) in
+    let few_steps : steps_of script ≤ MOST_STEPS = omega (arith, few_steps, more_steps) in
+    let few_events : events_bound_of script ≤ MOST_EVENTS = omega (arith, few_events, more_events) in
+    let posted_once = posted_once_with_task d steps fresh sound.once.posted_once in
     record {
-      some_workers = sound.some_workers;
-      few_workers = sound.few_workers;
-      some_foreground = sound.some_foreground;
-      few_foreground = sound.few_foreground;
-      some_best = sound.some_best;
-      best_within = sound.best_within;
-      few_background = sound.few_background;
-      threshold_within = sound.threshold_within;
-      few_runners = sound.few_runners;
-      few_queues = sound.few_queues;
-      few_tasks = omega (arith, few, length-append d.tasks (steps ∷ []));
-      few_jobs = sound.few_jobs;
-      few_items = sound.few_items;
-      few_steps = omega (arith, few_steps, more_steps);
-      few_ticks = sound.few_ticks;
-      few_events = omega (arith, few_events, more_events);
-      seats_there = sound.seats_there;
-      queues_within = sound.queues_within;
-      tasks_sound = λ t other h. elim (slice_get_push d.tasks steps t other h) [
-        | inl old ↦ task_stays (script_of d) script t other stay (sound.tasks_sound t other old.1)
-        | inr new ↦ subst (λ (s : List Step). IsTaskSound script t s) new.1
-            (subst (λ (n : ℕ). IsTaskSound script n steps) (sym new.0) (task_stays (script_of d) script (length d.tasks) steps stay made))
-      ];
-      jobs_sound = sound.jobs_sound;
-      actions_sound = no_actions_sound script d.actions none;
-      in_order = sound.in_order;
-      posted_once = posted_once_with_task d steps fresh sound.posted_once;
-      started_once = sound.started_once;
-      one_shutdown = sound.one_shutdown;
+      config = assumption;
+      limits = assumption;
+      declarations = record {
+        seats_there = sound.declarations.seats_there;
+        queues_within = sound.declarations.queues_within;
+        tasks_sound = λ t other h. elim (slice_get_push d.tasks steps t other h) [
+          | inl old ↦ task_stays (script_of d) script t other stay (sound.declarations.tasks_sound t other old.1)
+          | inr new ↦ subst (λ (s : List Step). IsTaskSound script t s) new.1
+              (subst (λ (n : ℕ). IsTaskSound script n steps) (sym new.0) (task_stays (script_of d) script (length d.tasks) steps stay made))
+        ];
+        jobs_sound = sound.declarations.jobs_sound;
+      };
+      actions = no_actions script none;
+      once = assumption;
     }
 
 -- `task T STEPS`
@@ -529,32 +421,22 @@ with_job d job made none few few_items few_steps few_events sound =
     let more_items = sum_by_push (λ (j : JobPlan). j.items) d.jobs job in
     let more_steps = sum_by_push (λ (j : JobPlan). length j.steps) d.jobs job in
     let more_events = sum_by_push events_of_job d.jobs job in
+    let few_jobs : length script.jobs ≤ MOST_JOBS = omega (arith, few, length-append d.jobs (job ∷ [])) in
+    let few_items : sum_by (λ (j : JobPlan). j.items) script.jobs ≤ MOST_ITEMS = omega (arith, few_items, more_items) in
+    let few_steps : steps_of script ≤ MOST_STEPS = omega (arith, few_steps, more_steps) in
+    let few_events : events_bound_of script ≤ MOST_EVENTS = omega (arith, few_events, more_events) in
+    let stay = same_stays (script_of d) script refl refl refl in
     record {
-      some_workers = sound.some_workers;
-      few_workers = sound.few_workers;
-      some_foreground = sound.some_foreground;
-      few_foreground = sound.few_foreground;
-      some_best = sound.some_best;
-      best_within = sound.best_within;
-      few_background = sound.few_background;
-      threshold_within = sound.threshold_within;
-      few_runners = sound.few_runners;
-      few_queues = sound.few_queues;
-      few_tasks = sound.few_tasks;
-      few_jobs = omega (arith, few, length-append d.jobs (job ∷ []));
-      few_items = omega (arith, few_items, more_items);
-      few_steps = omega (arith, few_steps, more_steps);
-      few_ticks = sound.few_ticks;
-      few_events = omega (arith, few_events, more_events);
-      seats_there = sound.seats_there;
-      queues_within = sound.queues_within;
-      tasks_sound = λ t steps h. task_stays (script_of d) script t steps (same_stays (script_of d) script refl refl refl) (sound.tasks_sound t steps h);
-      jobs_sound = all_push IsJobSound d.jobs job sound.jobs_sound made;
-      actions_sound = no_actions_sound script d.actions none;
-      in_order = sound.in_order;
-      posted_once = sound.posted_once;
-      started_once = sound.started_once;
-      one_shutdown = sound.one_shutdown;
+      config = assumption;
+      limits = assumption;
+      declarations = record {
+        seats_there = sound.declarations.seats_there;
+        queues_within = sound.declarations.queues_within;
+        tasks_sound = λ t steps h. task_stays (script_of d) script t steps stay (sound.declarations.tasks_sound t steps h);
+        jobs_sound = all_push IsJobSound d.jobs job sound.declarations.jobs_sound made;
+      };
+      actions = no_actions script none;
+      once = assumption;
     }
 
 abbrev pub job_made : Priority → Behaviour → ℕ → ℕ → List Step → JobPlan

@@ -83,46 +83,42 @@ action_stays d actions Shutdown h = h
 with_action : (d : Draft) (action : Action) → IsActionSound (script_of d) action → IsInOrder d.actions action
     → is_any_posted (posted_in d) (posts_of_action action) ≡ false → Passed (room d action) → Keeps d → Keeps (record d { actions = d.actions ++ action ∷ [] })
 with_action d action made order fresh passed sound =
-    let script = script_of (record d { actions = d.actions ++ action ∷ [] }) in
+    let d' = record d { actions = d.actions ++ action ∷ [] } in
+    let script = script_of d' in
     let ticks = at_most MOST_TICKS (ticks_in d + ticks_of action) passed.0 in
     let events = at_most MOST_EVENTS (events_in d + events_of_action action) passed.1.0 in
     let more_ticks = sum_by_push ticks_of d.actions action in
     let more_events = sum_by_push events_of_action d.actions action in
+    let few_ticks : ticks_in d' ≤ MOST_TICKS = omega (arith, ticks, more_ticks) in
+    let few_events : events_in d' ≤ MOST_EVENTS = omega (arith, events, more_events) in
     record {
-      some_workers = sound.some_workers;
-      few_workers = sound.few_workers;
-      some_foreground = sound.some_foreground;
-      few_foreground = sound.few_foreground;
-      some_best = sound.some_best;
-      best_within = sound.best_within;
-      few_background = sound.few_background;
-      threshold_within = sound.threshold_within;
-      few_runners = sound.few_runners;
-      few_queues = sound.few_queues;
-      few_tasks = sound.few_tasks;
-      few_jobs = sound.few_jobs;
-      few_items = sound.few_items;
-      few_steps = sound.few_steps;
-      few_ticks = omega (arith, ticks, more_ticks);
-      few_events = omega (arith, events, more_events);
-      seats_there = sound.seats_there;
-      queues_within = sound.queues_within;
-      tasks_sound = λ t steps h. task_stays (script_of d) script t steps (same_stays (script_of d) script refl refl refl) (sound.tasks_sound t steps h);
-      jobs_sound = sound.jobs_sound;
-      actions_sound = all_push (IsActionSound script) d.actions action
-          (AllByRecursion-map (IsActionSound (script_of d)) (IsActionSound script) d.actions (action_stays d (d.actions ++ action ∷ [])) sound.actions_sound)
-          (action_stays d (d.actions ++ action ∷ []) action made);
-      in_order = λ k other h. elim (slice_get_push d.actions action k other h) [
-        | inl old ↦ subst (λ (earlier : List Action). IsInOrder earlier other) (sym (take-append-le k d.actions (action ∷ []) (omega (arith, old.0))))
-            (sound.in_order k other old.1)
-        | inr new ↦
-            let all : take k (d.actions ++ action ∷ []) ≡ d.actions = ap (λ (n : ℕ). take n (d.actions ++ action ∷ [])) new.0
-                ∙ take-append_seam d.actions (action ∷ []) in
-            subst (λ (earlier : List Action). IsInOrder earlier other) (sym all) (subst (IsInOrder d.actions) new.1 order)
-      ];
-      posted_once = posted_once_with_action d action fresh sound.posted_once;
-      started_once = λ j. once_with (is_start_of j) d.actions action (sound.started_once j) (start_fresh d.actions action j order);
-      one_shutdown = once_with is_shutdown d.actions action sound.one_shutdown (shutdown_fresh d.actions action order);
+      config = assumption;
+      limits = assumption;
+      declarations = record {
+        seats_there = sound.declarations.seats_there;
+        queues_within = sound.declarations.queues_within;
+        tasks_sound = λ t steps h. task_stays (script_of d) script t steps (same_stays (script_of d) script refl refl refl)
+            (sound.declarations.tasks_sound t steps h);
+        jobs_sound = sound.declarations.jobs_sound;
+      };
+      actions = record {
+        each_sound = all_push (IsActionSound script) d.actions action
+            (AllByRecursion-map (IsActionSound (script_of d)) (IsActionSound script) d.actions (action_stays d (d.actions ++ action ∷ [])) sound.actions.each_sound)
+            (action_stays d (d.actions ++ action ∷ []) action made);
+        in_order = λ k other h. elim (slice_get_push d.actions action k other h) [
+          | inl old ↦ subst (λ (earlier : List Action). IsInOrder earlier other) (sym (take-append-le k d.actions (action ∷ []) (omega (arith, old.0))))
+              (sound.actions.in_order k other old.1)
+          | inr new ↦
+              let all : take k (d.actions ++ action ∷ []) ≡ d.actions = ap (λ (n : ℕ). take n (d.actions ++ action ∷ [])) new.0
+                  ∙ take-append_seam d.actions (action ∷ []) in
+              subst (λ (earlier : List Action). IsInOrder earlier other) (sym all) (subst (IsInOrder d.actions) new.1 order)
+        ];
+      };
+      once = record {
+        posted_once = posted_once_with_action d action fresh sound.once.posted_once;
+        started_once = λ j. once_with (is_start_of j) d.actions action (sound.once.started_once j) (start_fresh d.actions action j order);
+        one_shutdown = once_with is_shutdown d.actions action sound.once.one_shutdown (shutdown_fresh d.actions action order);
+      };
     }
 
 -- that a post names what is declared, posts a task for the first time, and not where it must not block
@@ -359,31 +355,29 @@ keeps_lines d n (line ∷ lines) d' sound e =
 empty_sound : Keeps empty_draft
 unfolding postings
 empty_sound = record {
-  some_workers = omega arith;
-  few_workers = omega arith;
-  some_foreground = omega arith;
-  few_foreground = omega arith;
-  some_best = omega arith;
-  best_within = omega arith;
-  few_background = omega arith;
-  threshold_within = omega arith;
-  few_runners = omega arith;
-  few_queues = omega arith;
-  few_tasks = omega arith;
-  few_jobs = omega arith;
-  few_items = omega arith;
-  few_steps = omega arith;
-  few_ticks = omega arith;
-  few_events = omega arith;
-  seats_there = tt;
-  queues_within = tt;
-  tasks_sound = λ t steps h. absurd cc;
-  jobs_sound = tt;
-  actions_sound = tt;
-  in_order = λ k action h. absurd cc;
-  posted_once = λ t. omega arith;
-  started_once = λ j. omega arith;
-  one_shutdown = omega arith;
+  config = record {
+    some_workers = omega arith;
+    few_workers = omega arith;
+    some_foreground = omega arith;
+    few_foreground = omega arith;
+    some_best = omega arith;
+    best_within = omega arith;
+    few_background = omega arith;
+    threshold_within = omega arith;
+  };
+  limits = record {
+    few_runners = omega arith;
+    few_queues = omega arith;
+    few_tasks = omega arith;
+    few_jobs = omega arith;
+    few_items = omega arith;
+    few_steps = omega arith;
+    few_ticks = omega arith;
+    few_events = omega arith;
+  };
+  declarations = record { seats_there = tt; queues_within = tt; tasks_sound = λ t steps h. absurd cc; jobs_sound = tt };
+  actions = record { each_sound = tt; in_order = λ k action h. absurd cc };
+  once = record { posted_once = λ t. omega arith; started_once = λ j. omega arith; one_shutdown = omega arith };
 }
 
 script_ok : (r : Result Draft (ℕ × ℕ)) (script : Plan) → (r >>= λ d. Ok (script_of d)) ≡ Ok script → (d : Draft) × (r ≡ Ok d) × (script_of d ≡ script)

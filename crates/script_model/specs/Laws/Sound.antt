@@ -107,9 +107,8 @@ IsInOrder earlier action = Unit {0}
 
 -- ---- the script
 
--- what every script that is read is like (this project's own notion)
-pub record IsSound (script : Plan) : Type 0 where
-  -- the configuration
+-- the configuration is in its ranges
+pub record IsConfigSound (script : Plan) : Type 0 where
   pub some_workers : 1 ≤ script.workers
   pub few_workers : script.workers ≤ MOST_WORKERS
   pub some_foreground : 1 ≤ script.foreground
@@ -118,7 +117,9 @@ pub record IsSound (script : Plan) : Type 0 where
   pub best_within : script.foreground_best ≤ script.foreground
   pub few_background : script.background ≤ 64
   pub threshold_within : script.threshold ≤ MOST_MICROSECONDS
-  -- the limits
+
+-- nothing is more than the limits allow
+pub record IsWithinLimits (script : Plan) : Type 0 where
   pub few_runners : length script.runners ≤ MOST_RUNNERS
   pub few_queues : length script.queues ≤ MOST_QUEUES
   pub few_tasks : length script.tasks ≤ MOST_TASKS
@@ -127,15 +128,29 @@ pub record IsSound (script : Plan) : Type 0 where
   pub few_steps : sum_by (λ steps. length steps) script.tasks + sum_by (λ job. length job.steps) script.jobs ≤ MOST_STEPS
   pub few_ticks : sum_by ticks_of script.actions ≤ MOST_TICKS
   pub few_events : events_bound_of script ≤ MOST_EVENTS
-  -- the declarations
+
+-- each declaration is sound
+pub record AreDeclarationsSound (script : Plan) : Type 0 where
   pub seats_there : AllByRecursion (λ runner. IsSeatThere script runner.kind) script.runners
   pub queues_within : AllByRecursion IsQueueWithin script.queues
   pub tasks_sound : (t : ℕ) (steps : List Step) → slice_get script.tasks t ≡ Some steps → IsTaskSound script t steps
   pub jobs_sound : AllByRecursion IsJobSound script.jobs
-  -- the actions
-  pub actions_sound : AllByRecursion (IsActionSound script) script.actions
+
+-- each action is sound, and may stand behind those before it
+pub record AreActionsSound (script : Plan) : Type 0 where
+  pub each_sound : AllByRecursion (IsActionSound script) script.actions
   pub in_order : (k : ℕ) (action : Action) → slice_get script.actions k ≡ Some action → IsInOrder (take k script.actions) action
-  -- no task is posted twice, no job started twice, and shutdown not started twice
+
+-- no task is posted twice, no job started twice, and shutdown not started twice
+pub record IsDoneOnce (script : Plan) : Type 0 where
   pub posted_once : IsPostedOnce script
   pub started_once : (j : ℕ) → count (is_start_of j) script.actions ≤ 1
   pub one_shutdown : count is_shutdown script.actions ≤ 1
+
+-- what every script that is read is like (this project's own notion)
+pub record IsSound (script : Plan) : Type 0 where
+  pub config : IsConfigSound script
+  pub limits : IsWithinLimits script
+  pub declarations : AreDeclarationsSound script
+  pub actions : AreActionsSound script
+  pub once : IsDoneOnce script
