@@ -2,7 +2,7 @@
 use Rattle.std.proofs.Common.{◌≡◌, ℕ, ◌+◌, ◌<◌, ◌≤◌, Bool, true, false, cond, List, [], ◌∷◌, ◌++◌, length, take, refl, sym, ap, subst, ◌∙◌, inl, inr, Option, Some, None, Result, Ok, Err, arith}
 use Rattle.std.specs.Prelude.{◌^◌, not, nat_lt, slice_get, option_map, unwrap_or, codes}
 use Rattle.std.specs.List.{list_any}
-use Rattle.std.proofs.lemmas.Bool.{eqb-true}
+use Rattle.std.proofs.lemmas.Bool.{eqb-true, ltb-false, ltb-true, not-false}
 use Rattle.std.proofs.lemmas.List.Sums.{sum_by_push}
 use Rattle.std.proofs.lemmas.List.{take-append-le}
 use Rattle.std.proofs.Math.Seq.{take-append_seam}
@@ -24,28 +24,11 @@ use Rattle.task_base.specs.declared.limits.TheConstants.{MOST_TICKS, MOST_EVENTS
 use Rattle.script_model.specs.Lines.{workers_line, groups_line, threshold_line, runner_line, queue_line, task_line, job_line, post_line, main_line, tick_line, policy_line, fence_line, unfence_line, vote_line, rank_line, close_line, pump_line, flush_line, start_job_line, join_line, cancel_line, shutdown_line, queue_command_read, action_command_read, command_read, words_read, line_read}
 use Rattle.script_model.specs.Grammar.{lines_read, script_read, Reads}
 use Rattle.script_model.specs.Laws.Sound.{IsSound, IsActionSound, IsInOrder}
-use Rattle.script_model.proofs.Laws.FaultLaws.{ok_same, first_ok}
+use Rattle.script_model.proofs.Laws.Faults.{ok_same, first_ok}
 use Rattle.list_laws.proofs.Lists.{count-append, count-cons, AllByRecursion-map}
-use Rattle.script_model.proofs.Laws.SoundParts.{either_way, none_such, both_ok, refuse_ok, Passed, behind_ok, line_ok, number_at-within, not_false, at_most, below, slice_get_push, all_push, count_none}
-use Rattle.script_model.proofs.Laws.SoundDeclarations.{Keeps, runner_post_stays, queue_post_stays, task_stays, same_stays, keeps_workers, keeps_groups, keeps_threshold, keeps_runner, keeps_queue, declared_runner_post, declared_queue_post, posted_once_with_action, keeps_task, keeps_job}
-
-count_push : {A : Type 0} (p : A → Bool) (xs : List A) (x : A) → count p (xs ++ x ∷ []) ≡ count p xs + cond (p x) 1 0
-count_push p xs x =
-    let one : count p (x ∷ []) ≡ 0 + cond (p x) 1 0 = count-cons p x [] in
-    omega (arith, one, count-append p xs (x ∷ []))
-
--- what stands at most once, and is not added where it stands, stands at most once
-once_with : {A : Type 0} (p : A → Bool) (xs : List A) (x : A) → count p xs ≤ 1 → (p x ≡ true → list_any p xs ≡ false) → count p (xs ++ x ∷ []) ≤ 1
-once_with {A = A} p xs x once fresh = by (p x) refl (count_push p xs x)
-  where
-    by : (b : Bool) → p x ≡ b → count p (xs ++ x ∷ []) ≡ count p xs + cond (p x) 1 0 → count p (xs ++ x ∷ []) ≤ 1
-    by true is more =
-        let none : count p xs ≡ 0 = count_none p xs (fresh is) in
-        let one : count p (xs ++ x ∷ []) ≡ count p xs + 1 = more ∙ ap (λ (b : Bool). count p xs + cond b 1 0) is in
-        omega (arith, none, one)
-    by false is more =
-        let one : count p (xs ++ x ∷ []) ≡ count p xs + 0 = more ∙ ap (λ (b : Bool). count p xs + cond b 1 0) is in
-        omega (arith, one, once)
+use Rattle.script_model.proofs.Laws.Parts.{either_way, none_such, both_ok, refuse_ok, Passed, behind_ok, line_ok, number_at-within}
+use Rattle.script_model.proofs.Laws.Declarations.{Keeps, runner_post_stays, queue_post_stays, task_stays, same_stays, keeps_workers, keeps_groups, keeps_threshold, keeps_runner, keeps_queue, declared_runner_post, declared_queue_post, posted_once_with_action, keeps_task, keeps_job}
+use Rattle.list_laws.proofs.Elements.{AllByRecursion-push, count_once-push, slice_get_push}
 
 start_fresh : (earlier : List Action) (action : Action) (j : ℕ) → IsInOrder earlier action → is_start_of j action ≡ true
     → list_any (is_start_of j) earlier ≡ false
@@ -85,8 +68,8 @@ with_action : (d : Draft) (action : Action) → IsActionSound (script_of d) acti
 with_action d action made order fresh passed sound =
     let d' = record d { actions = d.actions ++ action ∷ [] } in
     let script = script_of d' in
-    let ticks = at_most MOST_TICKS (ticks_in d + ticks_of action) passed.0 in
-    let events = at_most MOST_EVENTS (events_in d + events_of_action action) passed.1.0 in
+    let ticks = ltb-false MOST_TICKS (ticks_in d + ticks_of action) passed.0 in
+    let events = ltb-false MOST_EVENTS (events_in d + events_of_action action) passed.1.0 in
     let more_ticks = sum_by_push ticks_of d.actions action in
     let more_events = sum_by_push events_of_action d.actions action in
     let few_ticks : ticks_in d' ≤ MOST_TICKS = omega (arith, ticks, more_ticks) in
@@ -102,7 +85,7 @@ with_action d action made order fresh passed sound =
         jobs_sound = sound.declarations.jobs_sound;
       };
       actions = record {
-        each_sound = all_push (IsActionSound script) d.actions action
+        each_sound = AllByRecursion-push (IsActionSound script) d.actions action
             (AllByRecursion-map (IsActionSound (script_of d)) (IsActionSound script) d.actions (action_stays d (d.actions ++ action ∷ [])) sound.actions.each_sound)
             (action_stays d (d.actions ++ action ∷ []) action made);
         in_order = λ k other h. elim (slice_get_push d.actions action k other h) [
@@ -116,8 +99,8 @@ with_action d action made order fresh passed sound =
       };
       once = record {
         posted_once = posted_once_with_action d action fresh sound.once.posted_once;
-        started_once = λ j. once_with (is_start_of j) d.actions action (sound.once.started_once j) (start_fresh d.actions action j order);
-        one_shutdown = once_with is_shutdown d.actions action sound.once.one_shutdown (shutdown_fresh d.actions action order);
+        started_once = λ j. count_once-push (is_start_of j) d.actions action (sound.once.started_once j) (start_fresh d.actions action j order);
+        one_shutdown = count_once-push is_shutdown d.actions action sound.once.one_shutdown (shutdown_fresh d.actions action order);
       };
     }
 
@@ -136,7 +119,7 @@ keeps_post d d' words sound e =
     let b1 = both_ok (id_at words 1) (time_at words 2 & ends_at words 3) g.0.1.0 g.0.1.1 b0.1 in
     let b2 = both_ok (time_at words 2) (ends_at words 3) g.0.1.1.0 g.0.1.1.1 b1.1 in
     let delay = number_at-within 0 MOST_MICROSECONDS words 2 g.0.1.1.0 b2.0 in
-    let post = declared_runner_post d g.0.0 g.0.1.0 g.0.1.1.0 (not_false (is_declared d (PostStep g.0.0 g.0.1.0 g.0.1.1.0)) g.2.0) g.2.1.1.0 in
+    let post = declared_runner_post d g.0.0 g.0.1.0 g.0.1.1.0 (not-false (is_declared d (PostStep g.0.0 g.0.1.0 g.0.1.1.0)) g.2.0) g.2.1.1.0 in
     subst Keeps {x = record d { actions = d.actions ++ Post g.0.0 g.0.1.0 g.0.1.1.0 ∷ [] }} g.3
         (with_action d (Post g.0.0 g.0.1.0 g.0.1.1.0) (post.1, delay.1) tt g.2.1.0 g.2.1.1.1 sound)
 
@@ -150,7 +133,7 @@ keeps_main d d' words sound e =
     let b1 = both_ok (id_at words 1) (time_at words 2 & ends_at words 3) g.0.1.0 g.0.1.1 b0.1 in
     let b2 = both_ok (time_at words 2) (ends_at words 3) g.0.1.1.0 g.0.1.1.1 b1.1 in
     let delay = number_at-within 0 MOST_MICROSECONDS words 2 g.0.1.1.0 b2.0 in
-    let post = declared_queue_post d g.0.0 g.0.1.0 g.0.1.1.0 (not_false (is_declared d (MainStep g.0.0 g.0.1.0 g.0.1.1.0)) g.2.0) g.2.1.1.0 in
+    let post = declared_queue_post d g.0.0 g.0.1.0 g.0.1.1.0 (not-false (is_declared d (MainStep g.0.0 g.0.1.0 g.0.1.1.0)) g.2.0) g.2.1.1.0 in
     subst Keeps {x = record d { actions = d.actions ++ Main g.0.0 g.0.1.0 g.0.1.1.0 ∷ [] }} g.3
         (with_action d (Main g.0.0 g.0.1.0 g.0.1.1.0) (post.1, delay.1) tt g.2.1.0 g.2.1.1.1 sound)
 
@@ -181,7 +164,7 @@ keeps_fence d d' words sound e =
     let b0 = both_ok (id_at words 0) (said_at fence_named words 1 & ends_at words 2) g.0.0 g.0.1 g.1 in
     let b1 = both_ok (said_at fence_named words 1) (ends_at words 2) g.0.1.0 g.0.1.1 b0.1 in
     subst Keeps {x = record d { actions = d.actions ++ Fence g.0.0 g.0.1.0 ∷ [] }} g.3
-        (with_action d (Fence g.0.0 g.0.1.0) (below g.0.0 (length d.queues) (not_false (has_queue d g.0.0) g.2.0)) tt refl g.2.1 sound)
+        (with_action d (Fence g.0.0 g.0.1.0) (ltb-true g.0.0 (length d.queues) (not-false (has_queue d g.0.0) g.2.0)) tt refl g.2.1 sound)
 
 -- `unfence Q`
 keeps_unfence : (d d' : Draft) (words : List (List ℕ)) → Keeps d → unfence_line d words ≡ Ok d' → Keeps d'
@@ -191,7 +174,7 @@ keeps_unfence d d' words sound e =
         (λ p. record d { actions = d.actions ++ Unfence p.0 ∷ [] }) d' e in
     let b0 = both_ok (id_at words 0) (ends_at words 1) g.0.0 g.0.1 g.1 in
     subst Keeps {x = record d { actions = d.actions ++ Unfence g.0.0 ∷ [] }} g.3
-        (with_action d (Unfence g.0.0) (below g.0.0 (length d.queues) (not_false (has_queue d g.0.0) g.2.0)) tt refl g.2.1 sound)
+        (with_action d (Unfence g.0.0) (ltb-true g.0.0 (length d.queues) (not-false (has_queue d g.0.0) g.2.0)) tt refl g.2.1 sound)
 
 -- a voter that is declared has a queue that is
 voter_queue : (d : Draft) (queue voter : ℕ) → has_voter d queue voter ≡ true → queue < length d.queues
@@ -214,7 +197,7 @@ keeps_vote d d' words sound e =
     let n1 = number_at-within 0 255 words 1 g.0.1.0 b1.0 in
     let b2 = both_ok (said_at vote_named words 2) (ends_at words 3) g.0.1.1.0 g.0.1.1.1 b1.1 in
     subst Keeps {x = record d { actions = d.actions ++ Vote g.0.0 g.0.1.0 g.0.1.1.0 ∷ [] }} g.3
-        (with_action d (Vote g.0.0 g.0.1.0 g.0.1.1.0) (voter_queue d g.0.0 g.0.1.0 (not_false (has_voter d g.0.0 g.0.1.0) g.2.0), n1.1, not_false
+        (with_action d (Vote g.0.0 g.0.1.0 g.0.1.1.0) (voter_queue d g.0.0 g.0.1.0 (not-false (has_voter d g.0.0 g.0.1.0) g.2.0), n1.1, not-false
         (has_voter d g.0.0 g.0.1.0) g.2.0) tt refl g.2.1 sound)
 
 -- `rank Q CLASS`
@@ -227,7 +210,7 @@ keeps_rank d d' words sound e =
     let b1 = both_ok (number_at 0 7 words 1) (ends_at words 2) g.0.1.0 g.0.1.1 b0.1 in
     let n1 = number_at-within 0 7 words 1 g.0.1.0 b1.0 in
     subst Keeps {x = record d { actions = d.actions ++ Rank g.0.0 g.0.1.0 ∷ [] }} g.3
-        (with_action d (Rank g.0.0 g.0.1.0) (below g.0.0 (length d.queues) (not_false (has_queue d g.0.0) g.2.0), n1.1) tt refl g.2.1 sound)
+        (with_action d (Rank g.0.0 g.0.1.0) (ltb-true g.0.0 (length d.queues) (not-false (has_queue d g.0.0) g.2.0), n1.1) tt refl g.2.1 sound)
 
 -- `close Q`
 keeps_close : (d d' : Draft) (words : List (List ℕ)) → Keeps d → close_line d words ≡ Ok d' → Keeps d'
@@ -237,7 +220,7 @@ keeps_close d d' words sound e =
         (λ p. record d { actions = d.actions ++ Close p.0 ∷ [] }) d' e in
     let b0 = both_ok (id_at words 0) (ends_at words 1) g.0.0 g.0.1 g.1 in
     subst Keeps {x = record d { actions = d.actions ++ Close g.0.0 ∷ [] }} g.3
-        (with_action d (Close g.0.0) (below g.0.0 (length d.queues) (not_false (has_queue d g.0.0) g.2.0)) tt refl g.2.1 sound)
+        (with_action d (Close g.0.0) (ltb-true g.0.0 (length d.queues) (not-false (has_queue d g.0.0) g.2.0)) tt refl g.2.1 sound)
 
 -- `pump N`
 keeps_pump : (d d' : Draft) (words : List (List ℕ)) → Keeps d → pump_line d words ≡ Ok d' → Keeps d'
@@ -273,7 +256,7 @@ keeps_start_job d d' words sound e =
         (λ p. record d { actions = d.actions ++ StartJob p.0 ∷ [] }) d' e in
     let b0 = both_ok (id_at words 0) (ends_at words 1) g.0.0 g.0.1 g.1 in
     subst Keeps {x = record d { actions = d.actions ++ StartJob g.0.0 ∷ [] }} g.3
-        (with_action d (StartJob g.0.0) (below g.0.0 (length d.jobs) (not_false (has_job d g.0.0) g.2.0)) g.2.1.0 refl g.2.1.1 sound)
+        (with_action d (StartJob g.0.0) (ltb-true g.0.0 (length d.jobs) (not-false (has_job d g.0.0) g.2.0)) g.2.1.0 refl g.2.1.1 sound)
 
 -- `join J`
 keeps_join : (d d' : Draft) (words : List (List ℕ)) → Keeps d → join_line d words ≡ Ok d' → Keeps d'
@@ -283,8 +266,8 @@ keeps_join d d' words sound e =
         (λ p. record d { actions = d.actions ++ Join p.0 ∷ [] }) d' e in
     let b0 = both_ok (id_at words 0) (ends_at words 1) g.0.0 g.0.1 g.1 in
     subst Keeps {x = record d { actions = d.actions ++ Join g.0.0 ∷ [] }} g.3
-        (with_action d (Join g.0.0) (below g.0.0 (length d.jobs) (not_false (has_job d g.0.0) g.2.0))
-        (not_false (is_started d g.0.0) g.2.1.0) refl g.2.1.1 sound)
+        (with_action d (Join g.0.0) (ltb-true g.0.0 (length d.jobs) (not-false (has_job d g.0.0) g.2.0))
+        (not-false (is_started d g.0.0) g.2.1.0) refl g.2.1.1 sound)
 
 -- `cancel J`
 keeps_cancel : (d d' : Draft) (words : List (List ℕ)) → Keeps d → cancel_line d words ≡ Ok d' → Keeps d'
@@ -294,8 +277,8 @@ keeps_cancel d d' words sound e =
         (λ p. record d { actions = d.actions ++ Cancel p.0 ∷ [] }) d' e in
     let b0 = both_ok (id_at words 0) (ends_at words 1) g.0.0 g.0.1 g.1 in
     subst Keeps {x = record d { actions = d.actions ++ Cancel g.0.0 ∷ [] }} g.3
-        (with_action d (Cancel g.0.0) (below g.0.0 (length d.jobs) (not_false (has_job d g.0.0) g.2.0))
-        (not_false (is_started d g.0.0) g.2.1.0) refl g.2.1.1 sound)
+        (with_action d (Cancel g.0.0) (ltb-true g.0.0 (length d.jobs) (not-false (has_job d g.0.0) g.2.0))
+        (not-false (is_started d g.0.0) g.2.1.0) refl g.2.1.1 sound)
 
 -- ---- all lines
 

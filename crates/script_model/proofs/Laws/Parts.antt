@@ -3,12 +3,12 @@ use Rattle.std.proofs.Common.{◌≡◌, ℕ, zero, suc, ◌+◌, ◌<◌, ◌�
 use Rattle.std.specs.Prelude.{◌-◌, ◌^◌, take, not, ◌&&◌, ◌||◌, codes, slice_get, ◌⊎◌}
 use Rattle.std.specs.List.{list_any, AllByRecursion, slice_split}
 use Rattle.std.proofs.lemmas.Bool.Decides.{nat_tests}
-use Rattle.std.proofs.lemmas.Bool.{eqb-true}
+use Rattle.std.proofs.lemmas.Bool.{eqb-true, or_parts}
 use Rattle.list_laws.specs.Lists.{count}
 use Rattle.task_base.specs.declared.limits.TheConstants.{MOST_WORKERS, MOST_MICROSECONDS}
 use Rattle.script_model.specs.Postings.{times}
 use Rattle.script_model.specs.Draft.{is_any_posted}
-use Rattle.script_model.proofs.Laws.FaultLaws.{ok_same}
+use Rattle.script_model.proofs.Laws.Faults.{ok_same}
 use Rattle.list_laws.proofs.Lists.{count-cons}
 use Rattle.task_base.specs.declared.step.Step.{Step}
 use Rattle.task_base.specs.declared.step.Step.TheVariants.{Add, Mul, Set, Post, Main, Block, Unblock}
@@ -18,6 +18,7 @@ use Rattle.script_model.specs.Words.{is_word, number_of}
 use Rattle.script_model.specs.Reasons.{◌>>=◌, ◌>>◌, ◌&◌, refuse, unknown_word, word_count, out_of_range}
 use Rattle.script_model.specs.Places.{said_at, ends_at, named, in_range, number_from, number_at, id_at, time_at, kind_named, scope_named, compute_read, post_read, block_read, step_said, step_read, all_read, steps_read}
 use Rattle.script_model.specs.Laws.Sound.{IsStepWithin}
+use Rattle.list_laws.proofs.Elements.{count_none}
 
 -- what comes first of two steps that give something, gives something
 pub bind_ok : {A B : Type 0} (r : Result A ℕ) (f : A → Result B ℕ) (y : B) → (r >>= f) ≡ Ok y → (x : A) × (r ≡ Ok x) × (f x ≡ Ok y)
@@ -178,67 +179,11 @@ steps_read-within (word ∷ words) steps e = pieces_within (slice_split (λ w. i
 
 -- ---- tests
 
-pub not_false : (b : Bool) → not b ≡ false → b ≡ true
-not_false true e = refl
-not_false false e = absurd cc
-
-pub and_both : (b c : Bool) → (b && c) ≡ true → (b ≡ true) × (c ≡ true)
-and_both true c e = (refl, e)
-and_both false c e = absurd cc
-
-pub or_neither : (b c : Bool) → (b || c) ≡ false → (b ≡ false) × (c ≡ false)
-or_neither true c e = absurd cc
-or_neither false c e = (refl, e)
-
-pub at_most : (a b : ℕ) → ltb a b ≡ false → b ≤ a
-at_most a b h = grind (arith, nat_tests)
-
-pub below : (a b : ℕ) → ltb a b ≡ true → a < b
-below a b h = grind (arith, nat_tests)
-
 pub nothing : {A : Type 0} (xs : List A) → eqb (length xs) 0 ≡ true → xs ≡ []
 nothing [] e = refl
 nothing (x ∷ xs) e = absurd (let none : length (x ∷ xs) ≡ 0 = eqb-true _ _ e in omega (arith, none))
 
 -- ---- one more element
-
--- an element of a joined list is one of either part
-pub slice_get-append : {A : Type 0} (xs ys : List A) (k : ℕ) (x : A) → slice_get (xs ++ ys) k ≡ Some x
-    → ((k < length xs) × (slice_get xs k ≡ Some x)) ⊎ ((j : ℕ) × (k ≡ length xs + j) × (slice_get ys j ≡ Some x))
-slice_get-append [] ys k x e = inr (k, omega arith, e)
-slice_get-append (y ∷ xs) ys zero x e = inl (omega arith, e)
-slice_get-append (y ∷ xs) ys (suc k) x e = elim (slice_get-append xs ys k x e) [
-  | inl p ↦ inl (omega (arith, p.0), p.1)
-  | inr p ↦ inr (p.0, omega (arith, p.1), p.2)
-]
-
--- an element of the front is there in the joined list
-pub slice_get_front : {A : Type 0} (xs ys : List A) (k : ℕ) → k < length xs → slice_get (xs ++ ys) k ≡ slice_get xs k
-slice_get_front [] ys k below = absurd (omega (arith, below))
-slice_get_front (x ∷ xs) ys zero below = refl
-slice_get_front (x ∷ xs) ys (suc k) below = slice_get_front xs ys k (omega (arith, below))
-
--- an element of a list with one more is one of the list, or the new one
-pub slice_get_push : {A : Type 0} (xs : List A) (y : A) (k : ℕ) (x : A) → slice_get (xs ++ y ∷ []) k ≡ Some x
-    → ((k < length xs) × (slice_get xs k ≡ Some x)) ⊎ ((k ≡ length xs) × (y ≡ x))
-slice_get_push {A = A} xs y k x e = elim (slice_get-append xs (y ∷ []) k x e) [
-  | inl p ↦ inl p
-  | inr p ↦ inr (new p.0 p.1 p.2)
-]
-  where
-    new : (j : ℕ) → k ≡ length xs + j → slice_get (y ∷ []) j ≡ Some x → (k ≡ length xs) × (y ≡ x)
-    new zero place h = (omega (arith, place), cc)
-    new (suc j) place h = absurd cc
-
-pub all_push : {A : Type 0} (P : A → Type 0) (xs : List A) (x : A) → AllByRecursion P xs → P x → AllByRecursion P (xs ++ x ∷ [])
-all_push P [] x all one = (one, tt)
-all_push P (y ∷ xs) x all one = (all.0, all_push P xs x all.1 one)
-
-pub count_none : {A : Type 0} (p : A → Bool) (xs : List A) → list_any p xs ≡ false → count p xs ≡ 0
-count_none p [] e = refl
-count_none p (x ∷ xs) e =
-    let neither = or_neither (p x) (list_any p xs) e in
-    count-cons p x xs ∙ ap (λ (b : Bool). count p xs + cond b 1 0) neither.0 ∙ ap (λ (n : ℕ). n + 0) (count_none p xs neither.1)
 
 -- ---- postings
 
@@ -246,7 +191,7 @@ count_none p (x ∷ xs) e =
 pub times_fresh : (earlier new : List ℕ) (t : ℕ) → is_any_posted earlier new ≡ false → times t earlier ≤ 1 → times t earlier + times t new ≤ 1
 times_fresh earlier [] t e once = omega (arith, once)
 times_fresh earlier (u ∷ new) t e once =
-    let neither = or_neither (list_any (λ posted. eqb posted u) earlier) (is_any_posted (u ∷ earlier) new) e in
+    let neither = or_parts (list_any (λ posted. eqb posted u) earlier) (is_any_posted (u ∷ earlier) new) e in
     let none : times u earlier ≡ 0 = count_none (λ posted. eqb posted u) earlier neither.0 in
     let more : times t (u ∷ earlier) ≡ times t earlier + cond (eqb u t) 1 0 = count-cons (λ v. eqb v t) u earlier in
     let here : times t (u ∷ new) ≡ times t new + cond (eqb u t) 1 0 = count-cons (λ v. eqb v t) u new in

@@ -2,7 +2,7 @@
 use Rattle.std.proofs.Common.{◌≡◌, ℕ, ◌+◌, ◌<◌, ◌≤◌, Bool, true, false, cond, eqb, List, [], ◌∷◌, ◌++◌, length, drop, map, refl, sym, ap, subst, ◌∙◌, Some, Result, Ok, Err, arith, append_assoc}
 use Rattle.std.specs.Prelude.{not, ◌&&◌, ◌||◌, ◌==◌, nat_lt, flat_map, decimal, codes, slice_get, slice_index_or}
 use Rattle.std.specs.List.{list_all, list_any, AllByRecursion, sum_by}
-use Rattle.std.proofs.lemmas.Bool.{lt-ltb, le-ltb}
+use Rattle.std.proofs.lemmas.Bool.{lt-ltb, le-ltb, not-true, or_parts}
 use Rattle.std.proofs.lemmas.Grind.{flat_map-append}
 use Rattle.std.proofs.lemmas.List.{append-nil, length-append}
 use Rattle.std.proofs.lemmas.List.Concat.{flat_map-cons}
@@ -30,10 +30,11 @@ use Rattle.script_model.specs.Grammar.{lines_read, script_read}
 use Rattle.script_model.specs.Canonical.{priority_word, behaviour_word, kind_word, steps_words, may_block_words, runner_words, queue_words, task_words, job_words, config_lines, numbered}
 use Rattle.script_model.specs.Laws.Sound.{IsSound, IsSeatThere, IsQueueWithin, IsStepWithin, IsStepSound, IsTaskSound, IsJobSound}
 use Rattle.list_laws.proofs.Lists.{eqb-same, count-append, count-cons, AllByRecursion-back}
-use Rattle.script_model.proofs.Laws.SoundParts.{IsSeatWithin, or_neither}
-use Rattle.script_model.proofs.Laws.SoundDeclarations.{posts_of_task, runner_made, job_made}
-use Rattle.script_model.proofs.Laws.CanonicalText.{is_plain_word, line_of, text_of, line_is_ascii, words_of-line, lines_of-text}
-use Rattle.script_model.proofs.Laws.CanonicalWords.{both_is, line_is, number_is, id_is, time_is, plain_id, plain_time, plain_cons, priority_is, priority_plain, behaviour_is, behaviour_plain, kind_is, kind_plain, may_block_plain, IsStepReadable, steps_are, steps_plain}
+use Rattle.script_model.proofs.Laws.Parts.{IsSeatWithin}
+use Rattle.script_model.proofs.Laws.Declarations.{posts_of_task, runner_made, job_made}
+use Rattle.script_model.proofs.Laws.Texts.{is_plain_word, line_of, text_of, line_is_ascii, words_of-line, lines_of-text}
+use Rattle.script_model.proofs.Laws.Words.{both_is, line_is, number_is, id_is, time_is, plain_id, plain_time, plain_cons, priority_is, priority_plain, behaviour_is, behaviour_plain, kind_is, kind_plain, may_block_plain, IsStepReadable, steps_are, steps_plain}
+use Rattle.list_laws.proofs.Elements.{none_from_count, slice_get_seam}
 
 -- ---- lines behind one another
 
@@ -67,17 +68,13 @@ are_read_plain : (d : Draft) (lines : List (List (List ℕ))) (last : Draft) →
 are_read_plain d [] last read = refl
 are_read_plain d (words ∷ lines) last read = rw (read.1.plain, are_read_plain read.0 lines last read.2) refl
 
-not_true : (b : Bool) → not b ≡ true → b ≡ false
-not_true true e = absurd cc
-not_true false e = refl
-
 line_is_read : (d : Draft) (words : List (List ℕ)) (next : Draft) → IsLineRead d words next → line_read d (line_of words) ≡ Ok next
 unfolding words_read
 line_is_read d [] next read = absurd (let never : false ≡ true = read.starts in cc)
 line_is_read d (name ∷ words) next read =
     ap (words_read d (line_of (name ∷ words))) (words_of-line name words read.plain)
     ∙ ap (λ (b : Bool). cond b (Ok d) (refuse (not (is_all_ascii (line_of (name ∷ words)))) not_ascii >> command_read d name words))
-        (not_true (begins_comment name) read.starts)
+        (not-true (begins_comment name) read.starts)
     ∙ ap (λ (b : Bool). refuse (not b) not_ascii >> command_read d name words) (line_is_ascii (name ∷ words) read.plain) ∙ read.reads
 
 lines_are_read : (d : Draft) (n : ℕ) (lines : List (List (List ℕ))) (last : Draft) → AreRead d lines last
@@ -121,10 +118,6 @@ length_at done x rest all e = ap length (sym e) ∙ length-append done (x ∷ re
 pub sum_at : {A : Type 0} (f : A → ℕ) (done : List A) (x : A) (rest all : List A) → done ++ x ∷ rest ≡ all
     → sum_by f all ≡ sum_by f done + (f x + sum_by f rest)
 sum_at f done x rest all e = ap (sum_by f) (sym e) ∙ sum_by-append f done (x ∷ rest) ∙ ap (λ (n : ℕ). sum_by f done + n) (sum_by-cons f x rest)
-
-slice_get_seam : {A : Type 0} (done : List A) (x : A) (rest : List A) → slice_get (done ++ x ∷ rest) (length done) ≡ Some x
-slice_get_seam [] x rest = refl
-slice_get_seam (y ∷ done) x rest = slice_get_seam done x rest
 
 pub get_at : {A : Type 0} (done : List A) (x : A) (rest all : List A) → done ++ x ∷ rest ≡ all → slice_get all (length done) ≡ Some x
 get_at {A = A} done x rest all e = ap (λ (xs : List A). slice_get xs (length done)) (sym e) ∙ slice_get_seam done x rest
@@ -307,18 +300,6 @@ queue_read s sound done queue rest e =
 
 -- ---- postings
 
-any_none : {A : Type 0} (p : A → Bool) (xs : List A) → count p xs ≡ 0 → list_any p xs ≡ false
-any_none p [] e = refl
-any_none {A = A} p (x ∷ xs) e = by (p x) refl (count-cons p x xs) (any_none p xs)
-  where
-    by : (b : Bool) → p x ≡ b → count p (x ∷ xs) ≡ count p xs + cond (p x) 1 0 → (count p xs ≡ 0 → list_any p xs ≡ false) → (p x || list_any p xs) ≡ false
-    by true is more rest =
-        let one : count p (x ∷ xs) ≡ count p xs + 1 = more ∙ ap (λ (b : Bool). count p xs + cond b 1 0) is in
-        absurd (omega (arith, one, e))
-    by false is more rest =
-        let same : count p (x ∷ xs) ≡ count p xs + 0 = more ∙ ap (λ (b : Bool). count p xs + cond b 1 0) is in
-        rw (is) (rest (omega (arith, same, e)))
-
 -- tasks that stand once at most behind the earlier ones are not posted there
 pub not_posted : (earlier new : List ℕ) → ((t : ℕ) → times t earlier + times t new ≤ 1) → is_any_posted earlier new ≡ false
 not_posted earlier [] once = refl
@@ -329,7 +310,7 @@ not_posted earlier (u ∷ new) once =
     let more : times t (u ∷ earlier) ≡ times t earlier + cond (eqb u t) 1 0 = count-cons (λ v. eqb v t) u earlier in
     let less : times t (u ∷ new) ≡ times t new + cond (eqb u t) 1 0 = count-cons (λ v. eqb v t) u new in
     omega (arith, more, less, once t)) in
-    rw (any_none (λ v. eqb v u) earlier none) rest
+    rw (none_from_count (λ v. eqb v u) earlier none) rest
 
 pub posted_parts : (s : Plan) (t : ℕ) → times t (postings s) ≡ times t (flat_map posts_of_action s.actions) + times t (flat_map posts_of_task s.tasks)
 unfolding postings
@@ -473,26 +454,26 @@ computing P add mul set Unblock e = absurd cc
 computing_declared : (d : Draft) (steps : List Step) → list_any is_act steps ≡ false → list_all (is_declared d) steps ≡ true
 computing_declared d [] e = refl
 computing_declared d (step ∷ steps) e =
-    let both = or_neither (is_act step) (list_any is_act steps) e in
+    let both = or_parts (is_act step) (list_any is_act steps) e in
     rw (computing (λ x. is_declared d x ≡ true) (λ k. refl) (λ k. refl) (λ k. refl) step both.0) (computing_declared d steps both.1)
 
 computing_good : (d : Draft) (steps : List Step) → list_any is_act steps ≡ false → list_any (is_bad_post d) steps ≡ false
 computing_good d [] e = refl
 computing_good d (step ∷ steps) e =
-    let both = or_neither (is_act step) (list_any is_act steps) e in
+    let both = or_parts (is_act step) (list_any is_act steps) e in
     rw (computing (λ x. is_bad_post d x ≡ false) (λ k. refl) (λ k. refl) (λ k. refl) step both.0) (computing_good d steps both.1)
 
 computing_posts : (steps : List Step) → list_any is_act steps ≡ false → posts_of_task steps ≡ []
 computing_posts [] e = refl
 computing_posts (step ∷ steps) e =
-    let both = or_neither (is_act step) (list_any is_act steps) e in
+    let both = or_parts (is_act step) (list_any is_act steps) e in
     flat_map-cons posts_of_step step steps ∙ ap (λ (xs : List ℕ). xs ++ posts_of_task steps)
         (computing (λ x. posts_of_step x ≡ []) (λ k. refl) (λ k. refl) (λ k. refl) step both.0) ∙ computing_posts steps both.1
 
 computing_readable : (steps : List Step) → AllByRecursion IsStepWithin steps → list_any is_act steps ≡ false → AllByRecursion IsStepReadable steps
 computing_readable [] within e = tt
 computing_readable (step ∷ steps) within e =
-    let both = or_neither (is_act step) (list_any is_act steps) e in
+    let both = or_parts (is_act step) (list_any is_act steps) e in
     (computing (λ x. IsStepWithin x → IsStepReadable x) (λ k h. h) (λ k h. h) (λ k h. h) step both.0 within.0, computing_readable steps within.1 both.1)
 
 pub job_read : (s : Plan) → IsSound s → (done : List JobPlan) (job : JobPlan) (rest : List JobPlan) → done ++ job ∷ rest ≡ s.jobs

@@ -28,8 +28,8 @@ use Rattle.script_model.specs.Reasons.{◌>>=◌, ◌&◌}
 use Rattle.script_model.specs.Places.{said_at, ends_at, number_from, number_at, id_at, time_at, priority_named, behaviour_named, policy_named, fence_named, vote_named, scope_named, kind_named, compute_read, post_read, step_said, step_read, all_read, steps_read}
 use Rattle.log_model.specs.LogText.{policy_word, scope_word, fence_word, vote_word}
 use Rattle.script_model.specs.Canonical.{priority_word, behaviour_word, kind_word, step_words, steps_words, may_block_words}
-use Rattle.script_model.proofs.Laws.SoundParts.{IsSeatWithin, Passed, behind}
-use Rattle.script_model.proofs.Laws.CanonicalText.{is_plain_word, is_visible, number_from-decimal, decimal_plain, decimal_visible, decimal_no_mark}
+use Rattle.script_model.proofs.Laws.Parts.{IsSeatWithin, Passed, behind}
+use Rattle.script_model.proofs.Laws.Texts.{is_plain_word, is_visible, number_from-decimal, decimal_plain, decimal_visible, decimal_no_mark}
 
 -- ---- two places, and a line
 

@@ -27,7 +27,9 @@ use Rattle.task_base.specs.declared.limits.TheConstants.{MOST_WORKERS, MOST_RUNN
 use Rattle.script_model.specs.Lines.{workers_line, groups_line, threshold_line, runner_line, queue_line, task_line, job_line}
 use Rattle.script_model.specs.Laws.Sound.{IsSound, IsConfigSound, AreActionsSound, IsRunnerPost, IsQueuePost, IsSeatThere, IsQueueWithin, IsStepSound, IsTaskSound, IsJobSound, IsActionSound}
 use Rattle.list_laws.proofs.Lists.{count-append, AllByRecursion-map}
-use Rattle.script_model.proofs.Laws.SoundParts.{both_ok, line_ok, number_at-within, said_ok, IsSeatWithin, kind_named-within, steps_read-within, not_false, and_both, or_neither, at_most, below, nothing, slice_get_front, slice_get_push, all_push, times_fresh}
+use Rattle.script_model.proofs.Laws.Parts.{both_ok, line_ok, number_at-within, said_ok, IsSeatWithin, kind_named-within, steps_read-within, nothing, times_fresh}
+use Rattle.std.proofs.lemmas.Bool.{and_parts, ltb-false, ltb-true, not-false, or_parts}
+use Rattle.list_laws.proofs.Elements.{AllByRecursion-push, slice_get_front, slice_get_push}
 
 abbrev pub Keeps : Draft → Type 0
 Keeps d = IsSound (script_of d)
@@ -37,10 +39,10 @@ Keeps d = IsSound (script_of d)
 -- a bare draft has no runners and no actions
 bare_parts : (d : Draft) → is_bare d ≡ true → (d.runners ≡ []) × (d.actions ≡ [])
 bare_parts d e =
-    let a = and_both (eqb (length d.runners) 0 && eqb (length d.queues) 0 && eqb (length d.tasks) 0 && eqb (length d.jobs) 0) (has_no_actions d) e in
-    let b = and_both (eqb (length d.runners) 0 && eqb (length d.queues) 0 && eqb (length d.tasks) 0) (eqb (length d.jobs) 0) a.0 in
-    let c = and_both (eqb (length d.runners) 0 && eqb (length d.queues) 0) (eqb (length d.tasks) 0) b.0 in
-    let f = and_both (eqb (length d.runners) 0) (eqb (length d.queues) 0) c.0 in
+    let a = and_parts (eqb (length d.runners) 0 && eqb (length d.queues) 0 && eqb (length d.tasks) 0 && eqb (length d.jobs) 0) (has_no_actions d) e in
+    let b = and_parts (eqb (length d.runners) 0 && eqb (length d.queues) 0 && eqb (length d.tasks) 0) (eqb (length d.jobs) 0) a.0 in
+    let c = and_parts (eqb (length d.runners) 0 && eqb (length d.queues) 0) (eqb (length d.tasks) 0) b.0 in
+    let f = and_parts (eqb (length d.runners) 0) (eqb (length d.queues) 0) c.0 in
     (nothing d.runners f.0, nothing d.actions a.1)
 
 -- where nothing is done, the actions are sound
@@ -160,7 +162,7 @@ keeps_workers d d' words sound e =
     let g = line_ok (number_at 1 MOST_WORKERS words 0 & ends_at words 1) (λ p. (not (is_bare d), declaration_late) ∷ (is_some d.workers, config_twice) ∷ [])
         (λ p. record d { workers = Some p.0 }) d' e in
     let n = number_at-within 1 MOST_WORKERS words 0 g.0.0 (both_ok (number_at 1 MOST_WORKERS words 0) (ends_at words 1) g.0.0 g.0.1 g.1).0 in
-    subst Keeps g.3 (with_config d (Some g.0.0) d.groups d.threshold (not_false (is_bare d) g.2.0) (assumption) sound)
+    subst Keeps g.3 (with_config d (Some g.0.0) d.groups d.threshold (not-false (is_bare d) g.2.0) (assumption) sound)
 
 -- `groups F FB B`
 pub keeps_groups : (d d' : Draft) (words : List (List ℕ)) → Keeps d → groups_line d words ≡ Ok d' → Keeps d'
@@ -178,9 +180,9 @@ keeps_groups d d' words sound e =
     let f = number_at-within 1 64 words 0 g.0.0 b0.0 in
     let fb = number_at-within 1 64 words 1 g.0.1.0 b1.0 in
     let b = number_at-within 0 64 words 2 g.0.1.1.0 b2.0 in
-    let within = at_most g.0.0 g.0.1.0 g.2.0 in
+    let within = ltb-false g.0.0 g.0.1.0 g.2.0 in
     let groups : Groups = record { foreground = g.0.0; foreground_best = g.0.1.0; background = g.0.1.1.0 } in
-    subst Keeps g.3 (with_config d d.workers (Some groups) d.threshold (not_false (is_bare d) g.2.1.0) (assumption) sound)
+    subst Keeps g.3 (with_config d d.workers (Some groups) d.threshold (not-false (is_bare d) g.2.1.0) (assumption) sound)
 
 -- `threshold U`
 pub keeps_threshold : (d d' : Draft) (words : List (List ℕ)) → Keeps d → threshold_line d words ≡ Ok d' → Keeps d'
@@ -189,7 +191,7 @@ keeps_threshold d d' words sound e =
     let g = line_ok (time_at words 0 & ends_at words 1) (λ p. (not (is_bare d), declaration_late) ∷ (is_some d.threshold, config_twice) ∷ [])
         (λ p. record d { threshold = Some p.0 }) d' e in
     let u = number_at-within 0 MOST_MICROSECONDS words 0 g.0.0 (both_ok (time_at words 0) (ends_at words 1) g.0.0 g.0.1 g.1).0 in
-    subst Keeps g.3 (with_config d d.workers d.groups (Some g.0.0) (not_false (is_bare d) g.2.0) (assumption) sound)
+    subst Keeps g.3 (with_config d d.workers d.groups (Some g.0.0) (not-false (is_bare d) g.2.0) (assumption) sound)
 
 -- ---- runners and queues
 
@@ -203,7 +205,7 @@ with_runner d made seat none few sound =
       config = assumption;
       limits = assumption;
       declarations = record {
-        seats_there = all_push (λ (runner : Runner). IsSeatThere (script_of d) runner.kind) d.runners made sound.declarations.seats_there seat;
+        seats_there = AllByRecursion-push (λ (runner : Runner). IsSeatThere (script_of d) runner.kind) d.runners made sound.declarations.seats_there seat;
         queues_within = sound.declarations.queues_within;
         tasks_sound = λ t steps h. task_stays (script_of d) script t steps (runners_stay d made) (sound.declarations.tasks_sound t steps h);
         jobs_sound = sound.declarations.jobs_sound;
@@ -214,7 +216,7 @@ with_runner d made seat none few sound =
 
 -- a seat that a kind names, where it is within the workers, is there
 seat_there : (d : Draft) (kind : RunnerKind) → IsSeatWithin kind → is_above_workers d kind ≡ false → IsSeatThere (script_of d) kind
-seat_there d (Single seat) within e = (within.0, at_most (workers_in d) seat e)
+seat_there d (Single seat) within e = (within.0, ltb-false (workers_in d) seat e)
 seat_there d Parallel within e = tt
 seat_there d Sequenced within e = tt
 
@@ -236,8 +238,8 @@ keeps_runner d d' words sound e =
     let word = said_ok kind_named words 1 g.0.1.0 b1.0 in
     let made = runner_made g.0.1.0 g.0.1.1.0 g.0.1.1.1.0 g.0.1.1.1.1.0 in
     subst Keeps {x = record d { runners = d.runners ++ made ∷ [] }} g.3
-    (with_runner d made (seat_there d g.0.1.0 (kind_named-within word.0 g.0.1.0 word.1) g.2.1.0) (nothing d.actions (not_false (has_no_actions d) g.2.1.1.0))
-        (at_most MOST_RUNNERS (length d.runners + 1) g.2.1.1.1.0) sound)
+    (with_runner d made (seat_there d g.0.1.0 (kind_named-within word.0 g.0.1.0 word.1) g.2.1.0) (nothing d.actions (not-false (has_no_actions d) g.2.1.1.0))
+        (ltb-false MOST_RUNNERS (length d.runners + 1) g.2.1.1.1.0) sound)
 
 with_queue : (d : Draft) (made : MainQueue) → IsQueueWithin made → d.actions ≡ [] → length d.queues + 1 ≤ MOST_QUEUES → Keeps d
     → Keeps (record d { queues = d.queues ++ made ∷ [] })
@@ -250,7 +252,7 @@ with_queue d made within none few sound =
       limits = assumption;
       declarations = record {
         seats_there = sound.declarations.seats_there;
-        queues_within = all_push IsQueueWithin d.queues made sound.declarations.queues_within within;
+        queues_within = AllByRecursion-push IsQueueWithin d.queues made sound.declarations.queues_within within;
         tasks_sound = λ t steps h. task_stays (script_of d) script t steps (queues_stay d made) (sound.declarations.tasks_sound t steps h);
         jobs_sound = sound.declarations.jobs_sound;
       };
@@ -274,8 +276,8 @@ keeps_queue d d' words sound e =
     let voters = number_at-within 0 16 words 2 g.0.1.1.0 b2.0 in
     let made : MainQueue = record { class = g.0.1.0; voters = g.0.1.1.0 } in
     subst Keeps {x = record d { queues = d.queues ++ made ∷ [] }} g.3
-    (with_queue d made (record { class_within = class.1; voters_within = voters.1 }) (nothing d.actions (not_false (has_no_actions d) g.2.1.0))
-        (at_most MOST_QUEUES (length d.queues + 1) g.2.1.1.0) sound)
+    (with_queue d made (record { class_within = class.1; voters_within = voters.1 }) (nothing d.actions (not-false (has_no_actions d) g.2.1.0))
+        (ltb-false MOST_QUEUES (length d.queues + 1) g.2.1.1.0) sound)
 
 -- ---- steps and postings
 
@@ -283,9 +285,9 @@ keeps_queue d d' words sound e =
 pub declared_runner_post : (d : Draft) (task runner delay : ℕ) → is_declared d (PostStep task runner delay) ≡ true
     → is_bad_post d (PostStep task runner delay) ≡ false → (task < length d.tasks) × IsRunnerPost (script_of d) task runner
 declared_runner_post d task runner delay declared good =
-    let both = and_both (nat_lt task (length d.tasks)) (nat_lt runner (length d.runners)) declared in
-    let here = below task (length d.tasks) both.0 in
-    (here, record { task_declared = here; runner_declared = below runner (length d.runners) both.1; may_block = may (opens_scope d.tasks task)
+    let both = and_parts (nat_lt task (length d.tasks)) (nat_lt runner (length d.runners)) declared in
+    let here = ltb-true task (length d.tasks) both.0 in
+    (here, record { task_declared = here; runner_declared = ltb-true runner (length d.runners) both.1; may_block = may (opens_scope d.tasks task)
         (may_block_on d.runners runner) good })
   where
     may : (opens takes : Bool) → (opens && not takes) ≡ false → opens ≡ true → takes ≡ true
@@ -296,9 +298,9 @@ declared_runner_post d task runner delay declared good =
 pub declared_queue_post : (d : Draft) (task queue delay : ℕ) → is_declared d (MainStep task queue delay) ≡ true
     → is_bad_post d (MainStep task queue delay) ≡ false → (task < length d.tasks) × IsQueuePost (script_of d) task queue
 declared_queue_post d task queue delay declared good =
-    let both = and_both (nat_lt task (length d.tasks)) (nat_lt queue (length d.queues)) declared in
-    let here = below task (length d.tasks) both.0 in
-    (here, record { task_declared = here; queue_declared = below queue (length d.queues) both.1; no_scope = good })
+    let both = and_parts (nat_lt task (length d.tasks)) (nat_lt queue (length d.queues)) declared in
+    let here = ltb-true task (length d.tasks) both.0 in
+    (here, record { task_declared = here; queue_declared = ltb-true queue (length d.queues) both.1; no_scope = good })
 
 step_sound : (d : Draft) (step : Step) → is_declared d step ≡ true → is_bad_post d step ≡ false → IsStepSound (script_of d) (length d.tasks) step
 step_sound d (PostStep task runner delay) declared good = declared_runner_post d task runner delay declared good
@@ -313,8 +315,8 @@ steps_sound : (d : Draft) (steps : List Step) → list_all (is_declared d) steps
     → AllByRecursion (IsStepSound (script_of d) (length d.tasks)) steps
 steps_sound d [] declared good = tt
 steps_sound d (step ∷ steps) declared good =
-    let here = and_both (is_declared d step) (list_all (is_declared d) steps) declared in
-    let bad = or_neither (is_bad_post d step) (list_any (is_bad_post d) steps) good in
+    let here = and_parts (is_declared d step) (list_all (is_declared d) steps) declared in
+    let bad = or_parts (is_bad_post d step) (list_any (is_bad_post d) steps) good in
     (step_sound d step here.0 bad.0, steps_sound d steps here.1 bad.1)
 
 flat_map_push : {A : Type 0} (f : A → List ℕ) (xs : List A) (x : A) → flat_map f (xs ++ x ∷ []) ≡ flat_map f xs ++ f x
@@ -409,9 +411,9 @@ keeps_task d d' words sound e =
         let steps_room = count_room.1 in let events_room = steps_room.1 in
     subst Keeps {x = record d { tasks = d.tasks ++ steps ∷ [] }} g.3
     (with_task d steps (record { steps_within = steps_read-within (drop 1 words) steps both.1; steps_sound = steps_sound d steps
-        (not_false (list_all (is_declared d) steps) declared.0) good.0; scopes_in_turn = scopes.0 })
-    fresh.0 (nothing d.actions (not_false (has_no_actions d) late.0)) (at_most MOST_TASKS (length d.tasks + 1) count_room.0)
-        (at_most MOST_STEPS (steps_in d + length steps) steps_room.0) (at_most MOST_EVENTS (events_in d + events_of_task steps) events_room.0) sound)
+        (not-false (list_all (is_declared d) steps) declared.0) good.0; scopes_in_turn = scopes.0 })
+    fresh.0 (nothing d.actions (not-false (has_no_actions d) late.0)) (ltb-false MOST_TASKS (length d.tasks + 1) count_room.0)
+        (ltb-false MOST_STEPS (steps_in d + length steps) steps_room.0) (ltb-false MOST_EVENTS (events_in d + events_of_task steps) events_room.0) sound)
 
 with_job : (d : Draft) (job : JobPlan) → IsJobSound job → d.actions ≡ [] → length d.jobs + 1 ≤ MOST_JOBS → items_in d + job.items ≤ MOST_ITEMS
     → steps_in d + length job.steps ≤ MOST_STEPS → events_in d + events_of_job job ≤ MOST_EVENTS → Keeps d → Keeps (record d { jobs = d.jobs ++ job ∷ [] })
@@ -433,7 +435,7 @@ with_job d job made none few few_items few_steps few_events sound =
         seats_there = sound.declarations.seats_there;
         queues_within = sound.declarations.queues_within;
         tasks_sound = λ t steps h. task_stays (script_of d) script t steps stay (sound.declarations.tasks_sound t steps h);
-        jobs_sound = all_push IsJobSound d.jobs job sound.declarations.jobs_sound made;
+        jobs_sound = AllByRecursion-push IsJobSound d.jobs job sound.declarations.jobs_sound made;
       };
       actions = no_actions script none;
       once = assumption;
@@ -474,6 +476,6 @@ keeps_job d d' words sound e =
     subst Keeps {x = record d { jobs = d.jobs ++ job ∷ [] }} g.3
     (with_job d job (record { items_within = items.1; some_cap = cap.0; cap_within = cap.1; steps_within = steps_read-within
         (drop 5 words) steps b4.1; steps_compute = computes.0 })
-    (nothing d.actions (not_false (has_no_actions d) late.0)) (at_most MOST_JOBS (length d.jobs + 1) count_room.0)
-        (at_most MOST_ITEMS (items_in d + job.items) items_room.0) (at_most MOST_STEPS (steps_in d + length steps) steps_room.0)
-        (at_most MOST_EVENTS (events_in d + events_of_job job) events_room.0) sound)
+    (nothing d.actions (not-false (has_no_actions d) late.0)) (ltb-false MOST_JOBS (length d.jobs + 1) count_room.0)
+        (ltb-false MOST_ITEMS (items_in d + job.items) items_room.0) (ltb-false MOST_STEPS (steps_in d + length steps) steps_room.0)
+        (ltb-false MOST_EVENTS (events_in d + events_of_job job) events_room.0) sound)
