@@ -177,13 +177,9 @@ unfolding steps_read
 steps_read-within [] steps e = subst (AllByRecursion IsStepWithin) (ok_same {E = ℕ} [] steps e) tt
 steps_read-within (word ∷ words) steps e = pieces_within (slice_split (λ w. is_word w (codes ";")) (word ∷ words)) steps e
 
--- ---- tests
-
 pub nothing : {A : Type 0} (xs : List A) → eqb (length xs) 0 ≡ true → xs ≡ []
 nothing [] e = refl
 nothing (x ∷ xs) e = absurd (let none : length (x ∷ xs) ≡ 0 = eqb-true _ _ e in omega (arith, none))
-
--- ---- one more element
 
 -- ---- postings
 
