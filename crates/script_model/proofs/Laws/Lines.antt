@@ -28,7 +28,7 @@ use Rattle.task_base.specs.declared.limits.TheConstants.{MOST_WORKERS, MOST_RUNN
 use Rattle.script_model.specs.Lines.{workers_line, groups_line, threshold_line, runner_line, queue_line, task_line, job_line, command_read, words_read, line_read}
 use Rattle.script_model.specs.Grammar.{lines_read, script_read}
 use Rattle.script_model.specs.Canonical.{priority_word, behaviour_word, kind_word, steps_words, may_block_words, runner_words, queue_words, task_words, job_words, config_lines, numbered}
-use Rattle.script_model.specs.Laws.Sound.{IsSound, IsSeatThere, IsQueueWithin, IsStepWithin, IsStepSound, IsTaskSound, IsJobSound}
+use Rattle.script_model.specs.Laws.Sound.{IsSound, IsConfigSound, IsSeatThere, IsQueueWithin, IsStepWithin, IsStepSound, IsTaskSound, IsJobSound}
 use Rattle.list_laws.proofs.Lists.{eqb-same, count-append, count-cons, AllByRecursion-back}
 use Rattle.script_model.proofs.Laws.Parts.{IsSeatWithin}
 use Rattle.script_model.proofs.Laws.Declarations.{posts_of_task, runner_made, job_made}
@@ -139,73 +139,51 @@ draft_at s runners queues tasks jobs actions = record {
 
 -- ---- configuration
 
-workers_read : (s : Plan) → IsSound s → IsLineRead empty_draft (codes "workers" ∷ decimal s.workers ∷ []) (record empty_draft { workers = Some s.workers })
+-- the draft behind `workers N`, and that behind `groups F FB B`
+abbrev with_workers : Plan → Draft
+with_workers s = record empty_draft { workers = Some s.workers }
+
+abbrev with_groups : Plan → Draft
+with_groups s = record (with_workers s) {
+  groups = Some (record { foreground = s.foreground; foreground_best = s.foreground_best; background = s.background });
+}
+
+workers_read : (s : Plan) → IsConfigSound s → IsLineRead empty_draft (codes "workers" ∷ decimal s.workers ∷ []) (with_workers s)
 unfolding command_read workers_line
-workers_read s sound =
-    let words = decimal s.workers ∷ [] in
-    record {
-      reads = line_is (number_at 1 MOST_WORKERS words 0 & ends_at words 1) (λ p. (not (is_bare empty_draft), declaration_late) ∷ (false, config_twice) ∷ [])
-          (λ p. record empty_draft { workers = Some p.0 }) (s.workers, tt)
-          (both_is (number_at 1 MOST_WORKERS words 0) (ends_at words 1) s.workers tt (number_is 1 MOST_WORKERS s.workers sound.config.some_workers sound.config.few_workers (omega arith)) refl)
-              (refl, (refl, tt));
-      starts = refl;
-      plain = plain_cons (codes "workers") words refl (plain_cons (decimal s.workers) [] (plain_id s.workers (omega (arith, sound.config.few_workers))) refl);
-    }
+workers_read s config = record {
+  reads = rw (number_is 1 MOST_WORKERS s.workers config.some_workers config.few_workers (omega arith)) refl;
+  starts = refl;
+  plain = rw (plain_id s.workers (omega (arith, config.few_workers))) refl;
+}
 
-groups_read : (s : Plan) → IsSound s → IsLineRead (record empty_draft { workers = Some s.workers })
-    (codes "groups" ∷ decimal s.foreground ∷ decimal s.foreground_best ∷ decimal s.background ∷ [])
-    (record empty_draft { workers = Some s.workers; groups = Some
-        (record { foreground = s.foreground; foreground_best = s.foreground_best; background = s.background }) })
+groups_read : (s : Plan) → IsConfigSound s
+    → IsLineRead (with_workers s) (codes "groups" ∷ decimal s.foreground ∷ decimal s.foreground_best ∷ decimal s.background ∷ []) (with_groups s)
 unfolding command_read groups_line
-groups_read s sound =
-    let d = record empty_draft { workers = Some s.workers } in
-    let words = decimal s.foreground ∷ decimal s.foreground_best ∷ decimal s.background ∷ [] in
+groups_read s config =
+    let best : s.foreground_best ≤ 64 = omega (arith, config.best_within, config.few_foreground) in
     record {
-      reads = line_is (number_at 1 64 words 0 & number_at 1 64 words 1 & number_at 0 64 words 2 & ends_at words 3)
-          (λ p. (nat_lt p.0 p.1.0, out_of_range) ∷ (not (is_bare d), declaration_late) ∷ (false, config_twice) ∷ [])
-          (λ p. record d { groups = Some (record { foreground = p.0; foreground_best = p.1.0; background = p.1.1.0 }) })
-              (s.foreground, (s.foreground_best, (s.background, tt)))
-          (both_is (number_at 1 64 words 0) (number_at 1 64 words 1 & number_at 0 64 words 2 & ends_at words 3) s.foreground
-              (s.foreground_best, (s.background, tt)) (number_is 1 64 s.foreground sound.config.some_foreground sound.config.few_foreground (omega arith))
-          (both_is (number_at 1 64 words 1) (number_at 0 64 words 2 & ends_at words 3) s.foreground_best (s.background, tt)
-              (number_is 1 64 s.foreground_best sound.config.some_best (omega (arith, sound.config.best_within, sound.config.few_foreground)) (omega arith))
-          (both_is (number_at 0 64 words 2) (ends_at words 3) s.background tt
-              (number_is 0 64 s.background (omega arith) sound.config.few_background (omega arith)) refl)))
-          (le-ltb s.foreground s.foreground_best sound.config.best_within, (refl, (refl, tt)));
+      reads = rw (number_is 1 64 s.foreground config.some_foreground config.few_foreground (omega arith), number_is 1 64 s.foreground_best config.some_best
+          best (omega arith), number_is 0 64 s.background (omega arith) config.few_background (omega arith), le-ltb s.foreground s.foreground_best
+          config.best_within) refl;
       starts = refl;
-      plain = plain_cons (codes "groups") words refl (plain_cons (decimal s.foreground) (decimal s.foreground_best ∷ decimal s.background ∷ [])
-          (plain_id s.foreground (omega (arith, sound.config.few_foreground)))
-          (plain_cons (decimal s.foreground_best) (decimal s.background ∷ [])
-              (plain_id s.foreground_best (omega (arith, sound.config.best_within, sound.config.few_foreground)))
-              (plain_cons (decimal s.background) [] (plain_id s.background (omega (arith, sound.config.few_background))) refl)));
+      plain = rw (plain_id s.foreground (omega (arith, config.few_foreground)), plain_id s.foreground_best (omega (arith, best)),
+          plain_id s.background (omega (arith, config.few_background))) refl;
     }
 
-threshold_read : (s : Plan) → IsSound s → IsLineRead (record empty_draft
-    { workers = Some s.workers; groups = Some (record { foreground = s.foreground; foreground_best = s.foreground_best; background = s.background }) })
-    (codes "threshold" ∷ decimal s.threshold ∷ []) (draft_at s [] [] [] [] [])
+threshold_read : (s : Plan) → IsConfigSound s
+    → IsLineRead (with_groups s) (codes "threshold" ∷ decimal s.threshold ∷ []) (draft_at s [] [] [] [] [])
 unfolding command_read threshold_line
-threshold_read s sound =
-    let d = record empty_draft { workers = Some s.workers; groups = Some
-        (record { foreground = s.foreground; foreground_best = s.foreground_best; background = s.background }) } in
-    let words = decimal s.threshold ∷ [] in
-    record {
-      reads = line_is (time_at words 0 & ends_at words 1) (λ p. (not (is_bare d), declaration_late) ∷ (false, config_twice) ∷ [])
-          (λ p. record d { threshold = Some p.0 }) (s.threshold, tt)
-          (both_is (time_at words 0) (ends_at words 1) s.threshold tt (time_is s.threshold sound.config.threshold_within) refl) (refl, (refl, tt));
-      starts = refl;
-      plain = plain_cons (codes "threshold") words refl (plain_cons (decimal s.threshold) [] (plain_time s.threshold sound.config.threshold_within) refl);
-    }
+threshold_read s config = record {
+  reads = rw (time_is s.threshold config.threshold_within) refl;
+  starts = refl;
+  plain = rw (plain_time s.threshold config.threshold_within) refl;
+}
 
 pub config_read : (s : Plan) → IsSound s → AreRead empty_draft (config_lines s) (draft_at s [] [] [] [] [])
 config_read s sound = (
-  record empty_draft { workers = Some s.workers },
-  workers_read s sound,
-  (
-    record empty_draft { workers = Some s.workers; groups = Some
-        (record { foreground = s.foreground; foreground_best = s.foreground_best; background = s.background }) },
-    groups_read s sound,
-    (draft_at s [] [] [] [] [], threshold_read s sound, refl),
-  ),
+  with_workers s,
+  workers_read s sound.config,
+  (with_groups s, groups_read s sound.config, (draft_at s [] [] [] [] [], threshold_read s sound.config, refl)),
 )
 
 -- ---- runners and queues
@@ -237,65 +215,34 @@ pub runner_read : (s : Plan) → IsSound s → (done : List Runner) (runner : Ru
     → IsLineRead (draft_at s done [] [] [] []) (runner_words (length done) runner) (draft_at s (done ++ runner ∷ []) [] [] [] [])
 unfolding command_read runner_line
 runner_read s sound done runner rest e =
-    let d = draft_at s done [] [] [] [] in
-    let r = length done in
     let kind = runner.kind in let priority = runner.traits.priority in let behaviour = runner.traits.behaviour in let may_block = runner.traits.may_block in
-    let words = decimal r ∷ kind_word kind ∷ priority_word priority ∷ behaviour_word behaviour ∷ may_block_words may_block in
-    let counted = length_at done runner rest s.runners e in
-    let few : length done + 1 ≤ MOST_RUNNERS = omega (arith, counted, sound.limits.few_runners) in
+    let few : length done + 1 ≤ MOST_RUNNERS = omega (arith, length_at done runner rest s.runners e, sound.limits.few_runners) in
+    let id : length done ≤ 65536 = omega (arith, few) in
     let seat : IsSeatThere s kind = all_at (λ (x : Runner). IsSeatThere s x.kind) done runner rest s.runners e sound.declarations.seats_there in
     let readable = seat_readable s sound.config.few_workers kind seat in
+    let d = draft_at s done [] [] [] [] in
     record {
-      reads = line_is (id_at words 0 & said_at kind_named words 1 & said_at priority_named words 2 & said_at behaviour_named words 3 & may_block_at words 4 &
-          ends_at words 5)
-          (λ p. (not (p.0 == length d.runners), out_of_order) ∷ (is_above_workers d p.1.0, undeclared) ∷ (not (has_no_actions d), declaration_late) ∷
-              (nat_lt MOST_RUNNERS (length d.runners + 1), too_many) ∷ [])
-          (λ p. record d { runners = d.runners ++ runner_made p.1.0 p.1.1.0 p.1.1.1.0 p.1.1.1.1.0 ∷ [] }) (r, (kind, (priority, (behaviour, (may_block, tt)))))
-          (both_is (id_at words 0) (said_at kind_named words 1 & said_at priority_named words 2 & said_at behaviour_named words 3 & may_block_at words 4 &
-              ends_at words 5) r (kind, (priority, (behaviour, (may_block, tt)))) (id_is r (omega (arith, few)))
-          (both_is (said_at kind_named words 1) (said_at priority_named words 2 & said_at behaviour_named words 3 & may_block_at words 4 & ends_at words 5)
-              kind (priority, (behaviour, (may_block, tt))) (kind_is kind readable)
-          (both_is (said_at priority_named words 2) (said_at behaviour_named words 3 & may_block_at words 4 & ends_at words 5) priority
-              (behaviour, (may_block, tt)) (priority_is priority)
-          (both_is (said_at behaviour_named words 3) (may_block_at words 4 & ends_at words 5) behaviour (may_block, tt) (behaviour_is behaviour)
-          (both_is (may_block_at words 4) (ends_at words 5) may_block tt
-              (may_block_is (decimal r) (kind_word kind) (priority_word priority) (behaviour_word behaviour) may_block)
-              (may_block_ends (decimal r) (kind_word kind) (priority_word priority) (behaviour_word behaviour) may_block))))))
-          (ap not (eqb-same r), (seat_below d kind (seat_same s (script_of d) refl kind seat), (refl, (le-ltb MOST_RUNNERS (length done + 1) few, tt))));
+      reads = rw (id_is (length done) id, kind_is kind readable, priority_is priority, behaviour_is behaviour,
+          may_block_is (decimal (length done)) (kind_word kind) (priority_word priority) (behaviour_word behaviour) may_block,
+          may_block_ends (decimal (length done)) (kind_word kind) (priority_word priority) (behaviour_word behaviour) may_block, eqb-same (length done),
+          seat_below d kind (seat_same s (script_of d) refl kind seat), le-ltb MOST_RUNNERS (length done + 1) few) refl;
       starts = refl;
-      plain = plain_cons (codes "runner") words refl (plain_cons (decimal r)
-          (kind_word kind ∷ priority_word priority ∷ behaviour_word behaviour ∷ may_block_words may_block) (plain_id r (omega (arith, few)))
-          (plain_cons (kind_word kind) (priority_word priority ∷ behaviour_word behaviour ∷ may_block_words may_block) (kind_plain kind readable)
-          (plain_cons (priority_word priority) (behaviour_word behaviour ∷ may_block_words may_block) (priority_plain priority)
-          (plain_cons (behaviour_word behaviour) (may_block_words may_block) (behaviour_plain behaviour) (may_block_plain may_block)))));
+      plain = rw (plain_id (length done) id, kind_plain kind readable, priority_plain priority, behaviour_plain behaviour, may_block_plain may_block) refl;
     }
 
 pub queue_read : (s : Plan) → IsSound s → (done : List MainQueue) (queue : MainQueue) (rest : List MainQueue) → done ++ queue ∷ rest ≡ s.queues
     → IsLineRead (draft_at s s.runners done [] [] []) (queue_words (length done) queue) (draft_at s s.runners (done ++ queue ∷ []) [] [] [])
 unfolding command_read queue_line
 queue_read s sound done queue rest e =
-    let d = draft_at s s.runners done [] [] [] in
-    let q = length done in
-    let words = decimal q ∷ decimal queue.class ∷ decimal queue.voters ∷ [] in
-    let counted = length_at done queue rest s.queues e in
-    let few : length done + 1 ≤ MOST_QUEUES = omega (arith, counted, sound.limits.few_queues) in
+    let few : length done + 1 ≤ MOST_QUEUES = omega (arith, length_at done queue rest s.queues e, sound.limits.few_queues) in
+    let id : length done ≤ 65536 = omega (arith, few) in
     let within : IsQueueWithin queue = all_at IsQueueWithin done queue rest s.queues e sound.declarations.queues_within in
     record {
-      reads = line_is (id_at words 0 & number_at 0 7 words 1 & number_at 0 16 words 2 & ends_at words 3)
-          (λ p. (not (p.0 == length d.queues), out_of_order) ∷ (not (has_no_actions d), declaration_late) ∷
-              (nat_lt MOST_QUEUES (length d.queues + 1), too_many) ∷ [])
-          (λ p. record d { queues = d.queues ++ record { class = p.1.0; voters = p.1.1.0 } ∷ [] }) (q, (queue.class, (queue.voters, tt)))
-          (both_is (id_at words 0) (number_at 0 7 words 1 & number_at 0 16 words 2 & ends_at words 3) q (queue.class, (queue.voters, tt))
-              (id_is q (omega (arith, few)))
-          (both_is (number_at 0 7 words 1) (number_at 0 16 words 2 & ends_at words 3) queue.class (queue.voters, tt)
-              (number_is 0 7 queue.class (omega arith) within.class_within (omega arith))
-          (both_is (number_at 0 16 words 2) (ends_at words 3) queue.voters tt
-              (number_is 0 16 queue.voters (omega arith) within.voters_within (omega arith)) refl)))
-          (ap not (eqb-same q), (refl, (le-ltb MOST_QUEUES (length done + 1) few, tt)));
+      reads = rw (id_is (length done) id, number_is 0 7 queue.class (omega arith) within.class_within (omega arith), number_is 0 16 queue.voters
+          (omega arith) within.voters_within (omega arith), eqb-same (length done), le-ltb MOST_QUEUES (length done + 1) few) refl;
       starts = refl;
-      plain = plain_cons (codes "queue") words refl (plain_cons (decimal q) (decimal queue.class ∷ decimal queue.voters ∷ []) (plain_id q (omega (arith, few)))
-          (plain_cons (decimal queue.class) (decimal queue.voters ∷ []) (plain_id queue.class (omega (arith, within.class_within)))
-              (plain_cons (decimal queue.voters) [] (plain_id queue.voters (omega (arith, within.voters_within))) refl)));
+      plain = rw (plain_id (length done) id, plain_id queue.class (omega (arith, within.class_within)), plain_id queue.voters
+          (omega (arith, within.voters_within))) refl;
     }
 
 -- ---- postings
@@ -397,46 +344,21 @@ pub task_read : (s : Plan) → IsSound s → (done : List (List Step)) (steps : 
 unfolding command_read task_line
 task_read s sound done steps rest e =
     let d = draft_at s s.runners s.queues done [] [] in
-    let t = length done in
-    let words = decimal t ∷ steps_words steps in
-    let counted = length_at done steps rest s.tasks e in
-    let few : length done + 1 ≤ MOST_TASKS = omega (arith, counted, sound.limits.few_tasks) in
-    let summed = sum_at (λ (x : List Step). length x) done steps rest s.tasks e in
-    let bound = sum_at events_of_task done steps rest s.tasks e in
-    let few_steps : steps_in d + length steps ≤ MOST_STEPS = omega (arith, summed, sound.limits.few_steps) in
-    let few_events : events_in d + events_of_task steps ≤ MOST_EVENTS = omega (arith, bound, sound.limits.few_events) in
-    let made : IsTaskSound s t steps = sound.declarations.tasks_sound t steps (get_at done steps rest s.tasks e) in
-    let readable = steps_readable s sound t (omega (arith, few)) steps made.steps_within made.steps_sound in
+    let few : length done + 1 ≤ MOST_TASKS = omega (arith, length_at done steps rest s.tasks e, sound.limits.few_tasks) in
+    let id : length done ≤ 65536 = omega (arith, few) in
+    let few_steps : steps_in d + length steps ≤ MOST_STEPS =
+    omega (arith, sum_at (λ (x : List Step). length x) done steps rest s.tasks e, sound.limits.few_steps) in
+    let few_events : events_in d + events_of_task steps ≤ MOST_EVENTS =
+    omega (arith, sum_at events_of_task done steps rest s.tasks e, sound.limits.few_events) in
+    let made : IsTaskSound s (length done) steps = sound.declarations.tasks_sound (length done) steps (get_at done steps rest s.tasks e) in
+    let readable = steps_readable s sound (length done) id steps made.steps_within made.steps_sound in
     record {
-      reads = line_is (id_at words 0 & steps_read (drop 1 words))
-          (λ p. (not (p.0 == length d.tasks), out_of_order) ∷ (not (list_all (is_declared d) p.1), undeclared) ∷
-              (is_any_posted (posted_in d) (flat_map posts_of_step p.1), posted_twice) ∷ (not (has_no_actions d), declaration_late) ∷
-              (has_bad_scopes false p.1, bad_block) ∷ (list_any (is_bad_post d) p.1, bad_block)
-          ∷ (nat_lt MOST_TASKS (length d.tasks + 1), too_many) ∷ (nat_lt MOST_STEPS (steps_in d + length p.1), too_many) ∷
-              (nat_lt MOST_EVENTS (events_in d + events_of_task p.1), too_many) ∷ [])
-          (λ p. record d { tasks = d.tasks ++ p.1 ∷ [] }) (t, steps)
-          (both_is (id_at words 0) (steps_read (drop 1 words)) t steps (id_is t (omega (arith, few))) (steps_are steps readable)) (
-            ap not (eqb-same t),
-            (
-              ap not (steps_declared s done steps made.steps_sound),
-              (
-                task_fresh s sound.once.posted_once done steps rest e,
-                (
-                  refl,
-                  (
-                    made.scopes_in_turn,
-                    (
-                      steps_good s done (steps ∷ rest) e steps made.steps_sound,
-                      (le-ltb MOST_TASKS (length done + 1) few,
-                          (le-ltb MOST_STEPS (steps_in d + length steps) few_steps, (le-ltb MOST_EVENTS (events_in d + events_of_task steps) few_events, tt))),
-                    ),
-                  ),
-                ),
-              ),
-            ),
-          );
+      reads = rw (id_is (length done) id, steps_are steps readable, eqb-same (length done), steps_declared s done steps made.steps_sound,
+          task_fresh s sound.once.posted_once done steps rest e, made.scopes_in_turn, steps_good s done (steps ∷ rest) e steps made.steps_sound,
+          le-ltb MOST_TASKS (length done + 1) few, le-ltb MOST_STEPS (steps_in d + length steps) few_steps,
+          le-ltb MOST_EVENTS (events_in d + events_of_task steps) few_events) refl;
       starts = refl;
-      plain = plain_cons (codes "task") words refl (plain_cons (decimal t) (steps_words steps) (plain_id t (omega (arith, few))) (steps_plain steps readable));
+      plain = rw (plain_id (length done) id, steps_plain steps readable) refl;
     }
 
 -- ---- jobs
@@ -481,71 +403,24 @@ pub job_read : (s : Plan) → IsSound s → (done : List JobPlan) (job : JobPlan
 unfolding command_read job_line
 job_read s sound done job rest e =
     let d = draft_at s s.runners s.queues s.tasks done [] in
-    let j = length done in
     let steps = job.steps in
-    let words = decimal j ∷ priority_word job.priority ∷ behaviour_word job.behaviour ∷ decimal job.items ∷ decimal job.cap ∷ steps_words steps in
-    let counted = length_at done job rest s.jobs e in
-    let few : length done + 1 ≤ MOST_JOBS = omega (arith, counted, sound.limits.few_jobs) in
-    let items = sum_at (λ (x : JobPlan). x.items) done job rest s.jobs e in
-    let summed = sum_at (λ (x : JobPlan). length x.steps) done job rest s.jobs e in
-    let bound = sum_at events_of_job done job rest s.jobs e in
-    let few_items : items_in d + job.items ≤ MOST_ITEMS = omega (arith, items, sound.limits.few_items) in
-    let few_steps : steps_in d + length steps ≤ MOST_STEPS = omega (arith, summed, sound.limits.few_steps) in
-    let few_events : events_in d + events_of_job job ≤ MOST_EVENTS = omega (arith, bound, sound.limits.few_events) in
+    let few : length done + 1 ≤ MOST_JOBS = omega (arith, length_at done job rest s.jobs e, sound.limits.few_jobs) in
+    let id : length done ≤ 65536 = omega (arith, few) in
+    let few_items : items_in d + job.items ≤ MOST_ITEMS =
+    omega (arith, sum_at (λ (x : JobPlan). x.items) done job rest s.jobs e, sound.limits.few_items) in
+    let few_steps : steps_in d + length steps ≤ MOST_STEPS =
+    omega (arith, sum_at (λ (x : JobPlan). length x.steps) done job rest s.jobs e, sound.limits.few_steps) in
+    let few_events : events_in d + events_of_job job ≤ MOST_EVENTS = omega (arith, sum_at events_of_job done job rest s.jobs e, sound.limits.few_events) in
     let made : IsJobSound job = all_at IsJobSound done job rest s.jobs e sound.declarations.jobs_sound in
     let readable = computing_readable steps made.steps_within made.steps_compute in
-    let fresh : is_any_posted (posted_in d) (flat_map posts_of_step steps)
-        ≡ false = ap (is_any_posted (posted_in d)) (computing_posts steps made.steps_compute) in
     record {
-      reads = line_is (id_at words 0 & said_at priority_named words 1 & said_at behaviour_named words 2 & number_at 0 65536 words 3 & number_at 1 64 words 4 &
-          steps_read (drop 5 words))
-          (λ p.
-          let read = p.1.1.1.1.1 in
-          (not (p.0 == length d.jobs), out_of_order) ∷ (not (list_all (is_declared d) read), undeclared) ∷
-              (is_any_posted (posted_in d) (flat_map posts_of_step read), posted_twice) ∷ (not (has_no_actions d), declaration_late) ∷
-              (list_any (is_bad_post d) read, bad_block) ∷ (list_any is_act read, job_use)
-          ∷ (nat_lt MOST_JOBS (length d.jobs + 1), too_many) ∷ (nat_lt MOST_ITEMS (items_in d + p.1.1.1.0), too_many) ∷
-              (nat_lt MOST_STEPS (steps_in d + length read), too_many) ∷
-              (nat_lt MOST_EVENTS (events_in d + events_of_job (job_made p.1.0 p.1.1.0 p.1.1.1.0 p.1.1.1.1.0 read)), too_many) ∷ [])
-          (λ p. record d { jobs = d.jobs ++ job_made p.1.0 p.1.1.0 p.1.1.1.0 p.1.1.1.1.0 p.1.1.1.1.1 ∷ [] })
-              (j, (job.priority, (job.behaviour, (job.items, (job.cap, steps)))))
-          (both_is (id_at words 0) (said_at priority_named words 1 & said_at behaviour_named words 2 & number_at 0 65536 words 3 & number_at 1 64 words 4 &
-              steps_read (drop 5 words)) j (job.priority, (job.behaviour, (job.items, (job.cap, steps)))) (id_is j (omega (arith, few)))
-          (both_is (said_at priority_named words 1) (said_at behaviour_named words 2 & number_at 0 65536 words 3 & number_at 1 64 words 4 & steps_read
-              (drop 5 words)) job.priority (job.behaviour, (job.items, (job.cap, steps))) (priority_is job.priority)
-          (both_is (said_at behaviour_named words 2) (number_at 0 65536 words 3 & number_at 1 64 words 4 & steps_read (drop 5 words)) job.behaviour
-              (job.items, (job.cap, steps)) (behaviour_is job.behaviour)
-          (both_is (number_at 0 65536 words 3) (number_at 1 64 words 4 & steps_read (drop 5 words)) job.items (job.cap, steps)
-              (number_is 0 65536 job.items (omega arith) made.items_within (omega arith))
-          (both_is (number_at 1 64 words 4) (steps_read (drop 5 words)) job.cap steps (number_is 1 64 job.cap made.some_cap made.cap_within (omega arith))
-              (steps_are steps readable)))))) (
-            ap not (eqb-same j),
-            (
-              ap not (computing_declared d steps made.steps_compute),
-              (
-                fresh,
-                (
-                  refl,
-                  (
-                    computing_good d steps made.steps_compute,
-                    (
-                      made.steps_compute,
-                      (le-ltb MOST_JOBS (length done + 1) few,
-                          (le-ltb MOST_ITEMS (items_in d + job.items) few_items,
-                          (le-ltb MOST_STEPS (steps_in d + length steps) few_steps, (le-ltb MOST_EVENTS (events_in d + events_of_job job) few_events, tt)))),
-                    ),
-                  ),
-                ),
-              ),
-            ),
-          );
+      reads = rw (id_is (length done) id, priority_is job.priority, behaviour_is job.behaviour,
+          number_is 0 65536 job.items (omega arith) made.items_within (omega arith), number_is 1 64 job.cap made.some_cap made.cap_within (omega arith),
+          steps_are steps readable, eqb-same (length done), computing_declared d steps made.steps_compute, computing_posts steps made.steps_compute,
+          computing_good d steps made.steps_compute, made.steps_compute, le-ltb MOST_JOBS (length done + 1) few,
+          le-ltb MOST_ITEMS (items_in d + job.items) few_items, le-ltb MOST_STEPS (steps_in d + length steps) few_steps,
+          le-ltb MOST_EVENTS (events_in d + events_of_job job) few_events) refl;
       starts = refl;
-      plain = plain_cons (codes "job") words refl (plain_cons (decimal j)
-          (priority_word job.priority ∷ behaviour_word job.behaviour ∷ decimal job.items ∷ decimal job.cap ∷ steps_words steps)
-          (plain_id j (omega (arith, few)))
-          (plain_cons (priority_word job.priority) (behaviour_word job.behaviour ∷ decimal job.items ∷ decimal job.cap ∷ steps_words steps)
-              (priority_plain job.priority)
-          (plain_cons (behaviour_word job.behaviour) (decimal job.items ∷ decimal job.cap ∷ steps_words steps) (behaviour_plain job.behaviour)
-          (plain_cons (decimal job.items) (decimal job.cap ∷ steps_words steps) (plain_id job.items made.items_within)
-          (plain_cons (decimal job.cap) (steps_words steps) (plain_id job.cap (omega (arith, made.cap_within))) (steps_plain steps readable))))));
+      plain = rw (plain_id (length done) id, priority_plain job.priority, behaviour_plain job.behaviour, plain_id job.items made.items_within,
+          plain_id job.cap (omega (arith, made.cap_within)), steps_plain steps readable) refl;
     }
