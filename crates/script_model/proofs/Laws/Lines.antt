@@ -33,7 +33,7 @@ use Rattle.list_laws.proofs.Lists.{eqb-same, count-append, count-cons, AllByRecu
 use Rattle.script_model.proofs.Laws.Parts.{IsSeatWithin}
 use Rattle.script_model.proofs.Laws.Declarations.{posts_of_task, runner_made, job_made}
 use Rattle.script_model.proofs.Laws.Texts.{is_plain_word, line_of, text_of, line_is_ascii, words_of-line, lines_of-text}
-use Rattle.script_model.proofs.Laws.Words.{both_is, line_is, number_is, id_is, time_is, plain_id, plain_time, plain_cons, priority_is, priority_plain, behaviour_is, behaviour_plain, kind_is, kind_plain, may_block_plain, IsStepReadable, steps_are, steps_plain}
+use Rattle.script_model.proofs.Laws.Words.{number_is, id_is, time_is, plain_id, plain_time, priority_is, priority_plain, behaviour_is, behaviour_plain, kind_is, kind_plain, may_block_plain, IsStepReadable, steps_are, steps_plain}
 use Rattle.list_laws.proofs.Elements.{none_from_count, slice_get_seam}
 
 -- ---- lines behind one another

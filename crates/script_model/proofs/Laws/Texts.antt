@@ -32,17 +32,19 @@ is_plain_word word = ltb 0 (length word) && list_all is_visible word
 abbrev pub is_text : ℕ → Bool
 is_text b = ltb 31 b && ltb b 127
 
-all_weaker : (p q : ℕ → Bool) (xs : List ℕ) → ((b : ℕ) → p b ≡ true → q b ≡ true) → list_all p xs ≡ true → list_all q xs ≡ true
+-- what passes one test passes a weaker one
+all_weaker : {A : Type 0} (p q : A → Bool) (xs : List A) → ((x : A) → p x ≡ true → q x ≡ true) → list_all p xs ≡ true → list_all q xs ≡ true
 all_weaker p q [] f e = refl
-all_weaker p q (b ∷ xs) f e =
-    let both = and_parts (p b) (list_all p xs) e in
-    rw (f b both.0, all_weaker p q xs f both.1) refl
+all_weaker p q (x ∷ xs) f e =
+    let both = and_parts (p x) (list_all p xs) e in
+    rw (f x both.0, all_weaker p q xs f both.1) refl
 
-none_passes : (p q : ℕ → Bool) (xs : List ℕ) → ((b : ℕ) → p b ≡ true → q b ≡ false) → list_all p xs ≡ true → All (λ b. q b ≡ false) xs
-none_passes p q [] f e = All-nil (λ b. q b ≡ false)
-none_passes p q (b ∷ xs) f e =
-    let both = and_parts (p b) (list_all p xs) e in
-    All-cons (λ b. q b ≡ false) b xs (f b both.0) (none_passes p q xs f both.1)
+-- what passes one test fails one that is against it
+pub none_passes : {A : Type 0} (p q : A → Bool) (xs : List A) → ((x : A) → p x ≡ true → q x ≡ false) → list_all p xs ≡ true → All (λ x. q x ≡ false) xs
+none_passes p q [] f e = All-nil (λ x. q x ≡ false)
+none_passes p q (x ∷ xs) f e =
+    let both = and_parts (p x) (list_all p xs) e in
+    All-cons (λ x. q x ≡ false) x xs (f x both.0) (none_passes p q xs f both.1)
 
 visible_no_blank : (b : ℕ) → is_visible b ≡ true → is_blank b ≡ false
 visible_no_blank b e =

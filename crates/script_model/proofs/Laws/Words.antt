@@ -1,8 +1,8 @@
 -- The words that the canonical text has at the places of lines are read as what they are made from.
 use Rattle.std.proofs.Common.{◌≡◌, ℕ, ◌≤◌, Bool, true, false, List, [], ◌∷◌, ◌++◌, length, drop, map, refl, ap, ◌∙◌, Result, Ok, arith}
-use Rattle.std.specs.Prelude.{◌-◌, ◌^◌, flat_map, decimal, codes, All}
+use Rattle.std.specs.Prelude.{◌-◌, ◌^◌, not, flat_map, decimal, codes, All}
 use Rattle.std.specs.List.{list_all, slice_split, AllByRecursion}
-use Rattle.std.proofs.lemmas.Bool.{lt-ltb}
+use Rattle.std.proofs.lemmas.Bool.{lt-ltb, not-true}
 use Rattle.std.proofs.lemmas.List.{append-nil}
 use Rattle.std.proofs.lemmas.List.Concat.{flat_map-cons}
 use Rattle.std.proofs.lemmas.List.Elements.{All-nil, All-cons}
@@ -29,20 +29,7 @@ use Rattle.script_model.specs.Places.{said_at, ends_at, number_from, number_at, 
 use Rattle.log_model.specs.LogText.{policy_word, scope_word, fence_word, vote_word}
 use Rattle.script_model.specs.Canonical.{priority_word, behaviour_word, kind_word, step_words, steps_words, may_block_words}
 use Rattle.script_model.proofs.Laws.Parts.{IsSeatWithin, Passed, behind}
-use Rattle.script_model.proofs.Laws.Texts.{is_plain_word, is_visible, number_from-decimal, decimal_plain, decimal_visible, decimal_no_mark}
-
--- ---- two places, and a line
-
-pub both_is : {A B : Type 0} (r : Result A ℕ) (s : Result B ℕ) (x : A) (y : B) → r ≡ Ok x → s ≡ Ok y → (r & s) ≡ Ok (x, y)
-both_is {A = A} {B = B} r s x y first second = ap (λ (t : Result A ℕ). t & s) first ∙ ap (λ (t : Result B ℕ). Ok x & t) second
-
-pub behind_is : {B : Type 0} (tests : List (Bool × ℕ)) (r : Result B ℕ) → Passed tests → behind tests r ≡ r
-behind_is [] r passed = refl
-behind_is (t ∷ tests) r passed = rw (passed.0) (behind_is tests r passed.1)
-
-pub line_is : {A B : Type 0} (r : Result A ℕ) (tests : A → List (Bool × ℕ)) (made : A → B) (x : A) → r ≡ Ok x → Passed (tests x)
-    → (r >>= λ x. behind (tests x) (Ok (made x))) ≡ Ok (made x)
-line_is {A = A} r tests made x is passed = ap (λ (t : Result A ℕ). t >>= λ x. behind (tests x) (Ok (made x))) is ∙ behind_is (tests x) (Ok (made x)) passed
+use Rattle.script_model.proofs.Laws.Texts.{none_passes, is_plain_word, is_visible, number_from-decimal, decimal_plain, decimal_visible, decimal_no_mark}
 
 -- ---- numbers
 
@@ -63,10 +50,6 @@ plain_id n small = decimal_plain n (omega (arith, small))
 
 pub plain_time : (n : ℕ) → n ≤ MOST_MICROSECONDS → is_plain_word (decimal n) ≡ true
 plain_time n small = decimal_plain n (omega (arith, small))
-
-pub plain_cons : (word : List ℕ) (words : List (List ℕ)) → is_plain_word word ≡ true → list_all is_plain_word words ≡ true
-    → list_all is_plain_word (word ∷ words) ≡ true
-plain_cons word words here rest = rw (here, rest) refl
 
 -- ---- names
 
@@ -132,7 +115,7 @@ pub kind_is : (kind : RunnerKind) → IsSeatWithin kind → kind_named (kind_wor
 unfolding kind_named
 kind_is Parallel h = refl
 kind_is Sequenced h = refl
-kind_is (Single seat) h = ap (λ (r : Result ℕ ℕ). r >>= λ seat. Ok (Single seat)) (number_is 1 MOST_WORKERS seat h.0 h.1 (omega arith))
+kind_is (Single seat) h = rw (number_is 1 MOST_WORKERS seat h.0 h.1 (omega arith)) refl
 
 pub kind_plain : (kind : RunnerKind) → IsSeatWithin kind → is_plain_word (kind_word kind) ≡ true
 kind_plain Parallel h = refl
@@ -158,72 +141,48 @@ IsStepReadable (MainStep task queue delay) = (task ≤ 65536) × (queue ≤ 6553
 IsStepReadable (Block scope) = Unit {0}
 IsStepReadable Unblock = Unit {0}
 
-compute_is : (made : ℕ → Step) (k : ℕ) → k ≤ 2 ^ 64 - 1 → compute_read made (decimal k ∷ []) ≡ Ok (made k)
-compute_is made k small = ap (λ (r : Result (ℕ × Unit {0}) ℕ). r >>= λ p. Ok (made p.0))
-    (both_is (number_at 0 (2 ^ 64 - 1) (decimal k ∷ []) 0) (ends_at (decimal k ∷ []) 1) k tt
-    (number_is 0 (2 ^ 64 - 1) k (omega arith) small (omega arith)) refl)
-
-post_is : (made : ℕ → ℕ → ℕ → Step) (task home delay : ℕ) → task ≤ 65536 → home ≤ 65536 → delay ≤ MOST_MICROSECONDS
-    → post_read made (decimal task ∷ decimal home ∷ decimal delay ∷ []) ≡ Ok (made task home delay)
-post_is made task home delay t h u =
-    let words = decimal task ∷ decimal home ∷ decimal delay ∷ [] in
-    ap (λ (r : Result (ℕ × (ℕ × (ℕ × Unit {0}))) ℕ). r >>= λ p. Ok (made p.0 p.1.0 p.1.1.0))
-    (both_is (id_at words 0) (id_at words 1 & time_at words 2 & ends_at words 3) task (home, (delay, tt)) (id_is task t)
-    (both_is (id_at words 1) (time_at words 2 & ends_at words 3) home (delay, tt) (id_is home h)
-    (both_is (time_at words 2) (ends_at words 3) delay tt (time_is delay u) refl)))
+-- a number of 64 bits, as a step has it
+wide_is : (k : ℕ) → k ≤ 2 ^ 64 - 1 → number_from 0 (2 ^ 64 - 1) (decimal k) ≡ Ok k
+wide_is k small = number_is 0 (2 ^ 64 - 1) k (omega arith) small (omega arith)
 
 step_is : (step : Step) → IsStepReadable step → step_read (step_words step) ≡ Ok step
 unfolding step_said
-step_is (Add by) h = compute_is Add by h
-step_is (Mul by) h = compute_is Mul by h
-step_is (Set to) h = compute_is Set to h
-step_is (PostStep task runner delay) h = post_is PostStep task runner delay h.0 h.1 h.2
-step_is (MainStep task queue delay) h = post_is MainStep task queue delay h.0 h.1 h.2
-step_is (Block scope) h = ap (λ (r : Result (Scope × Unit {0}) ℕ). r >>= λ p. Ok (Block p.0))
-    (both_is (said_at scope_named (scope_word scope ∷ []) 0) (ends_at (scope_word scope ∷ []) 1) scope tt (scope_is scope) refl)
+step_is (Add by) h = rw (wide_is by h) refl
+step_is (Mul by) h = rw (wide_is by h) refl
+step_is (Set to) h = rw (wide_is to h) refl
+step_is (PostStep task runner delay) h = rw (id_is task h.0, id_is runner h.1, time_is delay h.2) refl
+step_is (MainStep task queue delay) h = rw (id_is task h.0, id_is queue h.1, time_is delay h.2) refl
+step_is (Block scope) h = rw (scope_is scope) refl
 step_is Unblock h = refl
 
 step_plain : (step : Step) → IsStepReadable step → list_all is_plain_word (step_words step) ≡ true
-step_plain (Add by) h = plain_cons (codes "add") (decimal by ∷ []) refl (plain_cons (decimal by) [] (plain_number by h) refl)
-step_plain (Mul by) h = plain_cons (codes "mul") (decimal by ∷ []) refl (plain_cons (decimal by) [] (plain_number by h) refl)
-step_plain (Set to) h = plain_cons (codes "set") (decimal to ∷ []) refl (plain_cons (decimal to) [] (plain_number to h) refl)
-step_plain (PostStep task runner delay) h = plain_cons (codes "post") (decimal task ∷ decimal runner ∷ decimal delay ∷ []) refl
-    (plain_cons (decimal task) (decimal runner ∷ decimal delay ∷ []) (plain_id task h.0)
-    (plain_cons (decimal runner) (decimal delay ∷ []) (plain_id runner h.1) (plain_cons (decimal delay) [] (plain_time delay h.2) refl)))
-step_plain (MainStep task queue delay) h = plain_cons (codes "main") (decimal task ∷ decimal queue ∷ decimal delay ∷ []) refl
-    (plain_cons (decimal task) (decimal queue ∷ decimal delay ∷ []) (plain_id task h.0)
-    (plain_cons (decimal queue) (decimal delay ∷ []) (plain_id queue h.1) (plain_cons (decimal delay) [] (plain_time delay h.2) refl)))
-step_plain (Block scope) h = plain_cons (codes "block") (scope_word scope ∷ []) refl (plain_cons (scope_word scope) [] (scope_plain scope) refl)
+step_plain (Add by) h = rw (plain_number by h) refl
+step_plain (Mul by) h = rw (plain_number by h) refl
+step_plain (Set to) h = rw (plain_number to h) refl
+step_plain (PostStep task runner delay) h = rw (plain_id task h.0, plain_id runner h.1, plain_time delay h.2) refl
+step_plain (MainStep task queue delay) h = rw (plain_id task h.0, plain_id queue h.1, plain_time delay h.2) refl
+step_plain (Block scope) h = rw (scope_plain scope) refl
 step_plain Unblock h = refl
 
 -- the word that parts steps
 abbrev pub is_mark : List ℕ → Bool
 is_mark word = is_word word (codes ";")
 
-no_marks_cons : (word : List ℕ) (words : List (List ℕ)) → is_mark word ≡ false → All (λ w. is_mark w ≡ false) words
-    → All (λ w. is_mark w ≡ false) (word ∷ words)
-no_marks_cons word words here rest = All-cons (λ w. is_mark w ≡ false) word words here rest
+unmarked : (n : ℕ) → n ≤ 2 ^ 64 - 1 → is_mark (decimal n) ≡ false
+unmarked n small = decimal_no_mark n (omega (arith, small))
 
-no_marks : All (λ w. is_mark w ≡ false) []
-no_marks = All-nil (λ w. is_mark w ≡ false)
-
-number_no_mark : (n : ℕ) → n ≤ 2 ^ 64 - 1 → is_mark (decimal n) ≡ false
-number_no_mark n small = decimal_no_mark n (omega (arith, small))
+-- no word of a step parts steps
+no_marks : (step : Step) → IsStepReadable step → list_all (λ w. not (is_mark w)) (step_words step) ≡ true
+no_marks (Add by) h = rw (unmarked by h) refl
+no_marks (Mul by) h = rw (unmarked by h) refl
+no_marks (Set to) h = rw (unmarked to h) refl
+no_marks (PostStep task runner delay) h = rw (unmarked task (omega (arith, h.0)), unmarked runner (omega (arith, h.1)), unmarked delay (omega (arith, h.2))) refl
+no_marks (MainStep task queue delay) h = rw (unmarked task (omega (arith, h.0)), unmarked queue (omega (arith, h.1)), unmarked delay (omega (arith, h.2))) refl
+no_marks (Block scope) h = rw (scope_no_mark scope) refl
+no_marks Unblock h = refl
 
 step_no_mark : (step : Step) → IsStepReadable step → All (λ w. is_mark w ≡ false) (step_words step)
-step_no_mark (Add by) h = no_marks_cons (codes "add") (decimal by ∷ []) refl (no_marks_cons (decimal by) [] (number_no_mark by h) no_marks)
-step_no_mark (Mul by) h = no_marks_cons (codes "mul") (decimal by ∷ []) refl (no_marks_cons (decimal by) [] (number_no_mark by h) no_marks)
-step_no_mark (Set to) h = no_marks_cons (codes "set") (decimal to ∷ []) refl (no_marks_cons (decimal to) [] (number_no_mark to h) no_marks)
-step_no_mark (PostStep task runner delay) h = no_marks_cons (codes "post") (decimal task ∷ decimal runner ∷ decimal delay ∷ []) refl
-    (no_marks_cons (decimal task) (decimal runner ∷ decimal delay ∷ []) (number_no_mark task (omega (arith, h.0)))
-    (no_marks_cons (decimal runner) (decimal delay ∷ []) (number_no_mark runner (omega (arith, h.1)))
-    (no_marks_cons (decimal delay) [] (number_no_mark delay (omega (arith, h.2))) no_marks)))
-step_no_mark (MainStep task queue delay) h = no_marks_cons (codes "main") (decimal task ∷ decimal queue ∷ decimal delay ∷ []) refl
-    (no_marks_cons (decimal task) (decimal queue ∷ decimal delay ∷ []) (number_no_mark task (omega (arith, h.0)))
-    (no_marks_cons (decimal queue) (decimal delay ∷ []) (number_no_mark queue (omega (arith, h.1)))
-    (no_marks_cons (decimal delay) [] (number_no_mark delay (omega (arith, h.2))) no_marks)))
-step_no_mark (Block scope) h = no_marks_cons (codes "block") (scope_word scope ∷ []) refl (no_marks_cons (scope_word scope) [] (scope_no_mark scope) no_marks)
-step_no_mark Unblock h = no_marks_cons (codes "unblock") [] refl no_marks
+step_no_mark step h = none_passes (λ w. not (is_mark w)) is_mark (step_words step) (λ w. not-true (is_mark w)) (no_marks step h)
 
 -- the words of further steps, each with a mark before it
 abbrev pub marked : List Step → List (List ℕ)
@@ -239,8 +198,7 @@ steps_cut step (next ∷ steps) here rest =
 
 pieces_are : (steps : List Step) → AllByRecursion IsStepReadable steps → all_read (map step_read (map step_words steps)) ≡ Ok steps
 pieces_are [] all = refl
-pieces_are (step ∷ steps) all = ap (λ (r : Result (Step × List Step) ℕ). r >>= λ p. Ok (p.0 ∷ p.1))
-    (both_is (step_read (step_words step)) (all_read (map step_read (map step_words steps))) step steps (step_is step all.0) (pieces_are steps all.1))
+pieces_are (step ∷ steps) all = rw (step_is step all.0, pieces_are steps all.1) refl
 
 -- words that are some are cut at the marks
 read_by_pieces : (word : List ℕ) (words : List (List ℕ)) → steps_read (word ∷ words) ≡ all_read (map step_read (slice_split is_mark (word ∷ words)))
