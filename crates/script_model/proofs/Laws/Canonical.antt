@@ -154,7 +154,7 @@ any_action_read s sound done Shutdown made order fresh passed = record {
 action_read : (s : Plan) → IsSound s → (done : List Action) (action : Action) (rest : List Action) → done ++ action ∷ rest ≡ s.actions
     → IsLineRead (acted_at s done) (action_words action) (acted_at s (done ++ action ∷ []))
 action_read s sound done action rest e =
-    let before : take (length done) s.actions ≡ done = ap (λ (xs : List Action). take (length done) xs) (sym e) ∙ take-append_seam done (action ∷ rest) in
+    let before : take (length done) s.actions ≡ done = rw (← e) (take-append_seam done (action ∷ rest)) in
     any_action_read s sound done action (all_at (IsActionSound s) done action rest s.actions e sound.actions.each_sound)
     (subst (λ (earlier : List Action). IsInOrder earlier action) before (sound.actions.in_order (length done) action (get_at done action rest s.actions e)))
     (action_fresh s sound.once.posted_once done action rest e) (action_room s sound done action rest e)

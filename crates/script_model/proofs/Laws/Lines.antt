@@ -72,10 +72,7 @@ line_is_read : (d : Draft) (words : List (List ℕ)) (next : Draft) → IsLineRe
 unfolding words_read
 line_is_read d [] next read = absurd (let never : false ≡ true = read.starts in cc)
 line_is_read d (name ∷ words) next read =
-    ap (words_read d (line_of (name ∷ words))) (words_of-line name words read.plain)
-    ∙ ap (λ (b : Bool). cond b (Ok d) (refuse (not (is_all_ascii (line_of (name ∷ words)))) not_ascii >> command_read d name words))
-        (not-true (begins_comment name) read.starts)
-    ∙ ap (λ (b : Bool). refuse (not b) not_ascii >> command_read d name words) (line_is_ascii (name ∷ words) read.plain) ∙ read.reads
+    rw (words_of-line name words read.plain, not-true (begins_comment name) read.starts, line_is_ascii (name ∷ words) read.plain) read.reads
 
 lines_are_read : (d : Draft) (n : ℕ) (lines : List (List (List ℕ))) (last : Draft) → AreRead d lines last
     → lines_read d n (map line_of lines ++ [] ∷ []) ≡ Ok last
@@ -113,14 +110,14 @@ pub all_at : {A : Type 0} (P : A → Type 0) (done : List A) (x : A) (rest all :
 all_at P done x rest all e h = (AllByRecursion-back P done (x ∷ rest) (subst (AllByRecursion P) (sym e) h)).0
 
 pub length_at : {A : Type 0} (done : List A) (x : A) (rest all : List A) → done ++ x ∷ rest ≡ all → length all ≡ length done + 1 + length rest
-length_at done x rest all e = ap length (sym e) ∙ length-append done (x ∷ rest) ∙ omega arith
+length_at done x rest all e = rw (← e) (omega (arith, length-append done (x ∷ rest)))
 
 pub sum_at : {A : Type 0} (f : A → ℕ) (done : List A) (x : A) (rest all : List A) → done ++ x ∷ rest ≡ all
     → sum_by f all ≡ sum_by f done + (f x + sum_by f rest)
-sum_at f done x rest all e = ap (sum_by f) (sym e) ∙ sum_by-append f done (x ∷ rest) ∙ ap (λ (n : ℕ). sum_by f done + n) (sum_by-cons f x rest)
+sum_at f done x rest all e = rw (← e, sum_by-append f done (x ∷ rest), sum_by-cons f x rest) refl
 
 pub get_at : {A : Type 0} (done : List A) (x : A) (rest all : List A) → done ++ x ∷ rest ≡ all → slice_get all (length done) ≡ Some x
-get_at {A = A} done x rest all e = ap (λ (xs : List A). slice_get xs (length done)) (sym e) ∙ slice_get_seam done x rest
+get_at done x rest all e = rw (← e) (slice_get_seam done x rest)
 
 -- ---- the drafts on the way
 
@@ -268,10 +265,9 @@ posted_in_parts d t = count-append (λ u. eqb u t) (flat_map posts_of_task d.tas
 
 pub posted_at : {A : Type 0} (f : A → List ℕ) (done : List A) (x : A) (rest all : List A) → done ++ x ∷ rest ≡ all → (t : ℕ)
     → times t (flat_map f all) ≡ times t (flat_map f done) + (times t (f x) + times t (flat_map f rest))
-posted_at {A = A} f done x rest all e t =
-    ap (λ (xs : List A). times t (flat_map f xs)) (sym e) ∙ ap (times t) (flat_map-append f done (x ∷ rest))
-        ∙ count-append (λ u. eqb u t) (flat_map f done) (flat_map f (x ∷ rest))
-    ∙ ap (λ (n : ℕ). times t (flat_map f done) + n) (ap (times t) (flat_map-cons f x rest) ∙ count-append (λ u. eqb u t) (f x) (flat_map f rest))
+posted_at f done x rest all e t =
+    rw (← e, flat_map-append f done (x ∷ rest), flat_map-cons f x rest) (omega (arith, count-append (λ u. eqb u t) (flat_map f done)
+        (f x ++ flat_map f rest), count-append (λ u. eqb u t) (f x) (flat_map f rest)))
 
 -- ---- tasks
 
@@ -311,8 +307,7 @@ steps_declared s done (step ∷ steps) h = rw (step_declared s done step h.0) (s
 
 opens_same : (s : Plan) (done rest : List (List Step)) (task : ℕ) → done ++ rest ≡ s.tasks → task < length done
     → opens_scope s.tasks task ≡ list_any is_block (slice_index_or done task [])
-opens_same s done rest task e here = ap (λ (xs : List (List Step)). list_any is_block (slice_index_or xs task [])) (sym e)
-    ∙ ap (list_any is_block) (get_or-append done rest [] task here)
+opens_same s done rest task e here = rw (← e, get_or-append done rest [] task here) refl
 
 step_good : (s : Plan) (done rest : List (List Step)) → done ++ rest ≡ s.tasks → (step : Step) → IsStepSound s (length done) step
     → is_bad_post (draft_at s s.runners s.queues done [] []) step ≡ false
@@ -389,8 +384,8 @@ computing_posts : (steps : List Step) → list_any is_act steps ≡ false → po
 computing_posts [] e = refl
 computing_posts (step ∷ steps) e =
     let both = or_parts (is_act step) (list_any is_act steps) e in
-    flat_map-cons posts_of_step step steps ∙ ap (λ (xs : List ℕ). xs ++ posts_of_task steps)
-        (computing (λ x. posts_of_step x ≡ []) (λ k. refl) (λ k. refl) (λ k. refl) step both.0) ∙ computing_posts steps both.1
+    rw (flat_map-cons posts_of_step step steps, computing (λ x. posts_of_step x ≡ []) (λ k. refl) (λ k. refl) (λ k. refl) step both.0)
+        (computing_posts steps both.1)
 
 computing_readable : (steps : List Step) → AllByRecursion IsStepWithin steps → list_any is_act steps ≡ false → AllByRecursion IsStepReadable steps
 computing_readable [] within e = tt

@@ -112,14 +112,12 @@ pub words_of-line : (word : List ℕ) (words : List (List ℕ)) → list_all is_
 words_of-line word [] e =
     let both = and_parts (is_plain_word word) true e in
     let plain = and_parts (ltb 0 (length word)) (list_all is_visible word) both.0 in
-    ap (filter (λ w. not (eqb (length w) 0))) (slice_split_none is_blank word (none_passes is_visible is_blank word visible_no_blank plain.1))
-        ∙ kept word [] plain.0
+    rw (slice_split_none is_blank word (none_passes is_visible is_blank word visible_no_blank plain.1)) (kept word [] plain.0)
 words_of-line word (other ∷ words) e =
     let both = and_parts (is_plain_word word) (list_all is_plain_word (other ∷ words)) e in
     let plain = and_parts (ltb 0 (length word)) (list_all is_visible word) both.0 in
-    ap (filter (λ w. not (eqb (length w) 0))) (slice_split_at is_blank word 32 (line_of (other ∷ words))
-        (none_passes is_visible is_blank word visible_no_blank plain.1) refl)
-    ∙ kept word (slice_split is_blank (line_of (other ∷ words))) plain.0 ∙ ap (λ (ws : List (List ℕ)). word ∷ ws) (words_of-line other words both.1)
+    let cut = slice_split_at is_blank word 32 (line_of (other ∷ words)) (none_passes is_visible is_blank word visible_no_blank plain.1) refl in
+    rw (cut, kept word (slice_split is_blank (line_of (other ∷ words))) plain.0, words_of-line other words both.1) refl
 
 -- a list of which no element passes has no last one that does
 last_fails : (xs : List ℕ) (i : ℕ) → list_all is_text xs ≡ true → eqb (slice_index xs i) 13 ≡ false
@@ -129,7 +127,7 @@ last_fails (b ∷ xs) zero e = text_no_return b (and_parts (is_text b) (list_all
 last_fails (b ∷ xs) (suc i) e = last_fails xs i (and_parts (is_text b) (list_all is_text xs) e).1
 
 stripped : (line : List ℕ) → list_all is_text line ≡ true → strip_carriage_return line ≡ line
-stripped line e = ap (λ (b : Bool). cond b (take (length line - 1) line) line) (last_fails line (length line - 1) e)
+stripped line e = rw (last_fails line (length line - 1) e) refl
 
 -- ---- texts
 
@@ -142,22 +140,21 @@ split_text : (lines : List (List (List ℕ))) → list_all (list_all is_plain_wo
 split_text [] e = refl
 split_text (words ∷ lines) e =
     let both = and_parts (list_all is_plain_word words) (list_all (list_all is_plain_word) lines) e in
-    ap (slice_split (λ b. eqb b 10)) (flat_map-cons (λ (ws : List (List ℕ)). line_of ws ++ 10 ∷ []) words lines
-        ∙ append_assoc (line_of words) (10 ∷ []) (text_of lines))
-    ∙ slice_split_at (λ b. eqb b 10) (line_of words) 10 (text_of lines)
-        (none_passes is_text (λ b. eqb b 10) (line_of words) text_no_end (line_is_text words both.0)) refl
-    ∙ ap (λ (ls : List (List ℕ)). line_of words ∷ ls) (split_text lines both.1)
+    let cut = slice_split_at (λ b. eqb b 10) (line_of words) 10 (text_of lines)
+        (none_passes is_text (λ b. eqb b 10) (line_of words) text_no_end (line_is_text words both.0)) refl in
+    rw (flat_map-cons (λ (ws : List (List ℕ)). line_of ws ++ 10 ∷ []) words lines, append_assoc (line_of words) (10 ∷ []) (text_of lines), cut,
+        split_text lines both.1) refl
 
 strip_lines : (lines : List (List (List ℕ))) → list_all (list_all is_plain_word) lines ≡ true
     → map strip_carriage_return (map line_of lines ++ [] ∷ []) ≡ map line_of lines ++ [] ∷ []
 strip_lines [] e = refl
 strip_lines (words ∷ lines) e =
     let both = and_parts (list_all is_plain_word words) (list_all (list_all is_plain_word) lines) e in
-    rw (stripped (line_of words) (line_is_text words both.0)) (ap (λ (ls : List (List ℕ)). line_of words ∷ ls) (strip_lines lines both.1))
+    rw (stripped (line_of words) (line_is_text words both.0), strip_lines lines both.1) refl
 
 -- the lines of a text of lines are these, and an empty one
 pub lines_of-text : (lines : List (List (List ℕ))) → list_all (list_all is_plain_word) lines ≡ true → lines_of (text_of lines) ≡ map line_of lines ++ [] ∷ []
-lines_of-text lines e = ap (map strip_carriage_return) (split_text lines e) ∙ strip_lines lines e
+lines_of-text lines e = rw (split_text lines e) (strip_lines lines e)
 
 -- ---- numbers
 
@@ -174,7 +171,7 @@ number_of-decimal n small =
 -- a number that is written is read, where it is in the range
 pub number_from-decimal : (low high n : ℕ) → low ≤ n → n ≤ high → n < 2 ^ 64 → number_from low high (decimal n) ≡ Ok n
 unfolding number_from
-number_from-decimal low high n lower upper small = ap (in_range low high) (number_of-decimal n small) ∙ rw (le-leb low n lower, le-leb n high upper) refl
+number_from-decimal low high n lower upper small = rw (number_of-decimal n small, le-leb low n lower, le-leb n high upper) refl
 
 digit_visible : (b : ℕ) → is_ascii_digit b ≡ true → is_visible b ≡ true
 digit_visible b e = grind (arith, nat_tests)

@@ -190,11 +190,10 @@ marked steps = flat_map (λ step. codes ";" ∷ step_words step) steps
 
 steps_cut : (step : Step) (steps : List Step) → IsStepReadable step → AllByRecursion IsStepReadable steps
     → slice_split is_mark (step_words step ++ marked steps) ≡ map step_words (step ∷ steps)
-steps_cut step [] here rest = ap (slice_split is_mark) (append-nil (step_words step)) ∙ slice_split_none is_mark (step_words step) (step_no_mark step here)
+steps_cut step [] here rest = rw (append-nil (step_words step)) (slice_split_none is_mark (step_words step) (step_no_mark step here))
 steps_cut step (next ∷ steps) here rest =
-    ap (λ (ws : List (List ℕ)). slice_split is_mark (step_words step ++ ws)) (flat_map-cons (λ s. codes ";" ∷ step_words s) next steps)
-    ∙ slice_split_at is_mark (step_words step) (codes ";") (step_words next ++ marked steps) (step_no_mark step here) refl
-    ∙ ap (λ (ps : List (List (List ℕ))). step_words step ∷ ps) (steps_cut next steps rest.0 rest.1)
+    let cut = slice_split_at is_mark (step_words step) (codes ";") (step_words next ++ marked steps) (step_no_mark step here) refl in
+    rw (flat_map-cons (λ s. codes ";" ∷ step_words s) next steps, cut, steps_cut next steps rest.0 rest.1) refl
 
 pieces_are : (steps : List Step) → AllByRecursion IsStepReadable steps → all_read (map step_read (map step_words steps)) ≡ Ok steps
 pieces_are [] all = refl
@@ -222,18 +221,15 @@ steps_words-cons step steps = ap (drop 1) (flat_map-cons (λ s. codes ";" ∷ st
 pub steps_are : (steps : List Step) → AllByRecursion IsStepReadable steps → steps_read (steps_words steps) ≡ Ok steps
 unfolding steps_read
 steps_are [] all = refl
-steps_are (step ∷ steps) all = ap steps_read (steps_words-cons step steps) ∙ some_words step (marked steps)
-    ∙ ap (λ (ps : List (List (List ℕ))). all_read (map step_read ps)) (steps_cut step steps all.0 all.1) ∙ pieces_are (step ∷ steps) all
+steps_are (step ∷ steps) all = rw (steps_words-cons step steps, some_words step (marked steps), steps_cut step steps all.0 all.1)
+    (pieces_are (step ∷ steps) all)
 
 marked_plain : (steps : List Step) → AllByRecursion IsStepReadable steps → list_all is_plain_word (marked steps) ≡ true
 marked_plain [] all = refl
-marked_plain (step ∷ steps) all =
-    ap (list_all is_plain_word) (flat_map-cons (λ s. codes ";" ∷ step_words s) step steps)
-        ∙ list_all-append is_plain_word (codes ";" ∷ step_words step) (marked steps)
-    ∙ rw (step_plain step all.0, marked_plain steps all.1) refl
+marked_plain (step ∷ steps) all = ap (list_all is_plain_word) (flat_map-cons (λ s. codes ";" ∷ step_words s) step steps)
+    ∙ rw (list_all-append is_plain_word (codes ";" ∷ step_words step) (marked steps), step_plain step all.0, marked_plain steps all.1) refl
 
 pub steps_plain : (steps : List Step) → AllByRecursion IsStepReadable steps → list_all is_plain_word (steps_words steps) ≡ true
 steps_plain [] all = refl
-steps_plain (step ∷ steps) all =
-    ap (list_all is_plain_word) (steps_words-cons step steps) ∙ list_all-append is_plain_word (step_words step) (marked steps)
-    ∙ rw (step_plain step all.0, marked_plain steps all.1) refl
+steps_plain (step ∷ steps) all = rw (steps_words-cons step steps, list_all-append is_plain_word (step_words step) (marked steps), step_plain step all.0,
+    marked_plain steps all.1) refl
