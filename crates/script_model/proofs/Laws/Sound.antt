@@ -26,7 +26,7 @@ use Rattle.script_model.specs.Grammar.{lines_read, script_read, Reads}
 use Rattle.script_model.specs.Laws.Sound.{IsSound, IsActionSound, IsInOrder}
 use Rattle.script_model.proofs.Laws.Faults.{ok_same, first_ok}
 use Rattle.list_laws.proofs.Lists.{count-append, count-cons, AllByRecursion-map}
-use Rattle.script_model.proofs.Laws.Parts.{either_way, none_such, both_ok, refuse_ok, Passed, behind_ok, line_ok, number_at-within}
+use Rattle.script_model.proofs.Laws.Parts.{either_way, none_such, both_ok, refuse_ok, Passed, behind_ok, line_ok, number_at-within, behind}
 use Rattle.script_model.proofs.Laws.Declarations.{Keeps, runner_post_stays, queue_post_stays, task_stays, same_stays, keeps_workers, keeps_groups, keeps_threshold, keeps_runner, keeps_queue, declared_runner_post, declared_queue_post, posted_once_with_action, keeps_task, keeps_job}
 use Rattle.list_laws.proofs.Elements.{AllByRecursion-push, count_once-push, slice_get_push}
 
@@ -104,77 +104,87 @@ with_action d action made order fresh passed sound =
       };
     }
 
--- that a post names what is declared, posts a task for the first time, and not where it must not block
-abbrev pub post_room : Draft → Step → Action → List (Bool × ℕ)
-post_room d step action = (not (is_declared d step), undeclared) ∷ (is_any_posted (posted_in d) (posts_of_step step), posted_twice) ∷
-    (is_bad_post d step, bad_block) ∷ room d action
+-- tests that are passed together are passed in parts
+passed-append : (tests more : List (Bool × ℕ)) → Passed (tests ++ more) → Passed tests × Passed more
+passed-append [] more passed = (tt, passed)
+passed-append (t ∷ tests) more passed = let rest = passed-append tests more passed.1 in ((passed.0, rest.0), rest.1)
+
+-- a line that adds an action keeps the script sound, where its places and its own tests make the action sound
+keeps_acted : {A : Type 0} (d d' : Draft) (r : Result A ℕ) (tests : A → List (Bool × ℕ)) (action : A → Action) → Keeps d
+    → (r >>= λ p. behind (tests p ++ room d (action p)) (Ok (record d { actions = d.actions ++ action p ∷ [] }))) ≡ Ok d'
+    → ((p : A) → r ≡ Ok p → Passed (tests p)
+        → IsActionSound (script_of d) (action p) × IsInOrder d.actions (action p) × (is_any_posted (posted_in d) (posts_of_action (action p)) ≡ false))
+    → Keeps d'
+keeps_acted d d' r tests action sound e good =
+    let g = line_ok r (λ p. tests p ++ room d (action p)) (λ p. record d { actions = d.actions ++ action p ∷ [] }) d' e in
+    let passed = passed-append (tests g.0) (room d (action g.0)) g.2 in
+    let it = good g.0 g.1 passed.0 in
+    subst Keeps g.3 (with_action d (action g.0) it.0 it.1 it.2 passed.1 sound)
+
+-- ---- the actions
+
+-- a post that names what is declared, posts a task for the first time, and not where it must not block
+abbrev post_tests : Draft → Step → List (Bool × ℕ)
+post_tests d step = (not (is_declared d step), undeclared) ∷ (is_any_posted (posted_in d) (posts_of_step step), posted_twice) ∷
+    (is_bad_post d step, bad_block) ∷ []
+
+-- the delay at the places of a post
+delay_within : (words : List (List ℕ)) (p : ℕ × (ℕ × (ℕ × Unit {0}))) → (id_at words 0 & id_at words 1 & time_at words 2 & ends_at words 3) ≡ Ok p
+    → p.1.1.0 ≤ MOST_MICROSECONDS
+delay_within words p is =
+    let b0 = both_ok (id_at words 0) (id_at words 1 & time_at words 2 & ends_at words 3) p.0 p.1 is in
+    let b1 = both_ok (id_at words 1) (time_at words 2 & ends_at words 3) p.1.0 p.1.1 b0.1 in
+    let b2 = both_ok (time_at words 2) (ends_at words 3) p.1.1.0 p.1.1.1 b1.1 in
+    (number_at-within 0 MOST_MICROSECONDS words 2 p.1.1.0 b2.0).1
 
 -- `post T R D`
 keeps_post : (d d' : Draft) (words : List (List ℕ)) → Keeps d → post_line d words ≡ Ok d' → Keeps d'
 unfolding post_line
-keeps_post d d' words sound e =
-    let g = line_ok (id_at words 0 & id_at words 1 & time_at words 2 & ends_at words 3)
-        (λ p. post_room d (PostStep p.0 p.1.0 p.1.1.0) (Post p.0 p.1.0 p.1.1.0)) (λ p. record d { actions = d.actions ++ Post p.0 p.1.0 p.1.1.0 ∷ [] }) d' e in
-    let b0 = both_ok (id_at words 0) (id_at words 1 & time_at words 2 & ends_at words 3) g.0.0 g.0.1 g.1 in
-    let b1 = both_ok (id_at words 1) (time_at words 2 & ends_at words 3) g.0.1.0 g.0.1.1 b0.1 in
-    let b2 = both_ok (time_at words 2) (ends_at words 3) g.0.1.1.0 g.0.1.1.1 b1.1 in
-    let delay = number_at-within 0 MOST_MICROSECONDS words 2 g.0.1.1.0 b2.0 in
-    let post = declared_runner_post d g.0.0 g.0.1.0 g.0.1.1.0 (not-false (is_declared d (PostStep g.0.0 g.0.1.0 g.0.1.1.0)) g.2.0) g.2.1.1.0 in
-    subst Keeps {x = record d { actions = d.actions ++ Post g.0.0 g.0.1.0 g.0.1.1.0 ∷ [] }} g.3
-        (with_action d (Post g.0.0 g.0.1.0 g.0.1.1.0) (post.1, delay.1) tt g.2.1.0 g.2.1.1.1 sound)
+keeps_post d d' words sound e = keeps_acted d d' (id_at words 0 & id_at words 1 & time_at words 2 & ends_at words 3)
+    (λ p. post_tests d (PostStep p.0 p.1.0 p.1.1.0)) (λ p. Post p.0 p.1.0 p.1.1.0) sound e
+    (λ p is passed.
+    let post = declared_runner_post d p.0 p.1.0 p.1.1.0 (not-false (is_declared d (PostStep p.0 p.1.0 p.1.1.0)) passed.0) passed.1.1.0 in
+    ((post.1, delay_within words p is), tt, passed.1.0))
 
 -- `main T Q D`
 keeps_main : (d d' : Draft) (words : List (List ℕ)) → Keeps d → main_line d words ≡ Ok d' → Keeps d'
 unfolding main_line
-keeps_main d d' words sound e =
-    let g = line_ok (id_at words 0 & id_at words 1 & time_at words 2 & ends_at words 3)
-        (λ p. post_room d (MainStep p.0 p.1.0 p.1.1.0) (Main p.0 p.1.0 p.1.1.0)) (λ p. record d { actions = d.actions ++ Main p.0 p.1.0 p.1.1.0 ∷ [] }) d' e in
-    let b0 = both_ok (id_at words 0) (id_at words 1 & time_at words 2 & ends_at words 3) g.0.0 g.0.1 g.1 in
-    let b1 = both_ok (id_at words 1) (time_at words 2 & ends_at words 3) g.0.1.0 g.0.1.1 b0.1 in
-    let b2 = both_ok (time_at words 2) (ends_at words 3) g.0.1.1.0 g.0.1.1.1 b1.1 in
-    let delay = number_at-within 0 MOST_MICROSECONDS words 2 g.0.1.1.0 b2.0 in
-    let post = declared_queue_post d g.0.0 g.0.1.0 g.0.1.1.0 (not-false (is_declared d (MainStep g.0.0 g.0.1.0 g.0.1.1.0)) g.2.0) g.2.1.1.0 in
-    subst Keeps {x = record d { actions = d.actions ++ Main g.0.0 g.0.1.0 g.0.1.1.0 ∷ [] }} g.3
-        (with_action d (Main g.0.0 g.0.1.0 g.0.1.1.0) (post.1, delay.1) tt g.2.1.0 g.2.1.1.1 sound)
+keeps_main d d' words sound e = keeps_acted d d' (id_at words 0 & id_at words 1 & time_at words 2 & ends_at words 3)
+    (λ p. post_tests d (MainStep p.0 p.1.0 p.1.1.0)) (λ p. Main p.0 p.1.0 p.1.1.0) sound e
+    (λ p is passed.
+    let post = declared_queue_post d p.0 p.1.0 p.1.1.0 (not-false (is_declared d (MainStep p.0 p.1.0 p.1.1.0)) passed.0) passed.1.1.0 in
+    ((post.1, delay_within words p is), tt, passed.1.0))
 
 -- `tick N`
 keeps_tick : (d d' : Draft) (words : List (List ℕ)) → Keeps d → tick_line d words ≡ Ok d' → Keeps d'
 unfolding tick_line
-keeps_tick d d' words sound e =
-    let g = line_ok (number_at 1 65536 words 0 & ends_at words 1) (λ p. room d (Tick p.0)) (λ p. record d { actions = d.actions ++ Tick p.0 ∷ [] }) d' e in
-    let b0 = both_ok (number_at 1 65536 words 0) (ends_at words 1) g.0.0 g.0.1 g.1 in
-    let n0 = number_at-within 1 65536 words 0 g.0.0 b0.0 in
-    subst Keeps {x = record d { actions = d.actions ++ Tick g.0.0 ∷ [] }} g.3 (with_action d (Tick g.0.0) (n0) tt refl g.2 sound)
+keeps_tick d d' words sound e = keeps_acted d d' (number_at 1 65536 words 0 & ends_at words 1) (λ p. []) (λ p. Tick p.0) sound e
+    (λ p is passed. (number_at-within 1 65536 words 0 p.0 (both_ok (number_at 1 65536 words 0) (ends_at words 1) p.0 p.1 is).0, tt, refl))
 
 -- `policy all`, `policy foreground`, `policy none`
 keeps_policy : (d d' : Draft) (words : List (List ℕ)) → Keeps d → policy_line d words ≡ Ok d' → Keeps d'
 unfolding policy_line
-keeps_policy d d' words sound e =
-    let g = line_ok (said_at policy_named words 0 & ends_at words 1) (λ p. room d (Policy p.0))
-        (λ p. record d { actions = d.actions ++ Policy p.0 ∷ [] }) d' e in
-    let b0 = both_ok (said_at policy_named words 0) (ends_at words 1) g.0.0 g.0.1 g.1 in
-    subst Keeps {x = record d { actions = d.actions ++ Policy g.0.0 ∷ [] }} g.3 (with_action d (Policy g.0.0) (tt) tt refl g.2 sound)
+keeps_policy d d' words sound e = keeps_acted d d' (said_at policy_named words 0 & ends_at words 1) (λ p. []) (λ p. Policy p.0) sound e
+    (λ p is passed. (tt, tt, refl))
+
+-- the test that a queue is declared, and what it shows where it is passed
+abbrev queue_test : Draft → ℕ → List (Bool × ℕ)
+queue_test d queue = (not (has_queue d queue), undeclared) ∷ []
+
+queue_there : (d : Draft) (queue : ℕ) → Passed (queue_test d queue) → queue < length d.queues
+queue_there d queue passed = ltb-true queue (length d.queues) (not-false (has_queue d queue) passed.0)
 
 -- `fence Q now`, `fence Q start`
 keeps_fence : (d d' : Draft) (words : List (List ℕ)) → Keeps d → fence_line d words ≡ Ok d' → Keeps d'
 unfolding fence_line
-keeps_fence d d' words sound e =
-    let g = line_ok (id_at words 0 & said_at fence_named words 1 & ends_at words 2) (λ p. (not (has_queue d p.0), undeclared) ∷ room d (Fence p.0 p.1.0))
-        (λ p. record d { actions = d.actions ++ Fence p.0 p.1.0 ∷ [] }) d' e in
-    let b0 = both_ok (id_at words 0) (said_at fence_named words 1 & ends_at words 2) g.0.0 g.0.1 g.1 in
-    let b1 = both_ok (said_at fence_named words 1) (ends_at words 2) g.0.1.0 g.0.1.1 b0.1 in
-    subst Keeps {x = record d { actions = d.actions ++ Fence g.0.0 g.0.1.0 ∷ [] }} g.3
-        (with_action d (Fence g.0.0 g.0.1.0) (ltb-true g.0.0 (length d.queues) (not-false (has_queue d g.0.0) g.2.0)) tt refl g.2.1 sound)
+keeps_fence d d' words sound e = keeps_acted d d' (id_at words 0 & said_at fence_named words 1 & ends_at words 2) (λ p. queue_test d p.0)
+    (λ p. Fence p.0 p.1.0) sound e (λ p is passed. (queue_there d p.0 passed, tt, refl))
 
 -- `unfence Q`
 keeps_unfence : (d d' : Draft) (words : List (List ℕ)) → Keeps d → unfence_line d words ≡ Ok d' → Keeps d'
 unfolding unfence_line
-keeps_unfence d d' words sound e =
-    let g = line_ok (id_at words 0 & ends_at words 1) (λ p. (not (has_queue d p.0), undeclared) ∷ room d (Unfence p.0))
-        (λ p. record d { actions = d.actions ++ Unfence p.0 ∷ [] }) d' e in
-    let b0 = both_ok (id_at words 0) (ends_at words 1) g.0.0 g.0.1 g.1 in
-    subst Keeps {x = record d { actions = d.actions ++ Unfence g.0.0 ∷ [] }} g.3
-        (with_action d (Unfence g.0.0) (ltb-true g.0.0 (length d.queues) (not-false (has_queue d g.0.0) g.2.0)) tt refl g.2.1 sound)
+keeps_unfence d d' words sound e = keeps_acted d d' (id_at words 0 & ends_at words 1) (λ p. queue_test d p.0) (λ p. Unfence p.0) sound e
+    (λ p is passed. (queue_there d p.0 passed, tt, refl))
 
 -- a voter that is declared has a queue that is
 voter_queue : (d : Draft) (queue voter : ℕ) → has_voter d queue voter ≡ true → queue < length d.queues
@@ -188,97 +198,72 @@ voter_queue d queue voter e = by (slice_get d.queues queue) refl e
 -- `vote Q V on`, `vote Q V off`
 keeps_vote : (d d' : Draft) (words : List (List ℕ)) → Keeps d → vote_line d words ≡ Ok d' → Keeps d'
 unfolding vote_line
-keeps_vote d d' words sound e =
-    let g = line_ok (id_at words 0 & number_at 0 255 words 1 & said_at vote_named words 2 & ends_at words 3)
-        (λ p. (not (has_voter d p.0 p.1.0), undeclared) ∷ room d (Vote p.0 p.1.0 p.1.1.0))
-        (λ p. record d { actions = d.actions ++ Vote p.0 p.1.0 p.1.1.0 ∷ [] }) d' e in
-    let b0 = both_ok (id_at words 0) (number_at 0 255 words 1 & said_at vote_named words 2 & ends_at words 3) g.0.0 g.0.1 g.1 in
-    let b1 = both_ok (number_at 0 255 words 1) (said_at vote_named words 2 & ends_at words 3) g.0.1.0 g.0.1.1 b0.1 in
-    let n1 = number_at-within 0 255 words 1 g.0.1.0 b1.0 in
-    let b2 = both_ok (said_at vote_named words 2) (ends_at words 3) g.0.1.1.0 g.0.1.1.1 b1.1 in
-    subst Keeps {x = record d { actions = d.actions ++ Vote g.0.0 g.0.1.0 g.0.1.1.0 ∷ [] }} g.3
-        (with_action d (Vote g.0.0 g.0.1.0 g.0.1.1.0) (voter_queue d g.0.0 g.0.1.0 (not-false (has_voter d g.0.0 g.0.1.0) g.2.0), n1.1, not-false
-        (has_voter d g.0.0 g.0.1.0) g.2.0) tt refl g.2.1 sound)
+keeps_vote d d' words sound e = keeps_acted d d' (id_at words 0 & number_at 0 255 words 1 & said_at vote_named words 2 & ends_at words 3)
+    (λ p. (not (has_voter d p.0 p.1.0), undeclared) ∷ []) (λ p. Vote p.0 p.1.0 p.1.1.0) sound e
+    (λ p is passed.
+    let b0 = both_ok (id_at words 0) (number_at 0 255 words 1 & said_at vote_named words 2 & ends_at words 3) p.0 p.1 is in
+    let b1 = both_ok (number_at 0 255 words 1) (said_at vote_named words 2 & ends_at words 3) p.1.0 p.1.1 b0.1 in
+    let voter = not-false (has_voter d p.0 p.1.0) passed.0 in
+    ((voter_queue d p.0 p.1.0 voter, (number_at-within 0 255 words 1 p.1.0 b1.0).1, voter), tt, refl))
 
 -- `rank Q CLASS`
 keeps_rank : (d d' : Draft) (words : List (List ℕ)) → Keeps d → rank_line d words ≡ Ok d' → Keeps d'
 unfolding rank_line
-keeps_rank d d' words sound e =
-    let g = line_ok (id_at words 0 & number_at 0 7 words 1 & ends_at words 2) (λ p. (not (has_queue d p.0), undeclared) ∷ room d (Rank p.0 p.1.0))
-        (λ p. record d { actions = d.actions ++ Rank p.0 p.1.0 ∷ [] }) d' e in
-    let b0 = both_ok (id_at words 0) (number_at 0 7 words 1 & ends_at words 2) g.0.0 g.0.1 g.1 in
-    let b1 = both_ok (number_at 0 7 words 1) (ends_at words 2) g.0.1.0 g.0.1.1 b0.1 in
-    let n1 = number_at-within 0 7 words 1 g.0.1.0 b1.0 in
-    subst Keeps {x = record d { actions = d.actions ++ Rank g.0.0 g.0.1.0 ∷ [] }} g.3
-        (with_action d (Rank g.0.0 g.0.1.0) (ltb-true g.0.0 (length d.queues) (not-false (has_queue d g.0.0) g.2.0), n1.1) tt refl g.2.1 sound)
+keeps_rank d d' words sound e = keeps_acted d d' (id_at words 0 & number_at 0 7 words 1 & ends_at words 2) (λ p. queue_test d p.0)
+    (λ p. Rank p.0 p.1.0) sound e
+    (λ p is passed.
+    let b0 = both_ok (id_at words 0) (number_at 0 7 words 1 & ends_at words 2) p.0 p.1 is in
+    let b1 = both_ok (number_at 0 7 words 1) (ends_at words 2) p.1.0 p.1.1 b0.1 in
+    ((queue_there d p.0 passed, (number_at-within 0 7 words 1 p.1.0 b1.0).1), tt, refl))
 
 -- `close Q`
 keeps_close : (d d' : Draft) (words : List (List ℕ)) → Keeps d → close_line d words ≡ Ok d' → Keeps d'
 unfolding close_line
-keeps_close d d' words sound e =
-    let g = line_ok (id_at words 0 & ends_at words 1) (λ p. (not (has_queue d p.0), undeclared) ∷ room d (Close p.0))
-        (λ p. record d { actions = d.actions ++ Close p.0 ∷ [] }) d' e in
-    let b0 = both_ok (id_at words 0) (ends_at words 1) g.0.0 g.0.1 g.1 in
-    subst Keeps {x = record d { actions = d.actions ++ Close g.0.0 ∷ [] }} g.3
-        (with_action d (Close g.0.0) (ltb-true g.0.0 (length d.queues) (not-false (has_queue d g.0.0) g.2.0)) tt refl g.2.1 sound)
+keeps_close d d' words sound e = keeps_acted d d' (id_at words 0 & ends_at words 1) (λ p. queue_test d p.0) (λ p. Close p.0) sound e
+    (λ p is passed. (queue_there d p.0 passed, tt, refl))
 
 -- `pump N`
 keeps_pump : (d d' : Draft) (words : List (List ℕ)) → Keeps d → pump_line d words ≡ Ok d' → Keeps d'
 unfolding pump_line
-keeps_pump d d' words sound e =
-    let g = line_ok (number_at 1 16384 words 0 & ends_at words 1) (λ p. room d (Pump p.0)) (λ p. record d { actions = d.actions ++ Pump p.0 ∷ [] }) d' e in
-    let b0 = both_ok (number_at 1 16384 words 0) (ends_at words 1) g.0.0 g.0.1 g.1 in
-    let n0 = number_at-within 1 16384 words 0 g.0.0 b0.0 in
-    subst Keeps {x = record d { actions = d.actions ++ Pump g.0.0 ∷ [] }} g.3 (with_action d (Pump g.0.0) (n0) tt refl g.2 sound)
+keeps_pump d d' words sound e = keeps_acted d d' (number_at 1 16384 words 0 & ends_at words 1) (λ p. []) (λ p. Pump p.0) sound e
+    (λ p is passed. (number_at-within 1 16384 words 0 p.0 (both_ok (number_at 1 16384 words 0) (ends_at words 1) p.0 p.1 is).0, tt, refl))
 
 -- `flush`
 keeps_flush : (d d' : Draft) (words : List (List ℕ)) → Keeps d → flush_line d words ≡ Ok d' → Keeps d'
 unfolding flush_line
-keeps_flush d d' words sound e =
-    let g = behind_ok ((nat_lt 0 (length words), word_count) ∷ room d Flush) (Ok (record d { actions = d.actions ++ Flush ∷ [] })) d' e in
-    subst Keeps {x = record d { actions = d.actions ++ Flush ∷ [] }} (ok_same {E = ℕ} (record d { actions = d.actions ++ Flush ∷ [] }) d' g.1)
-        (with_action d Flush tt tt refl g.0.1 sound)
+keeps_flush d d' words sound e = keeps_acted {A = Unit {0}} d d' (Ok tt) (λ p. (nat_lt 0 (length words), word_count) ∷ []) (λ p. Flush) sound e
+    (λ p is passed. (tt, tt, refl))
 
 -- `shutdown`
 keeps_shutdown : (d d' : Draft) (words : List (List ℕ)) → Keeps d → shutdown_line d words ≡ Ok d' → Keeps d'
 unfolding shutdown_line
-keeps_shutdown d d' words sound e =
-    let g = behind_ok ((nat_lt 0 (length words), word_count) ∷ (has_shutdown d, shutdown_twice) ∷ room d Shutdown)
-        (Ok (record d { actions = d.actions ++ Shutdown ∷ [] })) d' e in
-    subst Keeps {x = record d { actions = d.actions ++ Shutdown ∷ [] }} (ok_same {E = ℕ} (record d { actions = d.actions ++ Shutdown ∷ [] }) d' g.1)
-        (with_action d Shutdown tt g.0.1.0 refl g.0.1.1 sound)
+keeps_shutdown d d' words sound e = keeps_acted {A = Unit {0}} d d' (Ok tt)
+    (λ p. (nat_lt 0 (length words), word_count) ∷ (has_shutdown d, shutdown_twice) ∷ []) (λ p. Shutdown) sound e (λ p is passed. (tt, passed.1.0, refl))
+
+-- the test that a job is declared, and what it shows where it is passed
+abbrev job_test : Draft → ℕ → Bool × ℕ
+job_test d job = (not (has_job d job), undeclared)
+
+job_there : (d : Draft) (job : ℕ) → not (has_job d job) ≡ false → job < length d.jobs
+job_there d job passed = ltb-true job (length d.jobs) (not-false (has_job d job) passed)
 
 -- `startjob J`
 keeps_start_job : (d d' : Draft) (words : List (List ℕ)) → Keeps d → start_job_line d words ≡ Ok d' → Keeps d'
 unfolding start_job_line
-keeps_start_job d d' words sound e =
-    let g = line_ok (id_at words 0 & ends_at words 1) (λ p. (not (has_job d p.0), undeclared) ∷ (is_started d p.0, job_use) ∷ room d (StartJob p.0))
-        (λ p. record d { actions = d.actions ++ StartJob p.0 ∷ [] }) d' e in
-    let b0 = both_ok (id_at words 0) (ends_at words 1) g.0.0 g.0.1 g.1 in
-    subst Keeps {x = record d { actions = d.actions ++ StartJob g.0.0 ∷ [] }} g.3
-        (with_action d (StartJob g.0.0) (ltb-true g.0.0 (length d.jobs) (not-false (has_job d g.0.0) g.2.0)) g.2.1.0 refl g.2.1.1 sound)
+keeps_start_job d d' words sound e = keeps_acted d d' (id_at words 0 & ends_at words 1) (λ p. job_test d p.0 ∷ (is_started d p.0, job_use) ∷ [])
+    (λ p. StartJob p.0) sound e (λ p is passed. (job_there d p.0 passed.0, passed.1.0, refl))
 
 -- `join J`
 keeps_join : (d d' : Draft) (words : List (List ℕ)) → Keeps d → join_line d words ≡ Ok d' → Keeps d'
 unfolding join_line
-keeps_join d d' words sound e =
-    let g = line_ok (id_at words 0 & ends_at words 1) (λ p. (not (has_job d p.0), undeclared) ∷ (not (is_started d p.0), job_use) ∷ room d (Join p.0))
-        (λ p. record d { actions = d.actions ++ Join p.0 ∷ [] }) d' e in
-    let b0 = both_ok (id_at words 0) (ends_at words 1) g.0.0 g.0.1 g.1 in
-    subst Keeps {x = record d { actions = d.actions ++ Join g.0.0 ∷ [] }} g.3
-        (with_action d (Join g.0.0) (ltb-true g.0.0 (length d.jobs) (not-false (has_job d g.0.0) g.2.0))
-        (not-false (is_started d g.0.0) g.2.1.0) refl g.2.1.1 sound)
+keeps_join d d' words sound e = keeps_acted d d' (id_at words 0 & ends_at words 1) (λ p. job_test d p.0 ∷ (not (is_started d p.0), job_use) ∷ [])
+    (λ p. Join p.0) sound e (λ p is passed. (job_there d p.0 passed.0, not-false (is_started d p.0) passed.1.0, refl))
 
 -- `cancel J`
 keeps_cancel : (d d' : Draft) (words : List (List ℕ)) → Keeps d → cancel_line d words ≡ Ok d' → Keeps d'
 unfolding cancel_line
-keeps_cancel d d' words sound e =
-    let g = line_ok (id_at words 0 & ends_at words 1) (λ p. (not (has_job d p.0), undeclared) ∷ (not (is_started d p.0), job_use) ∷ room d (Cancel p.0))
-        (λ p. record d { actions = d.actions ++ Cancel p.0 ∷ [] }) d' e in
-    let b0 = both_ok (id_at words 0) (ends_at words 1) g.0.0 g.0.1 g.1 in
-    subst Keeps {x = record d { actions = d.actions ++ Cancel g.0.0 ∷ [] }} g.3
-        (with_action d (Cancel g.0.0) (ltb-true g.0.0 (length d.jobs) (not-false (has_job d g.0.0) g.2.0))
-        (not-false (is_started d g.0.0) g.2.1.0) refl g.2.1.1 sound)
+keeps_cancel d d' words sound e = keeps_acted d d' (id_at words 0 & ends_at words 1) (λ p. job_test d p.0 ∷ (not (is_started d p.0), job_use) ∷ [])
+    (λ p. Cancel p.0) sound e (λ p is passed. (job_there d p.0 passed.0, not-false (is_started d p.0) passed.1.0, refl))
 
 -- ---- all lines
 
