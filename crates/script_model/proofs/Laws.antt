@@ -1,6 +1,7 @@
 -- What the scripts that are read are like.
 pub mod Faults
 pub mod Parts
+pub mod Postings
 pub mod Declarations
 pub mod Sound
 pub mod Texts

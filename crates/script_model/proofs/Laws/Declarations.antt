@@ -27,7 +27,8 @@ use Rattle.task_base.specs.declared.limits.TheConstants.{MOST_WORKERS, MOST_RUNN
 use Rattle.script_model.specs.Lines.{workers_line, groups_line, threshold_line, runner_line, queue_line, task_line, job_line}
 use Rattle.script_model.specs.Laws.Sound.{IsSound, IsConfigSound, AreActionsSound, IsRunnerPost, IsQueuePost, IsSeatThere, IsQueueWithin, IsStepSound, IsTaskSound, IsJobSound, IsActionSound}
 use Rattle.list_laws.proofs.Lists.{count-append, AllByRecursion-map}
-use Rattle.script_model.proofs.Laws.Parts.{both_ok, line_ok, number_at-within, said_ok, IsSeatWithin, kind_named-within, steps_read-within, nothing, times_fresh}
+use Rattle.script_model.proofs.Laws.Postings.{posts_of_task, posted_once_with_task}
+use Rattle.script_model.proofs.Laws.Parts.{both_ok, line_ok, number_at-within, said_ok, IsSeatWithin, kind_named-within, steps_read-within, nothing}
 use Rattle.std.proofs.lemmas.Bool.{and_parts, ltb-false, ltb-true, not-false, or_parts}
 use Rattle.list_laws.proofs.Elements.{AllByRecursion-push, slice_get_front, slice_get_push}
 
@@ -318,46 +319,6 @@ steps_sound d (step ∷ steps) declared good =
     let here = and_parts (is_declared d step) (list_all (is_declared d) steps) declared in
     let bad = or_parts (is_bad_post d step) (list_any (is_bad_post d) steps) good in
     (step_sound d step here.0 bad.0, steps_sound d steps here.1 bad.1)
-
-flat_map_push : {A : Type 0} (f : A → List ℕ) (xs : List A) (x : A) → flat_map f (xs ++ x ∷ []) ≡ flat_map f xs ++ f x
-flat_map_push f xs x = flat_map-append f xs (x ∷ []) ∙ ap (λ (ys : List ℕ). flat_map f xs ++ ys) (flat_map-cons f x [] ∙ append-nil (f x))
-
--- the tasks that steps of tasks post
-abbrev pub posts_of_task : List Step → List ℕ
-posts_of_task steps = flat_map posts_of_step steps
-
--- how often a task is posted, by the actions and by the tasks
-times_posted : (d : Draft) (t : ℕ) → times t (postings (script_of d)) ≡ times t (flat_map posts_of_action d.actions) + times t (flat_map posts_of_task d.tasks)
-unfolding postings
-times_posted d t = count-append (λ u. eqb u t) (flat_map posts_of_action d.actions) (flat_map posts_of_task d.tasks)
-
-times_posted_in : (d : Draft) (t : ℕ) → times t (posted_in d) ≡ times t (flat_map posts_of_task d.tasks) + times t (flat_map posts_of_action d.actions)
-times_posted_in d t = count-append (λ u. eqb u t) (flat_map posts_of_task d.tasks) (flat_map posts_of_action d.actions)
-
--- new postings behind those of a draft
-once_more : (d : Draft) (new : List ℕ) (t : ℕ) → is_any_posted (posted_in d) new ≡ false → times t (postings (script_of d)) ≤ 1
-    → times t (flat_map posts_of_action d.actions) + times t (flat_map posts_of_task d.tasks) + times t new ≤ 1
-once_more d new t fresh once =
-    let parts = times_posted d t in
-    let parts_in = times_posted_in d t in
-    let before : times t (posted_in d) ≤ 1 = omega (arith, parts, parts_in, once) in
-    omega (arith, parts_in, times_fresh (posted_in d) new t fresh before)
-
-posted_once_with_task : (d : Draft) (steps : List Step) → is_any_posted (posted_in d) (posts_of_task steps) ≡ false → IsPostedOnce (script_of d)
-    → IsPostedOnce (script_of (record d { tasks = d.tasks ++ steps ∷ [] }))
-posted_once_with_task d steps fresh once t =
-    let parts = times_posted (record d { tasks = d.tasks ++ steps ∷ [] }) t in
-    let more : times t (flat_map posts_of_task (d.tasks ++ steps ∷ [])) ≡ times t (flat_map posts_of_task d.tasks) + times t (posts_of_task steps) =
-    ap (times t) (flat_map_push posts_of_task d.tasks steps) ∙ count-append (λ u. eqb u t) (flat_map posts_of_task d.tasks) (posts_of_task steps) in
-    omega (arith, parts, more, once_more d (posts_of_task steps) t fresh (once t))
-
-pub posted_once_with_action : (d : Draft) (action : Action) → is_any_posted (posted_in d) (posts_of_action action) ≡ false → IsPostedOnce (script_of d)
-    → IsPostedOnce (script_of (record d { actions = d.actions ++ action ∷ [] }))
-posted_once_with_action d action fresh once t =
-    let parts = times_posted (record d { actions = d.actions ++ action ∷ [] }) t in
-    let more : times t (flat_map posts_of_action (d.actions ++ action ∷ [])) ≡ times t (flat_map posts_of_action d.actions) + times t (posts_of_action action) =
-    ap (times t) (flat_map_push posts_of_action d.actions action) ∙ count-append (λ u. eqb u t) (flat_map posts_of_action d.actions) (posts_of_action action) in
-    omega (arith, parts, more, once_more d (posts_of_action action) t fresh (once t))
 
 -- ---- tasks and jobs
 

@@ -31,7 +31,8 @@ use Rattle.script_model.specs.Canonical.{priority_word, behaviour_word, kind_wor
 use Rattle.script_model.specs.Laws.Sound.{IsSound, IsConfigSound, IsSeatThere, IsQueueWithin, IsStepWithin, IsStepSound, IsTaskSound, IsJobSound}
 use Rattle.list_laws.proofs.Lists.{eqb-same, count-append, count-cons, AllByRecursion-back}
 use Rattle.script_model.proofs.Laws.Parts.{IsSeatWithin}
-use Rattle.script_model.proofs.Laws.Declarations.{posts_of_task, runner_made, job_made}
+use Rattle.script_model.proofs.Laws.Postings.{posts_of_task, posted_parts, posted_in_parts, posted_at, not_posted}
+use Rattle.script_model.proofs.Laws.Declarations.{runner_made, job_made}
 use Rattle.script_model.proofs.Laws.Texts.{is_plain_word, line_of, text_of, line_is_ascii, words_of-line, lines_of-text}
 use Rattle.script_model.proofs.Laws.Words.{number_is, id_is, time_is, plain_id, plain_time, priority_is, priority_plain, behaviour_is, behaviour_plain, kind_is, kind_plain, may_block_plain, IsStepReadable, steps_are, steps_plain}
 use Rattle.list_laws.proofs.Elements.{none_from_count, slice_get_seam}
@@ -241,33 +242,6 @@ queue_read s sound done queue rest e =
       plain = rw (plain_id (length done) id, plain_id queue.class (omega (arith, within.class_within)), plain_id queue.voters
           (omega (arith, within.voters_within))) refl;
     }
-
--- ---- postings
-
--- tasks that stand once at most behind the earlier ones are not posted there
-pub not_posted : (earlier new : List ℕ) → ((t : ℕ) → times t earlier + times t new ≤ 1) → is_any_posted earlier new ≡ false
-not_posted earlier [] once = refl
-not_posted earlier (u ∷ new) once =
-    let here : times u (u ∷ new) ≡ times u new + 1 = count-cons (λ v. eqb v u) u new ∙ ap (λ (b : Bool). times u new + cond b 1 0) (eqb-same u) in
-    let none : times u earlier ≡ 0 = omega (arith, here, once u) in
-    let rest : is_any_posted (u ∷ earlier) new ≡ false = not_posted (u ∷ earlier) new (λ t.
-    let more : times t (u ∷ earlier) ≡ times t earlier + cond (eqb u t) 1 0 = count-cons (λ v. eqb v t) u earlier in
-    let less : times t (u ∷ new) ≡ times t new + cond (eqb u t) 1 0 = count-cons (λ v. eqb v t) u new in
-    omega (arith, more, less, once t)) in
-    rw (none_from_count (λ v. eqb v u) earlier none) rest
-
-pub posted_parts : (s : Plan) (t : ℕ) → times t (postings s) ≡ times t (flat_map posts_of_action s.actions) + times t (flat_map posts_of_task s.tasks)
-unfolding postings
-posted_parts s t = count-append (λ u. eqb u t) (flat_map posts_of_action s.actions) (flat_map posts_of_task s.tasks)
-
-pub posted_in_parts : (d : Draft) (t : ℕ) → times t (posted_in d) ≡ times t (flat_map posts_of_task d.tasks) + times t (flat_map posts_of_action d.actions)
-posted_in_parts d t = count-append (λ u. eqb u t) (flat_map posts_of_task d.tasks) (flat_map posts_of_action d.actions)
-
-pub posted_at : {A : Type 0} (f : A → List ℕ) (done : List A) (x : A) (rest all : List A) → done ++ x ∷ rest ≡ all → (t : ℕ)
-    → times t (flat_map f all) ≡ times t (flat_map f done) + (times t (f x) + times t (flat_map f rest))
-posted_at f done x rest all e t =
-    rw (← e, flat_map-append f done (x ∷ rest), flat_map-cons f x rest) (omega (arith, count-append (λ u. eqb u t) (flat_map f done)
-        (f x ++ flat_map f rest), count-append (λ u. eqb u t) (f x) (flat_map f rest)))
 
 -- ---- tasks
 

@@ -180,26 +180,3 @@ steps_read-within (word ∷ words) steps e = pieces_within (slice_split (λ w. i
 pub nothing : {A : Type 0} (xs : List A) → eqb (length xs) 0 ≡ true → xs ≡ []
 nothing [] e = refl
 nothing (x ∷ xs) e = absurd (let none : length (x ∷ xs) ≡ 0 = eqb-true _ _ e in omega (arith, none))
-
--- ---- postings
-
--- tasks that were not posted, and are not posted twice, are posted once behind the earlier ones
-pub times_fresh : (earlier new : List ℕ) (t : ℕ) → is_any_posted earlier new ≡ false → times t earlier ≤ 1 → times t earlier + times t new ≤ 1
-times_fresh earlier [] t e once = omega (arith, once)
-times_fresh earlier (u ∷ new) t e once =
-    let neither = or_parts (list_any (λ posted. eqb posted u) earlier) (is_any_posted (u ∷ earlier) new) e in
-    let none : times u earlier ≡ 0 = count_none (λ posted. eqb posted u) earlier neither.0 in
-    let more : times t (u ∷ earlier) ≡ times t earlier + cond (eqb u t) 1 0 = count-cons (λ v. eqb v t) u earlier in
-    let here : times t (u ∷ new) ≡ times t new + cond (eqb u t) 1 0 = count-cons (λ v. eqb v t) u new in
-    let still : times t (u ∷ earlier) ≤ 1 = by (eqb u t) refl none more in
-    omega (arith, more, here, times_fresh (u ∷ earlier) new t neither.1 still)
-  where
-    by : (b : Bool) → eqb u t ≡ b → times u earlier ≡ 0 → times t (u ∷ earlier) ≡ times t earlier + cond (eqb u t) 1 0 → times t (u ∷ earlier) ≤ 1
-    by true is none more =
-        let same : u ≡ t = eqb-true u t is in
-        let zero_t : times t earlier ≡ 0 = subst (λ (v : ℕ). times v earlier ≡ 0) same none in
-        let one : times t (u ∷ earlier) ≡ times t earlier + 1 = more ∙ ap (λ (b : Bool). times t earlier + cond b 1 0) is in
-        omega (arith, zero_t, one)
-    by false is none more =
-        let one : times t (u ∷ earlier) ≡ times t earlier + 0 = more ∙ ap (λ (b : Bool). times t earlier + cond b 1 0) is in
-        omega (arith, one, once)

@@ -27,7 +27,8 @@ use Rattle.script_model.specs.Laws.Sound.{IsSound, IsActionSound, IsInOrder}
 use Rattle.script_model.proofs.Laws.Faults.{ok_same, first_ok}
 use Rattle.list_laws.proofs.Lists.{count-append, count-cons, AllByRecursion-map}
 use Rattle.script_model.proofs.Laws.Parts.{either_way, none_such, both_ok, refuse_ok, Passed, behind_ok, line_ok, number_at-within, behind}
-use Rattle.script_model.proofs.Laws.Declarations.{Keeps, runner_post_stays, queue_post_stays, task_stays, same_stays, keeps_workers, keeps_groups, keeps_threshold, keeps_runner, keeps_queue, declared_runner_post, declared_queue_post, posted_once_with_action, keeps_task, keeps_job}
+use Rattle.script_model.proofs.Laws.Postings.{posted_once_with_action}
+use Rattle.script_model.proofs.Laws.Declarations.{Keeps, runner_post_stays, queue_post_stays, task_stays, same_stays, keeps_workers, keeps_groups, keeps_threshold, keeps_runner, keeps_queue, declared_runner_post, declared_queue_post, keeps_task, keeps_job}
 use Rattle.list_laws.proofs.Elements.{AllByRecursion-push, count_once-push, slice_get_push}
 
 start_fresh : (earlier : List Action) (action : Action) (j : ℕ) → IsInOrder earlier action → is_start_of j action ≡ true
