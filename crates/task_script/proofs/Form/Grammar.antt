@@ -3,7 +3,9 @@ use Rattle.std.proofs.Common.{◌≡◌, ℕ, ◌+◌, ◌*◌, ◌≤◌, Bool,
 use Rattle.std.specs.Prelude.{not, ◌&&◌, ◌||◌, codes, is_none, is_some}
 use Rattle.std.specs.List.{list_any, list_all, flat_map}
 use Rattle.std.specs.Option.{option_map}
-use Rattle.std.proofs.lemmas.Bool.{eqb-true}
+use Rattle.std.proofs.lemmas.Bool.{eqb-true, le-ltb, and_left}
+use Rattle.std.proofs.lemmas.Option.{same_Some}
+use Rattle.std.proofs.lemmas.List.{nil_from_length}
 use Rattle.std.proofs.lemmas.Bool.Decides.{nat_tests}
 use Rattle.task_base.specs.Plan.{Plan}
 use Rattle.task_base.specs.declared.step.Step.{Step}
@@ -27,9 +29,10 @@ use Rattle.task_script.specs.FormDraft.{is_posted, shuts_down, steps_of_tasks, f
 use Rattle.task_script.specs.FormLines.{◌>>=◌, max_id, number_in, form_kind, form_priority, form_behaviour, form_steps, form_workers, form_runner, form_task, form_post, form_flush, form_shutdown, form_command, form_words, form_line}
 use Rattle.task_script.specs.Form.{form_lines, form_read}
 use Rattle.task_script.specs.WellFormed.{is_single}
-use Rattle.task_script.proofs.FormLaws.{bind_some, guard_some, and_both, not_true, below, some_same, IsSound, Computes, form_kind-shared, form_steps-compute, runner_made, runner_added, task_added, post_added, keeps_line, empty_sound}
-use Rattle.task_script.proofs.FormSteps.{one_if, result_ok-some, is_word-same, number_from-wider, number_from-same, kind_named-same, steps_read-same, computes-declared, computes-posts, computes-misplaced, computes-scopes, computes-acts}
-use Rattle.task_script.proofs.FormTotals.{sound-has_block, sound-posted, sound-steps, sound-ticks, sound-events}
+use Rattle.task_script.proofs.Form.Parts.{bind_some, Computes, form_kind-shared, form_steps-compute, runner_made, workers_parts, runner_parts, task_parts, post_parts, flush_parts, shutdown_parts}
+use Rattle.task_script.proofs.Form.Sound.{IsSound, keeps_line, empty_sound}
+use Rattle.task_script.proofs.Form.Steps.{one_if, result_ok-some, is_word-same, number_from-wider, number_from-same, kind_named-same, steps_read-same, computes-declared, computes-posts, computes-misplaced, computes-scopes, computes-acts}
+use Rattle.task_script.proofs.Form.Totals.{sound-has_block, sound-posted, sound-steps, sound-ticks, sound-events}
 
 -- ---- what the grammar's lines give where nothing is against them
 
@@ -74,18 +77,13 @@ shutdown_goes d never = rw never refl
 
 -- `workers N`
 workers_same : (d d' : Draft) (words : List (List ℕ)) → form_workers d words ≡ Some d' → workers_line d words ≡ Ok d'
-unfolding form_workers
-workers_same d d' (number ∷ []) e =
-    let n = bind_some (number_in 1 MOST_WORKERS number) (λ n. cond (is_none d.workers && is_bare d) (Some (record d { workers = Some n })) None) d' e in
-    let g = guard_some (is_none d.workers && is_bare d) (record d { workers = Some n.0 }) d' n.2 in
-    let b = and_both (is_none d.workers) (is_bare d) g.0 in
-    workers_goes d number n.0 (number_from-same 1 MOST_WORKERS number n.0 n.1) b.1 (not_said d.workers b.0) ∙ ap Ok g.1
+workers_same d d' words e =
+    let p = workers_parts d d' words e in
+    rw p.words_are (workers_goes d p.number p.n (number_from-same 1 MOST_WORKERS p.number p.n p.number_is) p.bare (not_said d.workers p.unsaid) ∙ ap Ok p.made)
   where
     not_said : (o : Option ℕ) → is_none o ≡ true → is_some o ≡ false
     not_said None h = refl
     not_said (Some x) h = absurd cc
-workers_same d d' [] e = absurd cc
-workers_same d d' (a ∷ b ∷ words) e = absurd cc
 
 -- a shared runner names no seat
 shared_is_not_above : (d : Draft) (kind : RunnerKind) → is_single kind ≡ false → is_above_workers d kind ≡ false
@@ -93,40 +91,18 @@ shared_is_not_above d Parallel h = refl
 shared_is_not_above d Sequenced h = refl
 shared_is_not_above d (Single seat) h = absurd cc
 
--- a number that is no more than the limit
-fits : (limit n : ℕ) → n ≤ limit → ltb limit n ≡ false
-fits limit n h = grind (arith, nat_tests)
-
-at_most : (a b : ℕ) → leb a b ≡ true → a ≤ b
-at_most a b h = grind (arith, nat_tests)
-
 -- `runner R KIND PRIORITY BEHAVIOUR`
 runner_same : (d d' : Draft) (words : List (List ℕ)) → form_runner d words ≡ Some d' → runner_line d words ≡ Ok d'
-unfolding form_runner
-runner_same d d' (number ∷ kind ∷ priority ∷ behaviour ∷ []) e =
-    let r = bind_some (number_in 0 max_id number) (λ r. form_kind kind >>= λ k. form_priority priority >>= λ p. form_behaviour behaviour >>=
-        λ b. runner_added d r k p b) d' e in
-    let k = bind_some (form_kind kind) (λ k. form_priority priority >>= λ p. form_behaviour behaviour >>= λ b. runner_added d r.0 k p b) d' r.2 in
-    let p = bind_some (form_priority priority) (λ p. form_behaviour behaviour >>= λ b. runner_added d r.0 k.0 p b) d' k.2 in
-    let b = bind_some (form_behaviour behaviour) (λ b. runner_added d r.0 k.0 p.0 b) d' p.2 in
-    let g = guard_some (eqb r.0 (length d.runners) && eqb (length d.actions) 0 && ltb (length d.runners) MOST_RUNNERS)
-        (record d { runners = d.runners ++ runner_made k.0 p.0 b.0 ∷ [] }) d' b.2 in
-    let outer = and_both (eqb r.0 (length d.runners) && eqb (length d.actions) 0) (ltb (length d.runners) MOST_RUNNERS) g.0 in
-    let inner = and_both (eqb r.0 (length d.runners)) (eqb (length d.actions) 0) outer.0 in
-    runner_goes d number kind priority behaviour r.0 k.0 p.0 b.0 (number_from-same 0 max_id number r.0 r.1) (kind_named-same kind k.0 k.1)
-        (result_ok-some (priority_named priority) p.0 p.1)
-    (result_ok-some (behaviour_named behaviour) b.0 b.1) inner.0 (shared_is_not_above d k.0 (form_kind-shared kind k.0 k.1)) inner.1
-    (fits MOST_RUNNERS (length d.runners + 1) (omega (arith, below _ _ outer.1)))
-    ∙ ap Ok g.1
-runner_same d d' [] e = absurd cc
-runner_same d d' (a ∷ []) e = absurd cc
-runner_same d d' (a ∷ b ∷ []) e = absurd cc
-runner_same d d' (a ∷ b ∷ c ∷ []) e = absurd cc
-runner_same d d' (a ∷ b ∷ c ∷ f ∷ g ∷ words) e = absurd cc
+runner_same d d' words e =
+    let p = runner_parts d d' words e in
+    rw p.words_are (runner_goes d p.number p.kind p.priority p.behaviour p.r p.k p.p p.b (number_from-same 0 max_id p.number p.r p.number_is)
+        (kind_named-same p.kind p.k p.kind_is) (result_ok-some (priority_named p.priority) p.p p.priority_is)
+        (result_ok-some (behaviour_named p.behaviour) p.b p.behaviour_is) p.next (shared_is_not_above d p.k (form_kind-shared p.kind p.k p.kind_is)) p.no_actions
+        (le-ltb MOST_RUNNERS (length d.runners + 1) (omega (arith, p.few)))
+    ∙ ap Ok p.made)
 
 no_shutdown : (actions : List Action) → length actions ≡ 0 → shuts_down actions ≡ false
-no_shutdown [] e = refl
-no_shutdown (a ∷ actions) e = absurd (omega (arith, e))
+no_shutdown actions e = rw (nil_from_length actions e) refl
 
 -- before the actions the entries are those of the tasks
 bare_events : (d : Draft) → IsSound d → length d.actions ≡ 0 → events_in d ≡ 2 * length d.tasks
@@ -136,26 +112,17 @@ bare_events d sound none =
 
 -- `task T STEPS`
 task_same : (d d' : Draft) (words : List (List ℕ)) → IsSound d → form_task d words ≡ Some d' → task_line d words ≡ Ok d'
-unfolding form_task
-task_same d d' (number ∷ words) sound e =
-    let t = bind_some (number_in 0 max_id number) (λ t. form_steps words >>= λ steps. task_added d t steps) d' e in
-    let steps = bind_some (form_steps words) (λ steps. task_added d t.0 steps) d' t.2 in
-    let g = guard_some (eqb t.0 (length d.tasks) && eqb (length d.actions) 0 && ltb (length d.tasks) MOST_TASKS
-        && leb (steps_of_tasks d.tasks + length steps.0) MOST_STEPS) (record d { tasks = d.tasks ++ steps.0 ∷ [] }) d' steps.2 in
-    let all = and_both (eqb t.0 (length d.tasks) && eqb (length d.actions) 0 && ltb (length d.tasks) MOST_TASKS)
-        (leb (steps_of_tasks d.tasks + length steps.0) MOST_STEPS) g.0 in
-    let outer = and_both (eqb t.0 (length d.tasks) && eqb (length d.actions) 0) (ltb (length d.tasks) MOST_TASKS) all.0 in
-    let inner = and_both (eqb t.0 (length d.tasks)) (eqb (length d.actions) 0) outer.0 in
-    let compute : Computes steps.0 = form_steps-compute words steps.0 steps.1 in
-    let few = below _ _ outer.1 in
-    task_goes d number words t.0 steps.0 (number_from-same 0 max_id number t.0 t.1) (steps_read-same words steps.0 steps.1) inner.0
-        (computes-declared d steps.0 compute)
-    (computes-posts d steps.0 compute) inner.1 (computes-scopes steps.0 compute) (computes-misplaced d steps.0 compute)
-    (fits MOST_TASKS (length d.tasks + 1) (omega (arith, few)))
-    (fits MOST_STEPS (steps_in d + length steps.0) (omega (arith, sound-steps d sound, at_most _ _ all.1)))
-    (fits MOST_EVENTS (events_in d + events_of_task steps.0) (omega (arith, few, bare_events d sound (eqb-true _ _ inner.1), computes-acts steps.0 compute)))
-    ∙ ap Ok g.1
-task_same d d' [] sound e = absurd cc
+task_same d d' words sound e =
+    let p = task_parts d d' words e in
+    let compute : Computes p.steps = form_steps-compute p.rest p.steps p.steps_are in
+    rw p.words_are (task_goes d p.number p.rest p.t p.steps (number_from-same 0 max_id p.number p.t p.number_is) (steps_read-same p.rest p.steps p.steps_are)
+        p.next (computes-declared d p.steps compute) (computes-posts d p.steps compute) p.no_actions (computes-scopes p.steps compute)
+        (computes-misplaced d p.steps compute)
+    (le-ltb MOST_TASKS (length d.tasks + 1) (omega (arith, p.few)))
+    (le-ltb MOST_STEPS (steps_in d + length p.steps) (omega (arith, sound-steps d sound, p.few_steps)))
+    (le-ltb MOST_EVENTS (events_in d + events_of_task p.steps) (omega (arith, p.few, bare_events d sound (eqb-true _ _ p.no_actions),
+        computes-acts p.steps compute)))
+    ∙ ap Ok p.made)
 
 -- a task that no action posts is posted by nothing
 fresh_here : (d : Draft) (t : ℕ) → IsSound d → is_posted d.actions t ≡ false → is_any_posted (posted_in d) (t ∷ []) ≡ false
@@ -165,54 +132,31 @@ fresh_here d t sound fresh = ap (λ (b : Bool). b || false) (sound-posted d t so
 acted_same : (d : Draft) (action : Action) → IsSound d → ticks_of action ≡ 0 → form_events d + events_of_action action ≤ MOST_EVENTS
     → acted d action ≡ Ok (record d { actions = d.actions ++ action ∷ [] })
 acted_same d action sound no_ticks room =
-    acted_goes d action (fits MOST_TICKS (ticks_in d + ticks_of action) (omega (arith, sound-ticks d sound, no_ticks)))
-    (fits MOST_EVENTS (events_in d + events_of_action action) (omega (arith, room, sound-events d sound)))
+    acted_goes d action (le-ltb MOST_TICKS (ticks_in d + ticks_of action) (omega (arith, sound-ticks d sound, no_ticks)))
+    (le-ltb MOST_EVENTS (events_in d + events_of_action action) (omega (arith, room, sound-events d sound)))
 
 -- `post T R 0`
 post_same : (d d' : Draft) (words : List (List ℕ)) → IsSound d → form_post d words ≡ Some d' → post_line d words ≡ Ok d'
-unfolding form_post
-post_same d d' (task ∷ runner ∷ delay ∷ []) sound e =
-    let t = bind_some (number_in 0 max_id task) (λ t. number_in 0 max_id runner >>= λ r. number_in 0 0 delay >>= λ u. post_added d t r u) d' e in
-    let r = bind_some (number_in 0 max_id runner) (λ r. number_in 0 0 delay >>= λ u. post_added d t.0 r u) d' t.2 in
-    let u = bind_some (number_in 0 0 delay) (λ u. post_added d t.0 r.0 u) d' r.2 in
-    let g = guard_some (ltb t.0 (length d.tasks) && ltb r.0 (length d.runners) && not (is_posted d.actions t.0) && ltb (form_events d) MOST_EVENTS)
-        (record d { actions = d.actions ++ Post t.0 r.0 u.0 ∷ [] }) d' u.2 in
-    let all = and_both (ltb t.0 (length d.tasks) && ltb r.0 (length d.runners) && not (is_posted d.actions t.0)) (ltb (form_events d) MOST_EVENTS) g.0 in
-    let outer = and_both (ltb t.0 (length d.tasks) && ltb r.0 (length d.runners)) (not (is_posted d.actions t.0)) all.0 in
-    let inner = and_both (ltb t.0 (length d.tasks)) (ltb r.0 (length d.runners)) outer.0 in
-    let never : has_block d t.0 ≡ false = sound-has_block d t.0 sound (below _ _ inner.0) in
-    let placed : is_bad_post d (PostStep t.0 r.0 u.0) ≡ false = blocks_not (has_block d t.0) _ never in
-    let room = below _ _ all.1 in
-    post_goes d task runner delay t.0 r.0 u.0 (number_from-same 0 max_id task t.0 t.1) (number_from-same 0 max_id runner r.0 r.1)
-    (number_from-wider 0 0 MOST_MICROSECONDS delay u.0 (omega arith) u.1) outer.0 (fresh_here d t.0 sound (not_true _ outer.1)) placed
-    ∙ acted_same d (Post t.0 r.0 u.0) sound refl (omega (arith, room)) ∙ ap Ok g.1
-  where
-    blocks_not : (b c : Bool) → b ≡ false → (b && c) ≡ false
-    blocks_not true c h = absurd cc
-    blocks_not false c h = refl
-post_same d d' [] sound e = absurd cc
-post_same d d' (a ∷ []) sound e = absurd cc
-post_same d d' (a ∷ b ∷ []) sound e = absurd cc
-post_same d d' (a ∷ b ∷ c ∷ f ∷ words) sound e = absurd cc
+post_same d d' words sound e =
+    let p = post_parts d d' words e in
+    let placed : is_bad_post d (PostStep p.t p.r p.u) ≡ false = and_left (has_block d p.t) _ (sound-has_block d p.t sound p.task_declared) in
+    rw p.words_are (post_goes d p.task p.runner p.delay p.t p.r p.u (number_from-same 0 max_id p.task p.t p.task_is)
+        (number_from-same 0 max_id p.runner p.r p.runner_is) (number_from-wider 0 0 MOST_MICROSECONDS p.delay p.u (omega arith) p.delay_is) p.declared
+        (fresh_here d p.t sound p.fresh) placed
+    ∙ acted_same d (Post p.t p.r p.u) sound refl (omega (arith, p.room)) ∙ ap Ok p.made)
 
 -- `flush`
 flush_same : (d d' : Draft) (words : List (List ℕ)) → IsSound d → form_flush d words ≡ Some d' → flush_line d words ≡ Ok d'
-unfolding form_flush flush_line
-flush_same d d' [] sound e =
-    let g = guard_some (ltb (form_events d) MOST_EVENTS) (record d { actions = d.actions ++ Flush ∷ [] }) d' e in
-    let room = below _ _ g.0 in
-    acted_same d Flush sound refl (omega (arith, room)) ∙ ap Ok g.1
-flush_same d d' (a ∷ words) sound e = absurd cc
+unfolding flush_line
+flush_same d d' words sound e =
+    let p = flush_parts d d' words e in
+    rw p.words_are (acted_same d Flush sound refl (omega (arith, p.room)) ∙ ap Ok p.made)
 
 -- `shutdown`
 shutdown_same : (d d' : Draft) (words : List (List ℕ)) → IsSound d → form_shutdown d words ≡ Some d' → shutdown_line d words ≡ Ok d'
-unfolding form_shutdown
-shutdown_same d d' [] sound e =
-    let g = guard_some (not (shuts_down d.actions) && ltb (form_events d + 1) MOST_EVENTS) (record d { actions = d.actions ++ Shutdown ∷ [] }) d' e in
-    let both = and_both (not (shuts_down d.actions)) (ltb (form_events d + 1) MOST_EVENTS) g.0 in
-    let room = below _ _ both.1 in
-    shutdown_goes d (not_true _ both.0) ∙ acted_same d Shutdown sound refl (omega (arith, room)) ∙ ap Ok g.1
-shutdown_same d d' (a ∷ words) sound e = absurd cc
+shutdown_same d d' words sound e =
+    let p = shutdown_parts d d' words e in
+    rw p.words_are (shutdown_goes d p.never ∙ acted_same d Shutdown sound refl (omega (arith, p.room)) ∙ ap Ok p.made)
 
 -- ---- a line
 
@@ -237,12 +181,12 @@ command_same d d' name words sound e =
 
 words_same : (d d' : Draft) (line : List ℕ) (words : List (List ℕ)) → IsSound d → form_words d line words ≡ Some d' → words_read d line words ≡ Ok d'
 unfolding form_words words_read
-words_same d d' line [] sound e = ap Ok (some_same d d' e)
+words_same d d' line [] sound e = ap Ok (same_Some d d' e)
 words_same d d' line (name ∷ words) sound e = either (begins_comment name) (is_all_ascii line) e
   where
     either : (b c : Bool) → cond b (Some d) (cond c (form_command d name words) None) ≡ Some d'
         → cond b (Ok d) (refuse (not c) not_ascii >> command_read d name words) ≡ Ok d'
-    either true c h = ap Ok (some_same d d' h)
+    either true c h = ap Ok (same_Some d d' h)
     either false true h = command_same d d' name words sound h
     either false false h = absurd cc
 
@@ -250,7 +194,7 @@ words_same d d' line (name ∷ words) sound e = either (begins_comment name) (is
 
 lines_same : (d d' : Draft) (number : ℕ) (lines : List (List ℕ)) → IsSound d → form_lines d lines ≡ Some d' → lines_read d number lines ≡ Ok d'
 unfolding form_lines lines_read
-lines_same d d' number [] sound e = ap Ok (some_same d d' e)
+lines_same d d' number [] sound e = ap Ok (same_Some d d' e)
 lines_same d d' number (line ∷ lines) sound e =
     let next = bind_some (form_line d line) (λ n. form_lines n lines) d' e in
     goes (line_read d line) next.0 (words_same d next.0 line (words_of line) sound next.1)
@@ -269,4 +213,4 @@ form_is_script bytes script e = made (form_lines empty_draft (lines_of bytes)) r
     made None is h = absurd cc
     made (Some d) is h =
         ap (λ (r : Result Draft (ℕ × ℕ)). r then λ d. Ok (script_of d)) (lines_same empty_draft d 1 (lines_of bytes) empty_sound is)
-            ∙ ap Ok (some_same (script_of d) script h)
+            ∙ ap Ok (same_Some (script_of d) script h)

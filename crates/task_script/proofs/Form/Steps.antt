@@ -19,7 +19,9 @@ use Rattle.script_model.specs.Draft.{Draft, is_declared, is_block, has_bad_scope
 use Rattle.script_model.specs.Postings.{posts_of_step}
 use Rattle.script_model.specs.Places.{in_range, number_from, kind_named, step_said, step_read, all_read, steps_read}
 use Rattle.task_script.specs.FormLines.{◌>>=◌, number_in, form_kind, step_named, form_step, all_some, form_steps}
-use Rattle.task_script.proofs.FormLaws.{bind_some, guard_some, number_in-bounds, Computes}
+use Rattle.task_script.proofs.Form.Parts.{bind_some, number_in-bounds, Computes}
+use Rattle.std.proofs.lemmas.Option.{cond_some}
+use Rattle.std.proofs.lemmas.Bool.{and_from, le-leb}
 
 -- what was found in an option is what a result holds
 pub result_ok-some : {A E : Type 0} (r : Result A E) (x : A) → result_ok r ≡ Some x → r ≡ Ok x
@@ -37,14 +39,7 @@ number_in-of low high word n e = found (number_of word) e
   where
     found : (o : Option ℕ) → (elim o as (λ _. Option ℕ) [ None ↦ None | Some m ↦ cond (leb low m && leb m high) (Some m) None ]) ≡ Some n → o ≡ Some n
     found None h = absurd cc
-    found (Some m) h = ap Some (guard_some (leb low m && leb m high) m n h).1
-
--- a number between two others passes the test of the range
-between : (low high n : ℕ) → low ≤ n → n ≤ high → (leb low n && leb n high) ≡ true
-between low high n h k =
-    let a : leb low n ≡ true = grind (arith, nat_tests) in
-    let b : leb n high ≡ true = grind (arith, nat_tests) in
-    rw (a, b) refl
+    found (Some m) h = ap Some (cond_some (leb low m && leb m high) m n h).1
 
 -- a number of the small form is one of the grammar, also where the grammar takes more
 pub number_from-wider : (low high wide : ℕ) (word : List ℕ) (n : ℕ) → high ≤ wide → number_in low high word ≡ Some n → number_from low wide word ≡ Ok n
@@ -52,7 +47,7 @@ unfolding number_from
 number_from-wider low high wide word n le e =
     let b = number_in-bounds low high word n e in
     let upper : n ≤ wide = omega (arith, b.1, le) in
-    ap (in_range low wide) (number_in-of low high word n e) ∙ ap (λ (t : Bool). cond t (Ok n) (Err out_of_range)) (between low wide n b.0 upper)
+    rw (number_in-of low high word n e, le-leb low n b.0, le-leb n wide upper) refl
 
 pub number_from-same : (low high : ℕ) (word : List ℕ) (n : ℕ) → number_in low high word ≡ Some n → number_from low high word ≡ Ok n
 number_from-same low high word n e = number_from-wider low high high word n (omega arith) e

@@ -17,8 +17,10 @@ use Rattle.script_model.specs.Postings.{posts_of_step, posts_of_action}
 use Rattle.task_script.specs.FormDraft.{is_posted, is_post_of, steps_of_tasks, form_events}
 use Rattle.task_script.specs.Wants.{wants_of}
 use Rattle.task_script.specs.WellFormed.{is_form_action}
-use Rattle.task_script.proofs.FormLaws.{IsSound, Computes}
-use Rattle.task_script.proofs.FormSteps.{computes-posts, computes-opens, computes-acts}
+use Rattle.task_script.proofs.Form.Parts.{Computes}
+use Rattle.task_script.proofs.Form.Sound.{IsSound}
+use Rattle.std.proofs.Math.Bool.{or-false}
+use Rattle.task_script.proofs.Form.Steps.{computes-posts, computes-opens, computes-acts}
 
 -- the actions are those of the small form
 abbrev Plain : List Action → Type 0
@@ -48,10 +50,6 @@ record IsPlain (action : Action) (t : ℕ) : Type 0 where
   events : events_of_action action ≡ length (wants_of action)
   ticks : ticks_of action ≡ 0
   posts : list_any (λ posted. eqb posted t) (posts_of_action action) ≡ is_post_of t action
-
-or-false : (b : Bool) → (b || false) ≡ b
-or-false true = refl
-or-false false = refl
 
 plain : (action : Action) (t : ℕ) → is_form_action action ≡ true → IsPlain action t
 plain (Post task runner delay) t e = record { events = refl; ticks = refl; posts = or-false (eqb task t) }
