@@ -87,7 +87,8 @@ form_runner d (number ∷ kind ∷ priority ∷ behaviour ∷ []) = do
   p ← form_priority priority
   b ← form_behaviour behaviour
   let made : Runner = record { kind = k; traits = record { priority = p; behaviour = b; may_block = false } } in
-      if r == length d.runners && length d.actions == 0 && nat_lt (length d.runners) MOST_RUNNERS then Some (record d { runners = d.runners ++ made ∷ [] }) else None
+      if r == length d.runners && length d.actions == 0 && nat_lt (length d.runners) MOST_RUNNERS
+      then Some (record d { runners = d.runners ++ made ∷ [] }) else None
 form_runner d words = None
 
 -- `task T STEPS`: T is the number of earlier tasks, and no action stands before
@@ -116,7 +117,9 @@ form_flush d (word ∷ words) = None
 
 -- `shutdown`: once
 unfoldable pub form_shutdown : Draft → List (List ℕ) → Option Draft
-form_shutdown d [] = if not (shuts_down d.actions) && nat_lt (form_events d + 1) MOST_EVENTS then Some (record d { actions = d.actions ++ Shutdown ∷ [] }) else None
+form_shutdown d [] =
+    if not (shuts_down d.actions) && nat_lt (form_events d + 1) MOST_EVENTS
+    then Some (record d { actions = d.actions ++ Shutdown ∷ [] }) else None
 form_shutdown d (word ∷ words) = None
 
 -- a command and its arguments

@@ -11,8 +11,8 @@ use crate::steps::steps_of;
 use crate::words::{is_all_ascii, number_in, words_of};
 use std::alloc::Global;
 use task_base::{
-    Action, MOST_EVENTS, MOST_RUNNERS, MOST_STEPS, MOST_TASKS, MOST_WORKERS, Rows, Runner, RunnerId,
-    Script, Step, Task, TaskId, Traits,
+    Action, MOST_EVENTS, MOST_RUNNERS, MOST_STEPS, MOST_TASKS, MOST_WORKERS, Rows, Runner,
+    RunnerId, Script, Step, Task, TaskId, Traits,
 };
 
 /// The greatest number that names a task or a runner.

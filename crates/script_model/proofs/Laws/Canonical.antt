@@ -1,25 +1,18 @@
 -- Each action of the canonical text is read, behind those before it, as itself; and so the whole text is.
-use Rattle.std.proofs.Common.{◌≡◌, ℕ, ◌+◌, ◌<◌, ◌≤◌, Bool, true, false, List, [], ◌∷◌, ◌++◌, length, take, map, refl, sym, ap, subst, ◌∙◌, Ok, arith}
-use Rattle.std.specs.Prelude.{◌^◌, not, nat_lt, decimal, codes}
+use Rattle.std.proofs.Common.{◌≡◌, ℕ, ◌+◌, ◌≤◌, false, List, [], ◌∷◌, ◌++◌, length, take, map, refl, subst, arith}
 use Rattle.std.proofs.lemmas.Bool.{lt-ltb, le-ltb}
 use Rattle.std.proofs.Math.Seq.{take-append_seam}
 use Rattle.task_base.specs.Plan.{Plan}
-use Rattle.task_base.specs.declared.policy.Policy.{Policy}
-use Rattle.task_base.specs.declared.script.FenceAt.{FenceAt}
-use Rattle.task_base.specs.declared.step.Step.TheVariants.{Post as PostStep, Main as MainStep}
 use Rattle.task_base.specs.declared.script.Action.{Action}
 use Rattle.task_base.specs.declared.script.Action.TheVariants.{Post, Main, Tick, Policy as PolicyAction, Fence, Unfence, Vote, Rank, Close, Pump, Flush, StartJob, Join, Cancel, Shutdown}
-use Rattle.script_model.specs.Reasons.{◌&◌, undeclared, job_use, shutdown_twice}
-use Rattle.script_model.specs.Places.{said_at, ends_at, number_at, id_at, time_at, policy_named, fence_named, vote_named}
 use Rattle.script_model.specs.Bound.{events_of_action}
 use Rattle.script_model.specs.Postings.{posts_of_action, IsPostedOnce}
-use Rattle.script_model.specs.Draft.{Draft, empty_draft, is_declared, has_queue, has_voter, has_job, posted_in, is_any_posted, is_started, has_shutdown, ticks_of, ticks_in, events_in, opens_scope, may_block_on}
-use Rattle.task_base.specs.declared.limits.TheConstants.{MOST_TICKS, MOST_EVENTS, MOST_MICROSECONDS}
+use Rattle.script_model.specs.Draft.{Draft, empty_draft, posted_in, is_any_posted, ticks_of, ticks_in, events_in, opens_scope, may_block_on}
+use Rattle.task_base.specs.declared.limits.TheConstants.{MOST_TICKS, MOST_EVENTS}
 use Rattle.script_model.specs.Lines.{post_line, main_line, tick_line, policy_line, fence_line, unfence_line, vote_line, rank_line, close_line, pump_line, flush_line, start_job_line, join_line, cancel_line, shutdown_line, queue_command_read, action_command_read, command_read}
 use Rattle.script_model.specs.Grammar.{Reads}
 use Rattle.script_model.specs.Canonical.{runner_words, queue_words, task_words, job_words, action_words, config_lines, numbered, canonical_lines, IsValid}
-use Rattle.log_model.specs.LogText.{policy_word, fence_word, vote_word}
-use Rattle.script_model.specs.Laws.Sound.{IsSound, IsRunnerPost, IsQueuePost, IsActionSound, IsInOrder}
+use Rattle.script_model.specs.Laws.Sound.{IsSound, IsActionSound, IsInOrder}
 use Rattle.script_model.proofs.Laws.Parts.{Passed}
 use Rattle.script_model.proofs.Laws.Sound.{room, reads_sound}
 use Rattle.script_model.proofs.Laws.Words.{number_is, id_is, time_is, plain_id, plain_time, policy_is, policy_plain, fence_is, fence_plain, vote_is, vote_plain}
@@ -59,8 +52,17 @@ any_action_read s sound done (Post task runner delay) made order fresh passed =
     let r : runner ≤ 65536 = omega (arith, post.runner_declared, sound.limits.few_runners) in
     let good = good_post (opens_scope s.tasks task) (may_block_on s.runners runner) post.may_block in
     record {
-      reads = rw (id_is task t, id_is runner r, time_is delay made.1, lt-ltb task (length s.tasks) post.task_declared,
-          lt-ltb runner (length s.runners) post.runner_declared, fresh, good, passed.0, passed.1.0) refl;
+      reads = rw (
+        id_is task t,
+        id_is runner r,
+        time_is delay made.1,
+        lt-ltb task (length s.tasks) post.task_declared,
+        lt-ltb runner (length s.runners) post.runner_declared,
+        fresh,
+        good,
+        passed.0,
+        passed.1.0,
+      ) refl;
       starts = refl;
       plain = rw (plain_id task t, plain_id runner r, plain_time delay made.1) refl;
     }
@@ -69,8 +71,17 @@ any_action_read s sound done (Main task queue delay) made order fresh passed =
     let t : task ≤ 65536 = omega (arith, post.task_declared, sound.limits.few_tasks) in
     let q : queue ≤ 65536 = omega (arith, post.queue_declared, sound.limits.few_queues) in
     record {
-      reads = rw (id_is task t, id_is queue q, time_is delay made.1, lt-ltb task (length s.tasks) post.task_declared,
-          lt-ltb queue (length s.queues) post.queue_declared, fresh, post.no_scope, passed.0, passed.1.0) refl;
+      reads = rw (
+        id_is task t,
+        id_is queue q,
+        time_is delay made.1,
+        lt-ltb task (length s.tasks) post.task_declared,
+        lt-ltb queue (length s.queues) post.queue_declared,
+        fresh,
+        post.no_scope,
+        passed.0,
+        passed.1.0,
+      ) refl;
       starts = refl;
       plain = rw (plain_id task t, plain_id queue q, plain_time delay made.1) refl;
     }

@@ -2,10 +2,8 @@
 use Rattle.std.proofs.Common.{◌≡◌, ℕ, ◌+◌, ◌<◌, ◌≤◌, Bool, true, false, eqb, List, [], ◌∷◌, ◌++◌, length, drop, refl, sym, ap, subst, ◌∙◌, inl, inr, Option, Some, Ok, arith}
 use Rattle.std.specs.Prelude.{sum_by, not, ◌&&◌, ◌==◌, nat_lt, slice_get, slice_index_or, is_some, flat_map, option_map, unwrap_or}
 use Rattle.std.specs.List.{list_any, list_all, AllByRecursion}
-use Rattle.std.proofs.lemmas.Grind.{flat_map-append}
-use Rattle.std.proofs.lemmas.List.Concat.{flat_map-cons}
 use Rattle.std.proofs.lemmas.List.Sums.{sum_by_push}
-use Rattle.std.proofs.lemmas.List.{append-nil, length-append}
+use Rattle.std.proofs.lemmas.List.{length-append}
 use Rattle.task_traits.specs.declared.traits.Priority.{Priority}
 use Rattle.task_traits.specs.declared.traits.Behaviour.{Behaviour}
 use Rattle.task_base.specs.Plan.{Plan, JobPlan}
@@ -16,17 +14,16 @@ use Rattle.task_base.specs.declared.script.Runner.{Runner}
 use Rattle.task_base.specs.declared.script.RunnerKind.{RunnerKind}
 use Rattle.task_base.specs.declared.script.RunnerKind.TheVariants.{Parallel, Sequenced, Single}
 use Rattle.task_base.specs.declared.script.MainQueue.{MainQueue}
-use Rattle.task_base.specs.declared.script.Action.{Action}
 use Rattle.script_model.specs.Reasons.{◌&◌, out_of_range, out_of_order, undeclared, posted_twice, declaration_late, bad_block, job_use, config_twice, too_many}
 use Rattle.script_model.specs.Places.{said_at, ends_at, number_at, id_at, time_at, priority_named, behaviour_named, kind_named, may_block_at, steps_read}
 use Rattle.script_model.specs.Bound.{events_of_task, events_of_job, events_bound_of}
-use Rattle.script_model.specs.Postings.{posts_of_step, posts_of_action, postings, times, IsPostedOnce}
+use Rattle.script_model.specs.Postings.{posts_of_step, postings}
 use Rattle.std.proofs.Math.ListN.{get_or-append}
 use Rattle.script_model.specs.Draft.{Draft, Groups, is_block, script_of, has_no_actions, is_bare, is_above_workers, is_declared, posted_in, is_any_posted, has_bad_scopes, is_bad_post, items_in, steps_in, events_in, workers_in, opens_scope, may_block_on}
 use Rattle.task_base.specs.declared.limits.TheConstants.{MOST_WORKERS, MOST_RUNNERS, MOST_QUEUES, MOST_TASKS, MOST_JOBS, MOST_ITEMS, MOST_STEPS, MOST_EVENTS, MOST_MICROSECONDS}
 use Rattle.script_model.specs.Lines.{workers_line, groups_line, threshold_line, runner_line, queue_line, task_line, job_line}
 use Rattle.script_model.specs.Laws.Sound.{IsSound, IsConfigSound, AreActionsSound, IsRunnerPost, IsQueuePost, IsSeatThere, IsQueueWithin, IsStepSound, IsTaskSound, IsJobSound, IsActionSound}
-use Rattle.list_laws.proofs.Lists.{count-append, AllByRecursion-map}
+use Rattle.list_laws.proofs.Lists.{AllByRecursion-map}
 use Rattle.script_model.proofs.Laws.Postings.{posts_of_task, posted_once_with_task}
 use Rattle.script_model.proofs.Laws.Parts.{both_ok, line_ok, number_at-within, said_ok, IsSeatWithin, kind_named-within, steps_read-within, nothing}
 use Rattle.std.proofs.lemmas.Bool.{and_parts, ltb-false, ltb-true, not-false, or_parts}
@@ -102,8 +99,11 @@ task_stays s z t steps stays h = record {
 -- with one more runner, queue or task, what was declared stays
 runners_stay : (d : Draft) (made : Runner) → Stays (script_of d) (script_of (record d { runners = d.runners ++ made ∷ [] }))
 runners_stay d made = record {
-  runners = λ r here. (omega (arith, here, length-append d.runners (made ∷ [])), ap
-      (λ (o : Option Runner). unwrap_or (option_map (λ declared. declared.traits.may_block) o) false) (slice_get_front d.runners (made ∷ []) r here));
+  runners = λ r here. (
+    omega (arith, here, length-append d.runners (made ∷ [])),
+    ap
+        (λ (o : Option Runner). unwrap_or (option_map (λ declared. declared.traits.may_block) o) false) (slice_get_front d.runners (made ∷ []) r here),
+  );
   queues = λ q here. here;
   tasks = λ t here. (here, refl);
 }
@@ -125,11 +125,17 @@ tasks_stay d made = record {
 -- a script with the same declarations
 pub same_stays : (s z : Plan) → s.runners ≡ z.runners → s.queues ≡ z.queues → s.tasks ≡ z.tasks → Stays s z
 same_stays s z runners queues tasks = record {
-  runners = λ r here. (subst (λ (xs : List Runner). r < length xs) runners here, ap
-      (λ (xs : List Runner). unwrap_or (option_map (λ declared. declared.traits.may_block) (slice_get xs r)) false) (sym runners));
+  runners = λ r here. (
+    subst (λ (xs : List Runner). r < length xs) runners here,
+    ap
+        (λ (xs : List Runner). unwrap_or (option_map (λ declared. declared.traits.may_block) (slice_get xs r)) false) (sym runners),
+  );
   queues = λ q here. subst (λ (xs : List MainQueue). q < length xs) queues here;
-  tasks = λ t here. (subst (λ (xs : List (List Step)). t < length xs) tasks here, ap (λ (xs : List (List Step)). list_any is_block (slice_index_or xs t []))
-      (sym tasks));
+  tasks = λ t here. (
+    subst (λ (xs : List (List Step)). t < length xs) tasks here,
+    ap (λ (xs : List (List Step)). list_any is_block (slice_index_or xs t []))
+        (sym tasks),
+  );
 }
 
 -- ---- configuration
@@ -161,7 +167,7 @@ pub keeps_workers : (d d' : Draft) (words : List (List ℕ)) → Keeps d → wor
 unfolding workers_line
 keeps_workers d d' words sound e =
     let g = line_ok (number_at 1 MOST_WORKERS words 0 & ends_at words 1) (λ p. (not (is_bare d), declaration_late) ∷ (is_some d.workers, config_twice) ∷ [])
-        (λ p. record d { workers = Some p.0 }) d' e in
+    (λ p. record d { workers = Some p.0 }) d' e in
     let n = number_at-within 1 MOST_WORKERS words 0 g.0.0 (both_ok (number_at 1 MOST_WORKERS words 0) (ends_at words 1) g.0.0 g.0.1 g.1).0 in
     subst Keeps g.3 (with_config d (Some g.0.0) d.groups d.threshold (not-false (is_bare d) g.2.0) (assumption) sound)
 
@@ -173,8 +179,8 @@ keeps_groups d d' words sound e =
     let fb_at = number_at 1 64 words 1 in
     let b_at = number_at 0 64 words 2 in
     let g = line_ok (f_at & fb_at & b_at & ends_at words 3) (λ p. (nat_lt p.0 p.1.0, out_of_range) ∷ (not (is_bare d), declaration_late) ∷
-        (is_some d.groups, config_twice) ∷ []) (λ p. record d { groups = Some (record { foreground = p.0; foreground_best = p.1.0; background = p.1.1.0 }) })
-        d' e in
+    (is_some d.groups, config_twice) ∷ []) (λ p. record d { groups = Some (record { foreground = p.0; foreground_best = p.1.0; background = p.1.1.0 }) })
+    d' e in
     let b0 = both_ok f_at (fb_at & b_at & ends_at words 3) g.0.0 g.0.1 g.1 in
     let b1 = both_ok fb_at (b_at & ends_at words 3) g.0.1.0 g.0.1.1 b0.1 in
     let b2 = both_ok b_at (ends_at words 3) g.0.1.1.0 g.0.1.1.1 b1.1 in
@@ -190,7 +196,7 @@ pub keeps_threshold : (d d' : Draft) (words : List (List ℕ)) → Keeps d → t
 unfolding threshold_line
 keeps_threshold d d' words sound e =
     let g = line_ok (time_at words 0 & ends_at words 1) (λ p. (not (is_bare d), declaration_late) ∷ (is_some d.threshold, config_twice) ∷ [])
-        (λ p. record d { threshold = Some p.0 }) d' e in
+    (λ p. record d { threshold = Some p.0 }) d' e in
     let u = number_at-within 0 MOST_MICROSECONDS words 0 g.0.0 (both_ok (time_at words 0) (ends_at words 1) g.0.0 g.0.1 g.1).0 in
     subst Keeps g.3 (with_config d d.workers d.groups (Some g.0.0) (not-false (is_bare d) g.2.0) (assumption) sound)
 
@@ -232,7 +238,7 @@ keeps_runner d d' words sound e =
     let rest1 = said_at kind_named words 1 & rest2 in
     let g = line_ok (id_at words 0 & rest1)
     (λ p. (not (p.0 == length d.runners), out_of_order) ∷ (is_above_workers d p.1.0, undeclared) ∷ (not (has_no_actions d), declaration_late) ∷
-        (nat_lt MOST_RUNNERS (length d.runners + 1), too_many) ∷ [])
+    (nat_lt MOST_RUNNERS (length d.runners + 1), too_many) ∷ [])
     (λ p. record d { runners = d.runners ++ runner_made p.1.0 p.1.1.0 p.1.1.1.0 p.1.1.1.1.0 ∷ [] }) d' e in
     let b0 = both_ok (id_at words 0) rest1 g.0.0 g.0.1 g.1 in
     let b1 = both_ok (said_at kind_named words 1) rest2 g.0.1.0 g.0.1.1 b0.1 in
@@ -240,7 +246,7 @@ keeps_runner d d' words sound e =
     let made = runner_made g.0.1.0 g.0.1.1.0 g.0.1.1.1.0 g.0.1.1.1.1.0 in
     subst Keeps {x = record d { runners = d.runners ++ made ∷ [] }} g.3
     (with_runner d made (seat_there d g.0.1.0 (kind_named-within word.0 g.0.1.0 word.1) g.2.1.0) (nothing d.actions (not-false (has_no_actions d) g.2.1.1.0))
-        (ltb-false MOST_RUNNERS (length d.runners + 1) g.2.1.1.1.0) sound)
+    (ltb-false MOST_RUNNERS (length d.runners + 1) g.2.1.1.1.0) sound)
 
 with_queue : (d : Draft) (made : MainQueue) → IsQueueWithin made → d.actions ≡ [] → length d.queues + 1 ≤ MOST_QUEUES → Keeps d
     → Keeps (record d { queues = d.queues ++ made ∷ [] })
@@ -278,7 +284,7 @@ keeps_queue d d' words sound e =
     let made : MainQueue = record { class = g.0.1.0; voters = g.0.1.1.0 } in
     subst Keeps {x = record d { queues = d.queues ++ made ∷ [] }} g.3
     (with_queue d made (record { class_within = class.1; voters_within = voters.1 }) (nothing d.actions (not-false (has_no_actions d) g.2.1.0))
-        (ltb-false MOST_QUEUES (length d.queues + 1) g.2.1.1.0) sound)
+    (ltb-false MOST_QUEUES (length d.queues + 1) g.2.1.1.0) sound)
 
 -- ---- steps and postings
 
@@ -287,9 +293,15 @@ pub declared_runner_post : (d : Draft) (task runner delay : ℕ) → is_declared
     → is_bad_post d (PostStep task runner delay) ≡ false → (task < length d.tasks) × IsRunnerPost (script_of d) task runner
 declared_runner_post d task runner delay declared good =
     let both = and_parts (nat_lt task (length d.tasks)) (nat_lt runner (length d.runners)) declared in
-    let here = ltb-true task (length d.tasks) both.0 in
-    (here, record { task_declared = here; runner_declared = ltb-true runner (length d.runners) both.1; may_block = may (opens_scope d.tasks task)
-        (may_block_on d.runners runner) good })
+    let here = ltb-true task (length d.tasks) both.0 in (
+      here,
+      record {
+        task_declared = here;
+        runner_declared = ltb-true runner (length d.runners) both.1;
+        may_block = may (opens_scope d.tasks task)
+            (may_block_on d.runners runner) good;
+      },
+    )
   where
     may : (opens takes : Bool) → (opens && not takes) ≡ false → opens ≡ true → takes ≡ true
     may true true h o = refl
@@ -361,20 +373,24 @@ unfolding task_line
 keeps_task d d' words sound e =
     let g = line_ok (id_at words 0 & steps_read (drop 1 words))
     (λ p. (not (p.0 == length d.tasks), out_of_order) ∷ (not (list_all (is_declared d) p.1), undeclared) ∷
-        (is_any_posted (posted_in d) (flat_map posts_of_step p.1), posted_twice) ∷ (not (has_no_actions d), declaration_late) ∷
-        (has_bad_scopes false p.1, bad_block) ∷ (list_any (is_bad_post d) p.1, bad_block)
+    (is_any_posted (posted_in d) (flat_map posts_of_step p.1), posted_twice) ∷ (not (has_no_actions d), declaration_late) ∷
+    (has_bad_scopes false p.1, bad_block) ∷ (list_any (is_bad_post d) p.1, bad_block)
     ∷ (nat_lt MOST_TASKS (length d.tasks + 1), too_many) ∷ (nat_lt MOST_STEPS (steps_in d + length p.1), too_many) ∷
-        (nat_lt MOST_EVENTS (events_in d + events_of_task p.1), too_many) ∷ [])
+    (nat_lt MOST_EVENTS (events_in d + events_of_task p.1), too_many) ∷ [])
     (λ p. record d { tasks = d.tasks ++ p.1 ∷ [] }) d' e in
     let both = both_ok (id_at words 0) (steps_read (drop 1 words)) g.0.0 g.0.1 g.1 in
     let steps = g.0.1 in
     let declared = g.2.1 in let fresh = declared.1 in let late = fresh.1 in let scopes = late.1 in let good = scopes.1 in let count_room = good.1 in
-        let steps_room = count_room.1 in let events_room = steps_room.1 in
+    let steps_room = count_room.1 in let events_room = steps_room.1 in
     subst Keeps {x = record d { tasks = d.tasks ++ steps ∷ [] }} g.3
-    (with_task d steps (record { steps_within = steps_read-within (drop 1 words) steps both.1; steps_sound = steps_sound d steps
-        (not-false (list_all (is_declared d) steps) declared.0) good.0; scopes_in_turn = scopes.0 })
+    (with_task d steps (record {
+      steps_within = steps_read-within (drop 1 words) steps both.1;
+      steps_sound = steps_sound d steps
+          (not-false (list_all (is_declared d) steps) declared.0) good.0;
+      scopes_in_turn = scopes.0;
+    })
     fresh.0 (nothing d.actions (not-false (has_no_actions d) late.0)) (ltb-false MOST_TASKS (length d.tasks + 1) count_room.0)
-        (ltb-false MOST_STEPS (steps_in d + length steps) steps_room.0) (ltb-false MOST_EVENTS (events_in d + events_of_task steps) events_room.0) sound)
+    (ltb-false MOST_STEPS (steps_in d + length steps) steps_room.0) (ltb-false MOST_EVENTS (events_in d + events_of_task steps) events_room.0) sound)
 
 with_job : (d : Draft) (job : JobPlan) → IsJobSound job → d.actions ≡ [] → length d.jobs + 1 ≤ MOST_JOBS → items_in d + job.items ≤ MOST_ITEMS
     → steps_in d + length job.steps ≤ MOST_STEPS → events_in d + events_of_job job ≤ MOST_EVENTS → Keeps d → Keeps (record d { jobs = d.jobs ++ job ∷ [] })
@@ -417,11 +433,11 @@ keeps_job d d' words sound e =
     (λ p.
     let steps = p.1.1.1.1.1 in
     (not (p.0 == length d.jobs), out_of_order) ∷ (not (list_all (is_declared d) steps), undeclared) ∷
-        (is_any_posted (posted_in d) (flat_map posts_of_step steps), posted_twice) ∷ (not (has_no_actions d), declaration_late) ∷
-        (list_any (is_bad_post d) steps, bad_block) ∷ (list_any is_act steps, job_use)
+    (is_any_posted (posted_in d) (flat_map posts_of_step steps), posted_twice) ∷ (not (has_no_actions d), declaration_late) ∷
+    (list_any (is_bad_post d) steps, bad_block) ∷ (list_any is_act steps, job_use)
     ∷ (nat_lt MOST_JOBS (length d.jobs + 1), too_many) ∷ (nat_lt MOST_ITEMS (items_in d + p.1.1.1.0), too_many) ∷
-        (nat_lt MOST_STEPS (steps_in d + length steps), too_many) ∷
-        (nat_lt MOST_EVENTS (events_in d + events_of_job (job_made p.1.0 p.1.1.0 p.1.1.1.0 p.1.1.1.1.0 steps)), too_many) ∷ [])
+    (nat_lt MOST_STEPS (steps_in d + length steps), too_many) ∷
+    (nat_lt MOST_EVENTS (events_in d + events_of_job (job_made p.1.0 p.1.1.0 p.1.1.1.0 p.1.1.1.1.0 steps)), too_many) ∷ [])
     (λ p. record d { jobs = d.jobs ++ job_made p.1.0 p.1.1.0 p.1.1.1.0 p.1.1.1.1.0 p.1.1.1.1.1 ∷ [] }) d' e in
     let b0 = both_ok (id_at words 0) rest1 g.0.0 g.0.1 g.1 in
     let b1 = both_ok (said_at priority_named words 1) rest2 g.0.1.0 g.0.1.1 b0.1 in
@@ -433,10 +449,16 @@ keeps_job d d' words sound e =
     let steps = g.0.1.1.1.1.1 in
     let job = job_made g.0.1.0 g.0.1.1.0 g.0.1.1.1.0 g.0.1.1.1.1.0 steps in
     let late = g.2.1.1.1 in let computes = late.1.1 in let count_room = computes.1 in let items_room = count_room.1 in let steps_room = items_room.1 in
-        let events_room = steps_room.1 in
+    let events_room = steps_room.1 in
     subst Keeps {x = record d { jobs = d.jobs ++ job ∷ [] }} g.3
-    (with_job d job (record { items_within = items.1; some_cap = cap.0; cap_within = cap.1; steps_within = steps_read-within
-        (drop 5 words) steps b4.1; steps_compute = computes.0 })
+    (with_job d job (record {
+      items_within = items.1;
+      some_cap = cap.0;
+      cap_within = cap.1;
+      steps_within = steps_read-within
+          (drop 5 words) steps b4.1;
+      steps_compute = computes.0;
+    })
     (nothing d.actions (not-false (has_no_actions d) late.0)) (ltb-false MOST_JOBS (length d.jobs + 1) count_room.0)
-        (ltb-false MOST_ITEMS (items_in d + job.items) items_room.0) (ltb-false MOST_STEPS (steps_in d + length steps) steps_room.0)
-        (ltb-false MOST_EVENTS (events_in d + events_of_job job) events_room.0) sound)
+    (ltb-false MOST_ITEMS (items_in d + job.items) items_room.0) (ltb-false MOST_STEPS (steps_in d + length steps) steps_room.0)
+    (ltb-false MOST_EVENTS (events_in d + events_of_job job) events_room.0) sound)

@@ -1,5 +1,5 @@
 -- The first fault is that of the first bad line, behind the draft that the lines before it give.
-use Rattle.std.proofs.Common.{◌≡◌, ℕ, zero, suc, ◌+◌, List, [], ◌∷◌, take, refl, sym, ap, subst, ◌∙◌, Option, Some, None, Result, Ok, Err, arith}
+use Rattle.std.proofs.Common.{◌≡◌, ℕ, zero, suc, ◌+◌, List, [], ◌∷◌, take, refl, ap, ◌∙◌, Option, Some, None, Result, Ok, Err, arith}
 use Rattle.std.specs.Prelude.{slice_get}
 use Rattle.std.specs.Result.{result_err}
 use Rattle.script_model.specs.Words.{lines_of}
@@ -58,9 +58,18 @@ only d n (line ∷ lines) m reason e = first (line_read d line) refl e (λ next 
         let bad = go next h in
         let behind = bad.2 in
         let goes : lines_read d n (take (suc bad.0) (line ∷ lines)) ≡ lines_read next (n + 1) (take bad.0 lines) =
-        ap (λ (r : Result Draft ℕ). at_line n r >>= λ next. lines_read next (n + 1) (take bad.0 lines)) is in
-        (suc bad.0, omega (arith, bad.1), record { draft = behind.draft; line = behind.line; before = goes
-            ∙ behind.before; here = behind.here; fault = behind.fault })
+        ap (λ (r : Result Draft ℕ). at_line n r >>= λ next. lines_read next (n + 1) (take bad.0 lines)) is in (
+          suc bad.0,
+          omega (arith, bad.1),
+          record {
+            draft = behind.draft;
+            line = behind.line;
+            before = goes
+                ∙ behind.before;
+            here = behind.here;
+            fault = behind.fault;
+          },
+        )
     first (Err r) is h go =
         let same : ◌≡◌ {A = ℕ × ℕ} (n, r) (m, reason) = err_same {A = Draft} (n, r) (m, reason) h in
         let place : n ≡ m = ap (λ (p : ℕ × ℕ). p.0) same in
@@ -76,7 +85,7 @@ pub first_fault-found : (bytes : List ℕ) (k reason : ℕ) → IsFaultBehind by
 unfolding script_read
 first_fault-found bytes k reason bad =
     let fault = found empty_draft 1 (lines_of bytes) k reason
-        (record { draft = bad.draft; line = bad.line; before = bad.before; here = bad.here; fault = bad.fault }) in
+    (record { draft = bad.draft; line = bad.line; before = bad.before; here = bad.here; fault = bad.fault }) in
     let place : 1 + k ≡ k + 1 = omega arith in
     rw (fault, place) refl
 

@@ -1,9 +1,8 @@
 -- Each line of the canonical text is read, behind those before it, as what it is made from.
-use Rattle.std.proofs.Common.{◌≡◌, ℕ, ◌+◌, ◌<◌, ◌≤◌, Bool, true, false, cond, eqb, List, [], ◌∷◌, ◌++◌, length, drop, map, refl, sym, ap, subst, ◌∙◌, Some, Result, Ok, Err, arith, append_assoc}
-use Rattle.std.specs.Prelude.{not, ◌&&◌, ◌||◌, ◌==◌, nat_lt, flat_map, decimal, codes, slice_get, slice_index_or}
+use Rattle.std.proofs.Common.{◌≡◌, ℕ, ◌+◌, ◌<◌, ◌≤◌, Bool, true, false, List, [], ◌∷◌, ◌++◌, length, map, refl, sym, ap, subst, ◌∙◌, Some, Result, Ok, Err, arith, append_assoc}
+use Rattle.std.specs.Prelude.{not, ◌&&◌, decimal, codes, slice_get, slice_index_or}
 use Rattle.std.specs.List.{list_all, list_any, AllByRecursion, sum_by}
 use Rattle.std.proofs.lemmas.Bool.{lt-ltb, le-ltb, not-true, or_parts}
-use Rattle.std.proofs.lemmas.Grind.{flat_map-append}
 use Rattle.std.proofs.lemmas.List.{append-nil, length-append}
 use Rattle.std.proofs.lemmas.List.Concat.{flat_map-cons}
 use Rattle.std.proofs.lemmas.List.Sums.{sum_by-append, sum_by-cons}
@@ -17,25 +16,23 @@ use Rattle.task_base.specs.declared.script.RunnerKind.{RunnerKind}
 use Rattle.task_base.specs.declared.script.RunnerKind.TheVariants.{Parallel, Sequenced, Single}
 use Rattle.task_base.specs.declared.script.MainQueue.{MainQueue}
 use Rattle.task_base.specs.declared.script.Action.{Action}
-use Rattle.list_laws.specs.Lists.{count}
-use Rattle.script_model.specs.Words.{begins_comment, is_all_ascii}
-use Rattle.script_model.specs.Reasons.{◌>>◌, ◌&◌, refuse, not_ascii, word_count, out_of_range, out_of_order, undeclared, posted_twice, declaration_late, bad_block, job_use, config_twice, too_many}
-use Rattle.script_model.specs.Places.{said_at, ends_at, number_at, id_at, time_at, priority_named, behaviour_named, kind_named, may_block_at, steps_read}
+use Rattle.script_model.specs.Words.{begins_comment}
+use Rattle.script_model.specs.Reasons.{word_count}
+use Rattle.script_model.specs.Places.{ends_at, may_block_at}
 use Rattle.script_model.specs.Bound.{events_of_task, events_of_job}
-use Rattle.script_model.specs.Postings.{posts_of_step, posts_of_action, postings, times, IsPostedOnce}
-use Rattle.script_model.specs.Draft.{Draft, empty_draft, script_of, has_no_actions, is_bare, is_above_workers, is_declared, posted_in, is_any_posted, has_bad_scopes, is_bad_post, is_block, items_in, steps_in, events_in, opens_scope, may_block_on}
+use Rattle.script_model.specs.Postings.{posts_of_step, IsPostedOnce}
+use Rattle.script_model.specs.Draft.{Draft, empty_draft, script_of, is_above_workers, is_declared, posted_in, is_any_posted, is_bad_post, is_block, items_in, steps_in, events_in, opens_scope, may_block_on}
 use Rattle.task_base.specs.declared.limits.TheConstants.{MOST_WORKERS, MOST_RUNNERS, MOST_QUEUES, MOST_TASKS, MOST_JOBS, MOST_ITEMS, MOST_STEPS, MOST_EVENTS}
 use Rattle.script_model.specs.Lines.{workers_line, groups_line, threshold_line, runner_line, queue_line, task_line, job_line, command_read, words_read, line_read}
 use Rattle.script_model.specs.Grammar.{lines_read, script_read}
-use Rattle.script_model.specs.Canonical.{priority_word, behaviour_word, kind_word, steps_words, may_block_words, runner_words, queue_words, task_words, job_words, config_lines, numbered}
+use Rattle.script_model.specs.Canonical.{priority_word, behaviour_word, kind_word, may_block_words, runner_words, queue_words, task_words, job_words, config_lines, numbered}
 use Rattle.script_model.specs.Laws.Sound.{IsSound, IsConfigSound, IsSeatThere, IsQueueWithin, IsStepWithin, IsStepSound, IsTaskSound, IsJobSound}
-use Rattle.list_laws.proofs.Lists.{eqb-same, count-append, count-cons, AllByRecursion-back}
+use Rattle.list_laws.proofs.Lists.{eqb-same, AllByRecursion-back}
 use Rattle.script_model.proofs.Laws.Parts.{IsSeatWithin}
 use Rattle.script_model.proofs.Laws.Postings.{posts_of_task, posted_parts, posted_in_parts, posted_at, not_posted}
-use Rattle.script_model.proofs.Laws.Declarations.{runner_made, job_made}
 use Rattle.script_model.proofs.Laws.Texts.{is_plain_word, line_of, text_of, line_is_ascii, words_of-line, lines_of-text}
 use Rattle.script_model.proofs.Laws.Words.{number_is, id_is, time_is, plain_id, plain_time, priority_is, priority_plain, behaviour_is, behaviour_plain, kind_is, kind_plain, may_block_plain, IsStepReadable, steps_are, steps_plain}
-use Rattle.list_laws.proofs.Elements.{none_from_count, slice_get_seam}
+use Rattle.list_laws.proofs.Elements.{slice_get_seam}
 
 -- ---- lines behind one another
 
@@ -160,12 +157,20 @@ unfolding command_read groups_line
 groups_read s config =
     let best : s.foreground_best ≤ 64 = omega (arith, config.best_within, config.few_foreground) in
     record {
-      reads = rw (number_is 1 64 s.foreground config.some_foreground config.few_foreground (omega arith), number_is 1 64 s.foreground_best config.some_best
-          best (omega arith), number_is 0 64 s.background (omega arith) config.few_background (omega arith), le-ltb s.foreground s.foreground_best
-          config.best_within) refl;
+      reads = rw (
+        number_is 1 64 s.foreground config.some_foreground config.few_foreground (omega arith),
+        number_is 1 64 s.foreground_best config.some_best
+            best (omega arith),
+        number_is 0 64 s.background (omega arith) config.few_background (omega arith),
+        le-ltb s.foreground s.foreground_best
+            config.best_within,
+      ) refl;
       starts = refl;
-      plain = rw (plain_id s.foreground (omega (arith, config.few_foreground)), plain_id s.foreground_best (omega (arith, best)),
-          plain_id s.background (omega (arith, config.few_background))) refl;
+      plain = rw (
+        plain_id s.foreground (omega (arith, config.few_foreground)),
+        plain_id s.foreground_best (omega (arith, best)),
+        plain_id s.background (omega (arith, config.few_background)),
+      ) refl;
     }
 
 threshold_read : (s : Plan) → IsConfigSound s
@@ -220,10 +225,17 @@ runner_read s sound done runner rest e =
     let readable = seat_readable s sound.config.few_workers kind seat in
     let d = draft_at s done [] [] [] [] in
     record {
-      reads = rw (id_is (length done) id, kind_is kind readable, priority_is priority, behaviour_is behaviour,
-          may_block_is (decimal (length done)) (kind_word kind) (priority_word priority) (behaviour_word behaviour) may_block,
-          may_block_ends (decimal (length done)) (kind_word kind) (priority_word priority) (behaviour_word behaviour) may_block, eqb-same (length done),
-          seat_below d kind (seat_same s (script_of d) refl kind seat), le-ltb MOST_RUNNERS (length done + 1) few) refl;
+      reads = rw (
+        id_is (length done) id,
+        kind_is kind readable,
+        priority_is priority,
+        behaviour_is behaviour,
+        may_block_is (decimal (length done)) (kind_word kind) (priority_word priority) (behaviour_word behaviour) may_block,
+        may_block_ends (decimal (length done)) (kind_word kind) (priority_word priority) (behaviour_word behaviour) may_block,
+        eqb-same (length done),
+        seat_below d kind (seat_same s (script_of d) refl kind seat),
+        le-ltb MOST_RUNNERS (length done + 1) few,
+      ) refl;
       starts = refl;
       plain = rw (plain_id (length done) id, kind_plain kind readable, priority_plain priority, behaviour_plain behaviour, may_block_plain may_block) refl;
     }
@@ -236,11 +248,21 @@ queue_read s sound done queue rest e =
     let id : length done ≤ 65536 = omega (arith, few) in
     let within : IsQueueWithin queue = all_at IsQueueWithin done queue rest s.queues e sound.declarations.queues_within in
     record {
-      reads = rw (id_is (length done) id, number_is 0 7 queue.class (omega arith) within.class_within (omega arith), number_is 0 16 queue.voters
-          (omega arith) within.voters_within (omega arith), eqb-same (length done), le-ltb MOST_QUEUES (length done + 1) few) refl;
+      reads = rw (
+        id_is (length done) id,
+        number_is 0 7 queue.class (omega arith) within.class_within (omega arith),
+        number_is 0 16 queue.voters
+            (omega arith) within.voters_within (omega arith),
+        eqb-same (length done),
+        le-ltb MOST_QUEUES (length done + 1) few,
+      ) refl;
       starts = refl;
-      plain = rw (plain_id (length done) id, plain_id queue.class (omega (arith, within.class_within)), plain_id queue.voters
-          (omega (arith, within.voters_within))) refl;
+      plain = rw (
+        plain_id (length done) id,
+        plain_id queue.class (omega (arith, within.class_within)),
+        plain_id queue.voters
+            (omega (arith, within.voters_within)),
+      ) refl;
     }
 
 -- ---- tasks
@@ -254,8 +276,10 @@ step_readable : (s : Plan) → IsSound s → (t : ℕ) → t ≤ 65536 → (step
 step_readable s sound t low (Add by) within h = within
 step_readable s sound t low (Mul by) within h = within
 step_readable s sound t low (Set to) within h = within
-step_readable s sound t low (PostStep task runner delay) within h = (omega (arith, low, h.0), omega (arith, h.1.runner_declared, sound.limits.few_runners), within)
-step_readable s sound t low (MainStep task queue delay) within h = (omega (arith, low, h.0), omega (arith, h.1.queue_declared, sound.limits.few_queues), within)
+step_readable s sound t low (PostStep task runner delay) within h =
+    (omega (arith, low, h.0), omega (arith, h.1.runner_declared, sound.limits.few_runners), within)
+step_readable s sound t low (MainStep task queue delay) within h =
+    (omega (arith, low, h.0), omega (arith, h.1.queue_declared, sound.limits.few_queues), within)
 step_readable s sound t low (Block scope) within h = tt
 step_readable s sound t low Unblock within h = tt
 
@@ -322,10 +346,18 @@ task_read s sound done steps rest e =
     let made : IsTaskSound s (length done) steps = sound.declarations.tasks_sound (length done) steps (get_at done steps rest s.tasks e) in
     let readable = steps_readable s sound (length done) id steps made.steps_within made.steps_sound in
     record {
-      reads = rw (id_is (length done) id, steps_are steps readable, eqb-same (length done), steps_declared s done steps made.steps_sound,
-          task_fresh s sound.once.posted_once done steps rest e, made.scopes_in_turn, steps_good s done (steps ∷ rest) e steps made.steps_sound,
-          le-ltb MOST_TASKS (length done + 1) few, le-ltb MOST_STEPS (steps_in d + length steps) few_steps,
-          le-ltb MOST_EVENTS (events_in d + events_of_task steps) few_events) refl;
+      reads = rw (
+        id_is (length done) id,
+        steps_are steps readable,
+        eqb-same (length done),
+        steps_declared s done steps made.steps_sound,
+        task_fresh s sound.once.posted_once done steps rest e,
+        made.scopes_in_turn,
+        steps_good s done (steps ∷ rest) e steps made.steps_sound,
+        le-ltb MOST_TASKS (length done + 1) few,
+        le-ltb MOST_STEPS (steps_in d + length steps) few_steps,
+        le-ltb MOST_EVENTS (events_in d + events_of_task steps) few_events,
+      ) refl;
       starts = refl;
       plain = rw (plain_id (length done) id, steps_plain steps readable) refl;
     }
@@ -359,7 +391,7 @@ computing_posts [] e = refl
 computing_posts (step ∷ steps) e =
     let both = or_parts (is_act step) (list_any is_act steps) e in
     rw (flat_map-cons posts_of_step step steps, computing (λ x. posts_of_step x ≡ []) (λ k. refl) (λ k. refl) (λ k. refl) step both.0)
-        (computing_posts steps both.1)
+    (computing_posts steps both.1)
 
 computing_readable : (steps : List Step) → AllByRecursion IsStepWithin steps → list_any is_act steps ≡ false → AllByRecursion IsStepReadable steps
 computing_readable [] within e = tt
@@ -383,13 +415,30 @@ job_read s sound done job rest e =
     let made : IsJobSound job = all_at IsJobSound done job rest s.jobs e sound.declarations.jobs_sound in
     let readable = computing_readable steps made.steps_within made.steps_compute in
     record {
-      reads = rw (id_is (length done) id, priority_is job.priority, behaviour_is job.behaviour,
-          number_is 0 65536 job.items (omega arith) made.items_within (omega arith), number_is 1 64 job.cap made.some_cap made.cap_within (omega arith),
-          steps_are steps readable, eqb-same (length done), computing_declared d steps made.steps_compute, computing_posts steps made.steps_compute,
-          computing_good d steps made.steps_compute, made.steps_compute, le-ltb MOST_JOBS (length done + 1) few,
-          le-ltb MOST_ITEMS (items_in d + job.items) few_items, le-ltb MOST_STEPS (steps_in d + length steps) few_steps,
-          le-ltb MOST_EVENTS (events_in d + events_of_job job) few_events) refl;
+      reads = rw (
+        id_is (length done) id,
+        priority_is job.priority,
+        behaviour_is job.behaviour,
+        number_is 0 65536 job.items (omega arith) made.items_within (omega arith),
+        number_is 1 64 job.cap made.some_cap made.cap_within (omega arith),
+        steps_are steps readable,
+        eqb-same (length done),
+        computing_declared d steps made.steps_compute,
+        computing_posts steps made.steps_compute,
+        computing_good d steps made.steps_compute,
+        made.steps_compute,
+        le-ltb MOST_JOBS (length done + 1) few,
+        le-ltb MOST_ITEMS (items_in d + job.items) few_items,
+        le-ltb MOST_STEPS (steps_in d + length steps) few_steps,
+        le-ltb MOST_EVENTS (events_in d + events_of_job job) few_events,
+      ) refl;
       starts = refl;
-      plain = rw (plain_id (length done) id, priority_plain job.priority, behaviour_plain job.behaviour, plain_id job.items made.items_within,
-          plain_id job.cap (omega (arith, made.cap_within)), steps_plain steps readable) refl;
+      plain = rw (
+        plain_id (length done) id,
+        priority_plain job.priority,
+        behaviour_plain job.behaviour,
+        plain_id job.items made.items_within,
+        plain_id job.cap (omega (arith, made.cap_within)),
+        steps_plain steps readable,
+      ) refl;
     }

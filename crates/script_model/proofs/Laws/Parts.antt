@@ -1,15 +1,11 @@
 -- What a line that is read says of its places, and which refusals it passed.
-use Rattle.std.proofs.Common.{◌≡◌, ℕ, zero, suc, ◌+◌, ◌<◌, ◌≤◌, Bool, true, false, cond, eqb, ltb, leb, List, [], ◌∷◌, ◌++◌, length, drop, map, refl, ap, subst, ◌∙◌, Option, Some, None, Result, Ok, Err, arith, inl, inr}
-use Rattle.std.specs.Prelude.{◌-◌, ◌^◌, take, not, ◌&&◌, ◌||◌, codes, slice_get, ◌⊎◌}
-use Rattle.std.specs.List.{list_any, AllByRecursion, slice_split}
+use Rattle.std.proofs.Common.{◌≡◌, ℕ, ◌≤◌, Bool, true, false, cond, eqb, ltb, leb, List, [], ◌∷◌, length, drop, map, refl, ap, subst, Option, Some, None, Result, Ok, Err, arith}
+use Rattle.std.specs.Prelude.{◌-◌, ◌^◌, take, ◌&&◌, codes, slice_get}
+use Rattle.std.specs.List.{AllByRecursion, slice_split}
 use Rattle.std.proofs.lemmas.Bool.Decides.{nat_tests}
-use Rattle.std.proofs.lemmas.Bool.{eqb-true, or_parts}
-use Rattle.list_laws.specs.Lists.{count}
+use Rattle.std.proofs.lemmas.Bool.{eqb-true}
 use Rattle.task_base.specs.declared.limits.TheConstants.{MOST_WORKERS, MOST_MICROSECONDS}
-use Rattle.script_model.specs.Postings.{times}
-use Rattle.script_model.specs.Draft.{is_any_posted}
 use Rattle.script_model.proofs.Laws.Faults.{ok_same}
-use Rattle.list_laws.proofs.Lists.{count-cons}
 use Rattle.task_base.specs.declared.step.Step.{Step}
 use Rattle.task_base.specs.declared.step.Step.TheVariants.{Add, Mul, Set, Post, Main, Block, Unblock}
 use Rattle.task_base.specs.declared.script.RunnerKind.{RunnerKind}
@@ -18,7 +14,6 @@ use Rattle.script_model.specs.Words.{is_word, number_of}
 use Rattle.script_model.specs.Reasons.{◌>>=◌, ◌>>◌, ◌&◌, refuse, unknown_word, word_count, out_of_range}
 use Rattle.script_model.specs.Places.{said_at, ends_at, named, in_range, number_from, number_at, id_at, time_at, kind_named, scope_named, compute_read, post_read, block_read, step_said, step_read, all_read, steps_read}
 use Rattle.script_model.specs.Laws.Sound.{IsStepWithin}
-use Rattle.list_laws.proofs.Elements.{count_none}
 
 -- what comes first of two steps that give something, gives something
 pub bind_ok : {A B : Type 0} (r : Result A ℕ) (f : A → Result B ℕ) (y : B) → (r >>= f) ≡ Ok y → (x : A) × (r ≡ Ok x) × (f x ≡ Ok y)
@@ -113,10 +108,11 @@ IsSeatWithin Sequenced = Unit {0}
 
 pub kind_named-within : (word : List ℕ) (kind : RunnerKind) → kind_named word ≡ Ok kind → IsSeatWithin kind
 unfolding kind_named
-kind_named-within word kind e = either_way IsSeatWithin (is_word (take 7 word) (codes "single:")) (number_from 1 MOST_WORKERS (drop 7 word) >>= λ seat. Ok (Single seat))
+kind_named-within word kind e = either_way IsSeatWithin (is_word (take 7 word) (codes "single:"))
+    (number_from 1 MOST_WORKERS (drop 7 word) >>= λ seat. Ok (Single seat))
     (named ((codes "parallel", Parallel) ∷ (codes "sequenced", Sequenced) ∷ []) word)
     (λ x h. let seat = bind_ok (number_from 1 MOST_WORKERS (drop 7 word)) (λ seat. Ok (Single seat)) x h in
-        subst IsSeatWithin (ok_same {E = ℕ} (Single seat.0) x seat.2) (number_from-within 1 64 (drop 7 word) seat.0 seat.1))
+    subst IsSeatWithin (ok_same {E = ℕ} (Single seat.0) x seat.2) (number_from-within 1 64 (drop 7 word) seat.0 seat.1))
     (named_all IsSeatWithin ((codes "parallel", Parallel) ∷ (codes "sequenced", Sequenced) ∷ []) word (tt, (tt, tt))) kind e
 
 compute_within : (made : ℕ → Step) → ((k : ℕ) → k ≤ 2 ^ 64 - 1 → IsStepWithin (made k)) → (words : List (List ℕ)) (step : Step)
@@ -134,7 +130,7 @@ post_within made f words step e =
     let b1 = both_ok (id_at words 1) (time_at words 2 & ends_at words 3) p.0.1.0 p.0.1.1 b0.1 in
     let b2 = both_ok (time_at words 2) (ends_at words 3) p.0.1.1.0 p.0.1.1.1 b1.1 in
     subst IsStepWithin (ok_same {E = ℕ} (made p.0.0 p.0.1.0 p.0.1.1.0) step p.2)
-        (f p.0.0 p.0.1.0 p.0.1.1.0 (number_at-within 0 MOST_MICROSECONDS words 2 p.0.1.1.0 b2.0).1)
+    (f p.0.0 p.0.1.0 p.0.1.1.0 (number_at-within 0 MOST_MICROSECONDS words 2 p.0.1.1.0 b2.0).1)
 
 block_within : (words : List (List ℕ)) (step : Step) → block_read words ≡ Ok step → IsStepWithin step
 block_within words step e =
@@ -159,7 +155,7 @@ step_said-within name words step e =
     (either_way IsStepWithin (is_word name (codes "main")) (post_read Main words) _ (post_within Main (λ t h u k. k) words)
     (either_way IsStepWithin (is_word name (codes "block")) (block_read words) _ (block_within words)
     (either_way IsStepWithin (is_word name (codes "unblock")) (ends_at words 0 >> Ok Unblock) (Err unknown_word) (unblock_within words)
-        (none_such IsStepWithin unknown_word))))))) step e
+    (none_such IsStepWithin unknown_word))))))) step e
 
 step_within : (words : List (List ℕ)) (step : Step) → step_read words ≡ Ok step → IsStepWithin step
 step_within [] step e = absurd cc

@@ -1,5 +1,5 @@
 -- How often the parts of a script post a task, and that a task that was not posted is posted once with one more.
-use Rattle.std.proofs.Common.{◌≡◌, ℕ, ◌+◌, ◌≤◌, Bool, true, false, cond, eqb, List, [], ◌∷◌, ◌++◌, subst, sym, ap, ◌∙◌, refl, inl, inr, arith}
+use Rattle.std.proofs.Common.{◌≡◌, ℕ, ◌+◌, ◌≤◌, false, eqb, List, [], ◌∷◌, ◌++◌, subst, sym, ap, ◌∙◌, refl, inl, inr, arith}
 use Rattle.std.specs.Prelude.{flat_map}
 use Rattle.std.specs.List.{list_any}
 use Rattle.std.proofs.lemmas.Bool.{cases_Bool, cond-true, cond-false, eqb-true, or_parts, or_from}
@@ -33,8 +33,12 @@ posted_in_parts d t = count-append (λ u. eqb u t) (flat_map posts_of_task d.tas
 pub posted_at : {A : Type 0} (f : A → List ℕ) (done : List A) (x : A) (rest all : List A) → done ++ x ∷ rest ≡ all → (t : ℕ)
     → times t (flat_map f all) ≡ times t (flat_map f done) + (times t (f x) + times t (flat_map f rest))
 posted_at f done x rest all e t =
-    rw (← e, flat_map-append f done (x ∷ rest), flat_map-cons f x rest) (omega (arith, count-append (λ u. eqb u t) (flat_map f done)
-        (f x ++ flat_map f rest), count-append (λ u. eqb u t) (f x) (flat_map f rest)))
+    rw (← e, flat_map-append f done (x ∷ rest), flat_map-cons f x rest) (omega (
+      arith,
+      count-append (λ u. eqb u t) (flat_map f done)
+          (f x ++ flat_map f rest),
+      count-append (λ u. eqb u t) (f x) (flat_map f rest),
+    ))
 
 -- those of a list with one more
 times_push : {A : Type 0} (f : A → List ℕ) (xs : List A) (x : A) (t : ℕ) → times t (flat_map f (xs ++ x ∷ [])) ≡ times t (flat_map f xs) + times t (f x)
@@ -64,7 +68,7 @@ not_posted earlier (u ∷ new) once =
     let here = count-cons (λ v. eqb v u) u new in
     let none : times u earlier ≡ 0 = omega (arith, here, cond-true {A = ℕ} (eqb u u) 1 0 (eqb-same u), once u) in
     or_from (list_any (λ v. eqb v u) earlier) (is_any_posted (u ∷ earlier) new) (none_from_count (λ v. eqb v u) earlier none)
-        (not_posted (u ∷ earlier) new (λ t. omega (arith, count-cons (λ v. eqb v t) u earlier, count-cons (λ v. eqb v t) u new, once t)))
+    (not_posted (u ∷ earlier) new (λ t. omega (arith, count-cons (λ v. eqb v t) u earlier, count-cons (λ v. eqb v t) u new, once t)))
 
 -- new postings behind those of a draft
 once_more : (d : Draft) (new : List ℕ) (t : ℕ) → is_any_posted (posted_in d) new ≡ false → times t (postings (script_of d)) ≤ 1

@@ -1,6 +1,6 @@
 -- Every script that is read is sound: each action, and so each line, keeps it so.
-use Rattle.std.proofs.Common.{◌≡◌, ℕ, ◌+◌, ◌<◌, ◌≤◌, Bool, true, false, cond, List, [], ◌∷◌, ◌++◌, length, take, refl, sym, ap, subst, ◌∙◌, inl, inr, Option, Some, None, Result, Ok, Err, arith}
-use Rattle.std.specs.Prelude.{◌^◌, not, nat_lt, slice_get, option_map, unwrap_or, codes}
+use Rattle.std.proofs.Common.{◌≡◌, ℕ, ◌+◌, ◌<◌, ◌≤◌, Bool, true, false, List, [], ◌∷◌, ◌++◌, length, take, refl, sym, ap, subst, ◌∙◌, inl, inr, Option, Some, None, Result, Ok, Err, arith}
+use Rattle.std.specs.Prelude.{not, nat_lt, slice_get, option_map, unwrap_or, codes}
 use Rattle.std.specs.List.{list_any}
 use Rattle.std.proofs.lemmas.Bool.{eqb-true, ltb-false, ltb-true, not-false}
 use Rattle.std.proofs.lemmas.List.Sums.{sum_by_push}
@@ -25,8 +25,8 @@ use Rattle.script_model.specs.Lines.{workers_line, groups_line, threshold_line, 
 use Rattle.script_model.specs.Grammar.{lines_read, script_read, Reads}
 use Rattle.script_model.specs.Laws.Sound.{IsSound, IsActionSound, IsInOrder}
 use Rattle.script_model.proofs.Laws.Faults.{ok_same, first_ok}
-use Rattle.list_laws.proofs.Lists.{count-append, count-cons, AllByRecursion-map}
-use Rattle.script_model.proofs.Laws.Parts.{either_way, none_such, both_ok, refuse_ok, Passed, behind_ok, line_ok, number_at-within, behind}
+use Rattle.list_laws.proofs.Lists.{AllByRecursion-map}
+use Rattle.script_model.proofs.Laws.Parts.{either_way, none_such, both_ok, refuse_ok, Passed, line_ok, number_at-within, behind}
 use Rattle.script_model.proofs.Laws.Postings.{posted_once_with_action}
 use Rattle.script_model.proofs.Laws.Declarations.{Keeps, runner_post_stays, queue_post_stays, task_stays, same_stays, keeps_workers, keeps_groups, keeps_threshold, keeps_runner, keeps_queue, declared_runner_post, declared_queue_post, keeps_task, keeps_job}
 use Rattle.list_laws.proofs.Elements.{AllByRecursion-push, count_once-push, slice_get_push}
@@ -46,10 +46,16 @@ room d action = (nat_lt MOST_TICKS (ticks_in d + ticks_of action), too_many) ∷
 
 action_stays : (d : Draft) (actions : List Action) (action : Action) → IsActionSound (script_of d) action
     → IsActionSound (script_of (record d { actions = actions })) action
-action_stays d actions (Post task runner delay) h = (runner_post_stays (script_of d) (script_of (record d { actions = actions })) task runner
-    (same_stays (script_of d) (script_of (record d { actions = actions })) refl refl refl) h.0, h.1)
-action_stays d actions (Main task queue delay) h = (queue_post_stays (script_of d) (script_of (record d { actions = actions })) task queue
-    (same_stays (script_of d) (script_of (record d { actions = actions })) refl refl refl) h.0, h.1)
+action_stays d actions (Post task runner delay) h = (
+  runner_post_stays (script_of d) (script_of (record d { actions = actions })) task runner
+      (same_stays (script_of d) (script_of (record d { actions = actions })) refl refl refl) h.0,
+  h.1,
+)
+action_stays d actions (Main task queue delay) h = (
+  queue_post_stays (script_of d) (script_of (record d { actions = actions })) task queue
+      (same_stays (script_of d) (script_of (record d { actions = actions })) refl refl refl) h.0,
+  h.1,
+)
 action_stays d actions (Tick count) h = h
 action_stays d actions (Policy policy) h = h
 action_stays d actions (Fence queue place) h = h
@@ -87,14 +93,15 @@ with_action d action made order fresh passed sound =
       };
       actions = record {
         each_sound = AllByRecursion-push (IsActionSound script) d.actions action
-            (AllByRecursion-map (IsActionSound (script_of d)) (IsActionSound script) d.actions (action_stays d (d.actions ++ action ∷ [])) sound.actions.each_sound)
+            (AllByRecursion-map (IsActionSound (script_of d)) (IsActionSound script) d.actions (action_stays d (d.actions ++ action ∷ []))
+            sound.actions.each_sound)
             (action_stays d (d.actions ++ action ∷ []) action made);
         in_order = λ k other h. elim (slice_get_push d.actions action k other h) [
           | inl old ↦ subst (λ (earlier : List Action). IsInOrder earlier other) (sym (take-append-le k d.actions (action ∷ []) (omega (arith, old.0))))
               (sound.actions.in_order k other old.1)
           | inr new ↦
               let all : take k (d.actions ++ action ∷ []) ≡ d.actions = ap (λ (n : ℕ). take n (d.actions ++ action ∷ [])) new.0
-                  ∙ take-append_seam d.actions (action ∷ []) in
+              ∙ take-append_seam d.actions (action ∷ []) in
               subst (λ (earlier : List Action). IsInOrder earlier other) (sym all) (subst (IsInOrder d.actions) new.1 order)
         ];
       };
@@ -114,7 +121,7 @@ passed-append (t ∷ tests) more passed = let rest = passed-append tests more pa
 keeps_acted : {A : Type 0} (d d' : Draft) (r : Result A ℕ) (tests : A → List (Bool × ℕ)) (action : A → Action) → Keeps d
     → (r >>= λ p. behind (tests p ++ room d (action p)) (Ok (record d { actions = d.actions ++ action p ∷ [] }))) ≡ Ok d'
     → ((p : A) → r ≡ Ok p → Passed (tests p)
-        → IsActionSound (script_of d) (action p) × IsInOrder d.actions (action p) × (is_any_posted (posted_in d) (posts_of_action (action p)) ≡ false))
+    → IsActionSound (script_of d) (action p) × IsInOrder d.actions (action p) × (is_any_posted (posted_in d) (posts_of_action (action p)) ≡ false))
     → Keeps d'
 keeps_acted d d' r tests action sound e good =
     let g = line_ok r (λ p. tests p ++ room d (action p)) (λ p. record d { actions = d.actions ++ action p ∷ [] }) d' e in

@@ -1,6 +1,6 @@
 -- Words of plain bytes, joined to lines and these to a text, are cut back into the same lines and words; numbers are
 -- read as they are written.
-use Rattle.std.proofs.Common.{◌≡◌, ℕ, zero, suc, ◌<◌, ◌≤◌, Bool, true, false, cond, eqb, ltb, leb, List, [], ◌∷◌, ◌++◌, length, take, map, refl, ap, ◌∙◌, Some, Ok, arith, append_assoc}
+use Rattle.std.proofs.Common.{◌≡◌, ℕ, zero, suc, ◌<◌, ◌≤◌, Bool, true, false, eqb, ltb, leb, List, [], ◌∷◌, ◌++◌, length, map, refl, ◌∙◌, Some, Ok, arith, append_assoc}
 use Rattle.std.specs.Prelude.{◌-◌, ◌^◌, not, ◌&&◌, filter, flat_map, slice_index, decimal, codes, All}
 use Rattle.std.specs.List.{list_all, slice_split, join_with_byte}
 use Rattle.std.specs.Str.{all_ascii_digits}
@@ -16,7 +16,7 @@ use Rattle.std.proofs.lemmas.List.Splits.{slice_split_none, slice_split_at}
 use Rattle.std.proofs.lemmas.Fmt.{digits_decimal, digits_value-decimal, decimal_nonempty, length-decimal-le}
 use Rattle.std.proofs.lemmas.Str.Parse.{IsNumeralModel, numerals_by_value, tells_all_ascii_digits}
 use Rattle.script_model.specs.Words.{is_word, lines_of, is_blank, words_of, is_all_ascii, number_of}
-use Rattle.script_model.specs.Places.{in_range, number_from}
+use Rattle.script_model.specs.Places.{number_from}
 
 -- ---- plain words
 
@@ -141,9 +141,13 @@ split_text [] e = refl
 split_text (words ∷ lines) e =
     let both = and_parts (list_all is_plain_word words) (list_all (list_all is_plain_word) lines) e in
     let cut = slice_split_at (λ b. eqb b 10) (line_of words) 10 (text_of lines)
-        (none_passes is_text (λ b. eqb b 10) (line_of words) text_no_end (line_is_text words both.0)) refl in
-    rw (flat_map-cons (λ (ws : List (List ℕ)). line_of ws ++ 10 ∷ []) words lines, append_assoc (line_of words) (10 ∷ []) (text_of lines), cut,
-        split_text lines both.1) refl
+    (none_passes is_text (λ b. eqb b 10) (line_of words) text_no_end (line_is_text words both.0)) refl in
+    rw (
+      flat_map-cons (λ (ws : List (List ℕ)). line_of ws ++ 10 ∷ []) words lines,
+      append_assoc (line_of words) (10 ∷ []) (text_of lines),
+      cut,
+      split_text lines both.1,
+    ) refl
 
 strip_lines : (lines : List (List (List ℕ))) → list_all (list_all is_plain_word) lines ≡ true
     → map strip_carriage_return (map line_of lines ++ [] ∷ []) ≡ map line_of lines ++ [] ∷ []

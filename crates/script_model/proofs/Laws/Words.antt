@@ -1,11 +1,10 @@
 -- The words that the canonical text has at the places of lines are read as what they are made from.
-use Rattle.std.proofs.Common.{◌≡◌, ℕ, ◌≤◌, Bool, true, false, List, [], ◌∷◌, ◌++◌, length, drop, map, refl, ap, ◌∙◌, Result, Ok, arith}
+use Rattle.std.proofs.Common.{◌≡◌, ℕ, ◌≤◌, Bool, true, false, List, [], ◌∷◌, ◌++◌, length, drop, map, refl, ap, ◌∙◌, Ok, arith}
 use Rattle.std.specs.Prelude.{◌-◌, ◌^◌, not, flat_map, decimal, codes, All}
 use Rattle.std.specs.List.{list_all, slice_split, AllByRecursion}
 use Rattle.std.proofs.lemmas.Bool.{lt-ltb, not-true}
 use Rattle.std.proofs.lemmas.List.{append-nil}
 use Rattle.std.proofs.lemmas.List.Concat.{flat_map-cons}
-use Rattle.std.proofs.lemmas.List.Elements.{All-nil, All-cons}
 use Rattle.std.proofs.lemmas.List.Folds.{list_all-append}
 use Rattle.std.proofs.lemmas.List.Splits.{slice_split_none, slice_split_at}
 use Rattle.task_traits.specs.declared.traits.Priority.{Priority}
@@ -24,11 +23,10 @@ use Rattle.task_base.specs.declared.script.FenceAt.{FenceAt}
 use Rattle.task_base.specs.declared.script.FenceAt.TheVariants.{Now, Start}
 use Rattle.task_base.specs.declared.limits.TheConstants.{MOST_WORKERS, MOST_MICROSECONDS}
 use Rattle.script_model.specs.Words.{is_word}
-use Rattle.script_model.specs.Reasons.{◌>>=◌, ◌&◌}
-use Rattle.script_model.specs.Places.{said_at, ends_at, number_from, number_at, id_at, time_at, priority_named, behaviour_named, policy_named, fence_named, vote_named, scope_named, kind_named, compute_read, post_read, step_said, step_read, all_read, steps_read}
+use Rattle.script_model.specs.Places.{number_from, priority_named, behaviour_named, policy_named, fence_named, vote_named, scope_named, kind_named, step_said, step_read, all_read, steps_read}
 use Rattle.log_model.specs.LogText.{policy_word, scope_word, fence_word, vote_word}
 use Rattle.script_model.specs.Canonical.{priority_word, behaviour_word, kind_word, step_words, steps_words, may_block_words}
-use Rattle.script_model.proofs.Laws.Parts.{IsSeatWithin, Passed, behind}
+use Rattle.script_model.proofs.Laws.Parts.{IsSeatWithin}
 use Rattle.script_model.proofs.Laws.Texts.{none_passes, is_plain_word, is_visible, number_from-decimal, decimal_plain, decimal_visible, decimal_no_mark}
 
 -- ---- numbers
@@ -176,8 +174,10 @@ no_marks : (step : Step) → IsStepReadable step → list_all (λ w. not (is_mar
 no_marks (Add by) h = rw (unmarked by h) refl
 no_marks (Mul by) h = rw (unmarked by h) refl
 no_marks (Set to) h = rw (unmarked to h) refl
-no_marks (PostStep task runner delay) h = rw (unmarked task (omega (arith, h.0)), unmarked runner (omega (arith, h.1)), unmarked delay (omega (arith, h.2))) refl
-no_marks (MainStep task queue delay) h = rw (unmarked task (omega (arith, h.0)), unmarked queue (omega (arith, h.1)), unmarked delay (omega (arith, h.2))) refl
+no_marks (PostStep task runner delay) h =
+    rw (unmarked task (omega (arith, h.0)), unmarked runner (omega (arith, h.1)), unmarked delay (omega (arith, h.2))) refl
+no_marks (MainStep task queue delay) h =
+    rw (unmarked task (omega (arith, h.0)), unmarked queue (omega (arith, h.1)), unmarked delay (omega (arith, h.2))) refl
 no_marks (Block scope) h = rw (scope_no_mark scope) refl
 no_marks Unblock h = refl
 
@@ -231,5 +231,9 @@ marked_plain (step ∷ steps) all = ap (list_all is_plain_word) (flat_map-cons (
 
 pub steps_plain : (steps : List Step) → AllByRecursion IsStepReadable steps → list_all is_plain_word (steps_words steps) ≡ true
 steps_plain [] all = refl
-steps_plain (step ∷ steps) all = rw (steps_words-cons step steps, list_all-append is_plain_word (step_words step) (marked steps), step_plain step all.0,
-    marked_plain steps all.1) refl
+steps_plain (step ∷ steps) all = rw (
+  steps_words-cons step steps,
+  list_all-append is_plain_word (step_words step) (marked steps),
+  step_plain step all.0,
+  marked_plain steps all.1,
+) refl

@@ -1,12 +1,11 @@
 -- The small form is part of the whole grammar: what a line, and all lines, give there is what they give here.
-use Rattle.std.proofs.Common.{◌≡◌, ℕ, ◌+◌, ◌*◌, ◌≤◌, Bool, true, false, cond, eqb, leb, ltb, List, [], ◌∷◌, ◌++◌, length, refl, sym, ap, subst, ◌∙◌, Option, Some, None, Result, Ok, arith}
-use Rattle.std.specs.Prelude.{not, ◌&&◌, ◌||◌, codes, is_none, is_some}
+use Rattle.std.proofs.Common.{◌≡◌, ℕ, ◌+◌, ◌*◌, ◌≤◌, Bool, true, false, cond, eqb, ltb, List, [], ◌∷◌, ◌++◌, length, refl, sym, ap, subst, ◌∙◌, Option, Some, None, Result, Ok, arith}
+use Rattle.std.specs.Prelude.{not, ◌||◌, codes, is_none, is_some}
 use Rattle.std.specs.List.{list_any, list_all, flat_map}
 use Rattle.std.specs.Option.{option_map}
 use Rattle.std.proofs.lemmas.Bool.{eqb-true, le-ltb, and_left}
 use Rattle.std.proofs.lemmas.Option.{same_Some}
 use Rattle.std.proofs.lemmas.List.{nil_from_length}
-use Rattle.std.proofs.lemmas.Bool.Decides.{nat_tests}
 use Rattle.task_base.specs.Plan.{Plan}
 use Rattle.task_base.specs.declared.step.Step.{Step}
 use Rattle.task_base.specs.declared.step.Step.TheVariants.{Post as PostStep}
@@ -25,8 +24,8 @@ use Rattle.script_model.specs.Postings.{posts_of_step}
 use Rattle.script_model.specs.Lines.{workers_line, runner_line, task_line, acted, post_line, flush_line, shutdown_line, action_command_read, command_read, words_read, line_read}
 use Rattle.script_model.specs.Reasons.{◌>>=◌ as ◌then◌, ◌>>◌, refuse, not_ascii}
 use Rattle.script_model.specs.Grammar.{at_line, lines_read, script_read}
-use Rattle.task_script.specs.FormDraft.{is_posted, shuts_down, steps_of_tasks, form_events}
-use Rattle.task_script.specs.FormLines.{◌>>=◌, max_id, number_in, form_kind, form_priority, form_behaviour, form_steps, form_workers, form_runner, form_task, form_post, form_flush, form_shutdown, form_command, form_words, form_line}
+use Rattle.task_script.specs.FormDraft.{is_posted, shuts_down, form_events}
+use Rattle.task_script.specs.FormLines.{max_id, form_workers, form_runner, form_task, form_post, form_flush, form_shutdown, form_command, form_words, form_line}
 use Rattle.task_script.specs.Form.{form_lines, form_read}
 use Rattle.task_script.specs.WellFormed.{is_single}
 use Rattle.task_script.proofs.Form.Parts.{bind_some, Computes, form_kind-shared, form_steps-compute, runner_made, workers_parts, runner_parts, task_parts, post_parts, flush_parts, shutdown_parts}
@@ -52,13 +51,15 @@ runner_goes d number kind priority behaviour r k p b r_is k_is p_is b_is next se
 task_goes : (d : Draft) (number : List ℕ) (words : List (List ℕ)) (t : ℕ) (steps : List Step)
     → number_from 0 max_id number ≡ Ok t → steps_read words ≡ Ok steps → eqb t (length d.tasks) ≡ true → list_all (is_declared d) steps ≡ true
     → flat_map posts_of_step steps ≡ [] → eqb (length d.actions) 0 ≡ true → has_bad_scopes false steps ≡ false → list_any (is_bad_post d) steps ≡ false
-    → ltb MOST_TASKS (length d.tasks + 1) ≡ false → ltb MOST_STEPS (steps_in d + length steps) ≡ false → ltb MOST_EVENTS (events_in d + events_of_task steps) ≡ false
+    → ltb MOST_TASKS (length d.tasks + 1) ≡ false → ltb MOST_STEPS (steps_in d + length steps) ≡ false
+    → ltb MOST_EVENTS (events_in d + events_of_task steps) ≡ false
     → task_line d (number ∷ words) ≡ Ok (record d { tasks = d.tasks ++ steps ∷ [] })
 unfolding task_line
 task_goes d number words t steps t_is steps_are next declared posts no_actions scopes placed few_tasks few_steps few_events =
     rw (t_is, steps_are, next, declared, posts, no_actions, scopes, placed, few_tasks, few_steps, few_events) refl
 
-acted_goes : (d : Draft) (action : Action) → ltb MOST_TICKS (ticks_in d + ticks_of action) ≡ false → ltb MOST_EVENTS (events_in d + events_of_action action) ≡ false
+acted_goes : (d : Draft) (action : Action) → ltb MOST_TICKS (ticks_in d + ticks_of action) ≡ false
+    → ltb MOST_EVENTS (events_in d + events_of_action action) ≡ false
     → acted d action ≡ Ok (record d { actions = d.actions ++ action ∷ [] })
 acted_goes d action few_ticks few_events = rw (few_ticks, few_events) refl
 
@@ -96,9 +97,9 @@ runner_same : (d d' : Draft) (words : List (List ℕ)) → form_runner d words �
 runner_same d d' words e =
     let p = runner_parts d d' words e in
     rw p.words_are (runner_goes d p.number p.kind p.priority p.behaviour p.r p.k p.p p.b (number_from-same 0 max_id p.number p.r p.number_is)
-        (kind_named-same p.kind p.k p.kind_is) (result_ok-some (priority_named p.priority) p.p p.priority_is)
-        (result_ok-some (behaviour_named p.behaviour) p.b p.behaviour_is) p.next (shared_is_not_above d p.k (form_kind-shared p.kind p.k p.kind_is)) p.no_actions
-        (le-ltb MOST_RUNNERS (length d.runners + 1) (omega (arith, p.few)))
+    (kind_named-same p.kind p.k p.kind_is) (result_ok-some (priority_named p.priority) p.p p.priority_is)
+    (result_ok-some (behaviour_named p.behaviour) p.b p.behaviour_is) p.next (shared_is_not_above d p.k (form_kind-shared p.kind p.k p.kind_is)) p.no_actions
+    (le-ltb MOST_RUNNERS (length d.runners + 1) (omega (arith, p.few)))
     ∙ ap Ok p.made)
 
 no_shutdown : (actions : List Action) → length actions ≡ 0 → shuts_down actions ≡ false
@@ -116,12 +117,16 @@ task_same d d' words sound e =
     let p = task_parts d d' words e in
     let compute : Computes p.steps = form_steps-compute p.rest p.steps p.steps_are in
     rw p.words_are (task_goes d p.number p.rest p.t p.steps (number_from-same 0 max_id p.number p.t p.number_is) (steps_read-same p.rest p.steps p.steps_are)
-        p.next (computes-declared d p.steps compute) (computes-posts d p.steps compute) p.no_actions (computes-scopes p.steps compute)
-        (computes-misplaced d p.steps compute)
+    p.next (computes-declared d p.steps compute) (computes-posts d p.steps compute) p.no_actions (computes-scopes p.steps compute)
+    (computes-misplaced d p.steps compute)
     (le-ltb MOST_TASKS (length d.tasks + 1) (omega (arith, p.few)))
     (le-ltb MOST_STEPS (steps_in d + length p.steps) (omega (arith, sound-steps d sound, p.few_steps)))
-    (le-ltb MOST_EVENTS (events_in d + events_of_task p.steps) (omega (arith, p.few, bare_events d sound (eqb-true _ _ p.no_actions),
-        computes-acts p.steps compute)))
+    (le-ltb MOST_EVENTS (events_in d + events_of_task p.steps) (omega (
+      arith,
+      p.few,
+      bare_events d sound (eqb-true _ _ p.no_actions),
+      computes-acts p.steps compute,
+    )))
     ∙ ap Ok p.made)
 
 -- a task that no action posts is posted by nothing
@@ -141,8 +146,8 @@ post_same d d' words sound e =
     let p = post_parts d d' words e in
     let placed : is_bad_post d (PostStep p.t p.r p.u) ≡ false = and_left (has_block d p.t) _ (sound-has_block d p.t sound p.task_declared) in
     rw p.words_are (post_goes d p.task p.runner p.delay p.t p.r p.u (number_from-same 0 max_id p.task p.t p.task_is)
-        (number_from-same 0 max_id p.runner p.r p.runner_is) (number_from-wider 0 0 MOST_MICROSECONDS p.delay p.u (omega arith) p.delay_is) p.declared
-        (fresh_here d p.t sound p.fresh) placed
+    (number_from-same 0 max_id p.runner p.r p.runner_is) (number_from-wider 0 0 MOST_MICROSECONDS p.delay p.u (omega arith) p.delay_is) p.declared
+    (fresh_here d p.t sound p.fresh) placed
     ∙ acted_same d (Post p.t p.r p.u) sound refl (omega (arith, p.room)) ∙ ap Ok p.made)
 
 -- `flush`
@@ -174,7 +179,7 @@ command_same d d' name words sound e =
     (λ e3. choice d' (is_word name (codes "post")) _ _ e3 (λ is e0. subst Same (sym (is_word-same name (codes "post") is)) (post_same d d' words sound e0))
     (λ e4. choice d' (is_word name (codes "flush")) _ _ e4 (λ is e0. subst Same (sym (is_word-same name (codes "flush") is)) (flush_same d d' words sound e0))
     (λ e5. choice d' (is_word name (codes "shutdown")) _ _ e5
-        (λ is e0. subst Same (sym (is_word-same name (codes "shutdown") is)) (shutdown_same d d' words sound e0)) (λ e6. absurd cc))))))
+    (λ is e0. subst Same (sym (is_word-same name (codes "shutdown") is)) (shutdown_same d d' words sound e0)) (λ e6. absurd cc))))))
   where
     Same : List ℕ → Type 0
     Same word = command_read d word words ≡ Ok d'
@@ -198,7 +203,7 @@ lines_same d d' number [] sound e = ap Ok (same_Some d d' e)
 lines_same d d' number (line ∷ lines) sound e =
     let next = bind_some (form_line d line) (λ n. form_lines n lines) d' e in
     goes (line_read d line) next.0 (words_same d next.0 line (words_of line) sound next.1)
-        ∙ lines_same next.0 d' (number + 1) lines (keeps_line d next.0 line (words_of line) sound next.1) next.2
+    ∙ lines_same next.0 d' (number + 1) lines (keeps_line d next.0 line (words_of line) sound next.1) next.2
   where
     goes : (r : Result Draft ℕ) (n : Draft) → r ≡ Ok n → (at_line number r then λ m. lines_read m (number + 1) lines) ≡ lines_read n (number + 1) lines
     goes r n is = ap (λ (q : Result Draft ℕ). at_line number q then λ m. lines_read m (number + 1) lines) is
@@ -213,4 +218,4 @@ form_is_script bytes script e = made (form_lines empty_draft (lines_of bytes)) r
     made None is h = absurd cc
     made (Some d) is h =
         ap (λ (r : Result Draft (ℕ × ℕ)). r then λ d. Ok (script_of d)) (lines_same empty_draft d 1 (lines_of bytes) empty_sound is)
-            ∙ ap Ok (same_Some (script_of d) script h)
+        ∙ ap Ok (same_Some (script_of d) script h)

@@ -2,7 +2,7 @@
 use Rattle.std.proofs.Common.{◌≡◌, ℕ, ◌+◌, ◌<◌, ◌≤◌, Bool, true, false, cond, eqb, leb, ltb, List, [], ◌∷◌, ◌++◌, length, refl, subst, Option, Some, None, arith, map}
 use Rattle.std.specs.Prelude.{not, ◌&&◌, is_none, codes, All}
 use Rattle.std.specs.List.{slice_split}
-use Rattle.std.proofs.lemmas.Bool.{ltb-true, leb-true, eqb-true, and_parts, not-true}
+use Rattle.std.proofs.lemmas.Bool.{ltb-true, leb-true, and_parts, not-true}
 use Rattle.std.proofs.lemmas.Option.{cond_some, same_Some}
 use Rattle.std.proofs.lemmas.List.Elements.{All-nil, All-cons}
 use Rattle.task_base.specs.Steps.{is_act}
@@ -62,7 +62,7 @@ unfolding form_step
 form_step-computes (word ∷ number ∷ []) step e =
     let k = bind_some (number_in 0 18446744073709551615 number) (step_named word) step e in
     one_of_three (λ s. is_act s ≡ false) (is_word word (codes "add")) (is_word word (codes "mul")) (is_word word (codes "set")) (Add k.0) (Mul k.0)
-        (Set k.0) step refl refl refl k.2
+    (Set k.0) step refl refl refl k.2
 form_step-computes [] step e = absurd cc
 form_step-computes (word ∷ []) step e = absurd cc
 form_step-computes (word ∷ number ∷ more ∷ words) step e = absurd cc
@@ -74,7 +74,7 @@ pieces-compute (piece ∷ pieces) steps e =
     let x = bind_some (form_step piece) (λ x. all_some (map form_step pieces) >>= λ xs. Some (x ∷ xs)) steps e in
     let xs = bind_some (all_some (map form_step pieces)) (λ xs. Some (x.0 ∷ xs)) steps x.2 in
     subst Computes (same_Some (x.0 ∷ xs.0) steps xs.2) (All-cons (λ step. is_act step ≡ false) x.0 xs.0 (form_step-computes piece x.0 x.1)
-        (pieces-compute pieces xs.0 xs.1))
+    (pieces-compute pieces xs.0 xs.1))
 
 pub form_steps-compute : (words : List (List ℕ)) (steps : List Step) → form_steps words ≡ Some steps → Computes steps
 unfolding form_steps
@@ -109,7 +109,7 @@ runner_made k p b = record { kind = k; traits = record { priority = p; behaviour
 abbrev runner_added : Draft → ℕ → RunnerKind → Priority → Behaviour → Option Draft
 runner_added d r k p b =
     cond (eqb r (length d.runners) && eqb (length d.actions) 0 && ltb (length d.runners) MOST_RUNNERS)
-        (Some (record d { runners = d.runners ++ runner_made k p b ∷ [] })) None
+    (Some (record d { runners = d.runners ++ runner_made k p b ∷ [] })) None
 
 -- a line `runner R KIND PRIORITY BEHAVIOUR`
 pub record IsRunner (d d' : Draft) (words : List (List ℕ)) : Type 0 where
@@ -135,7 +135,7 @@ pub runner_parts : (d d' : Draft) (words : List (List ℕ)) → form_runner d wo
 unfolding form_runner
 runner_parts d d' (number ∷ kind ∷ priority ∷ behaviour ∷ []) e =
     let r = bind_some (number_in 0 max_id number) (λ r. form_kind kind >>= λ k. form_priority priority >>= λ p. form_behaviour behaviour >>=
-        λ b. runner_added d r k p b) d' e in
+    λ b. runner_added d r k p b) d' e in
     let k = bind_some (form_kind kind) (λ k. form_priority priority >>= λ p. form_behaviour behaviour >>= λ b. runner_added d r.0 k p b) d' r.2 in
     let p = bind_some (form_priority priority) (λ p. form_behaviour behaviour >>= λ b. runner_added d r.0 k.0 p b) d' k.2 in
     let b = bind_some (form_behaviour behaviour) (λ b. runner_added d r.0 k.0 p.0 b) d' p.2 in
@@ -173,7 +173,7 @@ runner_parts d d' (a ∷ b ∷ c ∷ f ∷ g ∷ words) e = absurd cc
 abbrev task_added : Draft → ℕ → List Step → Option Draft
 task_added d t steps =
     cond (eqb t (length d.tasks) && eqb (length d.actions) 0 && ltb (length d.tasks) MOST_TASKS && leb (steps_of_tasks d.tasks + length steps) MOST_STEPS)
-        (Some (record d { tasks = d.tasks ++ steps ∷ [] })) None
+    (Some (record d { tasks = d.tasks ++ steps ∷ [] })) None
 
 -- a line `task T STEPS`
 pub record IsTask (d d' : Draft) (words : List (List ℕ)) : Type 0 where
@@ -222,7 +222,7 @@ task_parts d d' [] e = absurd cc
 abbrev post_added : Draft → ℕ → ℕ → ℕ → Option Draft
 post_added d t r u =
     cond (ltb t (length d.tasks) && ltb r (length d.runners) && not (is_posted d.actions t) && ltb (form_events d) MOST_EVENTS)
-        (Some (record d { actions = d.actions ++ Post t r u ∷ [] })) None
+    (Some (record d { actions = d.actions ++ Post t r u ∷ [] })) None
 
 -- a line `post T R 0`
 pub record IsPost (d d' : Draft) (words : List (List ℕ)) : Type 0 where

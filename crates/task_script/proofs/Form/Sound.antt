@@ -1,34 +1,26 @@
 -- Every script of the small form is well formed: each line keeps it so.
-use Rattle.std.proofs.Common.{◌≡◌, ℕ, zero, suc, ◌+◌, ◌*◌, ◌<◌, ◌≤◌, Bool, true, false, cond, eqb, leb, ltb, List, [], ◌∷◌, ◌++◌, length, take, refl, sym, ap, subst, ◌∙◌, ◌⊎◌, inl, inr, Option, Some, None, lit≤, arith, map}
-use Rattle.std.specs.Prelude.{not, ◌&&◌, ◌||◌, is_none, slice_get, codes, All}
+use Rattle.std.proofs.Common.{◌≡◌, ℕ, zero, suc, ◌+◌, ◌*◌, ◌<◌, ◌≤◌, Bool, true, false, cond, eqb, List, [], ◌∷◌, ◌++◌, length, take, refl, sym, ap, subst, ◌∙◌, inl, inr, Option, Some, None, lit≤, arith}
+use Rattle.std.specs.Prelude.{◌||◌, slice_get, codes}
 use Rattle.std.specs.Option.{option_map}
 use Rattle.std.proofs.lemmas.Bool.{eqb-true}
 use Rattle.std.proofs.Math.Bool.{or-false, or-true}
 use Rattle.std.proofs.lemmas.Option.{same_Some}
-use Rattle.std.proofs.lemmas.Bool.Decides.{nat_tests}
-use Rattle.std.specs.List.{flat_map, slice_split}
-use Rattle.std.proofs.lemmas.Grind.{flat_map-append}
+use Rattle.std.specs.List.{flat_map}
 use Rattle.std.proofs.lemmas.List.Concat.{flat_map-cons}
 use Rattle.std.proofs.lemmas.List.Folds.{list_any-append}
 use Rattle.std.proofs.lemmas.List.{flat_map_more, length-append, take-append-le}
-use Rattle.std.proofs.lemmas.List.Elements.{All-nil, All-cons, All-push}
+use Rattle.std.proofs.lemmas.List.Elements.{All-nil, All-push}
 use Rattle.std.proofs.Math.Seq.{take-append_seam}
 use Rattle.task_base.specs.Plan.{Plan}
-use Rattle.task_base.specs.Steps.{is_act}
 use Rattle.task_base.specs.declared.script.Action.{Action}
 use Rattle.task_base.specs.declared.script.Action.TheVariants.{Post, Flush, Shutdown}
 use Rattle.task_base.specs.declared.script.Runner.{Runner}
-use Rattle.task_base.specs.declared.script.RunnerKind.{RunnerKind}
-use Rattle.task_base.specs.declared.script.RunnerKind.TheVariants.{Parallel, Sequenced}
-use Rattle.task_traits.specs.declared.traits.Priority.{Priority}
-use Rattle.task_traits.specs.declared.traits.Behaviour.{Behaviour}
 use Rattle.task_base.specs.declared.step.Step.{Step}
-use Rattle.task_base.specs.declared.step.Step.TheVariants.{Add, Mul, Set}
-use Rattle.task_base.specs.declared.limits.TheConstants.{MOST_WORKERS, MOST_RUNNERS, MOST_TASKS, MOST_STEPS, MOST_EVENTS}
-use Rattle.script_model.specs.Words.{number_of, is_word, begins_comment, is_all_ascii, lines_of, words_of}
-use Rattle.script_model.specs.Draft.{Draft, empty_draft, script_of, is_bare, is_shutdown}
-use Rattle.task_script.specs.FormDraft.{is_posted, shuts_down, steps_of_tasks, form_events}
-use Rattle.task_script.specs.FormLines.{◌>>=◌, max_id, number_in, form_kind, form_priority, form_behaviour, step_named, form_step, all_some, form_steps, form_workers, form_runner, form_task, form_post, form_flush, form_shutdown, form_command, form_words, form_line}
+use Rattle.task_base.specs.declared.limits.TheConstants.{MOST_WORKERS, MOST_RUNNERS, MOST_TASKS, MOST_EVENTS}
+use Rattle.script_model.specs.Words.{is_word, begins_comment, is_all_ascii, lines_of, words_of}
+use Rattle.script_model.specs.Draft.{Draft, empty_draft, script_of, is_shutdown}
+use Rattle.task_script.specs.FormDraft.{is_posted, shuts_down}
+use Rattle.task_script.specs.FormLines.{form_workers, form_runner, form_task, form_post, form_flush, form_shutdown, form_command, form_words, form_line}
 use Rattle.task_script.specs.Form.{form_lines, form_read}
 use Rattle.task_script.specs.Wants.{Want, WantsPost, WantsIdle, WantsShutdown, WantsDone, wants_of, all_wants}
 use Rattle.task_script.specs.WellFormed.{IsSoundPost, posts_among, starts_among, is_single, is_form_action, WellFormed}
@@ -102,7 +94,7 @@ with_action : (d : Draft) (action : Action) → is_form_action action ≡ true �
     length (wants_of action) + cond (shuts_down d.actions) 1 0 ≡ 1 + cond (shuts_down (d.actions ++ action ∷ [])) 1 0 →
     ((j : ℕ) → slice_get (wants_of action) j ≡ Some WantsShutdown → (j ≡ 0) × (shuts_down d.actions ≡ false)) →
     ((j t r u : ℕ) → slice_get (wants_of action) j ≡ Some (WantsPost t r u)
-        → (j ≡ 0) × (t < length d.tasks) × (r < length d.runners) × (u ≡ 0) × (is_posted d.actions t ≡ false)) →
+    → (j ≡ 0) × (t < length d.tasks) × (r < length d.runners) × (u ≡ 0) × (is_posted d.actions t ≡ false)) →
     IsSound (record d { actions = d.actions ++ action ∷ [] })
 with_action d action of_form sound room once start post =
     let script = script_of (record d { actions = d.actions ++ action ∷ [] }) in
@@ -182,7 +174,7 @@ keeps_post d d' words sound e =
     let p = post_parts d d' words e in
     let now = number_in-bounds 0 0 p.delay p.u p.delay_is in
     subst IsSound p.made (with_action d (Post p.t p.r p.u) refl sound (omega (arith, p.room, sound.wants_count))
-        (rw (shuts_down-push d.actions (Post p.t p.r p.u) refl) refl) (no_start d.actions p.t p.r p.u) (λ j t r u same.
+    (rw (shuts_down-push d.actions (Post p.t p.r p.u) refl) refl) (no_start d.actions p.t p.r p.u) (λ j t r u same.
     let it = one_post p.t p.r p.u j t r u same in
     (it.0, rw (← it.1) p.task_declared, rw (← it.2) p.runner_declared, omega (arith, it.3, now.1), rw (← it.1) p.fresh)))
 

@@ -4,7 +4,6 @@ use Rattle.std.specs.Prelude.{◌&&◌, codes, count_by}
 use Rattle.std.specs.List.{list_any, list_all, flat_map, slice_split}
 use Rattle.std.specs.Result.{result_ok}
 use Rattle.std.specs.Cmp.Lexicographic.{same_text}
-use Rattle.std.proofs.lemmas.Bool.Decides.{nat_tests}
 use Rattle.std.proofs.lemmas.List.Elements.{All-head, All-tail}
 use Rattle.std.proofs.lemmas.List.Sums.{sum_by-cons}
 use Rattle.std.proofs.lemmas.List.Concat.{flat_map-cons}
@@ -14,14 +13,13 @@ use Rattle.task_base.specs.declared.step.Step.TheVariants.{Add, Mul, Set, Post, 
 use Rattle.task_base.specs.declared.script.RunnerKind.{RunnerKind}
 use Rattle.task_base.specs.declared.script.RunnerKind.TheVariants.{Parallel, Sequenced}
 use Rattle.script_model.specs.Words.{number_of, is_word}
-use Rattle.script_model.specs.Reasons.{out_of_range}
 use Rattle.script_model.specs.Draft.{Draft, is_declared, is_block, has_bad_scopes, is_bad_post}
 use Rattle.script_model.specs.Postings.{posts_of_step}
-use Rattle.script_model.specs.Places.{in_range, number_from, kind_named, step_said, step_read, all_read, steps_read}
+use Rattle.script_model.specs.Places.{number_from, kind_named, step_said, step_read, all_read, steps_read}
 use Rattle.task_script.specs.FormLines.{◌>>=◌, number_in, form_kind, step_named, form_step, all_some, form_steps}
 use Rattle.task_script.proofs.Form.Parts.{bind_some, number_in-bounds, Computes}
 use Rattle.std.proofs.lemmas.Option.{cond_some}
-use Rattle.std.proofs.lemmas.Bool.{and_from, le-leb}
+use Rattle.std.proofs.lemmas.Bool.{le-leb}
 
 -- what was found in an option is what a result holds
 pub result_ok-some : {A E : Type 0} (r : Result A E) (x : A) → result_ok r ≡ Some x → r ≡ Ok x
