@@ -40,8 +40,7 @@ pub all_some-more : {A B : Type 0} (f : A → Option B) (xs : List A) (i : ℕ) 
 all_some-more f xs i d ys y lt so_far here = rw (
   take_more xs i d lt,
   map-append f (take i xs) (get_or xs i d ∷ []),
-  all_some-push (map f (take i xs))
-      (f (get_or xs i d)),
+  all_some-push (map f (take i xs)) (f (get_or xs i d)),
   so_far,
   here,
 ) refl

@@ -46,12 +46,12 @@ bare_parts d e =
 -- where nothing is done, the actions are sound
 no_actions : (script : Plan) → script.actions ≡ [] → AreActionsSound script
 no_actions script none = record {
-  each_sound = subst (AllByRecursion (IsActionSound script)) (sym none) tt;
+  each_sound = rw none tt;
   in_order = λ k action h. absurd (let e : slice_get [] k ≡ Some action = rw none at h in cc);
 }
 
 no_seats : (script : Plan) (runners : List Runner) → runners ≡ [] → AllByRecursion (λ runner. IsSeatThere script runner.kind) runners
-no_seats script runners none = subst (AllByRecursion (λ (runner : Runner). IsSeatThere script runner.kind)) (sym none) tt
+no_seats script runners none = rw none tt
 
 -- ---- what stays
 
@@ -99,11 +99,7 @@ task_stays s z t steps stays h = record {
 -- with one more runner, queue or task, what was declared stays
 runners_stay : (d : Draft) (made : Runner) → Stays (script_of d) (script_of (record d { runners = d.runners ++ made ∷ [] }))
 runners_stay d made = record {
-  runners = λ r here. (
-    omega (arith, here, length-append d.runners (made ∷ [])),
-    ap
-        (λ (o : Option Runner). unwrap_or (option_map (λ declared. declared.traits.may_block) o) false) (slice_get_front d.runners (made ∷ []) r here),
-  );
+  runners = λ r here. (omega (arith, here, length-append d.runners (made ∷ [])), rw (slice_get_front d.runners (made ∷ []) r here) refl);
   queues = λ q here. here;
   tasks = λ t here. (here, refl);
 }
@@ -119,23 +115,15 @@ tasks_stay : (d : Draft) (made : List Step) → Stays (script_of d) (script_of (
 tasks_stay d made = record {
   runners = λ r here. (here, refl);
   queues = λ q here. here;
-  tasks = λ t here. (omega (arith, here, length-append d.tasks (made ∷ [])), ap (list_any is_block) (get_or-append d.tasks (made ∷ []) [] t here));
+  tasks = λ t here. (omega (arith, here, length-append d.tasks (made ∷ [])), rw (get_or-append d.tasks (made ∷ []) [] t here) refl);
 }
 
 -- a script with the same declarations
 pub same_stays : (s z : Plan) → s.runners ≡ z.runners → s.queues ≡ z.queues → s.tasks ≡ z.tasks → Stays s z
 same_stays s z runners queues tasks = record {
-  runners = λ r here. (
-    subst (λ (xs : List Runner). r < length xs) runners here,
-    ap
-        (λ (xs : List Runner). unwrap_or (option_map (λ declared. declared.traits.may_block) (slice_get xs r)) false) (sym runners),
-  );
-  queues = λ q here. subst (λ (xs : List MainQueue). q < length xs) queues here;
-  tasks = λ t here. (
-    subst (λ (xs : List (List Step)). t < length xs) tasks here,
-    ap (λ (xs : List (List Step)). list_any is_block (slice_index_or xs t []))
-        (sym tasks),
-  );
+  runners = λ r here. (rw (← runners) here, rw (← runners) refl);
+  queues = λ q here. rw (← queues) here;
+  tasks = λ t here. (rw (← tasks) here, rw (← tasks) refl);
 }
 
 -- ---- configuration
@@ -298,8 +286,7 @@ declared_runner_post d task runner delay declared good =
       record {
         task_declared = here;
         runner_declared = ltb-true runner (length d.runners) both.1;
-        may_block = may (opens_scope d.tasks task)
-            (may_block_on d.runners runner) good;
+        may_block = may (opens_scope d.tasks task) (may_block_on d.runners runner) good;
       },
     )
   where
@@ -385,8 +372,7 @@ keeps_task d d' words sound e =
     subst Keeps {x = record d { tasks = d.tasks ++ steps ∷ [] }} g.3
     (with_task d steps (record {
       steps_within = steps_read-within (drop 1 words) steps both.1;
-      steps_sound = steps_sound d steps
-          (not-false (list_all (is_declared d) steps) declared.0) good.0;
+      steps_sound = steps_sound d steps (not-false (list_all (is_declared d) steps) declared.0) good.0;
       scopes_in_turn = scopes.0;
     })
     fresh.0 (nothing d.actions (not-false (has_no_actions d) late.0)) (ltb-false MOST_TASKS (length d.tasks + 1) count_room.0)
@@ -455,8 +441,7 @@ keeps_job d d' words sound e =
       items_within = items.1;
       some_cap = cap.0;
       cap_within = cap.1;
-      steps_within = steps_read-within
-          (drop 5 words) steps b4.1;
+      steps_within = steps_read-within (drop 5 words) steps b4.1;
       steps_compute = computes.0;
     })
     (nothing d.actions (not-false (has_no_actions d) late.0)) (ltb-false MOST_JOBS (length d.jobs + 1) count_room.0)

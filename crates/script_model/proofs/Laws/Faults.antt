@@ -57,19 +57,10 @@ only d n (line ∷ lines) m reason e = first (line_read d line) refl e (λ next 
     first (Ok next) is h go =
         let bad = go next h in
         let behind = bad.2 in
-        let goes : lines_read d n (take (suc bad.0) (line ∷ lines)) ≡ lines_read next (n + 1) (take bad.0 lines) =
-        ap (λ (r : Result Draft ℕ). at_line n r >>= λ next. lines_read next (n + 1) (take bad.0 lines)) is in (
-          suc bad.0,
-          omega (arith, bad.1),
-          record {
-            draft = behind.draft;
-            line = behind.line;
-            before = goes
-                ∙ behind.before;
-            here = behind.here;
-            fault = behind.fault;
-          },
-        )
+        let before : lines_read d n (take (suc bad.0) (line ∷ lines)) ≡ Ok behind.draft = rw is behind.before in
+        let all : IsBadBehind d n (line ∷ lines) (suc bad.0) reason =
+        record { draft = behind.draft; line = behind.line; before = before; here = behind.here; fault = behind.fault } in
+        (suc bad.0, omega (arith, bad.1), all)
     first (Err r) is h go =
         let same : ◌≡◌ {A = ℕ × ℕ} (n, r) (m, reason) = err_same {A = Draft} (n, r) (m, reason) h in
         let place : n ≡ m = ap (λ (p : ℕ × ℕ). p.0) same in

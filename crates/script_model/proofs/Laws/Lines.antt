@@ -209,11 +209,6 @@ seat_below d (Single seat) h = le-ltb (script_of d).workers seat h.1
 seat_below d Parallel h = refl
 seat_below d Sequenced h = refl
 
-seat_same : (s z : Plan) → s.workers ≡ z.workers → (kind : RunnerKind) → IsSeatThere s kind → IsSeatThere z kind
-seat_same s z same (Single seat) h = (h.0, subst (λ (n : ℕ). seat ≤ n) same h.1)
-seat_same s z same Parallel h = tt
-seat_same s z same Sequenced h = tt
-
 pub runner_read : (s : Plan) → IsSound s → (done : List Runner) (runner : Runner) (rest : List Runner) → done ++ runner ∷ rest ≡ s.runners
     → IsLineRead (draft_at s done [] [] [] []) (runner_words (length done) runner) (draft_at s (done ++ runner ∷ []) [] [] [] [])
 unfolding command_read runner_line
@@ -233,7 +228,7 @@ runner_read s sound done runner rest e =
         may_block_is (decimal (length done)) (kind_word kind) (priority_word priority) (behaviour_word behaviour) may_block,
         may_block_ends (decimal (length done)) (kind_word kind) (priority_word priority) (behaviour_word behaviour) may_block,
         eqb-same (length done),
-        seat_below d kind (seat_same s (script_of d) refl kind seat),
+        seat_below d kind seat,
         le-ltb MOST_RUNNERS (length done + 1) few,
       ) refl;
       starts = refl;
@@ -251,8 +246,7 @@ queue_read s sound done queue rest e =
       reads = rw (
         id_is (length done) id,
         number_is 0 7 queue.class (omega arith) within.class_within (omega arith),
-        number_is 0 16 queue.voters
-            (omega arith) within.voters_within (omega arith),
+        number_is 0 16 queue.voters (omega arith) within.voters_within (omega arith),
         eqb-same (length done),
         le-ltb MOST_QUEUES (length done + 1) few,
       ) refl;
@@ -260,8 +254,7 @@ queue_read s sound done queue rest e =
       plain = rw (
         plain_id (length done) id,
         plain_id queue.class (omega (arith, within.class_within)),
-        plain_id queue.voters
-            (omega (arith, within.voters_within)),
+        plain_id queue.voters (omega (arith, within.voters_within)),
       ) refl;
     }
 

@@ -33,12 +33,9 @@ posted_in_parts d t = count-append (λ u. eqb u t) (flat_map posts_of_task d.tas
 pub posted_at : {A : Type 0} (f : A → List ℕ) (done : List A) (x : A) (rest all : List A) → done ++ x ∷ rest ≡ all → (t : ℕ)
     → times t (flat_map f all) ≡ times t (flat_map f done) + (times t (f x) + times t (flat_map f rest))
 posted_at f done x rest all e t =
-    rw (← e, flat_map-append f done (x ∷ rest), flat_map-cons f x rest) (omega (
-      arith,
-      count-append (λ u. eqb u t) (flat_map f done)
-          (f x ++ flat_map f rest),
-      count-append (λ u. eqb u t) (f x) (flat_map f rest),
-    ))
+    let outer = count-append (λ u. eqb u t) (flat_map f done) (f x ++ flat_map f rest) in
+    let inner = count-append (λ u. eqb u t) (f x) (flat_map f rest) in
+    rw (← e, flat_map-append f done (x ∷ rest), flat_map-cons f x rest) (omega (arith, outer, inner))
 
 -- those of a list with one more
 times_push : {A : Type 0} (f : A → List ℕ) (xs : List A) (x : A) (t : ℕ) → times t (flat_map f (xs ++ x ∷ [])) ≡ times t (flat_map f xs) + times t (f x)

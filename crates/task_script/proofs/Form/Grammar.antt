@@ -202,11 +202,8 @@ unfolding form_lines lines_read
 lines_same d d' number [] sound e = ap Ok (same_Some d d' e)
 lines_same d d' number (line ∷ lines) sound e =
     let next = bind_some (form_line d line) (λ n. form_lines n lines) d' e in
-    goes (line_read d line) next.0 (words_same d next.0 line (words_of line) sound next.1)
-    ∙ lines_same next.0 d' (number + 1) lines (keeps_line d next.0 line (words_of line) sound next.1) next.2
-  where
-    goes : (r : Result Draft ℕ) (n : Draft) → r ≡ Ok n → (at_line number r then λ m. lines_read m (number + 1) lines) ≡ lines_read n (number + 1) lines
-    goes r n is = ap (λ (q : Result Draft ℕ). at_line number q then λ m. lines_read m (number + 1) lines) is
+    rw (words_same d next.0 line (words_of line) sound next.1)
+        (lines_same next.0 d' (number + 1) lines (keeps_line d next.0 line (words_of line) sound next.1) next.2)
 
 -- bytes of the small form are a script, and the same one
 pub form_is_script : (bytes : List ℕ) (script : Plan) → form_read bytes ≡ Some script → script_read bytes ≡ Ok script
@@ -216,6 +213,4 @@ form_is_script bytes script e = made (form_lines empty_draft (lines_of bytes)) r
     made : (o : Option Draft) → form_lines empty_draft (lines_of bytes) ≡ o → option_map script_of o ≡ Some script
         → (lines_read empty_draft 1 (lines_of bytes) then λ d. Ok (script_of d)) ≡ Ok script
     made None is h = absurd cc
-    made (Some d) is h =
-        ap (λ (r : Result Draft (ℕ × ℕ)). r then λ d. Ok (script_of d)) (lines_same empty_draft d 1 (lines_of bytes) empty_sound is)
-        ∙ ap Ok (same_Some (script_of d) script h)
+    made (Some d) is h = rw (lines_same empty_draft d 1 (lines_of bytes) empty_sound is) (ap Ok (same_Some (script_of d) script h))

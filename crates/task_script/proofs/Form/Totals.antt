@@ -41,8 +41,7 @@ tasks_take_two (steps ∷ tasks) c =
       arith,
       sum_by-cons events_of_task steps tasks,
       computes-acts steps (All-head Computes steps tasks c),
-      tasks_take_two tasks
-          (All-tail Computes steps tasks c),
+      tasks_take_two tasks (All-tail Computes steps tasks c),
     )
 
 pub sound-has_block : (d : Draft) (t : ℕ) → IsSound d → t < length d.tasks → has_block d t ≡ false
@@ -97,8 +96,7 @@ actions_tick (action ∷ actions) p = omega (
   arith,
   sum_by-cons ticks_of action actions,
   (first action actions 0 p).ticks,
-  actions_tick actions
-      (rest action actions p),
+  actions_tick actions (rest action actions p),
 )
 
 actions_post : (actions : List Action) (t : ℕ) → Plain actions → list_any (λ posted. eqb posted t) (flat_map posts_of_action actions) ≡ is_posted actions t

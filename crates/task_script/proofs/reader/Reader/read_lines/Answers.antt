@@ -21,6 +21,5 @@ loop-line-preserved c =
 pub returns : goal.returns
 returns c = (
   c.loop-line.invariant.tables,
-  sym c.loop-line.invariant.rest
-      ∙ form_lines-end (draft c.loop-line.self) c.args.lines.now c.loop-line.line-index c.loop-line-test.false,
+  sym c.loop-line.invariant.rest ∙ form_lines-end (draft c.loop-line.self) c.args.lines.now c.loop-line.line-index c.loop-line-test.false,
 )
