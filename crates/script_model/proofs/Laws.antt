@@ -4,6 +4,7 @@ pub mod Parts
 pub mod Postings
 pub mod Declarations
 pub mod Sound
+pub mod Computing
 pub mod Texts
 pub mod Words
 pub mod Lines

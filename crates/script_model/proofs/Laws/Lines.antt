@@ -4,7 +4,6 @@ use Rattle.std.specs.Prelude.{not, ◌&&◌, decimal, codes, slice_get, slice_in
 use Rattle.std.specs.List.{list_all, list_any, AllByRecursion, sum_by}
 use Rattle.std.proofs.lemmas.Bool.{lt-ltb, le-ltb, not-true, or_parts}
 use Rattle.std.proofs.lemmas.List.{append-nil, length-append}
-use Rattle.std.proofs.lemmas.List.Concat.{flat_map-cons}
 use Rattle.std.proofs.lemmas.List.Sums.{sum_by-append, sum_by-cons}
 use Rattle.std.proofs.Math.ListN.{get_or-append}
 use Rattle.task_base.specs.Plan.{Plan, JobPlan}
@@ -20,7 +19,7 @@ use Rattle.script_model.specs.Words.{begins_comment}
 use Rattle.script_model.specs.Reasons.{word_count}
 use Rattle.script_model.specs.Places.{ends_at, may_block_at}
 use Rattle.script_model.specs.Bound.{events_of_task, events_of_job}
-use Rattle.script_model.specs.Postings.{posts_of_step, IsPostedOnce}
+use Rattle.script_model.specs.Postings.{IsPostedOnce}
 use Rattle.script_model.specs.Draft.{Draft, empty_draft, script_of, is_above_workers, is_declared, posted_in, is_any_posted, is_bad_post, is_block, items_in, steps_in, events_in, opens_scope, may_block_on}
 use Rattle.task_base.specs.declared.limits.TheConstants.{MOST_WORKERS, MOST_RUNNERS, MOST_QUEUES, MOST_TASKS, MOST_JOBS, MOST_ITEMS, MOST_STEPS, MOST_EVENTS}
 use Rattle.script_model.specs.Lines.{workers_line, groups_line, threshold_line, runner_line, queue_line, task_line, job_line, command_read, words_read, line_read}
@@ -29,6 +28,7 @@ use Rattle.script_model.specs.Canonical.{priority_word, behaviour_word, kind_wor
 use Rattle.script_model.specs.Laws.Sound.{IsSound, IsConfigSound, IsSeatThere, IsQueueWithin, IsStepWithin, IsStepSound, IsTaskSound, IsJobSound}
 use Rattle.list_laws.proofs.Lists.{eqb-same, AllByRecursion-back}
 use Rattle.script_model.proofs.Laws.Parts.{IsSeatWithin}
+use Rattle.script_model.proofs.Laws.Computing.{computing, computing_declared, computing_good, computing_posts}
 use Rattle.script_model.proofs.Laws.Postings.{posts_of_task, posted_parts, posted_in_parts, posted_at, not_posted}
 use Rattle.script_model.proofs.Laws.Texts.{is_plain_word, line_of, text_of, line_is_ascii, words_of-line, lines_of-text}
 use Rattle.script_model.proofs.Laws.Words.{number_is, id_is, time_is, plain_id, plain_time, priority_is, priority_plain, behaviour_is, behaviour_plain, kind_is, kind_plain, may_block_plain, IsStepReadable, steps_are, steps_plain}
@@ -356,35 +356,6 @@ task_read s sound done steps rest e =
     }
 
 -- ---- jobs
-
--- steps that compute have what each such step has
-computing : (P : Step → Type 0) → ((k : ℕ) → P (Add k)) → ((k : ℕ) → P (Mul k)) → ((k : ℕ) → P (Set k)) → (step : Step) → is_act step ≡ false → P step
-computing P add mul set (Add by) e = add by
-computing P add mul set (Mul by) e = mul by
-computing P add mul set (Set to) e = set to
-computing P add mul set (PostStep task runner delay) e = absurd cc
-computing P add mul set (MainStep task queue delay) e = absurd cc
-computing P add mul set (Block scope) e = absurd cc
-computing P add mul set Unblock e = absurd cc
-
-computing_declared : (d : Draft) (steps : List Step) → list_any is_act steps ≡ false → list_all (is_declared d) steps ≡ true
-computing_declared d [] e = refl
-computing_declared d (step ∷ steps) e =
-    let both = or_parts (is_act step) (list_any is_act steps) e in
-    rw (computing (λ x. is_declared d x ≡ true) (λ k. refl) (λ k. refl) (λ k. refl) step both.0) (computing_declared d steps both.1)
-
-computing_good : (d : Draft) (steps : List Step) → list_any is_act steps ≡ false → list_any (is_bad_post d) steps ≡ false
-computing_good d [] e = refl
-computing_good d (step ∷ steps) e =
-    let both = or_parts (is_act step) (list_any is_act steps) e in
-    rw (computing (λ x. is_bad_post d x ≡ false) (λ k. refl) (λ k. refl) (λ k. refl) step both.0) (computing_good d steps both.1)
-
-computing_posts : (steps : List Step) → list_any is_act steps ≡ false → posts_of_task steps ≡ []
-computing_posts [] e = refl
-computing_posts (step ∷ steps) e =
-    let both = or_parts (is_act step) (list_any is_act steps) e in
-    rw (flat_map-cons posts_of_step step steps, computing (λ x. posts_of_step x ≡ []) (λ k. refl) (λ k. refl) (λ k. refl) step both.0)
-    (computing_posts steps both.1)
 
 computing_readable : (steps : List Step) → AllByRecursion IsStepWithin steps → list_any is_act steps ≡ false → AllByRecursion IsStepReadable steps
 computing_readable [] within e = tt

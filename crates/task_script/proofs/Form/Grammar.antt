@@ -1,5 +1,5 @@
 -- The small form is part of the whole grammar: what a line, and all lines, give there is what they give here.
-use Rattle.std.proofs.Common.{◌≡◌, ℕ, ◌+◌, ◌*◌, ◌≤◌, Bool, true, false, cond, eqb, ltb, List, [], ◌∷◌, ◌++◌, length, refl, sym, ap, subst, ◌∙◌, Option, Some, None, Result, Ok, arith}
+use Rattle.std.proofs.Common.{◌≡◌, ℕ, ◌+◌, ◌*◌, ◌≤◌, Bool, true, false, cond, eqb, ltb, List, [], ◌∷◌, ◌++◌, length, refl, sym, ap, subst, ◌∙◌, Option, Some, None, Ok, arith}
 use Rattle.std.specs.Prelude.{not, ◌||◌, codes, is_none, is_some}
 use Rattle.std.specs.List.{list_any, list_all, flat_map}
 use Rattle.std.specs.Option.{option_map}
@@ -21,9 +21,9 @@ use Rattle.script_model.specs.Places.{number_from, priority_named, behaviour_nam
 use Rattle.script_model.specs.Bound.{events_of_task, events_of_action}
 use Rattle.script_model.specs.Draft.{Draft, empty_draft, script_of, is_bare, is_above_workers, is_declared, posted_in, is_any_posted, has_bad_scopes, is_bad_post, has_block, has_shutdown, ticks_of, steps_in, ticks_in, events_in}
 use Rattle.script_model.specs.Postings.{posts_of_step}
-use Rattle.script_model.specs.Lines.{workers_line, runner_line, task_line, acted, post_line, flush_line, shutdown_line, action_command_read, command_read, words_read, line_read}
+use Rattle.script_model.specs.Lines.{workers_line, runner_line, task_line, acted, post_line, flush_line, shutdown_line, action_command_read, command_read, words_read}
 use Rattle.script_model.specs.Reasons.{◌>>=◌ as ◌then◌, ◌>>◌, refuse, not_ascii}
-use Rattle.script_model.specs.Grammar.{at_line, lines_read, script_read}
+use Rattle.script_model.specs.Grammar.{lines_read, script_read}
 use Rattle.task_script.specs.FormDraft.{is_posted, shuts_down, form_events}
 use Rattle.task_script.specs.FormLines.{max_id, form_workers, form_runner, form_task, form_post, form_flush, form_shutdown, form_command, form_words, form_line}
 use Rattle.task_script.specs.Form.{form_lines, form_read}
@@ -117,7 +117,7 @@ task_same d d' words sound e =
     let p = task_parts d d' words e in
     let compute : Computes p.steps = form_steps-compute p.rest p.steps p.steps_are in
     rw p.words_are (task_goes d p.number p.rest p.t p.steps (number_from-same 0 max_id p.number p.t p.number_is) (steps_read-same p.rest p.steps p.steps_are)
-    p.next (computes-declared d p.steps compute) (computes-posts d p.steps compute) p.no_actions (computes-scopes p.steps compute)
+    p.next (computes-declared d p.steps compute) (computes-posts p.steps compute) p.no_actions (computes-scopes p.steps compute)
     (computes-misplaced d p.steps compute)
     (le-ltb MOST_TASKS (length d.tasks + 1) (omega (arith, p.few)))
     (le-ltb MOST_STEPS (steps_in d + length p.steps) (omega (arith, sound-steps d sound, p.few_steps)))
@@ -203,7 +203,7 @@ lines_same d d' number [] sound e = ap Ok (same_Some d d' e)
 lines_same d d' number (line ∷ lines) sound e =
     let next = bind_some (form_line d line) (λ n. form_lines n lines) d' e in
     rw (words_same d next.0 line (words_of line) sound next.1)
-        (lines_same next.0 d' (number + 1) lines (keeps_line d next.0 line (words_of line) sound next.1) next.2)
+    (lines_same next.0 d' (number + 1) lines (keeps_line d next.0 line (words_of line) sound next.1) next.2)
 
 -- bytes of the small form are a script, and the same one
 pub form_is_script : (bytes : List ℕ) (script : Plan) → form_read bytes ≡ Some script → script_read bytes ≡ Ok script

@@ -28,11 +28,11 @@ Plain actions = All (λ action. is_form_action action ≡ true) actions
 
 -- ---- tasks
 
-tasks_post_nothing : (d : Draft) (tasks : List (List Step)) → All Computes tasks → flat_map (λ steps. flat_map posts_of_step steps) tasks ≡ []
-tasks_post_nothing d [] c = refl
-tasks_post_nothing d (steps ∷ tasks) c =
+tasks_post_nothing : (tasks : List (List Step)) → All Computes tasks → flat_map (λ steps. flat_map posts_of_step steps) tasks ≡ []
+tasks_post_nothing [] c = refl
+tasks_post_nothing (steps ∷ tasks) c =
     flat_map-cons (λ s. flat_map posts_of_step s) steps tasks
-    ∙ rw (computes-posts d steps (All-head Computes steps tasks c), tasks_post_nothing d tasks (All-tail Computes steps tasks c)) refl
+    ∙ rw (computes-posts steps (All-head Computes steps tasks c), tasks_post_nothing tasks (All-tail Computes steps tasks c)) refl
 
 tasks_take_two : (tasks : List (List Step)) → All Computes tasks → sum_by events_of_task tasks ≡ 2 * length tasks
 tasks_take_two [] c = refl
@@ -45,7 +45,7 @@ tasks_take_two (steps ∷ tasks) c =
     )
 
 pub sound-has_block : (d : Draft) (t : ℕ) → IsSound d → t < length d.tasks → has_block d t ≡ false
-sound-has_block d t sound lt = computes-opens d (get_or d.tasks t []) (sound.computes t [] lt)
+sound-has_block d t sound lt = computes-opens (get_or d.tasks t []) (sound.computes t [] lt)
 
 -- ---- actions
 
@@ -110,7 +110,7 @@ actions_post (action ∷ actions) t p =
 
 pub sound-posted : (d : Draft) (t : ℕ) → IsSound d → list_any (λ posted. eqb posted t) (posted_in d) ≡ is_posted d.actions t
 sound-posted d t sound =
-    ap (λ (ts : List ℕ). list_any (λ posted. eqb posted t) (ts ++ flat_map posts_of_action d.actions)) (tasks_post_nothing d d.tasks sound.computes)
+    ap (λ (ts : List ℕ). list_any (λ posted. eqb posted t) (ts ++ flat_map posts_of_action d.actions)) (tasks_post_nothing d.tasks sound.computes)
     ∙ actions_post d.actions t sound.form_actions
 
 pub sound-steps : (d : Draft) → IsSound d → steps_in d ≡ steps_of_tasks d.tasks
