@@ -1,3 +1,3 @@
 pub mod Lists
 pub mod Least
-pub mod Elements
+pub mod Places

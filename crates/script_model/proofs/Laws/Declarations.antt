@@ -27,7 +27,7 @@ use Rattle.list_laws.proofs.Lists.{AllByRecursion-map}
 use Rattle.script_model.proofs.Laws.Postings.{posts_of_task, posted_once_with_task}
 use Rattle.script_model.proofs.Laws.Parts.{both_ok, line_ok, number_at-within, said_ok, IsSeatWithin, kind_named-within, steps_read-within, nothing}
 use Rattle.std.proofs.lemmas.Bool.{and_parts, ltb-false, ltb-true, not-false, or_parts}
-use Rattle.list_laws.proofs.Elements.{AllByRecursion-push, slice_get_front, slice_get_push}
+use Rattle.list_laws.proofs.Places.{AllByRecursion-push, slice_get_front, slice_get_push}
 
 abbrev pub Keeps : Draft → Type 0
 Keeps d = IsSound (script_of d)

@@ -32,7 +32,7 @@ use Rattle.script_model.proofs.Laws.Computing.{computing, computing_declared, co
 use Rattle.script_model.proofs.Laws.Postings.{posts_of_task, posted_parts, posted_in_parts, posted_at, not_posted}
 use Rattle.script_model.proofs.Laws.Texts.{is_plain_word, line_of, text_of, line_is_ascii, words_of-line, lines_of-text}
 use Rattle.script_model.proofs.Laws.Words.{number_is, id_is, time_is, plain_id, plain_time, priority_is, priority_plain, behaviour_is, behaviour_plain, kind_is, kind_plain, may_block_plain, IsStepReadable, steps_are, steps_plain}
-use Rattle.list_laws.proofs.Elements.{slice_get_seam}
+use Rattle.list_laws.proofs.Places.{slice_get_seam}
 
 -- ---- lines behind one another
 

@@ -29,7 +29,7 @@ use Rattle.list_laws.proofs.Lists.{AllByRecursion-map}
 use Rattle.script_model.proofs.Laws.Parts.{either_way, none_such, both_ok, refuse_ok, Passed, line_ok, number_at-within, behind}
 use Rattle.script_model.proofs.Laws.Postings.{posted_once_with_action}
 use Rattle.script_model.proofs.Laws.Declarations.{Keeps, runner_post_stays, queue_post_stays, task_stays, same_stays, keeps_workers, keeps_groups, keeps_threshold, keeps_runner, keeps_queue, declared_runner_post, declared_queue_post, keeps_task, keeps_job}
-use Rattle.list_laws.proofs.Elements.{AllByRecursion-push, count_once-push, slice_get_push}
+use Rattle.list_laws.proofs.Places.{AllByRecursion-push, count_once-push, slice_get_push}
 
 start_fresh : (earlier : List Action) (action : Action) (j : ℕ) → IsInOrder earlier action → is_start_of j action ≡ true
     → list_any (is_start_of j) earlier ≡ false

@@ -24,7 +24,7 @@ use Rattle.task_script.specs.FormLines.{form_workers, form_runner, form_task, fo
 use Rattle.task_script.specs.Form.{form_lines, form_read}
 use Rattle.task_script.specs.Wants.{Want, WantsPost, WantsIdle, WantsShutdown, WantsDone, wants_of, all_wants}
 use Rattle.task_script.specs.WellFormed.{IsSoundPost, posts_among, starts_among, is_single, is_form_action, WellFormed}
-use Rattle.list_laws.proofs.Elements.{slice_get-append}
+use Rattle.list_laws.proofs.Places.{slice_get-append}
 use Rattle.task_script.proofs.Form.Parts.{bind_some, number_in-bounds, Computes, form_kind-shared, form_steps-compute, runner_made, workers_parts, runner_parts, task_parts, post_parts, flush_parts, shutdown_parts}
 
 abbrev pub IsSound : Draft → Type 0
