@@ -26,7 +26,8 @@ use Rattle.script_model.specs.Lines.{workers_line, groups_line, threshold_line, 
 use Rattle.script_model.specs.Grammar.{lines_read, script_read}
 use Rattle.script_model.specs.Canonical.{priority_word, behaviour_word, kind_word, may_block_words, runner_words, queue_words, task_words, job_words, config_lines, numbered}
 use Rattle.script_model.specs.Laws.Sound.{IsSound, IsConfigSound, IsSeatThere, IsQueueWithin, IsStepWithin, IsStepSound, IsTaskSound, IsJobSound}
-use Rattle.list_laws.proofs.Lists.{eqb-same, AllByRecursion-back}
+use Rattle.list_laws.proofs.Values.{eqb-same}
+use Rattle.list_laws.proofs.Elements.{AllByRecursion-back}
 use Rattle.script_model.proofs.Laws.Parts.{IsSeatWithin}
 use Rattle.script_model.proofs.Laws.Computing.{computing, computing_declared, computing_good, computing_posts}
 use Rattle.script_model.proofs.Laws.Postings.{posts_of_task, posted_parts, posted_in_parts, posted_at, not_posted}

@@ -9,7 +9,8 @@ use Rattle.std.proofs.lemmas.List.Concat.{flat_map-cons}
 use Rattle.task_base.specs.Plan.{Plan}
 use Rattle.task_base.specs.declared.step.Step.{Step}
 use Rattle.task_base.specs.declared.script.Action.{Action}
-use Rattle.list_laws.proofs.Lists.{eqb-same, count-append, count-cons}
+use Rattle.list_laws.proofs.Values.{eqb-same}
+use Rattle.list_laws.proofs.Counts.{count-append, count-cons}
 use Rattle.list_laws.proofs.Places.{count_none, none_from_count}
 use Rattle.script_model.specs.Postings.{posts_of_step, posts_of_action, postings, times, IsPostedOnce}
 use Rattle.script_model.specs.Draft.{Draft, script_of, posted_in, is_any_posted}

@@ -25,7 +25,7 @@ use Rattle.script_model.specs.Lines.{workers_line, groups_line, threshold_line, 
 use Rattle.script_model.specs.Grammar.{lines_read, script_read, Reads}
 use Rattle.script_model.specs.Laws.Sound.{IsSound, IsActionSound, IsInOrder}
 use Rattle.script_model.proofs.Laws.Faults.{ok_same, first_ok}
-use Rattle.list_laws.proofs.Lists.{AllByRecursion-map}
+use Rattle.list_laws.proofs.Elements.{AllByRecursion-map}
 use Rattle.script_model.proofs.Laws.Parts.{either_way, none_such, both_ok, refuse_ok, Passed, line_ok, number_at-within, behind}
 use Rattle.script_model.proofs.Laws.Postings.{posted_once_with_action}
 use Rattle.script_model.proofs.Laws.Declarations.{Keeps, runner_post_stays, queue_post_stays, task_stays, same_stays, keeps_workers, keeps_groups, keeps_threshold, keeps_runner, keeps_queue, declared_runner_post, declared_queue_post, keeps_task, keeps_job}
