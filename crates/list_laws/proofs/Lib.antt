@@ -10,3 +10,4 @@ pub mod Members
 pub mod Sorts
 pub mod Finds
 pub mod Options
+pub mod Places

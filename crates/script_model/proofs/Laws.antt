@@ -1,9 +1,11 @@
 -- What the scripts that are read are like.
-pub mod FaultLaws
-pub mod SoundParts
-pub mod SoundDeclarations
-pub mod SoundLaws
-pub mod CanonicalText
-pub mod CanonicalWords
-pub mod CanonicalLines
-pub mod CanonicalActions
+pub mod Faults
+pub mod Parts
+pub mod Postings
+pub mod Declarations
+pub mod Sound
+pub mod Computing
+pub mod Texts
+pub mod Words
+pub mod Lines
+pub mod Canonical

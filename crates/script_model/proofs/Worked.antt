@@ -1,2 +1,5 @@
 -- Scripts that were worked out by hand.
-pub mod Scripts
+pub mod Tables
+pub mod Faults
+pub mod Limits
+pub mod Reads

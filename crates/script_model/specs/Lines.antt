@@ -8,7 +8,7 @@ use Rattle.task_base.specs.declared.step.Step.{Step}
 use Rattle.task_base.specs.declared.step.Step.TheVariants.{Post as PostStep, Main as MainStep}
 use Rattle.task_base.specs.declared.script.Action.{Action}
 use Rattle.task_base.specs.declared.script.Action.TheVariants.{Post, Main, Tick, Policy, Fence, Unfence, Vote, Rank, Close, Pump, Flush, StartJob, Join, Cancel, Shutdown}
-use Rattle.task_base.specs.declared.limits.TheConstants.{MOST_RUNNERS, MOST_QUEUES, MOST_TASKS, MOST_JOBS, MOST_ITEMS, MOST_STEPS, MOST_TICKS, MOST_EVENTS}
+use Rattle.task_base.specs.declared.limits.TheConstants.{MOST_WORKERS, MOST_RUNNERS, MOST_QUEUES, MOST_TASKS, MOST_JOBS, MOST_ITEMS, MOST_STEPS, MOST_TICKS, MOST_EVENTS}
 use Rattle.script_model.specs.Words.{words_of, is_word, begins_comment, is_all_ascii}
 use Rattle.script_model.specs.Reasons.{◌>>=◌, ◌>>◌, ◌&◌, refuse, not_ascii, unknown_word, out_of_range, out_of_order, undeclared, posted_twice, declaration_late, bad_block, job_use, shutdown_twice, config_twice, too_many}
 use Rattle.script_model.specs.Bound.{events_of_task, events_of_job, events_of_action}
@@ -21,7 +21,7 @@ use Rattle.script_model.specs.Places.{said_at, ends_at, number_at, id_at, time_a
 -- `workers N`: how many worker seats there are
 unfoldable pub workers_line : Draft → List (List ℕ) → Result Draft ℕ
 workers_line d words = do
-  (n, _) ← number_at 1 64 words 0 & ends_at words 1
+  (n, _) ← number_at 1 MOST_WORKERS words 0 & ends_at words 1
   refuse (not (is_bare d)) declaration_late
   refuse (is_some d.workers) config_twice
   Ok (record d { workers = Some n })

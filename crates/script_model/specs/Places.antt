@@ -15,6 +15,7 @@ use Rattle.task_base.specs.declared.script.RunnerKind.{RunnerKind}
 use Rattle.task_base.specs.declared.script.RunnerKind.TheVariants.{Parallel, Sequenced, Single}
 use Rattle.task_base.specs.declared.script.FenceAt.{FenceAt}
 use Rattle.task_base.specs.declared.script.FenceAt.TheVariants.{Now, Start}
+use Rattle.task_base.specs.declared.limits.TheConstants.{MOST_WORKERS, MOST_MICROSECONDS}
 use Rattle.script_model.specs.Words.{is_word, number_of}
 use Rattle.script_model.specs.Reasons.{◌>>=◌, ◌>>◌, ◌&◌, refuse, unknown_word, word_count, bad_number, out_of_range}
 
@@ -55,7 +56,7 @@ id_at words k = number_at 0 (2 ^ 32 - 1) words k
 
 -- a time in microseconds at a place (this project's own rule)
 abbrev pub time_at : List (List ℕ) → ℕ → Result ℕ ℕ
-time_at words k = number_at 0 (10 ^ 12) words k
+time_at words k = number_at 0 MOST_MICROSECONDS words k
 
 -- ---- the words that places take (this project's own, all of them)
 
@@ -86,7 +87,7 @@ scope_named = named ((codes "may", May) ∷ (codes "will", Will) ∷ [])
 -- `parallel`, `sequenced`, or `single:W` for the worker seat W
 unfoldable pub kind_named : List ℕ → Result RunnerKind ℕ
 kind_named word =
-    if is_word (take 7 word) (codes "single:") then (number_from 1 64 (drop 7 word) >>= λ seat. Ok (Single seat))
+    if is_word (take 7 word) (codes "single:") then (number_from 1 MOST_WORKERS (drop 7 word) >>= λ seat. Ok (Single seat))
     else named ((codes "parallel", Parallel) ∷ (codes "sequenced", Sequenced) ∷ []) word
 
 -- `mayblock`, or no word

@@ -10,6 +10,7 @@ use Rattle.std.proofs.lemmas.Option.{cond_some}
 use Rattle.std.proofs.lemmas.Str.{IsUtf8-from_ascii}
 use Rattle.std.proofs.lemmas.Fmt.{IsAscii-from_digits}
 use Rattle.std.proofs.lemmas.Str.Parse.{IsNumeralModel, numerals_by_value, tells_all_ascii_digits}
+use Rattle.std.proofs.Math.Bool.{and-false}
 use Rattle.task_script.specs.FormLines.{number_in}
 
 -- the model's digits and their value are those of `parse`
@@ -47,14 +48,9 @@ none_value : (b : Bool) (n : ℕ) → cond b (Some n) None ≡ None → b ≡ fa
 none_value true n h = absurd cc
 none_value false n h = refl
 
--- what fails the second test is not there
-none_and_false : (b : Bool) (n : ℕ) → cond (b && false) (Some n) None ≡ None
-none_and_false true n = refl
-none_and_false false n = refl
-
 -- a number above the range is not in it
 above : (low high n : ℕ) → high < n → cond (leb low n && leb n high) (Some n) None ≡ None
-above low high n lt = rw (lt-leb n high lt) (none_and_false (leb low n) n)
+above low high n lt = rw (lt-leb n high lt, and-false (leb low n)) refl
 
 -- what is too wide for 64 bits is above every limit
 pub number_in-wide : (low high : ℕ) (word : List ℕ) → is_numeral word ≡ true → high < 2 ^ 64 → value_of word ≡ None → number_in low high word ≡ None

@@ -1,5 +1,5 @@
 -- Pieces of a list of words, and what is read of them one after the other.
-use Rattle.std.proofs.Common.{◌≡◌, ℕ, zero, suc, ◌+◌, ◌<◌, Bool, true, false, cond, List, [], ◌∷◌, ◌++◌, length, get_or, take, map, Option, Some, None, refl, ap, arith}
+use Rattle.std.proofs.Common.{◌≡◌, ℕ, zero, suc, ◌+◌, ◌<◌, Bool, true, false, cond, List, [], ◌∷◌, ◌++◌, length, get_or, take, map, Option, Some, None, refl, arith}
 use Rattle.std.specs.List.{slice_split, onto_first}
 use Rattle.std.proofs.lemmas.List.{take_more, map-append}
 use Rattle.task_script.specs.FormLines.{◌>>=◌, all_some}
@@ -37,8 +37,13 @@ all_some-push (Some x ∷ os) o = rw (all_some-push os o) (regroup (all_some os)
 -- the first values are there, and the next one
 pub all_some-more : {A B : Type 0} (f : A → Option B) (xs : List A) (i : ℕ) (d : A) (ys : List B) (y : B) → i < length xs
     → all_some (map f (take i xs)) ≡ Some ys → f (get_or xs i d) ≡ Some y → all_some (map f (take (i + 1) xs)) ≡ Some (ys ++ y ∷ [])
-all_some-more f xs i d ys y lt so_far here = rw (take_more xs i d lt, map-append f (take i xs) (get_or xs i d ∷ []), all_some-push (map f (take i xs))
-    (f (get_or xs i d)), so_far, here) refl
+all_some-more f xs i d ys y lt so_far here = rw (
+  take_more xs i d lt,
+  map-append f (take i xs) (get_or xs i d ∷ []),
+  all_some-push (map f (take i xs)) (f (get_or xs i d)),
+  so_far,
+  here,
+) refl
 
 -- what ends in nothing is nothing
 none_then : {A B : Type 0} (o : Option A) → ◌≡◌ {A = Option B} (o >>= λ x. None) None
@@ -50,8 +55,3 @@ pub all_some-none : {A B : Type 0} (f : A → Option B) (xs : List A) (i : ℕ) 
 all_some-none f [] i d lt here = absurd (omega arith)
 all_some-none f (x ∷ xs) zero d lt here = rw here refl
 all_some-none f (x ∷ xs) (suc i) d lt here = rw (all_some-none f xs i d (omega arith) here) (none_then (f x))
-
--- two functions in turn
-pub map-map : {A B C : Type 0} (g : B → C) (f : A → B) (xs : List A) → map g (map f xs) ≡ map (λ x. g (f x)) xs
-map-map g f [] = refl
-map-map {C = C} g f (x ∷ xs) = ap (λ (ys : List C). g (f x) ∷ ys) (map-map g f xs)

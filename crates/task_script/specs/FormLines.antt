@@ -11,6 +11,7 @@ use Rattle.task_base.specs.declared.script.Runner.{Runner}
 use Rattle.task_base.specs.declared.script.RunnerKind.{RunnerKind}
 use Rattle.task_base.specs.declared.script.RunnerKind.TheVariants.{Parallel, Sequenced}
 use Rattle.task_base.specs.declared.script.Action.TheVariants.{Post, Flush, Shutdown}
+use Rattle.task_base.specs.declared.limits.TheConstants.{MOST_WORKERS, MOST_RUNNERS, MOST_TASKS, MOST_STEPS, MOST_EVENTS}
 use Rattle.script_model.specs.Words.{is_word, number_of, begins_comment, is_all_ascii, words_of}
 use Rattle.script_model.specs.Places.{priority_named, behaviour_named}
 use Rattle.script_model.specs.Draft.{Draft, is_bare}
@@ -74,7 +75,7 @@ form_steps (word ∷ words) = all_some (map form_step (slice_split (λ w. is_wor
 -- `workers N`: once, before everything else
 unfoldable pub form_workers : Draft → List (List ℕ) → Option Draft
 form_workers d (number ∷ []) = do
-  n ← number_in 1 64 number
+  n ← number_in 1 MOST_WORKERS number
   if is_none d.workers && is_bare d then Some (record d { workers = Some n }) else None
 form_workers d words = None
 
@@ -86,7 +87,8 @@ form_runner d (number ∷ kind ∷ priority ∷ behaviour ∷ []) = do
   p ← form_priority priority
   b ← form_behaviour behaviour
   let made : Runner = record { kind = k; traits = record { priority = p; behaviour = b; may_block = false } } in
-      if r == length d.runners && length d.actions == 0 && nat_lt (length d.runners) 4096 then Some (record d { runners = d.runners ++ made ∷ [] }) else None
+      if r == length d.runners && length d.actions == 0 && nat_lt (length d.runners) MOST_RUNNERS
+      then Some (record d { runners = d.runners ++ made ∷ [] }) else None
 form_runner d words = None
 
 -- `task T STEPS`: T is the number of earlier tasks, and no action stands before
@@ -94,7 +96,7 @@ unfoldable pub form_task : Draft → List (List ℕ) → Option Draft
 form_task d (number ∷ words) = do
   t ← number_in 0 max_id number
   steps ← form_steps words
-  if t == length d.tasks && length d.actions == 0 && nat_lt (length d.tasks) 16384 && nat_le (steps_of_tasks d.tasks + length steps) 65536
+  if t == length d.tasks && length d.actions == 0 && nat_lt (length d.tasks) MOST_TASKS && nat_le (steps_of_tasks d.tasks + length steps) MOST_STEPS
       then Some (record d { tasks = d.tasks ++ steps ∷ [] }) else None
 form_task d [] = None
 
@@ -104,18 +106,20 @@ form_post d (task ∷ runner ∷ delay ∷ []) = do
   t ← number_in 0 max_id task
   r ← number_in 0 max_id runner
   u ← number_in 0 0 delay
-  if nat_lt t (length d.tasks) && nat_lt r (length d.runners) && not (is_posted d.actions t) && nat_lt (form_events d) 262144
+  if nat_lt t (length d.tasks) && nat_lt r (length d.runners) && not (is_posted d.actions t) && nat_lt (form_events d) MOST_EVENTS
       then Some (record d { actions = d.actions ++ Post t r u ∷ [] }) else None
 form_post d words = None
 
 -- `flush`
 unfoldable pub form_flush : Draft → List (List ℕ) → Option Draft
-form_flush d [] = if nat_lt (form_events d) 262144 then Some (record d { actions = d.actions ++ Flush ∷ [] }) else None
+form_flush d [] = if nat_lt (form_events d) MOST_EVENTS then Some (record d { actions = d.actions ++ Flush ∷ [] }) else None
 form_flush d (word ∷ words) = None
 
 -- `shutdown`: once
 unfoldable pub form_shutdown : Draft → List (List ℕ) → Option Draft
-form_shutdown d [] = if not (shuts_down d.actions) && nat_lt (form_events d + 1) 262144 then Some (record d { actions = d.actions ++ Shutdown ∷ [] }) else None
+form_shutdown d [] =
+    if not (shuts_down d.actions) && nat_lt (form_events d + 1) MOST_EVENTS
+    then Some (record d { actions = d.actions ++ Shutdown ∷ [] }) else None
 form_shutdown d (word ∷ words) = None
 
 -- a command and its arguments

@@ -1,5 +1,6 @@
 -- What a reader holds, against the draft that the lines read so far give.
 use Rattle.std.specs.Prelude.{◌≡◌, ℕ, ◌≤◌, false, [], length, slice_index_or, Option, Some, None, Result, Ok, Err}
+use Rattle.task_base.specs.declared.limits.TheConstants.{MOST_TASKS, MOST_STEPS}
 use Rattle.script_model.specs.Draft.{Draft}
 use Rattle.task_script.specs.FormDraft.{steps_of_tasks, is_posted, shuts_down}
 use Rattle.task_script.specs.declared.fault.ScriptFault.{ScriptFault}
@@ -25,8 +26,8 @@ pub record Tables (reader : Reader) : Type 0 where
   pub posted : (t : ℕ) → slice_index_or reader.posted.items t false ≡ is_posted reader.actions.items t
   pub shutdown : reader.shuts_down ≡ shuts_down reader.actions.items
   pub steps : reader.steps ≡ steps_of_tasks reader.tasks.items
-  pub few_steps : reader.steps ≤ 65536
-  pub few_tasks : length reader.tasks.items ≤ 16384
+  pub few_steps : reader.steps ≤ MOST_STEPS
+  pub few_tasks : length reader.tasks.items ≤ MOST_TASKS
 
 -- the reader went on to what a line gives, or the line is none, or memory ran out
 abbrev pub GoesOn : Reader → Result (Unit {0}) ScriptFault → Option Draft → Type 0

@@ -7,6 +7,7 @@ use Rattle.task_base.specs.declared.script.RunnerKind.{RunnerKind}
 use Rattle.task_base.specs.declared.script.RunnerKind.TheVariants.{Single}
 use Rattle.task_base.specs.declared.script.Action.{Action}
 use Rattle.task_base.specs.declared.script.Action.TheVariants.{Post, Flush, Shutdown}
+use Rattle.task_base.specs.declared.limits.TheConstants.{MOST_WORKERS, MOST_RUNNERS, MOST_TASKS, MOST_EVENTS}
 use Rattle.task_script.specs.FormDraft.{shuts_down}
 use Rattle.task_script.specs.Wants.{Want, WantsPost, WantsIdle, WantsShutdown, WantsDone, wants_shutdown, all_wants}
 
@@ -48,19 +49,19 @@ pub record IsSoundPost (script : Plan) (k task runner delay : ℕ) : Type 0 wher
 -- actions of the small form; it shuts down at most once, and each of its posts is sound
 pub record WellFormed (script : Plan) : Type 0 where
   pub some_workers : 1 ≤ script.workers
-  pub few_workers : script.workers ≤ 64
+  pub few_workers : script.workers ≤ MOST_WORKERS
   pub foreground_is : script.foreground ≡ 4
   pub foreground_best_is : script.foreground_best ≡ 2
   pub background_is : script.background ≡ 0
   pub threshold_is : script.threshold ≡ 1000000
   pub no_queues : script.queues ≡ []
   pub no_jobs : script.jobs ≡ []
-  pub few_runners : length script.runners ≤ 4096
+  pub few_runners : length script.runners ≤ MOST_RUNNERS
   pub no_single : All (λ runner. is_single runner.kind ≡ false) script.runners
-  pub few_tasks : length script.tasks ≤ 16384
+  pub few_tasks : length script.tasks ≤ MOST_TASKS
   pub computes : All (λ steps. All (λ step. is_act step ≡ false) steps) script.tasks
   pub form_actions : All (λ action. is_form_action action ≡ true) script.actions
-  pub few_entries : 2 * length script.tasks + length (all_wants script) ≤ 262144
+  pub few_entries : 2 * length script.tasks + length (all_wants script) ≤ MOST_EVENTS
   pub wants_count : length (all_wants script) ≡ length script.actions + (if shuts_down script.actions then 1 else 0)
   pub one_shutdown : (k : ℕ) → slice_get (all_wants script) k ≡ Some WantsShutdown → starts_among (take k (all_wants script)) ≡ false
   pub posts_sound : (k task runner delay : ℕ) → slice_get (all_wants script) k ≡ Some (WantsPost task runner delay) → IsSoundPost script k task runner delay

@@ -10,22 +10,13 @@ use crate::keywords::{behaviour_named, kind_named, priority_named};
 use crate::steps::steps_of;
 use crate::words::{is_all_ascii, number_in, words_of};
 use std::alloc::Global;
-use task_base::{Action, Rows, Runner, RunnerId, Script, Step, Task, TaskId, Traits};
+use task_base::{
+    Action, MOST_EVENTS, MOST_RUNNERS, MOST_STEPS, MOST_TASKS, MOST_WORKERS, Rows, Runner,
+    RunnerId, Script, Step, Task, TaskId, Traits,
+};
 
 /// The greatest number that names a task or a runner.
 const MAX_ID: u64 = u32::MAX as u64;
-
-/// How many runners a script may declare.
-const MOST_RUNNERS: usize = 4096;
-
-/// How many tasks a script may declare.
-const MOST_TASKS: usize = 16_384;
-
-/// How many steps the tasks of a script may have together.
-const MOST_STEPS: usize = 65_536;
-
-/// How many entries a run of a script may have.
-const MOST_EVENTS: usize = 262_144;
 
 /// What the lines read so far say, with tables that answer at once what a line needs to know of them.
 #[derive(Drop)]
@@ -142,7 +133,7 @@ impl Reader {
         let [number] = words else {
             return Err(ScriptFault::Bad);
         };
-        let number = number_in(1, 64, number).ok_or(ScriptFault::Bad)?;
+        let number = number_in(1, u64::from(MOST_WORKERS), number).ok_or(ScriptFault::Bad)?;
         if !self.accepts_workers() {
             return Err(ScriptFault::Bad);
         }
@@ -240,8 +231,8 @@ impl Reader {
 
     fn add_task(&mut self, steps: Vec<Step>) -> Result<(), ScriptFault>
         requires tables { Tables self.old }
-        requires few_tasks { length self.old.tasks.items < 16384 }
-        requires few_steps { self.old.steps + length steps.items ≤ 65536 }
+        requires few_tasks { length self.old.tasks.items < MOST_TASKS }
+        requires few_steps { self.old.steps + length steps.items ≤ MOST_STEPS }
         ensures { GoesOn self.new result (Some (record (draft self.old) { tasks = (draft self.old).tasks ++ steps.items ∷ [] })) }
     {
         self.steps += steps.len();
@@ -265,7 +256,7 @@ impl Reader {
     }
 
     fn accepts_runner(&self, number: u64) -> bool
-        ensures { let d = draft self.now in result ≡ (number == length d.runners && length d.actions == 0 && nat_lt (length d.runners) 4096) }
+        ensures { let d = draft self.now in result ≡ (number == length d.runners && length d.actions == 0 && nat_lt (length d.runners) MOST_RUNNERS) }
     {
         number == self.runners.len() as u64
             && self.actions.is_empty()
@@ -275,7 +266,7 @@ impl Reader {
     fn accepts_task(&self, number: u64, steps: usize) -> bool
         requires tables { Tables self.now }
         requires fits { steps < 2 ^ 63 }
-        ensures { let d = draft self.now in result ≡ (number == length d.tasks && length d.actions == 0 && nat_lt (length d.tasks) 16384 && nat_le (steps_of_tasks d.tasks + steps) 65536) }
+        ensures { let d = draft self.now in result ≡ (number == length d.tasks && length d.actions == 0 && nat_lt (length d.tasks) MOST_TASKS && nat_le (steps_of_tasks d.tasks + steps) MOST_STEPS) }
     {
         number == self.tasks.len() as u64
             && self.actions.is_empty()
@@ -285,7 +276,7 @@ impl Reader {
 
     fn accepts_post(&self, task: TaskId, runner: RunnerId) -> bool
         requires { Tables self.now }
-        ensures { let d = draft self.now in result ≡ (nat_lt task (length d.tasks) && nat_lt runner (length d.runners) && not (is_posted d.actions task) && nat_lt (form_events d) 262144) }
+        ensures { let d = draft self.now in result ≡ (nat_lt task (length d.tasks) && nat_lt runner (length d.runners) && not (is_posted d.actions task) && nat_lt (form_events d) MOST_EVENTS) }
     {
         (task as usize) < self.tasks.len()
             && (runner as usize) < self.runners.len()
@@ -295,14 +286,14 @@ impl Reader {
 
     fn accepts_action(&self) -> bool
         requires { Tables self.now }
-        ensures { result ≡ nat_lt (form_events (draft self.now)) 262144 }
+        ensures { result ≡ nat_lt (form_events (draft self.now)) MOST_EVENTS }
     {
         self.events_bound() < MOST_EVENTS
     }
 
     fn accepts_shutdown(&self) -> bool
         requires { Tables self.now }
-        ensures { let d = draft self.now in result ≡ (not (shuts_down d.actions) && nat_lt (form_events d + 1) 262144) }
+        ensures { let d = draft self.now in result ≡ (not (shuts_down d.actions) && nat_lt (form_events d + 1) MOST_EVENTS) }
     {
         !self.shuts_down && self.events_bound() + 1 < MOST_EVENTS
     }

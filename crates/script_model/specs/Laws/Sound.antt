@@ -15,7 +15,7 @@ use Rattle.list_laws.specs.Lists.{count}
 use Rattle.script_model.specs.Bound.{events_bound_of}
 use Rattle.script_model.specs.Postings.{IsPostedOnce}
 use Rattle.script_model.specs.Draft.{opens_scope, may_block_on, is_voter, has_bad_scopes, is_start_of, is_shutdown, ticks_of}
-use Rattle.task_base.specs.declared.limits.TheConstants.{MOST_RUNNERS, MOST_QUEUES, MOST_TASKS, MOST_JOBS, MOST_ITEMS, MOST_STEPS, MOST_TICKS, MOST_EVENTS}
+use Rattle.task_base.specs.declared.limits.TheConstants.{MOST_WORKERS, MOST_RUNNERS, MOST_QUEUES, MOST_TASKS, MOST_JOBS, MOST_ITEMS, MOST_STEPS, MOST_TICKS, MOST_EVENTS, MOST_MICROSECONDS}
 
 -- ---- what is declared
 
@@ -49,8 +49,8 @@ abbrev pub IsStepWithin : Step → Type 0
 IsStepWithin (Add by) = by ≤ 2 ^ 64 - 1
 IsStepWithin (Mul by) = by ≤ 2 ^ 64 - 1
 IsStepWithin (Set to) = to ≤ 2 ^ 64 - 1
-IsStepWithin (PostStep task runner delay) = delay ≤ 10 ^ 12
-IsStepWithin (MainStep task queue delay) = delay ≤ 10 ^ 12
+IsStepWithin (PostStep task runner delay) = delay ≤ MOST_MICROSECONDS
+IsStepWithin (MainStep task queue delay) = delay ≤ MOST_MICROSECONDS
 IsStepWithin (Block scope) = Unit {0}
 IsStepWithin Unblock = Unit {0}
 
@@ -80,8 +80,8 @@ pub record IsJobSound (job : JobPlan) : Type 0 where
 
 -- an action names what is declared, and its numbers are in their ranges
 abbrev pub IsActionSound : Plan → Action → Type 0
-IsActionSound script (Post task runner delay) = IsRunnerPost script task runner × (delay ≤ 10 ^ 12)
-IsActionSound script (Main task queue delay) = IsQueuePost script task queue × (delay ≤ 10 ^ 12)
+IsActionSound script (Post task runner delay) = IsRunnerPost script task runner × (delay ≤ MOST_MICROSECONDS)
+IsActionSound script (Main task queue delay) = IsQueuePost script task queue × (delay ≤ MOST_MICROSECONDS)
 IsActionSound script (Tick count) = (1 ≤ count) × (count ≤ 65536)
 IsActionSound script (Policy policy) = Unit {0}
 IsActionSound script (Fence queue place) = queue < length script.queues
@@ -107,18 +107,19 @@ IsInOrder earlier action = Unit {0}
 
 -- ---- the script
 
--- what every script that is read is like (this project's own notion)
-pub record IsSound (script : Plan) : Type 0 where
-  -- the configuration
+-- the configuration is in its ranges
+pub record IsConfigSound (script : Plan) : Type 0 where
   pub some_workers : 1 ≤ script.workers
-  pub few_workers : script.workers ≤ 64
+  pub few_workers : script.workers ≤ MOST_WORKERS
   pub some_foreground : 1 ≤ script.foreground
   pub few_foreground : script.foreground ≤ 64
   pub some_best : 1 ≤ script.foreground_best
   pub best_within : script.foreground_best ≤ script.foreground
   pub few_background : script.background ≤ 64
-  pub threshold_within : script.threshold ≤ 10 ^ 12
-  -- the limits
+  pub threshold_within : script.threshold ≤ MOST_MICROSECONDS
+
+-- nothing is more than the limits allow
+pub record IsWithinLimits (script : Plan) : Type 0 where
   pub few_runners : length script.runners ≤ MOST_RUNNERS
   pub few_queues : length script.queues ≤ MOST_QUEUES
   pub few_tasks : length script.tasks ≤ MOST_TASKS
@@ -127,15 +128,29 @@ pub record IsSound (script : Plan) : Type 0 where
   pub few_steps : sum_by (λ steps. length steps) script.tasks + sum_by (λ job. length job.steps) script.jobs ≤ MOST_STEPS
   pub few_ticks : sum_by ticks_of script.actions ≤ MOST_TICKS
   pub few_events : events_bound_of script ≤ MOST_EVENTS
-  -- the declarations
+
+-- each declaration is sound
+pub record AreDeclarationsSound (script : Plan) : Type 0 where
   pub seats_there : AllByRecursion (λ runner. IsSeatThere script runner.kind) script.runners
   pub queues_within : AllByRecursion IsQueueWithin script.queues
   pub tasks_sound : (t : ℕ) (steps : List Step) → slice_get script.tasks t ≡ Some steps → IsTaskSound script t steps
   pub jobs_sound : AllByRecursion IsJobSound script.jobs
-  -- the actions
-  pub actions_sound : AllByRecursion (IsActionSound script) script.actions
+
+-- each action is sound, and may stand behind those before it
+pub record AreActionsSound (script : Plan) : Type 0 where
+  pub each_sound : AllByRecursion (IsActionSound script) script.actions
   pub in_order : (k : ℕ) (action : Action) → slice_get script.actions k ≡ Some action → IsInOrder (take k script.actions) action
-  -- no task is posted twice, no job started twice, and shutdown not started twice
+
+-- no task is posted twice, no job started twice, and shutdown not started twice
+pub record IsDoneOnce (script : Plan) : Type 0 where
   pub posted_once : IsPostedOnce script
   pub started_once : (j : ℕ) → count (is_start_of j) script.actions ≤ 1
   pub one_shutdown : count is_shutdown script.actions ≤ 1
+
+-- what every script that is read is like (this project's own notion)
+pub record IsSound (script : Plan) : Type 0 where
+  pub config : IsConfigSound script
+  pub limits : IsWithinLimits script
+  pub declarations : AreDeclarationsSound script
+  pub actions : AreActionsSound script
+  pub once : IsDoneOnce script

@@ -1,4 +1,4 @@
-use Rattle.script_model.proofs.Laws.FaultLaws.{first_fault-found, first_fault-only}
+use Rattle.script_model.proofs.Laws.Faults.{first_fault-found, first_fault-only}
 use Rattle.script_model.proofs.grammar.first_bad_line_is_the_fault.Goals as goal
 
 pub returns-clause-found : goal.returns-clause-found

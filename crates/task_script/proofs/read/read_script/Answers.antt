@@ -1,7 +1,7 @@
 use Rattle.std.proofs.Common.{rules}
 use Rattle.task_script.specs.Form.{form_read}
-use Rattle.task_script.proofs.FormEmbeds.{form_is_script}
-use Rattle.task_script.proofs.FormLaws.{form_well}
+use Rattle.task_script.proofs.Form.Grammar.{form_is_script}
+use Rattle.task_script.proofs.Form.Sound.{form_well}
 use Rattle.task_script.proofs.read.read_script.Goals as goal
 
 pub returns-clause-form : goal.returns-clause-form

@@ -10,5 +10,5 @@ returns c =
     map_from_collect _ c.collect.ensures.ran
     (YieldsList-from_map_by _ (λ line. line.now) strip_carriage_return
     (YieldsList-at c.map.ensures.source (YieldsList-from_slice_split _
-        (λ b. eqb b 10) c.args.bytes.now c.split.ensures.rest c.split.ensures.done c.split.ensures.closure (λ x b q k. search (rules, tests))))
+    (λ b. eqb b 10) c.args.bytes.now c.split.ensures.rest c.split.ensures.done c.split.ensures.closure (λ x b q k. search (rules, tests))))
     c.map.ensures.closure (λ x r q k. search (rules, tests)))

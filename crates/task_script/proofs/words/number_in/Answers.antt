@@ -12,7 +12,7 @@ returns-in_err-number-clause-value c =
 pub returns-clause-value : goal.returns-clause-value
 returns-clause-value c =
     c.then_some.ensures ∙ rw c.is_between.ensures (sym (number_in-value c.args.low c.args.high c.in_ok-number.number c.args.word.now (cc)
-        (sym c.value_of.ensures ∙ c.in_ok-number.was)))
+    (sym c.value_of.ensures ∙ c.in_ok-number.was)))
 
 pub returns-clause-fits : goal.returns-clause-fits
 returns-clause-fits c = rw (c.then_some.ensures, c.is_between.ensures) (then_some-fits c.args.low c.args.high c.in_ok-number.number)

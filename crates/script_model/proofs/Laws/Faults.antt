@@ -1,5 +1,5 @@
 -- The first fault is that of the first bad line, behind the draft that the lines before it give.
-use Rattle.std.proofs.Common.{◌≡◌, ℕ, zero, suc, ◌+◌, List, [], ◌∷◌, take, refl, sym, ap, subst, ◌∙◌, Option, Some, None, Result, Ok, Err, arith}
+use Rattle.std.proofs.Common.{◌≡◌, ℕ, zero, suc, ◌+◌, List, [], ◌∷◌, take, refl, ap, ◌∙◌, Option, Some, None, Result, Ok, Err, arith}
 use Rattle.std.specs.Prelude.{slice_get}
 use Rattle.std.specs.Result.{result_err}
 use Rattle.script_model.specs.Words.{lines_of}
@@ -36,15 +36,13 @@ found d n [] k reason bad = let none : ◌≡◌ {A = Option (List ℕ)} None (S
 found d n (line ∷ lines) zero reason bad =
     let same : d ≡ bad.draft = ok_same d bad.draft bad.before in
     let here : line ≡ bad.line = cc in
-    let fault : line_read d line ≡ Err reason = subst (λ (x : List ℕ). line_read d x ≡ Err reason) (sym here)
-        (subst (λ (x : Draft). line_read x bad.line ≡ Err reason) (sym same) bad.fault) in
-    let place : n ≡ n + 0 = omega arith in
-    ap (λ (r : Result Draft ℕ). at_line n r >>= λ next. lines_read next (n + 1) lines) fault ∙ ap (λ (m : ℕ). Err (m, reason)) place
+    let place : n + 0 ≡ n = omega arith in
+    rw (same, here, bad.fault, place) refl
 found d n (line ∷ lines) (suc k) reason bad =
     let next = first_ok n (line_read d line) (λ next. lines_read next (n + 1) (take k lines)) bad.draft bad.before in
     let rest = found next.0 (n + 1) lines k reason (record { draft = bad.draft; line = bad.line; before = next.2; here = bad.here; fault = bad.fault }) in
-    let place : n + 1 + k ≡ n + suc k = omega arith in
-    ap (λ (r : Result Draft ℕ). at_line n r >>= λ next. lines_read next (n + 1) lines) next.1 ∙ rest ∙ ap (λ (m : ℕ). Err (m, reason)) place
+    let place : n + suc k ≡ n + 1 + k = omega arith in
+    rw (next.1, place) rest
 
 -- the fault of lines is a bad line
 only : (d : Draft) (n : ℕ) (lines : List (List ℕ)) (m reason : ℕ) → lines_read d n lines ≡ Err (m, reason)
@@ -59,10 +57,10 @@ only d n (line ∷ lines) m reason e = first (line_read d line) refl e (λ next 
     first (Ok next) is h go =
         let bad = go next h in
         let behind = bad.2 in
-        let goes : lines_read d n (take (suc bad.0) (line ∷ lines)) ≡ lines_read next (n + 1) (take bad.0 lines) =
-        ap (λ (r : Result Draft ℕ). at_line n r >>= λ next. lines_read next (n + 1) (take bad.0 lines)) is in
-        (suc bad.0, omega (arith, bad.1), record { draft = behind.draft; line = behind.line; before = goes
-            ∙ behind.before; here = behind.here; fault = behind.fault })
+        let before : lines_read d n (take (suc bad.0) (line ∷ lines)) ≡ Ok behind.draft = rw is behind.before in
+        let all : IsBadBehind d n (line ∷ lines) (suc bad.0) reason =
+        record { draft = behind.draft; line = behind.line; before = before; here = behind.here; fault = behind.fault } in
+        (suc bad.0, omega (arith, bad.1), all)
     first (Err r) is h go =
         let same : ◌≡◌ {A = ℕ × ℕ} (n, r) (m, reason) = err_same {A = Draft} (n, r) (m, reason) h in
         let place : n ≡ m = ap (λ (p : ℕ × ℕ). p.0) same in
@@ -78,9 +76,9 @@ pub first_fault-found : (bytes : List ℕ) (k reason : ℕ) → IsFaultBehind by
 unfolding script_read
 first_fault-found bytes k reason bad =
     let fault = found empty_draft 1 (lines_of bytes) k reason
-        (record { draft = bad.draft; line = bad.line; before = bad.before; here = bad.here; fault = bad.fault }) in
+    (record { draft = bad.draft; line = bad.line; before = bad.before; here = bad.here; fault = bad.fault }) in
     let place : 1 + k ≡ k + 1 = omega arith in
-    ap (λ (r : Result Draft (ℕ × ℕ)). result_err (r >>= λ d. Ok (script_of d))) fault ∙ ap (λ (m : ℕ). Some (m, reason)) place
+    rw (fault, place) refl
 
 pub first_fault-only : (bytes : List ℕ) (line reason : ℕ) → first_fault bytes ≡ Some (line, reason) → (k : ℕ) × (line ≡ k + 1) × IsFaultBehind bytes k reason
 unfolding script_read

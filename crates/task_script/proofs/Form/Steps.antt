@@ -1,25 +1,26 @@
 -- What the small form reads at a place, the whole grammar reads there too.
-use Rattle.std.proofs.Common.{◌≡◌, ℕ, ◌≤◌, Bool, true, false, cond, leb, List, [], ◌∷◌, map, refl, sym, ap, ◌∙◌, Option, Some, None, Result, Ok, Err, arith}
+use Rattle.std.proofs.Common.{◌≡◌, ℕ, ◌≤◌, Bool, true, false, cond, leb, List, [], ◌∷◌, map, refl, sym, ap, Option, Some, None, Result, Ok, Err, arith}
 use Rattle.std.specs.Prelude.{◌&&◌, codes, count_by}
 use Rattle.std.specs.List.{list_any, list_all, flat_map, slice_split}
 use Rattle.std.specs.Result.{result_ok}
 use Rattle.std.specs.Cmp.Lexicographic.{same_text}
-use Rattle.std.proofs.lemmas.Bool.Decides.{nat_tests}
 use Rattle.std.proofs.lemmas.List.Elements.{All-head, All-tail}
 use Rattle.std.proofs.lemmas.List.Sums.{sum_by-cons}
-use Rattle.std.proofs.lemmas.List.Concat.{flat_map-cons}
 use Rattle.task_base.specs.Steps.{is_act}
 use Rattle.task_base.specs.declared.step.Step.{Step}
-use Rattle.task_base.specs.declared.step.Step.TheVariants.{Add, Mul, Set, Post, Main, Block, Unblock}
+use Rattle.task_base.specs.declared.step.Step.TheVariants.{Add, Mul, Set}
 use Rattle.task_base.specs.declared.script.RunnerKind.{RunnerKind}
 use Rattle.task_base.specs.declared.script.RunnerKind.TheVariants.{Parallel, Sequenced}
 use Rattle.script_model.specs.Words.{number_of, is_word}
-use Rattle.script_model.specs.Reasons.{out_of_range}
 use Rattle.script_model.specs.Draft.{Draft, is_declared, is_block, has_bad_scopes, is_bad_post}
 use Rattle.script_model.specs.Postings.{posts_of_step}
-use Rattle.script_model.specs.Places.{in_range, number_from, kind_named, step_said, step_read, all_read, steps_read}
+use Rattle.script_model.specs.Places.{number_from, kind_named, step_said, step_read, all_read, steps_read}
+use Rattle.script_model.proofs.Laws.Computing.{computing_declared, computing_good, computing_opens, computing_scopes, computing_posts}
+use Rattle.std.proofs.lemmas.List.Folds.{list_any_none}
 use Rattle.task_script.specs.FormLines.{◌>>=◌, number_in, form_kind, step_named, form_step, all_some, form_steps}
-use Rattle.task_script.proofs.FormLaws.{bind_some, guard_some, number_in-bounds, Computes}
+use Rattle.task_script.proofs.Form.Parts.{bind_some, number_in-bounds, Computes}
+use Rattle.std.proofs.lemmas.Option.{cond_some}
+use Rattle.std.proofs.lemmas.Bool.{le-leb}
 
 -- what was found in an option is what a result holds
 pub result_ok-some : {A E : Type 0} (r : Result A E) (x : A) → result_ok r ≡ Some x → r ≡ Ok x
@@ -37,14 +38,7 @@ number_in-of low high word n e = found (number_of word) e
   where
     found : (o : Option ℕ) → (elim o as (λ _. Option ℕ) [ None ↦ None | Some m ↦ cond (leb low m && leb m high) (Some m) None ]) ≡ Some n → o ≡ Some n
     found None h = absurd cc
-    found (Some m) h = ap Some (guard_some (leb low m && leb m high) m n h).1
-
--- a number between two others passes the test of the range
-between : (low high n : ℕ) → low ≤ n → n ≤ high → (leb low n && leb n high) ≡ true
-between low high n h k =
-    let a : leb low n ≡ true = grind (arith, nat_tests) in
-    let b : leb n high ≡ true = grind (arith, nat_tests) in
-    rw (a, b) refl
+    found (Some m) h = ap Some (cond_some (leb low m && leb m high) m n h).1
 
 -- a number of the small form is one of the grammar, also where the grammar takes more
 pub number_from-wider : (low high wide : ℕ) (word : List ℕ) (n : ℕ) → high ≤ wide → number_in low high word ≡ Some n → number_from low wide word ≡ Ok n
@@ -52,7 +46,7 @@ unfolding number_from
 number_from-wider low high wide word n le e =
     let b = number_in-bounds low high word n e in
     let upper : n ≤ wide = omega (arith, b.1, le) in
-    ap (in_range low wide) (number_in-of low high word n e) ∙ ap (λ (t : Bool). cond t (Ok n) (Err out_of_range)) (between low wide n b.0 upper)
+    rw (number_in-of low high word n e, le-leb low n b.0, le-leb n wide upper) refl
 
 pub number_from-same : (low high : ℕ) (word : List ℕ) (n : ℕ) → number_in low high word ≡ Some n → number_from low high word ≡ Ok n
 number_from-same low high word n e = number_from-wider low high high word n (omega arith) e
@@ -104,54 +98,24 @@ steps_read-same (word ∷ words) steps e = all_read-same (slice_split (λ w. is_
 
 -- ---- steps that compute
 
--- what a step that computes does not do
-record ActsNot (d : Draft) (step : Step) : Type 0 where
-  declared : is_declared d step ≡ true
-  posts : posts_of_step step ≡ []
-  opens : is_block step ≡ false
-  misplaced : is_bad_post d step ≡ false
-
-acts_not : (d : Draft) (step : Step) → is_act step ≡ false → ActsNot d step
-acts_not d (Add by) e = record { declared = refl; posts = refl; opens = refl; misplaced = refl }
-acts_not d (Mul by) e = record { declared = refl; posts = refl; opens = refl; misplaced = refl }
-acts_not d (Set to) e = record { declared = refl; posts = refl; opens = refl; misplaced = refl }
-acts_not d (Post task runner delay) e = absurd cc
-acts_not d (Main task queue delay) e = absurd cc
-acts_not d (Block scope) e = absurd cc
-acts_not d Unblock e = absurd cc
-
-head : (step : Step) (steps : List Step) → Computes (step ∷ steps) → is_act step ≡ false
-head step steps c = All-head (λ s. is_act s ≡ false) step steps c
-
-tail : (step : Step) (steps : List Step) → Computes (step ∷ steps) → Computes steps
-tail step steps c = All-tail (λ s. is_act s ≡ false) step steps c
+-- steps that compute are no acts
+computes-no_acts : (steps : List Step) → Computes steps → list_any is_act steps ≡ false
+computes-no_acts steps c = list_any_none is_act steps c
 
 pub computes-declared : (d : Draft) (steps : List Step) → Computes steps → list_all (is_declared d) steps ≡ true
-computes-declared d [] c = refl
-computes-declared d (step ∷ steps) c = rw ((acts_not d step (head step steps c)).declared, computes-declared d steps (tail step steps c)) refl
+computes-declared d steps c = computing_declared d steps (computes-no_acts steps c)
 
-pub computes-posts : (d : Draft) (steps : List Step) → Computes steps → flat_map posts_of_step steps ≡ []
-computes-posts d [] c = refl
-computes-posts d (step ∷ steps) c = flat_map-cons posts_of_step step steps
-    ∙ rw ((acts_not d step (head step steps c)).posts, computes-posts d steps (tail step steps c)) refl
+pub computes-posts : (steps : List Step) → Computes steps → flat_map posts_of_step steps ≡ []
+computes-posts steps c = computing_posts steps (computes-no_acts steps c)
 
-pub computes-opens : (d : Draft) (steps : List Step) → Computes steps → list_any is_block steps ≡ false
-computes-opens d [] c = refl
-computes-opens d (step ∷ steps) c = rw ((acts_not d step (head step steps c)).opens, computes-opens d steps (tail step steps c)) refl
+pub computes-opens : (steps : List Step) → Computes steps → list_any is_block steps ≡ false
+computes-opens steps c = computing_opens steps (computes-no_acts steps c)
 
 pub computes-misplaced : (d : Draft) (steps : List Step) → Computes steps → list_any (is_bad_post d) steps ≡ false
-computes-misplaced d [] c = refl
-computes-misplaced d (step ∷ steps) c = rw ((acts_not d step (head step steps c)).misplaced, computes-misplaced d steps (tail step steps c)) refl
+computes-misplaced d steps c = computing_good d steps (computes-no_acts steps c)
 
 pub computes-scopes : (steps : List Step) → Computes steps → has_bad_scopes false steps ≡ false
-computes-scopes [] c = refl
-computes-scopes (Add by ∷ steps) c = computes-scopes steps (tail (Add by) steps c)
-computes-scopes (Mul by ∷ steps) c = computes-scopes steps (tail (Mul by) steps c)
-computes-scopes (Set to ∷ steps) c = computes-scopes steps (tail (Set to) steps c)
-computes-scopes (Post task runner delay ∷ steps) c = let e : true ≡ false = head (Post task runner delay) steps c in absurd cc
-computes-scopes (Main task queue delay ∷ steps) c = let e : true ≡ false = head (Main task queue delay) steps c in absurd cc
-computes-scopes (Block scope ∷ steps) c = let e : true ≡ false = head (Block scope) steps c in absurd cc
-computes-scopes (Unblock ∷ steps) c = let e : true ≡ false = head Unblock steps c in absurd cc
+computes-scopes steps c = computing_scopes steps (computes-no_acts steps c)
 
 abbrev pub one_if : Bool → ℕ
 one_if b = cond b 1 0
@@ -159,5 +123,5 @@ one_if b = cond b 1 0
 pub computes-acts : (steps : List Step) → Computes steps → count_by is_act steps ≡ 0
 computes-acts [] c = refl
 computes-acts (step ∷ steps) c =
-    let here : one_if (is_act step) ≡ 0 = ap one_if (head step steps c) in
-    omega (arith, sum_by-cons (λ s. one_if (is_act s)) step steps, here, computes-acts steps (tail step steps c))
+    let here : one_if (is_act step) ≡ 0 = ap one_if (All-head (λ s. is_act s ≡ false) step steps c) in
+    omega (arith, sum_by-cons (λ s. one_if (is_act s)) step steps, here, computes-acts steps (All-tail (λ s. is_act s ≡ false) step steps c))

@@ -1,6 +1,6 @@
 -- The totals of a sound draft, as the whole grammar counts them.
-use Rattle.std.proofs.Common.{◌≡◌, ℕ, ◌*◌, ◌<◌, Bool, true, false, eqb, List, [], ◌∷◌, ◌++◌, length, get_or, refl, ap, ◌∙◌, arith}
-use Rattle.std.specs.Prelude.{◌||◌, sum_by, All}
+use Rattle.std.proofs.Common.{◌≡◌, ℕ, ◌*◌, ◌<◌, true, false, eqb, List, [], ◌∷◌, ◌++◌, length, get_or, refl, ap, ◌∙◌, arith}
+use Rattle.std.specs.Prelude.{sum_by, All}
 use Rattle.std.specs.List.{list_any, flat_map}
 use Rattle.std.proofs.lemmas.List.{length-append}
 use Rattle.std.proofs.lemmas.List.Elements.{All-head, All-tail}
@@ -17,8 +17,10 @@ use Rattle.script_model.specs.Postings.{posts_of_step, posts_of_action}
 use Rattle.task_script.specs.FormDraft.{is_posted, is_post_of, steps_of_tasks, form_events}
 use Rattle.task_script.specs.Wants.{wants_of}
 use Rattle.task_script.specs.WellFormed.{is_form_action}
-use Rattle.task_script.proofs.FormLaws.{IsSound, Computes}
-use Rattle.task_script.proofs.FormSteps.{computes-posts, computes-opens, computes-acts}
+use Rattle.task_script.proofs.Form.Parts.{Computes}
+use Rattle.task_script.proofs.Form.Sound.{IsSound}
+use Rattle.std.proofs.Math.Bool.{or-false}
+use Rattle.task_script.proofs.Form.Steps.{computes-posts, computes-opens, computes-acts}
 
 -- the actions are those of the small form
 abbrev Plain : List Action → Type 0
@@ -26,20 +28,24 @@ Plain actions = All (λ action. is_form_action action ≡ true) actions
 
 -- ---- tasks
 
-tasks_post_nothing : (d : Draft) (tasks : List (List Step)) → All Computes tasks → flat_map (λ steps. flat_map posts_of_step steps) tasks ≡ []
-tasks_post_nothing d [] c = refl
-tasks_post_nothing d (steps ∷ tasks) c =
+tasks_post_nothing : (tasks : List (List Step)) → All Computes tasks → flat_map (λ steps. flat_map posts_of_step steps) tasks ≡ []
+tasks_post_nothing [] c = refl
+tasks_post_nothing (steps ∷ tasks) c =
     flat_map-cons (λ s. flat_map posts_of_step s) steps tasks
-        ∙ rw (computes-posts d steps (All-head Computes steps tasks c), tasks_post_nothing d tasks (All-tail Computes steps tasks c)) refl
+    ∙ rw (computes-posts steps (All-head Computes steps tasks c), tasks_post_nothing tasks (All-tail Computes steps tasks c)) refl
 
 tasks_take_two : (tasks : List (List Step)) → All Computes tasks → sum_by events_of_task tasks ≡ 2 * length tasks
 tasks_take_two [] c = refl
 tasks_take_two (steps ∷ tasks) c =
-    omega (arith, sum_by-cons events_of_task steps tasks, computes-acts steps (All-head Computes steps tasks c), tasks_take_two tasks
-        (All-tail Computes steps tasks c))
+    omega (
+      arith,
+      sum_by-cons events_of_task steps tasks,
+      computes-acts steps (All-head Computes steps tasks c),
+      tasks_take_two tasks (All-tail Computes steps tasks c),
+    )
 
 pub sound-has_block : (d : Draft) (t : ℕ) → IsSound d → t < length d.tasks → has_block d t ≡ false
-sound-has_block d t sound lt = computes-opens d (get_or d.tasks t []) (sound.computes t [] lt)
+sound-has_block d t sound lt = computes-opens (get_or d.tasks t []) (sound.computes t [] lt)
 
 -- ---- actions
 
@@ -48,10 +54,6 @@ record IsPlain (action : Action) (t : ℕ) : Type 0 where
   events : events_of_action action ≡ length (wants_of action)
   ticks : ticks_of action ≡ 0
   posts : list_any (λ posted. eqb posted t) (posts_of_action action) ≡ is_post_of t action
-
-or-false : (b : Bool) → (b || false) ≡ b
-or-false true = refl
-or-false false = refl
 
 plain : (action : Action) (t : ℕ) → is_form_action action ≡ true → IsPlain action t
 plain (Post task runner delay) t e = record { events = refl; ticks = refl; posts = or-false (eqb task t) }
@@ -90,8 +92,12 @@ actions_take (action ∷ actions) p =
 
 actions_tick : (actions : List Action) → Plain actions → sum_by ticks_of actions ≡ 0
 actions_tick [] p = refl
-actions_tick (action ∷ actions) p = omega (arith, sum_by-cons ticks_of action actions, (first action actions 0 p).ticks, actions_tick actions
-    (rest action actions p))
+actions_tick (action ∷ actions) p = omega (
+  arith,
+  sum_by-cons ticks_of action actions,
+  (first action actions 0 p).ticks,
+  actions_tick actions (rest action actions p),
+)
 
 actions_post : (actions : List Action) (t : ℕ) → Plain actions → list_any (λ posted. eqb posted t) (flat_map posts_of_action actions) ≡ is_posted actions t
 actions_post [] t p = refl
@@ -104,8 +110,8 @@ actions_post (action ∷ actions) t p =
 
 pub sound-posted : (d : Draft) (t : ℕ) → IsSound d → list_any (λ posted. eqb posted t) (posted_in d) ≡ is_posted d.actions t
 sound-posted d t sound =
-    ap (λ (ts : List ℕ). list_any (λ posted. eqb posted t) (ts ++ flat_map posts_of_action d.actions)) (tasks_post_nothing d d.tasks sound.computes)
-        ∙ actions_post d.actions t sound.form_actions
+    ap (λ (ts : List ℕ). list_any (λ posted. eqb posted t) (ts ++ flat_map posts_of_action d.actions)) (tasks_post_nothing d.tasks sound.computes)
+    ∙ actions_post d.actions t sound.form_actions
 
 pub sound-steps : (d : Draft) → IsSound d → steps_in d ≡ steps_of_tasks d.tasks
 sound-steps d sound =

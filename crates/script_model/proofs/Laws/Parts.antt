@@ -1,7 +1,7 @@
 -- What a line that is read says of its places, and which refusals it passed.
-use Rattle.std.proofs.Common.{◌≡◌, ℕ, zero, suc, ◌+◌, ◌<◌, ◌≤◌, Bool, true, false, cond, eqb, ltb, leb, List, [], ◌∷◌, ◌++◌, length, drop, map, refl, ap, subst, ◌∙◌, Option, Some, None, Result, Ok, Err, arith, inl, inr}
-use Rattle.std.specs.Prelude.{◌-◌, ◌^◌, take, not, ◌&&◌, ◌||◌, codes, slice_get, ◌⊎◌}
-use Rattle.std.specs.List.{list_any, AllByRecursion, slice_split}
+use Rattle.std.proofs.Common.{◌≡◌, ℕ, ◌≤◌, Bool, true, false, cond, eqb, ltb, leb, List, [], ◌∷◌, length, drop, map, refl, ap, subst, Option, Some, None, Result, Ok, Err, arith}
+use Rattle.std.specs.Prelude.{◌-◌, ◌^◌, take, ◌&&◌, codes, slice_get}
+use Rattle.std.specs.List.{AllByRecursion, slice_split}
 use Rattle.std.proofs.lemmas.Bool.Decides.{nat_tests}
 use Rattle.std.proofs.lemmas.Bool.{eqb-true}
 use Rattle.list_laws.specs.Lists.{count}
@@ -9,6 +9,8 @@ use Rattle.script_model.specs.Postings.{times}
 use Rattle.script_model.specs.Draft.{is_any_posted}
 use Rattle.script_model.proofs.Laws.FaultLaws.{ok_same}
 use Rattle.list_laws.proofs.Counts.{count-cons}
+use Rattle.task_base.specs.declared.limits.TheConstants.{MOST_WORKERS, MOST_MICROSECONDS}
+use Rattle.script_model.proofs.Laws.Faults.{ok_same}
 use Rattle.task_base.specs.declared.step.Step.{Step}
 use Rattle.task_base.specs.declared.step.Step.TheVariants.{Add, Mul, Set, Post, Main, Block, Unblock}
 use Rattle.task_base.specs.declared.script.RunnerKind.{RunnerKind}
@@ -103,18 +105,19 @@ named_all P [] word all x e = absurd cc
 named_all P (entry ∷ table) word all x e = either_way P (is_word word entry.0) (Ok entry.1) (named table word)
     (λ y h. subst P (ok_same {E = ℕ} entry.1 y h) all.0) (named_all P table word all.1) x e
 
--- a seat that a kind names is from 1 to 64
+-- a seat that a kind names is from 1 to the most workers
 abbrev pub IsSeatWithin : RunnerKind → Type 0
-IsSeatWithin (Single seat) = (1 ≤ seat) × (seat ≤ 64)
+IsSeatWithin (Single seat) = (1 ≤ seat) × (seat ≤ MOST_WORKERS)
 IsSeatWithin Parallel = Unit {0}
 IsSeatWithin Sequenced = Unit {0}
 
 pub kind_named-within : (word : List ℕ) (kind : RunnerKind) → kind_named word ≡ Ok kind → IsSeatWithin kind
 unfolding kind_named
-kind_named-within word kind e = either_way IsSeatWithin (is_word (take 7 word) (codes "single:")) (number_from 1 64 (drop 7 word) >>= λ seat. Ok (Single seat))
+kind_named-within word kind e = either_way IsSeatWithin (is_word (take 7 word) (codes "single:"))
+    (number_from 1 MOST_WORKERS (drop 7 word) >>= λ seat. Ok (Single seat))
     (named ((codes "parallel", Parallel) ∷ (codes "sequenced", Sequenced) ∷ []) word)
-    (λ x h. let seat = bind_ok (number_from 1 64 (drop 7 word)) (λ seat. Ok (Single seat)) x h in
-        subst IsSeatWithin (ok_same {E = ℕ} (Single seat.0) x seat.2) (number_from-within 1 64 (drop 7 word) seat.0 seat.1))
+    (λ x h. let seat = bind_ok (number_from 1 MOST_WORKERS (drop 7 word)) (λ seat. Ok (Single seat)) x h in
+    subst IsSeatWithin (ok_same {E = ℕ} (Single seat.0) x seat.2) (number_from-within 1 64 (drop 7 word) seat.0 seat.1))
     (named_all IsSeatWithin ((codes "parallel", Parallel) ∷ (codes "sequenced", Sequenced) ∷ []) word (tt, (tt, tt))) kind e
 
 compute_within : (made : ℕ → Step) → ((k : ℕ) → k ≤ 2 ^ 64 - 1 → IsStepWithin (made k)) → (words : List (List ℕ)) (step : Step)
@@ -124,7 +127,7 @@ compute_within made f words step e =
     let both = both_ok (number_at 0 (2 ^ 64 - 1) words 0) (ends_at words 1) p.0.0 p.0.1 p.1 in
     subst IsStepWithin (ok_same {E = ℕ} (made p.0.0) step p.2) (f p.0.0 (number_at-within 0 (2 ^ 64 - 1) words 0 p.0.0 both.0).1)
 
-post_within : (made : ℕ → ℕ → ℕ → Step) → ((task home delay : ℕ) → delay ≤ 10 ^ 12 → IsStepWithin (made task home delay))
+post_within : (made : ℕ → ℕ → ℕ → Step) → ((task home delay : ℕ) → delay ≤ MOST_MICROSECONDS → IsStepWithin (made task home delay))
     → (words : List (List ℕ)) (step : Step) → post_read made words ≡ Ok step → IsStepWithin step
 post_within made f words step e =
     let p = bind_ok (id_at words 0 & id_at words 1 & time_at words 2 & ends_at words 3) (λ p. Ok (made p.0 p.1.0 p.1.1.0)) step e in
@@ -132,7 +135,7 @@ post_within made f words step e =
     let b1 = both_ok (id_at words 1) (time_at words 2 & ends_at words 3) p.0.1.0 p.0.1.1 b0.1 in
     let b2 = both_ok (time_at words 2) (ends_at words 3) p.0.1.1.0 p.0.1.1.1 b1.1 in
     subst IsStepWithin (ok_same {E = ℕ} (made p.0.0 p.0.1.0 p.0.1.1.0) step p.2)
-        (f p.0.0 p.0.1.0 p.0.1.1.0 (number_at-within 0 (10 ^ 12) words 2 p.0.1.1.0 b2.0).1)
+    (f p.0.0 p.0.1.0 p.0.1.1.0 (number_at-within 0 MOST_MICROSECONDS words 2 p.0.1.1.0 b2.0).1)
 
 block_within : (words : List (List ℕ)) (step : Step) → block_read words ≡ Ok step → IsStepWithin step
 block_within words step e =
@@ -157,7 +160,7 @@ step_said-within name words step e =
     (either_way IsStepWithin (is_word name (codes "main")) (post_read Main words) _ (post_within Main (λ t h u k. k) words)
     (either_way IsStepWithin (is_word name (codes "block")) (block_read words) _ (block_within words)
     (either_way IsStepWithin (is_word name (codes "unblock")) (ends_at words 0 >> Ok Unblock) (Err unknown_word) (unblock_within words)
-        (none_such IsStepWithin unknown_word))))))) step e
+    (none_such IsStepWithin unknown_word))))))) step e
 
 step_within : (words : List (List ℕ)) (step : Step) → step_read words ≡ Ok step → IsStepWithin step
 step_within [] step e = absurd cc
@@ -175,89 +178,6 @@ unfolding steps_read
 steps_read-within [] steps e = subst (AllByRecursion IsStepWithin) (ok_same {E = ℕ} [] steps e) tt
 steps_read-within (word ∷ words) steps e = pieces_within (slice_split (λ w. is_word w (codes ";")) (word ∷ words)) steps e
 
--- ---- tests
-
-pub not_false : (b : Bool) → not b ≡ false → b ≡ true
-not_false true e = refl
-not_false false e = absurd cc
-
-pub and_both : (b c : Bool) → (b && c) ≡ true → (b ≡ true) × (c ≡ true)
-and_both true c e = (refl, e)
-and_both false c e = absurd cc
-
-pub or_neither : (b c : Bool) → (b || c) ≡ false → (b ≡ false) × (c ≡ false)
-or_neither true c e = absurd cc
-or_neither false c e = (refl, e)
-
-pub at_most : (a b : ℕ) → ltb a b ≡ false → b ≤ a
-at_most a b h = grind (arith, nat_tests)
-
-pub below : (a b : ℕ) → ltb a b ≡ true → a < b
-below a b h = grind (arith, nat_tests)
-
 pub nothing : {A : Type 0} (xs : List A) → eqb (length xs) 0 ≡ true → xs ≡ []
 nothing [] e = refl
 nothing (x ∷ xs) e = absurd (let none : length (x ∷ xs) ≡ 0 = eqb-true _ _ e in omega (arith, none))
-
--- ---- one more element
-
--- an element of a joined list is one of either part
-pub slice_get-append : {A : Type 0} (xs ys : List A) (k : ℕ) (x : A) → slice_get (xs ++ ys) k ≡ Some x
-    → ((k < length xs) × (slice_get xs k ≡ Some x)) ⊎ ((j : ℕ) × (k ≡ length xs + j) × (slice_get ys j ≡ Some x))
-slice_get-append [] ys k x e = inr (k, omega arith, e)
-slice_get-append (y ∷ xs) ys zero x e = inl (omega arith, e)
-slice_get-append (y ∷ xs) ys (suc k) x e = elim (slice_get-append xs ys k x e) [
-  | inl p ↦ inl (omega (arith, p.0), p.1)
-  | inr p ↦ inr (p.0, omega (arith, p.1), p.2)
-]
-
--- an element of the front is there in the joined list
-pub slice_get_front : {A : Type 0} (xs ys : List A) (k : ℕ) → k < length xs → slice_get (xs ++ ys) k ≡ slice_get xs k
-slice_get_front [] ys k below = absurd (omega (arith, below))
-slice_get_front (x ∷ xs) ys zero below = refl
-slice_get_front (x ∷ xs) ys (suc k) below = slice_get_front xs ys k (omega (arith, below))
-
--- an element of a list with one more is one of the list, or the new one
-pub slice_get_push : {A : Type 0} (xs : List A) (y : A) (k : ℕ) (x : A) → slice_get (xs ++ y ∷ []) k ≡ Some x
-    → ((k < length xs) × (slice_get xs k ≡ Some x)) ⊎ ((k ≡ length xs) × (y ≡ x))
-slice_get_push {A = A} xs y k x e = elim (slice_get-append xs (y ∷ []) k x e) [
-  | inl p ↦ inl p
-  | inr p ↦ inr (new p.0 p.1 p.2)
-]
-  where
-    new : (j : ℕ) → k ≡ length xs + j → slice_get (y ∷ []) j ≡ Some x → (k ≡ length xs) × (y ≡ x)
-    new zero place h = (omega (arith, place), cc)
-    new (suc j) place h = absurd cc
-
-pub all_push : {A : Type 0} (P : A → Type 0) (xs : List A) (x : A) → AllByRecursion P xs → P x → AllByRecursion P (xs ++ x ∷ [])
-all_push P [] x all one = (one, tt)
-all_push P (y ∷ xs) x all one = (all.0, all_push P xs x all.1 one)
-
-pub count_none : {A : Type 0} (p : A → Bool) (xs : List A) → list_any p xs ≡ false → count p xs ≡ 0
-count_none p [] e = refl
-count_none p (x ∷ xs) e =
-    let neither = or_neither (p x) (list_any p xs) e in
-    count-cons p x xs ∙ ap (λ (b : Bool). count p xs + cond b 1 0) neither.0 ∙ ap (λ (n : ℕ). n + 0) (count_none p xs neither.1)
-
--- ---- postings
-
--- tasks that were not posted, and are not posted twice, are posted once behind the earlier ones
-pub times_fresh : (earlier new : List ℕ) (t : ℕ) → is_any_posted earlier new ≡ false → times t earlier ≤ 1 → times t earlier + times t new ≤ 1
-times_fresh earlier [] t e once = omega (arith, once)
-times_fresh earlier (u ∷ new) t e once =
-    let neither = or_neither (list_any (λ posted. eqb posted u) earlier) (is_any_posted (u ∷ earlier) new) e in
-    let none : times u earlier ≡ 0 = count_none (λ posted. eqb posted u) earlier neither.0 in
-    let more : times t (u ∷ earlier) ≡ times t earlier + cond (eqb u t) 1 0 = count-cons (λ v. eqb v t) u earlier in
-    let here : times t (u ∷ new) ≡ times t new + cond (eqb u t) 1 0 = count-cons (λ v. eqb v t) u new in
-    let still : times t (u ∷ earlier) ≤ 1 = by (eqb u t) refl none more in
-    omega (arith, more, here, times_fresh (u ∷ earlier) new t neither.1 still)
-  where
-    by : (b : Bool) → eqb u t ≡ b → times u earlier ≡ 0 → times t (u ∷ earlier) ≡ times t earlier + cond (eqb u t) 1 0 → times t (u ∷ earlier) ≤ 1
-    by true is none more =
-        let same : u ≡ t = eqb-true u t is in
-        let zero_t : times t earlier ≡ 0 = subst (λ (v : ℕ). times v earlier ≡ 0) same none in
-        let one : times t (u ∷ earlier) ≡ times t earlier + 1 = more ∙ ap (λ (b : Bool). times t earlier + cond b 1 0) is in
-        omega (arith, zero_t, one)
-    by false is none more =
-        let one : times t (u ∷ earlier) ≡ times t earlier + 0 = more ∙ ap (λ (b : Bool). times t earlier + cond b 1 0) is in
-        omega (arith, one, once)
