@@ -21,7 +21,6 @@ use Rattle.task_model.specs.Past.{fold_past}
 use Rattle.task_model.specs.Time.{now_of, tick_from}
 use Rattle.task_model.proofs.Growth.{main_posts_push}
 use Rattle.list_laws.proofs.Values.{some-injective}
-use Rattle.list_laws.proofs.Lists.{filter_split, count_less, AllByRecursion-members}
 use Rattle.queue_laws.proofs.Orders.{main_places, order_of_same, order_tick, order_at_post, unordered}
 use Rattle.list_laws.specs.Lists.{count, Ranks}
 use Rattle.task_model.specs.Posts.{Posted, Before, InOrder, is_delayed, post_behind, main_posted_by, main_posts, ripens_before}
