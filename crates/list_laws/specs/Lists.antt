@@ -1,5 +1,5 @@
 -- Counting in lists, and their least elements.
-use Rattle.std.specs.Prelude.{◌≡◌, ℕ, Bool, false, if◌then◌else◌, List, [], ◌∷◌, length, filter, Option, Some, None, All, Contains}
+use Rattle.std.specs.Prelude.{◌≡◌, ℕ, ◌<◌, Bool, true, false, if◌then◌else◌, List, [], ◌∷◌, length, filter, Option, Some, None, All, Contains}
 
 -- how many elements pass the test
 abbrev pub count : {A : Type 0} → (A → Bool) → List A → ℕ
@@ -24,3 +24,8 @@ holds_of test (Some x) = test x
 pub record IsLeast {A : Type 0} (below : A → A → Bool) (xs : List A) (x : A) : Type 0 where
   pub member : Contains xs x
   pub none_below : All (λ y. below y x ≡ false) xs
+
+-- the first number that passes the test: it passes, and no lesser one does
+pub record IsFirst (test : ℕ → Bool) (n : ℕ) : Type 0 where
+  pub passes : test n ≡ true
+  pub none_lesser : (m : ℕ) → m < n → test m ≡ false
