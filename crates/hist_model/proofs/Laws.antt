@@ -2,6 +2,7 @@
 pub mod Legal
 pub mod Choice
 pub mod Takes
+pub mod Whose
 pub mod Consistent
 pub mod Own
 pub mod Shutdown
@@ -13,3 +14,7 @@ pub mod PostedOnce
 pub mod Differing
 pub mod OneThing
 pub mod Rising
+pub mod OneSeat
+pub mod Phases
+pub mod Claims
+pub mod HoldsApart

@@ -5,3 +5,4 @@ pub mod Queues
 pub mod Jobs
 pub mod Edges
 pub mod Refusals
+pub mod Corners

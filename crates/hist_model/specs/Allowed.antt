@@ -1,6 +1,7 @@
 -- What may come after a past (this project's own rules).
-use Rattle.std.specs.Prelude.{ℕ, ◌^◌, ◌==◌, Bool, true, false, not, ◌&&◌, ◌||◌, nat_le, if◌then◌else◌, List, length, filter, Option, Some, None, is_none, IsTrue}
+use Rattle.std.specs.Prelude.{ℕ, ◌==◌, Bool, true, false, not, ◌&&◌, ◌||◌, nat_le, if◌then◌else◌, List, length, filter, Option, Some, None, is_none, IsTrue}
 use Rattle.std.specs.List.{list_all}
+use Rattle.task_base.specs.declared.limits.TheConstants.{LAST_MOMENT}
 use Rattle.task_base.specs.Plan.{Plan}
 use Rattle.task_base.specs.Steps.{after, is_act}
 use Rattle.task_base.specs.declared.step.Step.{Step}
@@ -111,9 +112,9 @@ may_come script past seat (kinds.Post task runner delay ok) =
 may_come script past seat (kinds.Main task queue delay ok) =
     (by_script script past seat (kinds.Main task queue delay ok) || by_task script past seat (kinds.Main task queue delay ok))
     && is_reply (is_closed past queue) ok
--- by the script; the moment is at least the last one, and at most 2^62
+-- by the script; the moment is at least the last one, and at most the last moment of all
 may_come script past seat (kinds.Tick now) =
-    by_script script past seat (kinds.Tick now) && nat_le (now_of past) now && nat_le now (2 ^ 62)
+    by_script script past seat (kinds.Tick now) && nat_le (now_of past) now && nat_le now LAST_MOMENT
 -- a worker that is free, while the script is not finished; the best source is a sequence with this head, which finds its cell
 may_come script past seat (kinds.Take task runner found) =
     is_ready_worker script past seat && holds_of (λ c. is_head_of script past task runner found c.source) (best_of script past seat)

@@ -33,5 +33,5 @@ pub record IsIllegalAt (script : Plan) (log : List Entry) (place : ℕ) : Type 0
   pub rest : List Entry
   pub parts : log ≡ past ++ entry ∷ rest
   pub place_is : length past ≡ place
-  pub legal_before : is_legal script past ≡ true
+  pub legal_before : IsLegal script past
   pub not_allowed : is_allowed script past entry ≡ false

@@ -7,17 +7,21 @@
 
 mod current;
 mod histories;
+mod jobs;
 mod moments;
+mod phases;
 mod postings;
 mod seats;
 mod shutdown;
 
 pub use current::the_current_action_moves_on;
 pub use histories::{legal_histories_grow, the_first_illegal_place_is_told};
+pub use jobs::claimed_items_are_done_or_held;
 pub use moments::moments_and_orders_rise;
+pub use phases::phases_never_go_back;
 pub use postings::each_task_is_posted_once;
 pub use seats::{
-    legal_histories_are_consistent, own_entries_tell_the_seat, seats_do_one_thing,
-    takes_are_of_heads,
+    legal_histories_are_consistent, own_entries_tell_the_seat, running_tasks_have_one_seat,
+    seats_do_one_thing, takes_are_of_heads,
 };
 pub use shutdown::shutdown_waits_and_forbids;

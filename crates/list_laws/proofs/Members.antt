@@ -1,93 +1,83 @@
--- What is in a filtered list, in what is made of a list, and in a row of numbers.
-use Rattle.std.proofs.Common.{◌≡◌, ℕ, ◌+◌, ◌-◌, ◌<◌, Bool, true, List, [], ◌∷◌, ◌++◌, length, refl, sym, ap, ◌∙◌, Option, Some, None, arith}
-use Rattle.std.specs.Prelude.{filter, Contains}
-use Rattle.std.specs.Option.{IfSome}
-use Rattle.std.specs.List.{filter_map, cons_option, range_with_len, AllByRecursion}
-use Rattle.std.proofs.lemmas.List.Elements.{All-from_recursion, recursion_from_All, All-contains, All-contains_itself, All-filter, filter_passes, filter_map-append}
-use Rattle.std.proofs.lemmas.List.FromFn.{length-range_with_len, get_or-range_with_len}
-use Rattle.list_laws.proofs.Lists.{AllByRecursion-filter_map, AllByRecursion-map, AllByRecursion-range, filter_map_congr_in, range_split}
-use Rattle.list_laws.proofs.Least.{unfiltered}
+-- Lists of the same elements.
+use Rattle.std.proofs.Common.{◌≡◌, List, [], ◌∷◌, ◌++◌, map, refl, sym, Option, Some, None}
+use Rattle.std.specs.Prelude.{Contains}
+use Rattle.std.specs.Option.{option_or}
+use Rattle.std.specs.List.{filter_map, cons_option, AllByRecursion}
+use Rattle.std.proofs.lemmas.List.Elements.{Contains-append_left, Contains-append_right}
+use Rattle.std.proofs.lemmas.Option.{none-some}
+use Rattle.list_laws.specs.Sorts.{SameMembers}
+use Rattle.list_laws.proofs.Elements.{AllByRecursion-map, AllByRecursion-append, AllByRecursion-front, AllByRecursion-back, AllByRecursion-mapped, AllByRecursion-unmapped, AllByRecursion-contains_itself, AllByRecursion-through}
 
--- what is in a filtered list is in the list, and passes
-pub filter_contains : {A : Type 0} (p : A → Bool) (xs : List A) (x : A) → Contains (filter p xs) x → Contains xs x × (p x ≡ true)
-filter_contains p xs x h = (
-  All-contains (Contains xs) (filter p xs) x (All-filter p (Contains xs) xs (All-contains_itself xs)) h,
-  All-contains (λ y. p y ≡ true) (filter p xs) x (filter_passes p xs) h,
-)
+pub same_members-refl : {A : Type 0} (xs : List A) → SameMembers xs xs
+same_members-refl xs = record { forth = AllByRecursion-contains_itself xs; back = AllByRecursion-contains_itself xs }
 
--- and what is in the list, and passes, is in the filtered list
-pub contains_filter : {A : Type 0} (p : A → Bool) (xs : List A) (x : A) → Contains xs x → p x ≡ true → Contains (filter p xs) x
-contains_filter p xs x h is =
-    All-contains (λ y. p y ≡ true → Contains (filter p xs) y) xs x
-    (All-from_recursion (λ y. p y ≡ true → Contains (filter p xs) y) xs
-    (unfiltered (Contains (filter p xs)) p xs (recursion_from_All (Contains (filter p xs)) (filter p xs) (All-contains_itself (filter p xs)))))
-    h is
+pub same_members-trans : {A : Type 0} (xs ys zs : List A) → SameMembers xs ys → SameMembers ys zs → SameMembers xs zs
+same_members-trans xs ys zs one two = record {
+  forth = AllByRecursion-through (Contains zs) xs ys one.forth two.forth;
+  back = AllByRecursion-through (Contains xs) zs ys two.back one.back;
+}
 
--- what is in the list that is made of a list is made of one of its elements
-pub filter_map_contains : {A B : Type 0} (f : A → Option B) (xs : List A) (y : B) → Contains (filter_map f xs) y → (x : A) × Contains xs x × (f x ≡ Some y)
-filter_map_contains {A = A} {B = B} f xs y h =
-    All-contains (λ z. (x : A) × Contains xs x × (f x ≡ Some z)) (filter_map f xs) y
-    (All-from_recursion (λ z. (x : A) × Contains xs x × (f x ≡ Some z)) (filter_map f xs)
-    (AllByRecursion-filter_map (λ z. (x : A) × Contains xs x × (f x ≡ Some z)) f xs
-    (AllByRecursion-map (Contains xs) (λ x. IfSome (f x) (λ z. (w : A) × Contains xs w × (f w ≡ Some z))) xs (λ x at. made x at (f x) refl)
-    (recursion_from_All (Contains xs) xs (All-contains_itself xs))))) h
+pub same_members-append : {A : Type 0} (xs ys us vs : List A) → SameMembers xs ys → SameMembers us vs → SameMembers (xs ++ us) (ys ++ vs)
+same_members-append {A = A} xs ys us vs one two = record { forth = half xs ys us vs one.forth two.forth; back = half ys xs vs us one.back two.back }
   where
-    made : (x : A) → Contains xs x → (o : Option B) → f x ≡ o → IfSome o (λ z. (w : A) × Contains xs w × (f w ≡ Some z))
-    made x at None is = tt
-    made x at (Some z) is = (x, at, is)
+    half : (ms ns ks ls : List A) → AllByRecursion (Contains ns) ms → AllByRecursion (Contains ls) ks → AllByRecursion (Contains (ns ++ ls)) (ms ++ ks)
+    half ms ns ks ls h k = AllByRecursion-append (Contains (ns ++ ls)) ms ks
+        (AllByRecursion-map (Contains ns) (Contains (ns ++ ls)) ms (λ x. Contains-append_left ns ls x) h)
+        (AllByRecursion-map (Contains ls) (Contains (ns ++ ls)) ks (λ x. Contains-append_right ns ls x) k)
 
--- what holds of all that is made of a list holds of what is made of each element
-unmade : {A B : Type 0} (P : B → Type 0) (f : A → Option B) (xs : List A) → AllByRecursion P (filter_map f xs) → AllByRecursion (λ x. IfSome (f x) P) xs
-unmade P f [] h = tt
-unmade {B = B} P f (x ∷ xs) h = by (f x) h (unmade P f xs)
+pub same_members-map : {A B : Type 0} (f : A → B) (xs ys : List A) → SameMembers xs ys → SameMembers (map f xs) (map f ys)
+same_members-map {A = A} {B = B} f xs ys same = record { forth = half xs ys same.forth; back = half ys xs same.back }
   where
-    by : (o : Option B) → AllByRecursion P (cons_option o (filter_map f xs)) → (AllByRecursion P (filter_map f xs) → AllByRecursion (λ y. IfSome (f y) P) xs)
-        → IfSome o P × AllByRecursion (λ y. IfSome (f y) P) xs
-    by None all rest = (tt, rest all)
-    by (Some y) all rest = (all.0, rest all.1)
+    half : (ms ns : List A) → AllByRecursion (Contains ns) ms → AllByRecursion (Contains (map f ns)) (map f ms)
+    half ms ns within = AllByRecursion-mapped (Contains (map f ns)) f ms
+        (AllByRecursion-through (λ x. Contains (map f ns) (f x)) ms ns within
+        (AllByRecursion-unmapped (Contains (map f ns)) f ns (AllByRecursion-contains_itself (map f ns))))
 
--- and what is made of one of the elements is in that list
-pub contains_filter_map : {A B : Type 0} (f : A → Option B) (xs : List A) (x : A) (y : B) → Contains xs x → f x ≡ Some y → Contains (filter_map f xs) y
-contains_filter_map f xs x y h is =
-    let made : IfSome (f x) (Contains (filter_map f xs)) = All-contains (λ z. IfSome (f z) (Contains (filter_map f xs))) xs x
-    (All-from_recursion (λ z. IfSome (f z) (Contains (filter_map f xs))) xs (unmade (Contains (filter_map f xs)) f xs
-    (recursion_from_All (Contains (filter_map f xs)) (filter_map f xs) (All-contains_itself (filter_map f xs))))) h in
-    rw is at made
-
--- the numbers in the row of the first n numbers
-pub contains_range : (n i : ℕ) → i < n → Contains (range_with_len 0 n) i
-contains_range n i less = (i, rw (length-range_with_len 0 n) less, omega (arith, get_or-range_with_len 0 n i i less))
-
-pub range_contains : (n i : ℕ) → Contains (range_with_len 0 n) i → i < n
-range_contains n i h = All-contains (λ k. k < n) (range_with_len 0 n) i
-    (All-from_recursion (λ k. k < n) (range_with_len 0 n) (AllByRecursion-range (λ k. k < n) 0 n (λ k from to. omega (arith, to)))) h
-
--- what is made of the first n numbers in two ways that differ at one number only
-pub filter_map_at : {B : Type 0} (f g : ℕ → Option B) (n i : ℕ) → i < n → ((k : ℕ) → k < n → (k ≡ i → ⊥) → f k ≡ g k)
-    → (front : List B) × (back : List B) × (filter_map f (range_with_len 0 n) ≡ front ++ cons_option (f i) back)
-    × (filter_map g (range_with_len 0 n) ≡ front ++ cons_option (g i) back)
-filter_map_at {B = B} f g n i less same = (
-  filter_map f (range_with_len 0 i),
-  filter_map f rest,
-  parted f,
-  parted g ∙ sym (ap (λ ys. ys ++ cons_option (g i) (filter_map g rest)) front)
-      ∙ sym (ap (λ ys. filter_map f (range_with_len 0 i) ++ cons_option (g i) ys) back),
-)
+-- what is made of the elements in one of two ways
+either_made : {A B : Type 0} (P : B → Type 0) (f g : A → Option B) (xs : List A) → AllByRecursion P (filter_map f xs) → AllByRecursion P (filter_map g xs)
+    → AllByRecursion P (filter_map (λ x. option_or (f x) (g x)) xs)
+either_made P f g [] of_f of_g = tt
+either_made {B = B} P f g (x ∷ xs) of_f of_g = by (f x) (g x) of_f of_g (either_made P f g xs)
   where
-    rest : List ℕ
-    rest = range_with_len (i + 1) (n - (i + 1))
+    by : (o q : Option B) → AllByRecursion P (cons_option o (filter_map f xs)) → AllByRecursion P (cons_option q (filter_map g xs))
+        → (AllByRecursion P (filter_map f xs) → AllByRecursion P (filter_map g xs) → AllByRecursion P (filter_map (λ y. option_or (f y) (g y)) xs))
+        → AllByRecursion P (cons_option (option_or o q) (filter_map (λ y. option_or (f y) (g y)) xs))
+    by None None h k rest = rest h k
+    by None (Some z) h k rest = (k.0, rest h k.1)
+    by (Some y) None h k rest = (h.0, rest h.1 k)
+    by (Some y) (Some z) h k rest = (h.0, rest h.1 k.1)
 
-    parted : (h : ℕ → Option B) → filter_map h (range_with_len 0 n) ≡ filter_map h (range_with_len 0 i) ++ cons_option (h i) (filter_map h rest)
-    parted h = rw (range_split 0 i (n - (i + 1)) n i (omega (arith, less)) (omega arith)) (filter_map-append h (range_with_len 0 i) (i ∷ rest))
+made_either : {A B : Type 0} (P : B → Type 0) (f g : A → Option B) (xs : List A) → ((x : A) (y : B) → f x ≡ Some y → g x ≡ None)
+    → AllByRecursion P (filter_map (λ x. option_or (f x) (g x)) xs) → AllByRecursion P (filter_map f xs) × AllByRecursion P (filter_map g xs)
+made_either P f g [] apart all = (tt, tt)
+made_either {B = B} P f g (x ∷ xs) apart all = by (f x) (g x) (λ y. apart x y) all (made_either P f g xs apart)
+  where
+    by : (o q : Option B) → ((y : B) → o ≡ Some y → q ≡ None) → AllByRecursion P (cons_option (option_or o q) (filter_map (λ y. option_or (f y) (g y)) xs))
+        → (AllByRecursion P (filter_map (λ y. option_or (f y) (g y)) xs) → AllByRecursion P (filter_map f xs) × AllByRecursion P (filter_map g xs))
+        → AllByRecursion P (cons_option o (filter_map f xs)) × AllByRecursion P (cons_option q (filter_map g xs))
+    by None None is h rest = rest h
+    by None (Some z) is h rest = ((rest h.1).0, (h.0, (rest h.1).1))
+    by (Some y) None is h rest = ((h.0, (rest h.1).0), (rest h.1).1)
+    by (Some y) (Some z) is h rest = absurd (none-some z (sym (is y refl)))
 
-    front : filter_map f (range_with_len 0 i) ≡ filter_map g (range_with_len 0 i)
-    front = filter_map_congr_in f g (range_with_len 0 i) (AllByRecursion-range (λ k. f k ≡ g k) 0 i
-        (λ k from to. same k (omega (arith, to, less)) (λ is. omega (arith, to, is))))
+-- what is made of each element in one of two ways, where not in both, is what is made in the first way and in the second
+pub same_members-either : {A B : Type 0} (f g : A → Option B) (xs : List A) → ((x : A) (y : B) → f x ≡ Some y → g x ≡ None)
+    → SameMembers (filter_map f xs ++ filter_map g xs) (filter_map (λ x. option_or (f x) (g x)) xs)
+same_members-either {A = A} {B = B} f g xs apart = record { forth = forth; back = back }
+  where
+    whole : List B
+    whole = filter_map (λ x. option_or (f x) (g x)) xs
 
-    back : filter_map f rest ≡ filter_map g rest
-    back = filter_map_congr_in f g rest (AllByRecursion-range (λ k. f k ≡ g k) (i + 1) (n - (i + 1))
-        (λ k from to. same k (omega (arith, to, less)) (λ is. omega (arith, from, is))))
+    parts : AllByRecursion (Contains whole) (filter_map f xs) × AllByRecursion (Contains whole) (filter_map g xs)
+    parts = made_either (Contains whole) f g xs apart (AllByRecursion-contains_itself whole)
 
--- a list with something in it is not empty
-pub contains_not_empty : {A : Type 0} (xs : List A) (x : A) → Contains xs x → xs ≡ [] → ⊥
-contains_not_empty xs x is none = let less : is.0 < length xs = is.1 in let long : length xs ≡ 0 = ap length none in omega (arith, less, long)
+    forth : AllByRecursion (Contains whole) (filter_map f xs ++ filter_map g xs)
+    forth = AllByRecursion-append (Contains whole) (filter_map f xs) (filter_map g xs) parts.0 parts.1
+
+    joined : List B
+    joined = filter_map f xs ++ filter_map g xs
+
+    back : AllByRecursion (Contains joined) whole
+    back = either_made (Contains joined) f g xs
+        (AllByRecursion-front (Contains joined) (filter_map f xs) (filter_map g xs) (AllByRecursion-contains_itself joined))
+        (AllByRecursion-back (Contains joined) (filter_map f xs) (filter_map g xs) (AllByRecursion-contains_itself joined))

@@ -9,7 +9,11 @@ use Rattle.std.proofs.lemmas.Option.{none-some}
 use Rattle.std.proofs.lemmas.List.Filters.{length-filter_both}
 use Rattle.std.proofs.lemmas.List.FromFn.{length-range_with_len}
 use Rattle.list_laws.specs.Lists.{count, IsFirst}
-use Rattle.list_laws.proofs.Lists.{some-injective, filter-filter, filter_passes, filter_none, count_mono, AllByRecursion-filter, AllByRecursion-map, AllByRecursion-both, AllByRecursion-range}
+use Rattle.list_laws.proofs.Counts.{count_mono}
+use Rattle.list_laws.proofs.Elements.{AllByRecursion-filter, AllByRecursion-map, AllByRecursion-both}
+use Rattle.list_laws.proofs.Filters.{filter-filter, filter_passes, filter_none}
+use Rattle.list_laws.proofs.Ranges.{AllByRecursion-range}
+use Rattle.list_laws.proofs.Values.{some-injective}
 
 -- all fail a test where none passes it
 pub list_all-not : {A : Type 0} (p : A → Bool) (xs : List A) → list_all (λ x. not (p x)) xs ≡ not (list_any p xs)

@@ -8,7 +8,7 @@ use Rattle.task_base.specs.declared.entry.Kind.TheVariants.{Post, Tick, Main}
 use Rattle.task_base.specs.declared.source.Key.{Key}
 use Rattle.task_model.specs.Time.{now_of, is_tick_from, tick_from}
 use Rattle.task_model.specs.Posts.{Posted, is_delayed, post_behind, posts}
-use Rattle.task_model.specs.Keys.{Ready, key_at, key_of}
+use Rattle.task_model.specs.Keys.{Ready, key_of}
 use Rattle.task_base.specs.Keys.{key_below}
 use Rattle.task_base.specs.Plan.{Plan}
 use Rattle.task_base.specs.declared.entry.Kind.TheVariants as kinds
@@ -24,10 +24,6 @@ key_by before p kind =
     if is_delayed p
     then option_map (λ place. record { place = place; ripe = p.ripe; post = p.place }) (tick_by before p.ripe kind)
     else None
-
--- an immediate task behind a past, with its key
-abbrev pub ready_behind : List Entry → ℕ → ℕ → ℕ → Ready
-ready_behind before task runner delay = record { posted = post_behind before task runner delay; key = key_at (length before) }
 
 -- the kinds that may give a task its key: an accepted post, and a tick
 abbrev pub moves_ready : Kind → Bool

@@ -1,24 +1,23 @@
--- What one more entry does to the open fronts, and to the choice among them.
---
 -- What one more entry does to the open fronts and to the choice among them. After a close no front of that queue is
 -- open, and the others are as before; where no lane changes, the fronts stay, and fences, votes and closes decide
 -- which of them are open. The kinds of the pool and of the jobs change none of it.
-use Rattle.std.proofs.Common.{◌≡◌, ℕ, Bool, true, false, cond, eqb, List, [], ◌∷◌, ◌++◌, length, refl, sym, ap, ◌∙◌, Option}
-use Rattle.std.specs.Prelude.{not, ◌&&◌, ◌||◌, nat_lt, nat_le, filter, ◌==◌}
-use Rattle.std.specs.Option.{option_map, option_map_or, option_to_list}
+use Rattle.std.proofs.Common.{◌≡◌, ℕ, Bool, true, false, eqb, List, [], ◌∷◌, ◌++◌, length, refl, sym, ap, ◌∙◌, Option}
+use Rattle.std.specs.Prelude.{not, ◌&&◌, ◌||◌, nat_lt, filter, ◌==◌}
+use Rattle.std.specs.Option.{option_map_or, option_to_list}
 use Rattle.std.specs.List.{flat_map, range_with_len}
+use Rattle.std.proofs.Math.Bool.{and-true}
 use Rattle.std.proofs.lemmas.Bool.{true≢false}
 use Rattle.task_base.specs.Plan.{Plan}
 use Rattle.task_base.specs.declared.entry.Entry.{Entry}
 use Rattle.task_base.specs.declared.entry.Kind.{Kind}
 use Rattle.task_base.specs.declared.entry.Kind.TheVariants as kinds
 use Rattle.task_base.specs.declared.script.Lane.TheVariants.{Immediate, Delayed}
-use Rattle.list_laws.specs.Lists.{least, holds_of}
 use Rattle.task_model.specs.Refusal.{is_closed, closes}
-use Rattle.task_model.specs.MainQueues.{of_least_class, choice_among, Front, fence_of, fence_after, votes_on, vote_after, voters_of, is_enabled, is_immediate, order_below, front_of, is_open, fronts_of, open_fronts, class_below, chosen_fronts, streak_of, streak_after, chosen_of}
+use Rattle.task_model.specs.MainQueues.{of_least_class, Front, fence_of, fence_after, votes_on, vote_after, voters_of, is_enabled, front_of, is_open, fronts_of, open_fronts, chosen_fronts, streak_of, streak_after, chosen_of}
 use Rattle.queue_laws.specs.Fronts.{moves_main_queues, moves_lanes, all_fronts}
 use Rattle.task_model.proofs.Growth.{is_closed_push, fence_of_push, votes_on_push, streak_of_push}
-use Rattle.list_laws.proofs.Lists.{filter_congr, filter-filter, list_all_congr}
+use Rattle.list_laws.proofs.Filters.{filter_congr, filter-filter}
+use Rattle.list_laws.proofs.Tests.{list_all_congr}
 use Rattle.queue_laws.proofs.Lanes.{front_same}
 
 -- Open fronts.
@@ -50,11 +49,11 @@ open_but_closed : (script : Plan) (past : List Entry) (e : Entry) (f : Front) �
     → is_open script (past ++ e ∷ []) f ≡ (is_open script past f && not (closes f.queue e.kind))
 open_but_closed script past e f no_vote no_fence =
     ap (λ b. not b && is_enabled script (past ++ e ∷ []) f.queue && option_map_or (nat_lt f.order) (fence_of (past ++ e ∷ []) f.queue) true)
-        (is_closed_push past e f.queue)
+    (is_closed_push past e f.queue)
     ∙ ap (λ b. not (is_closed past f.queue || closes f.queue e.kind) && b && option_map_or (nat_lt f.order) (fence_of (past ++ e ∷ []) f.queue) true)
-        (enabled_same script past e no_vote f.queue)
+    (enabled_same script past e no_vote f.queue)
     ∙ ap (λ o. not (is_closed past f.queue || closes f.queue e.kind) && is_enabled script past f.queue && option_map_or (nat_lt f.order) o true)
-        (fence_of_push past e f.queue ∙ no_fence f.queue (fence_of past f.queue))
+    (fence_of_push past e f.queue ∙ no_fence f.queue (fence_of past f.queue))
     ∙ swapped (is_closed past f.queue) (closes f.queue e.kind) (is_enabled script past f.queue) (option_map_or (nat_lt f.order) (fence_of past f.queue) true)
   where
     swapped : (a b c d : Bool) → (not (a || b) && c && d) ≡ ((not a && c && d) && not b)
@@ -79,13 +78,9 @@ unfolding open_fronts
 open_fronts_same script past e quiet =
     open_fronts_of_lanes script past e (no_lanes e.kind quiet)
     ∙ filter_congr (is_open script (past ++ e ∷ [])) (is_open script past) (all_fronts script past)
-        (λ f. open_but_closed script past e f (λ q v now. no_vote q v now e.kind quiet) (λ q now. no_fence q now e.kind quiet)
-        ∙ ap (λ b. is_open script past f && not b) (no_close f.queue e.kind quiet) ∙ and-true (is_open script past f))
+    (λ f. open_but_closed script past e f (λ q v now. no_vote q v now e.kind quiet) (λ q now. no_fence q now e.kind quiet)
+    ∙ ap (λ b. is_open script past f && not b) (no_close f.queue e.kind quiet) ∙ and-true (is_open script past f))
   where
-    and-true : (b : Bool) → (b && true) ≡ b
-    and-true true = refl
-    and-true false = refl
-
     no_vote : (q v : ℕ) (now : Bool) (kind : Kind) → moves_main_queues kind ≡ false → vote_after q v now kind ≡ now
     no_vote q v now (kinds.Vote queue voter on) h = absurd (true≢false h)
     no_vote q v now kind h = refl
@@ -106,8 +101,8 @@ unfolding open_fronts
 open_fronts_at_close script past e queue is =
     open_fronts_of_lanes script past e (ap moves_lanes is)
     ∙ filter_congr (is_open script (past ++ e ∷ [])) (λ f. is_open script past f && not (eqb queue f.queue)) (all_fronts script past)
-        (λ f. open_but_closed script past e f (λ q v now. ap (vote_after q v now) is) (λ q now. ap (fence_after q past now) is)
-        ∙ ap (λ kind. is_open script past f && not (closes f.queue kind)) is)
+    (λ f. open_but_closed script past e f (λ q v now. ap (vote_after q v now) is) (λ q now. ap (fence_after q past now) is)
+    ∙ ap (λ kind. is_open script past f && not (closes f.queue kind)) is)
     ∙ sym (filter-filter (λ f. not (eqb queue f.queue)) (is_open script past) (all_fronts script past))
 
 -- The choice.

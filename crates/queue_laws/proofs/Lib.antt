@@ -1,4 +1,5 @@
 pub mod Orders
 pub mod Lanes
 pub mod Fronts
+pub mod Arrivals
 pub mod Distinct

@@ -1,50 +1,34 @@
--- What one more entry does to the orders of main tasks.
---
--- What one more entry does to the orders of main tasks. An order that was drawn stays; an immediate task draws at
--- its post, and a delayed one at the first tick at or past its ripe moment, where its queue is not closed. Each order
--- that was drawn is below the next draw.
-use Rattle.std.proofs.Common.{◌≡◌, ℕ, zero, suc, ◌+◌, ◌<◌, Bool, true, false, cond, eqb, List, [], ◌∷◌, ◌++◌, length, take, subst, refl, sym, ap, ◌∙◌, Option, Some, None, arith}
-use Rattle.std.specs.Prelude.{not, ◌&&◌, ◌||◌, nat_lt, nat_le, filter, slice_get, option_and_then, is_none}
+-- What one more entry does to the orders of main tasks. An order that was drawn stays; an immediate task draws at its post,
+-- and a delayed one at the first tick at or past its ripe moment, where its queue is not closed.
+use Rattle.std.proofs.Common.{◌≡◌, ℕ, ◌+◌, ◌<◌, Bool, true, false, cond, eqb, List, [], ◌∷◌, ◌++◌, length, take, refl, sym, ap, ◌∙◌, Option, Some, None, arith}
+use Rattle.std.specs.Prelude.{not, ◌&&◌, ◌||◌, nat_lt, nat_le, filter, option_and_then, is_none}
 use Rattle.std.specs.Option.{option_or}
 use Rattle.std.specs.List.{AllByRecursion}
 use Rattle.std.proofs.lemmas.Bool.{true≢false, ltb-true}
-use Rattle.std.proofs.lemmas.Option.{none-some, cond_some}
+use Rattle.std.proofs.lemmas.Option.{none-some}
+use Rattle.std.proofs.Math.Bool.{or-false}
 use Rattle.std.proofs.lemmas.List.{append-nil, take-append-le}
 use Rattle.std.proofs.Math.Seq.{take-append_seam}
 use Rattle.task_base.specs.declared.entry.Entry.{Entry}
 use Rattle.task_base.specs.declared.entry.Kind.{Kind}
 use Rattle.task_base.specs.declared.entry.Kind.TheVariants as kinds
-use Rattle.list_laws.specs.Lists.{count}
-use Rattle.task_model.specs.Past.{fold_past}
 use Rattle.task_model.specs.Time.{now_of, now_after, is_tick_from, tick_from}
-use Rattle.task_model.specs.Posts.{Posted, is_delayed, post_behind, main_posts, main_posted_by}
+use Rattle.task_model.specs.Posts.{Posted, is_delayed, post_behind, main_posts, main_posted_by, ripens_before}
 use Rattle.task_model.specs.Refusal.{is_closed, closes}
-use Rattle.task_model.specs.Orders.{ripens, ripens_before, ripening, next_draw, draws, drawn_by, drawn_at, moment_of, moment_at, order_of}
+use Rattle.task_model.specs.Orders.{ripens, ripening, next_draw, drawn_at, moment_of, moment_at, order_of, draws, drawn_by}
 use Rattle.pool_laws.specs.Keys.{tick_by, NoTickAhead}
-use Rattle.queue_laws.specs.Orders.{moves_ripening, moves_orders, OrdersBelow, order_at_tick_of}
+use Rattle.queue_laws.specs.Orders.{moves_ripening, moves_orders, order_at_tick_of, OrdersBelow}
 use Rattle.task_model.proofs.Growth.{now_of_push, main_posts_push, is_closed_push, draws_push}
-use Rattle.list_laws.proofs.Lists.{some-injective, filter_congr, filter_split, count_below, AllByRecursion-map, AllByRecursion-append, AllByRecursion-members, AllByRecursion-at}
+use Rattle.list_laws.proofs.Filters.{filter_congr}
+use Rattle.list_laws.proofs.Values.{option_or-none, some-injective}
+use Rattle.list_laws.proofs.Elements.{slice_get-front, slice_get-end, AllByRecursion-map, AllByRecursion-append, AllByRecursion-at}
+use Rattle.list_laws.proofs.Lists.{filter_split, count_below, AllByRecursion-members}
 use Rattle.pool_laws.proofs.Keys.Ready.{main_posts_within, tick_from_push, tick_from_stays, tick_within}
-
-pub or-false : (b : Bool) → (b || false) ≡ b
-or-false true = refl
-or-false false = refl
 
 -- each accepted main task has its place in the past
 pub main_places : (past : List Entry) → AllByRecursion (λ p. p.place < length past) (main_posts past)
 main_places past = AllByRecursion-map (λ p. nat_lt p.place (length past) ≡ true) (λ p. p.place < length past) (main_posts past)
     (λ p is. ltb-true p.place (length past) is) (main_posts_within past)
-
--- Orders.
-
-slice_get-front : {A : Type 0} (xs ys : List A) (i : ℕ) → i < length xs → slice_get (xs ++ ys) i ≡ slice_get xs i
-slice_get-front [] ys i lt = absurd (omega (arith, lt))
-slice_get-front (x ∷ xs) ys zero lt = refl
-slice_get-front (x ∷ xs) ys (suc i) lt = slice_get-front xs ys i (omega (arith, lt))
-
-slice_get-end : {A : Type 0} (xs : List A) (y : A) → slice_get (xs ++ y ∷ []) (length xs) ≡ Some y
-slice_get-end [] y = refl
-slice_get-end (x ∷ xs) y = slice_get-end xs y
 
 -- what a delayed task drew at the tick at a place
 abbrev pub drawn : List Entry → Posted → ℕ → Option ℕ
@@ -102,11 +86,8 @@ no_tick kind h moment = refl
 
 pub tick_same : (past : List Entry) (e : Entry) → moves_orders e.kind ≡ false → (moment : ℕ) → tick_from (past ++ e ∷ []) moment ≡ tick_from past moment
 tick_same past e quiet moment = tick_from_push past e moment
-    ∙ ap (λ (b : Bool). option_or (tick_from past moment) (cond b (Some (length past)) None)) (no_tick e.kind quiet moment) ∙ or-none (tick_from past moment)
-  where
-    or-none : (o : Option ℕ) → option_or o None ≡ o
-    or-none (Some n) = refl
-    or-none None = refl
+    ∙ ap (λ (b : Bool). option_or (tick_from past moment) (cond b (Some (length past)) None)) (no_tick e.kind quiet moment)
+        ∙ option_or-none (tick_from past moment)
 
 pub order_of_same : (past : List Entry) (e : Entry) (p : Posted) → p.place < length past → moves_orders e.kind ≡ false
     → order_of (past ++ e ∷ []) p ≡ order_of past p
@@ -122,9 +103,9 @@ pub order_at_tick : (past : List Entry) (e : Entry) (p : Posted) (moment : ℕ) 
 order_at_tick past e p moment is delayed none =
     order_is (past ++ e ∷ []) p
     ∙ ap (λ (b : Bool). cond b (option_and_then (drawn (past ++ e ∷ []) p) (tick_from (past ++ e ∷ []) p.ripe))
-        (Some (next_draw (take p.place (past ++ e ∷ []))))) delayed
+    (Some (next_draw (take p.place (past ++ e ∷ []))))) delayed
     ∙ ap (option_and_then (drawn (past ++ e ∷ []) p)) (tick_from_push past e p.ripe ∙ ap (λ o. option_or o (tick_by past p.ripe e.kind)) none
-        ∙ ap (tick_by past p.ripe) is)
+    ∙ ap (tick_by past p.ripe) is)
     ∙ by (nat_le p.ripe moment) refl
   where
     here : drawn (past ++ e ∷ []) p (length past) ≡ drawn_at past moment p
@@ -155,25 +136,18 @@ order_at_tick past e p moment is delayed none =
 pub order_at_post : (past : List Entry) (e : Entry) (task queue delay : ℕ) → nat_lt 0 delay ≡ false
     → order_of (past ++ e ∷ []) (post_behind past task queue delay) ≡ Some (next_draw past)
 order_at_post past e task queue delay immediate =
-    order_is (past ++ e ∷ []) (post_behind past task queue delay)
-    ∙ ap (λ (b : Bool). cond b (option_and_then (drawn (past ++ e ∷ []) (post_behind past task queue delay))
-        (tick_from (past ++ e ∷ []) (post_behind past task queue delay).ripe)) (Some (next_draw (take (length past) (past ++ e ∷ []))))) immediate
-    ∙ ap (λ before. Some (next_draw before)) (take-append_seam past (e ∷ []))
+    rw (order_is (past ++ e ∷ []) (post_behind past task queue delay), immediate, take-append_seam past (e ∷ [])) refl
 
 -- a delayed task has no order at its post
 pub unordered : (past : List Entry) (e : Entry) (p : Posted) → moves_orders e.kind ≡ false → is_delayed p ≡ true → tick_from past p.ripe ≡ None
     → order_of (past ++ e ∷ []) p ≡ None
-unordered past e p quiet delayed unripe =
-    order_is (past ++ e ∷ []) p
-    ∙ ap (λ (b : Bool). cond b (option_and_then (drawn (past ++ e ∷ []) p) (tick_from (past ++ e ∷ []) p.ripe))
-        (Some (next_draw (take p.place (past ++ e ∷ []))))) delayed
-    ∙ ap (option_and_then (drawn (past ++ e ∷ []) p)) (tick_same past e quiet p.ripe ∙ unripe)
+unordered past e p quiet delayed unripe = rw (order_is (past ++ e ∷ []) p, delayed, tick_same past e quiet p.ripe ∙ unripe) refl
 
 pub ripening_same : (past : List Entry) (e : Entry) (moment : ℕ) → moves_ripening e.kind ≡ false → ripening (past ++ e ∷ []) moment ≡ ripening past moment
 unfolding ripening
 ripening_same past e moment quiet =
     ap (filter (ripens (past ++ e ∷ []) moment)) (main_posts_push past e ∙ ap (λ xs. main_posts past ++ xs) (no_post e.kind quiet)
-        ∙ append-nil (main_posts past))
+    ∙ append-nil (main_posts past))
     ∙ filter_congr (ripens (past ++ e ∷ []) moment) (ripens past moment) (main_posts past) same
   where
     no_post : (kind : Kind) → moves_ripening kind ≡ false → main_posted_by past kind ≡ []
@@ -191,25 +165,14 @@ ripening_same past e moment quiet =
     same : (p : Posted) → ripens (past ++ e ∷ []) moment p ≡ ripens past moment p
     same p =
         ap (λ b. is_delayed p && not b && nat_lt (now_of (past ++ e ∷ [])) p.ripe && nat_le p.ripe moment) (is_closed_push past e p.home
-            ∙ ap (λ b. is_closed past p.home || b) (no_close p.home e.kind quiet) ∙ or-false (is_closed past p.home))
+        ∙ ap (λ b. is_closed past p.home || b) (no_close p.home e.kind quiet) ∙ or-false (is_closed past p.home))
         ∙ ap (λ n. is_delayed p && not (is_closed past p.home) && nat_lt n p.ripe && nat_le p.ripe moment) (now_of_push past e
-            ∙ still (now_of past) e.kind quiet)
-
--- Orders are below the next draw.
-
-pub orders_below_at_start : OrdersBelow []
-unfolding main_posts fold_past
-orders_below_at_start = tt
+        ∙ still (now_of past) e.kind quiet)
 
 -- an immediate task, and one whose tick has come, keeps its order
 order_same_immediate : (past rest : List Entry) (p : Posted) → p.place < length past → is_delayed p ≡ false → order_of (past ++ rest) p ≡ order_of past p
 order_same_immediate past rest p lt immediate =
-    order_is (past ++ rest) p
-    ∙ ap (λ (b : Bool). cond b (option_and_then (drawn (past ++ rest) p) (tick_from (past ++ rest) p.ripe)) (Some (next_draw (take p.place (past ++ rest)))))
-        immediate
-    ∙ ap (λ before. Some (next_draw before)) (take-append-le p.place past rest (omega (arith, lt)))
-    ∙ sym (order_is past p ∙ ap (λ (b : Bool). cond b (option_and_then (drawn past p) (tick_from past p.ripe)) (Some (next_draw (take p.place past))))
-        immediate)
+    rw (order_is (past ++ rest) p, order_is past p, immediate, take-append-le p.place past rest (omega (arith, lt))) refl
 
 order_same_ticked : (past rest : List Entry) (p : Posted) (place : ℕ) → p.place < length past → tick_from past p.ripe ≡ Some place
     → order_of (past ++ rest) p ≡ order_of past p
@@ -229,81 +192,3 @@ order_tick past e p moment is lt = by (is_delayed p) refl (tick_from past p.ripe
     by false immediate o was = order_same_immediate past (e ∷ []) p lt immediate
     by true delayed None was = order_at_tick past e p moment is delayed was
     by true delayed (Some place) was = order_same_ticked past (e ∷ []) p place lt was
-
--- fewer ripen before a task than ripen with it
-ripe_count : (past : List Entry) (moment : ℕ) (front : List Posted) (p : Posted) (back : List Posted) → front ++ p ∷ back ≡ main_posts past
-    → ripens past moment p ≡ true → count (λ q. ripens_before q p) (ripening past moment) < length (ripening past moment)
-unfolding ripening
-ripe_count past moment front p back is ripe = rw (← is, filter_split (ripens past moment) front p back ripe)
-    (count_below (λ q. ripens_before q p) (filter (ripens past moment) front) p (filter (ripens past moment) back) not_itself)
-  where
-    less : (n : ℕ) → nat_lt n n ≡ false
-    less n = grind arith
-
-    not_itself : ripens_before p p ≡ false
-    not_itself = ap (λ b. b || (eqb p.ripe p.ripe && nat_lt p.place p.place)) (less p.ripe) ∙ ap (λ b. eqb p.ripe p.ripe && b) (less p.place)
-        ∙ neither (eqb p.ripe p.ripe)
-      where
-        neither : (b : Bool) → (b && false) ≡ false
-        neither true = refl
-        neither false = refl
-
-pub orders_below_grows : (past : List Entry) (e : Entry) → NoTickAhead past → OrdersBelow past → OrdersBelow (past ++ e ∷ [])
-orders_below_grows past e none below =
-    subst (AllByRecursion (λ p. (n : ℕ) → order_of (past ++ e ∷ []) p ≡ Some n → n < next_draw (past ++ e ∷ []))) (sym (main_posts_push past e))
-    (AllByRecursion-append (λ p. (n : ℕ) → order_of (past ++ e ∷ []) p ≡ Some n → n < next_draw (past ++ e ∷ [])) (main_posts past)
-        (main_posted_by past e.kind) old (new e.kind refl))
-  where
-    grown : (kind : Kind) → e.kind ≡ kind → draws (past ++ e ∷ []) ≡ draws past + drawn_by past kind
-    grown kind is = draws_push past e ∙ ap (λ k. draws past + drawn_by past k) is
-
-    later : (n : ℕ) → n < 2 + draws past → n < 2 + draws (past ++ e ∷ [])
-    later n lt = let more : draws (past ++ e ∷ []) ≡ draws past + drawn_by past e.kind = grown e.kind refl in omega (arith, lt, more)
-
-    old : AllByRecursion (λ p. (n : ℕ) → order_of (past ++ e ∷ []) p ≡ Some n → n < next_draw (past ++ e ∷ [])) (main_posts past)
-    old = AllByRecursion-members (λ p. (n : ℕ) → order_of (past ++ e ∷ []) p ≡ Some n → n < next_draw (past ++ e ∷ [])) (main_posts past)
-        (λ front p back is n ordered. at front p back is n e.kind refl ordered)
-      where
-        place : (front : List Posted) (p : Posted) (back : List Posted) → front ++ p ∷ back ≡ main_posts past → p.place < length past
-        place front p back is = AllByRecursion-at (λ q. q.place < length past) front p back
-            (subst (AllByRecursion (λ q. q.place < length past)) (sym is) (main_places past))
-
-        known : (front : List Posted) (p : Posted) (back : List Posted) → front ++ p ∷ back ≡ main_posts past → (n : ℕ) → order_of past p ≡ Some n
-            → n < next_draw past
-        known front p back is = AllByRecursion-at (λ q. (n : ℕ) → order_of past q ≡ Some n → n < next_draw past) front p back
-            (subst (AllByRecursion (λ q. (n : ℕ) → order_of past q ≡ Some n → n < next_draw past)) (sym is) below)
-
-        ticked : (front : List Posted) (p : Posted) (back : List Posted) → front ++ p ∷ back ≡ main_posts past → (n moment : ℕ) → e.kind ≡ kinds.Tick moment
-            → (b : Bool) → cond b (drawn_at past moment p) (order_of past p) ≡ Some n → n < next_draw (past ++ e ∷ [])
-        ticked front p back is n moment tick true drew =
-            let both : (ripens past moment p ≡ true) × (next_draw past + count (λ q. ripens_before q p) (ripening past moment) ≡ n) = cond_some
-                (ripens past moment p) (next_draw past + count (λ q. ripens_before q p) (ripening past moment)) n drew in
-            let fewer : count (λ q. ripens_before q p) (ripening past moment) < length (ripening past moment) = ripe_count past moment front p back is both.0 in
-            let more : draws (past ++ e ∷ []) ≡ draws past + length (ripening past moment) = grown (kinds.Tick moment) tick in
-            let sum : next_draw past + count (λ q. ripens_before q p) (ripening past moment) ≡ n = both.1 in
-            omega (arith, fewer, more, sum)
-        ticked front p back is n moment tick false kept = later n (known front p back is n kept)
-
-        at : (front : List Posted) (p : Posted) (back : List Posted) → front ++ p ∷ back ≡ main_posts past → (n : ℕ) (kind : Kind) → e.kind ≡ kind
-            → order_of (past ++ e ∷ []) p ≡ Some n → n < next_draw (past ++ e ∷ [])
-        at front p back is n (kinds.Tick moment) tick ordered = ticked front p back is n moment tick (is_delayed p && is_none (tick_from past p.ripe))
-            (sym (order_tick past e p moment tick (place front p back is)) ∙ ordered)
-        at front p back is n kind other ordered = later n (known front p back is n
-            (sym (order_of_same past e p (place front p back is) (ap moves_orders other)) ∙ ordered))
-
-    posted : (task queue delay : ℕ) → e.kind ≡ kinds.Main task queue delay true → (b : Bool) → nat_lt 0 delay ≡ b → (n : ℕ)
-        → order_of (past ++ e ∷ []) (post_behind past task queue delay) ≡ Some n → n < next_draw (past ++ e ∷ [])
-    posted task queue delay is false immediate n ordered =
-        let first : next_draw past ≡ n = some-injective (sym (order_at_post past e task queue delay immediate) ∙ ordered) in
-        let more : draws (past ++ e ∷ []) ≡ draws past + 1 = grown (kinds.Main task queue delay true) is
-            ∙ ap (λ (b : Bool). draws past + cond b 0 1) immediate in
-        omega (arith, first, more)
-    posted task queue delay is true delayed n ordered =
-        let positive : 0 < delay = ltb-true 0 delay delayed in
-        absurd (none-some n (sym (unordered past e (post_behind past task queue delay) (ap moves_orders is) delayed
-            (none (now_of past + delay) (omega (arith, positive)))) ∙ ordered))
-
-    new : (kind : Kind) → e.kind ≡ kind → AllByRecursion (λ p. (n : ℕ) → order_of (past ++ e ∷ []) p ≡ Some n → n < next_draw (past ++ e ∷ []))
-        (main_posted_by past kind)
-    new (kinds.Main task queue delay true) is = ((λ n ordered. posted task queue delay is (nat_lt 0 delay) refl n ordered), tt)
-    new kind is = tt

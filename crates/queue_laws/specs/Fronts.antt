@@ -9,7 +9,7 @@ use Rattle.task_base.specs.declared.entry.Kind.TheVariants as kinds
 use Rattle.task_base.specs.declared.script.Lane.{Lane}
 use Rattle.task_model.specs.Time.{tick_from}
 use Rattle.task_model.specs.Posts.{Posted, is_delayed, main_posts}
-use Rattle.task_model.specs.Orders.{next_draw, drawn_at}
+use Rattle.task_model.specs.Orders.{Ordered, next_draw, drawn_at}
 use Rattle.task_model.specs.MainQueues.{Front, class_of, front_with, is_in_lane, fronts_of}
 use Rattle.queue_laws.specs.Orders.{order_at_tick_of}
 
@@ -59,3 +59,7 @@ drawn_at_tick_of script before q lane moment p =
 -- the front under another class
 abbrev pub with_class : ℕ → Front → Front
 with_class class f = record { queue = f.queue; lane = f.lane; task = f.task; order = f.order; class = class }
+
+-- an accepted main task with its order, in its lane
+abbrev pub front_for : Plan → List Entry → ℕ → Lane → Ordered → Front
+front_for script past q lane o = record { queue = q; lane = lane; task = o.posted.task; order = o.order; class = class_of script past q }

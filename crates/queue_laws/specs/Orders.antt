@@ -1,9 +1,9 @@
 -- Words of the laws on the orders of main tasks.
-use Rattle.std.specs.Prelude.{◌≡◌, ℕ, List, [], ◌∷◌, Option, Some, ◌<◌, Bool, true, false, ◌&&◌, if◌then◌else◌, is_none}
+use Rattle.std.specs.Prelude.{◌≡◌, ℕ, List, [], ◌∷◌, Option, Some, ◌<◌, nat_lt, Bool, true, false, ◌&&◌, if◌then◌else◌, is_none}
 use Rattle.std.specs.List.{AllByRecursion}
 use Rattle.task_base.specs.declared.entry.Entry.{Entry}
 use Rattle.task_model.specs.Posts.{Posted, main_posts, is_delayed}
-use Rattle.task_model.specs.Orders.{order_of, next_draw, drawn_at}
+use Rattle.task_model.specs.Orders.{Ordered, order_of, next_draw, drawn_at}
 use Rattle.task_base.specs.declared.entry.Kind.{Kind}
 use Rattle.task_base.specs.declared.entry.Kind.TheVariants as kinds
 use Rattle.task_model.specs.Time.{tick_from}
@@ -36,3 +36,7 @@ OrdersBelow past = AllByRecursion (λ p. (n : ℕ) → order_of past p ≡ Some 
 -- the order of a task of the past after a tick
 abbrev pub order_at_tick_of : List Entry → ℕ → Posted → Option ℕ
 order_at_tick_of before moment p = if is_delayed p && is_none (tick_from before p.ripe) then drawn_at before moment p else order_of before p
+
+-- the order of the first is below that of the second
+abbrev pub ordered_below : Ordered → Ordered → Bool
+ordered_below a b = nat_lt a.order b.order

@@ -1,10 +1,10 @@
 -- Which tasks were posted, and where.
-use Rattle.std.specs.Prelude.{◌≢◌, ℕ, ◌+◌, ◌<◌, Bool, true, false, ◌==◌, nat_lt, List, [], ◌∷◌, ◌++◌, length, Option, IsTrue, IsSome}
+use Rattle.std.specs.Prelude.{◌≢◌, ℕ, ◌+◌, ◌<◌, Bool, true, false, ◌==◌, ◌&&◌, ◌||◌, nat_lt, List, [], ◌∷◌, ◌++◌, length, Option, IsTrue, IsSome}
 use Rattle.std.specs.List.{list_any, find, AllByRecursion}
 use Rattle.std.specs.Option.{option_map}
 use Rattle.task_base.specs.declared.entry.Entry.{Entry}
 use Rattle.task_base.specs.declared.entry.Kind.{Kind}
-use Rattle.task_base.specs.declared.entry.Kind.TheVariants.{Post, Main, Take, End, MainTake}
+use Rattle.task_base.specs.declared.entry.Kind.TheVariants.{Post, Main, Take, End, MainTake, MainEnd}
 use Rattle.task_model.specs.Past.{fold_past}
 use Rattle.task_model.specs.Time.{now_of}
 
@@ -21,9 +21,9 @@ pub record Posted : Type 0 where
 abbrev pub is_delayed : Posted → Bool
 is_delayed p = nat_lt 0 p.delay
 
--- the fact of it
-abbrev pub IsDelayed : Posted → Type 0
-IsDelayed p = IsTrue (is_delayed p)
+-- the first ripens before the second: by the ripe moment, then by the place of the post
+abbrev pub ripens_before : Posted → Posted → Bool
+ripens_before p q = nat_lt p.ripe q.ripe || (p.ripe == q.ripe && nat_lt p.place q.place)
 
 -- a post behind a past
 abbrev pub post_behind : List Entry → ℕ → ℕ → ℕ → Posted
@@ -106,6 +106,15 @@ main_takes t kind = false
 -- the main task has been taken
 unfoldable pub is_main_taken : List Entry → ℕ → Bool
 is_main_taken past t = list_any (λ e. main_takes t e.kind) past
+
+-- the entry ends this main task
+abbrev pub main_ends : ℕ → Kind → Bool
+main_ends t (MainEnd task left) = task == t
+main_ends t kind = false
+
+-- the main task has ended
+unfoldable pub is_main_ended : List Entry → ℕ → Bool
+is_main_ended past t = list_any (λ e. main_ends t e.kind) past
 
 -- the first was posted before the second, and is another task
 pub record Before (p q : Posted) : Type 0 where

@@ -1,5 +1,5 @@
 -- What shutdown refuses and forbids.
-use Rattle.std.specs.Prelude.{ℕ, ◌==◌, Bool, false, nat_lt, List, slice_get, IsTrue}
+use Rattle.std.specs.Prelude.{ℕ, ◌==◌, Bool, false, nat_lt, List, slice_get}
 use Rattle.std.specs.List.{list_any}
 use Rattle.std.specs.Option.{option_map_or}
 use Rattle.task_base.specs.Plan.{Plan}
@@ -21,10 +21,6 @@ effective_at script runner delay = effective_of (option_map_or (λ r. r.traits.b
 abbrev pub is_refused : Plan → List Entry → ℕ → ℕ → Bool
 is_refused script past runner delay = forbids (phase_of past) (effective_at script runner delay)
 
--- the fact of it
-abbrev pub IsRefused : Plan → List Entry → ℕ → ℕ → Type 0
-IsRefused script past runner delay = IsTrue (is_refused script past runner delay)
-
 -- the phase forbids the accepted task to start
 abbrev pub is_forbidden : Plan → List Entry → Posted → Bool
 is_forbidden script past p = is_refused script past p.home p.delay
@@ -45,7 +41,3 @@ closes q kind = false
 -- the main queue is closed, so a main post to it is refused (this project's own rule)
 unfoldable pub is_closed : List Entry → ℕ → Bool
 is_closed past q = list_any (λ e. closes q e.kind) past
-
--- the fact of it
-abbrev pub IsClosed : List Entry → ℕ → Type 0
-IsClosed past q = IsTrue (is_closed past q)

@@ -1,10 +1,8 @@
 -- Which tasks form one sequence, and which of them may be taken next.
-use Rattle.std.specs.Prelude.{ℕ, ◌+◌, ◌==◌, Bool, true, false, not, ◌&&◌, if◌then◌else◌, List, length, filter, Option, slice_get}
+use Rattle.std.specs.Prelude.{ℕ, ◌==◌, Bool, not, ◌&&◌, List, filter, Option}
 use Rattle.task_base.specs.Plan.{Plan}
 use Rattle.task_base.specs.declared.entry.Entry.{Entry}
-use Rattle.task_base.specs.declared.script.RunnerKind.{RunnerKind}
-use Rattle.task_base.specs.declared.script.RunnerKind.TheVariants.{Parallel, Sequenced, Single}
-use Rattle.list_laws.specs.Lists.{least, holds_of}
+use Rattle.list_laws.specs.Lists.{least}
 use Rattle.task_model.specs.Posts.{Posted, is_taken}
 use Rattle.task_model.specs.Keys.{Ready, ready}
 use Rattle.task_base.specs.Keys.{key_below}

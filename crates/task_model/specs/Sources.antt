@@ -1,11 +1,9 @@
 -- What a worker takes next.
-use Rattle.std.specs.Prelude.{ℕ, ◌==◌, Bool, true, not, ◌&&◌, ◌||◌, nat_lt, nat_le, if◌then◌else◌, List, ◌++◌, length, filter, Option, Some, None, is_none, slice_get, option_and_then, IsTrue, Contains}
+use Rattle.std.specs.Prelude.{ℕ, ◌==◌, Bool, true, not, ◌&&◌, ◌||◌, nat_lt, nat_le, if◌then◌else◌, List, ◌++◌, length, filter, Option, None, is_none, IsTrue, Contains}
 use Rattle.std.specs.List.{list_any, filter_map, range_with_len}
 use Rattle.std.specs.Option.{option_map_or, option_map}
 use Rattle.task_base.specs.Plan.{Plan}
 use Rattle.task_base.specs.declared.entry.Entry.{Entry}
-use Rattle.task_base.specs.declared.script.RunnerKind.{RunnerKind}
-use Rattle.task_base.specs.declared.script.RunnerKind.TheVariants.{Parallel, Sequenced, Single}
 use Rattle.task_base.specs.declared.source.Key.{Key}
 use Rattle.task_base.specs.declared.source.TaskSource.{TaskSource}
 use Rattle.task_base.specs.declared.source.TaskSource.TheVariants.{Sequence, Job}
@@ -99,7 +97,7 @@ best_of script past seat = least goes_before (filter (is_takeable script past se
 abbrev pub is_outranked : Plan → List Entry → Priority → Bool
 is_outranked script past priority =
     list_any (λ c. is_none c.seat && same_group (group_of script c.priority) (group_of script priority)
-        && nat_lt (importance priority) (importance c.priority)) (waiting script past)
+    && nat_lt (importance priority) (importance c.priority)) (waiting script past)
 
 -- a worker at a job makes way: its group runs at least what it may, and better work of the group waits
 abbrev pub makes_way : Plan → List Entry → Priority → Bool

@@ -2,6 +2,7 @@
 use Rattle.std.proofs.Common.{◌≡◌, ℕ, zero, suc, ◌+◌, ◌-◌, Bool, true, false, cond, eqb, leb, List, [], ◌∷◌, ◌++◌, length, refl, sym, ap, subst, ◌∙◌, Option, Some, None, arith}
 use Rattle.std.specs.Prelude.{◌&&◌, ◌||◌, filter}
 use Rattle.std.specs.Option.{option_map_or}
+use Rattle.std.proofs.lemmas.Option.{none-some, same_Some}
 use Rattle.task_base.specs.Plan.{Plan}
 use Rattle.task_base.specs.declared.entry.Entry.{Entry}
 use Rattle.task_base.specs.declared.script.Action.{Action}
@@ -16,9 +17,9 @@ current_from_is [] own = refl
 current_from_is (x ∷ xs) own = elim (behind_action x own) as
     (λ o. option_map_or (λ left. current_from xs left) o (Some (record { action = x; made = own }))
     ≡ current_of (option_map_or (λ left. agenda_from xs left) o (record { actions = x ∷ xs; made = own }))) [
-  | None ↦ refl
-  | Some left ↦ current_from_is xs left
-]
+      | None ↦ refl
+      | Some left ↦ current_from_is xs left
+    ]
 
 pub current_is_first : (script : Plan) (own : List Entry) → current script own ≡ current_of (agenda script own)
 unfolding current agenda
@@ -26,7 +27,7 @@ current_is_first script own = current_from_is script.actions own
 
 -- one more entry behind what is complete
 behind_more : (n : ℕ) (own left : List Entry) (e : Entry) → behind n own ≡ Some left → behind n (own ++ e ∷ []) ≡ Some (left ++ e ∷ [])
-behind_more zero own left e h = let k : own ≡ left = cc in ap (λ x. Some (x ++ e ∷ [])) k
+behind_more zero own left e h = ap (λ x. Some (x ++ e ∷ [])) (same_Some own left h)
 behind_more (suc n) [] left e h = absurd cc
 behind_more (suc n) (x ∷ own) left e h = behind_more n own left e h
 
@@ -36,7 +37,7 @@ join_more (x ∷ own) left e h = at (is_joined x.kind) (join_more own left e) h
   where
     at : (b : Bool) → (behind_join own ≡ Some left → behind_join (own ++ e ∷ []) ≡ Some (left ++ e ∷ [])) → cond b (Some own) (behind_join own) ≡ Some left
         → cond b (Some (own ++ e ∷ [])) (behind_join (own ++ e ∷ [])) ≡ Some (left ++ e ∷ [])
-    at true next k = let same : own ≡ left = cc in ap (λ y. Some (y ++ e ∷ [])) same
+    at true next k = ap (λ y. Some (y ++ e ∷ [])) (same_Some own left k)
     at false next k = next k
 
 pump_more : (n : ℕ) (own left : List Entry) (e : Entry) → behind_pump n own ≡ Some left → behind_pump n (own ++ e ∷ []) ≡ Some (left ++ e ∷ [])
@@ -46,8 +47,8 @@ pump_more n (x ∷ own) left e h = at (is_main_none x.kind || (is_main_end x.kin
     at : (b : Bool) → (behind_pump (cond (is_main_end x.kind) (n - 1) n) own ≡ Some left
         → behind_pump (cond (is_main_end x.kind) (n - 1) n) (own ++ e ∷ []) ≡ Some (left ++ e ∷ []))
         → cond b (Some own) (behind_pump (cond (is_main_end x.kind) (n - 1) n) own) ≡ Some left
-            → cond b (Some (own ++ e ∷ [])) (behind_pump (cond (is_main_end x.kind) (n - 1) n) (own ++ e ∷ [])) ≡ Some (left ++ e ∷ [])
-    at true next k = let same : own ≡ left = cc in ap (λ y. Some (y ++ e ∷ [])) same
+        → cond b (Some (own ++ e ∷ [])) (behind_pump (cond (is_main_end x.kind) (n - 1) n) (own ++ e ∷ [])) ≡ Some (left ++ e ∷ [])
+    at true next k = ap (λ y. Some (y ++ e ∷ [])) (same_Some own left k)
     at false next k = next k
 
 pub action_more : (x : Action) (own left : List Entry) (e : Entry) → behind_action x own ≡ Some left → behind_action x (own ++ e ∷ []) ≡ Some (left ++ e ∷ [])
@@ -89,8 +90,8 @@ pump_one n (x ∷ made) e h = at (is_main_none x.kind) (is_main_end x.kind) (pum
     at : (a b : Bool) → Gives (n - 1) → Gives n
         → cond (a || (b && leb n 1)) (Some made) (behind_pump (cond b (n - 1) n) made) ≡ None
         → cond (a || (b && leb n 1)) (Some (made ++ e ∷ [])) (behind_pump (cond b (n - 1) n) (made ++ e ∷ []))
-            ≡ cond (is_main_none e.kind || (is_main_end e.kind
-            && leb n (length (cond b (x ∷ filter (λ y. is_main_end y.kind) made) (filter (λ y. is_main_end y.kind) made)) + 1))) (Some []) None
+        ≡ cond (is_main_none e.kind || (is_main_end e.kind
+        && leb n (length (cond b (x ∷ filter (λ y. is_main_end y.kind) made) (filter (λ y. is_main_end y.kind) made)) + 1))) (Some []) None
     at true b less same k = absurd cc
     at false false less same k = same k
     at false true less same k = ended_one (leb n 1) refl k
@@ -133,25 +134,26 @@ pub agenda_push : (script : Plan) (own : List Entry) (e : Entry) → agenda scri
 unfolding agenda
 agenda_push script own e = agenda_from_push script.actions own e
 
+-- the current action behind one more entry is the first of the agenda that it moves on to
+current_push : (script : Plan) (own : List Entry) (e : Entry) → current script (own ++ e ∷ []) ≡ current_of (agenda_after (agenda script own) e)
+current_push script own e = current_is_first script (own ++ e ∷ []) ∙ ap current_of (agenda_push script own e)
+
 -- while the current action is not completed, it makes one more entry
 pub current_stays : (script : Plan) (own : List Entry) (e : Entry) (c : Current) → current script own ≡ Some c → completes c.action c.made e.kind ≡ false
     → current script (own ++ e ∷ []) ≡ Some (record { action = c.action; made = c.made ++ e ∷ [] })
-current_stays script own e c is goes_on =
-    current_is_first script (own ++ e ∷ []) ∙ ap current_of (agenda_push script own e)
-        ∙ at (agenda script own).actions (agenda script own).made (sym (current_is_first script own) ∙ is)
+current_stays script own e c is goes_on = current_push script own e
+    ∙ at (agenda script own).actions (agenda script own).made (sym (current_is_first script own) ∙ is)
   where
     at : (xs : List Action) (made : List Entry) → first_of xs made ≡ Some c
         → current_of (next_agenda xs made e) ≡ Some (record { action = c.action; made = c.made ++ e ∷ [] })
-    at [] made k = absurd cc
-    at (x ∷ xs) made k = let same : record { action = x; made = made } ≡ c = cc in
-        subst (λ d. completes d.action d.made e.kind ≡ false
-            → current_of (next_agenda (x ∷ xs) made e) ≡ Some (record { action = d.action; made = d.made ++ e ∷ [] })) same (λ no. rw no refl) goes_on
+    at [] made k = absurd (none-some c k)
+    at (x ∷ xs) made k = subst (λ d. completes d.action d.made e.kind ≡ false
+        → current_of (next_agenda (x ∷ xs) made e) ≡ Some (record { action = d.action; made = d.made ++ e ∷ [] })) (same_Some _ c k) (λ no. rw no refl) goes_on
 
 -- what is finished stays so
 pub finished_stays : (script : Plan) (own : List Entry) (e : Entry) → current script own ≡ None → current script (own ++ e ∷ []) ≡ None
-finished_stays script own e is =
-    current_is_first script (own ++ e ∷ []) ∙ ap current_of (agenda_push script own e)
-        ∙ at (agenda script own).actions (agenda script own).made (sym (current_is_first script own) ∙ is)
+finished_stays script own e is = current_push script own e
+    ∙ at (agenda script own).actions (agenda script own).made (sym (current_is_first script own) ∙ is)
   where
     at : (xs : List Action) (made : List Entry) → first_of xs made ≡ None → current_of (next_agenda xs made e) ≡ None
     at [] made k = refl
@@ -175,23 +177,19 @@ begins_with_nothing (x ∷ xs) d h = at (behind_action x []) refl (begins_with_n
   where
     at : (o : Option (List Entry)) → behind_action x [] ≡ o → (current_of (agenda_from xs []) ≡ Some d → d.made ≡ [])
         → current_of (option_map_or (λ left. agenda_from xs left) o (record { actions = x ∷ xs; made = [] })) ≡ Some d → d.made ≡ []
-    at None is next k = let same : record { action = x; made = [] } ≡ d = cc in ap (λ y. y.made) (sym same)
+    at None is next k = ap (λ y. y.made) (sym (same_Some _ d k))
     at (Some left) is next k = next (ap (λ l. current_of (agenda_from xs l)) (sym (action_behind_nothing x left is)) ∙ k)
 
 -- behind an action that is completed the next one begins, with nothing made
 pub next_begins : (script : Plan) (own : List Entry) (e : Entry) (c d : Current) → current script own ≡ Some c → completes c.action c.made e.kind ≡ true
     → current script (own ++ e ∷ []) ≡ Some d → d.made ≡ []
-next_begins script own e c d is done now =
-    at (agenda script own).actions (agenda script own).made (sym (current_is_first script own) ∙ is) (sym (ap current_of (agenda_push script own e))
-        ∙ sym (current_is_first script (own ++ e ∷ [])) ∙ now)
+next_begins script own e c d is done now = at (agenda script own).actions (agenda script own).made (sym (current_is_first script own) ∙ is)
+    (sym (current_push script own e) ∙ now)
   where
     at : (xs : List Action) (made : List Entry) → first_of xs made ≡ Some c → current_of (next_agenda xs made e) ≡ Some d → d.made ≡ []
-    at [] made k l = absurd cc
+    at [] made k l = absurd (none-some c k)
     at (x ∷ xs) made k l = begins_with_nothing xs d (sym (ap
         (λ b. current_of (cond b (agenda_from xs []) (record { actions = x ∷ xs; made = made ++ e ∷ [] }))) yes) ∙ l)
       where
-        same : record { action = x; made = made } ≡ c
-        same = cc
-
         yes : completes x made e.kind ≡ true
-        yes = ap (λ y. completes y.action y.made e.kind) same ∙ done
+        yes = ap (λ y. completes y.action y.made e.kind) (same_Some (record { action = x; made = made }) c k) ∙ done

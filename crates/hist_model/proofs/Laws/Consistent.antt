@@ -1,282 +1,297 @@
 -- Every legal past is consistent.
-use Rattle.std.proofs.Common.{◌≡◌, ℕ, ◌≤◌, Bool, true, false, cond, eqb, leb, List, [], ◌∷◌, ◌++◌, refl, sym, ap, subst, ◌∙◌, Option, Some, None, arith}
-use Rattle.std.specs.Prelude.{not, ◌&&◌, ◌||◌, Contains}
-use Rattle.std.proofs.lemmas.Bool.{eqb-true, and_parts}
+use Rattle.std.proofs.Common.{◌≡◌, ℕ, ◌≤◌, Bool, true, false, eqb, List, [], ◌∷◌, ◌++◌, refl, sym, ap, subst, ◌∙◌, Option, Some, None, ◌⊎◌, inl, inr, arith}
+use Rattle.std.specs.Prelude.{◌||◌, Contains}
+use Rattle.std.proofs.lemmas.Bool.{eqb-true, or_cases, or_right, both_ways, false_from_ne_true, true≢false, eq-eqb}
+use Rattle.std.proofs.lemmas.Option.{none-some, same_Some}
 use Rattle.std.proofs.lemmas.List.Elements.{Contains-append_left}
-use Rattle.std.proofs.Math.Bool.{or-false, or-true}
 use Rattle.task_base.specs.Plan.{Plan}
 use Rattle.task_base.specs.declared.entry.Entry.{Entry}
 use Rattle.task_base.specs.declared.entry.Kind.{Kind}
 use Rattle.task_base.specs.declared.entry.Kind.TheVariants as kinds
-use Rattle.list_laws.specs.Lists.{holds_of}
-use Rattle.task_model.specs.Posts.{Posted, posts, posted_by, main_posts, main_posted_by, is_taken, takes, is_ended, ends, is_main_taken, main_takes}
+use Rattle.task_model.specs.Posts.{Posted, posts, posted_by, main_posts, main_posted_by, is_taken, takes, is_ended, ends, is_main_taken, main_takes, is_main_ended, main_ends}
 use Rattle.task_base.specs.Runners.{sequence_of}
-use Rattle.task_model.specs.Seats.{Running, running, running_after, runs_of, runs_sequence}
+use Rattle.task_model.specs.Seats.{Running, running, running_after, runs_sequence}
 use Rattle.pool_laws.proofs.Seats.Running.{seat_runs}
-use Rattle.task_model.proofs.Growth.{posts_push, main_posts_push, is_taken_push, is_ended_push, is_main_taken_push, running_push}
+use Rattle.task_model.proofs.Growth.{posts_push, main_posts_push, is_taken_push, is_ended_push, is_main_taken_push, is_main_ended_push}
 use Rattle.hist_model.specs.Allowed.{may_come}
-use Rattle.hist_model.specs.Legal.{is_legal}
+use Rattle.hist_model.specs.Legal.{IsLegal}
 use Rattle.hist_model.specs.Laws.Choice.{IsTake, IsMainTake}
 use Rattle.hist_model.specs.Laws.Consistent.{RunsPoolTask, RunsMainTask, RunsAs, IsConsistent}
-use Rattle.list_laws.proofs.Lists.{eqb-same}
-use Rattle.hist_model.proofs.Laws.Legal.{legal_induction}
-use Rattle.hist_model.proofs.Laws.Takes.{take_is, main_take_is, end_is}
+use Rattle.list_laws.proofs.Values.{eqb-same}
+use Rattle.hist_model.proofs.Laws.Legal.{legal_induction, entry_induction}
+use Rattle.hist_model.proofs.Laws.Takes.{take_is, main_take_is, end_is, main_end_is}
+use Rattle.hist_model.proofs.Laws.Whose.{RunsBehind, runs_behind}
 
 -- the past with one more entry
 abbrev behind : List Entry → ℕ → Kind → List Entry
 behind past seat kind = past ++ record { seat = seat; kind = kind } ∷ []
 
--- what was found in a past is found in a longer one
-posts_stay : (past : List Entry) (seat : ℕ) (kind : Kind) (p : Posted) → Contains (posts past) p → Contains (posts (behind past seat kind)) p
-posts_stay past seat kind p h = subst (λ ps. Contains ps p) (sym (posts_push past (record { seat = seat; kind = kind })))
-    (Contains-append_left (posts past) (posted_by past kind) p h)
+-- the task of the pool, or the main task, was taken
+abbrev pub taken_as : Bool → List Entry → ℕ → Bool
+taken_as false past t = is_taken past t
+taken_as true past t = is_main_taken past t
 
-main_posts_stay : (past : List Entry) (seat : ℕ) (kind : Kind) (p : Posted) → Contains (main_posts past) p → Contains (main_posts (behind past seat kind)) p
-main_posts_stay past seat kind p h = subst (λ ps. Contains ps p) (sym (main_posts_push past (record { seat = seat; kind = kind })))
-    (Contains-append_left (main_posts past) (main_posted_by past kind) p h)
+-- it has ended
+abbrev pub ended_as : Bool → List Entry → ℕ → Bool
+ended_as false past t = is_ended past t
+ended_as true past t = is_main_ended past t
 
-taken_stays : (past : List Entry) (seat : ℕ) (kind : Kind) (t : ℕ) → is_taken past t ≡ true → is_taken (behind past seat kind) t ≡ true
-taken_stays past seat kind t h = is_taken_push past (record { seat = seat; kind = kind }) t ∙ ap (λ b. b || takes t kind) h
+-- the entry takes it
+abbrev pub takes_as : Bool → ℕ → Kind → Bool
+takes_as false t kind = takes t kind
+takes_as true t kind = main_takes t kind
 
-main_taken_stays : (past : List Entry) (seat : ℕ) (kind : Kind) (t : ℕ) → is_main_taken past t ≡ true → is_main_taken (behind past seat kind) t ≡ true
-main_taken_stays past seat kind t h = is_main_taken_push past (record { seat = seat; kind = kind }) t ∙ ap (λ b. b || main_takes t kind) h
+-- the entry ends it
+abbrev pub ends_as : Bool → ℕ → Kind → Bool
+ends_as false t kind = ends t kind
+ends_as true t kind = main_ends t kind
 
-not_ended_stays : (past : List Entry) (seat : ℕ) (kind : Kind) (t : ℕ) → is_ended past t ≡ false → ends t kind ≡ false
-    → is_ended (behind past seat kind) t ≡ false
-not_ended_stays past seat kind t h k = is_ended_push past (record { seat = seat; kind = kind }) t ∙ ap (λ b. b || ends t kind) h ∙ k
+-- the accepted tasks of the pool, or the accepted main tasks, and what an entry adds to them
+abbrev pub posts_as : Bool → List Entry → List Posted
+posts_as false past = posts past
+posts_as true past = main_posts past
 
-runs_later : (script : Plan) (past : List Entry) (seat : ℕ) (kind : Kind) (s : ℕ) (w : Running) (main : Bool) → RunsAs script past s w main
-    → (main ≡ false → ends w.task kind ≡ false) → RunsAs script (behind past seat kind) s w main
-runs_later script past seat kind s w false r other = record {
+abbrev pub posted_as : Bool → List Entry → Kind → List Posted
+posted_as false past kind = posted_by past kind
+posted_as true past kind = main_posted_by past kind
+
+pub posts_as_push : (main : Bool) (past : List Entry) (e : Entry) → posts_as main (past ++ e ∷ []) ≡ posts_as main past ++ posted_as main past e.kind
+posts_as_push false past e = posts_push past e
+posts_as_push true past e = main_posts_push past e
+
+pub taken_as_push : (main : Bool) (past : List Entry) (e : Entry) (t : ℕ) → taken_as main (past ++ e ∷ []) t ≡ (taken_as main past t || takes_as main t e.kind)
+taken_as_push false past e t = is_taken_push past e t
+taken_as_push true past e t = is_main_taken_push past e t
+
+pub ended_as_push : (main : Bool) (past : List Entry) (e : Entry) (t : ℕ) → ended_as main (past ++ e ∷ []) t ≡ (ended_as main past t || ends_as main t e.kind)
+ended_as_push false past e t = is_ended_push past e t
+ended_as_push true past e t = is_main_ended_push past e t
+
+-- what was taken stays so, and what has not ended stays so behind an entry that does not end it
+taken_stays : (main : Bool) (past : List Entry) (e : Entry) (t : ℕ) → taken_as main past t ≡ true → taken_as main (past ++ e ∷ []) t ≡ true
+taken_stays main past e t h = taken_as_push main past e t ∙ ap (λ b. b || takes_as main t e.kind) h
+
+not_ended_stays : (main : Bool) (past : List Entry) (e : Entry) (t : ℕ) → ended_as main past t ≡ false → ends_as main t e.kind ≡ false
+    → ended_as main (past ++ e ∷ []) t ≡ false
+not_ended_stays main past e t h k = ended_as_push main past e t ∙ ap (λ b. b || ends_as main t e.kind) h ∙ k
+
+-- what was accepted stays so
+posted_stays : (main : Bool) (past : List Entry) (e : Entry) (p : Posted) → Contains (posts_as main past) p → Contains (posts_as main (past ++ e ∷ [])) p
+posted_stays main past e p h = subst (λ ps. Contains ps p) (sym (posts_as_push main past e))
+    (Contains-append_left (posts_as main past) (posted_as main past e.kind) p h)
+
+-- what runs was taken and has not ended
+pub as_runs : (script : Plan) (past : List Entry) (s : ℕ) (w : Running) (main : Bool) → RunsAs script past s w main
+    → (taken_as main past w.task ≡ true) × (ended_as main past w.task ≡ false)
+as_runs script past s w false r = (r.taken, r.not_ended)
+as_runs script past s w true r = (r.taken, r.not_ended)
+
+-- what has ended was taken
+ended_was_taken : (script : Plan) (past : List Entry) → IsConsistent script past → (main : Bool) (t : ℕ) → ended_as main past t ≡ true
+    → taken_as main past t ≡ true
+ended_was_taken script past c false t h = c.taken_before_ended t h
+ended_was_taken script past c true t h = c.main_taken_before_ended t h
+
+-- no two seats run one task
+one_as : (script : Plan) (past : List Entry) → IsConsistent script past → (a b : ℕ) (v w : Running) → running past a ≡ Some v → running past b ≡ Some w
+    → (main : Bool) → v.is_main ≡ main → w.is_main ≡ main → v.task ≡ w.task → a ≡ b
+one_as script past c a b v w h k false p q same = c.one_task a b v w h k p q same
+one_as script past c a b v w h k true p q same =
+    (subst (RunsAs script past a v) p (c.runs a v h)).driver ∙ sym (subst (RunsAs script past b w) q (c.runs b w k)).driver
+
+runs_later : (script : Plan) (past : List Entry) (e : Entry) (s : ℕ) (w : Running) (main : Bool) → RunsAs script past s w main
+    → ends_as main w.task e.kind ≡ false → RunsAs script (past ++ e ∷ []) s w main
+runs_later script past e s w false r goes_on = record {
   accepted = r.accepted;
-  posted = posts_stay past seat kind r.accepted r.posted;
+  posted = posted_stays false past e r.accepted r.posted;
   task_is = r.task_is;
   home_is = r.home_is;
-  taken = taken_stays past seat kind w.task r.taken;
-  not_ended = not_ended_stays past seat kind w.task r.not_ended (other refl);
+  taken = taken_stays false past e w.task r.taken;
+  not_ended = not_ended_stays false past e w.task r.not_ended goes_on;
   worker = r.worker;
   known = r.known;
 }
-runs_later script past seat kind s w true r other = record {
+runs_later script past e s w true r goes_on = record {
   accepted = r.accepted;
-  posted = main_posts_stay past seat kind r.accepted r.posted;
+  posted = posted_stays true past e r.accepted r.posted;
   task_is = r.task_is;
   home_is = r.home_is;
-  taken = main_taken_stays past seat kind w.task r.taken;
+  taken = taken_stays true past e w.task r.taken;
+  not_ended = not_ended_stays true past e w.task r.not_ended goes_on;
   driver = r.driver;
 }
 
--- what a seat runs behind an entry that is another seat's, or that moves no task
-unmoved : (past : List Entry) (seat : ℕ) (kind : Kind) (s : ℕ) → ((now : Option Running) → running_after now kind ≡ now)
-    → running (behind past seat kind) s ≡ running past s
-unmoved past seat kind s still = running_push past (record { seat = seat; kind = kind }) s
-    ∙ ap (λ x. cond (eqb seat s) x (running past s)) (still (running past s)) ∙ same (eqb seat s)
-  where
-    same : (b : Bool) → cond b (running past s) (running past s) ≡ running past s
-    same true = refl
-    same false = refl
+-- it ran before and goes on, or it is what the entry takes
+abbrev Now : List Entry → Entry → Option Running → ℕ → Running → Type 0
+Now past e taken s w = ((running past s ≡ Some w) × (ends_as w.is_main w.task e.kind ≡ false)) ⊎ ((s ≡ e.seat) × (taken ≡ Some w))
 
--- an entry that moves no task keeps a past consistent
-still_consistent : (script : Plan) (past : List Entry) (seat : ℕ) (kind : Kind) → ((now : Option Running) → running_after now kind ≡ now)
-    → ((t : ℕ) → ends t kind ≡ false) → IsConsistent script past → IsConsistent script (behind past seat kind)
-still_consistent script past seat kind still no_end c = record {
-  taken_before_ended = λ t h. taken_stays past seat kind t (c.taken_before_ended t
-      (sym (is_ended_push past (record { seat = seat; kind = kind }) t ∙ ap (λ b. is_ended past t || b) (no_end t) ∙ or-false (is_ended past t)) ∙ h));
-  runs = λ s w h. runs_later script past seat kind s w w.is_main (c.runs s w (sym (unmoved past seat kind s still) ∙ h)) (λ pool. no_end w.task);
-  one_task = λ a b v w h k. c.one_task a b v w (sym (unmoved past seat kind a still) ∙ h) (sym (unmoved past seat kind b still) ∙ k);
-  one_sequence = λ a b v w h k. c.one_sequence a b v w (sym (unmoved past seat kind a still) ∙ h) (sym (unmoved past seat kind b still) ∙ k);
+-- what is taken is another task than each that runs, of a sequence that does not run
+record IsApart (script : Plan) (v w : Running) : Type 0 where
+  task : v.task ≡ w.task → ⊥
+  sequence : sequence_of script v.home v.task ≡ sequence_of script w.home w.task → ⊥
+
+-- an entry that leaves what goes on, and takes at most one task, keeps a past consistent
+consistent_next : (script : Plan) (past : List Entry) (e : Entry) (taken : Option Running)
+    → ((s : ℕ) (w : Running) → running (past ++ e ∷ []) s ≡ Some w → Now past e taken s w)
+    → ((main : Bool) (t : ℕ) → ends_as main t e.kind ≡ true → taken_as main past t ≡ true)
+    → ((w : Running) → taken ≡ Some w → RunsAs script (past ++ e ∷ []) e.seat w w.is_main)
+    → ((w : Running) → taken ≡ Some w → (s : ℕ) (v : Running) → running past s ≡ Some v → v.is_main ≡ false → w.is_main ≡ false → IsApart script v w)
+    → IsConsistent script past → IsConsistent script (past ++ e ∷ [])
+consistent_next script past e taken now was_taken as_taken apart c = record {
+  taken_before_ended = before_ended false;
+  main_taken_before_ended = before_ended true;
+  runs = λ s w h. runs s w (now s w h);
+  one_task = λ a b v w h k. one_task a b v w (now a v h) (now b w k);
+  one_sequence = λ a b v w h k. one_sequence a b v w (now a v h) (now b w k);
 }
+  where
+    before_ended : (main : Bool) (t : ℕ) → ended_as main (past ++ e ∷ []) t ≡ true → taken_as main (past ++ e ∷ []) t ≡ true
+    before_ended main t h = taken_stays main past e t
+        (by (or_cases (ended_as main past t) (ends_as main t e.kind) (sym (ended_as_push main past e t) ∙ h)))
+      where
+        by : (ended_as main past t ≡ true) ⊎ (ends_as main t e.kind ≡ true) → taken_as main past t ≡ true
+        by (inl before) = ended_was_taken script past c main t before
+        by (inr ends_now) = was_taken main t ends_now
 
--- what a seat runs behind an entry of its own, and behind another seat's
-moved : (past : List Entry) (seat : ℕ) (kind : Kind) (s : ℕ) (now : Option Running) → eqb seat s ≡ true → running_after (running past s) kind ≡ now
-    → running (behind past seat kind) s ≡ now
-moved past seat kind s now own after = running_push past (record { seat = seat; kind = kind }) s
-    ∙ ap (λ b. cond b (running_after (running past s) kind) (running past s)) own ∙ after
+    runs : (s : ℕ) (w : Running) → Now past e taken s w → RunsAs script (past ++ e ∷ []) s w w.is_main
+    runs s w (inl x) = runs_later script past e s w w.is_main (c.runs s w x.0) x.1
+    runs s w (inr x) = subst (λ n. RunsAs script (past ++ e ∷ []) n w w.is_main) (sym x.0) (as_taken w x.1)
 
-others : (past : List Entry) (seat : ℕ) (kind : Kind) (s : ℕ) → eqb seat s ≡ false → running (behind past seat kind) s ≡ running past s
-others past seat kind s other = running_push past (record { seat = seat; kind = kind }) s
-    ∙ ap (λ b. cond b (running_after (running past s) kind) (running past s)) other
+    one_task : (a b : ℕ) (v w : Running) → Now past e taken a v → Now past e taken b w → v.is_main ≡ false → w.is_main ≡ false → v.task ≡ w.task → a ≡ b
+    one_task a b v w (inl x) (inl y) p q same = c.one_task a b v w x.0 y.0 p q same
+    one_task a b v w (inl x) (inr y) p q same = absurd ((apart w y.1 a v x.0 p q).task same)
+    one_task a b v w (inr x) (inl y) p q same = absurd ((apart v x.1 b w y.0 q p).task (sym same))
+    one_task a b v w (inr x) (inr y) p q same = x.0 ∙ sym y.0
 
-same_running : (v w : Running) → Some v ≡ Some w → v ≡ w
-same_running v w h = cc
+    one_sequence : (a b : ℕ) (v w : Running) → Now past e taken a v → Now past e taken b w → v.is_main ≡ false → w.is_main ≡ false
+        → sequence_of script v.home v.task ≡ sequence_of script w.home w.task → a ≡ b
+    one_sequence a b v w (inl x) (inl y) p q same = c.one_sequence a b v w x.0 y.0 p q same
+    one_sequence a b v w (inl x) (inr y) p q same = absurd ((apart w y.1 a v x.0 p q).sequence same)
+    one_sequence a b v w (inr x) (inl y) p q same = absurd ((apart v x.1 b w y.0 q p).sequence (sym same))
+    one_sequence a b v w (inr x) (inr y) p q same = x.0 ∙ sym y.0
 
--- a test does not both pass and fail
-pub not_both : (b : Bool) → b ≡ true → b ≡ false → ⊥
-not_both true h k = absurd cc
-not_both false h k = absurd cc
+-- an entry that takes nothing
+nothing_taken : (script : Plan) (past : List Entry) (e : Entry)
+    → ((s : ℕ) (w : Running) → running (past ++ e ∷ []) s ≡ Some w → (running past s ≡ Some w) × (ends_as w.is_main w.task e.kind ≡ false))
+    → ((main : Bool) (t : ℕ) → ends_as main t e.kind ≡ true → taken_as main past t ≡ true)
+    → IsConsistent script past → IsConsistent script (past ++ e ∷ [])
+nothing_taken script past e goes_on was_taken c = consistent_next script past e None (λ s w h. inl (goes_on s w h)) was_taken
+    (λ w is. absurd (none-some w is)) (λ w is. absurd (none-some w is)) c
+
+-- an entry that takes a task
+one_taken : (script : Plan) (past : List Entry) (e : Entry) (taken : Running) → running_after (running past e.seat) e.kind ≡ Some taken
+    → ((main : Bool) (t : ℕ) → ends_as main t e.kind ≡ false) → RunsAs script (past ++ e ∷ []) e.seat taken taken.is_main
+    → ((s : ℕ) (v : Running) → running past s ≡ Some v → v.is_main ≡ false → taken.is_main ≡ false → IsApart script v taken)
+    → IsConsistent script past → IsConsistent script (past ++ e ∷ [])
+one_taken script past e taken after no_end as_taken apart c = consistent_next script past e (Some taken) (λ s w h. now s w (runs_behind past e s w h))
+    (λ main t ends_it. absurd (both_ways (ends_as main t e.kind) (no_end main t) ends_it))
+    (λ w is. subst (λ x. RunsAs script (past ++ e ∷ []) e.seat x x.is_main) (same_Some taken w is) as_taken)
+    (λ w is. subst (λ x. (s : ℕ) (v : Running) → running past s ≡ Some v → v.is_main ≡ false → x.is_main ≡ false → IsApart script v x)
+    (same_Some taken w is) apart) c
+  where
+    now : (s : ℕ) (w : Running) → RunsBehind past e s w → Now past e (Some taken) s w
+    now s w (inl x) = inl (x.0, no_end w.is_main w.task)
+    now s w (inr x) = inr (x.0, sym after ∙ x.1)
+
+-- an entry by which a seat ends what it runs
+one_ended : (script : Plan) (past : List Entry) (e : Entry) (v : Running) → running past e.seat ≡ Some v
+    → running_after (running past e.seat) e.kind ≡ None
+    → ((main : Bool) (t : ℕ) → ends_as main t e.kind ≡ true → (v.is_main ≡ main) × (v.task ≡ t))
+    → IsConsistent script past → IsConsistent script (past ++ e ∷ [])
+one_ended script past e v runs_it after ends_it c = nothing_taken script past e (λ s w h. goes_on s w (runs_behind past e s w h)) was_taken c
+  where
+    was_taken : (main : Bool) (t : ℕ) → ends_as main t e.kind ≡ true → taken_as main past t ≡ true
+    was_taken main t h = let is = ends_it main t h in
+        subst (λ m. taken_as m past t ≡ true) is.0 (subst (λ u. taken_as v.is_main past u ≡ true) is.1
+        (as_runs script past e.seat v v.is_main (c.runs e.seat v runs_it)).0)
+
+    not_another : (s : ℕ) (w : Running) → running past s ≡ Some w → eqb e.seat s ≡ false → ends_as w.is_main w.task e.kind ≡ true → ⊥
+    not_another s w h other ends_now = let is = ends_it w.is_main w.task ends_now in
+        both_ways (eqb e.seat s) other (ap (eqb e.seat) (one_as script past c s e.seat w v h runs_it w.is_main refl is.0 (sym is.1))
+        ∙ eq-eqb e.seat e.seat refl)
+
+    goes_on : (s : ℕ) (w : Running) → RunsBehind past e s w → (running past s ≡ Some w) × (ends_as w.is_main w.task e.kind ≡ false)
+    goes_on s w (inl x) = (x.0, false_from_ne_true (ends_as w.is_main w.task e.kind) (not_another s w x.0 x.1))
+    goes_on s w (inr x) = absurd (none-some w (sym after ∙ x.1))
+
+-- an entry that moves no task
+still : (script : Plan) (past : List Entry) (e : Entry) → ((now : Option Running) → running_after now e.kind ≡ now)
+    → ((main : Bool) (t : ℕ) → ends_as main t e.kind ≡ false) → IsConsistent script past → IsConsistent script (past ++ e ∷ [])
+still script past e same no_end c = nothing_taken script past e (λ s w h. goes_on s w (runs_behind past e s w h))
+    (λ main t ends_it. absurd (both_ways (ends_as main t e.kind) (no_end main t) ends_it)) c
+  where
+    goes_on : (s : ℕ) (w : Running) → RunsBehind past e s w → (running past s ≡ Some w) × (ends_as w.is_main w.task e.kind ≡ false)
+    goes_on s w (inl x) = (x.0, no_end w.is_main w.task)
+    goes_on s w (inr x) = (ap (running past) x.0 ∙ sym (same (running past e.seat)) ∙ x.1, no_end w.is_main w.task)
+
+-- by what it says of both kinds of task
+of_both : (P : Bool → ℕ → Type 0) → ((t : ℕ) → P false t) → ((t : ℕ) → P true t) → (main : Bool) (t : ℕ) → P main t
+of_both P pool main false t = pool t
+of_both P pool main true t = main t
+
+-- what has not been taken has not ended
+not_ended : (script : Plan) (past : List Entry) → IsConsistent script past → (main : Bool) (t : ℕ) → taken_as main past t ≡ false
+    → ended_as main past t ≡ false
+not_ended script past c main t free = false_from_ne_true (ended_as main past t)
+    (λ ended. both_ways (taken_as main past t) free (ended_was_taken script past c main t ended))
 
 -- where a sequence does not run, no seat of the script runs a task of it
 nobody_runs : (script : Plan) (past : List Entry) (s seat : ℕ) (w : Running) → runs_sequence script past s ≡ false → seat ≤ script.workers
     → running past seat ≡ Some w → w.is_main ≡ false → sequence_of script w.home w.task ≡ s → ⊥
-nobody_runs script past s seat w idle known runs pool same = not_both (runs_sequence script past s)
-    (seat_runs script past s seat (omega (arith, known)) here) idle
-  where
-    here : holds_of (runs_of script s) (running past seat) ≡ true
-    here = ap (holds_of (runs_of script s)) runs ∙ ap (λ b. not b && eqb (sequence_of script w.home w.task) s) pool ∙ ap (λ x. eqb x s) same ∙ eqb-same s
-
--- whether a seat is the one that made the entry
-data Whose (seat s : ℕ) : Type 0 where
-  Own : eqb seat s ≡ true → s ≡ seat → Whose seat s
-  Other : eqb seat s ≡ false → Whose seat s
-
-whose : (seat s : ℕ) → Whose seat s
-whose seat s = at (eqb seat s) refl
-  where
-    at : (b : Bool) → eqb seat s ≡ b → Whose seat s
-    at true is = Own is (sym (eqb-true seat s is))
-    at false is = Other is
-
--- a take of a task that no seat runs, of a sequence that does not run
-taken_consistent : (script : Plan) (past : List Entry) (seat : ℕ) (kind : Kind) (taken : Running)
-    → ((now : Option Running) → running_after now kind ≡ Some taken) → ((t : ℕ) → ends t kind ≡ false)
-    → RunsAs script (behind past seat kind) seat taken taken.is_main
-    → ((s : ℕ) (w : Running) → running past s ≡ Some w → w.is_main ≡ false → taken.is_main ≡ false → w.task ≡ taken.task → ⊥)
-    → ((s : ℕ) (w : Running) → running past s ≡ Some w → w.is_main ≡ false → taken.is_main ≡ false
-        → sequence_of script w.home w.task ≡ sequence_of script taken.home taken.task → ⊥)
-    → IsConsistent script past → IsConsistent script (behind past seat kind)
-taken_consistent script past seat kind taken after no_end as_taken no_task no_sequence c = record {
-  taken_before_ended = λ t h. taken_stays past seat kind t (c.taken_before_ended t
-      (sym (is_ended_push past (record { seat = seat; kind = kind }) t ∙ ap (λ b. is_ended past t || b) (no_end t) ∙ or-false (is_ended past t)) ∙ h));
-  runs = λ s w h. runs s w (whose seat s) h;
-  one_task = λ a b v w h k p q same. once_task a b v w (whose seat a) (whose seat b) h k p q same;
-  one_sequence = λ a b v w h k p q same. once_sequence a b v w (whose seat a) (whose seat b) h k p q same;
-}
-  where
-    is_taken : (s : ℕ) (w : Running) → eqb seat s ≡ true → running (behind past seat kind) s ≡ Some w → taken ≡ w
-    is_taken s w own h = same_running taken w (sym (moved past seat kind s (Some taken) own (after (running past s))) ∙ h)
-
-    is_other : (s : ℕ) (w : Running) → eqb seat s ≡ false → running (behind past seat kind) s ≡ Some w → running past s ≡ Some w
-    is_other s w other h = sym (others past seat kind s other) ∙ h
-
-    runs : (s : ℕ) (w : Running) → Whose seat s → running (behind past seat kind) s ≡ Some w → RunsAs script (behind past seat kind) s w w.is_main
-    runs s w (Own own is) h = subst (λ x. RunsAs script (behind past seat kind) s x x.is_main) (is_taken s w own h)
-        (subst (λ x. RunsAs script (behind past seat kind) x taken taken.is_main) (sym is) as_taken)
-    runs s w (Other other) h = runs_later script past seat kind s w w.is_main (c.runs s w (is_other s w other h)) (λ pool. no_end w.task)
-
-    once_task : (a b : ℕ) (v w : Running) → Whose seat a → Whose seat b → running (behind past seat kind) a ≡ Some v
-        → running (behind past seat kind) b ≡ Some w → v.is_main ≡ false → w.is_main ≡ false → v.task ≡ w.task → a ≡ b
-    once_task a b v w (Own x i) (Own y j) h k p q same = i ∙ sym j
-    once_task a b v w (Own x i) (Other y) h k p q same = absurd
-        (no_task b w (is_other b w y k) q (ap (λ r. r.is_main) (is_taken a v x h) ∙ p) (sym same ∙ sym (ap (λ r. r.task) (is_taken a v x h))))
-    once_task a b v w (Other x) (Own y j) h k p q same = absurd
-        (no_task a v (is_other a v x h) p (ap (λ r. r.is_main) (is_taken b w y k) ∙ q) (same ∙ sym (ap (λ r. r.task) (is_taken b w y k))))
-    once_task a b v w (Other x) (Other y) h k p q same = c.one_task a b v w (is_other a v x h) (is_other b w y k) p q same
-
-    sequence : Running → ℕ
-    sequence r = sequence_of script r.home r.task
-
-    once_sequence : (a b : ℕ) (v w : Running) → Whose seat a → Whose seat b → running (behind past seat kind) a ≡ Some v
-        → running (behind past seat kind) b ≡ Some w → v.is_main ≡ false → w.is_main ≡ false → sequence v ≡ sequence w → a ≡ b
-    once_sequence a b v w (Own x i) (Own y j) h k p q same = i ∙ sym j
-    once_sequence a b v w (Own x i) (Other y) h k p q same = absurd
-        (no_sequence b w (is_other b w y k) q (ap (λ r. r.is_main) (is_taken a v x h) ∙ p) (sym same ∙ sym (ap sequence (is_taken a v x h))))
-    once_sequence a b v w (Other x) (Own y j) h k p q same = absurd
-        (no_sequence a v (is_other a v x h) p (ap (λ r. r.is_main) (is_taken b w y k) ∙ q) (same ∙ sym (ap sequence (is_taken b w y k))))
-    once_sequence a b v w (Other x) (Other y) h k p q same = c.one_sequence a b v w (is_other a v x h) (is_other b w y k) p q same
-
--- an end: the seat runs nothing more
-ended_consistent : (script : Plan) (past : List Entry) (seat : ℕ) (kind : Kind)
-    → ((now : Option Running) → running_after now kind ≡ None)
-    → ((t : ℕ) → ends t kind ≡ true → is_taken past t ≡ true)
-    → ((s : ℕ) (w : Running) → eqb seat s ≡ false → running past s ≡ Some w → w.is_main ≡ false → ends w.task kind ≡ false)
-    → IsConsistent script past → IsConsistent script (behind past seat kind)
-ended_consistent script past seat kind after was_taken not_another c = record {
-  taken_before_ended = λ t h. taken_stays past seat kind t (ended t (is_ended past t) (ends t kind) refl refl
-      (sym (is_ended_push past (record { seat = seat; kind = kind }) t) ∙ h));
-  runs = λ s w h. runs s w (whose seat s) h;
-  one_task = λ a b v w h k. c.one_task a b v w (before a v (whose seat a) h) (before b w (whose seat b) k);
-  one_sequence = λ a b v w h k. c.one_sequence a b v w (before a v (whose seat a) h) (before b w (whose seat b) k);
-}
-  where
-    ended : (t : ℕ) (x y : Bool) → is_ended past t ≡ x → ends t kind ≡ y → (is_ended past t || ends t kind) ≡ true → is_taken past t ≡ true
-    ended t true y x_is y_is h = c.taken_before_ended t x_is
-    ended t false true x_is y_is h = was_taken t y_is
-    ended t false false x_is y_is h = absurd (clash (sym (ap (λ b. b || ends t kind) x_is ∙ y_is) ∙ h))
-      where
-        clash : false ≡ true → ⊥
-        clash e = absurd cc
-
-    nothing : (w : Running) → None ≡ Some w → ⊥
-    nothing w e = absurd cc
-
-    before : (s : ℕ) (w : Running) → Whose seat s → running (behind past seat kind) s ≡ Some w → running past s ≡ Some w
-    before s w (Own own is) h = absurd (nothing w (sym (moved past seat kind s None own (after (running past s))) ∙ h))
-    before s w (Other other) h = sym (others past seat kind s other) ∙ h
-
-    runs : (s : ℕ) (w : Running) → Whose seat s → running (behind past seat kind) s ≡ Some w → RunsAs script (behind past seat kind) s w w.is_main
-    runs s w (Own own is) h = absurd (nothing w (sym (moved past seat kind s None own (after (running past s))) ∙ h))
-    runs s w (Other other) h = runs_later script past seat kind s w w.is_main (c.runs s w (before s w (Other other) h))
-        (λ pool. not_another s w other (before s w (Other other) h) pool)
-
--- what has not been taken has not ended
-not_ended : (script : Plan) (past : List Entry) (t : ℕ) → IsConsistent script past → is_taken past t ≡ false → is_ended past t ≡ false
-not_ended script past t c free = at (is_ended past t) refl
-  where
-    at : (b : Bool) → is_ended past t ≡ b → b ≡ false
-    at true is = absurd (not_both (is_taken past t) (c.taken_before_ended t is) free)
-    at false is = refl
-
--- what is known of a pool task that runs
-pool : (script : Plan) (past : List Entry) (s : ℕ) (w : Running) → IsConsistent script past → running past s ≡ Some w → w.is_main ≡ false
-    → RunsPoolTask script past s w
-pool script past s w c h p = subst (RunsAs script past s w) p (c.runs s w h)
+nobody_runs script past s seat w idle known runs pool same = both_ways (runs_sequence script past s) idle
+    (seat_runs script past s seat (omega (arith, known)) (rw (runs, pool, same, eq-eqb s s refl) refl))
 
 take_consistent : (script : Plan) (past : List Entry) (seat task runner value : ℕ) → IsTake script past seat task runner value → IsConsistent script past
     → IsConsistent script (behind past seat (kinds.Take task runner value))
-take_consistent script past seat task runner value t c = taken_consistent script past seat (kinds.Take task runner value) taken (λ now. refl) (λ x. refl) runs
-    (λ s w h p q same. not_both (is_taken past task) (ap (is_taken past) (sym same) ∙ (pool script past s w c h p).taken) t.not_taken)
-    (λ s w h p q same. nobody_runs script past (sequence_of script runner task) s w t.not_running (pool script past s w c h p).known h p same)
-    c
+take_consistent script past seat task runner value t c = one_taken script past e taken refl
+    (of_both (λ main u. ends_as main u e.kind ≡ false) (λ u. refl) (λ u. refl)) runs apart c
   where
+    e : Entry
+    e = record { seat = seat; kind = kinds.Take task runner value }
+
     taken : Running
     taken = record { task = task; home = runner; found = value; is_main = false }
 
-    runs : RunsPoolTask script (behind past seat (kinds.Take task runner value)) seat taken
+    runs : RunsPoolTask script (past ++ e ∷ []) seat taken
     runs = record {
       accepted = t.head.posted;
-      posted = posts_stay past seat (kinds.Take task runner value) t.head.posted t.is_head.accepted;
+      posted = posted_stays false past e t.head.posted t.is_head.accepted;
       task_is = t.task_is;
       home_is = t.home_is;
-      taken = is_taken_push past (record { seat = seat; kind = kinds.Take task runner value }) task ∙ ap (λ b. is_taken past task || b) (eqb-same task)
-          ∙ or-true (is_taken past task);
-      not_ended = not_ended_stays past seat (kinds.Take task runner value) task (not_ended script past task c t.not_taken) refl;
+      taken = is_taken_push past e task ∙ or_right (is_taken past task) (eqb task task) (eq-eqb task task refl);
+      not_ended = not_ended_stays false past e task (not_ended script past c false task t.not_taken) refl;
       worker = t.worker;
       known = t.known;
     }
 
+    apart : (s : ℕ) (v : Running) → running past s ≡ Some v → v.is_main ≡ false → false ≡ false → IsApart script v taken
+    apart s v h p q = let was = subst (RunsAs script past s v) p (c.runs s v h) in record {
+      task = λ same. both_ways (is_taken past task) t.not_taken (ap (is_taken past) (sym same) ∙ was.taken);
+      sequence = nobody_runs script past (sequence_of script runner task) s v t.not_running was.known h p;
+    }
+
 main_take_consistent : (script : Plan) (past : List Entry) (seat task queue value : ℕ) → IsMainTake script past seat task queue value
     → IsConsistent script past → IsConsistent script (behind past seat (kinds.MainTake task queue value))
-main_take_consistent script past seat task queue value t c = taken_consistent script past seat (kinds.MainTake task queue value) taken (λ now. refl)
-    (λ x. refl) runs
-    (λ s w h p q same. true_false q) (λ s w h p q same. true_false q) c
+main_take_consistent script past seat task queue value t c = one_taken script past e taken refl
+    (of_both (λ main u. ends_as main u e.kind ≡ false) (λ u. refl) (λ u. refl)) runs (λ s v h p q. absurd (true≢false q)) c
   where
-    true_false : true ≡ false → ⊥
-    true_false e = absurd cc
+    e : Entry
+    e = record { seat = seat; kind = kinds.MainTake task queue value }
 
     taken : Running
     taken = record { task = task; home = queue; found = value; is_main = true }
 
-    runs : RunsMainTask (behind past seat (kinds.MainTake task queue value)) seat taken
+    runs : RunsMainTask (past ++ e ∷ []) seat taken
     runs = record {
       accepted = t.is_front.accepted;
-      posted = main_posts_stay past seat (kinds.MainTake task queue value) t.is_front.accepted t.is_front.posted;
+      posted = posted_stays true past e t.is_front.accepted t.is_front.posted;
       task_is = t.is_front.task_is ∙ t.task_is;
       home_is = t.is_front.queue_is ∙ t.queue_is;
-      taken = is_main_taken_push past (record { seat = seat; kind = kinds.MainTake task queue value }) task
-          ∙ ap (λ b. is_main_taken past task || b) (eqb-same task) ∙ or-true (is_main_taken past task);
+      taken = is_main_taken_push past e task ∙ or_right (is_main_taken past task) (eqb task task) (eq-eqb task task refl);
+      not_ended = not_ended_stays true past e task
+          (not_ended script past c true task (ap (is_main_taken past) (sym t.task_is) ∙ t.is_front.not_taken)) refl;
       driver = t.driver;
     }
-
-end_consistent : (script : Plan) (past : List Entry) (seat task left : ℕ) → (v : Running) → running past seat ≡ Some v → v.is_main ≡ false → v.task ≡ task
-    → IsConsistent script past → IsConsistent script (behind past seat (kinds.End task left))
-end_consistent script past seat task left v h p is c = ended_consistent script past seat (kinds.End task left) (λ now. refl)
-    (λ t same. ap (is_taken past) (sym (eqb-true task t same) ∙ sym is) ∙ (pool script past seat v c h p).taken)
-    (λ s w other k q. another s w other k q (eqb task w.task) refl) c
-  where
-    another : (s : ℕ) (w : Running) → eqb seat s ≡ false → running past s ≡ Some w → w.is_main ≡ false → (b : Bool) → eqb task w.task ≡ b → b ≡ false
-    another s w other k q true same = absurd (not_both (eqb seat s) (ap (eqb seat) (c.one_task s seat w v k h q p (sym (eqb-true task w.task same) ∙ sym is))
-        ∙ eqb-same seat) other)
-    another s w other k q false same = refl
 
 -- an entry that is allowed keeps a past consistent
 step : (script : Plan) (past : List Entry) (seat : ℕ) (kind : Kind) → may_come script past seat kind ≡ true → IsConsistent script past
@@ -284,24 +299,28 @@ step : (script : Plan) (past : List Entry) (seat : ℕ) (kind : Kind) → may_co
 step script past seat (kinds.Take task runner value) h c = take_consistent script past seat task runner value (take_is script past seat task runner value h) c
 step script past seat (kinds.MainTake task queue value) h c = main_take_consistent script past seat task queue value
     (main_take_is script past seat task queue value h) c
-step script past seat (kinds.End task left) h c = let w = end_is script past seat task left h in end_consistent script past seat task left w.0 w.1 w.2 w.3 c
-step script past seat (kinds.MainEnd task left) h c = ended_consistent script past seat (kinds.MainEnd task left) (λ now. refl)
-    (λ t same. absurd (not_both false same refl)) (λ s w other k q. refl) c
-step script past seat kind h c = still_consistent script past seat kind (λ now. refl) (λ t. refl) c
+step script past seat (kinds.End task left) h c = let (v, runs, pool, is) = end_is script past seat task left h in
+    one_ended script past (record { seat = seat; kind = kinds.End task left }) v runs refl
+    (of_both (λ main t. ends_as main t (kinds.End task left) ≡ true → (v.is_main ≡ main) × (v.task ≡ t))
+    (λ t same. (pool, is ∙ eqb-true task t same)) (λ t same. absurd (true≢false (sym same)))) c
+step script past seat (kinds.MainEnd task left) h c = let (v, runs, main, is) = main_end_is script past seat task left h in
+    one_ended script past (record { seat = seat; kind = kinds.MainEnd task left }) v runs refl
+    (of_both (λ m t. ends_as m t (kinds.MainEnd task left) ≡ true → (v.is_main ≡ m) × (v.task ≡ t))
+    (λ t same. absurd (true≢false (sym same))) (λ t same. (main, is ∙ eqb-true task t same))) c
+step script past seat kind h c = still script past (record { seat = seat; kind = kind }) (λ now. refl)
+    (of_both (λ main t. ends_as main t kind ≡ false) (λ t. refl) (λ t. refl)) c
 
 nothing_consistent : (script : Plan) → IsConsistent script []
-unfolding is_ended running
+unfolding is_ended is_main_ended running
 nothing_consistent script = record {
-  taken_before_ended = λ t h. absurd (not_both false h refl);
-  runs = λ seat w h. nothing w h;
-  one_task = λ a b v w h. nothing v h;
-  one_sequence = λ a b v w h. nothing v h;
+  taken_before_ended = λ t h. absurd (true≢false (sym h));
+  main_taken_before_ended = λ t h. absurd (true≢false (sym h));
+  runs = λ seat w h. absurd (none-some w h);
+  one_task = λ a b v w h. absurd (none-some v h);
+  one_sequence = λ a b v w h. absurd (none-some v h);
 }
-  where
-    nothing : {X : Type 0} (w : Running) → None ≡ Some w → X
-    nothing w e = absurd cc
 
 -- what every legal past gives
-pub legal_is_consistent : (script : Plan) (past : List Entry) → is_legal script past ≡ true → IsConsistent script past
-legal_is_consistent script = legal_induction script (IsConsistent script) (nothing_consistent script)
-    (λ past e h allowed c. step script past e.seat e.kind (and_parts (leb e.seat script.workers) (may_come script past e.seat e.kind) allowed).1 c)
+pub legal_is_consistent : (script : Plan) (past : List Entry) → IsLegal script past → IsConsistent script past
+legal_is_consistent script = entry_induction script (IsConsistent script) (nothing_consistent script)
+    (λ past e known may c. step script past e.seat e.kind may c)

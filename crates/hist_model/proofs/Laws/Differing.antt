@@ -1,11 +1,11 @@
 -- The test for lists without repetitions, and what it does on scripts.
 use Rattle.std.proofs.Common.{◌≡◌, ℕ, ◌≤◌, Bool, true, false, cond, eqb, List, [], ◌∷◌, length, refl, arith}
 use Rattle.std.specs.Prelude.{◌↔◌, IsTrue, filter}
-use Rattle.std.proofs.lemmas.Bool.{eqb-true, and_parts}
+use Rattle.std.proofs.lemmas.Bool.{eqb-true, and_parts, eq-eqb}
 use Rattle.task_base.specs.Plan.{Plan}
 use Rattle.task_base.specs.declared.script.Action.TheVariants as actions
 use Rattle.task_base.specs.declared.step.Step.TheVariants as steps
-use Rattle.list_laws.proofs.Lists.{eqb-same}
+use Rattle.list_laws.proofs.Values.{eqb-same}
 use Rattle.script_model.specs.Postings.{times, differ, postings, IsPostedOnce, is_posted_once}
 
 differ_once : (us : List ℕ) → differ us ≡ true → (t : ℕ) → times t us ≤ 1
@@ -20,7 +20,7 @@ differ_once (u ∷ us) h t = at (eqb u t) refl (and_parts (eqb (times u us) 0) (
 
 once_differ : (us : List ℕ) → ((t : ℕ) → times t us ≤ 1) → differ us ≡ true
 once_differ [] h = refl
-once_differ (u ∷ us) h = rw (none (eqb u u) (eqb-same u) (h u)) (once_differ us (λ t. less t (eqb u t) (h t)))
+once_differ (u ∷ us) h = rw (none (eqb u u) (eq-eqb u u refl) (h u)) (once_differ us (λ t. less t (eqb u t) (h t)))
   where
     none : (b : Bool) → b ≡ true → length (cond b (u ∷ filter (λ x. eqb x u) us) (filter (λ x. eqb x u) us)) ≤ 1 → eqb (times u us) 0 ≡ true
     none true is k = let zero_times : times u us ≡ 0 = omega arith in rw zero_times refl

@@ -1,6 +1,6 @@
 -- The postings that the driver's actions have left.
-use Rattle.std.proofs.Common.{◌≡◌, ℕ, ◌+◌, ◌≤◌, Bool, true, false, cond, eqb, List, [], ◌∷◌, ◌++◌, refl, sym, ap, ◌∙◌, Option, Some, None, arith, append-nil}
-use Rattle.std.specs.Prelude.{◌&&◌, flat_map}
+use Rattle.std.proofs.Common.{◌≡◌, ℕ, ◌+◌, ◌≤◌, Bool, true, false, cond, eqb, List, [], ◌∷◌, ◌++◌, refl, sym, ap, ◌∙◌, Option, Some, None, arith, append-nil, ◌⊎◌, inl, inr, ⊎_elim}
+use Rattle.std.specs.Prelude.{flat_map}
 use Rattle.std.specs.Option.{option_map_or}
 use Rattle.std.proofs.lemmas.List.Elements.{filter-append}
 use Rattle.std.proofs.lemmas.Bool.{eqb-true, and_parts}
@@ -11,7 +11,7 @@ use Rattle.task_base.specs.declared.entry.Kind.TheVariants as kinds
 use Rattle.task_base.specs.declared.script.Action.{Action}
 use Rattle.task_base.specs.declared.script.Action.TheVariants as actions
 use Rattle.list_laws.specs.Lists.{holds_of}
-use Rattle.list_laws.proofs.Lists.{count-append}
+use Rattle.list_laws.proofs.Counts.{count-append}
 use Rattle.hist_model.specs.Views.{own_entries}
 use Rattle.hist_model.specs.Script.{behind_action, wants, is_wanted}
 use Rattle.hist_model.specs.Laws.Agenda.{agenda_from, agenda, first_of, completes, next_agenda}
@@ -22,11 +22,6 @@ use Rattle.hist_model.proofs.Laws.Agenda.{current_is_first, agenda_push}
 
 pub times-append : (t : ℕ) (xs ys : List ℕ) → times t (xs ++ ys) ≡ times t xs + times t ys
 times-append t xs ys = count-append (λ u. eqb u t) xs ys
-
--- the first of three tests that are passed
-pub first_test : (a b c : Bool) → ((a && b) && c) ≡ true → a ≡ true
-first_test true b c h = refl
-first_test false b c h = absurd cc
 
 -- how often actions post a task
 abbrev pub actions_post : ℕ → List Action → ℕ
@@ -52,27 +47,23 @@ next_agenda_within t (x ∷ xs) made e = at (completes x made e.kind)
     at true = omega (arith, agenda_from_within t xs [], one_more t x xs)
     at false = omega arith
 
--- what is left once the action that posts a task is behind
-one_behind : (t u task : ℕ) (x : Action) (xs : List Action) → task ≡ u → posts_of_action x ≡ u ∷ []
-    → actions_post t (agenda_from xs []).actions + times t (task ∷ []) ≤ actions_post t (x ∷ xs)
-one_behind t u task x xs same posts = let whole : times t (posts_of_action x) ≡ times t (task ∷ []) = ap (times t) (posts ∙ ap (λ n. n ∷ []) (sym same)) in
-    omega (arith, whole, one_more t x xs, agenda_from_within t xs [])
+-- an entry that an action wants posts nothing, or completes the action and posts what it posts
+wanted : (t : ℕ) (own : List Entry) (x : Action) (made : List Entry) (kind : Kind) → wants own x made kind ≡ true
+    → (times t (kind_posts kind) ≡ 0) ⊎ ((completes x made kind ≡ true) × (times t (kind_posts kind) ≤ times t (posts_of_action x)))
+wanted t own (actions.Post u r d) made (kinds.Post task runner delay ok) h =
+    inr (refl, rw (eqb-true task u (and_parts (eqb task u) (eqb runner r) (and_parts _ (eqb delay d) h).0).0) (omega arith))
+wanted t own (actions.Main u q d) made (kinds.Main task queue delay ok) h =
+    inr (refl, rw (eqb-true task u (and_parts (eqb task u) (eqb queue q) (and_parts _ (eqb delay d) h).0).0) (omega arith))
+wanted t own x made (kinds.Post task runner delay ok) h = absurd cc
+wanted t own x made (kinds.Main task queue delay ok) h = absurd cc
+wanted t own x made kind h = inl refl
 
-wanted_post : (t : ℕ) (own : List Entry) (xs : List Action) (made : List Entry) (seat task runner delay : ℕ) (ok : Bool)
-    → holds_of (λ c. wants own c.action c.made (kinds.Post task runner delay ok)) (first_of xs made) ≡ true
-    → actions_post t (next_agenda xs made (record { seat = seat; kind = kinds.Post task runner delay ok })).actions + times t (task ∷ []) ≤ actions_post t xs
-wanted_post t own [] made seat task runner delay ok h = absurd cc
-wanted_post t own (actions.Post u r d ∷ xs) made seat task runner delay ok h = one_behind t u task (actions.Post u r d) xs
-    (eqb-true task u (first_test (eqb task u) (eqb runner r) (eqb delay d) h)) refl
-wanted_post t own (x ∷ xs) made seat task runner delay ok h = absurd cc
-
-wanted_main : (t : ℕ) (own : List Entry) (xs : List Action) (made : List Entry) (seat task queue delay : ℕ) (ok : Bool)
-    → holds_of (λ c. wants own c.action c.made (kinds.Main task queue delay ok)) (first_of xs made) ≡ true
-    → actions_post t (next_agenda xs made (record { seat = seat; kind = kinds.Main task queue delay ok })).actions + times t (task ∷ []) ≤ actions_post t xs
-wanted_main t own [] made seat task queue delay ok h = absurd cc
-wanted_main t own (actions.Main u q d ∷ xs) made seat task queue delay ok h = one_behind t u task (actions.Main u q d) xs
-    (eqb-true task u (first_test (eqb task u) (eqb queue q) (eqb delay d) h)) refl
-wanted_main t own (x ∷ xs) made seat task queue delay ok h = absurd cc
+wanted_next : (t : ℕ) (own : List Entry) (xs : List Action) (made : List Entry) (e : Entry)
+    → holds_of (λ c. wants own c.action c.made e.kind) (first_of xs made) ≡ true
+    → actions_post t (next_agenda xs made e).actions + times t (kind_posts e.kind) ≤ actions_post t xs
+wanted_next t own [] made e h = absurd cc
+wanted_next t own (x ∷ xs) made e h = ⊎_elim (λ none. omega (arith, none, next_agenda_within t (x ∷ xs) made e))
+    (λ k. rw k.0 (omega (arith, k.1, one_more t x xs, agenda_from_within t xs []))) (wanted t own x made e.kind h)
 
 -- how often the actions that the driver has left post a task
 abbrev pub driver_has : Plan → ℕ → List Entry → ℕ
@@ -102,22 +93,13 @@ script_wants : (script : Plan) (own : List Entry) (kind : Kind) → is_wanted sc
 unfolding is_wanted
 script_wants script own kind h = ap (holds_of (λ c. wants own c.action c.made kind)) (sym (current_is_first script own)) ∙ h
 
-posts_of_wanted : (script : Plan) (t : ℕ) (own : List Entry) (seat : ℕ) (kind : Kind) → is_wanted script own kind ≡ true
-    → actions_post t (agenda script (own ++ (record { seat = seat; kind = kind }) ∷ [])).actions
-        + times t (kind_posts kind) ≤ actions_post t (agenda script own).actions
-posts_of_wanted script t own seat (kinds.Post task runner delay ok) h = rw
-    (agenda_push script own (record { seat = seat; kind = kinds.Post task runner delay ok }))
-    (wanted_post t own (agenda script own).actions (agenda script own).made seat task runner delay ok
-    (script_wants script own (kinds.Post task runner delay ok) h))
-posts_of_wanted script t own seat (kinds.Main task queue delay ok) h = rw
-    (agenda_push script own (record { seat = seat; kind = kinds.Main task queue delay ok }))
-    (wanted_main t own (agenda script own).actions (agenda script own).made seat task queue delay ok
-    (script_wants script own (kinds.Main task queue delay ok) h))
-posts_of_wanted script t own seat kind h = rw (agenda_push script own (record { seat = seat; kind = kind }))
-    (omega (arith, next_agenda_within t (agenda script own).actions (agenda script own).made (record { seat = seat; kind = kind })))
+posts_of_wanted : (script : Plan) (t : ℕ) (own : List Entry) (e : Entry) → is_wanted script own e.kind ≡ true
+    → actions_post t (agenda script (own ++ e ∷ [])).actions + times t (kind_posts e.kind) ≤ actions_post t (agenda script own).actions
+posts_of_wanted script t own e h = rw (agenda_push script own e)
+    (wanted_next t own (agenda script own).actions (agenda script own).made e (script_wants script own e.kind h))
 
 pub driver_posts : (script : Plan) (t : ℕ) (past : List Entry) (e : Entry) → by_script script past e.seat e.kind ≡ true
     → driver_has script t (past ++ e ∷ []) + times t (kind_posts e.kind) ≤ driver_has script t past
 unfolding by_script
 driver_posts script t past e h = rw (own_push past e, (and_parts (eqb e.seat 0) (is_wanted script (own_entries 0 past) e.kind) h).0)
-    (posts_of_wanted script t (own_entries 0 past) e.seat e.kind (and_parts (eqb e.seat 0) (is_wanted script (own_entries 0 past) e.kind) h).1)
+    (posts_of_wanted script t (own_entries 0 past) e (and_parts (eqb e.seat 0) (is_wanted script (own_entries 0 past) e.kind) h).1)

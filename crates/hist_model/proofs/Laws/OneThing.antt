@@ -1,7 +1,8 @@
 -- In every legal history each seat does one thing at a time.
-use Rattle.std.proofs.Common.{◌≡◌, ℕ, ◌≤◌, Bool, true, false, cond, eqb, leb, List, [], ◌∷◌, ◌++◌, length, refl, sym, ap, subst, ◌∙◌, Option, Some, None, ◌⊎◌, inl, inr, arith}
-use Rattle.std.specs.Prelude.{◌&&◌, ◌||◌, is_none}
-use Rattle.std.proofs.lemmas.Bool.{eqb-true, and_parts}
+use Rattle.std.proofs.Common.{◌≡◌, ℕ, ◌≤◌, Bool, true, false, cond, eqb, List, [], ◌∷◌, ◌++◌, length, refl, sym, ap, subst, ◌∙◌, Option, Some, None, ◌⊎◌, inl, inr, ⊎_elim, arith}
+use Rattle.std.specs.Prelude.{◌&&◌, is_none}
+use Rattle.std.proofs.lemmas.Bool.{eqb-true, eqb-false, and_parts, both_ways}
+use Rattle.std.proofs.lemmas.Option.{none-some, same_Some}
 use Rattle.task_base.specs.Plan.{Plan}
 use Rattle.task_base.specs.declared.entry.Entry.{Entry}
 use Rattle.task_base.specs.declared.entry.Kind.{Kind}
@@ -11,22 +12,19 @@ use Rattle.task_base.specs.declared.script.Action.{Action}
 use Rattle.task_base.specs.declared.script.Action.TheVariants as actions
 use Rattle.list_laws.specs.Lists.{holds_of}
 use Rattle.task_model.specs.Seats.{Running, Holding, running, running_after, holding, holding_after, is_free}
-use Rattle.task_model.specs.Jobs.{claimed, may_enter, free_id}
-use Rattle.task_model.specs.Sources.{best_of}
-use Rattle.task_model.specs.MainQueues.{chosen_of, open_fronts}
+use Rattle.task_model.specs.MainQueues.{open_fronts}
 use Rattle.task_model.specs.Cells.{main_cell_of}
-use Rattle.task_model.proofs.Growth.{running_push, holding_push}
 use Rattle.hist_model.specs.Views.{own_entries}
 use Rattle.hist_model.specs.Script.{Current, current, wants, is_wanted}
 use Rattle.hist_model.specs.Laws.Agenda.{completes}
-use Rattle.hist_model.specs.Allowed.{by_script, enters_job, is_job, is_ready_worker, same_number, is_front, may_come}
-use Rattle.hist_model.specs.Legal.{is_legal}
+use Rattle.hist_model.specs.Allowed.{by_script, may_come}
+use Rattle.hist_model.specs.Legal.{IsLegal}
 use Rattle.hist_model.specs.Laws.Consistent.{is_pump, is_join, DoesOneThing}
 use Rattle.hist_model.proofs.Laws.Agenda.{current_stays}
-use Rattle.hist_model.proofs.Laws.Legal.{legal_induction}
+use Rattle.hist_model.proofs.Laws.Legal.{entry_induction}
 use Rattle.hist_model.proofs.Laws.Choice.{Found, found}
-use Rattle.hist_model.proofs.Laws.Consistent.{not_both}
-use Rattle.hist_model.proofs.Laws.Takes.{IsReadyWorker, ready_worker, by_driver, take_is}
+use Rattle.hist_model.proofs.Laws.Whose.{RunsBehind, runs_behind, HoldsBehind, holds_behind}
+use Rattle.hist_model.proofs.Laws.Takes.{IsReadyWorker, by_driver, take_is, job_take_is}
 use Rattle.hist_model.proofs.Laws.Own.{running_own, holding_own, own_entries_push}
 
 -- what the driver is at
@@ -34,21 +32,15 @@ abbrev At : Plan → List Entry → (Action → Bool) → Type 0
 At script past test = (c : Current) × (current script (own_entries 0 past) ≡ Some c) × (test c.action ≡ true)
 
 -- what the script wants is wanted by the action that the driver is at
-wanted_by : (script : Plan) (past : List Entry) (seat : ℕ) (kind : Kind) → by_script script past seat kind ≡ true
+pub wanted_by : (script : Plan) (past : List Entry) (seat : ℕ) (kind : Kind) → by_script script past seat kind ≡ true
     → Found Current (λ c. wants (own_entries 0 past) c.action c.made kind) (current script (own_entries 0 past))
 unfolding by_script is_wanted
 wanted_by script past seat kind h = found (λ c. wants (own_entries 0 past) c.action c.made kind) (current script (own_entries 0 past))
     (and_parts (eqb seat 0) (holds_of (λ c. wants (own_entries 0 past) c.action c.made kind) (current script (own_entries 0 past))) h).1
 
-nothing : {A X : Type 0} (x : A) → None ≡ Some x → X
-nothing x e = absurd cc
-
-one : {A : Type 0} (x y : A) → Some x ≡ Some y → x ≡ y
-one x y e = cc
-
 -- the driver at one action is not at another
 not_at : (script : Plan) (past : List Entry) → At script past is_pump → At script past is_join → ⊥
-not_at script past (c, c_is, pump) (d, d_is, join) = apart c.action pump (ap (λ (x : Current). is_join x.action) (one c d (sym c_is ∙ d_is)) ∙ join)
+not_at script past (c, c_is, pump) (d, d_is, join) = apart c.action pump (ap (λ (x : Current). is_join x.action) (same_Some c d (sym c_is ∙ d_is)) ∙ join)
   where
     apart : (action : Action) → is_pump action ≡ true → is_join action ≡ true → ⊥
     apart (actions.Pump n) p j = absurd cc
@@ -78,9 +70,12 @@ stays_at script past kind test c is passes goes_on = (
 -- an entry of a worker leaves the driver where it is
 other_at : (script : Plan) (past : List Entry) (seat : ℕ) (kind : Kind) (test : Action → Bool) → eqb seat 0 ≡ false → At script past test
     → At script (past ++ record { seat = seat; kind = kind } ∷ []) test
-other_at script past seat kind test other (c, is, passes) =
-    (c, ap (current script) (own_entries_push past (record { seat = seat; kind = kind }) 0
-        ∙ ap (λ b. cond b (own_entries 0 past ++ record { seat = seat; kind = kind } ∷ []) (own_entries 0 past)) other) ∙ is, passes)
+other_at script past seat kind test other (c, is, passes) = (
+  c,
+  ap (current script) (own_entries_push past (record { seat = seat; kind = kind }) 0
+      ∙ ap (λ b. cond b (own_entries 0 past ++ record { seat = seat; kind = kind } ∷ []) (own_entries 0 past)) other) ∙ is,
+  passes,
+)
 
 -- what a pump goes on through
 pump_goes_on : (script : Plan) (past : List Entry) (kind : Kind) (c : Current) (w v : Running) → is_pump c.action ≡ true → running past 0 ≡ Some w
@@ -96,13 +91,13 @@ pump_goes_on script past kind c w v pump runs after h = at c.action c.made kind 
         needs (own_entries 0 past) d.value.action d.value.made (running_own past 0 ∙ runs) d.passes
       where
         needs : (own : List Entry) (action : Action) (made : List Entry) → running own 0 ≡ Some w → wants own action made kinds.MainNone ≡ true → ⊥
-        needs own (actions.Pump n) made is k = not_both (is_none (running own 0)) k (ap is_none is)
+        needs own (actions.Pump n) made is k = both_ways (is_none (running own 0)) (ap is_none is) k
         needs own action made is k = absurd cc
 
     at : (action : Action) (made : List Entry) (k : Kind) → is_pump action ≡ true → running_after (Some w) k ≡ Some v → (kinds.MainNone ≡ k → ⊥)
         → completes action made k ≡ false
     at (actions.Pump n) made kinds.MainNone p r none = absurd (none refl)
-    at (actions.Pump n) made (kinds.MainEnd task left) p r none = nothing v r
+    at (actions.Pump n) made (kinds.MainEnd task left) p r none = absurd (none-some v r)
     at (actions.Pump n) made k p r none = refl
     at action made k p r none = absurd cc
 
@@ -111,18 +106,16 @@ join_goes_on : (script : Plan) (past : List Entry) (kind : Kind) (c : Current) (
     → may_come script past 0 kind ≡ true → completes c.action c.made kind ≡ false
 unfolding may_come
 join_goes_on script past kind c h join holds may = at c.action c.made kind join
-    (λ job reply is. no_joined job reply (first (by_script script past 0 (kinds.Joined job reply)) _ _ (ap (may_come script past 0) is ∙ may)))
+    (λ job reply is. no_joined job reply (and_parts (by_script script past 0 (kinds.Joined job reply)) _
+    (and_parts _ _ (ap (may_come script past 0) is ∙ may)).0).0)
   where
-    first : (a b d : Bool) → (a && b && d) ≡ true → a ≡ true
-    first a b d k = grind (arith, k)
-
     no_joined : (job : ℕ) (reply : JobReply) → by_script script past 0 (kinds.Joined job reply) ≡ true → ⊥
     no_joined job reply wanted =
         let d = wanted_by script past 0 (kinds.Joined job reply) wanted in
         needs (own_entries 0 past) d.value.action d.value.made (holding_own past 0 ∙ holds) d.passes
       where
         needs : (own : List Entry) (action : Action) (made : List Entry) → holding own 0 ≡ Some h → wants own action made (kinds.Joined job reply) ≡ true → ⊥
-        needs own (actions.Join j) made is k = not_both (is_none (holding own 0)) (and_parts (eqb job j) (is_none (holding own 0)) k).1 (ap is_none is)
+        needs own (actions.Join j) made is k = both_ways (is_none (holding own 0)) (ap is_none is) (and_parts (eqb job j) (is_none (holding own 0)) k).1
         needs own action made is k = absurd cc
 
     at : (action : Action) (made : List Entry) (k : Kind) → is_join action ≡ true → ((job : ℕ) (reply : JobReply) → kinds.Joined job reply ≡ k → ⊥)
@@ -136,54 +129,71 @@ main_take_at : (script : Plan) (past : List Entry) (seat task queue value : ℕ)
     → (seat ≡ 0) × At script past is_pump
 unfolding may_come
 main_take_at script past seat task queue value h =
-    let wanted = first (by_script script past seat (kinds.MainTake task queue value)) (holds_of (is_front task queue) (chosen_of script past))
-        (eqb value (main_cell_of past queue)) h in
+    let wanted = (and_parts (by_script script past seat (kinds.MainTake task queue value)) _ (and_parts _ (eqb value (main_cell_of past queue)) h).0).0 in
+    let c = wanted_by script past seat (kinds.MainTake task queue value) wanted in (
+      by_driver script past seat (kinds.MainTake task queue value) wanted,
+      (c.value, c.is, pump_wants (own_entries 0 past) c.value.action c.value.made task queue value c.passes),
+    )
+
+-- and by a driver that runs nothing
+pub main_take_free : (script : Plan) (past : List Entry) (seat task queue value : ℕ) → may_come script past seat (kinds.MainTake task queue value) ≡ true
+    → is_none (running past seat) ≡ true
+unfolding may_come
+main_take_free script past seat task queue value h =
+    let wanted = (and_parts (by_script script past seat (kinds.MainTake task queue value)) _ (and_parts _ (eqb value (main_cell_of past queue)) h).0).0 in
     let c = wanted_by script past seat (kinds.MainTake task queue value) wanted in
-    (by_driver script past seat (kinds.MainTake task queue value) wanted,
-        (c.value, c.is, pump_wants (own_entries 0 past) c.value.action c.value.made task queue value c.passes))
+    rw (by_driver script past seat (kinds.MainTake task queue value) wanted, ← running_own past 0)
+    (needs (own_entries 0 past) c.value.action c.value.made c.passes)
   where
-    first : (a b d : Bool) → (a && b && d) ≡ true → a ≡ true
-    first a b d k = grind (arith, k)
+    needs : (own : List Entry) (action : Action) (made : List Entry) → wants own action made (kinds.MainTake task queue value) ≡ true
+        → is_none (running own 0) ≡ true
+    needs own (actions.Pump n) made k = k
+    needs own action made k = absurd cc
 
 -- a job is entered by a free worker, or at a join
 job_take_at : (script : Plan) (past : List Entry) (seat job id item : ℕ) → may_come script past seat (kinds.JobTake job id item) ≡ true
     → IsReadyWorker script past seat ⊎ ((seat ≡ 0) × At script past is_join)
-unfolding may_come
-job_take_at script past seat job id item h =
-    either (is_ready_worker script past seat) (holds_of (λ c. is_job job c.source) (best_of script past seat))
-        (by_script script past seat (kinds.JobTake job id item)) (may_enter script past job) refl refl
-    (first (enters_job script past seat job (kinds.JobTake job id item)) (same_number (free_id script past job) (Some id)) (eqb item (claimed past job)) h)
+job_take_at script past seat job id item h = ⊎_elim (λ k. inl k.0)
+    (λ k. let c = wanted_by script past seat (kinds.JobTake job id item) k.0 in
+    inr (
+      by_driver script past seat (kinds.JobTake job id item) k.0,
+      (c.value, c.is, join_wants (own_entries 0 past) c.value.action c.value.made job id item c.passes),
+    ))
+    (job_take_is script past seat job id item h)
+
+-- a seat that enters a job holds nothing
+pub job_take_free : (script : Plan) (past : List Entry) (seat job id item : ℕ) → may_come script past seat (kinds.JobTake job id item) ≡ true
+    → is_none (holding past seat) ≡ true
+job_take_free script past seat job id item h = ⊎_elim
+    (λ k. (and_parts (is_none (running past seat)) (is_none (holding past seat)) k.0.free).1)
+    (λ k. let c = wanted_by script past seat (kinds.JobTake job id item) k.0 in
+    rw (by_driver script past seat (kinds.JobTake job id item) k.0, ← holding_own past 0)
+    (needs (own_entries 0 past) c.value.action c.value.made c.passes))
+    (job_take_is script past seat job id item h)
   where
-    first : (a b d : Bool) → (a && b && d) ≡ true → a ≡ true
-    first a b d k = grind (arith, k)
+    needs : (own : List Entry) (action : Action) (made : List Entry) → wants own action made (kinds.JobTake job id item) ≡ true
+        → is_none (holding own 0) ≡ true
+    needs own (actions.Join j) made k = (and_parts (eqb job j) (is_none (holding own 0)) k).1
+    needs own action made k = absurd cc
 
-    either : (a b c d : Bool) → is_ready_worker script past seat ≡ a → by_script script past seat (kinds.JobTake job id item) ≡ c
-        → ((a && b) || (c && d)) ≡ true → IsReadyWorker script past seat ⊎ ((seat ≡ 0) × At script past is_join)
-    either true b c d ready wanted k = inl (ready_worker script past seat ready)
-    either false b true d ready wanted k =
-        let c = wanted_by script past seat (kinds.JobTake job id item) wanted in
-        inr (by_driver script past seat (kinds.JobTake job id item) wanted,
-            (c.value, c.is, join_wants (own_entries 0 past) c.value.action c.value.made job id item c.passes))
-    either false b false d ready wanted k = absurd cc
-
--- who ends an item held it
-job_step_holds : (script : Plan) (past : List Entry) (seat job id item value : ℕ) (next : Option ℕ)
-    → may_come script past seat (kinds.JobStep job id item value next) ≡ true → (h : Holding) × (holding past seat ≡ Some h)
+-- who ends an item held it, under this number of this job
+pub job_step_holds : (script : Plan) (past : List Entry) (seat job id item value : ℕ) (next : Option ℕ)
+    → may_come script past seat (kinds.JobStep job id item value next) ≡ true
+    → (h : Holding) × (holding past seat ≡ Some h) × (h.job ≡ job) × (h.id ≡ id) × (h.item ≡ item)
 unfolding may_come
 job_step_holds script past seat job id item value next h =
-    let held = found (λ (x : Holding). eqb x.job job && eqb x.id id && eqb x.item item) (holding past seat) (first _ _ _ h) in
-    (held.value, held.is)
-  where
-    first : (a b d : Bool) → (a && b && d) ≡ true → a ≡ true
-    first a b d k = grind (arith, k)
+    let held = found (λ (x : Holding). eqb x.job job && eqb x.id id && eqb x.item item) (holding past seat) (and_parts _ _ (and_parts _ _ h).0).0 in
+    let parts = and_parts (eqb held.value.job job && eqb held.value.id id) (eqb held.value.item item) held.passes in
+    let same = and_parts (eqb held.value.job job) (eqb held.value.id id) parts.0 in
+    (held.value, held.is, eqb-true held.value.job job same.0, eqb-true held.value.id id same.1, eqb-true held.value.item item parts.1)
 
 runs_none : (past : List Entry) (seat : ℕ) (w : Running) → is_free past seat ≡ true → running past seat ≡ Some w → ⊥
-runs_none past seat w free r = not_both (is_none (running past seat)) (and_parts (is_none (running past seat)) (is_none (holding past seat)) free).0
-    (ap is_none r)
+runs_none past seat w free r = both_ways (is_none (running past seat)) (ap is_none r)
+    (and_parts (is_none (running past seat)) (is_none (holding past seat)) free).0
 
 holds_none : (past : List Entry) (seat : ℕ) (h : Holding) → is_free past seat ≡ true → holding past seat ≡ Some h → ⊥
-holds_none past seat h free k = not_both (is_none (holding past seat)) (and_parts (is_none (running past seat)) (is_none (holding past seat)) free).1
-    (ap is_none k)
+holds_none past seat h free k = both_ways (is_none (holding past seat)) (ap is_none k)
+    (and_parts (is_none (running past seat)) (is_none (holding past seat)) free).1
 
 -- the seat of the entry does one thing behind it
 own_thing : (script : Plan) (past : List Entry) (seat : ℕ) (kind : Kind) → may_come script past seat kind ≡ true → DoesOneThing script past
@@ -198,9 +208,9 @@ own_thing script past seat (kinds.JobTake job id item) may d w h r k = by (job_t
     by (inr (driver, join)) = not_at script past (d.pumps w (subst (λ s. running past s ≡ Some w) driver r)) join
 own_thing script past seat (kinds.JobStep job id item value (Some next)) may d w h r k = let held = job_step_holds script past seat job id item value
     (Some next) may in d.one_thing seat w held.0 r held.1
-own_thing script past seat (kinds.JobStep job id item value None) may d w h r k = nothing h k
-own_thing script past seat (kinds.End task left) may d w h r k = nothing w r
-own_thing script past seat (kinds.MainEnd task left) may d w h r k = nothing w r
+own_thing script past seat (kinds.JobStep job id item value None) may d w h r k = absurd (none-some h k)
+own_thing script past seat (kinds.End task left) may d w h r k = absurd (none-some w r)
+own_thing script past seat (kinds.MainEnd task left) may d w h r k = absurd (none-some w r)
 own_thing script past seat kind may d w h r k = d.one_thing seat w h r k
 
 -- the driver runs a main task behind an entry of its own only at a pump
@@ -216,8 +226,8 @@ own_pumps script past (kinds.MainTake task queue value) may d w r = let (c, is, 
     goes_on : (action : Action) (made : List Entry) → is_pump action ≡ true → completes action made (kinds.MainTake task queue value) ≡ false
     goes_on (actions.Pump n) made p = refl
     goes_on action made p = absurd cc
-own_pumps script past (kinds.End task left) may d w r = nothing w r
-own_pumps script past (kinds.MainEnd task left) may d w r = nothing w r
+own_pumps script past (kinds.End task left) may d w r = absurd (none-some w r)
+own_pumps script past (kinds.MainEnd task left) may d w r = absurd (none-some w r)
 own_pumps script past kind may d w r = let (c, is, pump) = d.pumps w r in
     stays_at script past kind is_pump c is pump (pump_goes_on script past kind c w w pump r refl may)
 
@@ -241,8 +251,8 @@ own_joins script past (kinds.JobStep job id item value (Some next)) may d h k =
     let held = job_step_holds script past 0 job id item value (Some next) may in
     let (c, is, join) = d.joins held.0 held.1 in
     stays_at script past (kinds.JobStep job id item value (Some next)) is_join c is join
-        (join_goes_on script past (kinds.JobStep job id item value (Some next)) c held.0 join held.1 may)
-own_joins script past (kinds.JobStep job id item value None) may d h k = nothing h k
+    (join_goes_on script past (kinds.JobStep job id item value (Some next)) c held.0 join held.1 may)
+own_joins script past (kinds.JobStep job id item value None) may d h k = absurd (none-some h k)
 own_joins script past kind may d h k = let (c, is, join) = d.joins h k in
     stays_at script past kind is_join c is join (join_goes_on script past kind c h join k may)
 
@@ -250,41 +260,38 @@ own_joins script past kind may d h k = let (c, is, join) = d.joins h k in
 step : (script : Plan) (past : List Entry) (seat : ℕ) (kind : Kind) → may_come script past seat kind ≡ true → DoesOneThing script past
     → DoesOneThing script (past ++ record { seat = seat; kind = kind } ∷ [])
 step script past seat kind may d = record {
-  pumps = λ w r. pumps w (eqb seat 0) refl (sym (running_push past (record { seat = seat; kind = kind }) 0) ∙ r);
-  joins = λ h k. joins h (eqb seat 0) refl (sym (holding_push past (record { seat = seat; kind = kind }) 0) ∙ k);
-  one_thing = λ s w h r k. thing s w h (eqb seat s) refl (sym (running_push past (record { seat = seat; kind = kind }) s) ∙ r)
-      (sym (holding_push past (record { seat = seat; kind = kind }) s) ∙ k);
+  pumps = λ w r. pumps w (runs_behind past e 0 w r);
+  joins = λ h k. joins h (holds_behind past e 0 h k);
+  one_thing = λ s w h r k. thing s w h (runs_behind past e s w r) (holds_behind past e s h k);
 }
   where
-    pumps : (w : Running) (b : Bool) → eqb seat 0 ≡ b → cond (eqb seat 0) (running_after (running past 0) kind) (running past 0) ≡ Some w
-        → At script (past ++ record { seat = seat; kind = kind } ∷ []) is_pump
-    pumps w true own r = subst (λ s. At script (past ++ record { seat = s; kind = kind } ∷ []) is_pump) (sym (eqb-true seat 0 own))
-        (own_pumps script past kind (subst (λ s. may_come script past s kind ≡ true) (eqb-true seat 0 own) may) d w
-        (ap (λ b. cond b (running_after (running past 0) kind) (running past 0)) (sym own) ∙ r))
-    pumps w false other r = other_at script past seat kind is_pump other
-        (d.pumps w (ap (λ b. cond b (running_after (running past 0) kind) (running past 0)) (sym other) ∙ r))
+    e : Entry
+    e = record { seat = seat; kind = kind }
 
-    joins : (h : Holding) (b : Bool) → eqb seat 0 ≡ b → cond (eqb seat 0) (holding_after (holding past 0) kind) (holding past 0) ≡ Some h
-        → At script (past ++ record { seat = seat; kind = kind } ∷ []) is_join
-    joins h true own k = subst (λ s. At script (past ++ record { seat = s; kind = kind } ∷ []) is_join) (sym (eqb-true seat 0 own))
-        (own_joins script past kind (subst (λ s. may_come script past s kind ≡ true) (eqb-true seat 0 own) may) d h
-        (ap (λ b. cond b (holding_after (holding past 0) kind) (holding past 0)) (sym own) ∙ k))
-    joins h false other k = other_at script past seat kind is_join other
-        (d.joins h (ap (λ b. cond b (holding_after (holding past 0) kind) (holding past 0)) (sym other) ∙ k))
+    pumps : (w : Running) → RunsBehind past e 0 w → At script (past ++ e ∷ []) is_pump
+    pumps w (inl (before, other)) = other_at script past seat kind is_pump other (d.pumps w before)
+    pumps w (inr (driver, now)) = subst (λ s. may_come script past s kind ≡ true → running_after (running past s) kind ≡ Some w
+        → At script (past ++ record { seat = s; kind = kind } ∷ []) is_pump) driver (λ allowed runs. own_pumps script past kind allowed d w runs) may now
 
-    thing : (s : ℕ) (w : Running) (h : Holding) (b : Bool) → eqb seat s ≡ b → cond (eqb seat s) (running_after (running past s) kind) (running past s) ≡ Some w
-        → cond (eqb seat s) (holding_after (holding past s) kind) (holding past s) ≡ Some h → ⊥
-    thing s w h true own r k = own_thing script past s kind (subst (λ x. may_come script past x kind ≡ true) (eqb-true seat s own) may) d w h
-        (ap (λ b. cond b (running_after (running past s) kind) (running past s)) (sym own) ∙ r)
-            (ap (λ b. cond b (holding_after (holding past s) kind) (holding past s)) (sym own) ∙ k)
-    thing s w h false other r k = d.one_thing s w h (ap (λ b. cond b (running_after (running past s) kind) (running past s)) (sym other) ∙ r)
-        (ap (λ b. cond b (holding_after (holding past s) kind) (holding past s)) (sym other) ∙ k)
+    joins : (h : Holding) → HoldsBehind past e 0 h → At script (past ++ e ∷ []) is_join
+    joins h (inl (before, other)) = other_at script past seat kind is_join other (d.joins h before)
+    joins h (inr (driver, now)) = subst (λ s. may_come script past s kind ≡ true → holding_after (holding past s) kind ≡ Some h
+        → At script (past ++ record { seat = s; kind = kind } ∷ []) is_join) driver (λ allowed holds. own_joins script past kind allowed d h holds) may now
+
+    mixed : (s : ℕ) → eqb seat s ≡ false → s ≡ seat → ⊥
+    mixed s other own = eqb-false seat s other (sym own)
+
+    thing : (s : ℕ) (w : Running) (h : Holding) → RunsBehind past e s w → HoldsBehind past e s h → ⊥
+    thing s w h (inl (runs, other)) (inl (holds, other_too)) = d.one_thing s w h runs holds
+    thing s w h (inl (runs, other)) (inr (own, holds)) = mixed s other own
+    thing s w h (inr (own, runs)) (inl (holds, other)) = mixed s other own
+    thing s w h (inr (own, runs)) (inr (own_too, holds)) = own_thing script past seat kind may d w h runs holds
 
 nothing_done : (script : Plan) → DoesOneThing script []
 unfolding running holding
-nothing_done script = record { pumps = λ w r. nothing w r; joins = λ h k. nothing h k; one_thing = λ seat w h r. nothing w r }
+nothing_done script = record { pumps = λ w r. absurd (none-some w r); joins = λ h k. absurd (none-some h k); one_thing = λ seat w h r. absurd (none-some w r) }
 
 -- in every legal history each seat does one thing at a time
-pub legal_does_one_thing : (script : Plan) (past : List Entry) → is_legal script past ≡ true → DoesOneThing script past
-legal_does_one_thing script = legal_induction script (DoesOneThing script) (nothing_done script)
-    (λ past e h allowed d. step script past e.seat e.kind (and_parts (leb e.seat script.workers) (may_come script past e.seat e.kind) allowed).1 d)
+pub legal_does_one_thing : (script : Plan) (past : List Entry) → IsLegal script past → DoesOneThing script past
+legal_does_one_thing script = entry_induction script (DoesOneThing script) (nothing_done script)
+    (λ past e known may d. step script past e.seat e.kind may d)

@@ -1,8 +1,8 @@
 -- Moments, orders and scopes in every legal past.
-use Rattle.std.proofs.Common.{◌≡◌, ℕ, ◌≤◌, Bool, true, false, cond, eqb, leb, List, [], ◌∷◌, ◌++◌, refl, sym, ap, ◌∙◌, Some, None, arith}
-use Rattle.std.specs.Prelude.{◌&&◌, ◌||◌, ◌^◌}
-use Rattle.std.proofs.lemmas.Bool.{eqb-true, leb-true, and_parts}
+use Rattle.std.proofs.Common.{◌≡◌, ℕ, ◌≤◌, Bool, true, false, eqb, leb, List, [], ◌∷◌, ◌++◌, refl, sym, ap, ◌∙◌, Some, None, arith}
+use Rattle.std.proofs.lemmas.Bool.{cond_both, eqb-true, leb-true, and_parts, both_ways, or_parts}
 use Rattle.task_base.specs.Plan.{Plan}
+use Rattle.task_base.specs.declared.limits.TheConstants.{LAST_MOMENT}
 use Rattle.task_base.specs.declared.entry.Entry.{Entry}
 use Rattle.task_base.specs.declared.entry.Kind.{Kind}
 use Rattle.task_base.specs.declared.entry.Kind.TheVariants as kinds
@@ -10,7 +10,9 @@ use Rattle.task_base.specs.declared.step.Step.{Step}
 use Rattle.task_base.specs.declared.step.Step.TheVariants as steps
 use Rattle.task_base.specs.declared.step.Scope.{Scope}
 use Rattle.list_laws.specs.Lists.{holds_of}
+use Rattle.list_laws.specs.Sorts.{SameMembers}
 use Rattle.task_model.specs.Past.{fold_past}
+use Rattle.task_model.specs.Orders.{ordered, main_arrivals}
 use Rattle.task_model.specs.Time.{now_of, now_after}
 use Rattle.task_model.specs.Posts.{is_taken, takes, is_main_taken, main_takes}
 use Rattle.task_model.specs.Seats.{Running, running, next_act}
@@ -19,10 +21,12 @@ use Rattle.queue_laws.specs.Orders.{OrdersDistinct}
 use Rattle.script_model.specs.Postings.{IsPostedOnce}
 use Rattle.task_model.proofs.Growth.{is_taken_push, is_main_taken_push, open_scope_push}
 use Rattle.pool_laws.proofs.Keys.Ready.{no_tick_ahead_at_start, no_tick_ahead_grows}
+use Rattle.pool_laws.proofs.Keys.Arrivals.{arrivals_are_ready_at_start, arrivals_are_ready_grows}
+use Rattle.queue_laws.proofs.Arrivals.{main_arrivals_are_ordered_at_start, main_arrivals_are_ordered_grows}
+use Rattle.queue_laws.proofs.Distinct.{orders_below, orders_distinct, orders_distinct_at_start, orders_distinct_grows}
+use Rattle.hist_model.specs.Allowed.{enters, by_script, by_task, may_come, is_allowed, IsAllowed}
+use Rattle.hist_model.specs.Legal.{is_legal, IsLegal}
 use Rattle.queue_laws.proofs.Orders.{orders_below_at_start, orders_below_grows}
-use Rattle.queue_laws.proofs.Distinct.{orders_distinct_at_start, orders_distinct_grows}
-use Rattle.hist_model.specs.Allowed.{enters, by_script, by_task, may_come, is_allowed}
-use Rattle.hist_model.specs.Legal.{is_legal}
 use Rattle.hist_model.specs.Laws.Consistent.{RunsAs, IsConsistent}
 use Rattle.hist_model.specs.Laws.Rising.{Rises}
 use Rattle.hist_model.proofs.Laws.Legal.{legal_induction}
@@ -34,10 +38,7 @@ use Rattle.hist_model.proofs.Laws.PostedOnce.{each_is_accepted_once}
 moment_rises : (script : Plan) (past : List Entry) (seat : ℕ) (kind : Kind) → may_come script past seat kind ≡ true → now_of past ≤ now_after (now_of past) kind
 unfolding may_come
 moment_rises script past seat (kinds.Tick now) h = leb-true (now_of past) now
-    (second (by_script script past seat (kinds.Tick now)) (leb (now_of past) now) (leb now (2 ^ 62)) h)
-  where
-    second : (a b c : Bool) → (a && b && c) ≡ true → b ≡ true
-    second a b c k = grind (arith, k)
+    (and_parts (by_script script past seat (kinds.Tick now)) _ (and_parts _ (leb now LAST_MOMENT) h).0).1
 moment_rises script past seat kind h = omega arith
 
 -- who opens a scope runs the task
@@ -56,13 +57,15 @@ opens_as_running script past seat task scope h =
 -- what a seat runs was taken
 was_taken : (script : Plan) (past : List Entry) (seat : ℕ) (w : Running) (main : Bool) → RunsAs script past seat w main → is_taken past w.task ≡ false
     → is_main_taken past w.task ≡ false → ⊥
-was_taken script past seat w false r free main_free = not_both (is_taken past w.task) r.taken free
-was_taken script past seat w true r free main_free = not_both (is_main_taken past w.task) r.taken main_free
+was_taken script past seat w false r free main_free = both_ways (is_taken past w.task) free r.taken
+was_taken script past seat w true r free main_free = both_ways (is_main_taken past w.task) main_free r.taken
 
 -- an entry that is allowed opens scopes of taken tasks alone
 scopes_next : (script : Plan) (past : List Entry) (seat : ℕ) (kind : Kind) → may_come script past seat kind ≡ true → IsConsistent script past → (t : ℕ)
     → is_taken past t ≡ false → is_main_taken past t ≡ false → open_scope past t ≡ None → scope_after t past (open_scope past t) kind ≡ None
-scopes_next script past seat (kinds.Enter task scope) h c t free main_free none = at (eqb task t) refl
+scopes_next script past seat (kinds.Enter task scope) h c t free main_free none =
+    cond_both (eqb task t) (Some (record { scope = scope; since = now_of past })) (open_scope past t) (λ o. o ≡ None) (λ same. absurd (not_now same))
+    (λ other. none)
   where
     runs : (w : Running) × (running past seat ≡ Some w) × (w.task ≡ task)
     runs = opens_as_running script past seat task scope h
@@ -70,44 +73,43 @@ scopes_next script past seat (kinds.Enter task scope) h c t free main_free none 
     not_now : eqb task t ≡ true → ⊥
     not_now same = was_taken script past seat runs.0 runs.0.is_main (c.runs seat runs.0 runs.1) (ap (is_taken past) (runs.2 ∙ eqb-true task t same) ∙ free)
         (ap (is_main_taken past) (runs.2 ∙ eqb-true task t same) ∙ main_free)
-
-    at : (b : Bool) → eqb task t ≡ b → cond b (Some (record { scope = scope; since = now_of past })) (open_scope past t) ≡ None
-    at true same = absurd (not_now same)
-    at false same = none
-scopes_next script past seat (kinds.Leave task) h c t free main_free none = at (eqb task t)
-  where
-    at : (b : Bool) → cond b None (open_scope past t) ≡ None
-    at true = refl
-    at false = none
+scopes_next script past seat (kinds.Leave task) h c t free main_free none = cond_both (eqb task t) None (open_scope past t) (λ o. o ≡ None) (λ is. refl)
+    (λ is. none)
 scopes_next script past seat kind h c t free main_free none = none
 
 nothing_risen : Rises []
 unfolding open_scope fold_past
-nothing_risen = record { no_tick_ahead = no_tick_ahead_at_start; orders_below = orders_below_at_start; scopes_of_taken = λ t free main_free. refl }
+nothing_risen = record {
+  no_tick_ahead = no_tick_ahead_at_start;
+  arrivals_are_ready = arrivals_are_ready_at_start;
+  main_arrivals_are_ordered = main_arrivals_are_ordered_at_start;
+  orders_below = orders_below [] main_arrivals_are_ordered_at_start;
+  scopes_of_taken = λ t free main_free. refl;
+}
 
-risen_next : (script : Plan) (past : List Entry) (e : Entry) → is_legal script past ≡ true → is_allowed script past e ≡ true → Rises past
+risen_next : (script : Plan) (past : List Entry) (e : Entry) → IsLegal script past → IsAllowed script past e → Rises past
     → Rises (past ++ e ∷ [])
 risen_next script past e legal allowed r = record {
   no_tick_ahead = no_tick_ahead_grows past e (moment_rises script past e.seat e.kind may) r.no_tick_ahead;
-  orders_below = orders_below_grows past e r.no_tick_ahead r.orders_below;
+  arrivals_are_ready = arrivals_are_ready_grows past e r.no_tick_ahead r.arrivals_are_ready;
+  main_arrivals_are_ordered = ordered_next;
+  orders_below = orders_below (past ++ e ∷ []) ordered_next;
   scopes_of_taken = λ t free main_free.
-      let before = first (is_taken past t) (takes t e.kind) (sym (is_taken_push past e t) ∙ free) in
-      let main_before = first (is_main_taken past t) (main_takes t e.kind) (sym (is_main_taken_push past e t) ∙ main_free) in
+      let before = (or_parts (is_taken past t) (takes t e.kind) (sym (is_taken_push past e t) ∙ free)).0 in
+      let main_before = (or_parts (is_main_taken past t) (main_takes t e.kind) (sym (is_main_taken_push past e t) ∙ main_free)).0 in
       open_scope_push past e t ∙ scopes_next script past e.seat e.kind may (legal_is_consistent script past legal) t before main_before
-          (r.scopes_of_taken t before main_before);
+      (r.scopes_of_taken t before main_before);
 }
   where
+    ordered_next : SameMembers (main_arrivals (past ++ e ∷ [])) (ordered (past ++ e ∷ []))
+    ordered_next = main_arrivals_are_ordered_grows past e r.no_tick_ahead r.main_arrivals_are_ordered
+
     may : may_come script past e.seat e.kind ≡ true
     may = (and_parts (leb e.seat script.workers) (may_come script past e.seat e.kind) allowed).1
 
-    first : (a b : Bool) → (a || b) ≡ false → a ≡ false
-    first a b k = grind (arith, k)
-
-pub legal_rises : (script : Plan) (past : List Entry) → is_legal script past ≡ true → Rises past
+pub legal_rises : (script : Plan) (past : List Entry) → IsLegal script past → Rises past
 legal_rises script = legal_induction script Rises nothing_risen (risen_next script)
 
--- where each task is posted once, no two main tasks draw one order
-pub orders_are_distinct : (script : Plan) (past : List Entry) → IsPostedOnce script → is_legal script past ≡ true → OrdersDistinct past
-orders_are_distinct script past once = legal_induction script OrdersDistinct orders_distinct_at_start
-    (λ before e legal allowed distinct. orders_distinct_grows before e (legal_rises script before legal).no_tick_ahead
-        (each_is_accepted_once script before once legal).main (legal_rises script before legal).orders_below distinct) past
+-- no two main tasks draw one order
+pub orders_are_distinct : (script : Plan) (past : List Entry) → IsPostedOnce script → IsLegal script past → OrdersDistinct past
+orders_are_distinct script past once legal = orders_distinct past (legal_rises script past legal).main_arrivals_are_ordered

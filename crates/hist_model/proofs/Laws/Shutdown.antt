@@ -1,7 +1,7 @@
 -- What shutdown refuses, forbids and waits for, in every legal history.
-use Rattle.std.proofs.Common.{◌≡◌, ℕ, ◌+◌, Bool, true, false, cond, eqb, List, [], ◌∷◌, ◌++◌, length, refl, sym, ap, ◌∙◌, arith}
-use Rattle.std.specs.Prelude.{Some, not, ◌&&◌, ◌||◌, filter, if◌then◌else◌}
-use Rattle.std.specs.List.{AllByRecursion, range_with_len}
+use Rattle.std.proofs.Common.{◌≡◌, ℕ, ◌+◌, Bool, true, false, eqb, List, ◌∷◌, ◌++◌, length, refl, sym, ap, ◌∙◌, ⊎_elim, arith}
+use Rattle.std.specs.Prelude.{not, ◌&&◌, if◌then◌else◌}
+use Rattle.std.specs.List.{range_with_len}
 use Rattle.std.proofs.lemmas.Bool.{eqb-true, and_parts, not-true}
 use Rattle.std.proofs.lemmas.List.Elements.{All-from_recursion}
 use Rattle.task_base.specs.Plan.{Plan}
@@ -10,21 +10,21 @@ use Rattle.task_base.specs.declared.entry.Kind.{Kind}
 use Rattle.task_base.specs.declared.entry.Kind.TheVariants as kinds
 use Rattle.task_base.specs.declared.source.TaskSource.{TaskSource}
 use Rattle.task_base.specs.declared.source.TaskSource.TheVariants.{Sequence, Job}
-use Rattle.list_laws.specs.Lists.{count, holds_of}
+use Rattle.list_laws.proofs.Finds.{none_counted}
 use Rattle.task_model.specs.Phase.{phase_of, is_started}
 use Rattle.task_model.specs.Posts.{posts}
 use Rattle.task_model.specs.Refusal.{is_refused, is_closed, is_job_forbidden}
 use Rattle.task_model.specs.Seats.{all_seats}
-use Rattle.task_model.specs.Jobs.{may_enter, is_job_accepted, is_cancelled, has_unclaimed, claimed, free_id}
+use Rattle.task_model.specs.Jobs.{may_enter, MayEnter, has_unclaimed}
 use Rattle.task_model.specs.Sources.{best_of}
 use Rattle.task_model.specs.Blockers.{open_blocks, open_jobs, running_skips, seats_in_skip_jobs, block_part, skip_part, is_open_block, is_running_skip, is_open_job, is_in_skip_job, blockers_of}
-use Rattle.hist_model.specs.Allowed.{by_script, enters_job, is_job, is_ready_worker, same_number, may_come}
+use Rattle.hist_model.specs.Allowed.{by_script, is_job, may_come}
 use Rattle.hist_model.specs.Legal.{IsLegal}
 use Rattle.hist_model.specs.Laws.Choice.{IsWaitingSource, IsTake}
 use Rattle.hist_model.specs.Laws.Shutdown.{MayStart, HasWaited, KeepsShutdown}
 use Rattle.hist_model.proofs.Laws.Legal.{each_is_allowed}
 use Rattle.hist_model.proofs.Laws.Choice.{found, best_is}
-use Rattle.hist_model.proofs.Laws.Takes.{take_is}
+use Rattle.hist_model.proofs.Laws.Takes.{take_is, job_take_is}
 
 -- a reply that is the opposite of a refusal
 reply : (wanted refused ok : Bool) → (wanted && (if refused then not ok else ok)) ≡ true → ok ≡ not refused
@@ -32,16 +32,6 @@ reply true true true h = absurd cc
 reply true true false h = refl
 reply true false ok h = h
 reply false refused ok h = absurd cc
-
--- a count of none
-none_counted : {A : Type 0} (test : A → Bool) (xs : List A) → count test xs ≡ 0 → AllByRecursion (λ x. test x ≡ false) xs
-none_counted test [] h = tt
-none_counted test (x ∷ xs) h = at (test x) refl (none_counted test xs) h
-  where
-    at : (b : Bool) → test x ≡ b → (count test xs ≡ 0 → AllByRecursion (λ y. test y ≡ false) xs) → length (cond b (x ∷ filter test xs) (filter test xs)) ≡ 0
-        → AllByRecursion (λ y. test y ≡ false) (x ∷ xs)
-    at true is rest z = absurd (omega (arith, z))
-    at false is rest z = (is, rest z)
 
 -- shutdown is done only where it has waited
 waited : (script : Plan) (past : List Entry) (seat : ℕ) → may_come script past seat kinds.Done ≡ true → HasWaited script past
@@ -57,45 +47,29 @@ waited script past seat h = record {
       (none_counted (is_in_skip_job script past) (all_seats script) (omega (arith, none)));
 }
   where
-    last : (a b c : Bool) → (a && b && c) ≡ true → c ≡ true
-    last a b c k = grind (arith, k)
+    all : ℕ
+    all = open_blocks script past + open_jobs script past + (running_skips script past + seats_in_skip_jobs script past)
 
-    none : open_blocks script past + open_jobs script past + (running_skips script past + seats_in_skip_jobs script past) ≡ 0
-    none = eqb-true (open_blocks script past + open_jobs script past + (running_skips script past + seats_in_skip_jobs script past)) 0
-        (last (by_script script past seat kinds.Done) (is_started (phase_of past)) _ h)
+    none : all ≡ 0
+    none = eqb-true all 0 (and_parts (by_script script past seat kinds.Done && is_started (phase_of past)) (eqb all 0) h).1
 
 -- a job that may be entered is not forbidden
-enters_free : (script : Plan) (past : List Entry) (j : ℕ) → may_enter script past j ≡ true → is_job_forbidden script past j ≡ false
+enters_free : (script : Plan) (past : List Entry) (j : ℕ) → MayEnter script past j → is_job_forbidden script past j ≡ false
 unfolding may_enter
 enters_free script past j h = not-true (is_job_forbidden script past j)
-    (third (is_job_accepted past j) (not (is_cancelled past j)) (not (is_job_forbidden script past j)) (has_unclaimed script past j) _ h)
-  where
-    third : (a b c d e : Bool) → (a && b && c && d && e) ≡ true → c ≡ true
-    third a b c d e k = grind (arith, k)
+    (and_parts _ (not (is_job_forbidden script past j)) (and_parts _ (has_unclaimed script past j) (and_parts _ _ h).0).0).1
 
 -- a job is entered only where it may be
 pub job_take_enters : (script : Plan) (past : List Entry) (seat job id item : ℕ) → may_come script past seat (kinds.JobTake job id item) ≡ true
-    → may_enter script past job ≡ true
-unfolding may_come
-job_take_enters script past seat job id item h = either (is_ready_worker script past seat) (holds_of (λ c. is_job job c.source) (best_of script past seat))
-    (by_script script past seat (kinds.JobTake job id item)) (may_enter script past job) refl refl
-    (first (enters_job script past seat job (kinds.JobTake job id item)) (same_number (free_id script past job) (Some id)) (eqb item (claimed past job)) h)
+    → MayEnter script past job
+job_take_enters script past seat job id item h = ⊎_elim
+    (λ k. let c = found (λ x. is_job job x.source) (best_of script past seat) k.1 in
+    of_source c.value.source (best_is script past seat c.value c.is).waits c.passes)
+    (λ k. k.1) (job_take_is script past seat job id item h)
   where
-    first : (a b c : Bool) → (a && b && c) ≡ true → a ≡ true
-    first a b c k = grind (arith, k)
-
-    of_source : (source : TaskSource) → IsWaitingSource script past source → is_job job source ≡ true → may_enter script past job ≡ true
+    of_source : (source : TaskSource) → IsWaitingSource script past source → is_job job source ≡ true → MayEnter script past job
     of_source (Sequence s) waits is = absurd cc
     of_source (Job j) waits is = ap (may_enter script past) (sym (eqb-true j job is)) ∙ waits
-
-    either : (a b c d : Bool) → holds_of (λ x. is_job job x.source) (best_of script past seat) ≡ b → may_enter script past job ≡ d
-        → ((a && b) || (c && d)) ≡ true → may_enter script past job ≡ true
-    either a true c d chosen enters k = let c = found (λ x. is_job job x.source) (best_of script past seat) chosen in
-        of_source c.value.source (best_is script past seat c.value c.is).waits c.passes
-    either a false c d chosen enters k = enters ∙ right a c d k
-      where
-        right : (x y z : Bool) → ((x && false) || (y && z)) ≡ true → z ≡ true
-        right x y z e = grind (arith, e)
 
 started : (script : Plan) (past : List Entry) (seat task runner value : ℕ) → IsTake script past seat task runner value → MayStart script past task runner
 started script past seat task runner value t = record {

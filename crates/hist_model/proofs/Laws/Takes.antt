@@ -1,7 +1,7 @@
 -- What is known of an allowed take.
-use Rattle.std.proofs.Common.{◌≡◌, ℕ, ◌≤◌, Bool, true, false, eqb, leb, List, sym, ap, subst, ◌∙◌, Some, arith}
+use Rattle.std.proofs.Common.{◌≡◌, ℕ, ◌≤◌, true, false, eqb, leb, List, sym, ap, subst, ◌∙◌, Some, ◌⊎◌, inl, inr, ⊎_elim}
 use Rattle.std.specs.Prelude.{not, ◌&&◌}
-use Rattle.std.proofs.lemmas.Bool.{eqb-true, leb-true, and_parts, not-true}
+use Rattle.std.proofs.lemmas.Bool.{or_cases, eqb-true, leb-true, and_parts, not-true}
 use Rattle.task_base.specs.Plan.{Plan}
 use Rattle.task_base.specs.declared.entry.Entry.{Entry}
 use Rattle.task_base.specs.declared.entry.Kind.{Kind}
@@ -16,11 +16,12 @@ use Rattle.task_base.specs.Runners.{sequence_of}
 use Rattle.task_model.specs.Sequences.{head_of}
 use Rattle.task_model.specs.Seats.{Running, running, runs_sequence, is_free}
 use Rattle.task_model.specs.Cells.{cell_of, main_cell_of}
+use Rattle.task_model.specs.Jobs.{claimed, may_enter, MayEnter}
 use Rattle.task_model.specs.Sources.{Candidate, best_of}
-use Rattle.task_model.specs.MainQueues.{Front, chosen_of}
+use Rattle.task_model.specs.MainQueues.{chosen_of}
 use Rattle.hist_model.specs.Views.{own_entries}
 use Rattle.hist_model.specs.Script.{is_wanted, is_finished}
-use Rattle.hist_model.specs.Allowed.{is_head_of, is_ready_worker, is_front, has_done, by_script, may_come}
+use Rattle.hist_model.specs.Allowed.{enters_job, is_job, is_head_of, is_ready_worker, is_front, has_done, by_script, may_come}
 use Rattle.hist_model.specs.Laws.Choice.{IsHead, IsWaitingSource, IsTake, IsMainTake}
 use Rattle.hist_model.proofs.Laws.Choice.{Found, found, head_is, best_is, chosen_is}
 
@@ -32,18 +33,15 @@ pub record IsReadyWorker (script : Plan) (past : List Entry) (seat : ℕ) : Type
   pub goes_on : is_finished script past ≡ false
 
 pub ready_worker : (script : Plan) (past : List Entry) (seat : ℕ) → is_ready_worker script past seat ≡ true → IsReadyWorker script past seat
-ready_worker script past seat h = of_parts (four (leb 1 seat) (leb seat script.workers) (is_free past seat) (not (is_finished script past)) h)
-  where
-    four : (a b c d : Bool) → (a && b && c && d) ≡ true → (a ≡ true) × (b ≡ true) × (c ≡ true) × (d ≡ true)
-    four a b c d k = (grind (arith, k), grind (arith, k), grind (arith, k), grind (arith, k))
-
-    of_parts : (leb 1 seat ≡ true) × (leb seat script.workers ≡ true) × (is_free past seat ≡ true) × (not (is_finished script past) ≡ true)
-        → IsReadyWorker script past seat
-    of_parts (first, second, third, fourth) = record {
-      worker = leb-true 1 seat first;
-      known = leb-true seat script.workers second;
-      free = third;
-      goes_on = not-true (is_finished script past) fourth;
+ready_worker script past seat h =
+    let last = and_parts _ (not (is_finished script past)) h in
+    let third = and_parts _ (is_free past seat) last.0 in
+    let first = and_parts (leb 1 seat) (leb seat script.workers) third.0 in
+    record {
+      worker = leb-true 1 seat first.0;
+      known = leb-true seat script.workers first.1;
+      free = third.1;
+      goes_on = not-true (is_finished script past) last.1;
     }
 
 pub take_is : (script : Plan) (past : List Entry) (seat task runner value : ℕ) → may_come script past seat (kinds.Take task runner value) ≡ true
@@ -84,11 +82,11 @@ take_is script past seat task runner value h = of_best (found (λ c. is_head_of 
     of_source (Job j) waits k = absurd cc
     of_source (Sequence s) waits k =
         let parts = and_parts (holds_of (λ r. eqb r.posted.task task && eqb r.posted.home runner) (head_of script past s))
-            (eqb value (cell_of script past s)) k in
+        (eqb value (cell_of script past s)) k in
         let head = found (λ r. eqb r.posted.task task && eqb r.posted.home runner) (head_of script past s) parts.0 in
         let same = and_parts (eqb head.value.posted.task task) (eqb head.value.posted.home runner) head.passes in
         of_head s waits.2 (eqb-true value (cell_of script past s) parts.1) head.value (head_is script past s head.value head.is) (eqb-true _ _ same.0)
-            (eqb-true _ _ same.1)
+        (eqb-true _ _ same.1)
 
     of_best : Found Candidate (λ c. is_head_of script past task runner value c.source) (best_of script past seat) → IsTake script past seat task runner value
     of_best c = of_source c.value.source (best_is script past seat c.value c.is).waits c.passes
@@ -101,42 +99,48 @@ by_driver script past seat kind h = eqb-true seat 0 (and_parts (eqb seat 0) (is_
 pub main_take_is : (script : Plan) (past : List Entry) (seat task queue value : ℕ) → may_come script past seat (kinds.MainTake task queue value) ≡ true
     → IsMainTake script past seat task queue value
 unfolding may_come
-main_take_is script past seat task queue value h = of_parts (three (by_script script past seat (kinds.MainTake task queue value))
-    (holds_of (is_front task queue) (chosen_of script past)) (eqb value (main_cell_of past queue)) h)
-  where
-    three : (a b c : Bool) → (a && b && c) ≡ true → (a ≡ true) × (b ≡ true) × (c ≡ true)
-    three a b c k = (grind (arith, k), grind (arith, k), grind (arith, k))
-
-    of_front : seat ≡ 0 → value ≡ main_cell_of past queue → (f : Front) → chosen_of script past ≡ Some f → (eqb f.task task && eqb f.queue queue) ≡ true
-        → IsMainTake script past seat task queue value
-    of_front driver cell f is same = record {
-      front = f;
-      is_front = (chosen_is script past f is).0;
-      opened = (chosen_is script past f is).1;
-      task_is = eqb-true f.task task (and_parts (eqb f.task task) (eqb f.queue queue) same).0;
-      queue_is = eqb-true f.queue queue (and_parts (eqb f.task task) (eqb f.queue queue) same).1;
-      found_is = cell;
-      driver = driver;
+main_take_is script past seat task queue value h =
+    let last = and_parts _ (eqb value (main_cell_of past queue)) h in
+    let wanted = and_parts (by_script script past seat (kinds.MainTake task queue value)) (holds_of (is_front task queue) (chosen_of script past)) last.0 in
+    let front = found (is_front task queue) (chosen_of script past) wanted.1 in
+    let same = and_parts (eqb front.value.task task) (eqb front.value.queue queue) front.passes in
+    let is = chosen_is script past front.value front.is in
+    record {
+      front = front.value;
+      is_front = is.0;
+      opened = is.1;
+      task_is = eqb-true front.value.task task same.0;
+      queue_is = eqb-true front.value.queue queue same.1;
+      found_is = eqb-true value (main_cell_of past queue) last.1;
+      driver = by_driver script past seat (kinds.MainTake task queue value) wanted.0;
     }
 
-    of_parts : (by_script script past seat (kinds.MainTake task queue value) ≡ true) × (holds_of (is_front task queue) (chosen_of script past) ≡ true)
-        × (eqb value (main_cell_of past queue) ≡ true) → IsMainTake script past seat task queue value
-    of_parts (wanted, chosen, cell) =
-        let front = found (is_front task queue) (chosen_of script past) chosen in
-        of_front (by_driver script past seat (kinds.MainTake task queue value) wanted)
-            (eqb-true value (main_cell_of past queue) cell) front.value front.is front.passes
+-- a job is entered by a free worker whose best source it is, or by the script where it may be entered
+pub job_take_is : (script : Plan) (past : List Entry) (seat job id item : ℕ) → may_come script past seat (kinds.JobTake job id item) ≡ true
+    → (IsReadyWorker script past seat × (holds_of (λ c. is_job job c.source) (best_of script past seat) ≡ true))
+    ⊎ ((by_script script past seat (kinds.JobTake job id item) ≡ true) × MayEnter script past job)
+unfolding may_come
+job_take_is script past seat job id item h =
+    ⊎_elim (λ k. let parts = and_parts (is_ready_worker script past seat) (holds_of (λ c. is_job job c.source) (best_of script past seat)) k in
+    inl (ready_worker script past seat parts.0, parts.1))
+    (λ k. inr (and_parts (by_script script past seat (kinds.JobTake job id item)) (may_enter script past job) k))
+    (or_cases (is_ready_worker script past seat && holds_of (λ c. is_job job c.source) (best_of script past seat))
+    (by_script script past seat (kinds.JobTake job id item) && may_enter script past job)
+    (and_parts (enters_job script past seat job (kinds.JobTake job id item)) _ (and_parts _ (eqb item (claimed past job)) h).0).0)
 
 -- what is known of an allowed end: the seat runs the task, of the pool or a main task
 pub end_is : (script : Plan) (past : List Entry) (seat task left : ℕ) → may_come script past seat (kinds.End task left) ≡ true
     → (w : Running) × (running past seat ≡ Some w) × (w.is_main ≡ false) × (w.task ≡ task)
 unfolding may_come
-end_is script past seat task left h = of_found (found (λ w. not w.is_main && eqb w.task task && has_done script past seat left w) (running past seat) h)
-  where
-    three : (a b c : Bool) → (not a && b && c) ≡ true → (a ≡ false) × (b ≡ true)
-    three a b c k = (grind (arith, k), grind (arith, k))
+end_is script past seat task left h =
+    let w = found (λ w. not w.is_main && eqb w.task task && has_done script past seat left w) (running past seat) h in
+    let parts = and_parts _ (eqb w.value.task task) (and_parts _ (has_done script past seat left w.value) w.passes).0 in
+    (w.value, w.is, not-true w.value.is_main parts.0, eqb-true w.value.task task parts.1)
 
-    of_found : Found Running (λ w. not w.is_main && eqb w.task task && has_done script past seat left w) (running past seat)
-        → (w : Running) × (running past seat ≡ Some w) × (w.is_main ≡ false) × (w.task ≡ task)
-    of_found w =
-        let parts = three w.value.is_main (eqb w.value.task task) (has_done script past seat left w.value) w.passes in
-        (w.value, w.is, parts.0, eqb-true w.value.task task parts.1)
+pub main_end_is : (script : Plan) (past : List Entry) (seat task left : ℕ) → may_come script past seat (kinds.MainEnd task left) ≡ true
+    → (w : Running) × (running past seat ≡ Some w) × (w.is_main ≡ true) × (w.task ≡ task)
+unfolding may_come
+main_end_is script past seat task left h =
+    let w = found (λ w. w.is_main && eqb w.task task && has_done script past seat left w) (running past seat) (and_parts (eqb seat 0) _ h).1 in
+    let parts = and_parts _ (eqb w.value.task task) (and_parts _ (has_done script past seat left w.value) w.passes).0 in
+    (w.value, w.is, parts.0, eqb-true w.value.task task parts.1)

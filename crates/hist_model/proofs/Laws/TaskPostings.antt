@@ -1,8 +1,9 @@
 -- The postings that the tasks have left: those of the tasks that no seat has taken, and those of what each seat runs.
-use Rattle.std.proofs.Common.{◌≡◌, ℕ, zero, suc, ◌+◌, ◌≤◌, Bool, true, false, cond, eqb, List, [], ◌∷◌, ◌++◌, refl, sym, ap, subst, ◌∙◌, Option, Some, None, arith, add-one}
+use Rattle.std.proofs.Common.{◌≡◌, ℕ, zero, suc, ◌+◌, ◌≤◌, Bool, true, false, cond, eqb, List, [], ◌∷◌, ◌++◌, refl, sym, ap, subst, ◌∙◌, Option, Some, None, arith, add-one, zero-add}
 use Rattle.std.specs.Prelude.{◌||◌, not, filter, flat_map, slice_get, option_and_then}
 use Rattle.std.specs.Option.{option_map_or}
-use Rattle.std.proofs.lemmas.Bool.{eqb-true}
+use Rattle.std.proofs.Math.Bool.{or-false}
+use Rattle.std.proofs.lemmas.Bool.{cond_both, eqb-true, eq-eqb, and_parts}
 use Rattle.task_base.specs.Plan.{Plan}
 use Rattle.task_base.specs.Steps.{is_act}
 use Rattle.task_base.specs.declared.step.Step.{Step}
@@ -14,11 +15,11 @@ use Rattle.list_laws.specs.Lists.{holds_of}
 use Rattle.task_model.specs.Posts.{is_taken, takes, is_main_taken, main_takes}
 use Rattle.task_model.specs.Seats.{Running, running, running_after, acts_done, acts_after, steps_of}
 use Rattle.task_model.proofs.Growth.{running_push, acts_done_push, is_taken_push, is_main_taken_push}
-use Rattle.list_laws.proofs.Lists.{eqb-same}
+use Rattle.list_laws.proofs.Values.{eqb-same}
 use Rattle.hist_model.specs.Allowed.{enters, by_task}
 use Rattle.hist_model.specs.Laws.Postings.{kind_posts}
 use Rattle.script_model.specs.Postings.{posts_of_step, times}
-use Rattle.hist_model.proofs.Laws.DriverPostings.{times-append, first_test}
+use Rattle.hist_model.proofs.Laws.DriverPostings.{times-append}
 
 -- how often the steps behind the first n post a task
 rest_posts : ℕ → ℕ → List Step → ℕ
@@ -39,9 +40,6 @@ rest_next t zero (y ∷ xs) x h = let same : y ≡ x = cc in subst
     (λ z. rest_posts t zero xs + times t (posts_of_step z) ≡ times t (posts_of_step y) + rest_posts t zero xs) same (omega arith)
 rest_next t (suc n) (y ∷ xs) x h = rest_next t n xs x h
 
-from_nothing : (n : ℕ) → 0 + n ≡ n
-from_nothing n = omega arith
-
 -- how often a task of these steps posts a task
 pub steps_post : ℕ → List Step → ℕ
 steps_post t xs = rest_posts t zero (filter is_act xs)
@@ -51,8 +49,8 @@ unfolding steps_post rest_posts
 steps_post_all t [] = refl
 steps_post_all t (steps.Post u r d ∷ xs) = ap (λ n. times t (u ∷ []) + n) (steps_post_all t xs) ∙ sym (times-append t (u ∷ []) (flat_map posts_of_step xs))
 steps_post_all t (steps.Main u r d ∷ xs) = ap (λ n. times t (u ∷ []) + n) (steps_post_all t xs) ∙ sym (times-append t (u ∷ []) (flat_map posts_of_step xs))
-steps_post_all t (steps.Block s ∷ xs) = from_nothing (steps_post t xs) ∙ steps_post_all t xs
-steps_post_all t (steps.Unblock ∷ xs) = from_nothing (steps_post t xs) ∙ steps_post_all t xs
+steps_post_all t (steps.Block s ∷ xs) = zero-add (steps_post t xs) ∙ steps_post_all t xs
+steps_post_all t (steps.Unblock ∷ xs) = zero-add (steps_post t xs) ∙ steps_post_all t xs
 steps_post_all t (x ∷ xs) = steps_post_all t xs
 
 -- how often a seat that runs this and has entered n act steps has a posting of a task left
@@ -87,14 +85,15 @@ seat_goes_on script t w n kind h = omega arith
 
 -- an act step that enters this kind posts what the entry posts
 enters_posts : (t u : ℕ) (step : Step) (kind : Kind) → enters u step kind ≡ true → times t (kind_posts kind) ≤ times t (posts_of_step step)
-enters_posts t u (steps.Post v r d) (kinds.Post task runner delay ok) h = let same : task
-    ≡ v = eqb-true task v (first_test (eqb task v) (eqb runner r) (eqb delay d) h) in rw same (omega arith)
-enters_posts t u (steps.Main v q d) (kinds.Main task queue delay ok) h = let same : task
-    ≡ v = eqb-true task v (first_test (eqb task v) (eqb queue q) (eqb delay d) h) in rw same (omega arith)
+enters_posts t u (steps.Post v r d) (kinds.Post task runner delay ok) h =
+    rw (eqb-true task v (and_parts (eqb task v) (eqb runner r) (and_parts _ (eqb delay d) h).0).0) (omega arith)
+enters_posts t u (steps.Main v q d) (kinds.Main task queue delay ok) h =
+    rw (eqb-true task v (and_parts (eqb task v) (eqb queue q) (and_parts _ (eqb delay d) h).0).0) (omega arith)
 enters_posts t u step (kinds.Post task runner delay ok) h = absurd cc
 enters_posts t u step (kinds.Main task queue delay ok) h = absurd cc
 enters_posts t u step kind h = omega arith
 
+-- such an entry is one more act step, and what the seat runs goes on
 entered : (u n : ℕ) (w : Option Running) (step : Step) (kind : Kind) → enters u step kind ≡ true → (acts_after n kind ≡ n + 1) × (running_after w kind ≡ w)
 entered u n w (steps.Post v r d) (kinds.Post task runner delay ok) h = (refl, refl)
 entered u n w (steps.Main v q d) (kinds.Main task queue delay ok) h = (refl, refl)
@@ -156,7 +155,7 @@ seat_at_other script t past e i other = rw (running_push past e i, acts_done_pus
 seat_at_own : (script : Plan) (t : ℕ) (past : List Entry) (e : Entry)
     → seat_at script t (past ++ e ∷ []) e.seat ≡ seat_has script t (running_after (running past e.seat) e.kind) (acts_after (acts_done past e.seat) e.kind)
 unfolding seat_at
-seat_at_own script t past e = rw (running_push past e e.seat, acts_done_push past e e.seat, eqb-same e.seat) refl
+seat_at_own script t past e = rw (running_push past e e.seat, acts_done_push past e e.seat, eq-eqb e.seat e.seat refl) refl
 
 seats_have_change : (script : Plan) (t : ℕ) (past : List Entry) (e : Entry) → e.seat ≤ script.workers
     → seats_have script t (past ++ e ∷ []) + seat_at script t past e.seat ≡ seats_have script t past + seat_at script t (past ++ e ∷ []) e.seat
@@ -166,36 +165,48 @@ seats_have_change script t past e le = seats_sum_change (seat_at script t past) 
 pub seats_have_less : (script : Plan) (t : ℕ) (past : List Entry) (e : Entry) → e.seat ≤ script.workers → takes_nothing e.kind ≡ true
     → seats_have script t (past ++ e ∷ []) ≤ seats_have script t past
 unfolding seat_at
-seats_have_less script t past e le h = omega (arith, seats_have_change script t past e le, seat_at_own script t past e, seat_goes_on script t
-    (running past e.seat) (acts_done past e.seat) e.kind h)
+seats_have_less script t past e le h = omega (
+  arith,
+  seats_have_change script t past e le,
+  seat_at_own script t past e,
+  seat_goes_on script t
+      (running past e.seat) (acts_done past e.seat) e.kind h,
+)
 
 pub seats_post : (script : Plan) (t : ℕ) (past : List Entry) (e : Entry) → e.seat ≤ script.workers → by_task script past e.seat e.kind ≡ true
     → seats_have script t (past ++ e ∷ []) + times t (kind_posts e.kind) ≤ seats_have script t past
 unfolding by_task seat_at
-seats_post script t past e le h = omega (arith, seats_have_change script t past e le, seat_at_own script t past e, seat_posts script t (acts_done past e.seat)
-    (running past e.seat) e.kind h)
+seats_post script t past e le h = omega (
+  arith,
+  seats_have_change script t past e le,
+  seat_at_own script t past e,
+  seat_posts script t (acts_done past e.seat)
+      (running past e.seat) e.kind h,
+)
 
 -- an entry that takes a task gives the seat that task's postings
 pub seats_take : (script : Plan) (t u : ℕ) (past : List Entry) (e : Entry) → e.seat ≤ script.workers → (takes u e.kind || main_takes u e.kind) ≡ true
     → seats_have script t (past ++ e ∷ []) ≤ seats_have script t past + steps_post t (steps_of script u)
 unfolding seat_at seat_has steps_post
-seats_take script t u past e le h = omega (arith, seats_have_change script t past e le, seat_at_own script t past e, begins (running past e.seat)
-    (acts_done past e.seat) e.kind h)
+seats_take script t u past e le h = omega (
+  arith,
+  seats_have_change script t past e le,
+  seat_at_own script t past e,
+  begins (running past e.seat)
+      (acts_done past e.seat) e.kind h,
+)
   where
     begins : (w : Option Running) (n : ℕ) (kind : Kind) → (takes u kind || main_takes u kind) ≡ true
         → seat_has script t (running_after w kind) (acts_after n kind) ≡ steps_post t (steps_of script u)
-    begins w n (kinds.Take task runner found) k = ap (λ v. rest_posts t 0 (filter is_act (steps_of script v))) (is_task (eqb task u) refl k)
-      where
-        is_task : (b : Bool) → eqb task u ≡ b → (b || false) ≡ true → task ≡ u
-        is_task true is l = eqb-true task u is
-        is_task false is l = absurd cc
+    begins w n (kinds.Take task runner found) k =
+        ap (λ v. rest_posts t 0 (filter is_act (steps_of script v))) (eqb-true task u (sym (or-false (eqb task u)) ∙ k))
     begins w n (kinds.MainTake task queue found) k = ap (λ v. rest_posts t 0 (filter is_act (steps_of script v))) (eqb-true task u k)
     begins w n kind k = absurd cc
 
 seats_begin_from : (script : Plan) (t n : ℕ) → seats_sum (seat_at script t []) n ≡ 0
 unfolding seats_sum seat_at seat_has running
 seats_begin_from script t zero = refl
-seats_begin_from script t (suc n) = from_nothing (seats_sum (seat_at script t []) n) ∙ seats_begin_from script t n
+seats_begin_from script t (suc n) = zero-add (seats_sum (seat_at script t []) n) ∙ seats_begin_from script t n
 
 pub seats_begin : (script : Plan) (t : ℕ) → seats_have script t [] ≡ 0
 seats_begin script t = seats_begin_from script t script.workers
@@ -206,11 +217,7 @@ weigh test t i [] = 0
 weigh test t i (x ∷ xs) = cond (test i) (steps_post t x) 0 + weigh test t (suc i) xs
 
 cond_less : (f g : ℕ → Bool) (i n : ℕ) → ((j : ℕ) → g j ≡ true → f j ≡ true) → cond (g i) n 0 ≤ cond (f i) n 0
-cond_less f g i n fewer = at (g i) refl
-  where
-    at : (b : Bool) → g i ≡ b → cond b n 0 ≤ cond (f i) n 0
-    at true is = rw (fewer i is) (omega arith)
-    at false is = omega arith
+cond_less f g i n fewer = cond_both (g i) n 0 (λ m. m ≤ cond (f i) n 0) (λ is. rw (fewer i is) (omega arith)) (λ is. omega arith)
 
 weigh_less : (f g : ℕ → Bool) (t i : ℕ) (xs : List (List Step)) → ((j : ℕ) → g j ≡ true → f j ≡ true) → weigh g t i xs ≤ weigh f t i xs
 unfolding weigh
@@ -233,12 +240,14 @@ weigh_drops f g t i u (suc k) (x ∷ xs) at was is fewer = let next : u ≡ suc 
 weigh_all : (f : ℕ → Bool) (t i : ℕ) (xs : List (List Step)) → weigh f t i xs ≤ times t (flat_map (λ steps. flat_map posts_of_step steps) xs)
 unfolding weigh
 weigh_all f t i [] = omega arith
-weigh_all f t i (x ∷ xs) = omega (arith, one (f i), weigh_all f t (suc i) xs, times-append t (flat_map posts_of_step x)
-    (flat_map (λ steps. flat_map posts_of_step steps) xs))
-  where
-    one : (b : Bool) → cond b (steps_post t x) 0 ≤ times t (flat_map posts_of_step x)
-    one true = omega (arith, steps_post_all t x)
-    one false = omega arith
+weigh_all f t i (x ∷ xs) = omega (
+  arith,
+  cond_both (f i) (steps_post t x) 0 (λ m. m ≤ times t (flat_map posts_of_step x))
+      (λ is. omega (arith, steps_post_all t x)) (λ is. omega arith),
+  weigh_all f t (suc i) xs,
+  times-append t (flat_map posts_of_step x)
+      (flat_map (λ steps. flat_map posts_of_step steps) xs),
+)
 
 -- the task was taken neither from the pool nor from a main queue
 abbrev pub is_untaken : List Entry → ℕ → Bool
@@ -253,21 +262,14 @@ was_untaken past e u = rw (is_taken_push past e u, is_main_taken_push past e u)
     (at (is_taken past u) (takes u e.kind) (is_main_taken past u) (main_takes u e.kind))
   where
     at : (a b c d : Bool) → not ((a || b) || (c || d)) ≡ true → not (a || c) ≡ true
-    at true b c d h = absurd cc
-    at false true c d h = absurd cc
-    at false false true d h = absurd cc
-    at false false false d h = refl
+    at a b c d h = grind (arith, h)
 
 is_now_taken : (past : List Entry) (e : Entry) (u : ℕ) → (takes u e.kind || main_takes u e.kind) ≡ true → is_untaken (past ++ e ∷ []) u ≡ false
 is_now_taken past e u = rw (is_taken_push past e u, is_main_taken_push past e u)
     (at (is_taken past u) (takes u e.kind) (is_main_taken past u) (main_takes u e.kind))
   where
     at : (a b c d : Bool) → (b || d) ≡ true → not ((a || b) || (c || d)) ≡ false
-    at true b c d h = refl
-    at false true c d h = refl
-    at false false true d h = refl
-    at false false false true h = refl
-    at false false false false h = absurd cc
+    at a b c d h = grind (arith, h)
 
 pub tasks_have_less : (script : Plan) (t : ℕ) (past : List Entry) (e : Entry) → tasks_have script t (past ++ e ∷ []) ≤ tasks_have script t past
 unfolding tasks_have

@@ -13,18 +13,10 @@ use Rattle.task_base.specs.declared.step.Scope.TheVariants.{May}
 use Rattle.task_base.specs.declared.step.Step.TheVariants as steps
 use Rattle.task_traits.specs.declared.traits.Behaviour.TheVariants.{SkipOnShutdown, BlockShutdown}
 use Rattle.task_traits.specs.declared.traits.Priority.TheVariants.{BestEffort, UserVisible, UserBlocking}
-use Rattle.hist_model.proofs.Worked.Rows.{judge, read, written, IsRight, runner_of, queue_of, job_of, by}
+use Rattle.hist_model.proofs.Worked.Rows.{judge, read, written, Worked, worked, AreRight, runner_of, queue_of, job_of, by, plain}
 
 abbrev refused_before_done_script : Plan
-refused_before_done_script = record {
-  workers = 1;
-  foreground = 4;
-  foreground_best = 2;
-  background = 0;
-  threshold = 1000000;
-  runners = [];
-  queues = [];
-  tasks = [];
+refused_before_done_script = record plain {
   jobs = job_of UserVisible SkipOnShutdown 0 4 (steps.Add 7 ∷ []) ∷ [];
   actions = actions.Shutdown ∷ actions.StartJob 0 ∷ actions.Cancel 0 ∷ actions.Join 0 ∷ [];
 }
@@ -40,22 +32,14 @@ refused_before_done_log =
     []
 
 -- refused comes before done and cancelled
-refused_before_done : IsRight refused_before_done_script refused_before_done_log
+abbrev refused_before_done : Worked
+refused_before_done = worked refused_before_done_script refused_before_done_log
     (codes "workers 1\njob 0 user_visible skip 0 4 add 7\nshutdown\nstartjob 0\ncancel 0\njoin 0\n")
     (codes "0 0 shutdown\n1 0 done\n2 0 startjob 0 no\n3 0 cancel 0\n4 0 cancelled 0\n5 0 joined 0 refused\n")
-unfolding judge read written
-refused_before_done = record { reads = refl; writes = refl; judged = refl }
 
 abbrev inside_after_the_script_script : Plan
-inside_after_the_script_script = record {
+inside_after_the_script_script = record plain {
   workers = 2;
-  foreground = 4;
-  foreground_best = 2;
-  background = 0;
-  threshold = 1000000;
-  runners = [];
-  queues = [];
-  tasks = [];
   jobs = job_of UserVisible SkipOnShutdown 3 4 (steps.Add 1 ∷ []) ∷ [];
   actions = actions.StartJob 0 ∷ actions.Tick 1 ∷ [];
 }
@@ -71,21 +55,16 @@ inside_after_the_script_log =
     []
 
 -- a worker inside a job goes on after the script is finished
-inside_after_the_script : IsRight inside_after_the_script_script inside_after_the_script_log
+abbrev inside_after_the_script : Worked
+inside_after_the_script = worked inside_after_the_script_script inside_after_the_script_log
     (codes "workers 2\njob 0 user_visible skip 3 4 add 1\nstartjob 0\ntick 1\n")
     (codes "0 0 startjob 0 ok\n1 1 jobtake 0 0 0\n2 0 tick 0\n3 1 jobstep 0 0 0 1 1\n4 1 jobstep 0 0 1 2 2\n5 1 jobstep 0 0 2 3 -\n")
-unfolding judge read written
-inside_after_the_script = record { reads = refl; writes = refl; judged = refl }
 
 abbrev best_effort_yields_by_the_group_script : Plan
-best_effort_yields_by_the_group_script = record {
-  workers = 1;
+best_effort_yields_by_the_group_script = record plain {
   foreground = 2;
   foreground_best = 1;
-  background = 0;
-  threshold = 1000000;
   runners = runner_of Parallel UserBlocking SkipOnShutdown false ∷ [];
-  queues = [];
   tasks = [] ∷ [];
   jobs = job_of BestEffort SkipOnShutdown 2 1 (steps.Add 0 ∷ []) ∷ [];
   actions = actions.StartJob 0 ∷ actions.Post 0 0 0 ∷ actions.Flush ∷ [];
@@ -104,21 +83,16 @@ best_effort_yields_by_the_group_log =
     []
 
 -- a best-effort job asks the capacity of its group, not the best-effort one
-best_effort_yields_by_the_group : IsRight best_effort_yields_by_the_group_script best_effort_yields_by_the_group_log
+abbrev best_effort_yields_by_the_group : Worked
+best_effort_yields_by_the_group = worked best_effort_yields_by_the_group_script best_effort_yields_by_the_group_log
     (codes "workers 1\ngroups 2 1 0\nrunner 0 parallel user_blocking skip\ntask 0\njob 0 best_effort skip 2 1 add 0\nstartjob 0\npost 0 0 0\nflush\n")
     (codes "0 0 startjob 0 ok\n1 1 jobtake 0 0 0\n2 0 post 0 0 0 ok\n3 1 jobstep 0 0 0 0 1\n4 1 jobstep 0 0 1 1 -\n5 1 take 0 0 0\n6 1 end 0 0\n7 0 idle\n")
-unfolding judge read written
-best_effort_yields_by_the_group = record { reads = refl; writes = refl; judged = refl }
 
 abbrev driver_does_not_make_way_script : Plan
-driver_does_not_make_way_script = record {
-  workers = 1;
+driver_does_not_make_way_script = record plain {
   foreground = 1;
   foreground_best = 1;
-  background = 0;
-  threshold = 1000000;
   runners = runner_of Parallel UserVisible SkipOnShutdown false ∷ runner_of Parallel UserBlocking SkipOnShutdown false ∷ [];
-  queues = [];
   tasks = [] ∷ (steps.Post 0 1 0 ∷ []) ∷ [];
   jobs = job_of BestEffort SkipOnShutdown 2 1 (steps.Add 0 ∷ []) ∷ [];
   actions = actions.StartJob 0 ∷ actions.Post 1 0 0 ∷ actions.Join 0 ∷ actions.Flush ∷ [];
@@ -141,23 +115,19 @@ driver_does_not_make_way_log =
     []
 
 -- the driver inside a job makes no way
-driver_does_not_make_way : IsRight driver_does_not_make_way_script driver_does_not_make_way_log
+abbrev driver_does_not_make_way : Worked
+driver_does_not_make_way = worked driver_does_not_make_way_script driver_does_not_make_way_log
     (codes "workers 1\ngroups 1 1 0\nrunner 0 parallel user_visible skip\nrunner 1 parallel user_blocking skip\ntask 0\ntask 1 post 0 1 0\njob 0 best_effort skip 2 1 add 0\nstartjob 0\npost 1 0 0\njoin 0\nflush\n")
     (codes "0 0 startjob 0 ok\n1 0 post 1 0 0 ok\n2 1 take 1 0 0\n3 0 jobtake 0 0 0\n4 1 post 0 1 0 ok\n5 0 jobstep 0 0 0 0 1\n6 0 jobstep 0 0 1 1 -\n7 0 joined 0 done 1\n8 1 end 1 0\n9 1 take 0 1 0\n10 1 end 0 0\n11 0 idle\n")
-unfolding judge read written
-driver_does_not_make_way = record { reads = refl; writes = refl; judged = refl }
 
 abbrev threshold_from_the_opening_script : Plan
-threshold_from_the_opening_script = record {
+threshold_from_the_opening_script = record plain {
   workers = 2;
   foreground = 1;
   foreground_best = 1;
-  background = 0;
   threshold = 5;
   runners = runner_of Parallel UserVisible SkipOnShutdown true ∷ [];
-  queues = [];
   tasks = (steps.Block May ∷ steps.Unblock ∷ []) ∷ [] ∷ [];
-  jobs = [];
   actions = actions.Tick 1 ∷ actions.Post 0 0 0 ∷ actions.Post 1 0 0 ∷ actions.Tick 2 ∷ actions.Flush ∷ [];
 }
 
@@ -178,23 +148,15 @@ threshold_from_the_opening_log =
     []
 
 -- the threshold counts from the moment of the opening
-threshold_from_the_opening : IsRight threshold_from_the_opening_script threshold_from_the_opening_log
+abbrev threshold_from_the_opening : Worked
+threshold_from_the_opening = worked threshold_from_the_opening_script threshold_from_the_opening_log
     (codes "workers 2\ngroups 1 1 0\nthreshold 5\nrunner 0 parallel user_visible skip mayblock\ntask 0 block may ; unblock\ntask 1\ntick 1\npost 0 0 0\npost 1 0 0\ntick 2\nflush\n")
     (codes "0 0 tick 3\n1 0 post 0 0 0 ok\n2 0 post 1 0 0 ok\n3 1 take 0 0 0\n4 1 block 0 may\n5 0 tick 7\n6 0 tick 8\n7 2 take 1 0 0\n8 1 unblock 0\n9 1 end 0 0\n10 2 end 1 0\n11 0 idle\n")
-unfolding judge read written
-threshold_from_the_opening = record { reads = refl; writes = refl; judged = refl }
 
 abbrev forbidden_task_is_passed_over_script : Plan
-forbidden_task_is_passed_over_script = record {
-  workers = 1;
-  foreground = 4;
-  foreground_best = 2;
-  background = 0;
-  threshold = 1000000;
+forbidden_task_is_passed_over_script = record plain {
   runners = runner_of Sequenced UserVisible BlockShutdown false ∷ [];
-  queues = [];
   tasks = [] ∷ (steps.Add 2 ∷ []) ∷ [];
-  jobs = [];
   actions = actions.Policy policies.Nothing ∷ actions.Post 0 0 5 ∷ actions.Tick 1 ∷ actions.Post 1 0 0 ∷ actions.Shutdown ∷ [];
 }
 
@@ -211,23 +173,15 @@ forbidden_task_is_passed_over_log =
     []
 
 -- after shutdown the head is the least task that may start
-forbidden_task_is_passed_over : IsRight forbidden_task_is_passed_over_script forbidden_task_is_passed_over_log
+abbrev forbidden_task_is_passed_over : Worked
+forbidden_task_is_passed_over = worked forbidden_task_is_passed_over_script forbidden_task_is_passed_over_log
     (codes "workers 1\nrunner 0 sequenced user_visible block\ntask 0\ntask 1 add 2\npolicy none\npost 0 0 5\ntick 1\npost 1 0 0\nshutdown\n")
     (codes "0 0 policy none\n1 0 post 0 0 5 ok\n2 0 tick 5\n3 0 post 1 0 0 ok\n4 0 shutdown\n5 1 take 1 0 0\n6 1 end 1 2\n7 0 done\n")
-unfolding judge read written
-forbidden_task_is_passed_over = record { reads = refl; writes = refl; judged = refl }
 
 abbrev delayed_block_refused_after_shutdown_script : Plan
-delayed_block_refused_after_shutdown_script = record {
-  workers = 1;
-  foreground = 4;
-  foreground_best = 2;
-  background = 0;
-  threshold = 1000000;
+delayed_block_refused_after_shutdown_script = record plain {
   runners = runner_of Sequenced UserVisible BlockShutdown false ∷ [];
-  queues = [];
   tasks = [] ∷ [] ∷ (steps.Post 0 0 5 ∷ steps.Post 1 0 0 ∷ []) ∷ [];
-  jobs = [];
   actions = actions.Post 2 0 0 ∷ actions.Shutdown ∷ [];
 }
 
@@ -245,24 +199,17 @@ delayed_block_refused_after_shutdown_log =
     []
 
 -- a delayed block post is refused once shutdown started, an immediate one is not
-delayed_block_refused_after_shutdown : IsRight delayed_block_refused_after_shutdown_script delayed_block_refused_after_shutdown_log
+abbrev delayed_block_refused_after_shutdown : Worked
+delayed_block_refused_after_shutdown = worked delayed_block_refused_after_shutdown_script delayed_block_refused_after_shutdown_log
     (codes "workers 1\nrunner 0 sequenced user_visible block\ntask 0\ntask 1\ntask 2 post 0 0 5 ; post 1 0 0\npost 2 0 0\nshutdown\n")
     (codes "0 0 post 2 0 0 ok\n1 0 shutdown\n2 1 take 2 0 0\n3 1 post 0 0 5 no\n4 1 post 1 0 0 ok\n5 1 end 2 0\n6 1 take 1 0 0\n7 1 end 1 0\n8 0 done\n")
-unfolding judge read written
-delayed_block_refused_after_shutdown = record { reads = refl; writes = refl; judged = refl }
 
 abbrev ripened_before_posted_script : Plan
-ripened_before_posted_script = record {
-  workers = 1;
-  foreground = 4;
-  foreground_best = 2;
-  background = 0;
-  threshold = 1000000;
+ripened_before_posted_script = record plain {
   runners = runner_of Sequenced UserVisible SkipOnShutdown false ∷ [];
-  queues = [];
   tasks = [] ∷ [] ∷ [] ∷ [] ∷ [];
-  jobs = [];
-  actions = actions.Policy policies.Nothing ∷ actions.Post 0 0 5 ∷ actions.Post 1 0 3 ∷ actions.Post 2 0 3 ∷ actions.Tick 1 ∷ actions.Post 3 0 0 ∷ actions.Policy policies.All ∷ actions.Flush ∷ [];
+  actions = actions.Policy policies.Nothing ∷ actions.Post 0 0 5 ∷ actions.Post 1 0 3 ∷ actions.Post 2 0 3 ∷ actions.Tick 1 ∷ actions.Post 3 0 0 ∷
+      actions.Policy policies.All ∷ actions.Flush ∷ [];
 }
 
 abbrev ripened_before_posted_log : List Entry
@@ -286,23 +233,16 @@ ripened_before_posted_log =
     []
 
 -- a task that ripened at a tick goes before one posted after it, and ties go by ripe moment then post
-ripened_before_posted : IsRight ripened_before_posted_script ripened_before_posted_log
+abbrev ripened_before_posted : Worked
+ripened_before_posted = worked ripened_before_posted_script ripened_before_posted_log
     (codes "workers 1\nrunner 0 sequenced user_visible skip\ntask 0\ntask 1\ntask 2\ntask 3\npolicy none\npost 0 0 5\npost 1 0 3\npost 2 0 3\ntick 1\npost 3 0 0\npolicy all\nflush\n")
     (codes "0 0 policy none\n1 0 post 0 0 5 ok\n2 0 post 1 0 3 ok\n3 0 post 2 0 3 ok\n4 0 tick 5\n5 0 post 3 0 0 ok\n6 0 policy all\n7 1 take 1 0 0\n8 1 end 1 0\n9 1 take 2 0 0\n10 1 end 2 0\n11 1 take 0 0 0\n12 1 end 0 0\n13 1 take 3 0 0\n14 1 end 3 0\n15 0 idle\n")
-unfolding judge read written
-ripened_before_posted = record { reads = refl; writes = refl; judged = refl }
 
 abbrev fence_holds_the_delayed_lane_script : Plan
-fence_holds_the_delayed_lane_script = record {
+fence_holds_the_delayed_lane_script = record plain {
   workers = 2;
-  foreground = 4;
-  foreground_best = 2;
-  background = 0;
-  threshold = 1000000;
-  runners = [];
   queues = queue_of 0 0 ∷ [];
   tasks = [] ∷ [] ∷ [];
-  jobs = [];
   actions = actions.Main 0 0 5 ∷ actions.Main 1 0 0 ∷ actions.Fence 0 Now ∷ actions.Tick 1 ∷ actions.Pump 2 ∷ [];
 }
 
@@ -318,24 +258,18 @@ fence_holds_the_delayed_lane_log =
     []
 
 -- a delayed task that ripens after the fence is held back though it was posted before
-fence_holds_the_delayed_lane : IsRight fence_holds_the_delayed_lane_script fence_holds_the_delayed_lane_log
+abbrev fence_holds_the_delayed_lane : Worked
+fence_holds_the_delayed_lane = worked fence_holds_the_delayed_lane_script fence_holds_the_delayed_lane_log
     (codes "queue 0 0 0\ntask 0\ntask 1\nmain 0 0 5\nmain 1 0 0\nfence 0 now\ntick 1\npump 2\n")
     (codes "0 0 main 0 0 5 ok\n1 0 main 1 0 0 ok\n2 0 fence 0 now\n3 0 tick 5\n4 0 maintake 1 0 0\n5 0 mainend 1 0\n6 0 mainnone\n")
-unfolding judge read written
-fence_holds_the_delayed_lane = record { reads = refl; writes = refl; judged = refl }
 
 abbrev streak_ended_by_another_class_script : Plan
-streak_ended_by_another_class_script = record {
+streak_ended_by_another_class_script = record plain {
   workers = 2;
-  foreground = 4;
-  foreground_best = 2;
-  background = 0;
-  threshold = 1000000;
-  runners = [];
   queues = queue_of 3 0 ∷ queue_of 2 0 ∷ [];
   tasks = [] ∷ [] ∷ [] ∷ [] ∷ [] ∷ [] ∷ [];
-  jobs = [];
-  actions = actions.Main 0 0 1 ∷ actions.Main 1 0 1 ∷ actions.Main 2 0 1 ∷ actions.Main 3 0 1 ∷ actions.Main 5 1 2 ∷ actions.Tick 1 ∷ actions.Main 4 0 0 ∷ actions.Pump 3 ∷ actions.Tick 1 ∷ actions.Pump 2 ∷ [];
+  actions = actions.Main 0 0 1 ∷ actions.Main 1 0 1 ∷ actions.Main 2 0 1 ∷ actions.Main 3 0 1 ∷ actions.Main 5 1 2 ∷ actions.Tick 1 ∷ actions.Main 4 0 0 ∷
+      actions.Pump 3 ∷ actions.Tick 1 ∷ actions.Pump 2 ∷ [];
 }
 
 abbrev streak_ended_by_another_class_log : List Entry
@@ -361,22 +295,13 @@ streak_ended_by_another_class_log =
     []
 
 -- a delayed task of a better class without immediate tasks ends the streak
-streak_ended_by_another_class : IsRight streak_ended_by_another_class_script streak_ended_by_another_class_log
+abbrev streak_ended_by_another_class : Worked
+streak_ended_by_another_class = worked streak_ended_by_another_class_script streak_ended_by_another_class_log
     (codes "queue 0 3 0\nqueue 1 2 0\ntask 0\ntask 1\ntask 2\ntask 3\ntask 4\ntask 5\nmain 0 0 1\nmain 1 0 1\nmain 2 0 1\nmain 3 0 1\nmain 5 1 2\ntick 1\nmain 4 0 0\npump 3\ntick 1\npump 2\n")
     (codes "0 0 main 0 0 1 ok\n1 0 main 1 0 1 ok\n2 0 main 2 0 1 ok\n3 0 main 3 0 1 ok\n4 0 main 5 1 2 ok\n5 0 tick 1\n6 0 main 4 0 0 ok\n7 0 maintake 0 0 0\n8 0 mainend 0 0\n9 0 maintake 1 0 0\n10 0 mainend 1 0\n11 0 maintake 2 0 0\n12 0 mainend 2 0\n13 0 tick 2\n14 0 maintake 5 1 0\n15 0 mainend 5 0\n16 0 maintake 3 0 0\n17 0 mainend 3 0\n")
-unfolding judge read written
-streak_ended_by_another_class = record { reads = refl; writes = refl; judged = refl }
 
 abbrev done_then_cancelled_script : Plan
-done_then_cancelled_script = record {
-  workers = 1;
-  foreground = 4;
-  foreground_best = 2;
-  background = 0;
-  threshold = 1000000;
-  runners = [];
-  queues = [];
-  tasks = [];
+done_then_cancelled_script = record plain {
   jobs = job_of UserVisible SkipOnShutdown 1 4 (steps.Add 7 ∷ []) ∷ [];
   actions = actions.StartJob 0 ∷ actions.Flush ∷ actions.Cancel 0 ∷ actions.Join 0 ∷ [];
 }
@@ -393,21 +318,16 @@ done_then_cancelled_log =
     []
 
 -- a job whose items are all done and that is cancelled joins as done
-done_then_cancelled : IsRight done_then_cancelled_script done_then_cancelled_log
+abbrev done_then_cancelled : Worked
+done_then_cancelled = worked done_then_cancelled_script done_then_cancelled_log
     (codes "workers 1\njob 0 user_visible skip 1 4 add 7\nstartjob 0\nflush\ncancel 0\njoin 0\n")
     (codes "0 0 startjob 0 ok\n1 1 jobtake 0 0 0\n2 1 jobstep 0 0 0 7 -\n3 0 idle\n4 0 cancel 0\n5 0 cancelled 0\n6 0 joined 0 done 7\n")
-unfolding judge read written
-done_then_cancelled = record { reads = refl; writes = refl; judged = refl }
 
 abbrev held_work_makes_no_way_script : Plan
-held_work_makes_no_way_script = record {
-  workers = 1;
+held_work_makes_no_way_script = record plain {
   foreground = 1;
   foreground_best = 1;
-  background = 0;
-  threshold = 1000000;
   runners = runner_of Parallel UserVisible SkipOnShutdown false ∷ [];
-  queues = [];
   tasks = [] ∷ [];
   jobs = job_of BestEffort SkipOnShutdown 2 1 (steps.Add 0 ∷ []) ∷ [];
   actions = actions.StartJob 0 ∷ actions.Tick 1 ∷ actions.Policy policies.Nothing ∷ actions.Post 0 0 0 ∷ actions.Tick 1 ∷ [];
@@ -426,8 +346,14 @@ held_work_makes_no_way_log =
     []
 
 -- work that the policy holds back makes no worker leave
-held_work_makes_no_way : IsRight held_work_makes_no_way_script held_work_makes_no_way_log
+abbrev held_work_makes_no_way : Worked
+held_work_makes_no_way = worked held_work_makes_no_way_script held_work_makes_no_way_log
     (codes "workers 1\ngroups 1 1 0\nrunner 0 parallel user_visible skip\ntask 0\njob 0 best_effort skip 2 1 add 0\nstartjob 0\ntick 1\npolicy none\npost 0 0 0\ntick 1\n")
     (codes "0 0 startjob 0 ok\n1 0 tick 0\n2 1 jobtake 0 0 0\n3 0 policy none\n4 0 post 0 0 0 ok\n5 1 jobstep 0 0 0 0 1\n6 1 jobstep 0 0 1 1 -\n7 0 tick 0\n")
+
+-- each of them is right
+edges_are_right : AreRight (refused_before_done ∷ inside_after_the_script ∷ best_effort_yields_by_the_group ∷ driver_does_not_make_way ∷
+    threshold_from_the_opening ∷ forbidden_task_is_passed_over ∷ delayed_block_refused_after_shutdown ∷ ripened_before_posted ∷ fence_holds_the_delayed_lane ∷
+    streak_ended_by_another_class ∷ done_then_cancelled ∷ held_work_makes_no_way ∷ [])
 unfolding judge read written
-held_work_makes_no_way = record { reads = refl; writes = refl; judged = refl }
+edges_are_right = refl

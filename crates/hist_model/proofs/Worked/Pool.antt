@@ -12,19 +12,12 @@ use Rattle.task_traits.specs.declared.traits.Behaviour.TheVariants.{SkipOnShutdo
 use Rattle.task_traits.specs.declared.traits.Priority.TheVariants.{BestEffort, UserVisible, UserBlocking}
 use Rattle.std.specs.Prelude.{codes, Some, None}
 use Rattle.hist_model.specs.Legal.{first_illegal}
-use Rattle.hist_model.proofs.Worked.Rows.{judge, read, written, IsRight, runner_of, by}
+use Rattle.hist_model.proofs.Worked.Rows.{judge, read, written, Worked, worked, AreRight, runner_of, by, plain}
 
 abbrev first_run_script : Plan
-first_run_script = record {
-  workers = 1;
-  foreground = 4;
-  foreground_best = 2;
-  background = 0;
-  threshold = 1000000;
+first_run_script = record plain {
   runners = runner_of Sequenced UserVisible SkipOnShutdown false ∷ [];
-  queues = [];
   tasks = (steps.Add 5 ∷ []) ∷ [];
-  jobs = [];
   actions = actions.Post 0 0 0 ∷ actions.Flush ∷ [];
 }
 
@@ -37,23 +30,15 @@ first_run_log =
     []
 
 -- the first run
-first_run : IsRight first_run_script first_run_log
+abbrev first_run : Worked
+first_run = worked first_run_script first_run_log
     (codes "workers 1\nrunner 0 sequenced user_visible skip\ntask 0 add 5\npost 0 0 0\nflush\n")
     (codes "0 0 post 0 0 0 ok\n1 1 take 0 0 0\n2 1 end 0 5\n3 0 idle\n")
-unfolding judge read written
-first_run = record { reads = refl; writes = refl; judged = refl }
 
 abbrev state_moves_along_script : Plan
-state_moves_along_script = record {
-  workers = 1;
-  foreground = 4;
-  foreground_best = 2;
-  background = 0;
-  threshold = 1000000;
+state_moves_along_script = record plain {
   runners = runner_of Sequenced UserVisible SkipOnShutdown false ∷ [];
-  queues = [];
   tasks = (steps.Add 5 ∷ []) ∷ (steps.Mul 3 ∷ []) ∷ [];
-  jobs = [];
   actions = actions.Policy policies.Nothing ∷ actions.Post 0 0 0 ∷ actions.Post 1 0 0 ∷ actions.Policy policies.All ∷ actions.Flush ∷ [];
 }
 
@@ -71,11 +56,10 @@ state_moves_along_log =
     []
 
 -- each task of a sequence finds what the one before it left
-state_moves_along : IsRight state_moves_along_script state_moves_along_log
+abbrev state_moves_along : Worked
+state_moves_along = worked state_moves_along_script state_moves_along_log
     (codes "workers 1\nrunner 0 sequenced user_visible skip\ntask 0 add 5\ntask 1 mul 3\npolicy none\npost 0 0 0\npost 1 0 0\npolicy all\nflush\n")
     (codes "0 0 policy none\n1 0 post 0 0 0 ok\n2 0 post 1 0 0 ok\n3 0 policy all\n4 1 take 0 0 0\n5 1 end 0 5\n6 1 take 1 0 5\n7 1 end 1 15\n8 0 idle\n")
-unfolding judge read written
-state_moves_along = record { reads = refl; writes = refl; judged = refl }
 
 abbrev wrong_value_left_log : List Entry
 wrong_value_left_log =
@@ -110,16 +94,10 @@ unfolding judge
 cut_after_a_take = refl
 
 abbrev priority_before_posting_order_script : Plan
-priority_before_posting_order_script = record {
-  workers = 1;
-  foreground = 4;
-  foreground_best = 2;
-  background = 0;
-  threshold = 1000000;
-  runners = runner_of Parallel BestEffort SkipOnShutdown false ∷ runner_of Parallel UserVisible SkipOnShutdown false ∷ runner_of Parallel UserBlocking SkipOnShutdown false ∷ [];
-  queues = [];
+priority_before_posting_order_script = record plain {
+  runners = runner_of Parallel BestEffort SkipOnShutdown false ∷ runner_of Parallel UserVisible SkipOnShutdown false ∷
+      runner_of Parallel UserBlocking SkipOnShutdown false ∷ [];
   tasks = (steps.Add 1 ∷ []) ∷ (steps.Add 1 ∷ []) ∷ (steps.Add 1 ∷ []) ∷ [];
-  jobs = [];
   actions = actions.Policy policies.Nothing ∷ actions.Post 0 0 0 ∷ actions.Post 1 1 0 ∷ actions.Post 2 2 0 ∷ actions.Policy policies.All ∷ actions.Flush ∷ [];
 }
 
@@ -140,11 +118,10 @@ priority_before_posting_order_log =
     []
 
 -- the higher priority goes first, whatever the order of the posts
-priority_before_posting_order : IsRight priority_before_posting_order_script priority_before_posting_order_log
+abbrev priority_before_posting_order : Worked
+priority_before_posting_order = worked priority_before_posting_order_script priority_before_posting_order_log
     (codes "workers 1\nrunner 0 parallel best_effort skip\nrunner 1 parallel user_visible skip\nrunner 2 parallel user_blocking skip\ntask 0 add 1\ntask 1 add 1\ntask 2 add 1\npolicy none\npost 0 0 0\npost 1 1 0\npost 2 2 0\npolicy all\nflush\n")
     (codes "0 0 policy none\n1 0 post 0 0 0 ok\n2 0 post 1 1 0 ok\n3 0 post 2 2 0 ok\n4 0 policy all\n5 1 take 2 2 0\n6 1 end 2 1\n7 1 take 1 1 0\n8 1 end 1 1\n9 1 take 0 0 0\n10 1 end 0 1\n11 0 idle\n")
-unfolding judge read written
-priority_before_posting_order = record { reads = refl; writes = refl; judged = refl }
 
 abbrev lower_priority_first_log : List Entry
 lower_priority_first_log =
@@ -162,17 +139,12 @@ unfolding judge
 lower_priority_first = refl
 
 abbrev foreground_holds_best_effort_script : Plan
-foreground_holds_best_effort_script = record {
-  workers = 1;
-  foreground = 4;
-  foreground_best = 2;
-  background = 0;
-  threshold = 1000000;
-  runners = runner_of Parallel BestEffort SkipOnShutdown false ∷ runner_of Parallel UserVisible SkipOnShutdown false ∷ runner_of Parallel UserBlocking SkipOnShutdown false ∷ [];
-  queues = [];
+foreground_holds_best_effort_script = record plain {
+  runners = runner_of Parallel BestEffort SkipOnShutdown false ∷ runner_of Parallel UserVisible SkipOnShutdown false ∷
+      runner_of Parallel UserBlocking SkipOnShutdown false ∷ [];
   tasks = (steps.Add 1 ∷ []) ∷ (steps.Add 1 ∷ []) ∷ (steps.Add 1 ∷ []) ∷ [];
-  jobs = [];
-  actions = actions.Policy policies.Nothing ∷ actions.Post 0 0 0 ∷ actions.Post 1 1 0 ∷ actions.Post 2 2 0 ∷ actions.Policy policies.Foreground ∷ actions.Flush ∷ [];
+  actions = actions.Policy policies.Nothing ∷ actions.Post 0 0 0 ∷ actions.Post 1 1 0 ∷ actions.Post 2 2 0 ∷ actions.Policy policies.Foreground ∷
+      actions.Flush ∷ [];
 }
 
 abbrev foreground_holds_best_effort_log : List Entry
@@ -190,11 +162,10 @@ foreground_holds_best_effort_log =
     []
 
 -- the policy foreground holds best-effort work back
-foreground_holds_best_effort : IsRight foreground_holds_best_effort_script foreground_holds_best_effort_log
+abbrev foreground_holds_best_effort : Worked
+foreground_holds_best_effort = worked foreground_holds_best_effort_script foreground_holds_best_effort_log
     (codes "workers 1\nrunner 0 parallel best_effort skip\nrunner 1 parallel user_visible skip\nrunner 2 parallel user_blocking skip\ntask 0 add 1\ntask 1 add 1\ntask 2 add 1\npolicy none\npost 0 0 0\npost 1 1 0\npost 2 2 0\npolicy foreground\nflush\n")
     (codes "0 0 policy none\n1 0 post 0 0 0 ok\n2 0 post 1 1 0 ok\n3 0 post 2 2 0 ok\n4 0 policy foreground\n5 1 take 2 2 0\n6 1 end 2 1\n7 1 take 1 1 0\n8 1 end 1 1\n9 0 idle\n")
-unfolding judge read written
-foreground_holds_best_effort = record { reads = refl; writes = refl; judged = refl }
 
 abbrev held_back_work_taken_log : List Entry
 held_back_work_taken_log =
@@ -218,16 +189,9 @@ unfolding judge
 held_back_work_taken = refl
 
 abbrev ties_by_post_place_script : Plan
-ties_by_post_place_script = record {
-  workers = 1;
-  foreground = 4;
-  foreground_best = 2;
-  background = 0;
-  threshold = 1000000;
+ties_by_post_place_script = record plain {
   runners = runner_of Sequenced UserVisible SkipOnShutdown false ∷ runner_of Sequenced UserVisible SkipOnShutdown false ∷ [];
-  queues = [];
   tasks = (steps.Add 1 ∷ []) ∷ (steps.Add 1 ∷ []) ∷ [];
-  jobs = [];
   actions = actions.Policy policies.Nothing ∷ actions.Post 0 1 0 ∷ actions.Post 1 0 0 ∷ actions.Policy policies.All ∷ actions.Flush ∷ [];
 }
 
@@ -245,24 +209,17 @@ ties_by_post_place_log =
     []
 
 -- of one priority, the task that was posted first goes first
-ties_by_post_place : IsRight ties_by_post_place_script ties_by_post_place_log
+abbrev ties_by_post_place : Worked
+ties_by_post_place = worked ties_by_post_place_script ties_by_post_place_log
     (codes "workers 1\nrunner 0 sequenced user_visible skip\nrunner 1 sequenced user_visible skip\ntask 0 add 1\ntask 1 add 1\npolicy none\npost 0 1 0\npost 1 0 0\npolicy all\nflush\n")
     (codes "0 0 policy none\n1 0 post 0 1 0 ok\n2 0 post 1 0 0 ok\n3 0 policy all\n4 1 take 0 1 0\n5 1 end 0 1\n6 1 take 1 0 0\n7 1 end 1 1\n8 0 idle\n")
-unfolding judge read written
-ties_by_post_place = record { reads = refl; writes = refl; judged = refl }
 
 abbrev ripening_order_script : Plan
-ripening_order_script = record {
-  workers = 1;
-  foreground = 4;
-  foreground_best = 2;
-  background = 0;
-  threshold = 1000000;
+ripening_order_script = record plain {
   runners = runner_of Sequenced UserVisible SkipOnShutdown false ∷ [];
-  queues = [];
   tasks = (steps.Add 1 ∷ []) ∷ (steps.Mul 2 ∷ []) ∷ (steps.Set 7 ∷ []) ∷ [];
-  jobs = [];
-  actions = actions.Policy policies.Nothing ∷ actions.Post 0 0 5 ∷ actions.Post 1 0 3 ∷ actions.Post 2 0 0 ∷ actions.Tick 1 ∷ actions.Policy policies.All ∷ actions.Flush ∷ [];
+  actions = actions.Policy policies.Nothing ∷ actions.Post 0 0 5 ∷ actions.Post 1 0 3 ∷ actions.Post 2 0 0 ∷ actions.Tick 1 ∷ actions.Policy policies.All ∷
+      actions.Flush ∷ [];
 }
 
 abbrev ripening_order_log : List Entry
@@ -283,23 +240,15 @@ ripening_order_log =
     []
 
 -- delayed tasks go by the order in which they ripen, behind what was posted earlier
-ripening_order : IsRight ripening_order_script ripening_order_log
+abbrev ripening_order : Worked
+ripening_order = worked ripening_order_script ripening_order_log
     (codes "workers 1\nrunner 0 sequenced user_visible skip\ntask 0 add 1\ntask 1 mul 2\ntask 2 set 7\npolicy none\npost 0 0 5\npost 1 0 3\npost 2 0 0\ntick 1\npolicy all\nflush\n")
     (codes "0 0 policy none\n1 0 post 0 0 5 ok\n2 0 post 1 0 3 ok\n3 0 post 2 0 0 ok\n4 0 tick 10\n5 0 policy all\n6 1 take 2 0 0\n7 1 end 2 7\n8 1 take 1 0 7\n9 1 end 1 14\n10 1 take 0 0 14\n11 1 end 0 15\n12 0 idle\n")
-unfolding judge read written
-ripening_order = record { reads = refl; writes = refl; judged = refl }
 
 abbrev shutdown_skips_and_blocks_script : Plan
-shutdown_skips_and_blocks_script = record {
-  workers = 1;
-  foreground = 4;
-  foreground_best = 2;
-  background = 0;
-  threshold = 1000000;
+shutdown_skips_and_blocks_script = record plain {
   runners = runner_of Parallel UserVisible SkipOnShutdown false ∷ runner_of Parallel UserVisible BlockShutdown false ∷ [];
-  queues = [];
   tasks = (steps.Add 1 ∷ []) ∷ (steps.Add 2 ∷ []) ∷ (steps.Add 3 ∷ []) ∷ [];
-  jobs = [];
   actions = actions.Policy policies.Nothing ∷ actions.Post 0 0 0 ∷ actions.Post 1 1 0 ∷ actions.Shutdown ∷ actions.Post 2 1 0 ∷ [];
 }
 
@@ -316,23 +265,15 @@ shutdown_skips_and_blocks_log =
     []
 
 -- shutdown waits for block tasks, skips the others, and refuses posts once it is done
-shutdown_skips_and_blocks : IsRight shutdown_skips_and_blocks_script shutdown_skips_and_blocks_log
+abbrev shutdown_skips_and_blocks : Worked
+shutdown_skips_and_blocks = worked shutdown_skips_and_blocks_script shutdown_skips_and_blocks_log
     (codes "workers 1\nrunner 0 parallel user_visible skip\nrunner 1 parallel user_visible block\ntask 0 add 1\ntask 1 add 2\ntask 2 add 3\npolicy none\npost 0 0 0\npost 1 1 0\nshutdown\npost 2 1 0\n")
     (codes "0 0 policy none\n1 0 post 0 0 0 ok\n2 0 post 1 1 0 ok\n3 0 shutdown\n4 1 take 1 1 0\n5 1 end 1 2\n6 0 done\n7 0 post 2 1 0 no\n")
-unfolding judge read written
-shutdown_skips_and_blocks = record { reads = refl; writes = refl; judged = refl }
 
 abbrev block_task_posts_during_shutdown_script : Plan
-block_task_posts_during_shutdown_script = record {
-  workers = 1;
-  foreground = 4;
-  foreground_best = 2;
-  background = 0;
-  threshold = 1000000;
+block_task_posts_during_shutdown_script = record plain {
   runners = runner_of Parallel UserVisible BlockShutdown false ∷ [];
-  queues = [];
   tasks = (steps.Add 1 ∷ []) ∷ (steps.Add 2 ∷ steps.Post 0 0 0 ∷ []) ∷ [];
-  jobs = [];
   actions = actions.Policy policies.Nothing ∷ actions.Post 1 0 0 ∷ actions.Shutdown ∷ [];
 }
 
@@ -350,23 +291,15 @@ block_task_posts_during_shutdown_log =
     []
 
 -- a block task that runs during shutdown posts one, which shutdown waits for too
-block_task_posts_during_shutdown : IsRight block_task_posts_during_shutdown_script block_task_posts_during_shutdown_log
+abbrev block_task_posts_during_shutdown : Worked
+block_task_posts_during_shutdown = worked block_task_posts_during_shutdown_script block_task_posts_during_shutdown_log
     (codes "workers 1\nrunner 0 parallel user_visible block\ntask 0 add 1\ntask 1 add 2 ; post 0 0 0\npolicy none\npost 1 0 0\nshutdown\n")
     (codes "0 0 policy none\n1 0 post 1 0 0 ok\n2 0 shutdown\n3 1 take 1 0 0\n4 1 post 0 0 0 ok\n5 1 end 1 2\n6 1 take 0 0 0\n7 1 end 0 1\n8 0 done\n")
-unfolding judge read written
-block_task_posts_during_shutdown = record { reads = refl; writes = refl; judged = refl }
 
 abbrev delayed_work_does_not_block_script : Plan
-delayed_work_does_not_block_script = record {
-  workers = 1;
-  foreground = 4;
-  foreground_best = 2;
-  background = 0;
-  threshold = 1000000;
+delayed_work_does_not_block_script = record plain {
   runners = runner_of Parallel UserVisible BlockShutdown false ∷ [];
-  queues = [];
   tasks = (steps.Add 1 ∷ []) ∷ [];
-  jobs = [];
   actions = actions.Post 0 0 5 ∷ actions.Shutdown ∷ actions.Tick 1 ∷ [];
 }
 
@@ -379,23 +312,18 @@ delayed_work_does_not_block_log =
     []
 
 -- a delayed block task is a skip task
-delayed_work_does_not_block : IsRight delayed_work_does_not_block_script delayed_work_does_not_block_log
+abbrev delayed_work_does_not_block : Worked
+delayed_work_does_not_block = worked delayed_work_does_not_block_script delayed_work_does_not_block_log
     (codes "workers 1\nrunner 0 parallel user_visible block\ntask 0 add 1\npost 0 0 5\nshutdown\ntick 1\n")
     (codes "0 0 post 0 0 5 ok\n1 0 shutdown\n2 0 done\n3 0 tick 10\n")
-unfolding judge read written
-delayed_work_does_not_block = record { reads = refl; writes = refl; judged = refl }
 
 abbrev will_block_script : Plan
-will_block_script = record {
+will_block_script = record plain {
   workers = 2;
   foreground = 1;
   foreground_best = 1;
-  background = 0;
-  threshold = 1000000;
   runners = runner_of Parallel UserVisible SkipOnShutdown true ∷ [];
-  queues = [];
   tasks = (steps.Block Will ∷ steps.Add 1 ∷ steps.Unblock ∷ []) ∷ (steps.Add 2 ∷ []) ∷ [];
-  jobs = [];
   actions = actions.Post 0 0 0 ∷ actions.Post 1 0 0 ∷ actions.Flush ∷ [];
 }
 
@@ -413,11 +341,10 @@ will_block_log =
     []
 
 -- a scope that will block lets one more task run at once
-will_block : IsRight will_block_script will_block_log
+abbrev will_block : Worked
+will_block = worked will_block_script will_block_log
     (codes "workers 2\ngroups 1 1 0\nrunner 0 parallel user_visible skip mayblock\ntask 0 block will ; add 1 ; unblock\ntask 1 add 2\npost 0 0 0\npost 1 0 0\nflush\n")
     (codes "0 0 post 0 0 0 ok\n1 0 post 1 0 0 ok\n2 1 take 0 0 0\n3 1 block 0 will\n4 2 take 1 0 0\n5 2 end 1 2\n6 1 unblock 0\n7 1 end 0 1\n8 0 idle\n")
-unfolding judge read written
-will_block = record { reads = refl; writes = refl; judged = refl }
 
 abbrev no_room_before_the_scope_log : List Entry
 no_room_before_the_scope_log =
@@ -438,16 +365,13 @@ unfolding judge
 no_room_before_the_scope = refl
 
 abbrev may_block_script : Plan
-may_block_script = record {
+may_block_script = record plain {
   workers = 2;
   foreground = 1;
   foreground_best = 1;
-  background = 0;
   threshold = 5;
   runners = runner_of Parallel UserVisible SkipOnShutdown true ∷ [];
-  queues = [];
   tasks = (steps.Block May ∷ steps.Add 1 ∷ steps.Unblock ∷ []) ∷ (steps.Add 2 ∷ []) ∷ [];
-  jobs = [];
   actions = actions.Post 0 0 0 ∷ actions.Post 1 0 0 ∷ actions.Tick 2 ∷ actions.Flush ∷ [];
 }
 
@@ -467,11 +391,10 @@ may_block_log =
     []
 
 -- a scope that may block lets one more task run once it was open for the threshold
-may_block : IsRight may_block_script may_block_log
+abbrev may_block : Worked
+may_block = worked may_block_script may_block_log
     (codes "workers 2\ngroups 1 1 0\nthreshold 5\nrunner 0 parallel user_visible skip mayblock\ntask 0 block may ; add 1 ; unblock\ntask 1 add 2\npost 0 0 0\npost 1 0 0\ntick 2\nflush\n")
     (codes "0 0 post 0 0 0 ok\n1 0 post 1 0 0 ok\n2 1 take 0 0 0\n3 1 block 0 may\n4 0 tick 4\n5 0 tick 5\n6 2 take 1 0 0\n7 2 end 1 2\n8 1 unblock 0\n9 1 end 0 1\n10 0 idle\n")
-unfolding judge read written
-may_block = record { reads = refl; writes = refl; judged = refl }
 
 abbrev no_room_before_the_threshold_log : List Entry
 no_room_before_the_threshold_log =
@@ -492,3 +415,9 @@ no_room_before_the_threshold_log =
 no_room_before_the_threshold : first_illegal may_block_script no_room_before_the_threshold_log ≡ Some 5
 unfolding judge
 no_room_before_the_threshold = refl
+
+-- each of them is right
+pool_are_right : AreRight (first_run ∷ state_moves_along ∷ priority_before_posting_order ∷ foreground_holds_best_effort ∷ ties_by_post_place ∷ ripening_order ∷
+    shutdown_skips_and_blocks ∷ block_task_posts_during_shutdown ∷ delayed_work_does_not_block ∷ will_block ∷ may_block ∷ [])
+unfolding judge read written
+pool_are_right = refl

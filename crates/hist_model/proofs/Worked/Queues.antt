@@ -7,19 +7,13 @@ use Rattle.task_base.specs.declared.script.Action.TheVariants as actions
 use Rattle.task_base.specs.declared.script.FenceAt.TheVariants.{Now, Start}
 use Rattle.task_base.specs.declared.step.Step.TheVariants as steps
 use Rattle.std.specs.Prelude.{codes}
-use Rattle.hist_model.proofs.Worked.Rows.{judge, read, written, IsRight, queue_of, by}
+use Rattle.hist_model.proofs.Worked.Rows.{judge, read, written, Worked, worked, AreRight, queue_of, by, plain}
 
 abbrev fence_now_script : Plan
-fence_now_script = record {
+fence_now_script = record plain {
   workers = 2;
-  foreground = 4;
-  foreground_best = 2;
-  background = 0;
-  threshold = 1000000;
-  runners = [];
   queues = queue_of 3 0 ∷ [];
   tasks = (steps.Add 1 ∷ []) ∷ (steps.Add 2 ∷ []) ∷ [];
-  jobs = [];
   actions = actions.Main 0 0 0 ∷ actions.Fence 0 Now ∷ actions.Main 1 0 0 ∷ actions.Pump 5 ∷ actions.Unfence 0 ∷ actions.Pump 5 ∷ [];
 }
 
@@ -38,23 +32,16 @@ fence_now_log =
     []
 
 -- a fence holds back what is posted behind it
-fence_now : IsRight fence_now_script fence_now_log
+abbrev fence_now : Worked
+fence_now = worked fence_now_script fence_now_log
     (codes "queue 0 3 0\ntask 0 add 1\ntask 1 add 2\nmain 0 0 0\nfence 0 now\nmain 1 0 0\npump 5\nunfence 0\npump 5\n")
     (codes "0 0 main 0 0 0 ok\n1 0 fence 0 now\n2 0 main 1 0 0 ok\n3 0 maintake 0 0 0\n4 0 mainend 0 1\n5 0 mainnone\n6 0 unfence 0\n7 0 maintake 1 0 1\n8 0 mainend 1 3\n9 0 mainnone\n")
-unfolding judge read written
-fence_now = record { reads = refl; writes = refl; judged = refl }
 
 abbrev fence_replaced_script : Plan
-fence_replaced_script = record {
+fence_replaced_script = record plain {
   workers = 2;
-  foreground = 4;
-  foreground_best = 2;
-  background = 0;
-  threshold = 1000000;
-  runners = [];
   queues = queue_of 3 0 ∷ [];
   tasks = (steps.Add 1 ∷ []) ∷ (steps.Add 2 ∷ []) ∷ (steps.Add 4 ∷ []) ∷ [];
-  jobs = [];
   actions = actions.Main 0 0 0 ∷ actions.Fence 0 Start ∷ actions.Main 1 0 0 ∷ actions.Fence 0 Now ∷ actions.Main 2 0 0 ∷ actions.Pump 5 ∷ [];
 }
 
@@ -73,23 +60,16 @@ fence_replaced_log =
     []
 
 -- a new fence takes the place of the older one
-fence_replaced : IsRight fence_replaced_script fence_replaced_log
+abbrev fence_replaced : Worked
+fence_replaced = worked fence_replaced_script fence_replaced_log
     (codes "queue 0 3 0\ntask 0 add 1\ntask 1 add 2\ntask 2 add 4\nmain 0 0 0\nfence 0 start\nmain 1 0 0\nfence 0 now\nmain 2 0 0\npump 5\n")
     (codes "0 0 main 0 0 0 ok\n1 0 fence 0 start\n2 0 main 1 0 0 ok\n3 0 fence 0 now\n4 0 main 2 0 0 ok\n5 0 maintake 0 0 0\n6 0 mainend 0 1\n7 0 maintake 1 0 1\n8 0 mainend 1 3\n9 0 mainnone\n")
-unfolding judge read written
-fence_replaced = record { reads = refl; writes = refl; judged = refl }
 
 abbrev starvation_bound_script : Plan
-starvation_bound_script = record {
+starvation_bound_script = record plain {
   workers = 2;
-  foreground = 4;
-  foreground_best = 2;
-  background = 0;
-  threshold = 1000000;
-  runners = [];
   queues = queue_of 3 0 ∷ [];
   tasks = (steps.Add 1 ∷ []) ∷ (steps.Add 1 ∷ []) ∷ (steps.Add 1 ∷ []) ∷ (steps.Add 1 ∷ []) ∷ (steps.Add 1 ∷ []) ∷ [];
-  jobs = [];
   actions = actions.Main 0 0 1 ∷ actions.Main 1 0 1 ∷ actions.Main 2 0 1 ∷ actions.Main 3 0 1 ∷ actions.Tick 1 ∷ actions.Main 4 0 0 ∷ actions.Pump 5 ∷ [];
 }
 
@@ -114,23 +94,16 @@ starvation_bound_log =
     []
 
 -- after three delayed tasks in a row an immediate one goes first
-starvation_bound : IsRight starvation_bound_script starvation_bound_log
+abbrev starvation_bound : Worked
+starvation_bound = worked starvation_bound_script starvation_bound_log
     (codes "queue 0 3 0\ntask 0 add 1\ntask 1 add 1\ntask 2 add 1\ntask 3 add 1\ntask 4 add 1\nmain 0 0 1\nmain 1 0 1\nmain 2 0 1\nmain 3 0 1\ntick 1\nmain 4 0 0\npump 5\n")
     (codes "0 0 main 0 0 1 ok\n1 0 main 1 0 1 ok\n2 0 main 2 0 1 ok\n3 0 main 3 0 1 ok\n4 0 tick 10\n5 0 main 4 0 0 ok\n6 0 maintake 0 0 0\n7 0 mainend 0 1\n8 0 maintake 1 0 1\n9 0 mainend 1 2\n10 0 maintake 2 0 2\n11 0 mainend 2 3\n12 0 maintake 4 0 3\n13 0 mainend 4 4\n14 0 maintake 3 0 4\n15 0 mainend 3 5\n")
-unfolding judge read written
-starvation_bound = record { reads = refl; writes = refl; judged = refl }
 
 abbrev voters_and_closing_script : Plan
-voters_and_closing_script = record {
+voters_and_closing_script = record plain {
   workers = 2;
-  foreground = 4;
-  foreground_best = 2;
-  background = 0;
-  threshold = 1000000;
-  runners = [];
   queues = queue_of 3 1 ∷ [];
   tasks = (steps.Add 1 ∷ []) ∷ (steps.Add 1 ∷ []) ∷ [];
-  jobs = [];
   actions = actions.Vote 0 0 false ∷ actions.Main 0 0 0 ∷ actions.Pump 1 ∷ actions.Vote 0 0 true ∷ actions.Pump 1 ∷ actions.Close 0 ∷ actions.Main 1 0 0 ∷ [];
 }
 
@@ -147,23 +120,16 @@ voters_and_closing_log =
     []
 
 -- a queue with a voter off runs nothing, and a closed one refuses posts
-voters_and_closing : IsRight voters_and_closing_script voters_and_closing_log
+abbrev voters_and_closing : Worked
+voters_and_closing = worked voters_and_closing_script voters_and_closing_log
     (codes "queue 0 3 1\ntask 0 add 1\ntask 1 add 1\nvote 0 0 off\nmain 0 0 0\npump 1\nvote 0 0 on\npump 1\nclose 0\nmain 1 0 0\n")
     (codes "0 0 vote 0 0 off\n1 0 main 0 0 0 ok\n2 0 mainnone\n3 0 vote 0 0 on\n4 0 maintake 0 0 0\n5 0 mainend 0 1\n6 0 close 0\n7 0 main 1 0 0 no\n")
-unfolding judge read written
-voters_and_closing = record { reads = refl; writes = refl; judged = refl }
 
 abbrev classes_script : Plan
-classes_script = record {
+classes_script = record plain {
   workers = 2;
-  foreground = 4;
-  foreground_best = 2;
-  background = 0;
-  threshold = 1000000;
-  runners = [];
   queues = queue_of 3 0 ∷ queue_of 2 0 ∷ [];
   tasks = (steps.Add 1 ∷ []) ∷ (steps.Add 1 ∷ []) ∷ (steps.Add 1 ∷ []) ∷ [];
-  jobs = [];
   actions = actions.Main 0 0 0 ∷ actions.Main 1 1 0 ∷ actions.Pump 1 ∷ actions.Rank 0 0 ∷ actions.Main 2 1 0 ∷ actions.Pump 5 ∷ [];
 }
 
@@ -183,8 +149,12 @@ classes_log =
     []
 
 -- the least class with an open front goes first
-classes : IsRight classes_script classes_log
+abbrev classes : Worked
+classes = worked classes_script classes_log
     (codes "queue 0 3 0\nqueue 1 2 0\ntask 0 add 1\ntask 1 add 1\ntask 2 add 1\nmain 0 0 0\nmain 1 1 0\npump 1\nrank 0 0\nmain 2 1 0\npump 5\n")
     (codes "0 0 main 0 0 0 ok\n1 0 main 1 1 0 ok\n2 0 maintake 1 1 0\n3 0 mainend 1 1\n4 0 rank 0 0\n5 0 main 2 1 0 ok\n6 0 maintake 0 0 0\n7 0 mainend 0 1\n8 0 maintake 2 1 1\n9 0 mainend 2 2\n10 0 mainnone\n")
+
+-- each of them is right
+queues_are_right : AreRight (fence_now ∷ fence_replaced ∷ starvation_bound ∷ voters_and_closing ∷ classes ∷ [])
 unfolding judge read written
-classes = record { reads = refl; writes = refl; judged = refl }
+queues_are_right = refl

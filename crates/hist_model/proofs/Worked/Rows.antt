@@ -1,6 +1,6 @@
 -- How worked histories are checked: by computing, with all definitions open.
-use Rattle.std.proofs.Common.{◌≡◌, ℕ, Bool, true, List}
-use Rattle.std.specs.Prelude.{Option, None, Result, Ok}
+use Rattle.std.proofs.Common.{◌≡◌, ℕ, Bool, true, List, []}
+use Rattle.std.specs.Prelude.{Option, Some, None, Result, Ok, map}
 use Rattle.task_base.specs.Plan.{Plan, JobPlan}
 use Rattle.task_base.specs.declared.entry.Entry.{Entry}
 use Rattle.task_base.specs.declared.entry.Kind.{Kind}
@@ -38,12 +38,17 @@ use Rattle.std.specs.Fmt.{digits}
 -- whether the history is legal, whether it is whole, and the least place that is not allowed, with all that this
 -- takes open
 unfoldable pub judge : Plan → List Entry → Bool × Bool × Option ℕ
-unfolding fold_past now_of tick_from posts main_posts is_taken is_ended is_main_taken phase_of policy_of is_closed ready eligible head_of running holding is_quiet runs_sequence inside acts_done cell_of main_cell_of open_scope load capacity best_load best_capacity has_room job_post_of is_cancelled claimed done job_sum may_enter would_wait waiting best_of leaves block_part skip_part blockers_of ripening draws order_of fence_of votes_on class_of front_of open_fronts of_least_class streak_of choice_among current is_wanted is_finished by_script by_task may_come is_legal first_illegal
+unfolding fold_past now_of tick_from posts main_posts is_taken is_ended is_main_taken phase_of policy_of is_closed ready eligible head_of running holding
+    is_quiet runs_sequence inside acts_done cell_of main_cell_of open_scope load capacity best_load best_capacity has_room job_post_of is_cancelled claimed done
+    job_sum may_enter would_wait waiting best_of leaves block_part skip_part blockers_of ripening draws order_of fence_of votes_on class_of front_of open_fronts
+    of_least_class streak_of choice_among current is_wanted is_finished by_script by_task may_come is_legal first_illegal
 judge script log = (is_legal script log, is_whole script log, first_illegal script log)
 
 -- the script that the bytes are, with all that this takes open
 unfoldable pub read : List ℕ → Result Plan (ℕ × ℕ)
-unfolding number_from kind_named step_said steps_read workers_line groups_line threshold_line runner_line queue_line task_line job_line post_line main_line tick_line policy_line fence_line unfence_line vote_line rank_line close_line pump_line flush_line start_job_line join_line cancel_line shutdown_line queue_command_read action_command_read command_read words_read lines_read script_read
+unfolding number_from kind_named step_said steps_read workers_line groups_line threshold_line runner_line queue_line task_line job_line post_line main_line
+    tick_line policy_line fence_line unfence_line vote_line rank_line close_line pump_line flush_line start_job_line join_line cancel_line shutdown_line
+    queue_command_read action_command_read command_read words_read lines_read script_read
 read bytes = script_read bytes
 
 -- the text of the log
@@ -51,11 +56,44 @@ unfoldable pub written : List Entry → List ℕ
 unfolding log_text digits
 written log = log_text log
 
--- the first text is the script, the second the log, and the log is legal and whole for the script
-pub record IsRight (script : Plan) (log : List Entry) (text lines : List ℕ) : Type 0 where
-  pub reads : read text ≡ Ok script
-  pub writes : written log ≡ lines
-  pub judged : judge script log ≡ (true, true, None)
+-- a history that was worked out: its script and its entries, and the text of each
+pub record Worked : Type 0 where
+  pub script : Plan
+  pub log : List Entry
+  pub text : List ℕ
+  pub lines : List ℕ
+
+abbrev pub worked : Plan → List Entry → List ℕ → List ℕ → Worked
+worked script log text lines = record { script = script; log = log; text = text; lines = lines }
+
+-- what its texts and its entries are found to be: the script of the first text, the text of the entries, and the judgement
+abbrev Findings : Type 0
+Findings = Result Plan (ℕ × ℕ) × List ℕ × (Bool × Bool × Option ℕ)
+
+abbrev found : Worked → Findings
+found w = (read w.text, written w.log, judge w.script w.log)
+
+abbrev wanted : Worked → Findings
+wanted w = (Ok w.script, w.lines, (true, true, None))
+
+-- the first text of each is its script, the second its log, and the log is legal and whole for the script
+abbrev pub AreRight : List Worked → Type 0
+AreRight rows = map found rows ≡ map wanted rows
+
+-- a script that says nothing, of which the others differ by what they say
+abbrev pub plain : Plan
+plain = record {
+  workers = 1;
+  foreground = 4;
+  foreground_best = 2;
+  background = 0;
+  threshold = 1000000;
+  runners = [];
+  queues = [];
+  tasks = [];
+  jobs = [];
+  actions = [];
+}
 
 abbrev pub runner_of : RunnerKind → Priority → Behaviour → Bool → Runner
 runner_of kind priority behaviour may_block = record { kind = kind; traits = record { priority = priority; behaviour = behaviour; may_block = may_block } }
@@ -68,3 +106,15 @@ job_of priority behaviour items cap steps = record { priority = priority; behavi
 
 abbrev pub by : ℕ → Kind → Entry
 by seat kind = record { seat = seat; kind = kind }
+
+-- a history, and the least place in it that is not allowed
+pub record Refused : Type 0 where
+  pub log : List Entry
+  pub place : ℕ
+
+abbrev pub at : ℕ → List Entry → Refused
+at place log = record { log = log; place = place }
+
+-- each of the histories has its place
+abbrev pub AreRefused : Plan → List Refused → Type 0
+AreRefused script rows = map (λ r. first_illegal script r.log) rows ≡ map (λ r. Some r.place) rows

@@ -12,10 +12,10 @@ use Rattle.task_base.specs.Runners.{sequence_of}
 use Rattle.task_model.specs.Sequences.{is_of, may_start, head_of}
 use Rattle.task_model.specs.Seats.{runs_sequence, is_free}
 use Rattle.task_model.specs.Cells.{cell_of, main_cell_of}
-use Rattle.task_model.specs.Jobs.{may_enter}
+use Rattle.task_model.specs.Jobs.{MayEnter}
 use Rattle.task_model.specs.Sources.{Candidate, is_takeable}
 use Rattle.task_model.specs.Orders.{order_of}
-use Rattle.task_model.specs.MainQueues.{Front, is_open}
+use Rattle.task_model.specs.MainQueues.{Front, IsOpen}
 
 -- a head is an accepted task of its sequence, with its key, which has not been taken and may start in the phase
 pub record IsHead (script : Plan) (past : List Entry) (s : ℕ) (head : Ready) : Type 0 where
@@ -27,7 +27,7 @@ pub record IsHead (script : Plan) (past : List Entry) (s : ℕ) (head : Ready) :
 -- a sequence that does not run and has a head, or a job that may be entered
 abbrev pub IsWaitingSource : Plan → List Entry → TaskSource → Type 0
 IsWaitingSource script past (Sequence s) = (head : Ready) × (head_of script past s ≡ Some head) × (runs_sequence script past s ≡ false)
-IsWaitingSource script past (Job j) = may_enter script past j ≡ true
+IsWaitingSource script past (Job j) = MayEnter script past j
 
 -- what a seat may take waits, is not held back by the policy, and has room; so does its best source
 pub record MayBeTaken (script : Plan) (past : List Entry) (seat : ℕ) (c : Candidate) : Type 0 where
@@ -48,7 +48,7 @@ pub record IsFront (past : List Entry) (f : Front) : Type 0 where
 pub record IsMainTake (script : Plan) (past : List Entry) (seat task queue found : ℕ) : Type 0 where
   pub front : Front
   pub is_front : IsFront past front
-  pub opened : is_open script past front ≡ true
+  pub opened : IsOpen script past front
   pub task_is : front.task ≡ task
   pub queue_is : front.queue ≡ queue
   pub found_is : found ≡ main_cell_of past queue

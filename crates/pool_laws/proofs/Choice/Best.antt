@@ -11,7 +11,7 @@ use Rattle.task_base.specs.Groups.{importance}
 use Rattle.task_model.specs.Sources.{Candidate, waiting, is_takeable, goes_before, best_of}
 use Rattle.pool_laws.specs.Choice.{IsBest}
 use Rattle.pool_laws.proofs.Choice.Least.{best_is_best, no_best, keys_total}
-use Rattle.list_laws.proofs.Least.{tied}
+use Rattle.list_laws.proofs.Ranks.{tied}
 use Rattle.pool_laws.proofs.Choice.Sources.{one_key}
 
 -- two between which the order decides neither way have one key

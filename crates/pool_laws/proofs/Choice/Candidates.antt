@@ -32,8 +32,10 @@ use Rattle.task_model.specs.Sources.{Candidate, sequence_candidate, sequence_wai
 use Rattle.pool_laws.specs.Seats.{moves_main, runs_pool_task}
 use Rattle.pool_laws.specs.Jobs.{moves_jobs}
 use Rattle.pool_laws.specs.Choice.{source_waiting, WouldWait, IsFree, moves_sequence_waiting, moves_held, moves_sources, moves_waiting}
-use Rattle.list_laws.proofs.Lists.{some-injective, filter_congr, filter_always, filter_map_never, filter_map_congr_in, AllByRecursion-range}
-use Rattle.list_laws.proofs.Members.{filter_contains, contains_filter, filter_map_contains, contains_filter_map, contains_range, range_contains}
+use Rattle.list_laws.proofs.Filters.{filter_congr, filter_always, filter_map_never, filter_map_congr_in}
+use Rattle.list_laws.proofs.Made.{filter_contains, contains_filter, filter_map_contains, contains_filter_map, contains_range, range_contains}
+use Rattle.list_laws.proofs.Ranges.{AllByRecursion-range}
+use Rattle.list_laws.proofs.Values.{some-injective}
 use Rattle.pool_laws.proofs.Jobs.Answers.{job_at_main, job_same, job_waiting_kept}
 use Rattle.pool_laws.proofs.Choice.Waiting.{sequence_waiting_same, sequence_waiting_at_main, sequence_waiting_at_done}
 use Rattle.pool_laws.proofs.Choice.Entering.{shut_at_done}

@@ -20,8 +20,9 @@ use Rattle.pool_laws.specs.Keys.{is_task_of}
 use Rattle.pool_laws.specs.Seats.{IsSeat, holds_job}
 use Rattle.pool_laws.specs.Jobs.{moves_jobs}
 use Rattle.pool_laws.specs.Choice.{source_waiting, WouldWait, OthersKept, DifferAt, moves_sequence_waiting}
-use Rattle.list_laws.proofs.Lists.{filter_map_congr_in, AllByRecursion-range}
-use Rattle.list_laws.proofs.Members.{filter_map_at}
+use Rattle.list_laws.proofs.Filters.{filter_map_congr_in}
+use Rattle.list_laws.proofs.Made.{filter_map_at}
+use Rattle.list_laws.proofs.Ranges.{AllByRecursion-range}
 use Rattle.pool_laws.proofs.Jobs.Answers.{job_same, job_waiting_kept, job_at_other_post, job_at_other_take, job_at_other_step, job_at_other_cancel}
 use Rattle.pool_laws.proofs.Choice.Waiting.{sequence_waiting_same, sequence_waiting_at_other_post, sequence_waiting_at_delayed_post, sequence_waiting_at_other_take, sequence_waiting_at_other_end}
 use Rattle.pool_laws.proofs.Choice.Candidates.{would_wait_is_candidate, candidate_would_wait, would_wait_by_sources, sequence_in, job_in}

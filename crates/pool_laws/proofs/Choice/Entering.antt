@@ -28,7 +28,7 @@ use Rattle.pool_laws.specs.Seats.{moves_holding, IsSeat, holds_job}
 use Rattle.pool_laws.specs.Choice.{may_enter_with, job_candidate_with, JobBy, IsShut}
 use Rattle.pool_laws.specs.Jobs.{posts_job}
 use Rattle.pool_laws.proofs.Jobs.Answers.{post_stays}
-use Rattle.list_laws.proofs.Lists.{eqb-same}
+use Rattle.list_laws.proofs.Values.{eqb-same}
 use Rattle.task_model.proofs.Growth.{phase_of_push, job_post_of_push, is_cancelled_push, claimed_push, done_push}
 use Rattle.pool_laws.proofs.Seats.Running.{inside_same, inside_at_take, inside_at_step, inside_at_leave}
 

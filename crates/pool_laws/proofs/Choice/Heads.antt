@@ -12,12 +12,12 @@ use Rattle.task_model.specs.Sequences.{eligible, head_of}
 use Rattle.pool_laws.specs.Seats.{moves_running}
 use Rattle.pool_laws.specs.Keys.{ready_below}
 use Rattle.list_laws.specs.Lists.{IsLeast}
-use Rattle.list_laws.proofs.Lists.{some-injective}
+use Rattle.list_laws.proofs.Made.{contains_filter, contains_not_empty}
+use Rattle.list_laws.proofs.Values.{some-injective}
 use Rattle.pool_laws.proofs.Choice.Least.{head_is_least, no_head, keys_total}
 use Rattle.pool_laws.proofs.Keys.Sequences.{eligible_at_shutdown}
 use Rattle.pool_laws.proofs.Seats.Running.{runs_same}
 use Rattle.pool_laws.proofs.Choice.Waiting.{sequence_waiting_kept}
-use Rattle.list_laws.proofs.Members.{contains_filter, contains_not_empty}
 use Rattle.task_model.specs.Sources.{sequence_waiting}
 use Rattle.pool_laws.proofs.Choice.Posts.{eligible_names_post}
 use Rattle.pool_laws.specs.Choice.{post_at}

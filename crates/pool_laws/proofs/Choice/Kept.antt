@@ -16,7 +16,7 @@ use Rattle.pool_laws.specs.Seats.{moves_main, moves_running, moves_holding, runs
 use Rattle.pool_laws.specs.Room.{moves_capacity, moves_room}
 use Rattle.pool_laws.specs.Jobs.{moves_jobs, JobKept}
 use Rattle.pool_laws.specs.Choice.{moves_waiting, moves_best}
-use Rattle.list_laws.proofs.Lists.{filter_congr}
+use Rattle.list_laws.proofs.Filters.{filter_congr}
 use Rattle.pool_laws.proofs.Jobs.Answers.{job_at_main, job_same}
 use Rattle.pool_laws.proofs.Room.Capacity.{load_same, load_at_driver, capacity_same, capacity_at_main, has_room_same, room_at_main}
 use Rattle.pool_laws.proofs.Choice.Candidates.{source_waits, waiting_same, waiting_at_main}

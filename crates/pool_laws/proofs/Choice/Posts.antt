@@ -16,9 +16,9 @@ use Rattle.task_model.specs.Posts.{Posted, is_delayed, post_behind, posted_by, p
 use Rattle.task_model.specs.Keys.{Ready, key_at, key_of, ready}
 use Rattle.task_model.specs.Sequences.{is_of, may_start, eligible}
 use Rattle.pool_laws.specs.Choice.{post_by, post_at}
-use Rattle.list_laws.proofs.Lists.{AllByRecursion-append, AllByRecursion-map, AllByRecursion-filter_map}
-use Rattle.list_laws.proofs.Places.{slice_get-more, slice_get-end, by_pushes}
-use Rattle.list_laws.proofs.Members.{filter_contains}
+use Rattle.list_laws.proofs.Elements.{AllByRecursion-append, AllByRecursion-map, AllByRecursion-filter_map, slice_get-end, push_induction}
+use Rattle.list_laws.proofs.Made.{filter_contains}
+use Rattle.list_laws.proofs.Places.{slice_get-more}
 use Rattle.task_model.proofs.Growth.{posts_push}
 use Rattle.std.proofs.lemmas.List.{take-append-le}
 use Rattle.std.proofs.Math.Seq.{take-append_seam}
@@ -31,7 +31,7 @@ no_posts = refl
 pub AllByRecursion-posts : (P : List Entry → Posted → Type 0) → ((past : List Entry) (e : Entry) (p : Posted) → P past p → P (past ++ e ∷ []) p)
     → ((past : List Entry) (e : Entry) (task runner delay : ℕ) → e.kind ≡ Post task runner delay true
     → P (past ++ e ∷ []) (post_behind past task runner delay)) → (past : List Entry) → AllByRecursion (P past) (posts past)
-AllByRecursion-posts P more new = by_pushes (λ past. AllByRecursion (P past) (posts past)) (rw no_posts tt)
+AllByRecursion-posts P more new = push_induction (λ past. AllByRecursion (P past) (posts past)) (rw no_posts tt)
     (λ past e all. rw (posts_push past e) (AllByRecursion-append (P (past ++ e ∷ [])) (posts past) (posted_by past e.kind)
     (AllByRecursion-map (P past) (P (past ++ e ∷ [])) (posts past) (λ p h. more past e p h) all) (added past e e.kind refl)))
   where

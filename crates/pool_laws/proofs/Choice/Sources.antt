@@ -19,10 +19,11 @@ use Rattle.task_model.specs.Sequences.{is_of, head_of}
 use Rattle.task_model.specs.Jobs.{JobPosted, job_post_of, job_post_after}
 use Rattle.task_model.specs.Sources.{Candidate, IsWaiting}
 use Rattle.pool_laws.specs.Choice.{source_waiting, posted_source, source_at, WouldWait, post_by, post_at}
-use Rattle.list_laws.proofs.Lists.{some-injective}
+use Rattle.list_laws.proofs.Elements.{slice_get-end, push_induction}
+use Rattle.list_laws.proofs.Places.{slice_get-more}
+use Rattle.list_laws.proofs.Values.{some-injective}
 use Rattle.pool_laws.proofs.Choice.Least.{head_is_least}
 use Rattle.pool_laws.proofs.Choice.Candidates.{waiting_is_not_held, would_wait_is_candidate, waiting_sequence, waiting_job, sequence_within, job_within}
-use Rattle.list_laws.proofs.Places.{slice_get-more, slice_get-end, by_pushes}
 use Rattle.task_model.proofs.Growth.{job_post_of_push}
 use Rattle.pool_laws.proofs.Choice.Posts.{eligible_names_post}
 
@@ -69,7 +70,7 @@ unfolding job_post_of fold_past
 no_job_post j = refl
 
 job_post_stands : (script : Plan) (past : List Entry) (j : ℕ) → IfSome (job_post_of past j) (job_stands script past j)
-job_post_stands script past j = by_pushes (λ before. IfSome (job_post_of before j) (job_stands script before j)) (rw (no_job_post j) tt)
+job_post_stands script past j = push_induction (λ before. IfSome (job_post_of before j) (job_stands script before j)) (rw (no_job_post j) tt)
     (λ before e h. rw (job_post_of_push before e j) (new before e (job_post_of before j) h e.kind refl)) past
   where
     first : (before : List Entry) (e : Entry) (job : ℕ) (ok : Bool) → e.kind ≡ JobPost job ok → (b : Bool) → eqb job j ≡ b

@@ -13,13 +13,13 @@ use Rattle.task_base.specs.declared.entry.Kind.{Kind}
 use Rattle.task_base.specs.declared.entry.Kind.TheVariants as kinds
 use Rattle.list_laws.specs.Lists.{holds_of, least}
 use Rattle.task_model.specs.Posts.{posts}
-use Rattle.task_model.specs.Keys.{Ready}
+use Rattle.task_model.specs.Keys.{Ready, ready_behind}
 use Rattle.task_model.specs.Refusal.{is_forbidden}
 use Rattle.task_base.specs.Runners.{sequence_of}
 use Rattle.task_model.specs.Sequences.{head_of, eligible}
 use Rattle.task_model.specs.Seats.{runs_sequence, running, runs_of}
 use Rattle.task_model.specs.Sources.{sequence_candidate, sequence_waiting}
-use Rattle.pool_laws.specs.Keys.{ready_behind, moves_sequences, joins, is_task_of, is_unripe, ready_below}
+use Rattle.pool_laws.specs.Keys.{moves_sequences, joins, is_task_of, is_unripe, ready_below}
 use Rattle.pool_laws.specs.Seats.{moves_main, moves_running, runs_pool_task, IsSeat}
 use Rattle.pool_laws.specs.Choice.{moves_sequence_waiting}
 use Rattle.pool_laws.proofs.Keys.Sequences.{head_same, head_at_post, head_at_delayed_post, head_at_other_tick, head_at_other_take, head_at_shutdown, head_at_done}

@@ -10,10 +10,10 @@ use Rattle.task_base.specs.declared.entry.Entry.{Entry}
 use Rattle.list_laws.specs.Lists.{IsFirst, holds_of}
 use Rattle.task_model.specs.Seats.{Holding, holding, all_seats, inside}
 use Rattle.task_model.specs.Jobs.{holds_id, is_free_id, free_id}
-use Rattle.list_laws.proofs.Lists.{find_congr, list_all_congr}
+use Rattle.list_laws.proofs.Pigeons.{first_free, first_is_one, list_all-not}
+use Rattle.list_laws.proofs.Tests.{find_congr, list_all_congr}
 use Rattle.pool_laws.proofs.Seats.Running.{holding_same, inside_same}
 use Rattle.pool_laws.specs.Seats.{moves_holding}
-use Rattle.list_laws.proofs.Pigeons.{first_free, first_is_one, list_all-not}
 
 -- a seat inside has one number
 one_number : (j : ℕ) (o : Option Holding) (m n : ℕ) → holds_id j m o ≡ true → holds_id j n o ≡ true → m ≡ n

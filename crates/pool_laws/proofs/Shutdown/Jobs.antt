@@ -21,8 +21,10 @@ use Rattle.pool_laws.specs.Room.{share}
 use Rattle.pool_laws.specs.Jobs.{posts_job, JobKept}
 use Rattle.pool_laws.specs.Shutdown.{moves_open_jobs}
 use Rattle.task_model.proofs.Growth.{job_post_of_push, is_cancelled_push, done_push}
-use Rattle.list_laws.proofs.Lists.{eqb-same, filter_length_congr, count_change, range_with}
-use Rattle.list_laws.proofs.Members.{contains_filter, contains_range}
+use Rattle.list_laws.proofs.Counts.{filter_length_congr, count_change}
+use Rattle.list_laws.proofs.Made.{contains_filter, contains_range}
+use Rattle.list_laws.proofs.Ranges.{range_with}
+use Rattle.list_laws.proofs.Values.{eqb-same}
 use Rattle.pool_laws.proofs.Seats.Running.{holding_same, holding_here, holding_other, seat_once, inside_same}
 use Rattle.pool_laws.proofs.Jobs.Answers.{post_stays, job_at_other_post, job_at_other_take, job_at_other_step, job_at_other_cancel}
 

@@ -20,8 +20,11 @@ use Rattle.task_model.specs.Blockers.{open_blocks, running_skips, is_block, is_s
 use Rattle.pool_laws.specs.Room.{share}
 use Rattle.pool_laws.specs.Shutdown.{moves_open_blocks, moves_running_skips, is_block_task, is_skip_task}
 use Rattle.task_model.proofs.Growth.{posts_push, is_taken_push, is_ended_push}
-use Rattle.list_laws.proofs.Lists.{eqb-same, some-injective, AllByRecursion-map, filter_congr_in, filter_length_congr, count-cons}
-use Rattle.list_laws.proofs.Counts.{count-push}
+use Rattle.list_laws.proofs.Counts.{filter_length_congr, count-cons}
+use Rattle.list_laws.proofs.Elements.{AllByRecursion-map}
+use Rattle.list_laws.proofs.Filters.{filter_congr_in}
+use Rattle.list_laws.proofs.Places.{count-push}
+use Rattle.list_laws.proofs.Values.{eqb-same, some-injective}
 
 -- tests that agree on all tasks but one, over posts that are each of another task
 count_at : (f g : Posted → Bool) (t : ℕ) (xs : List Posted) (p : Posted) → InOrder xs → find (λ q. eqb q.task t) xs ≡ Some p

@@ -1,0 +1,49 @@
+-- What is found and counted in a list.
+use Rattle.std.proofs.Common.{◌≡◌, ℕ, ◌≤◌, Bool, true, false, cond, List, [], ◌∷◌, length, refl, sym, ap, ◌∙◌, Some, None, arith}
+use Rattle.std.specs.Prelude.{filter, find, is_some, Contains}
+use Rattle.std.specs.List.{AllByRecursion}
+use Rattle.std.proofs.lemmas.Bool.{both_ways, true≢false}
+use Rattle.std.proofs.lemmas.List.Elements.{All-from_recursion, All-contains}
+use Rattle.std.proofs.lemmas.Option.{none-some, same_Some}
+use Rattle.list_laws.specs.Lists.{count}
+
+-- what is found passes the test
+pub find_passes : {A : Type 0} (p : A → Bool) (xs : List A) (x : A) → find p xs ≡ Some x → p x ≡ true
+find_passes p [] x h = absurd (none-some x h)
+find_passes p (y ∷ ys) x h = at (p y) refl (find_passes p ys x) h
+  where
+    at : (b : Bool) → p y ≡ b → (find p ys ≡ Some x → p x ≡ true) → cond b (Some y) (find p ys) ≡ Some x → p x ≡ true
+    at true is rest k = ap p (sym (same_Some y x k)) ∙ is
+    at false is rest k = rest k
+
+-- where none is counted, each fails the test
+pub none_counted : {A : Type 0} (p : A → Bool) (xs : List A) → count p xs ≡ 0 → AllByRecursion (λ x. p x ≡ false) xs
+none_counted p [] h = tt
+none_counted p (x ∷ xs) h = at (p x) refl (none_counted p xs) h
+  where
+    at : (b : Bool) → p x ≡ b → (count p xs ≡ 0 → AllByRecursion (λ y. p y ≡ false) xs) → length (cond b (x ∷ filter p xs) (filter p xs)) ≡ 0
+        → AllByRecursion (λ y. p y ≡ false) (x ∷ xs)
+    at true is rest none = absurd (omega (arith, none))
+    at false is rest none = (is, rest none)
+
+-- where none is counted, none is found
+pub none_found : {A : Type 0} (p : A → Bool) (xs : List A) → count p xs ≡ 0 → find p xs ≡ None
+none_found p [] h = refl
+none_found p (x ∷ xs) h = at (p x) (none_found p xs) h
+  where
+    at : (b : Bool) → (count p xs ≡ 0 → find p xs ≡ None) → length (cond b (x ∷ filter p xs) (filter p xs)) ≡ 0
+        → cond b (Some x) (find p xs) ≡ None
+    at true rest none = absurd (omega (arith, none))
+    at false rest none = rest none
+
+one_at_least : (n : ℕ) → (n ≡ 0 → ⊥) → 1 ≤ n
+one_at_least n h = grind (arith, h)
+
+-- an element that passes the test is counted
+pub contained_counts : {A : Type 0} (p : A → Bool) (xs : List A) (x : A) → Contains xs x → p x ≡ true → 1 ≤ count p xs
+contained_counts p xs x among passes = one_at_least (count p xs) (λ none.
+    both_ways (p x) (All-contains (λ y. p y ≡ false) xs x (All-from_recursion (λ y. p y ≡ false) xs (none_counted p xs none)) among) passes)
+
+-- so is one that is found
+pub found_counts : {A : Type 0} (p : A → Bool) (xs : List A) → is_some (find p xs) ≡ true → 1 ≤ count p xs
+found_counts p xs h = one_at_least (count p xs) (λ none. true≢false (sym h ∙ ap is_some (none_found p xs none)))

@@ -1,0 +1,17 @@
+-- Equal numbers and options.
+use Rattle.std.proofs.Common.{◌≡◌, ℕ, true, eqb, refl, ap, Option, Some, None, arith}
+use Rattle.std.specs.Option.{option_map_or, option_or}
+
+-- a number is equal to itself, as a test
+pub eqb-same : (n : ℕ) → eqb n n ≡ true
+eqb-same n = grind arith
+
+pub some-injective : {A : Type 0} {x y : A} → Some x ≡ Some y → x ≡ y
+some-injective {A} {x} {y} is = ap (λ o. option_map_or (λ z. z) o x) is
+
+pub eqb-turned : (a b : ℕ) → eqb a b ≡ eqb b a
+eqb-turned a b = grind arith
+
+pub option_or-none : {A : Type 0} (o : Option A) → option_or o None ≡ o
+option_or-none (Some x) = refl
+option_or-none None = refl
