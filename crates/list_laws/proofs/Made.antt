@@ -5,7 +5,7 @@ use Rattle.std.specs.Option.{IfSome}
 use Rattle.std.specs.List.{filter_map, cons_option, range_with_len, AllByRecursion}
 use Rattle.std.proofs.lemmas.List.Elements.{All-from_recursion, recursion_from_All, All-contains, All-contains_itself, All-filter, filter_passes, filter_map-append}
 use Rattle.std.proofs.lemmas.List.FromFn.{length-range_with_len, get_or-range_with_len}
-use Rattle.list_laws.proofs.Elements.{AllByRecursion-filter_map, AllByRecursion-map, unfiltered}
+use Rattle.list_laws.proofs.Elements.{AllByRecursion-made, AllByRecursion-filter_map, AllByRecursion-map, unfiltered}
 use Rattle.list_laws.proofs.Filters.{filter_map_congr_in}
 use Rattle.list_laws.proofs.Ranges.{AllByRecursion-range, range_split}
 
@@ -37,21 +37,11 @@ filter_map_contains {A = A} {B = B} f xs y h =
     made x at None is = tt
     made x at (Some z) is = (x, at, is)
 
--- what holds of all that is made of a list holds of what is made of each element
-unmade : {A B : Type 0} (P : B → Type 0) (f : A → Option B) (xs : List A) → AllByRecursion P (filter_map f xs) → AllByRecursion (λ x. IfSome (f x) P) xs
-unmade P f [] h = tt
-unmade {B = B} P f (x ∷ xs) h = by (f x) h (unmade P f xs)
-  where
-    by : (o : Option B) → AllByRecursion P (cons_option o (filter_map f xs)) → (AllByRecursion P (filter_map f xs) → AllByRecursion (λ y. IfSome (f y) P) xs)
-        → IfSome o P × AllByRecursion (λ y. IfSome (f y) P) xs
-    by None all rest = (tt, rest all)
-    by (Some y) all rest = (all.0, rest all.1)
-
 -- and what is made of one of the elements is in that list
 pub contains_filter_map : {A B : Type 0} (f : A → Option B) (xs : List A) (x : A) (y : B) → Contains xs x → f x ≡ Some y → Contains (filter_map f xs) y
 contains_filter_map f xs x y h is =
     let made : IfSome (f x) (Contains (filter_map f xs)) = All-contains (λ z. IfSome (f z) (Contains (filter_map f xs))) xs x
-    (All-from_recursion (λ z. IfSome (f z) (Contains (filter_map f xs))) xs (unmade (Contains (filter_map f xs)) f xs
+    (All-from_recursion (λ z. IfSome (f z) (Contains (filter_map f xs))) xs (AllByRecursion-made (Contains (filter_map f xs)) f xs
     (recursion_from_All (Contains (filter_map f xs)) (filter_map f xs) (All-contains_itself (filter_map f xs))))) h in
     rw is at made
 

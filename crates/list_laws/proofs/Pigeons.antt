@@ -9,6 +9,7 @@ use Rattle.std.proofs.lemmas.Option.{none-some}
 use Rattle.std.proofs.lemmas.List.Filters.{length-filter_both}
 use Rattle.std.proofs.lemmas.List.FromFn.{length-range_with_len}
 use Rattle.list_laws.specs.Lists.{count, IsFirst}
+use Rattle.list_laws.proofs.Tests.{find-none}
 use Rattle.list_laws.proofs.Counts.{count_mono}
 use Rattle.list_laws.proofs.Elements.{AllByRecursion-filter, AllByRecursion-map, AllByRecursion-both}
 use Rattle.list_laws.proofs.Filters.{filter-filter, filter_passes, filter_none}
@@ -96,17 +97,6 @@ found_in_range p start (suc len) n found = by (p start) refl found (found_in_ran
         at m from (inl same) later = ap p same ∙ other
         at m from (inr another) later = later (omega arith)
 
--- where nothing is found in a row of numbers, none of it passes
-pub none_in_range : (p : ℕ → Bool) (start len : ℕ) → find p (range_with_len start len) ≡ None → AllByRecursion (λ i. p i ≡ false) (range_with_len start len)
-none_in_range p start zero none = tt
-none_in_range p start (suc len) none = by (p start) refl none (none_in_range p (start + 1) len)
-  where
-    by : (b : Bool) → p start ≡ b → cond b (Some start) (find p (range_with_len (start + 1) len)) ≡ None
-        → (find p (range_with_len (start + 1) len) ≡ None → AllByRecursion (λ i. p i ≡ false) (range_with_len (start + 1) len))
-        → (p start ≡ false) × AllByRecursion (λ i. p i ≡ false) (range_with_len (start + 1) len)
-    by true here is rest = absurd (none-some start (sym is))
-    by false other is rest = (other, rest is)
-
 -- there is at most one first number that passes
 pub first_is_one : (p : ℕ → Bool) (m n : ℕ) → IsFirst p m → IsFirst p n → m ≡ n
 first_is_one p m n first also = by (cases_order m n)
@@ -130,7 +120,7 @@ first_free has xs one = by (find (λ i. not (list_any (has i) xs)) (range_with_l
       arith,
       numbers_fit has xs (length xs + 1) one (AllByRecursion-map (λ i. not (list_any (has i) xs) ≡ false)
           (λ i. list_any (has i) xs ≡ true) (range_with_len 0 (length xs + 1)) (λ i h. not-false (list_any (has i) xs) h)
-          (none_in_range (λ i. not (list_any (has i) xs)) 0 (length xs + 1) none)),
+          (find-none (λ i. not (list_any (has i) xs)) (range_with_len 0 (length xs + 1)) none)),
     ))
     by (Some n) found =
         let first : (not (list_any (has n) xs) ≡ true) × (n < 0 + (length xs + 1)) × ((m : ℕ) → 0 ≤ m → m < n → not (list_any (has m) xs) ≡ false) =

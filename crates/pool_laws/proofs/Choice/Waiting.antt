@@ -22,6 +22,7 @@ use Rattle.task_model.specs.Sources.{sequence_candidate, sequence_waiting}
 use Rattle.pool_laws.specs.Keys.{moves_sequences, joins, is_task_of, is_unripe, ready_below}
 use Rattle.pool_laws.specs.Seats.{moves_main, moves_running, runs_pool_task, IsSeat}
 use Rattle.pool_laws.specs.Choice.{moves_sequence_waiting}
+use Rattle.list_laws.proofs.Values.{option_or-none}
 use Rattle.pool_laws.proofs.Keys.Sequences.{head_same, head_at_post, head_at_delayed_post, head_at_other_tick, head_at_other_take, head_at_shutdown, head_at_done}
 use Rattle.pool_laws.proofs.Seats.Running.{runs_same, runs_at_main, runs_at_take, runs_at_end, runs_at_other_end}
 use Rattle.task_model.specs.Time.{now_of, tick_from}
@@ -83,11 +84,7 @@ pub sequence_waiting_at_other_post : (script : Plan) (past : List Entry) (e : En
     → (sequence_of script runner task == s) ≡ false → sequence_waiting script (past ++ e ∷ []) s ≡ sequence_waiting script past s
 sequence_waiting_at_other_post script past e s task runner delay is immediate other =
     sequence_waiting_kept script past (past ++ e ∷ []) s (runs_same script past e s (ap moves_running is))
-    (rw (head_at_post script past e s task runner delay is immediate, other) (or-none (head_of script past s)))
-  where
-    or-none : (o : Option Ready) → option_or o None ≡ o
-    or-none (Some r) = refl
-    or-none None = refl
+    (rw (head_at_post script past e s task runner delay is immediate, other) (option_or-none (head_of script past s)))
 
 pub sequence_waiting_at_delayed_post : (script : Plan) (past : List Entry) (e : Entry) (s task runner delay : ℕ) → e.kind ≡ kinds.Post task runner delay true
     → nat_lt 0 delay ≡ true
