@@ -11,4 +11,3 @@ pub mod Sorts
 pub mod Finds
 pub mod Pigeons
 pub mod Made
-pub mod Places

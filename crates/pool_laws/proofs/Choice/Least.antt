@@ -20,8 +20,7 @@ use Rattle.task_base.specs.Plan.{Plan}
 use Rattle.task_base.specs.declared.entry.Entry.{Entry}
 use Rattle.list_laws.proofs.Least.{least_is_least, no_least}
 use Rattle.list_laws.proofs.Made.{filter_contains, contains_filter, contains_not_empty}
-use Rattle.list_laws.proofs.Places.{ranks_turned}
-use Rattle.list_laws.proofs.Ranks.{ranks_by, ranks_then_by, tied}
+use Rattle.list_laws.proofs.Ranks.{ranks_turned, ranks_by, ranks_then_by, tied}
 
 -- by keys
 pub ranks_key : {A : Type 0} (key : A → Key) → Ranks (λ a b. key_below (key a) (key b))
