@@ -11,3 +11,5 @@ pub mod Sorts
 pub mod Finds
 pub mod Options
 pub mod Places
+pub mod Pigeons
+pub mod Made

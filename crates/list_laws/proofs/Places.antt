@@ -1,8 +1,10 @@
 -- Elements of joined lists by their index, one more element at the end, and tests that no element passes.
-use Rattle.std.proofs.Common.{◌≡◌, ℕ, zero, suc, ◌+◌, ◌<◌, ◌≤◌, Bool, true, false, cond, List, [], ◌∷◌, ◌++◌, length, refl, ◌⊎◌, inl, inr, Some, arith}
+use Rattle.std.proofs.Common.{◌≡◌, ℕ, zero, suc, ◌+◌, ◌<◌, ◌≤◌, Bool, true, false, cond, List, [], ◌∷◌, ◌++◌, length, refl, ◌∙◌, ◌⊎◌, inl, inr, Some, arith}
 use Rattle.std.specs.Prelude.{slice_get}
 use Rattle.std.specs.List.{list_any, AllByRecursion}
 use Rattle.std.proofs.lemmas.Bool.{cases_Bool, cond-true, cond-false, or_parts, or_from}
+use Rattle.std.proofs.lemmas.Option.{slice_get_within}
+use Rattle.list_laws.proofs.Elements.{slice_get-front}
 use Rattle.list_laws.specs.Lists.{count}
 use Rattle.list_laws.proofs.Elements.{AllByRecursion-append}
 use Rattle.list_laws.proofs.Counts.{count-append, count-cons}
@@ -19,11 +21,9 @@ slice_get-append (y ∷ xs) ys (suc k) x e = elim (slice_get-append xs ys k x e)
   | inr p ↦ inr (p.0, omega (arith, p.1), p.2)
 ]
 
--- an element of the front is there in the joined list
-pub slice_get_front : {A : Type 0} (xs ys : List A) (k : ℕ) → k < length xs → slice_get (xs ++ ys) k ≡ slice_get xs k
-slice_get_front [] ys k below = absurd (omega (arith, below))
-slice_get_front (x ∷ xs) ys zero below = refl
-slice_get_front (x ∷ xs) ys (suc k) below = slice_get_front xs ys k (omega (arith, below))
+-- what stands at a place stays there
+pub slice_get-more : {A : Type 0} (xs ys : List A) (i : ℕ) (x : A) → slice_get xs i ≡ Some x → slice_get (xs ++ ys) i ≡ Some x
+slice_get-more xs ys i x is = slice_get-front xs ys i (slice_get_within xs i x is) ∙ is
 
 -- behind the front stands the first of the back
 pub slice_get_seam : {A : Type 0} (front : List A) (x : A) (back : List A) → slice_get (front ++ x ∷ back) (length front) ≡ Some x

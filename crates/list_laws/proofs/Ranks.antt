@@ -80,3 +80,11 @@ tied f below a b h k = by (cases_order (f a) (f b))
     by (inl same) = (same, sym (by_same f below a b same) ∙ h, sym (by_same f below b a (sym same)) ∙ k)
     by (inr (inl lt)) = absurd (true≢false (sym (by_less f below a b lt) ∙ h))
     by (inr (inr lt)) = absurd (true≢false (sym (by_less f below b a lt) ∙ k))
+
+-- a test that ranks, the other way round
+pub ranks_turned : {A : Type 0} (below : A → A → Bool) → Ranks below → Ranks (λ a b. below b a)
+ranks_turned below ranks = record {
+  itself = ranks.itself;
+  one_way = λ a b. ranks.one_way b a;
+  through = λ a b c h k. ranks.through c b a k h;
+}

@@ -1,5 +1,5 @@
 -- Counting in lists, tests that rank, and least elements.
-use Rattle.std.specs.Prelude.{◌≡◌, ℕ, ◌==◌, nat_lt, Bool, true, false, ◌&&◌, ◌||◌, if◌then◌else◌, List, [], ◌∷◌, length, filter, Option, Some, None, All, Contains}
+use Rattle.std.specs.Prelude.{◌≡◌, ℕ, ◌<◌, ◌==◌, nat_lt, Bool, true, false, ◌&&◌, ◌||◌, if◌then◌else◌, List, [], ◌∷◌, length, filter, Option, Some, None, All, Contains}
 
 -- how many elements pass the test
 abbrev pub count : {A : Type 0} → (A → Bool) → List A → ℕ
@@ -40,3 +40,8 @@ pub record Ranks {A : Type 0} (below : A → A → Bool) : Type 0 where
 -- by a number, and by another test between equal numbers
 abbrev pub then_by : {A : Type 0} → (A → ℕ) → (A → A → Bool) → A → A → Bool
 then_by f below a b = nat_lt (f a) (f b) || (f a == f b && below a b)
+
+-- the first number that passes the test: it passes, and no lesser one does
+pub record IsFirst (test : ℕ → Bool) (n : ℕ) : Type 0 where
+  pub passes : test n ≡ true
+  pub none_lesser : (m : ℕ) → m < n → test m ≡ false

@@ -1,7 +1,12 @@
 -- What waits, and what a worker takes next.
-pub mod Sources
 pub mod Waiting
-pub mod Lists
+pub mod Entering
+pub mod Held
+pub mod Candidates
+pub mod Changes
 pub mod Least
+pub mod Posts
+pub mod Sources
 pub mod Best
 pub mod Heads
+pub mod Kept

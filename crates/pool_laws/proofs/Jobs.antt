@@ -1,2 +1,3 @@
 -- What jobs answer.
 pub mod Answers
+pub mod Numbers

@@ -1,2 +1,4 @@
 -- What shutdown waits for.
+pub mod Tasks
+pub mod Jobs
 pub mod Blockers

@@ -1,5 +1,5 @@
 -- Words of the laws on what waits, and what a worker takes next.
-use Rattle.std.specs.Prelude.{◌≡◌, ℕ, false, List, Option, Some, None, slice_get, option_and_then, Bool, true, All, ◌||◌, ◌-◌, not, ◌&&◌, nat_lt, min, if◌then◌else◌, length}
+use Rattle.std.specs.Prelude.{◌≡◌, ℕ, false, List, Option, Some, None, slice_get, take, option_and_then, Bool, true, All, ◌||◌, ◌-◌, not, ◌&&◌, nat_lt, min, if◌then◌else◌, length, ◌++◌, Contains}
 use Rattle.task_base.specs.Plan.{Plan}
 use Rattle.task_base.specs.declared.entry.Entry.{Entry}
 use Rattle.task_base.specs.declared.entry.Kind.{Kind}
@@ -7,10 +7,12 @@ use Rattle.task_base.specs.declared.entry.Kind.TheVariants as kinds
 use Rattle.task_base.specs.declared.source.TaskSource.{TaskSource}
 use Rattle.task_base.specs.declared.source.TaskSource.TheVariants.{Sequence, Job}
 use Rattle.task_base.specs.Runners.{sequence_of, sequence_count}
-use Rattle.task_model.specs.Sources.{Candidate, sequence_waiting, waiting, leaves, IsTakeable, is_takeable, goes_before, job_waiting}
+use Rattle.task_model.specs.Sources.{Candidate, sequence_waiting, would_wait, waiting, Leaves, IsTakeable, is_takeable, goes_before, job_waiting}
 use Rattle.pool_laws.specs.Room.{moves_room}
 use Rattle.std.specs.Option.{option_map}
+use Rattle.std.specs.List.{cons_option}
 use Rattle.list_laws.specs.Lists.{holds_of}
+use Rattle.task_model.specs.Posts.{Posted, post_behind}
 use Rattle.task_model.specs.Keys.{key_at}
 use Rattle.task_model.specs.Policies.{is_held}
 use Rattle.task_model.specs.Refusal.{is_job_forbidden}
@@ -30,10 +32,23 @@ posted_source script kind = None
 abbrev pub source_at : Plan → List Entry → ℕ → Option TaskSource
 source_at script past place = option_and_then (λ e. posted_source script e.kind) (slice_get past place)
 
+-- the task that an entry behind a past posts to the pool
+abbrev pub post_by : List Entry → Kind → Option Posted
+post_by before (kinds.Post task runner delay ok) = Some (post_behind before task runner delay)
+post_by before kind = None
+
+-- the task that the entry at a place posts to the pool
+abbrev pub post_at : List Entry → ℕ → Option Posted
+post_at past place = option_and_then (λ e. post_by (take place past) e.kind) (slice_get past place)
+
 -- the best source may be taken, and no other that may be taken goes before it
 pub record IsBest (script : Plan) (past : List Entry) (seat : ℕ) (c : Candidate) : Type 0 where
   pub takeable : IsTakeable script past seat c
   pub none_before : All (λ d. is_takeable script past seat d ≡ true → goes_before d c ≡ false) (waiting script past)
+
+-- the source would wait, were nothing held back
+abbrev pub WouldWait : Plan → List Entry → Candidate → Type 0
+WouldWait script past c = Contains (would_wait script past) c
 
 -- the kinds that may change what waits
 abbrev pub moves_waiting : Kind → Bool
@@ -90,7 +105,7 @@ pub record JobBy (script : Plan) (past later : List Entry) (j : ℕ) (post : Opt
 pub record IsShut (script : Plan) (past : List Entry) (j : ℕ) : Type 0 where
   pub enters : may_enter script past j ≡ false
   pub waits : job_waiting script past j ≡ None
-  pub leave : (seat : ℕ) → leaves script past seat j ≡ true
+  pub leave : (seat : ℕ) → Leaves script past seat j
 
 -- the candidate of a source, where it is one of the script's and waits
 abbrev pub source_waiting : Plan → List Entry → TaskSource → Option Candidate
@@ -112,3 +127,14 @@ moves_held (kinds.Policy policy) = true
 moves_held kinds.Shutdown = true
 moves_held kinds.Done = true
 moves_held kind = false
+
+-- each source but one waits as before
+abbrev pub OthersKept : Plan → List Entry → List Entry → TaskSource → Type 0
+OthersKept script past later source = (other : TaskSource) → (other ≡ source → ⊥) → source_waiting script later other ≡ source_waiting script past other
+
+-- what would wait in two pasts is the same, but for the candidate of one source
+pub record DifferAt (script : Plan) (past later : List Entry) (source : TaskSource) : Type 0 where
+  pub front : List Candidate
+  pub back : List Candidate
+  pub before : would_wait script past ≡ front ++ cons_option (source_waiting script past source) back
+  pub after : would_wait script later ≡ front ++ cons_option (source_waiting script later source) back

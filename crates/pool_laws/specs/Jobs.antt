@@ -1,5 +1,5 @@
 -- Words of the laws on jobs.
-use Rattle.std.specs.Prelude.{◌≡◌, ℕ, Bool, true, false, List}
+use Rattle.std.specs.Prelude.{◌≡◌, ℕ, ◌==◌, Bool, true, false, List}
 use Rattle.task_base.specs.Plan.{Plan}
 use Rattle.task_base.specs.declared.entry.Entry.{Entry}
 use Rattle.task_base.specs.declared.entry.Kind.{Kind}
@@ -17,6 +17,11 @@ moves_jobs (kinds.JobCancel job) = true
 moves_jobs kinds.Shutdown = true
 moves_jobs kinds.Done = true
 moves_jobs kind = false
+
+-- the entry is a post of the job
+abbrev pub posts_job : ℕ → Kind → Bool
+posts_job j (kinds.JobPost job ok) = job == j
+posts_job j kind = false
 
 -- a later past says the same of the job
 pub record JobKept (script : Plan) (past later : List Entry) (j : ℕ) : Type 0 where

@@ -23,11 +23,11 @@ use Rattle.script_model.specs.Draft.{Draft, Groups, script_of, has_no_actions, i
 use Rattle.task_base.specs.declared.limits.TheConstants.{MOST_WORKERS, MOST_RUNNERS, MOST_QUEUES, MOST_TASKS, MOST_JOBS, MOST_ITEMS, MOST_STEPS, MOST_EVENTS, MOST_MICROSECONDS}
 use Rattle.script_model.specs.Lines.{workers_line, groups_line, threshold_line, runner_line, queue_line, task_line, job_line}
 use Rattle.script_model.specs.Laws.Sound.{IsSound, IsConfigSound, AreActionsSound, IsRunnerPost, IsQueuePost, IsSeatThere, IsQueueWithin, IsStepSound, IsTaskSound, IsJobSound}
-use Rattle.list_laws.proofs.Elements.{AllByRecursion-map}
+use Rattle.list_laws.proofs.Elements.{AllByRecursion-map, slice_get-front}
 use Rattle.script_model.proofs.Laws.Postings.{posts_of_task, posted_once_with_task}
 use Rattle.script_model.proofs.Laws.Parts.{both_ok, line_ok, number_at-within, said_ok, IsSeatWithin, kind_named-within, steps_read-within, nothing}
 use Rattle.std.proofs.lemmas.Bool.{and_parts, ltb-false, ltb-true, not-false, or_parts}
-use Rattle.list_laws.proofs.Places.{AllByRecursion-push, slice_get_front, slice_get_push}
+use Rattle.list_laws.proofs.Places.{AllByRecursion-push, slice_get_push}
 
 abbrev pub Keeps : Draft → Type 0
 Keeps d = IsSound (script_of d)
@@ -99,7 +99,7 @@ task_stays s z t steps stays h = record {
 -- with one more runner, queue or task, what was declared stays
 runners_stay : (d : Draft) (made : Runner) → Stays (script_of d) (script_of (record d { runners = d.runners ++ made ∷ [] }))
 runners_stay d made = record {
-  runners = λ r here. (omega (arith, here, length-append d.runners (made ∷ [])), rw (slice_get_front d.runners (made ∷ []) r here) refl);
+  runners = λ r here. (omega (arith, here, length-append d.runners (made ∷ [])), rw (slice_get-front d.runners (made ∷ []) r here) refl);
   queues = λ q here. here;
   tasks = λ t here. (here, refl);
 }

@@ -1,0 +1,84 @@
+-- What is in a filtered list, in what is made of a list, and in a row of numbers.
+use Rattle.std.proofs.Common.{◌≡◌, ℕ, ◌+◌, ◌-◌, ◌<◌, Bool, true, List, [], ◌∷◌, ◌++◌, length, refl, sym, ap, ◌∙◌, Option, Some, None, arith}
+use Rattle.std.specs.Prelude.{filter, Contains}
+use Rattle.std.specs.Option.{IfSome}
+use Rattle.std.specs.List.{filter_map, cons_option, range_with_len}
+use Rattle.std.proofs.lemmas.List.Elements.{All-from_recursion, recursion_from_All, All-contains, All-contains_itself, All-filter, filter_passes, filter_map-append}
+use Rattle.std.proofs.lemmas.List.FromFn.{length-range_with_len, get_or-range_with_len}
+use Rattle.list_laws.proofs.Elements.{AllByRecursion-made, AllByRecursion-filter_map, AllByRecursion-map, unfiltered}
+use Rattle.list_laws.proofs.Filters.{filter_map_congr_in}
+use Rattle.list_laws.proofs.Ranges.{AllByRecursion-range, range_split}
+
+-- what is in a filtered list is in the list, and passes
+pub filter_contains : {A : Type 0} (p : A → Bool) (xs : List A) (x : A) → Contains (filter p xs) x → Contains xs x × (p x ≡ true)
+filter_contains p xs x h = (
+  All-contains (Contains xs) (filter p xs) x (All-filter p (Contains xs) xs (All-contains_itself xs)) h,
+  All-contains (λ y. p y ≡ true) (filter p xs) x (filter_passes p xs) h,
+)
+
+-- and what is in the list, and passes, is in the filtered list
+pub contains_filter : {A : Type 0} (p : A → Bool) (xs : List A) (x : A) → Contains xs x → p x ≡ true → Contains (filter p xs) x
+contains_filter p xs x h is =
+    All-contains (λ y. p y ≡ true → Contains (filter p xs) y) xs x
+    (All-from_recursion (λ y. p y ≡ true → Contains (filter p xs) y) xs
+    (unfiltered (Contains (filter p xs)) p xs (recursion_from_All (Contains (filter p xs)) (filter p xs) (All-contains_itself (filter p xs)))))
+    h is
+
+-- what is in the list that is made of a list is made of one of its elements
+pub filter_map_contains : {A B : Type 0} (f : A → Option B) (xs : List A) (y : B) → Contains (filter_map f xs) y → (x : A) × Contains xs x × (f x ≡ Some y)
+filter_map_contains {A = A} {B = B} f xs y h =
+    All-contains (λ z. (x : A) × Contains xs x × (f x ≡ Some z)) (filter_map f xs) y
+    (All-from_recursion (λ z. (x : A) × Contains xs x × (f x ≡ Some z)) (filter_map f xs)
+    (AllByRecursion-filter_map (λ z. (x : A) × Contains xs x × (f x ≡ Some z)) f xs
+    (AllByRecursion-map (Contains xs) (λ x. IfSome (f x) (λ z. (w : A) × Contains xs w × (f w ≡ Some z))) xs (λ x at. made x at (f x) refl)
+    (recursion_from_All (Contains xs) xs (All-contains_itself xs))))) h
+  where
+    made : (x : A) → Contains xs x → (o : Option B) → f x ≡ o → IfSome o (λ z. (w : A) × Contains xs w × (f w ≡ Some z))
+    made x at None is = tt
+    made x at (Some z) is = (x, at, is)
+
+-- and what is made of one of the elements is in that list
+pub contains_filter_map : {A B : Type 0} (f : A → Option B) (xs : List A) (x : A) (y : B) → Contains xs x → f x ≡ Some y → Contains (filter_map f xs) y
+contains_filter_map f xs x y h is =
+    let made : IfSome (f x) (Contains (filter_map f xs)) = All-contains (λ z. IfSome (f z) (Contains (filter_map f xs))) xs x
+    (All-from_recursion (λ z. IfSome (f z) (Contains (filter_map f xs))) xs (AllByRecursion-made (Contains (filter_map f xs)) f xs
+    (recursion_from_All (Contains (filter_map f xs)) (filter_map f xs) (All-contains_itself (filter_map f xs))))) h in
+    rw is at made
+
+-- the numbers in the row of the first n numbers
+pub contains_range : (n i : ℕ) → i < n → Contains (range_with_len 0 n) i
+contains_range n i less = (i, rw (length-range_with_len 0 n) less, omega (arith, get_or-range_with_len 0 n i i less))
+
+pub range_contains : (n i : ℕ) → Contains (range_with_len 0 n) i → i < n
+range_contains n i h = All-contains (λ k. k < n) (range_with_len 0 n) i
+    (All-from_recursion (λ k. k < n) (range_with_len 0 n) (AllByRecursion-range (λ k. k < n) 0 n (λ k from to. omega (arith, to)))) h
+
+-- what is made of the first n numbers in two ways that differ at one number only
+pub filter_map_at : {B : Type 0} (f g : ℕ → Option B) (n i : ℕ) → i < n → ((k : ℕ) → k < n → (k ≡ i → ⊥) → f k ≡ g k)
+    → (front : List B) × (back : List B) × (filter_map f (range_with_len 0 n) ≡ front ++ cons_option (f i) back)
+    × (filter_map g (range_with_len 0 n) ≡ front ++ cons_option (g i) back)
+filter_map_at {B = B} f g n i less same = (
+  filter_map f (range_with_len 0 i),
+  filter_map f rest,
+  parted f,
+  parted g ∙ sym (ap (λ ys. ys ++ cons_option (g i) (filter_map g rest)) front)
+      ∙ sym (ap (λ ys. filter_map f (range_with_len 0 i) ++ cons_option (g i) ys) back),
+)
+  where
+    rest : List ℕ
+    rest = range_with_len (i + 1) (n - (i + 1))
+
+    parted : (h : ℕ → Option B) → filter_map h (range_with_len 0 n) ≡ filter_map h (range_with_len 0 i) ++ cons_option (h i) (filter_map h rest)
+    parted h = rw (range_split 0 i (n - (i + 1)) n i (omega (arith, less)) (omega arith)) (filter_map-append h (range_with_len 0 i) (i ∷ rest))
+
+    front : filter_map f (range_with_len 0 i) ≡ filter_map g (range_with_len 0 i)
+    front = filter_map_congr_in f g (range_with_len 0 i) (AllByRecursion-range (λ k. f k ≡ g k) 0 i
+        (λ k from to. same k (omega (arith, to, less)) (λ is. omega (arith, to, is))))
+
+    back : filter_map f rest ≡ filter_map g rest
+    back = filter_map_congr_in f g rest (AllByRecursion-range (λ k. f k ≡ g k) (i + 1) (n - (i + 1))
+        (λ k from to. same k (omega (arith, to, less)) (λ is. omega (arith, from, is))))
+
+-- a list with something in it is not empty
+pub contains_not_empty : {A : Type 0} (xs : List A) (x : A) → Contains xs x → xs ≡ [] → ⊥
+contains_not_empty xs x is none = let less : is.0 < length xs = is.1 in let long : length xs ≡ 0 = ap length none in omega (arith, less, long)
