@@ -22,7 +22,7 @@ use Rattle.task_model.specs.Sources.{sequence_candidate, sequence_waiting}
 use Rattle.pool_laws.specs.Keys.{moves_sequences, joins, is_task_of, is_unripe, ready_below}
 use Rattle.pool_laws.specs.Seats.{moves_main, moves_running, runs_pool_task, IsSeat}
 use Rattle.pool_laws.specs.Choice.{moves_sequence_waiting}
-use Rattle.list_laws.proofs.Values.{option_or-none}
+use Rattle.list_laws.proofs.Options.{option_or-none}
 use Rattle.pool_laws.proofs.Keys.Sequences.{head_same, head_at_post, head_at_delayed_post, head_at_other_tick, head_at_other_take, head_at_shutdown, head_at_done}
 use Rattle.pool_laws.proofs.Seats.Running.{runs_same, runs_at_main, runs_at_take, runs_at_end, runs_at_other_end}
 use Rattle.task_model.specs.Time.{now_of, tick_from}

@@ -7,7 +7,6 @@ use Rattle.std.proofs.lemmas.Bool.{eqb-true}
 use Rattle.list_laws.specs.Lists.{count}
 use Rattle.script_model.specs.Postings.{times}
 use Rattle.script_model.specs.Draft.{is_any_posted}
-use Rattle.script_model.proofs.Laws.FaultLaws.{ok_same}
 use Rattle.list_laws.proofs.Counts.{count-cons}
 use Rattle.task_base.specs.declared.limits.TheConstants.{MOST_WORKERS, MOST_MICROSECONDS}
 use Rattle.script_model.proofs.Laws.Faults.{ok_same}
