@@ -29,6 +29,24 @@ pub trait Sink {
         ensures faults { faults self.old ≤ faults self.new };
 }
 
+/// Puts a whole piece, in as many calls as the sink wants. It makes no call for an empty piece.
+///
+/// `Failed`: a `put` failed. What went out before stays out, and nothing was put after it.
+pub fn put_all<K: Sink>(sink: &mut K, piece: &[u8]) -> Result<(), Failed>
+    ensures written { OnOk result (Gains (K.holds sink.old) piece.now (K.holds sink.new)) }
+
+    // What went out is a prefix of the piece.
+    ensures cut { OnErr result ((n : ℕ) × Gains (K.holds sink.old) (take n piece.now) (K.holds sink.new)) }
+    ensures failed { OnErr result (Rose (K.faults sink.old) (K.faults sink.new)) }
+    ensures faults { K.faults sink.old ≤ K.faults sink.new }
+{
+    let mut done = 0;
+    while done < piece.len() {
+        done += sink.put(&piece[done..])?;
+    }
+    Ok(())
+}
+
 /// Takes each piece whole and keeps what it has room for. It fails at the calls that it is told to fail at.
 ///
 /// It tells its bytes as long as it has kept all that it took. In clauses it is the bytes that it kept, whether they are

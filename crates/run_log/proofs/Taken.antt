@@ -8,14 +8,6 @@ use Rattle.env_io.proofs.Bytes.{Gains-trans}
 use Rattle.log_model.specs.LogText.{line_of, text_from, log_text}
 use Rattle.log_model.proofs.Laws.LogTexts.{text_from-take_more, log_text-cut}
 
--- a front of the rest of a piece was taken after a front of the piece
-pub gains_more : (a b c : Option (List ℕ)) (piece : List ℕ) (done n : ℕ) → Gains a (take done piece) b
-    → Gains b (take n (take (length piece - done) (drop done piece))) c → Gains a (take (done + n) piece) c
-gains_more a b c piece done n first second =
-    let joined : take done piece ++ take n (take (length piece - done) (drop done piece)) ≡ take (done + n) piece =
-    ap (λ rest. take done piece ++ take n rest) (take_rest piece done) ∙ sym (take-add done n piece) in
-    subst (λ text. Gains a text c) joined (Gains-trans a b c (take done piece) (take n (take (length piece - done) (drop done piece))) first second)
-
 -- the lines before a place and the line of that place are the lines up to it
 joined_lines : (log items : List Entry) (line : List ℕ) (i : ℕ) (d : Entry) → items ≡ log → line ≡ line_of i (get_or items i d) → i < length items
     → text_from 0 (take i log) ++ line ≡ text_from 0 (take (i + 1) log)

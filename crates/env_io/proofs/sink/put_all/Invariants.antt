@@ -1,6 +1,6 @@
 use Rattle.std.proofs.Common.{◌≤◌, ◌-◌, length, take}
 use Rattle.env_io.specs.Bytes.{Gains}
-use Rattle.run_log.proofs.writer.put_all.Given as goal
+use Rattle.env_io.proofs.sink.put_all.Given as goal
 
 abbrev pub invariant-loop-done : goal.invariant-loop-done
 invariant-loop-done g l = record {

@@ -1,6 +1,6 @@
 use Rattle.std.proofs.Common.{arith}
-use Rattle.run_log.proofs.Taken.{gains_more}
-use Rattle.run_log.proofs.writer.put_all.Goals as goal
+use Rattle.env_io.proofs.Bytes.{gains_more}
+use Rattle.env_io.proofs.sink.put_all.Goals as goal
 
 pub loop-done-preserved : goal.loop-done-preserved
 loop-done-preserved g c = record {
