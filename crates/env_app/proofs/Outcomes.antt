@@ -1,8 +1,11 @@
 -- What the answers of the parts of a run say together.
-use Rattle.std.proofs.Common.{◌≡◌, ℕ, List, [], ◌++◌, length, take, subst, Option, Some, None, sym, ap, ◌∙◌, append-nil, arith}
+use Rattle.std.proofs.Common.{◌≡◌, ℕ, Bool, List, [], ◌++◌, length, take, subst, Option, Some, None, refl, sym, ap, ◌∙◌, append-nil, arith}
 use Rattle.std.specs.Prelude.{IfSome, OnOk, OnErr, Result, Ok, Err}
 use Rattle.std.proofs.lemmas.List.{take_all}
-use Rattle.env_app.specs.Outcome.{WroteFront}
+use Rattle.task_base.specs.Fault.{status_of}
+use Rattle.task_base.specs.declared.fault.Fault.{Fault}
+use Rattle.task_base.specs.declared.fault.Fault.TheVariants.{NotLegal, BadWords, BadScript, ReadFault, WriteFault, NoMemory, TooLarge}
+use Rattle.env_app.specs.Outcome.{Ends, WroteFront, RunsTo, note_line, note_of_status}
 use Rattle.env_io.specs.Bytes.{Gives, Gains}
 
 -- what was taken up to the end is all that there was
@@ -19,3 +22,14 @@ pub wrote_front : {E : Type 0} (result : Result (Unit {0}) E) (before after : Op
 wrote_front (Ok done) before after text whole part = (length text, subst (λ (t : List ℕ). Gains before t after)
     (sym (take_all (length text) text (omega arith))) whole)
 wrote_front (Err e) before after text whole part = part
+
+-- the line of the fault that ends a run is the note of its status
+pub note_line-of_run : (accepted : Bool) (source sink : Ends) (fault : Fault) → RunsTo accepted source sink (Err fault)
+    → note_line fault ≡ note_of_status (status_of fault)
+note_line-of_run accepted source sink (NotLegal line) never = absurd never
+note_line-of_run accepted source sink BadWords runs = refl
+note_line-of_run accepted source sink (BadScript line reason) runs = refl
+note_line-of_run accepted source sink ReadFault runs = refl
+note_line-of_run accepted source sink WriteFault runs = refl
+note_line-of_run accepted source sink NoMemory runs = refl
+note_line-of_run accepted source sink TooLarge runs = refl

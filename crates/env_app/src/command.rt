@@ -1,14 +1,14 @@
 ghost use Rattle.std.specs.Prelude.{◌≡◌, ◌≢◌, ◌⊎◌, ◌↔◌, ◌<◌, ◌≤◌, ℕ, List, [], true, false, length, take, Some, None, Err, IfOk, IfErr, IfSome, OnOk, OnErr};
 ghost use Rattle.env_io.specs.Bytes.{Gains, Rose};
-ghost use Rattle.task_base.specs.Fault.{status_of};
 ghost use Rattle.script_model.specs.Grammar.{Reads};
 ghost use Rattle.task_script.specs.Form.{form_read};
-ghost use Rattle.env_app.specs.Outcome.{ends, accepts_run, HasRun, WroteAll, WroteFront, TookMore, TookWithin, LoadsScript, RunsTo, HasCause, note_of};
+ghost use Rattle.env_app.specs.Outcome.{ends, accepts_run, HasRun, WroteAll, WroteFront, TookMore, TookWithin, LoadsScript, RunsTo, HasCause, note_line, note_of_status};
 
 use crate::engine::run_script;
-use crate::input::{InputFault, MOST_BYTES, read_input};
-use env_io::{Clock, Gate, Sink, Source};
-use run_log::{put_all, write_log};
+use crate::input::{InputFault, read_input};
+use arrayvec::ArrayVec;
+use env_io::{Clock, Gate, Sink, Source, put_all};
+use run_log::write_log;
 use std::alloc::Global;
 use std::sync::Wait;
 use std::thread::Threads;
@@ -73,27 +73,25 @@ fn run<S: Source, K: Sink, G: Gate>(
     }
 }
 
-/// The note that goes with a fault, with its line feed.
-fn note(fault: &Fault) -> &'static [u8]
-    ensures { result.now ≡ note_of (status_of fault.now) }
+/// The bytes of a note's line. The longest one has 12.
+type NoteLine = ArrayVec<u8, 32>;
+
+/// The note of a fault, with its line feed. It takes no memory.
+fn note_line(fault: &Fault) -> NoteLine
+    ensures { result.items ≡ note_line fault.now }
 {
-    match fault {
-        Fault::NotLegal { .. } => b"",
-        Fault::BadWords => b"bad words\n",
-        Fault::BadScript { .. } => b"bad script\n",
-        Fault::ReadFault => b"read fault\n",
-        Fault::WriteFault => b"write fault\n",
-        Fault::NoMemory => b"no memory\n",
-        Fault::TooLarge => b"too large\n",
-    }
+    let mut line = NoteLine::new();
+    let _fits = line.try_extend_from_slice(fault.note().as_bytes());
+    line.push(b'\n');
+    line
 }
 
 /// Puts the note of a fault, as far as the notes take it.
 fn tell<N: Sink>(notes: &mut N, fault: &Fault)
-    ensures written { Rose (N.faults notes.old) (N.faults notes.new) ⊎ Gains (N.holds notes.old) (note_of (status_of fault.now)) (N.holds notes.new) }
-    ensures front { WroteFront (N.holds notes.old) (N.holds notes.new) (note_of (status_of fault.now)) }
+    ensures written { Rose (N.faults notes.old) (N.faults notes.new) ⊎ Gains (N.holds notes.old) (note_line fault.now) (N.holds notes.new) }
+    ensures front { WroteFront (N.holds notes.old) (N.holds notes.new) (note_line fault.now) }
 {
-    let _ = put_all(notes, note(fault));
+    let _ = put_all(notes, &note_line(fault));
 }
 
 /// Does what the words ask for, and answers the exit status (this project's own rule).
@@ -127,8 +125,8 @@ pub fn run_words<R: Threads + Wait + Sync, S: Source, K: Sink, N: Sink, C: Clock
     ensures nothing_taken { result ≡ 2 → source.new ≡ source.old }
 
     // The notes get the status's note, where they do not fail, and else a front of it.
-    ensures note { Rose (N.faults notes.old) (N.faults notes.new) ⊎ Gains (N.holds notes.old) (note_of result) (N.holds notes.new) }
-    ensures note_front { WroteFront (N.holds notes.old) (N.holds notes.new) (note_of result) }
+    ensures note { Rose (N.faults notes.old) (N.faults notes.new) ⊎ Gains (N.holds notes.old) (note_of_status result) (N.holds notes.new) }
+    ensures note_front { WroteFront (N.holds notes.old) (N.holds notes.new) (note_of_status result) }
 {
     match run(alloc, words, source, sink, gate) {
         Ok(()) => 0,

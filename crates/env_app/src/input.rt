@@ -3,9 +3,7 @@ ghost use Rattle.env_io.specs.Bytes.{Gives, Rose};
 
 use env_io::Source;
 use std::alloc::Global;
-
-/// The most bytes that an input may have (this project's own rule).
-pub const MOST_BYTES: usize = 8_388_608;
+use task_base::MOST_BYTES;
 
 /// How many bytes the source is asked for at a time.
 const PIECE: usize = 4096;
