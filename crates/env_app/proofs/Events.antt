@@ -2,8 +2,8 @@
 use Rattle.std.proofs.Common.{◌≡◌, ℕ, ◌+◌, Bool, true, false, cond, eqb, leb, List, [], ◌∷◌, ◌++◌, length, get_or, take, map, refl, sym, ap, subst, ◌∙◌, Option, Some, None, arith}
 use Rattle.std.specs.Prelude.{not, ◌&&◌, ◌||◌, is_none, filter}
 use Rattle.std.specs.List.{list_any, list_all, AllByRecursion}
-use Rattle.std.proofs.Math.Bool.{or-false, and-true, and-false}
-use Rattle.std.proofs.lemmas.Bool.{ne_eqb}
+use Rattle.std.proofs.Math.Bool.{or-false, or-true, and-true, and-false, not-not}
+use Rattle.std.proofs.lemmas.Bool.{ne_eqb, or_parts, both_ways}
 use Rattle.std.proofs.lemmas.Bool.Decides.{nat_tests}
 use Rattle.std.proofs.lemmas.List.{append-nil, map-append, take_more, length-append}
 use Rattle.std.proofs.lemmas.List.Elements.{filter-append}
@@ -133,19 +133,19 @@ to_take-done script past =
 
 -- ---- what an entry of the driver leaves of the rest
 
--- a test on seats that an entry leaves
-stays_none : {A : Type 0} (now : Option A) (after : Option A → Option A) (b : Bool) → now ≡ None → after None ≡ None → cond b (after now) now ≡ None
-stays_none now after true none same = ap after none ∙ same
-stays_none now after false none same = none
+-- a value that both branches have
+pub either_way : {A : Type 0} (b : Bool) (x : A) → cond b x x ≡ x
+either_way true x = refl
+either_way false x = refl
 
 -- an entry that takes nothing, and posts nothing with a delay, leaves all still
 pub still_after : (past : List Entry) (e : Entry) → IsStill past → running_after None e.kind ≡ None → holding_after None e.kind ≡ None
     → policy_after All e.kind ≡ All →
     AllByRecursion (λ p. p.delay ≡ 0) (posted_by past e.kind) → IsStill (past ++ e ∷ [])
 still_after past e still runs holds policy immediate = record {
-  runs = λ seat. running_push past e seat ∙ stays_none (running past seat) (λ r. running_after r e.kind) (eqb e.seat seat) (still.runs seat) runs;
-  holds = λ seat. holding_push past e seat ∙ stays_none (holding past seat) (λ h. holding_after h e.kind) (eqb e.seat seat) (still.holds seat) holds;
-  policy = policy_of_push past e ∙ ap (λ (p : Policy). policy_after p e.kind) still.policy ∙ policy;
+  runs = λ seat. rw (running_push past e seat, still.runs seat, runs) (either_way (eqb e.seat seat) None);
+  holds = λ seat. rw (holding_push past e seat, still.holds seat, holds) (either_way (eqb e.seat seat) None);
+  policy = rw (policy_of_push past e, still.policy) policy;
   immediate = subst (AllByRecursion (λ p. p.delay ≡ 0)) (sym (posts_push past e))
       (AllByRecursion-append (λ p. p.delay ≡ 0) (posts past) (posted_by past e.kind) still.immediate immediate);
 }
@@ -156,21 +156,13 @@ ended-driver past kind same no_end no_take t =
     rw (is_ended_push past (driver_entry kind) t, is_taken_push past (driver_entry kind) t, no_end t, no_take t, same t) refl
 
 pub list_any-more : {A : Type 0} (p : A → Bool) (xs : List A) (a : A) → list_any p xs ≡ true → list_any p (xs ++ a ∷ []) ≡ true
-list_any-more p xs a h = list_any-append p xs (a ∷ []) ∙ ap (λ (b : Bool). b || list_any p (a ∷ [])) h
+list_any-more p xs a h = rw (list_any-append, h) refl
 
 list_any-less : {A : Type 0} (p : A → Bool) (xs : List A) (a : A) → list_any p (xs ++ a ∷ []) ≡ false → list_any p xs ≡ false
-list_any-less p xs a h = either (list_any p xs) (list_any p (a ∷ [])) (sym (list_any-append p xs (a ∷ [])) ∙ h)
-  where
-    either : (b c : Bool) → (b || c) ≡ false → b ≡ false
-    either true c e = e
-    either false c e = refl
+list_any-less p xs a h = (or_parts (list_any p xs) (list_any p (a ∷ [])) (rw list_any-append at h)).0
 
 pub list_any-last : {A : Type 0} (p : A → Bool) (xs : List A) (a : A) → p a ≡ true → list_any p (xs ++ a ∷ []) ≡ true
-list_any-last p xs a h = list_any-append p xs (a ∷ []) ∙ ap (λ (b : Bool). list_any p xs || (b || false)) h ∙ either (list_any p xs)
-  where
-    either : (b : Bool) → (b || true) ≡ true
-    either true = refl
-    either false = refl
+list_any-last p xs a h = rw (list_any-append, h, or-true (list_any p xs)) refl
 
 -- what is known of the tasks that may be taken stays known after an entry of the driver
 pub known-driver : (script : Plan) (past : List Entry) (kind : Kind) (want : Want) (ps : List Posted) → wanted script past ≡ Some want →
@@ -203,10 +195,23 @@ not_started-driver script past kind want next same before h =
     phase_of_push past (driver_entry kind) ∙ same ∙ before (list_any-less wants_shutdown (done_wants script past) want
         (ap starts_among (sym (done_wants-driver script past kind want next)) ∙ h))
 
-pub false_is_true : {P : Type 0} (b : Bool) → b ≡ true → b ≡ false → P
-false_is_true b t f = absurd cc
-
 -- ---- a post
+
+-- a block task is one that blocks shutdown
+share_of : (p : Posted) (ps : List Posted) (b : Behaviour) → length (cond (is_block b) (p ∷ ps) ps) ≡ length ps + block_share b
+share_of p ps ContinueOnShutdown = omega arith
+share_of p ps SkipOnShutdown = omega arith
+share_of p ps BlockShutdown = omega arith
+
+-- how many block shutdown with one more task among them
+pub blocks_between : (script : Plan) (xs : List Posted) (p : Posted) (ys : List Posted) →
+    length (filter (blocks_shutdown script) (xs ++ p ∷ ys)) ≡ length (filter (blocks_shutdown script) (xs ++ ys))
+        + block_share (effective_at script p.home p.delay)
+blocks_between script xs p ys =
+    let block = blocks_shutdown script in
+    let with_it = ap length (filter-append block xs (p ∷ ys)) ∙ length-append (filter block xs) (filter block (p ∷ ys)) in
+    let without = ap length (filter-append block xs ys) ∙ length-append (filter block xs) (filter block ys) in
+    omega (arith, with_it, without, share_of p (filter block ys) (effective_at script p.home p.delay))
 
 pub posted : (script : Plan) (past : List Entry) (queue : List Waiting) (values : List ℕ) (old new : Tracked) (task runner delay : ℕ) →
     WellFormed script → StandsFor script past queue values old → wanted script past ≡ Some (WantsPost task runner delay) →
@@ -222,8 +227,7 @@ posted script past queue values old new task runner delay formed stands next all
   in_order = rw (grown) (InOrder-push (to_take script past) made stands.in_order
       (AllByRecursion-map (IsKnown script past) (λ x. Before x made) (to_take script past) (λ x k. record {
     earlier = k.earlier;
-    another = λ same. false_is_true (posts_among (done_wants script past) x.task) k.by_driver (ap (posts_among (done_wants script past)) same
-        ∙ sound.first_post);
+    another = λ same. both_ways _ sound.first_post (rw same at k.by_driver);
   }) stands.known));
   known = rw (grown) (AllByRecursion-append (IsKnown script (past ++ e ∷ [])) (to_take script past) (made ∷ [])
       (known-driver script past kind want (to_take script past) next stands.known) (
@@ -241,9 +245,7 @@ posted script past queue values old new task runner delay formed stands next all
   cells = λ s lt. stands.cells s lt ∙ sym (cell_of_push script past e s);
   cell_count = stands.cell_count;
   phase = ap (λ (t : Tracked). t.phase) tracked ∙ stands.phase ∙ sym (phase_of_push past e);
-  blocks = ap (λ (t : Tracked). t.block_items) tracked ∙ rw (grown, filter-append (blocks_shutdown script) (to_take script past) (made ∷ []), length-append
-      (filter (blocks_shutdown script) (to_take script past)) (filter (blocks_shutdown script) (made ∷ [])), stands.blocks)
-      (ap (λ (n : ℕ). length (filter (blocks_shutdown script) (to_take script past)) + n) (share (effective_at script runner delay)));
+  blocks = rw (grown, tracked, blocks_between script (to_take script past) made [], append-nil (to_take script past)) (omega (arith, stands.blocks));
   no_skips = ap (λ (t : Tracked). t.skip_items) tracked ∙ stands.no_skips;
   not_started = not_started-driver script past kind want next refl stands.not_started;
 }
@@ -265,11 +267,6 @@ posted script past queue values old new task runner delay formed stands next all
 
     grown : to_take script (past ++ e ∷ []) ≡ to_take script past ++ made ∷ []
     grown = to_take-post script past task runner delay (stands.fresh task sound.first_post) allowed
-
-    share : (b : Behaviour) → block_share b ≡ length (cond (is_block b) (made ∷ []) [])
-    share ContinueOnShutdown = refl
-    share SkipOnShutdown = refl
-    share BlockShutdown = refl
 
 -- an entry of the driver that posts, takes and ends no task and leaves the phase leaves everything
 unchanged : (script : Plan) (past : List Entry) (queue : List Waiting) (values : List ℕ) (tracked : Tracked) (kind : Kind) (want : Want) →
@@ -420,8 +417,5 @@ known-worker script past kind ps known =
 pub answer_is : (phase now : Phase) (effective there : Behaviour) (ok : Bool) → phase ≡ now → effective ≡ there → ok ≡ not (forbids phase effective)
     → forbids now there ≡ not ok
 answer_is phase now effective there ok same_phase same answer =
-    sym (ap (λ (p : Phase). forbids p there) same_phase) ∙ sym (ap (forbids phase) same) ∙ twice (forbids phase effective) ∙ ap not (sym answer)
-  where
-    twice : (b : Bool) → b ≡ not (not b)
-    twice true = refl
-    twice false = refl
+    rw (← same_phase, ← same, answer, not-not) refl
+

@@ -5,10 +5,10 @@ use Rattle.std.specs.List.{list_any, AllByRecursion, All}
 use Rattle.std.specs.Option.{option_map_or, IfSome}
 use Rattle.std.proofs.Math.Seq.{split_at}
 use Rattle.std.proofs.lemmas.Bool.Decides.{nat_tests, eqb_tells}
-use Rattle.std.proofs.lemmas.Bool.{ne_eqb}
-use Rattle.std.proofs.lemmas.List.{append-nil, map-append, take-map, drop-map, get_or-map, get_or-take, get_or-drop, length-append, length-map, length-take, length-drop, get_or-set_same, get_or-set_other, length-set}
+use Rattle.std.proofs.Math.Bool.{or-false}
+use Rattle.std.proofs.lemmas.Bool.{ne_eqb, both_ways}
+use Rattle.std.proofs.lemmas.List.{append-nil, map-append, take-map, drop-map, get_or-map, get_or-take, get_or-drop, get_or_default, length-append, length-map, length-take, length-drop, get_or-set_same, get_or-set_other, length-set}
 use Rattle.std.proofs.lemmas.List.Elements.{filter-append, recursion_from_All}
-use Rattle.std.proofs.lemmas.Option.{slice_get-get_or}
 use Rattle.task_traits.specs.Behaviour.{forbids}
 use Rattle.task_traits.specs.declared.traits.Behaviour.{Behaviour}
 use Rattle.task_traits.specs.declared.traits.Behaviour.TheVariants.{ContinueOnShutdown, SkipOnShutdown, BlockShutdown}
@@ -38,7 +38,7 @@ use Rattle.task_script.specs.WellFormed.{posts_among, starts_among, WellFormed}
 use Rattle.env_app.specs.declared.engine.Waiting.{Waiting}
 use Rattle.env_app.specs.Engine.{waiting_of, importance_of, ranks_of, IsFirstBest, done_wants, to_take, blocks_shutdown, IsKnown, IsStill, StandsFor}
 use Rattle.env_app.proofs.Best.{IsFirst, InOrder-without, sequence_below, head_of_still, best_of_still}
-use Rattle.env_app.proofs.Events.{worker_entry, to_take-same, to_take-take, filter_one, own_entries-worker, known-worker, false_is_true}
+use Rattle.env_app.proofs.Events.{worker_entry, to_take-same, to_take-take, filter_one, own_entries-worker, known-worker, blocks_between, either_way}
 
 -- any accepted task, for places past the end
 abbrev nobody : Posted
@@ -50,9 +50,6 @@ at ps k = get_or ps k nobody
 
 around : (ps : List Posted) (k : ℕ) → k < length ps → ps ≡ take k ps ++ at ps k ∷ drop (k + 1) ps
 around ps k lt = split_at ps k nobody lt ∙ ap (λ n. take k ps ++ at ps k ∷ drop n ps) (sym (add-one k))
-
-same_default : (ps : List Posted) (i : ℕ) (d e : Posted) → i < length ps → get_or ps i d ≡ get_or ps i e
-same_default ps i d e lt = let a = slice_get-get_or ps i d lt in let b = slice_get-get_or ps i e lt in cc
 
 -- the engine's task at a place is the one that may be taken there
 waiting_at : (ps : List Posted) (k : ℕ) (w : Waiting) → k < length ps → w ≡ get_or (map waiting_of ps) k w → w ≡ waiting_of (at ps k)
@@ -69,9 +66,9 @@ known_at : (script : Plan) (past : List Entry) (ps : List Posted) (k : ℕ) → 
 known_at script past ps k known lt =
     (AllByRecursion-back (IsKnown script past) (take k ps) (at ps k ∷ drop (k + 1) ps) (subst (AllByRecursion (IsKnown script past)) (around ps k lt) known)).0
 
-pub in_range : (script : Plan) (past : List Entry) (queue : List Waiting) (values : List ℕ) (tracked : Tracked) (k : ℕ) (w : Waiting) →
+pub in_range : {script : Plan} {past : List Entry} {queue : List Waiting} {values : List ℕ} {tracked : Tracked} (k : ℕ) (w : Waiting) →
     StandsFor script past queue values tracked → k < length queue → w ≡ get_or queue k w → sequence_of script w.runner w.task < length values
-in_range script past queue values tracked k w stands lt is =
+in_range {script} {past} {queue} {values} {tracked} k w stands lt is =
     let E = to_take script past in
     let below : k < length E = omega (arith, ap length stands.waits, length-map E waiting_of) in
     let it : w ≡ waiting_of (at E k) = waiting_at E k w below (is ∙ ap (λ (q : List Waiting). get_or q k w) stands.waits) in
@@ -82,10 +79,10 @@ in_range script past queue values tracked k w stands lt is =
     omega (arith, bound, stands.cell_count, ap (λ (x : Waiting). sequence_of script x.runner x.task) it)
 
 -- the phase lets the task at a place of the queue start
-pub may_start_at : (script : Plan) (past : List Entry) (queue : List Waiting) (values : List ℕ) (tracked : Tracked) (k : ℕ) (w : Waiting) →
+pub may_start_at : {script : Plan} {past : List Entry} {queue : List Waiting} {values : List ℕ} {tracked : Tracked} (k : ℕ) (w : Waiting) →
     StandsFor script past queue values tracked → k < length queue → w ≡ get_or queue k w → forbids tracked.phase (effective_at script w.runner 0) ≡ false
 unfolding to_take
-may_start_at script past queue values tracked k w stands lt is =
+may_start_at {script} {past} {queue} {values} {tracked} k w stands lt is =
     let E = to_take script past in
     let below : k < length E = omega (arith, ap length stands.waits, length-map E waiting_of) in
     let it : w ≡ waiting_of (at E k) = waiting_at E k w below (is ∙ ap (λ (q : List Waiting). get_or q k w) stands.waits) in
@@ -104,26 +101,10 @@ may_start_at script past queue values tracked k w stands lt is =
     second true false h = refl
     second false b h = absurd cc
 
--- a block task among those that wait is counted
-share_of : (p : Posted) (ps : List Posted) (b : Behaviour) → length (cond (is_block b) (p ∷ ps) ps) ≡ length ps + block_share b
-share_of p ps ContinueOnShutdown = omega arith
-share_of p ps SkipOnShutdown = omega arith
-share_of p ps BlockShutdown = omega arith
-
-blocks_between : (script : Plan) (xs : List Posted) (p : Posted) (ys : List Posted) →
-    length (filter (blocks_shutdown script) (xs ++ p ∷ ys)) ≡ length (filter (blocks_shutdown script) (xs ++ ys))
-        + block_share (effective_at script p.home p.delay)
-blocks_between script xs p ys =
-    let block = blocks_shutdown script in
-    let with_it = ap length (filter-append block xs (p ∷ ys)) ∙ length-append (filter block xs) (filter block (p ∷ ys)) in
-    let without = ap length (filter-append block xs ys) ∙ length-append (filter block xs) (filter block ys) in
-    let share = share_of p (filter block ys) (effective_at script p.home p.delay) in
-    omega (arith, with_it, without, share)
-
 -- the block task at a place of the queue is counted
-pub counted_at : (script : Plan) (past : List Entry) (queue : List Waiting) (values : List ℕ) (tracked : Tracked) (k : ℕ) (w : Waiting) →
+pub counted_at : {script : Plan} {past : List Entry} {queue : List Waiting} {values : List ℕ} {tracked : Tracked} (k : ℕ) (w : Waiting) →
     StandsFor script past queue values tracked → k < length queue → w ≡ get_or queue k w → block_share (effective_at script w.runner 0) ≤ tracked.block_items
-counted_at script past queue values tracked k w stands lt is =
+counted_at {script} {past} {queue} {values} {tracked} k w stands lt is =
     let E = to_take script past in
     let below : k < length E = omega (arith, ap length stands.waits, length-map E waiting_of) in
     let it : w ≡ waiting_of (at E k) = waiting_at E k w below (is ∙ ap (λ (q : List Waiting). get_or q k w) stands.waits) in
@@ -144,11 +125,9 @@ pub record Served (old new : Tracked) (effective : Behaviour) : Type 0 where
 still_served : (past : List Entry) (task runner found left : ℕ) → IsStill past
     → IsStill ((past ++ worker_entry (Take task runner found) ∷ []) ++ worker_entry (End task left) ∷ [])
 still_served past task runner found left still = record {
-  runs = λ seat. running_push mid ended seat ∙ ap (λ (r : Option Running). cond (eqb 1 seat) None r) (running_push past taken seat)
-      ∙ either (eqb 1 seat) (running past seat) (still.runs seat);
-  holds = λ seat. holding_push mid ended seat ∙ same (eqb 1 seat) (holding mid seat) ∙ holding_push past taken seat ∙ same (eqb 1 seat) (holding past seat)
-      ∙ still.holds seat;
-  policy = policy_of_push mid ended ∙ policy_of_push past taken ∙ still.policy;
+  runs = λ seat. rw (running_push mid ended seat, running_push past taken seat, still.runs seat) (either (eqb 1 seat) _);
+  holds = λ seat. rw (holding_push mid ended seat, holding_push past taken seat, still.holds seat) (either_way (eqb 1 seat) _ ∙ either_way (eqb 1 seat) None);
+  policy = rw (policy_of_push mid ended, policy_of_push past taken) still.policy;
   immediate = subst (AllByRecursion (λ p. p.delay ≡ 0)) (sym (posts_push mid ended ∙ append-nil (posts mid) ∙ posts_push past taken ∙ append-nil (posts past)))
       still.immediate;
 }
@@ -162,14 +141,9 @@ still_served past task runner found left still = record {
     mid : List Entry
     mid = past ++ taken ∷ []
 
-    either : (b : Bool) (r : Option Running) → r ≡ None → cond b None (cond b (Some (record { task = task; home = runner; found = found; is_main = false })) r)
-        ≡ None
-    either true r none = refl
-    either false r none = none
-
-    same : {A : Type 0} (b : Bool) (x : A) → cond b x x ≡ x
-    same true x = refl
-    same false x = refl
+    either : {A : Type 0} (b : Bool) (x : A) → cond b None (cond b (Some x) None) ≡ None
+    either true x = refl
+    either false x = refl
 
 no_act_among : (steps : List Step) → list_any is_act steps ≡ false → filter is_act steps ≡ []
 no_act_among [] h = refl
@@ -206,12 +180,11 @@ unfolding may_come
 served_between script past values old new xs p ys found left formed stands is next tracked lower upper within found_is left_is = record {
   legal = is_legal_push script mid ended ∙ rw (is_legal_push script past taken, stands.legal, take_allowed, end_allowed) refl;
   still = still_served past p.task p.home found left stands.still;
-  ended = λ t. rw (is_ended_push mid ended t, is_ended_push past taken t, is_taken_push mid ended t, is_taken_push past taken t, stands.ended t)
-      (sides (is_taken past t) (eqb p.task t));
+  ended = λ t. simp (is_ended_push mid ended t, is_ended_push past taken t, is_taken_push mid ended t, is_taken_push past taken t, stands.ended t, or-false);
   waits = ap (map waiting_of) (sym rest);
   in_order = rw (rest) (InOrder-without xs p ys order);
   known = rw (rest) (known-worker script mid (End p.task left) (xs ++ ys) (known-worker script past (Take p.task p.home found) (xs ++ ys) known_rest));
-  fresh = λ t h. is_taken_push mid ended t ∙ ap (λ (b : Bool). b || false) (is_taken_push past taken t) ∙ untaken t (same_done t h);
+  fresh = λ t h. rw (is_taken_push mid ended t, is_taken_push past taken t) (untaken t (same_done t h));
   cells = λ u lt. stored u (omega (arith, lt, length-set values s left)) ∙ sym (cell_now u);
   cell_count = length-set values s left ∙ stands.cell_count;
   phase = tracked.phase ∙ stands.phase ∙ sym (phase_of_push mid ended ∙ phase_of_push past taken);
@@ -298,11 +271,6 @@ served_between script past values old new xs p ys found left formed stands is ne
       eqb-same (after (steps_of script p.task) found),
     ) refl
 
-    sides : (a b : Bool) → ((a || false) || b) ≡ ((a || b) || false)
-    sides true b = refl
-    sides false true = refl
-    sides false false = refl
-
     same_wants : done_wants script (mid ++ ended ∷ []) ≡ done_wants script past
     same_wants = ap (λ (own : List Entry). take (length own) (all_wants script)) (own_entries-worker mid (End p.task left)
         ∙ own_entries-worker past (Take p.task p.home found))
@@ -312,8 +280,7 @@ served_between script past values old new xs p ys found left formed stands is ne
 
     untaken : (t : ℕ) → posts_among (done_wants script past) t ≡ false → ((is_taken past t || eqb p.task t) || false) ≡ false
     untaken t h =
-        let other : p.task ≢ t = λ same. false_is_true (posts_among (done_wants script past) t) (ap (posts_among (done_wants script past)) (sym same)
-            ∙ mine.by_driver) h in
+        let other : p.task ≢ t = λ same. both_ways _ h (rw same at mine.by_driver) in
         rw (stands.fresh t h, ne_eqb p.task t other) refl
 
     cell_now : (u : ℕ) → cell_of script (mid ++ ended ∷ []) u ≡ cond (eqb s u) left (cell_of script past u)
@@ -350,17 +317,17 @@ served script past queue values old new k w found left formed stands next tracke
     AllByRecursion-from_index (λ x. importance_of script x.home < importance_of script p.home) (take k E) (λ i d lt.
     let i_below : i < k = omega (arith, length-take k E) in
     let inside : i < length E = omega (arith, below) in
-    let e : get_or (take k E) i d ≡ at E i = get_or-take k E i d i_below ∙ same_default E i d nobody inside in
+    let e : get_or (take k E) i d ≡ at E i = get_or-take k E i d i_below ∙ get_or_default E i d nobody inside in
     let before = best.lower i i_below in
     rw (e, sym (rank i inside), sym (rank k below)) before) in
     let upper : AllByRecursion (λ y. importance_of script y.home ≤ importance_of script p.home) (drop (k + 1) E) =
     AllByRecursion-from_index (λ y. importance_of script y.home ≤ importance_of script p.home) (drop (k + 1) E) (λ i d lt.
     let inside : k + 1 + i < length E = omega (arith, length-drop (k + 1) E) in
-    let e : get_or (drop (k + 1) E) i d ≡ at E (k + 1 + i) = get_or-drop (k + 1) E i d ∙ same_default E (k + 1 + i) d nobody inside in
+    let e : get_or (drop (k + 1) E) i d ≡ at E (k + 1 + i) = get_or-drop (k + 1) E i d ∙ get_or_default E (k + 1 + i) d nobody inside in
     let behind = best.no_higher (k + 1 + i) (omega (arith, same_length)) in
     rw (e, sym (rank (k + 1 + i) inside), sym (rank k below)) behind) in
     let within : sequence_of script p.home p.task < length values =
-    subst (λ (x : Waiting). sequence_of script x.runner x.task < length values) it (in_range script past queue values old k w stands best.within is) in
+    subst (λ (x : Waiting). sequence_of script x.runner x.task < length values) it (in_range k w stands best.within is) in
     let rest_is : map waiting_of (take k E ++ drop (k + 1) E) ≡ take k queue ++ drop (k + 1) queue =
     map-append waiting_of (take k E) (drop (k + 1) E)
     ∙ ap (λ (front : List Waiting). front ++ map waiting_of (drop (k + 1) E)) (sym (take-map waiting_of k E))

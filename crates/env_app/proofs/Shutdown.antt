@@ -1,10 +1,10 @@
 -- What the two entries of a shutdown keep, and what the tracker counts.
-use Rattle.std.proofs.Common.{◌≡◌, ℕ, ◌<◌, ◌≤◌, Bool, true, false, cond, eqb, List, [], ◌∷◌, ◌++◌, length, map, refl, sym, ap, subst, ◌∙◌, Some, arith}
+use Rattle.std.proofs.Common.{◌≡◌, ℕ, ◌<◌, ◌≤◌, Bool, true, false, cond, eqb, List, [], ◌∷◌, ◌++◌, length, map, refl, sym, ap, ◌∙◌, inl, inr, Some, arith}
 use Rattle.std.specs.Prelude.{not, ◌&&◌, ◌||◌, filter, Result, Ok, Err, is_err, IsOk, OnOk}
 use Rattle.std.specs.List.{list_any, AllByRecursion, IsDistinct}
-use Rattle.std.proofs.lemmas.Bool.{eqb-true, ne_eqb}
+use Rattle.std.proofs.Math.Bool.{and_assoc, and-not_self, and-false}
+use Rattle.std.proofs.lemmas.Bool.{eqb-true, ne_eqb, both_ways, or_cases}
 use Rattle.std.proofs.lemmas.List.{length-map}
-use Rattle.std.proofs.lemmas.List.Filters.{length-filter_both}
 use Rattle.std.proofs.lemmas.Map.Steps.{length-le_from_distinct_below}
 use Rattle.task_traits.specs.Behaviour.{forbids}
 use Rattle.task_traits.specs.declared.traits.Behaviour.{Behaviour}
@@ -22,7 +22,7 @@ use Rattle.task_model.specs.Refusal.{effective_at}
 use Rattle.task_model.specs.Sequences.{may_start}
 use Rattle.task_model.specs.Blockers.{block_part, skip_part, is_block, is_skip, is_open_block, is_running_skip, blockers_of}
 use Rattle.hist_model.specs.Allowed.{may_come}
-use Rattle.list_laws.proofs.Lists.{filter_congr, filter-filter, filter_never, AllByRecursion-filter, AllByRecursion-map}
+use Rattle.list_laws.proofs.Lists.{filter_congr, filter-filter, filter_never, AllByRecursion-filter, AllByRecursion-map, count_le}
 use Rattle.task_model.proofs.Growth.{phase_of_push, cell_of_push}
 use Rattle.hist_model.proofs.Laws.Legal.{is_legal_push}
 use Rattle.task_script.specs.Wants.{WantsShutdown, WantsDone, wants_shutdown}
@@ -32,7 +32,7 @@ use Rattle.env_app.specs.Engine.{waiting_of, done_count, done_wants, wanted, to_
 use Rattle.env_app.proofs.Wanted.{by_script_next}
 use Rattle.env_app.proofs.Quiet.{no_job_blocks}
 use Rattle.env_app.proofs.Best.{InOrder-filter}
-use Rattle.env_app.proofs.Events.{driver_entry, driver_sits, done_wants-driver, to_take-shutdown, to_take-done, still_after, ended-driver, known-driver, fresh-driver, list_any-last, list_any-more, none_to_take, false_is_true}
+use Rattle.env_app.proofs.Events.{driver_entry, driver_sits, done_wants-driver, to_take-shutdown, to_take-done, still_after, ended-driver, known-driver, fresh-driver, list_any-last, list_any-more, none_to_take}
 
 -- the waiting task may start once shutdown has started
 abbrev pub stays : Plan → Waiting → Bool
@@ -70,10 +70,10 @@ stays_block SkipOnShutdown = refl
 stays_block BlockShutdown = refl
 
 -- shutdown that is wanted was not started yet
-pub still_running : (script : Plan) (past : List Entry) (queue : List Waiting) (values : List ℕ) (tracked : Tracked) →
+pub still_running : {script : Plan} {past : List Entry} {queue : List Waiting} {values : List ℕ} {tracked : Tracked} →
     WellFormed script → StandsFor script past queue values tracked → wanted script past ≡ Some WantsShutdown → tracked.phase ≡ phases.Running
 unfolding wanted
-still_running script past queue values tracked formed stands next = stands.phase ∙ stands.not_started (formed.one_shutdown (done_count past) next)
+still_running {script} {past} {queue} {values} {tracked} formed stands next = stands.phase ∙ stands.not_started (formed.one_shutdown (done_count past) next)
 
 pub started : (script : Plan) (past : List Entry) (queue left : List Waiting) (values : List ℕ) (old new : Tracked) →
     WellFormed script → StandsFor script past queue values old → wanted script past ≡ Some WantsShutdown →
@@ -94,9 +94,8 @@ started script past queue left values old new formed stands next left_is tracked
   phase = ap (λ (t : Tracked). t.phase) tracked ∙ sym (phase_of_push past e ∙ ap (λ (p : Phase). phase_after p Shutdown) running_now);
   blocks = ap (λ (t : Tracked). t.block_items) tracked ∙ stands.blocks ∙ ap length (sym same_blocks);
   no_skips = ap (λ (t : Tracked). t.skip_items) tracked ∙ stands.no_skips;
-  not_started = λ h. false_is_true (starts_among (done_wants script (past ++ e ∷ [])))
-      (ap starts_among (done_wants-driver script past Shutdown WantsShutdown next)
-          ∙ list_any-last wants_shutdown (done_wants script past) WantsShutdown refl) h;
+  not_started = λ h. absurd (both_ways _ h (rw (done_wants-driver script past Shutdown WantsShutdown next)
+      (list_any-last wants_shutdown (done_wants script past) WantsShutdown refl)));
 }
   where
     e : Entry
@@ -135,11 +134,6 @@ unfolding blockers_of block_part skip_part to_take
 nothing_blocks script past formed still under_way ended none =
     omega (arith, ap length open_blocks, ap length no_skips, no_job_blocks script past formed still)
   where
-    not_both : (a b : Bool) → (a && b && not b) ≡ false
-    not_both true true = refl
-    not_both true false = refl
-    not_both false b = refl
-
     regroup : (a b c : Bool) → (b && c) ≡ c → (c && a) ≡ ((a && b) && c)
     regroup true b true h = sym h
     regroup true b false h = sym h
@@ -156,12 +150,12 @@ nothing_blocks script past formed still under_way ended none =
 
     no_skips : filter (is_running_skip script past) (posts past) ≡ []
     no_skips = filter_never (is_running_skip script past) (posts past)
-        (λ p. rw (ended p.task) (not_both (is_skip (effective_at script p.home p.delay)) (is_taken past p.task)))
+        (λ p. rw (ended p.task, and_assoc, and-not_self, and-false) refl)
 
 -- how many tasks wait while shutdown is under way: as many as block it
-pub waiting_count : (script : Plan) (past : List Entry) (queue : List Waiting) (values : List ℕ) (tracked : Tracked)
+pub waiting_count : {script : Plan} {past : List Entry} {queue : List Waiting} {values : List ℕ} {tracked : Tracked}
     → StandsFor script past queue values tracked → tracked.phase ≡ phases.Started → length queue ≡ blocker_count tracked
-waiting_count script past queue values tracked stands under_way =
+waiting_count {script} {past} {queue} {values} {tracked} stands under_way =
     let same = only_blocks script past (sym stands.phase ∙ under_way) in
     omega (arith, ap length stands.waits, length-map (to_take script past) waiting_of, ap length same, stands.blocks, stands.no_skips)
 
@@ -202,8 +196,8 @@ done script past queue values old new formed stands next under_way empty tracked
 
     later : (b : Bool) → starts_among (done_wants script past) ≡ b → starts_among (done_wants script (past ++ e ∷ [])) ≡ false
         → phase_of (past ++ e ∷ []) ≡ phases.Running
-    later true is h = false_is_true (starts_among (done_wants script (past ++ e ∷ [])))
-        (ap starts_among (done_wants-driver script past Done WantsDone next) ∙ list_any-more wants_shutdown (done_wants script past) WantsDone is) h
+    later true is h = absurd (both_ways _ h (rw (done_wants-driver script past Done WantsDone next)
+        (list_any-more wants_shutdown (done_wants script past) WantsDone is)))
     later false is h = let before : phase_of past ≡ phases.Running = stands.not_started is in absurd cc
 
 -- ---- the tracker has room
@@ -219,27 +213,22 @@ distinct_tasks (p ∷ ps) h = (others ps h.0, distinct_tasks ps h.1)
 
 tasks_below : (ps : List Posted) (n : ℕ) → AllByRecursion (λ p. p.task < n) ps → (t : ℕ) → list_any (eqb t) (map (λ p. p.task) ps) ≡ true → t < n
 tasks_below [] n below t h = absurd cc
-tasks_below (p ∷ ps) n below t h = either (eqb t p.task) refl h (tasks_below ps n below.1 t)
-  where
-    either : (b : Bool) → eqb t p.task ≡ b → (b || list_any (eqb t) (map (λ q. q.task) ps)) ≡ true → (list_any (eqb t) (map (λ q. q.task) ps) ≡ true → t < n)
-        → t < n
-    either true is found later = subst (λ (m : ℕ). m < n) (sym (eqb-true t p.task is)) below.0
-    either false is found later = later found
-
-pub filter_shorter : {A : Type 0} (p : A → Bool) (xs : List A) → length (filter p xs) ≤ length xs
-filter_shorter p xs = omega (arith, length-filter_both p (λ x. not (p x)) (λ x. refl) xs)
+tasks_below (p ∷ ps) n below t h = elim (or_cases (eqb t p.task) (list_any (eqb t) (map (λ q. q.task) ps)) h) [
+  | inl is ↦ rw (eqb-true t p.task is) below.0
+  | inr later ↦ tasks_below ps n below.1 t later
+]
 
 -- no more tasks wait than are declared, and no more block shutdown
-pub few_wait : (script : Plan) (past : List Entry) (queue : List Waiting) (values : List ℕ) (tracked : Tracked) → StandsFor script past queue values tracked →
+pub few_wait : {script : Plan} {past : List Entry} {queue : List Waiting} {values : List ℕ} {tracked : Tracked} → StandsFor script past queue values tracked →
     (length queue ≤ length script.tasks) × (blocker_count tracked ≤ length script.tasks)
-few_wait script past queue values tracked stands =
+few_wait {script} {past} {queue} {values} {tracked} stands =
     let E = to_take script past in
     let below : AllByRecursion (λ p. p.task < length script.tasks) E = AllByRecursion-map (IsKnown script past) (λ p. p.task < length script.tasks) E
         (λ p k. k.task_declared) stands.known in
     let few : length (map (λ p. p.task) E) ≤ length script.tasks = length-le_from_distinct_below (map (λ p. p.task) E) (length script.tasks)
         (distinct_tasks E stands.in_order) (tasks_below E (length script.tasks) below) in
     let count = length-map E (λ p. p.task) in
-    let shorter = filter_shorter (blocks_shutdown script) E in
+    let shorter = count_le (blocks_shutdown script) E in
     (omega (arith, ap length stands.waits, length-map E waiting_of), omega (arith, stands.blocks, stands.no_skips))
 
 -- what the tracker says where it is done

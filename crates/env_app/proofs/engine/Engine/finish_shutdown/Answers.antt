@@ -23,7 +23,7 @@ returns-clause-ready g c =
     let next = wanted-same script c.args.self.now.log.items self.log.items c.loop-self.invariant.1 ∙ c.requires.next in
     let over = when_done c.try_done.result self.tracker c.try_done.new.self
         (sym c.loop-self-test.ensures.value) c.try_done.ensures.ok.0 c.try_done.ensures.done in
-    let waiting = waiting_count script self.log.items self.queue.items self.cells.items self.tracker ready.stands c.loop-self.invariant.2 in
+    let waiting = waiting_count ready.stands c.loop-self.invariant.2 in
     let empty : self.queue.items ≡ [] = nil_from_length self.queue.items (omega (arith, waiting, over.0)) in
     record {
       stands = rw (c.push_spare.ensures.items) (done script self.log.items self.queue.items self.cells.items self.tracker c.try_done.new.self c.requires.formed

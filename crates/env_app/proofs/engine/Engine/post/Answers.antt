@@ -9,8 +9,7 @@ use Rattle.env_app.proofs.engine.Engine.post.Goals as goal
 
 pub accept-ok-requires : goal.accept-ok-requires
 accept-ok-requires c =
-    let few = few_wait c.args.script.now c.args.self.now.log.items c.args.self.now.queue.items c.args.self.now.cells.items c.args.self.now.tracker
-        c.requires.ready.stands in
+    let few = few_wait c.requires.ready.stands in
     record { room = omega (arith, few.1, c.requires.formed.few_tasks) }
 
 pub push_spare-requires : goal.push_spare-requires

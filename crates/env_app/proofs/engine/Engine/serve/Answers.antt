@@ -14,43 +14,35 @@ use Rattle.env_app.proofs.engine.Engine.serve.Goals as goal
 pub index-found-requires : goal.index-found-requires
 index-found-requires g c =
     let old = c.args.self.now in
-    let best = subst (λ (q : List Waiting). IsFirstBest (ranks_of c.args.script.now q) (length q) c.first_best-best.result) c.as_slice.ensures.value
-        c.first_best-best.ensures in
-    let inside = in_range c.args.script.now old.log.items old.queue.items old.cells.items old.tracker c.first_best-best.result c.remove-task.result
-        c.requires.ready.stands best.within c.remove-task.ensures.value in
+    let best = rw c.as_slice.ensures.value at c.first_best-best.ensures in
+    let inside = in_range c.first_best-best.result c.remove-task.result c.requires.ready.stands best.within c.remove-task.ensures.value in
     omega (arith, inside, c.sequence-cell.ensures, old.cells.ok.0)
 
 pub started-requires-clause-allowed : goal.started-requires-clause-allowed
 started-requires-clause-allowed g c =
     let old = c.args.self.now in
-    let best = subst (λ (q : List Waiting). IsFirstBest (ranks_of c.args.script.now q) (length q) c.first_best-best.result) c.as_slice.ensures.value
-        c.first_best-best.ensures in
+    let best = rw c.as_slice.ensures.value at c.first_best-best.ensures in
     ap (forbids old.tracker.phase) c.effective_at-effective.ensures
-    ∙ may_start_at c.args.script.now old.log.items old.queue.items old.cells.items old.tracker c.first_best-best.result c.remove-task.result
-        c.requires.ready.stands best.within c.remove-task.ensures.value
+    ∙ may_start_at c.first_best-best.result c.remove-task.result c.requires.ready.stands best.within c.remove-task.ensures.value
 
 pub started-requires-clause-room : goal.started-requires-clause-room
 started-requires-clause-room g c =
     let old = c.args.self.now in
-    let few = few_wait c.args.script.now old.log.items old.queue.items old.cells.items old.tracker c.requires.ready.stands in
+    let few = few_wait c.requires.ready.stands in
     omega (arith, few.1, c.requires.formed.few_tasks)
 
 pub index_mut-requires : goal.index_mut-requires
 index_mut-requires g c =
     let old = c.args.self.now in
-    let best = subst (λ (q : List Waiting). IsFirstBest (ranks_of c.args.script.now q) (length q) c.first_best-best.result) c.as_slice.ensures.value
-        c.first_best-best.ensures in
-    let inside = in_range c.args.script.now old.log.items old.queue.items old.cells.items old.tracker c.first_best-best.result c.remove-task.result
-        c.requires.ready.stands best.within c.remove-task.ensures.value in
+    let best = rw c.as_slice.ensures.value at c.first_best-best.ensures in
+    let inside = in_range c.first_best-best.result c.remove-task.result c.requires.ready.stands best.within c.remove-task.ensures.value in
     omega (arith, inside, c.sequence-cell.ensures, old.cells.ok.0)
 
 pub ended-requires-clause-block_counted : goal.ended-requires-clause-block_counted
 ended-requires-clause-block_counted g c =
     let old = c.args.self.now in
-    let best = subst (λ (q : List Waiting). IsFirstBest (ranks_of c.args.script.now q) (length q) c.first_best-best.result) c.as_slice.ensures.value
-        c.first_best-best.ensures in
-    let counted = counted_at c.args.script.now old.log.items old.queue.items old.cells.items old.tracker c.first_best-best.result c.remove-task.result
-        c.requires.ready.stands best.within c.remove-task.ensures.value in
+    let best = rw c.as_slice.ensures.value at c.first_best-best.ensures in
+    let counted = counted_at c.first_best-best.result c.remove-task.result c.requires.ready.stands best.within c.remove-task.ensures.value in
     omega (arith, counted, ap block_share c.effective_at-effective.ensures, ap (λ (t : Tracked). t.block_items) c.started.ensures)
 
 pub returns-clause-ready : goal.returns-clause-ready
@@ -60,16 +52,13 @@ returns-clause-ready g c =
     let queue = old.queue.items in
     let values = old.cells.items in
     let w = c.remove-task.result in
-    let best = subst (λ (q : List Waiting). IsFirstBest (ranks_of script q) (length q) c.first_best-best.result) c.as_slice.ensures.value
-        c.first_best-best.ensures in
-    let inside = in_range script old.log.items queue values old.tracker c.first_best-best.result w c.requires.ready.stands best.within
-        c.remove-task.ensures.value in
+    let best = rw c.as_slice.ensures.value at c.first_best-best.ensures in
+    let inside = in_range c.first_best-best.result w c.requires.ready.stands best.within c.remove-task.ensures.value in
     let found : c.index-found.result.now ≡ get_or values (sequence_of script w.runner w.task) 0 =
     c.index-found.ensures
     ∙ ap (λ (s : ℕ). get_or values s c.index-found.result.now) c.sequence-cell.ensures
     ∙ get_or_default_zero values (sequence_of script w.runner w.task) c.index-found.result.now inside in
-    let counted = counted_at script old.log.items queue values old.tracker c.first_best-best.result w c.requires.ready.stands best.within
-        c.remove-task.ensures.value in
+    let counted = counted_at c.first_best-best.result w c.requires.ready.stands best.within c.remove-task.ensures.value in
     let share = ap block_share c.effective_at-effective.ensures in
     let tracked : Served old.tracker c.ended.new.self (effective_at script w.runner 0) = record {
       phase = ap (λ (t : Tracked). t.phase) c.ended.ensures ∙ ap (λ (t : Tracked). t.phase) c.started.ensures;

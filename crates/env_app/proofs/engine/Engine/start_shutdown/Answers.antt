@@ -6,14 +6,15 @@ use Rattle.task_traits.specs.declared.phase.Phase.TheVariants.{Started}
 use Rattle.task_tracker.specs.Tracked.{Tracked}
 use Rattle.task_model.specs.Refusal.{effective_at}
 use Rattle.env_app.specs.declared.engine.Waiting.{Waiting}
-use Rattle.env_app.proofs.Shutdown.{still_running, started, filter_shorter}
+use Rattle.list_laws.proofs.Lists.{count_le}
+use Rattle.env_app.proofs.Shutdown.{still_running, started}
 use Rattle.env_app.proofs.Room.{some_to_do, room_after_entry}
 use Rattle.env_app.proofs.engine.Engine.start_shutdown.Goals as goal
 
 pub start_shutdown-requires : goal.start_shutdown-requires
 start_shutdown-requires c =
     let old = c.args.self.now in
-    still_running c.args.script.now old.log.items old.queue.items old.cells.items old.tracker c.requires.formed c.requires.ready.stands c.requires.next
+    still_running c.requires.formed c.requires.ready.stands c.requires.next
 
 pub push_spare-requires : goal.push_spare-requires
 push_spare-requires c =
@@ -28,7 +29,7 @@ returns-clause-ready c =
     let kept = c.drop_forbidden.ensures.kept ∙ ap (λ (p : Phase). filter (λ (w : Waiting). not (forbids p (effective_at script w.runner 0))) old.queue.items)
         (ap (λ (t : Tracked). t.phase) c.start_shutdown.ensures) in
     let shorter : length c.drop_forbidden.new.queue.items ≤ length old.queue.items = omega
-        (arith, ap length kept, filter_shorter (λ (w : Waiting). not (forbids Started (effective_at script w.runner 0))) old.queue.items) in
+        (arith, ap length kept, count_le (λ (w : Waiting). not (forbids Started (effective_at script w.runner 0))) old.queue.items) in
     record {
       stands = rw (c.push_spare.ensures.items) (started script old.log.items old.queue.items c.drop_forbidden.new.queue.items old.cells.items old.tracker
           c.start_shutdown.new.self c.requires.formed ready.stands c.requires.next kept c.start_shutdown.ensures);
