@@ -213,12 +213,13 @@ blocks_between script xs p ys =
     let without = ap length (filter-append block xs ys) ∙ length-append (filter block xs) (filter block ys) in
     omega (arith, with_it, without, share_of p (filter block ys) (effective_at script p.home p.delay))
 
-pub posted : (script : Plan) (past : List Entry) (queue : List Waiting) (values : List ℕ) (old new : Tracked) (task runner delay : ℕ) →
+-- an accepted post
+pub posted : {script : Plan} {past : List Entry} {queue : List Waiting} {values : List ℕ} {old new : Tracked} (task runner delay : ℕ) →
     WellFormed script → StandsFor script past queue values old → wanted script past ≡ Some (WantsPost task runner delay) →
     is_refused script past runner delay ≡ false → new ≡ record old { block_items = old.block_items + block_share (effective_at script runner delay) } →
     StandsFor script (past ++ driver_entry (Post task runner delay true) ∷ []) (queue ++ record { task = task; runner = runner } ∷ []) values new
 unfolding may_come wanted
-posted script past queue values old new task runner delay formed stands next allowed tracked = record {
+posted {script} {past} {queue} {values} {old} {new} task runner delay formed stands next allowed tracked = record {
   legal = is_legal_push script past e ∙ rw (stands.legal, driver_sits script, by_script_next script past want true formed next, allowed) refl;
   still = still_after past e stands.still refl refl refl (sound.immediate, tt);
   ended = ended-driver past kind stands.ended (λ t. refl) (λ t. refl);
@@ -269,13 +270,13 @@ posted script past queue values old new task runner delay formed stands next all
     grown = to_take-post script past task runner delay (stands.fresh task sound.first_post) allowed
 
 -- an entry of the driver that posts, takes and ends no task and leaves the phase leaves everything
-unchanged : (script : Plan) (past : List Entry) (queue : List Waiting) (values : List ℕ) (tracked : Tracked) (kind : Kind) (want : Want) →
+unchanged : {script : Plan} {past : List Entry} {queue : List Waiting} {values : List ℕ} {tracked : Tracked} (kind : Kind) (want : Want) →
     StandsFor script past queue values tracked → wanted script past ≡ Some want → may_come script past 0 kind ≡ true →
     posted_by past kind ≡ [] → ((t : ℕ) → takes t kind ≡ false) → ((t : ℕ) → ends t kind ≡ false) → running_after None kind ≡ None
         → holding_after None kind ≡ None → policy_after All kind ≡ All →
     ((s : ℕ) → cell_after script s past (cell_of script past s) 0 kind ≡ cell_of script past s) → phase_after (phase_of past) kind ≡ phase_of past →
     StandsFor script (past ++ driver_entry kind ∷ []) queue values tracked
-unchanged script past queue values tracked kind want stands next allowed no_post no_take no_end runs_none holds_none same_policy same_cell same_phase = record {
+unchanged {script} {past} kind want stands next allowed no_post no_take no_end runs_none holds_none same_policy same_cell same_phase = record {
   legal = is_legal_push script past e ∙ rw (stands.legal, driver_sits script, allowed) refl;
   still = still_after past e stands.still runs_none holds_none same_policy (subst (AllByRecursion (λ p. p.delay ≡ 0)) (sym no_post) tt);
   ended = ended-driver past kind stands.ended no_end no_take;
@@ -298,13 +299,13 @@ unchanged script past queue values tracked kind want stands next allowed no_post
     same = to_take-same script past e no_post no_take same_phase
 
 -- a refused post leaves everything
-pub refused : (script : Plan) (past : List Entry) (queue : List Waiting) (values : List ℕ) (tracked : Tracked) (task runner delay : ℕ) →
+pub refused : {script : Plan} {past : List Entry} {queue : List Waiting} {values : List ℕ} {tracked : Tracked} (task runner delay : ℕ) →
     WellFormed script → StandsFor script past queue values tracked → wanted script past ≡ Some (WantsPost task runner delay)
         → is_refused script past runner delay ≡ true →
     StandsFor script (past ++ driver_entry (Post task runner delay false) ∷ []) queue values tracked
 unfolding may_come
-refused script past queue values tracked task runner delay formed stands next forbidden =
-    unchanged script past queue values tracked (Post task runner delay false) (WantsPost task runner delay) stands next
+refused {script} {past} task runner delay formed stands next forbidden =
+    unchanged (Post task runner delay false) (WantsPost task runner delay) stands next
     (rw (by_script_next script past (WantsPost task runner delay) false formed next, forbidden) refl) refl (λ t. refl) (λ t. refl) refl refl refl
         (λ s. refl) refl
 
@@ -320,12 +321,12 @@ none_to_take script past queue waits none = empty (to_take script past) (sym non
     empty (p ∷ ps) h = absurd cc
 
 -- so does an idle
-pub idled : (script : Plan) (past : List Entry) (queue : List Waiting) (values : List ℕ) (tracked : Tracked) → queue ≡ [] →
+pub idled : {script : Plan} {past : List Entry} {queue : List Waiting} {values : List ℕ} {tracked : Tracked} → queue ≡ [] →
     WellFormed script → StandsFor script past queue values tracked → wanted script past ≡ Some WantsIdle →
     StandsFor script (past ++ driver_entry Idle ∷ []) queue values tracked
 unfolding may_come
-idled script past queue values tracked empty formed stands next =
-    unchanged script past queue values tracked Idle WantsIdle stands next
+idled {script} {past} {queue} empty formed stands next =
+    unchanged Idle WantsIdle stands next
     (rw (by_script_next script past WantsIdle true formed next, is_quiet_still script past stands.still, nothing) refl) refl (λ t. refl)
         (λ t. refl) refl refl refl (λ s. refl) refl
   where

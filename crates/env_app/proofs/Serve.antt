@@ -297,13 +297,14 @@ served_between script past values old new xs p ys found left formed stands is ne
           ∙ ap (λ (b : Bool). cond b left (cell_of script past u)) (sym there.0)
     ]
 
-pub served : (script : Plan) (past : List Entry) (queue : List Waiting) (values : List ℕ) (old new : Tracked) (k : ℕ) (w : Waiting) (found left : ℕ) →
+-- a task that is best is taken and ended
+pub served : {script : Plan} {past : List Entry} {queue : List Waiting} {values : List ℕ} {old new : Tracked} (k : ℕ) (w : Waiting) (found left : ℕ) →
     WellFormed script → StandsFor script past queue values old → is_finished script past ≡ false → Served old new (effective_at script w.runner 0) →
     IsFirstBest (ranks_of script queue) (length queue) k → w ≡ get_or queue k w →
     found ≡ get_or values (sequence_of script w.runner w.task) 0 → left ≡ after (steps_of script w.task) found →
     StandsFor script ((past ++ worker_entry (Take w.task w.runner found) ∷ []) ++ worker_entry (End w.task left) ∷ []) (take k queue ++ drop (k + 1) queue)
         (set values (sequence_of script w.runner w.task) left) new
-served script past queue values old new k w found left formed stands next tracked best is found_is left_is =
+served {script} {past} {queue} {values} {old} {new} k w found left formed stands next tracked best is found_is left_is =
     let E = to_take script past in
     let same_length : length queue ≡ length E = ap length stands.waits ∙ length-map E waiting_of in
     let below : k < length E = omega (arith, best.within) in

@@ -75,12 +75,13 @@ pub still_running : {script : Plan} {past : List Entry} {queue : List Waiting} {
 unfolding wanted
 still_running {script} {past} {queue} {values} {tracked} formed stands next = stands.phase ∙ stands.not_started (formed.one_shutdown (done_count past) next)
 
-pub started : (script : Plan) (past : List Entry) (queue left : List Waiting) (values : List ℕ) (old new : Tracked) →
+-- the start of shutdown
+pub started : {script : Plan} {past : List Entry} {queue left : List Waiting} {values : List ℕ} {old new : Tracked} →
     WellFormed script → StandsFor script past queue values old → wanted script past ≡ Some WantsShutdown →
     left ≡ filter (stays script) queue → new ≡ record old { phase = phases.Started } →
     StandsFor script (past ++ driver_entry Shutdown ∷ []) left values new
 unfolding may_come wanted
-started script past queue left values old new formed stands next left_is tracked = record {
+started {script} {past} formed stands next left_is tracked = record {
   legal = is_legal_push script past e ∙ rw (stands.legal, driver_sits script, by_script_next script past WantsShutdown true formed next) refl;
   still = still_after past e stands.still refl refl refl tt;
   ended = ended-driver past Shutdown stands.ended (λ t. refl) (λ t. refl);
@@ -159,12 +160,13 @@ waiting_count {script} {past} {queue} {values} {tracked} stands under_way =
     let same = only_blocks script past (sym stands.phase ∙ under_way) in
     omega (arith, ap length stands.waits, length-map (to_take script past) waiting_of, ap length same, stands.blocks, stands.no_skips)
 
-pub done : (script : Plan) (past : List Entry) (queue : List Waiting) (values : List ℕ) (old new : Tracked) →
+-- the end of shutdown
+pub done : {script : Plan} {past : List Entry} {queue : List Waiting} {values : List ℕ} {old new : Tracked} →
     WellFormed script → StandsFor script past queue values old → wanted script past ≡ Some WantsDone →
     old.phase ≡ phases.Started → queue ≡ [] → new ≡ record old { phase = phases.Done } →
     StandsFor script (past ++ driver_entry Done ∷ []) queue values new
 unfolding may_come
-done script past queue values old new formed stands next under_way empty tracked = record {
+done {script} {past} {queue} formed stands next under_way empty tracked = record {
   legal = is_legal_push script past e ∙ rw (stands.legal, driver_sits script, by_script_next script past WantsDone true formed next, now, nothing_blocks script
       past formed stands.still now stands.ended nobody) refl;
   still = still_after past e stands.still refl refl refl tt;

@@ -26,8 +26,7 @@ returns-clause-ready g c =
     let waiting = waiting_count ready.stands c.loop-self.invariant.2 in
     let empty : self.queue.items ≡ [] = nil_from_length self.queue.items (omega (arith, waiting, over.0)) in
     record {
-      stands = rw (c.push_spare.ensures.items) (done script self.log.items self.queue.items self.cells.items self.tracker c.try_done.new.self c.requires.formed
-          ready.stands next c.loop-self.invariant.2 empty over.1);
+      stands = rw (c.push_spare.ensures.items) (done c.requires.formed ready.stands next c.loop-self.invariant.2 empty over.1);
       room = room_after_entry script self _ _ ready.room (some_to_do script self.log.items _ next) c.push_spare.ensures.items c.push_spare.ensures.spare
           (omega arith) (omega arith) refl;
     }

@@ -34,8 +34,7 @@ returns-then-ok-clause-ready c =
         c.effective_at.ensures in
     record {
       stands = rw (c.push_spare.ensures.items, c.push_reserved.ensures.items, c.if-ok.true)
-          (posted script old.log.items old.queue.items old.cells.items old.tracker c.accept-ok.new.self c.args.task c.args.runner c.args.delay
-              c.requires.formed ready.stands c.requires.next allowed tracked);
+          (posted c.args.task c.args.runner c.args.delay c.requires.formed ready.stands c.requires.next allowed tracked);
       room = room_after_post script old _ _ _ ready.room ahead c.push_spare.ensures.items c.push_reserved.ensures.items c.push_spare.ensures.spare
           c.push_reserved.ensures.len c.push_reserved.ensures.capacity;
     }
@@ -50,7 +49,6 @@ returns-else-ok-clause-ready c =
     answer_is old.tracker.phase _ c.effective_at.result _ false ready.stands.phase c.effective_at.ensures c.if-ok.ensures.answer in
     record {
       stands = rw (c.push_spare.ensures.items, c.if-ok.ensures.refused, c.if-ok.false)
-          (refused script old.log.items old.queue.items old.cells.items old.tracker c.args.task c.args.runner c.args.delay c.requires.formed ready.stands
-          c.requires.next forbidden);
+          (refused c.args.task c.args.runner c.args.delay c.requires.formed ready.stands c.requires.next forbidden);
       room = room_after_entry script old _ _ ready.room ahead c.push_spare.ensures.items c.push_spare.ensures.spare (omega arith) (omega arith) refl;
     }

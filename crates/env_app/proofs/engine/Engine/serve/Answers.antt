@@ -65,7 +65,7 @@ returns-clause-ready g c =
       blocks = omega (arith, counted, share, ap (λ (t : Tracked). t.block_items) c.ended.ensures, ap (λ (t : Tracked). t.block_items) c.started.ensures);
       skips = omega (arith, ap (λ (t : Tracked). t.skip_items) c.ended.ensures, ap (λ (t : Tracked). t.skip_items) c.started.ensures);
     } in
-    let there = served script old.log.items queue values old.tracker c.ended.new.self c.first_best-best.result w c.index-found.result.now c.left_by-left.result
+    let there = served c.first_best-best.result w c.index-found.result.now c.left_by-left.result
     c.requires.formed c.requires.ready.stands c.requires.unfinished tracked best c.remove-task.ensures.value found c.left_by-left.ensures in
     record {
       stands = rw (c.push_spare-2.ensures.items, c.push_spare.ensures.items, c.remove-task.ensures.by_index.2, c.sequence-cell.ensures) there;

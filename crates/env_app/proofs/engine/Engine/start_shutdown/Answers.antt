@@ -31,8 +31,7 @@ returns-clause-ready c =
     let shorter : length c.drop_forbidden.new.queue.items ≤ length old.queue.items = omega
         (arith, ap length kept, count_le (λ (w : Waiting). not (forbids Started (effective_at script w.runner 0))) old.queue.items) in
     record {
-      stands = rw (c.push_spare.ensures.items) (started script old.log.items old.queue.items c.drop_forbidden.new.queue.items old.cells.items old.tracker
-          c.start_shutdown.new.self c.requires.formed ready.stands c.requires.next kept c.start_shutdown.ensures);
+      stands = rw (c.push_spare.ensures.items) (started c.requires.formed ready.stands c.requires.next kept c.start_shutdown.ensures);
       room = room_after_entry script old _ _ ready.room (some_to_do script old.log.items _ c.requires.next) c.push_spare.ensures.items
           c.push_spare.ensures.spare shorter (omega (arith, shorter, c.drop_forbidden.new.queue.ok.0, old.queue.ok.0)) c.drop_forbidden.ensures.capacity;
     }
