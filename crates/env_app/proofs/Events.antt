@@ -243,11 +243,11 @@ posted {script} {past} {queue} {values} {old} {new} task runner delay formed sta
         tt,
       ));
   fresh = fresh-driver script past kind want next stands.fresh (λ t. refl);
-  cells = λ s lt. stands.cells s lt ∙ sym (cell_of_push script past e s);
+  cells = λ s lt. rw (cell_of_push script past e s) (stands.cells s lt);
   cell_count = stands.cell_count;
-  phase = ap (λ (t : Tracked). t.phase) tracked ∙ stands.phase ∙ sym (phase_of_push past e);
+  phase = rw (tracked, phase_of_push past e) stands.phase;
   blocks = rw (grown, tracked, blocks_between script (to_take script past) made [], append-nil (to_take script past)) (omega (arith, stands.blocks));
-  no_skips = ap (λ (t : Tracked). t.skip_items) tracked ∙ stands.no_skips;
+  no_skips = rw tracked stands.no_skips;
   not_started = not_started-driver script past kind want next refl stands.not_started;
 }
   where
@@ -284,9 +284,9 @@ unchanged {script} {past} kind want stands next allowed no_post no_take no_end r
   in_order = rw (same) stands.in_order;
   known = rw (same) (known-driver script past kind want (to_take script past) next stands.known);
   fresh = fresh-driver script past kind want next stands.fresh no_take;
-  cells = λ s lt. stands.cells s lt ∙ sym (cell_of_push script past e s ∙ same_cell s);
+  cells = λ s lt. rw (cell_of_push script past e s, same_cell s) (stands.cells s lt);
   cell_count = stands.cell_count;
-  phase = stands.phase ∙ sym (phase_of_push past e ∙ same_phase);
+  phase = rw (phase_of_push past e, same_phase) stands.phase;
   blocks = rw (same) stands.blocks;
   no_skips = stands.no_skips;
   not_started = not_started-driver script past kind want next same_phase stands.not_started;

@@ -184,10 +184,10 @@ served_between script past values old new xs p ys found left formed stands is ne
   waits = ap (map waiting_of) (sym rest);
   in_order = rw (rest) (InOrder-without xs p ys order);
   known = rw (rest) (known-worker script mid (End p.task left) (xs ++ ys) (known-worker script past (Take p.task p.home found) (xs ++ ys) known_rest));
-  fresh = λ t h. rw (is_taken_push mid ended t, is_taken_push past taken t) (untaken t (same_done t h));
+  fresh = λ t h. rw (is_taken_push mid ended t, is_taken_push past taken t) (untaken t (rw same_wants at h));
   cells = λ u lt. stored u (omega (arith, lt, length-set values s left)) ∙ sym (cell_now u);
   cell_count = length-set values s left ∙ stands.cell_count;
-  phase = tracked.phase ∙ stands.phase ∙ sym (phase_of_push mid ended ∙ phase_of_push past taken);
+  phase = rw (phase_of_push mid ended, phase_of_push past taken) (tracked.phase ∙ stands.phase);
   blocks = omega (
     arith,
     ap (λ (ps : List Posted). length (filter (blocks_shutdown script) ps)) rest,
@@ -198,7 +198,7 @@ served_between script past values old new xs p ys found left formed stands is ne
     ap (λ (d : ℕ). block_share (effective_at script p.home d)) mine.immediate,
   );
   no_skips = tracked.skips ∙ stands.no_skips;
-  not_started = λ h. phase_of_push mid ended ∙ phase_of_push past taken ∙ stands.not_started (ap starts_among (sym same_wants) ∙ h);
+  not_started = λ h. rw (phase_of_push mid ended, phase_of_push past taken) (stands.not_started (rw same_wants at h));
 }
   where
     s : ℕ
@@ -274,9 +274,6 @@ served_between script past values old new xs p ys found left formed stands is ne
     same_wants : done_wants script (mid ++ ended ∷ []) ≡ done_wants script past
     same_wants = ap (λ (own : List Entry). take (length own) (all_wants script)) (own_entries-worker mid (End p.task left)
         ∙ own_entries-worker past (Take p.task p.home found))
-
-    same_done : (t : ℕ) → posts_among (done_wants script (mid ++ ended ∷ [])) t ≡ false → posts_among (done_wants script past) t ≡ false
-    same_done t h = ap (λ (ws : List Want). posts_among ws t) (sym same_wants) ∙ h
 
     untaken : (t : ℕ) → posts_among (done_wants script past) t ≡ false → ((is_taken past t || eqb p.task t) || false) ≡ false
     untaken t h =
