@@ -72,8 +72,7 @@ first (p ∷ ps) = Some p
 
 -- the key of an immediate task
 key_still : (past : List Entry) (p : Posted) → p.delay ≡ 0 → key_of past p ≡ Some (key_at p.place)
-key_still past p immediate = ap (λ (d : ℕ). cond (ltb 0 d) (option_map (λ place. record { place = place; ripe = p.ripe; post = p.place })
-    (tick_from past p.ripe)) (Some (key_at p.place))) immediate
+key_still past p immediate = rw immediate refl
 
 -- each immediate task is ready from its post on
 ready_still : (past : List Entry) → IsStill past → ready past ≡ map ready_of (posts past)
@@ -83,21 +82,20 @@ ready_still past still = from (posts past) still.immediate
     from : (ps : List Posted) → AllByRecursion (λ p. p.delay ≡ 0) ps
         → filter_map (λ p. option_map (λ key. record { posted = p; key = key }) (key_of past p)) ps ≡ map ready_of ps
     from [] h = refl
-    from (p ∷ ps) h =
-        ap (λ o. cons_option (option_map (λ key. record { posted = p; key = key }) o)
-            (filter_map (λ q. option_map (λ key. record { posted = q; key = key }) (key_of past q)) ps)) (key_still past p h.0)
-        ∙ ap (λ rest. ready_of p ∷ rest) (from ps h.1)
+    from (p ∷ ps) h = rw (key_still past p h.0, from ps h.1) refl
 
 -- the eligible tasks of a sequence are those of it that may be taken
 eligible_still : (script : Plan) (past : List Entry) (s : ℕ) → IsStill past
     → eligible script past s ≡ map ready_of (filter (is_of script s) (to_take script past))
 unfolding eligible to_take
 eligible_still script past s still =
-    ap (filter (λ r. is_of script s r.posted && may_start script past r.posted)) (ready_still past still)
-    ∙ filter-map (λ r. is_of script s r.posted && may_start script past r.posted) ready_of (posts past)
-    ∙ ap (map ready_of) (filter_congr (λ p. is_of script s p && may_start script past p) (λ p. may_start script past p && is_of script s p) (posts past)
-        (λ p. and_comm (is_of script s p) (may_start script past p))
-    ∙ sym (filter-filter (is_of script s) (may_start script past) (posts past)))
+    rw (
+      ready_still past still,
+      filter-map (λ r. is_of script s r.posted && may_start script past r.posted) ready_of (posts past),
+      filter-filter (is_of script s) (may_start script past) (posts past),
+    )
+    (ap (map ready_of) (filter_congr (λ p. is_of script s p && may_start script past p) (λ p. may_start script past p && is_of script s p) (posts past)
+        (λ p. and_comm (is_of script s p) (may_start script past p))))
 
 not_below : (a b : Posted) → Before a b → key_below (key_at b.place) (key_at a.place) ≡ false
 not_below a b h = let lt = h.earlier in grind (arith, nat_tests)
@@ -115,8 +113,8 @@ head_still : (script : Plan) (past : List Entry) (s : ℕ) → IsStill past → 
     → head_of script past s ≡ option_map ready_of (first (filter (is_of script s) (to_take script past)))
 unfolding head_of
 head_still script past s still order =
-    ap (least (λ a b. key_below a.key b.key)) (eligible_still script past s still)
-    ∙ least_in_order (filter (is_of script s) (to_take script past)) (InOrder-filter (is_of script s) (to_take script past) order)
+    rw (eligible_still script past s still)
+    (least_in_order (filter (is_of script s) (to_take script past)) (InOrder-filter (is_of script s) (to_take script past) order))
 
 -- ---- what waits
 
@@ -198,8 +196,7 @@ pub best_of_none : (script : Plan) (past : List Entry) (seat : ℕ) → WellForm
     → best_of script past seat ≡ None
 best_of_none script past seat formed still none =
     best_still script past seat formed still (rw none tt)
-    ∙ ap (λ (ps : List Posted). least goes_before (filter_map (waits_for script ps) (range_with_len 0 (sequence_count script)))) none
-    ∙ ap (least goes_before) (filter_map_never (waits_for script []) (range_with_len 0 (sequence_count script)) (λ s. refl))
+    ∙ rw (none, filter_map_never (waits_for script []) (range_with_len 0 (sequence_count script)) (λ s. refl)) refl
 
 -- ---- the best
 
@@ -257,9 +254,7 @@ none_before script xs p ys it =
 first_of_its : (script : Plan) (xs : List Posted) (p : Posted) (ys : List Posted) → IsFirst script xs p ys
     → first (filter (is_of script (sequence_of script p.home p.task)) (xs ++ p ∷ ys)) ≡ Some p
 first_of_its script xs p ys it =
-    ap first (filter-append (is_of script home) xs (p ∷ ys) ∙ ap (λ (front : List Posted). front ++ filter (is_of script home) (p ∷ ys))
-        (none_before script xs p ys it))
-    ∙ ap (λ (b : Bool). first (cond b (p ∷ filter (is_of script home) ys) (filter (is_of script home) ys))) (eqb-same home)
+    rw (filter-append (is_of script home) xs (p ∷ ys), none_before script xs p ys it, eqb-same home) refl
   where
     home : ℕ
     home = sequence_of script p.home p.task
@@ -269,9 +264,7 @@ pub head_of_still : (script : Plan) (past : List Entry) (xs : List Posted) (p : 
     → IsFirst script xs p ys →
     head_of script past (sequence_of script p.home p.task) ≡ Some (ready_of p)
 head_of_still script past xs p ys still is it =
-    head_still script past (sequence_of script p.home p.task) still (subst InOrder (sym is) it.order)
-    ∙ ap (λ (ps : List Posted). option_map ready_of (first (filter (is_of script (sequence_of script p.home p.task)) ps))) is
-    ∙ ap (option_map ready_of) (first_of_its script xs p ys it)
+    head_still script past (sequence_of script p.home p.task) still (rw is it.order) ∙ rw (is, first_of_its script xs p ys it) refl
 
 -- the tasks of another sequence come after it
 others_lose : (script : Plan) (xs : List Posted) (p : Posted) (ys : List Posted) (s : ℕ) → IsFirst script xs p ys → sequence_of script p.home p.task ≢ s
@@ -313,12 +306,13 @@ pub best_of_still : (script : Plan) (past : List Entry) (xs : List Posted) (p : 
     → to_take script past ≡ xs ++ p ∷ ys → IsFirst script xs p ys →
     best_of script past seat ≡ Some (candidate script (sequence_of script p.home p.task) p)
 best_of_still script past xs p ys seat formed still is it =
-    best_still script past seat formed still (subst InOrder (sym is) it.order)
-    ∙ ap (λ (ps : List Posted). least goes_before (filter_map (waits_for script ps) (range_with_len 0 (sequence_count script)))) is
-    ∙ ap (λ (ns : List ℕ). least goes_before (filter_map f ns)) (range_split 0 home behind (sequence_count script) home (omega (arith, below)) (omega arith))
-    ∙ ap (least goes_before) (filter_map-append f (range_with_len 0 home) (home ∷ range_with_len (home + 1) behind))
-    ∙ ap (λ (o : Option Candidate). least goes_before (filter_map f (range_with_len 0 home)
-        ++ cons_option o (filter_map f (range_with_len (home + 1) behind)))) (ap (option_map (candidate script home)) (first_of_its script xs p ys it))
+    best_still script past seat formed still (rw is it.order)
+    ∙ rw (
+      is,
+      range_split 0 home behind (sequence_count script) home (omega (arith, below)) (omega arith),
+      filter_map-append f (range_with_len 0 home) (home ∷ range_with_len (home + 1) behind),
+      first_of_its script xs p ys it,
+    ) refl
     ∙ least_split goes_before (filter_map f (range_with_len 0 home)) (candidate script home p) (filter_map f (range_with_len (home + 1) behind))
     (AllByRecursion-map (comes_after script p) (λ c. goes_before (candidate script home p) c ≡ true) (filter_map f (range_with_len 0 home)) (λ c b. b.0)
     (others_come_after script xs p ys 0 home it (λ s low high same. absurd (omega arith))))
