@@ -6,7 +6,8 @@ use Rattle.std.specs.Option.{option_map_or, IfSome}
 use Rattle.std.proofs.Math.Seq.{split_at}
 use Rattle.std.proofs.lemmas.Bool.Decides.{nat_tests, eqb_tells}
 use Rattle.std.proofs.Math.Bool.{or-false}
-use Rattle.std.proofs.lemmas.Bool.{ne_eqb, both_ways}
+use Rattle.std.proofs.lemmas.Bool.{ne_eqb, both_ways, not-true, and_parts}
+use Rattle.std.proofs.lemmas.Option.{slice_get-get_or}
 use Rattle.std.proofs.lemmas.List.{append-nil, map-append, take-map, drop-map, get_or-map, get_or-take, get_or-drop, get_or_default, length-append, length-map, length-take, length-drop, get_or-set_same, get_or-set_other, length-set}
 use Rattle.std.proofs.lemmas.List.Elements.{filter-append, recursion_from_All}
 use Rattle.task_traits.specs.Behaviour.{forbids}
@@ -30,13 +31,14 @@ use Rattle.task_model.specs.Seats.{Running, running, holding, steps_of, runs_of}
 use Rattle.task_model.specs.Cells.{cell_of}
 use Rattle.hist_model.specs.Script.{is_finished}
 use Rattle.hist_model.specs.Allowed.{may_come, is_allowed}
-use Rattle.list_laws.proofs.Lists.{eqb-same, AllByRecursion-append, AllByRecursion-front, AllByRecursion-back, AllByRecursion-map, AllByRecursion-from_index, filter_passes, slice_get_all, list_any_none}
+use Rattle.list_laws.proofs.Lists.{eqb-same, AllByRecursion-append, AllByRecursion-front, AllByRecursion-back, AllByRecursion-map, AllByRecursion-from_index, filter_passes, filter_none, slice_get_all}
 use Rattle.task_model.proofs.Growth.{posts_push, is_taken_push, is_ended_push, phase_of_push, policy_of_push, running_push, holding_push, acts_done_push, cell_of_push}
 use Rattle.hist_model.proofs.Laws.Legal.{is_legal_push}
 use Rattle.task_script.specs.Wants.{Want, all_wants}
 use Rattle.task_script.specs.WellFormed.{posts_among, starts_among, WellFormed}
 use Rattle.env_app.specs.declared.engine.Waiting.{Waiting}
 use Rattle.env_app.specs.Engine.{waiting_of, importance_of, ranks_of, IsFirstBest, done_wants, to_take, blocks_shutdown, IsKnown, IsStill, StandsFor}
+use Rattle.env_app.proofs.FirstBest.{rank_at}
 use Rattle.env_app.proofs.Best.{IsFirst, InOrder-without, sequence_below, head_of_still, best_of_still}
 use Rattle.env_app.proofs.Events.{worker_entry, to_take-same, to_take-take, filter_one, own_entries-worker, known-worker, blocks_between, either_way}
 
@@ -49,71 +51,63 @@ abbrev pub at : List Posted → ℕ → Posted
 at ps k = get_or ps k nobody
 
 around : (ps : List Posted) (k : ℕ) → k < length ps → ps ≡ take k ps ++ at ps k ∷ drop (k + 1) ps
-around ps k lt = split_at ps k nobody lt ∙ ap (λ n. take k ps ++ at ps k ∷ drop n ps) (sym (add-one k))
-
--- the engine's task at a place is the one that may be taken there
-waiting_at : (ps : List Posted) (k : ℕ) (w : Waiting) → k < length ps → w ≡ get_or (map waiting_of ps) k w → w ≡ waiting_of (at ps k)
-waiting_at ps k w lt is = is ∙ get_or-map waiting_of ps k nobody w lt
+around ps k lt = rw add-one (split_at ps k nobody lt)
 
 rank_at_place : (script : Plan) (ps : List Posted) (i : ℕ) → i < length ps
     → get_or (ranks_of script (map waiting_of ps)) i 0 ≡ importance_of script (at ps i).home
 rank_at_place script ps i lt =
-    get_or-map (λ (w : Waiting). importance_of script w.runner) (map waiting_of ps) i (waiting_of nobody) 0 (omega (arith, length-map ps waiting_of))
-    ∙ ap (λ (w : Waiting). importance_of script w.runner) (get_or-map waiting_of ps i nobody (waiting_of nobody) lt)
+    rank_at script (map waiting_of ps) i (waiting_of nobody) (omega (arith, length-map ps waiting_of))
+    ∙ rw (get_or-map waiting_of ps i nobody (waiting_of nobody) lt) refl
 
-known_at : (script : Plan) (past : List Entry) (ps : List Posted) (k : ℕ) → AllByRecursion (IsKnown script past) ps → k < length ps
-    → IsKnown script past (at ps k)
-known_at script past ps k known lt =
-    (AllByRecursion-back (IsKnown script past) (take k ps) (at ps k ∷ drop (k + 1) ps) (subst (AllByRecursion (IsKnown script past)) (around ps k lt) known)).0
+-- what holds of all elements holds of the one at a place
+holds_at : (P : Posted → Type 0) (ps : List Posted) (k : ℕ) → AllByRecursion P ps → k < length ps → P (at ps k)
+holds_at P ps k all lt = rw (slice_get-get_or ps k nobody lt) at (slice_get_all P ps k all)
 
+-- the engine's task at a place of the queue is the accepted task that may be taken there
+record StandsAt (script : Plan) (past : List Entry) (k : ℕ) (w : Waiting) : Type 0 where
+  pub within : k < length (to_take script past)
+  pub is : w ≡ waiting_of (at (to_take script past) k)
+  pub known : IsKnown script past (at (to_take script past) k)
+
+stands_at : {script : Plan} {past : List Entry} {queue : List Waiting} {values : List ℕ} {tracked : Tracked} (k : ℕ) (w : Waiting) →
+    StandsFor script past queue values tracked → k < length queue → w ≡ get_or queue k w → StandsAt script past k w
+stands_at {script} {past} k w stands lt is =
+    let within : k < length (to_take script past) = omega (arith, ap length stands.waits, length-map (to_take script past) waiting_of) in
+    record {
+      within = within;
+      is = is ∙ rw (stands.waits) (get_or-map waiting_of (to_take script past) k nobody w within);
+      known = holds_at (IsKnown script past) (to_take script past) k stands.known within;
+    }
+
+-- the cell of the task at a place of the queue is there
 pub in_range : {script : Plan} {past : List Entry} {queue : List Waiting} {values : List ℕ} {tracked : Tracked} (k : ℕ) (w : Waiting) →
     StandsFor script past queue values tracked → k < length queue → w ≡ get_or queue k w → sequence_of script w.runner w.task < length values
-in_range {script} {past} {queue} {values} {tracked} k w stands lt is =
-    let E = to_take script past in
-    let below : k < length E = omega (arith, ap length stands.waits, length-map E waiting_of) in
-    let it : w ≡ waiting_of (at E k) = waiting_at E k w below (is ∙ ap (λ (q : List Waiting). get_or q k w) stands.waits) in
-    let known = known_at script past E k stands.known below in
-    let bound : sequence_of script (at E k).home (at E k).task < length script.runners + length script.tasks =
-    sequence_below (holds_of (λ x. is_parallel x.kind) (slice_get script.runners (at E k).home)) (length script.runners) (length script.tasks) (at E k).home
-        (at E k).task known.runner_declared known.task_declared in
-    omega (arith, bound, stands.cell_count, ap (λ (x : Waiting). sequence_of script x.runner x.task) it)
+in_range {script} {past} k w stands lt is =
+    let there = stands_at k w stands lt is in
+    let p = at (to_take script past) k in
+    rw (there.is) (omega (arith, stands.cell_count, sequence_below (holds_of (λ x. is_parallel x.kind) (slice_get script.runners p.home))
+        (length script.runners) (length script.tasks) p.home p.task there.known.runner_declared there.known.task_declared))
 
 -- the phase lets the task at a place of the queue start
 pub may_start_at : {script : Plan} {past : List Entry} {queue : List Waiting} {values : List ℕ} {tracked : Tracked} (k : ℕ) (w : Waiting) →
     StandsFor script past queue values tracked → k < length queue → w ≡ get_or queue k w → forbids tracked.phase (effective_at script w.runner 0) ≡ false
 unfolding to_take
-may_start_at {script} {past} {queue} {values} {tracked} k w stands lt is =
-    let E = to_take script past in
-    let below : k < length E = omega (arith, ap length stands.waits, length-map E waiting_of) in
-    let it : w ≡ waiting_of (at E k) = waiting_at E k w below (is ∙ ap (λ (q : List Waiting). get_or q k w) stands.waits) in
-    let passes = filter_passes (may_start script past) (posts past) in
-    let here = (AllByRecursion-back (λ p. may_start script past p ≡ true) (take k E) (at E k ∷ drop (k + 1) E)
-    (subst (AllByRecursion (λ p. may_start script past p ≡ true)) (around E k below) passes)).0 in
-    let allowed : is_forbidden script past (at E k) ≡ false = second (not (is_taken past (at E k).task)) (is_forbidden script past (at E k)) here in
-    let now = (known_at script past E k stands.known below).immediate in
-    ap (λ (p : Phase). forbids p (effective_at script w.runner 0)) stands.phase
-    ∙ ap (λ (x : Waiting). forbids (phase_of past) (effective_at script x.runner 0)) it
-    ∙ ap (λ (d : ℕ). forbids (phase_of past) (effective_at script (at E k).home d)) (sym now)
-    ∙ allowed
-  where
-    second : (a b : Bool) → (a && not b) ≡ true → b ≡ false
-    second true true h = absurd cc
-    second true false h = refl
-    second false b h = absurd cc
+may_start_at {script} {past} k w stands lt is =
+    let there = stands_at k w stands lt is in
+    let here = holds_at (λ p. may_start script past p ≡ true) (to_take script past) k (filter_passes (may_start script past) (posts past)) there.within in
+    let p = at (to_take script past) k in
+    let allowed : is_forbidden script past p ≡ false = not-true (is_forbidden script past p) (and_parts (not (is_taken past p.task)) _ here).1 in
+    rw (stands.phase, there.is) (rw (there.known.immediate) at allowed)
 
 -- the block task at a place of the queue is counted
 pub counted_at : {script : Plan} {past : List Entry} {queue : List Waiting} {values : List ℕ} {tracked : Tracked} (k : ℕ) (w : Waiting) →
     StandsFor script past queue values tracked → k < length queue → w ≡ get_or queue k w → block_share (effective_at script w.runner 0) ≤ tracked.block_items
-counted_at {script} {past} {queue} {values} {tracked} k w stands lt is =
+counted_at {script} {past} k w stands lt is =
+    let there = stands_at k w stands lt is in
     let E = to_take script past in
-    let below : k < length E = omega (arith, ap length stands.waits, length-map E waiting_of) in
-    let it : w ≡ waiting_of (at E k) = waiting_at E k w below (is ∙ ap (λ (q : List Waiting). get_or q k w) stands.waits) in
-    let now = (known_at script past E k stands.known below).immediate in
-    let same : block_share (effective_at script w.runner 0) ≡ block_share (effective_at script (at E k).home (at E k).delay) =
-    ap (λ (x : Waiting). block_share (effective_at script x.runner 0)) it ∙ ap (λ (d : ℕ). block_share (effective_at script (at E k).home d)) (sym now) in
-    let split = ap (λ (ps : List Posted). length (filter (blocks_shutdown script) ps)) (around E k below)
+    let split = ap (λ (ps : List Posted). length (filter (blocks_shutdown script) ps)) (around E k there.within)
         ∙ blocks_between script (take k E) (at E k) (drop (k + 1) E) in
-    omega (arith, same, split, stands.blocks)
+    rw (there.is) (omega (arith, split, stands.blocks, ap (λ (d : ℕ). block_share (effective_at script (at E k).home d)) there.known.immediate))
 
 -- what the tracker knows after a task was started and has ended
 pub record Served (old new : Tracked) (effective : Behaviour) : Type 0 where
@@ -145,26 +139,14 @@ still_served past task runner found left still = record {
     either true x = refl
     either false x = refl
 
-no_act_among : (steps : List Step) → list_any is_act steps ≡ false → filter is_act steps ≡ []
-no_act_among [] h = refl
-no_act_among (step ∷ steps) h = either (is_act step) (list_any is_act steps) (filter is_act steps) h (no_act_among steps)
-  where
-    either : (b c : Bool) (rest : List Step) → (b || c) ≡ false → (c ≡ false → rest ≡ []) → cond b (step ∷ rest) rest ≡ []
-    either true c rest h none = absurd cc
-    either false c rest h none = none h
-
 -- no step of a task makes an entry
 no_acts : (script : Plan) (task : ℕ) → WellFormed script → filter is_act (steps_of script task) ≡ []
-no_acts script task formed = found (slice_get script.tasks task) (slice_get_all (λ steps. list_any is_act steps ≡ false) script.tasks task compute)
+no_acts script task formed = found (slice_get script.tasks task) (slice_get_all (All (λ step. is_act step ≡ false)) script.tasks task
+    (recursion_from_All (All (λ step. is_act step ≡ false)) script.tasks formed.computes))
   where
-    compute : AllByRecursion (λ steps. list_any is_act steps ≡ false) script.tasks
-    compute = AllByRecursion-map (λ steps. All (λ step. is_act step ≡ false) steps) (λ steps. list_any is_act steps ≡ false) script.tasks
-        (λ steps h. list_any_none is_act steps (recursion_from_All (λ step. is_act step ≡ false) steps h))
-            (recursion_from_All (λ steps. All (λ step. is_act step ≡ false) steps) script.tasks formed.computes)
-
-    found : (o : Option (List Step)) → IfSome o (λ steps. list_any is_act steps ≡ false) → filter is_act (option_map_or (λ steps. steps) o []) ≡ []
+    found : (o : Option (List Step)) → IfSome o (All (λ step. is_act step ≡ false)) → filter is_act (option_map_or (λ steps. steps) o []) ≡ []
     found None h = refl
-    found (Some steps) h = no_act_among steps h
+    found (Some steps) h = filter_none is_act steps (recursion_from_All (λ step. is_act step ≡ false) steps h)
 
 -- the same of the tasks that may be taken: p is the best, between xs and ys
 served_between : (script : Plan) (past : List Entry) (values : List ℕ) (old new : Tracked) (xs : List Posted) (p : Posted) (ys : List Posted) (found left : ℕ) →
@@ -281,10 +263,7 @@ served_between script past values old new xs p ys found left formed stands is ne
         rw (stands.fresh t h, ne_eqb p.task t other) refl
 
     cell_now : (u : ℕ) → cell_of script (mid ++ ended ∷ []) u ≡ cond (eqb s u) left (cell_of script past u)
-    cell_now u =
-        cell_of_push script mid ended u
-        ∙ ap (λ (r : Option Running). cond (holds_of (runs_of script u) r) left (cell_of script mid u)) running_mid
-        ∙ ap (λ (v : ℕ). cond (eqb s u) left v) (cell_of_push script past taken u)
+    cell_now u = rw (cell_of_push script mid ended u, running_mid, cell_of_push script past taken u) refl
 
     stored : (u : ℕ) → u < length values → get_or (set values s left) u 0 ≡ cond (eqb s u) left (cell_of script past u)
     stored u lt = elim (eqb_tells s u) [
@@ -304,9 +283,10 @@ pub served : {script : Plan} {past : List Entry} {queue : List Waiting} {values 
 served {script} {past} {queue} {values} {old} {new} k w found left formed stands next tracked best is found_is left_is =
     let E = to_take script past in
     let same_length : length queue ≡ length E = ap length stands.waits ∙ length-map E waiting_of in
-    let below : k < length E = omega (arith, best.within) in
+    let there = stands_at k w stands best.within is in
+    let below : k < length E = there.within in
     let p = at E k in
-    let it : w ≡ waiting_of p = waiting_at E k w below (is ∙ ap (λ (q : List Waiting). get_or q k w) stands.waits) in
+    let it : w ≡ waiting_of p = there.is in
     let split : E ≡ take k E ++ p ∷ drop (k + 1) E = around E k below in
     let queue_is : queue ≡ map waiting_of (take k E ++ p ∷ drop (k + 1) E) = stands.waits ∙ ap (map waiting_of) split in
     let rank : (i : ℕ) → i < length E → get_or (ranks_of script queue) i 0
@@ -335,9 +315,9 @@ served {script} {past} {queue} {values} {old} {new} k w found left formed stands
         ∙ ap (λ (x : Waiting). get_or values (sequence_of script x.runner x.task) 0) it in
     let left_there : left ≡ after (steps_of script p.task) found = left_is ∙ ap (λ (x : Waiting). after (steps_of script x.task) found) it in
     let tracked_there = subst (λ (x : Waiting). Served old new (effective_at script x.runner 0)) it tracked in
-    let there = served_between script past values old new (take k E) p (drop (k + 1) E) found left formed
+    let after_both = served_between script past values old new (take k E) p (drop (k + 1) E) found left formed
         (subst (λ (q : List Waiting). StandsFor script past q values old) queue_is stands) split next tracked_there lower upper within found_there left_there in
     let moved = subst (λ (q : List Waiting). StandsFor script ((past ++ worker_entry (Take p.task p.home found) ∷ []) ++ worker_entry (End p.task left) ∷ []) q
-        (set values (sequence_of script p.home p.task) left) new) rest_is there in
+        (set values (sequence_of script p.home p.task) left) new) rest_is after_both in
     subst (λ (x : Waiting). StandsFor script ((past ++ worker_entry (Take x.task x.runner found) ∷ []) ++ worker_entry (End x.task left) ∷ [])
         (take k queue ++ drop (k + 1) queue) (set values (sequence_of script x.runner x.task) left) new) (sym it) moved
