@@ -1,11 +1,11 @@
 -- What each entry keeps: the lists stand for the past with the entry behind it.
-use Rattle.std.proofs.Common.{◌≡◌, ℕ, ◌+◌, Bool, true, false, cond, eqb, leb, List, [], ◌∷◌, ◌++◌, length, get_or, take, map, refl, sym, ap, subst, ◌∙◌, Option, Some, None, arith}
+use Rattle.std.proofs.Common.{◌≡◌, ℕ, ◌+◌, Bool, true, false, cond, eqb, leb, List, [], ◌∷◌, ◌++◌, length, take, replicate, map, refl, sym, ap, subst, ◌∙◌, Option, Some, None, arith}
 use Rattle.std.specs.Prelude.{not, ◌&&◌, ◌||◌, is_none, filter}
 use Rattle.std.specs.List.{list_any, list_all, AllByRecursion}
 use Rattle.std.proofs.Math.Bool.{or-false, or-true, and-true, and-false, not-not}
 use Rattle.std.proofs.lemmas.Bool.{ne_eqb, or_parts, both_ways}
 use Rattle.std.proofs.lemmas.Bool.Decides.{nat_tests}
-use Rattle.std.proofs.lemmas.List.{append-nil, map-append, take_more, length-append}
+use Rattle.std.proofs.lemmas.List.{append-nil, map-append, take_more, length-append, length-replicate, get_or-replicate}
 use Rattle.std.proofs.lemmas.List.Elements.{filter-append}
 use Rattle.std.proofs.lemmas.List.Folds.{list_any-append}
 use Rattle.std.proofs.lemmas.Option.{slice_get_within, get_or_from_slice_get}
@@ -336,12 +336,12 @@ idled {script} {past} {queue} empty formed stands next =
 
 -- ---- the start
 
--- before the first entry nobody waits, and each cell is 0
-pub opened : (script : Plan) (values : List ℕ) (tracked : Tracked) → length values ≡ length script.runners + length script.tasks
-    → ((s : ℕ) → get_or values s 0 ≡ 0) →
-    tracked.phase ≡ phases.Running → tracked.block_items ≡ 0 → tracked.skip_items ≡ 0 → StandsFor script [] [] values tracked
+-- before the first entry nobody waits, each cell is 0, and the tracker is new
+pub opened : {script : Plan} {past : List Entry} {queue : List Waiting} {values : List ℕ} {tracked : Tracked} (n : ℕ) → past ≡ [] → queue ≡ []
+    → values ≡ replicate n 0 → n ≡ length script.runners + length script.tasks →
+    tracked ≡ record { phase = phases.Running; policy = All; block_items = 0; skip_items = 0 } → StandsFor script past queue values tracked
 unfolding is_legal running holding policy_of posts is_taken is_ended phase_of to_take cell_of fold_past
-opened script values tracked count zeros phase blocks skips = record {
+opened n no_past no_queue zeros count new = rw (no_past, no_queue, zeros, new) (record {
   legal = refl;
   still = record { runs = λ seat. refl; holds = λ seat. refl; policy = refl; immediate = tt };
   ended = λ t. refl;
@@ -349,13 +349,13 @@ opened script values tracked count zeros phase blocks skips = record {
   in_order = tt;
   known = tt;
   fresh = λ t h. refl;
-  cells = λ s lt. zeros s;
-  cell_count = count;
-  phase = phase;
-  blocks = blocks;
-  no_skips = skips;
+  cells = λ s lt. get_or-replicate n s 0 0 (omega (arith, lt, length-replicate {A = ℕ} n 0));
+  cell_count = length-replicate {A = ℕ} n 0 ∙ count;
+  phase = refl;
+  blocks = refl;
+  no_skips = refl;
   not_started = λ h. refl;
-}
+})
 
 -- ---- entries of a worker
 

@@ -21,7 +21,7 @@ use Rattle.env_app.specs.declared.engine.Waiting.{Waiting}
 use Rattle.env_app.specs.Engine.{done_count, wanted, HasRoom, IsNext, IsStill, StandsFor}
 use Rattle.env_app.proofs.Wanted.{finished}
 use Rattle.env_app.proofs.Quiet.{is_quiet_still}
-use Rattle.env_app.proofs.Events.{opened, driver_entry, worker_entry, done_count-driver, own_entries-worker}
+use Rattle.env_app.proofs.Events.{driver_entry, worker_entry, done_count-driver, own_entries-worker}
 
 -- where an entry is wanted, not all are made
 pub some_to_do : (script : Plan) (past : List Entry) (want : Want) → wanted script past ≡ Some want → done_count past < length (all_wants script)
@@ -35,13 +35,13 @@ done_count-worker past kind = ap length (own_entries-worker past kind)
 -- the same number of made entries leaves the same entry wanted
 pub wanted-same : (script : Plan) (past later : List Entry) → done_count later ≡ done_count past → wanted script later ≡ wanted script past
 unfolding wanted
-wanted-same script past later same = ap (λ (n : ℕ). slice_get (all_wants script) n) same
+wanted-same script past later same = rw same refl
 
 -- the j-th entry that an action wants is wanted once the ones before it are made
 pub wanted_next : (script : Plan) (past later : List Entry) (wants : List Want) (j : ℕ) (want : Want) → IsNext script past wants
     → slice_get wants j ≡ Some want → done_count later ≡ done_count past + j → wanted script later ≡ Some want
 unfolding wanted
-wanted_next script past later wants j want next here count = ap (λ (n : ℕ). slice_get (all_wants script) n) count ∙ next j want here
+wanted_next script past later wants j want next here count = rw count (next j want here)
 
 -- the entries that the script's next action wants come next
 pub next_action : (script : Plan) (past : List Entry) (listed : List Action) (i : ℕ) (d : Action) → listed ≡ script.actions
@@ -51,9 +51,7 @@ next_action script past listed i d same count lt j want here =
     let found : get_or (flat_map wants_of listed) (length (flat_map wants_of (take i listed)) + j) want ≡ want =
     get_or-flat_map wants_of listed i j d want lt within ∙ get_or_from_slice_get (wants_of (get_or listed i d)) j want want here in
     let there : done_count past + j < length (flat_map wants_of listed) = omega (arith, count, within, length-flat_map-take wants_of listed i d lt) in
-    ap (λ (acts : List Action). slice_get (flat_map wants_of acts) (done_count past + j)) (sym same)
-    ∙ slice_get-get_or (flat_map wants_of listed) (done_count past + j) want there
-    ∙ ap Some (ap (λ (n : ℕ). get_or (flat_map wants_of listed) (n + j) want) count ∙ found)
+    rw (← same, slice_get-get_or (flat_map wants_of listed) (done_count past + j) want there, count, found) refl
 
 -- ---- the room
 
@@ -65,19 +63,6 @@ room_at_start script engine log queue none entries places =
     let written : length engine.log.items ≡ 0 = ap length log in
     let waits : length engine.queue.items ≡ 0 = ap length queue in
     record { entries = omega arith; places = omega arith; few = omega arith }
-
-zero_everywhere : (n i : ℕ) → ◌≡◌ {A = ℕ} (get_or (replicate n 0) i 0) 0
-zero_everywhere zero i = refl
-zero_everywhere (suc n) zero = refl
-zero_everywhere (suc n) (suc i) = zero_everywhere n i
-
--- cells that are all 0 and a new tracker stand for the start
-pub stands_at_start : (script : Plan) (past : List Entry) (queue : List Waiting) (values : List ℕ) (tracked : Tracked) (n : ℕ) → past ≡ [] → queue ≡ []
-    → values ≡ replicate n 0 → n ≡ length script.runners + length script.tasks →
-    tracked.phase ≡ phases.Running → tracked.block_items ≡ 0 → tracked.skip_items ≡ 0 → StandsFor script past queue values tracked
-stands_at_start script past queue values tracked n no_past no_queue zeros count phase blocks skips =
-    rw (no_past, no_queue) (opened script values tracked (ap length zeros ∙ length-replicate n 0 ∙ count) (λ s. ap (λ (v : List ℕ). get_or v s 0) zeros
-        ∙ zero_everywhere n s) phase blocks skips)
 
 -- an accepted post uses the room of its entry: one place in the log, and one in the queue
 pub room_after_post : (script : Plan) (old new : Engine) (kind : Kind) (w : Waiting) → HasRoom script old
@@ -134,12 +119,9 @@ at_most_one false = omega arith
 pub wants_taken : (listed : List Action) (i : ℕ) (d : Action) → i < length listed
     → length (flat_map wants_of (take i listed)) + length (wants_of (get_or listed i d)) ≡ length (flat_map wants_of (take (i + 1) listed))
 wants_taken listed i d lt =
-    sym (length-append (flat_map wants_of (take i listed)) (wants_of (get_or listed i d)))
-    ∙ ap length (sym (ap (flat_map wants_of) (take_more listed i d lt) ∙ flat_map-append wants_of (take i listed) (get_or listed i d ∷ [])
-        ∙ ap (λ (ws : List Want). flat_map wants_of (take i listed) ++ ws) (flat_map-cons wants_of (get_or listed i d) []
-        ∙ append-nil (wants_of (get_or listed i d)))))
+    simp (take_more listed i d lt, flat_map-append, flat_map-cons, append-nil, length-append)
 
 -- the entries that all actions want
 pub wants_all : (script : Plan) (listed : List Action) (i : ℕ) → listed ≡ script.actions → length listed ≤ i
     → length (flat_map wants_of (take i listed)) ≡ length (all_wants script)
-wants_all script listed i same all = ap (λ (acts : List Action). length (flat_map wants_of acts)) (take_all i listed all ∙ same)
+wants_all script listed i same all = rw (take_all i listed all, same) refl
