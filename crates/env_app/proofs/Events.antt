@@ -56,17 +56,18 @@ driver_entry kind = record { seat = 0; kind = kind }
 
 -- an entry of the driver is one more made
 pub done_count-driver : (past : List Entry) (kind : Kind) → done_count (past ++ driver_entry kind ∷ []) ≡ done_count past + 1
-done_count-driver past kind = ap length (filter-append (λ e. eqb e.seat 0) past (driver_entry kind ∷ []))
-    ∙ length-append (own_entries 0 past) (driver_entry kind ∷ [])
+done_count-driver past kind = rw (filter-append (λ e. eqb e.seat 0) past (driver_entry kind ∷ []), length-append) refl
 
 -- the entry that was wanted is made after an entry of the driver
 pub done_wants-driver : (script : Plan) (past : List Entry) (kind : Kind) (want : Want) → wanted script past ≡ Some want
     → done_wants script (past ++ driver_entry kind ∷ []) ≡ done_wants script past ++ want ∷ []
 unfolding wanted
 done_wants-driver script past kind want next =
-    ap (λ n. take n (all_wants script)) (done_count-driver past kind)
-    ∙ take_more (all_wants script) (done_count past) want (slice_get_within (all_wants script) (done_count past) want next)
-    ∙ ap (λ (w : Want). done_wants script past ++ w ∷ []) (get_or_from_slice_get (all_wants script) (done_count past) want want next)
+    rw (
+      done_count-driver past kind,
+      take_more (all_wants script) (done_count past) want (slice_get_within (all_wants script) (done_count past) want next),
+      get_or_from_slice_get (all_wants script) (done_count past) want want next,
+    ) refl
 
 -- ---- what an entry leaves of the tasks that may be taken
 
@@ -85,11 +86,9 @@ to_take-post : (script : Plan) (past : List Entry) (task runner delay : ℕ) →
     to_take script (past ++ driver_entry (Post task runner delay true) ∷ []) ≡ to_take script past ++ post_behind past task runner delay ∷ []
 unfolding to_take
 to_take-post script past task runner delay untaken allowed =
-    filter_congr (may_start script (past ++ e ∷ [])) may (posts (past ++ e ∷ []))
+    filter_congr (may_start script (past ++ e ∷ [])) (may_start script past) (posts (past ++ e ∷ []))
         (λ p. rw (is_taken_push past e p.task, or-false (is_taken past p.task), phase_of_push past e) refl)
-    ∙ ap (filter may) (posts_push past e)
-    ∙ filter-append may (posts past) (made ∷ [])
-    ∙ ap (λ (b : Bool). filter may (posts past) ++ cond b (made ∷ []) []) made_may
+    ∙ rw (posts_push past e, filter-append (may_start script past) (posts past) (made ∷ []), untaken, allowed) refl
   where
     e : Entry
     e = driver_entry (Post task runner delay true)
@@ -97,20 +96,13 @@ to_take-post script past task runner delay untaken allowed =
     made : Posted
     made = post_behind past task runner delay
 
-    may : Posted → Bool
-    may p = not (is_taken past p.task) && not (is_forbidden script past p)
-
-    made_may : may made ≡ true
-    made_may = rw (untaken, allowed) refl
-
 -- once shutdown starts, those that it forbids go
 pub to_take-shutdown : (script : Plan) (past : List Entry) → phase_of past ≡ phases.Running →
     to_take script (past ++ driver_entry Shutdown ∷ []) ≡ filter (λ p. not (forbids phases.Started (effective_at script p.home p.delay))) (to_take script past)
 unfolding to_take
 to_take-shutdown script past running_now =
-    ap (filter (may_start script (past ++ e ∷ []))) (posts_push past e ∙ append-nil (posts past))
-    ∙ filter_congr (may_start script (past ++ e ∷ [])) (λ p. may_start script past p && stays p) (posts past) (λ p. here p)
-    ∙ sym (filter-filter stays (may_start script past) (posts past))
+    rw (posts_push past e, append-nil (posts past), filter-filter stays (may_start script past) (posts past))
+    (filter_congr (may_start script (past ++ e ∷ [])) (λ p. may_start script past p && stays p) (posts past) here)
   where
     e : Entry
     e = driver_entry Shutdown
@@ -173,8 +165,7 @@ known-driver script past kind want ps next known =
       immediate = k.immediate;
       task_declared = k.task_declared;
       runner_declared = k.runner_declared;
-      by_driver = ap (λ (ws : List Want). posts_among ws p.task) (done_wants-driver script past kind want next)
-          ∙ list_any-more (is_want_of p.task) (done_wants script past) want k.by_driver;
+      by_driver = rw (done_wants-driver script past kind want next) (list_any-more (is_want_of p.task) (done_wants script past) want k.by_driver);
     }) known
 
 -- a task that no made entry posts was not taken
@@ -183,7 +174,7 @@ pub fresh-driver : (script : Plan) (past : List Entry) (kind : Kind) (want : Wan
     (t : ℕ) → posts_among (done_wants script (past ++ driver_entry kind ∷ [])) t ≡ false → is_taken (past ++ driver_entry kind ∷ []) t ≡ false
 fresh-driver script past kind want next fresh no_take t h =
     let before : posts_among (done_wants script past) t ≡ false = list_any-less (is_want_of t) (done_wants script past) want
-        (ap (λ (ws : List Want). posts_among ws t) (sym (done_wants-driver script past kind want next)) ∙ h) in
+        (rw (done_wants-driver script past kind want next) at h) in
     rw (is_taken_push past (driver_entry kind) t, no_take t, fresh t before) refl
 
 -- an entry that leaves the phase leaves it running where no made entry starts shutdown
@@ -192,8 +183,8 @@ not_started-driver : (script : Plan) (past : List Entry) (kind : Kind) (want : W
     (starts_among (done_wants script past) ≡ false → phase_of past ≡ phases.Running)
         → starts_among (done_wants script (past ++ driver_entry kind ∷ [])) ≡ false → phase_of (past ++ driver_entry kind ∷ []) ≡ phases.Running
 not_started-driver script past kind want next same before h =
-    phase_of_push past (driver_entry kind) ∙ same ∙ before (list_any-less wants_shutdown (done_wants script past) want
-        (ap starts_among (sym (done_wants-driver script past kind want next)) ∙ h))
+    rw (phase_of_push past (driver_entry kind), same)
+    (before (list_any-less wants_shutdown (done_wants script past) want (rw (done_wants-driver script past kind want next) at h)))
 
 -- ---- a post
 
@@ -223,8 +214,7 @@ posted {script} {past} {queue} {values} {old} {new} task runner delay formed sta
   legal = is_legal_push script past e ∙ rw (stands.legal, driver_sits script, by_script_next script past want true formed next, allowed) refl;
   still = still_after past e stands.still refl refl refl (sound.immediate, tt);
   ended = ended-driver past kind stands.ended (λ t. refl) (λ t. refl);
-  waits = rw (grown) (ap (λ (ws : List Waiting). ws ++ record { task = task; runner = runner } ∷ []) stands.waits
-      ∙ sym (map-append waiting_of (to_take script past) (made ∷ [])));
+  waits = rw (grown, stands.waits, map-append waiting_of (to_take script past) (made ∷ [])) refl;
   in_order = rw (grown) (InOrder-push (to_take script past) made stands.in_order
       (AllByRecursion-map (IsKnown script past) (λ x. Before x made) (to_take script past) (λ x k. record {
     earlier = k.earlier;
@@ -237,8 +227,7 @@ posted {script} {past} {queue} {values} {old} {new} task runner delay formed sta
           immediate = sound.immediate;
           task_declared = sound.task_declared;
           runner_declared = sound.runner_declared;
-          by_driver = ap (λ (ws : List Want). posts_among ws task) (done_wants-driver script past kind want next)
-              ∙ list_any-last (is_want_of task) (done_wants script past) want (eqb-same task);
+          by_driver = rw (done_wants-driver script past kind want next) (list_any-last (is_want_of task) (done_wants script past) want (eqb-same task));
         },
         tt,
       ));
@@ -371,10 +360,9 @@ pub to_take-take : (script : Plan) (past : List Entry) (task runner found : ℕ)
     to_take script (past ++ worker_entry (Take task runner found) ∷ []) ≡ filter (λ p. not (eqb task p.task)) (to_take script past)
 unfolding to_take
 to_take-take script past task runner found =
-    ap (filter (may_start script (past ++ e ∷ []))) (posts_push past e ∙ append-nil (posts past))
-    ∙ filter_congr (may_start script (past ++ e ∷ [])) (λ p. may_start script past p && not (eqb task p.task)) (posts past)
-    (λ p. rw (is_taken_push past e p.task, phase_of_push past e) (regroup (is_taken past p.task) (eqb task p.task) (not (is_forbidden script past p))))
-    ∙ sym (filter-filter (λ p. not (eqb task p.task)) (may_start script past) (posts past))
+    rw (posts_push past e, append-nil (posts past), filter-filter (λ p. not (eqb task p.task)) (may_start script past) (posts past))
+    (filter_congr (may_start script (past ++ e ∷ [])) (λ p. may_start script past p && not (eqb task p.task)) (posts past)
+    (λ p. rw (is_taken_push past e p.task, phase_of_push past e) (regroup (is_taken past p.task) (eqb task p.task) (not (is_forbidden script past p)))))
   where
     e : Entry
     e = worker_entry (Take task runner found)
@@ -389,12 +377,13 @@ to_take-take script past task runner found =
 -- of tasks in order, only the taken one goes
 pub filter_one : (xs : List Posted) (p : Posted) (ys : List Posted) → InOrder (xs ++ p ∷ ys) → filter (λ q. not (eqb p.task q.task)) (xs ++ p ∷ ys) ≡ xs ++ ys
 filter_one xs p ys order =
-    filter-append others xs (p ∷ ys)
-    ∙ ap (λ (zs : List Posted). filter others xs ++ zs) (ap (λ (b : Bool). cond (not b) (p ∷ filter others ys) (filter others ys)) (eqb-same p.task))
-    ∙ ap (λ (zs : List Posted). zs ++ filter others ys) (filter_all others xs
-        (AllByRecursion-map (λ x. Before x p) (λ x. others x ≡ true) xs (λ x b. ap not (ne_eqb p.task x.task (λ s. b.another (sym s)))) around.0))
-    ∙ ap (λ (zs : List Posted). xs ++ zs) (filter_all others ys
-        (AllByRecursion-map (Before p) (λ y. others y ≡ true) ys (λ y b. ap not (ne_eqb p.task y.task b.another)) around.1))
+    rw (
+      filter-append others xs (p ∷ ys),
+      eqb-same p.task,
+      filter_all others xs
+          (AllByRecursion-map (λ x. Before x p) (λ x. others x ≡ true) xs (λ x b. ap not (ne_eqb p.task x.task (λ s. b.another (sym s)))) around.0),
+      filter_all others ys (AllByRecursion-map (Before p) (λ y. others y ≡ true) ys (λ y b. ap not (ne_eqb p.task y.task b.another)) around.1),
+    ) refl
   where
     others : Posted → Bool
     others q = not (eqb p.task q.task)
