@@ -289,8 +289,8 @@ served {script} {past} {queue} {values} {old} {new} k w found left formed stands
     let it : w ≡ waiting_of p = there.is in
     let split : E ≡ take k E ++ p ∷ drop (k + 1) E = around E k below in
     let queue_is : queue ≡ map waiting_of (take k E ++ p ∷ drop (k + 1) E) = stands.waits ∙ ap (map waiting_of) split in
-    let rank : (i : ℕ) → i < length E → get_or (ranks_of script queue) i 0
-        ≡ importance_of script (at E i).home = λ i lt. ap (λ (q : List Waiting). get_or (ranks_of script q) i 0) stands.waits ∙ rank_at_place script E i lt in
+    let rank : (i : ℕ) → i < length E → get_or (ranks_of script queue) i 0 ≡ importance_of script (at E i).home =
+    λ i lt. rw stands.waits (rank_at_place script E i lt) in
     let lower : AllByRecursion (λ x. importance_of script x.home < importance_of script p.home) (take k E) =
     AllByRecursion-from_index (λ x. importance_of script x.home < importance_of script p.home) (take k E) (λ i d lt.
     let i_below : i < k = omega (arith, length-take k E) in
@@ -304,20 +304,9 @@ served {script} {past} {queue} {values} {old} {new} k w found left formed stands
     let e : get_or (drop (k + 1) E) i d ≡ at E (k + 1 + i) = get_or-drop (k + 1) E i d ∙ get_or_default E (k + 1 + i) d nobody inside in
     let behind = best.no_higher (k + 1 + i) (omega (arith, same_length)) in
     rw (e, sym (rank (k + 1 + i) inside), sym (rank k below)) behind) in
-    let within : sequence_of script p.home p.task < length values =
-    subst (λ (x : Waiting). sequence_of script x.runner x.task < length values) it (in_range k w stands best.within is) in
+    let within = in_range k w stands best.within is in
     let rest_is : map waiting_of (take k E ++ drop (k + 1) E) ≡ take k queue ++ drop (k + 1) queue =
-    map-append waiting_of (take k E) (drop (k + 1) E)
-    ∙ ap (λ (front : List Waiting). front ++ map waiting_of (drop (k + 1) E)) (sym (take-map waiting_of k E))
-    ∙ ap (λ (back : List Waiting). take k (map waiting_of E) ++ back) (sym (drop-map waiting_of (k + 1) E))
-    ∙ ap (λ (q : List Waiting). take k q ++ drop (k + 1) q) (sym stands.waits) in
-    let found_there : found ≡ get_or values (sequence_of script p.home p.task) 0 = found_is
-        ∙ ap (λ (x : Waiting). get_or values (sequence_of script x.runner x.task) 0) it in
-    let left_there : left ≡ after (steps_of script p.task) found = left_is ∙ ap (λ (x : Waiting). after (steps_of script x.task) found) it in
-    let tracked_there = subst (λ (x : Waiting). Served old new (effective_at script x.runner 0)) it tracked in
-    let after_both = served_between script past values old new (take k E) p (drop (k + 1) E) found left formed
-        (subst (λ (q : List Waiting). StandsFor script past q values old) queue_is stands) split next tracked_there lower upper within found_there left_there in
-    let moved = subst (λ (q : List Waiting). StandsFor script ((past ++ worker_entry (Take p.task p.home found) ∷ []) ++ worker_entry (End p.task left) ∷ []) q
-        (set values (sequence_of script p.home p.task) left) new) rest_is after_both in
-    subst (λ (x : Waiting). StandsFor script ((past ++ worker_entry (Take x.task x.runner found) ∷ []) ++ worker_entry (End x.task left) ∷ [])
-        (take k queue ++ drop (k + 1) queue) (set values (sequence_of script x.runner x.task) left) new) (sym it) moved
+    rw (map-append waiting_of (take k E) (drop (k + 1) E), stands.waits, take-map waiting_of k E, drop-map waiting_of (k + 1) E) refl in
+    let after_both = served_between script past values old new (take k E) p (drop (k + 1) E) found left formed (rw queue_is at stands) split next
+        (rw it at tracked) lower upper (rw it at within) (rw it at found_is) (rw it at left_is) in
+    rw (it, ← rest_is) after_both

@@ -30,8 +30,7 @@ returns-then-ok-clause-ready c =
     let ahead = some_to_do script old.log.items _ c.requires.next in
     let allowed : is_refused script old.log.items c.args.runner c.args.delay ≡ false =
     answer_is old.tracker.phase _ c.effective_at.result _ true ready.stands.phase c.effective_at.ensures c.if-ok.ensures.answer in
-    let tracked = c.if-ok.ensures.counted ∙ ap (λ (b : Behaviour). record old.tracker { block_items = old.tracker.block_items + block_share b })
-        c.effective_at.ensures in
+    let tracked = rw c.effective_at.ensures at c.if-ok.ensures.counted in
     record {
       stands = rw (c.push_spare.ensures.items, c.push_reserved.ensures.items, c.if-ok.true)
           (posted c.args.task c.args.runner c.args.delay c.requires.formed ready.stands c.requires.next allowed tracked);

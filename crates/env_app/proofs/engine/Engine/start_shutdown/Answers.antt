@@ -7,7 +7,7 @@ use Rattle.task_tracker.specs.Tracked.{Tracked}
 use Rattle.task_model.specs.Refusal.{effective_at}
 use Rattle.env_app.specs.declared.engine.Waiting.{Waiting}
 use Rattle.list_laws.proofs.Lists.{count_le}
-use Rattle.env_app.proofs.Shutdown.{still_running, started}
+use Rattle.env_app.proofs.Shutdown.{stays, still_running, started}
 use Rattle.env_app.proofs.Room.{some_to_do, room_after_entry}
 use Rattle.env_app.proofs.engine.Engine.start_shutdown.Goals as goal
 
@@ -26,10 +26,8 @@ returns-clause-ready c =
     let script = c.args.script.now in
     let old = c.args.self.now in
     let ready = c.requires.ready in
-    let kept = c.drop_forbidden.ensures.kept ∙ ap (λ (p : Phase). filter (λ (w : Waiting). not (forbids p (effective_at script w.runner 0))) old.queue.items)
-        (ap (λ (t : Tracked). t.phase) c.start_shutdown.ensures) in
-    let shorter : length c.drop_forbidden.new.queue.items ≤ length old.queue.items = omega
-        (arith, ap length kept, count_le (λ (w : Waiting). not (forbids Started (effective_at script w.runner 0))) old.queue.items) in
+    let kept = rw c.start_shutdown.ensures at c.drop_forbidden.ensures.kept in
+    let shorter : length c.drop_forbidden.new.queue.items ≤ length old.queue.items = rw kept (count_le (stays script) old.queue.items) in
     record {
       stands = rw (c.push_spare.ensures.items) (started c.requires.formed ready.stands c.requires.next kept c.start_shutdown.ensures);
       room = room_after_entry script old _ _ ready.room (some_to_do script old.log.items _ c.requires.next) c.push_spare.ensures.items
