@@ -38,5 +38,5 @@ note_line-of_run accepted source sink BadWords runs = refl
 note_line-of_run accepted source sink (BadScript line reason) runs = refl
 note_line-of_run accepted source sink ReadFault runs = refl
 note_line-of_run accepted source sink WriteFault runs = refl
-note_line-of_run accepted source sink NoMemory runs = refl
+note_line-of_run accepted source sink (NoMemory error) runs = refl
 note_line-of_run accepted source sink TooLarge runs = refl

@@ -1,5 +1,5 @@
 -- What a run did, by what it read and what it wrote.
-use Rattle.std.specs.Prelude.{◌≡◌, ◌≢◌, ◌↔◌, ◌⊎◌, ◌<◌, ◌≤◌, ℕ, Bool, true, false, ◌==◌, List, [], ◌∷◌, ◌++◌, length, take, filter, codes, Option, Some, None, IfSome, Result, Ok, Err, String, string_bytes}
+use Rattle.std.specs.Prelude.{alloc_error, ◌≡◌, ◌≢◌, ◌↔◌, ◌⊎◌, ◌<◌, ◌≤◌, ℕ, Bool, true, false, ◌==◌, List, [], ◌∷◌, ◌++◌, length, take, filter, codes, Option, Some, None, IfSome, Result, Ok, Err, String, string_bytes}
 use Rattle.std.specs.List.{flat_map}
 use Rattle.std.specs.declared.alloc.Global.{Global}
 use Rattle.task_base.specs.Plan.{Plan}
@@ -74,6 +74,10 @@ TookWithin source = (taken : List ℕ) × Gives source.before taken source.after
 abbrev pub Failed : Ends → Type 0
 Failed side = Rose side.faults_before side.faults_after
 
+-- the side did not fail once in the call
+abbrev pub IsSteady : Ends → Type 0
+IsSteady side = side.faults_after ≡ side.faults_before
+
 -- what the answer of reading a script says
 abbrev pub LoadsScript : Ends → Result Plan Fault → Type 0
 LoadsScript source (Ok script) = IsReadToEnd source × WellFormed script
@@ -81,7 +85,7 @@ LoadsScript source (Ok script) = IsReadToEnd source × WellFormed script
 LoadsScript source (Err (BadScript line reason)) = IsReadToEnd source × OfBytes source (λ bytes. IsWithin bytes × (form_read bytes ≡ None))
 LoadsScript source (Err ReadFault) = Failed source
 LoadsScript source (Err TooLarge) = OfBytes source (λ bytes. MOST_BYTES < length bytes)
-LoadsScript source (Err NoMemory) = Unit {0}
+LoadsScript source (Err (NoMemory error)) = Unit {0}
 LoadsScript source (Err (NotLegal line)) = ⊥
 LoadsScript source (Err BadWords) = ⊥
 LoadsScript source (Err WriteFault) = ⊥
@@ -99,7 +103,7 @@ RunsTo accepted source sink (Err (BadScript line reason)) = (accepted ≡ true) 
     × OfBytes source (λ bytes. IsWithin bytes × (form_read bytes ≡ None))
 RunsTo accepted source sink (Err ReadFault) = (accepted ≡ true) × Failed source
 RunsTo accepted source sink (Err TooLarge) = (accepted ≡ true) × OfBytes source (λ bytes. MOST_BYTES < length bytes)
-RunsTo accepted source sink (Err NoMemory) = accepted ≡ true
+RunsTo accepted source sink (Err (NoMemory error)) = accepted ≡ true
 RunsTo accepted source sink (Err (NotLegal line)) = ⊥
 
 -- each status has its cause
@@ -120,6 +124,9 @@ pub record HasCause (accepted : Bool) (source sink : Ends) (status : ℕ) : Type
   pub read_fault : status ≡ 4 → Failed source
   -- 5 comes only where the sink failed, and a front of the text was written
   pub write_fault : status ≡ 5 → Failed sink × Wrote WroteFront source sink
+  -- under every status but 4 the source did not fail once, and under every one but 5 the sink did not
+  pub source_steady : status ≢ 4 → IsSteady source
+  pub sink_steady : status ≢ 5 → IsSteady sink
   -- 7 comes only where more bytes came than the limit
   pub too_large : status ≡ 7 → OfBytes source (λ bytes. MOST_BYTES < length bytes)
   -- exactly where more bytes were taken than the limit
@@ -137,7 +144,7 @@ note_line fault = note_of fault ++ codes "\n"
 
 -- the faults that a run may end with
 abbrev pub run_faults : List Fault
-run_faults = BadWords ∷ BadScript 0 0 ∷ ReadFault ∷ WriteFault ∷ NoMemory ∷ TooLarge ∷ []
+run_faults = BadWords ∷ BadScript 0 0 ∷ ReadFault ∷ WriteFault ∷ NoMemory alloc_error ∷ TooLarge ∷ []
 
 -- the note that goes with a status, with its line feed: that of the fault that ends a run with it, and nothing where none does
 abbrev pub note_of_status : ℕ → List ℕ

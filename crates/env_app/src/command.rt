@@ -30,17 +30,18 @@ fn load<S: Source>(alloc: Global, source: &mut S) -> Result<Script, Fault>
     ensures outcome { LoadsScript (ends (S.left source.old) (S.left source.new) (S.faults source.old) (S.faults source.new)) result }
     ensures took_more { result ≡ Err Fault.TooLarge → TookMore (ends (S.left source.old) (S.left source.new) (S.faults source.old) (S.faults source.new)) }
     ensures took_within { result ≢ Err Fault.TooLarge → TookWithin (ends (S.left source.old) (S.left source.new) (S.faults source.old) (S.faults source.new)) }
+    ensures steady { result ≢ Err Fault.ReadFault → S.faults source.new ≡ S.faults source.old }
 {
     let bytes = match read_input(alloc, source) {
         Ok(bytes) => bytes,
         Err(InputFault::Read) => return Err(Fault::ReadFault),
-        Err(InputFault::Memory) => return Err(Fault::NoMemory),
+        Err(InputFault::Memory(error)) => return Err(Fault::NoMemory(error)),
         Err(InputFault::TooLarge) => return Err(Fault::TooLarge),
     };
     match read_script(alloc, &bytes) {
         Ok(script) => Ok(script),
         Err(ScriptFault::Bad) => Err(Fault::BadScript { line: 0, reason: 0 }),
-        Err(ScriptFault::Memory) => Err(Fault::NoMemory),
+        Err(ScriptFault::Memory(error)) => Err(Fault::NoMemory(error)),
     }
 }
 
@@ -59,13 +60,16 @@ fn run<S: Source, K: Sink, G: Gate>(
     ensures took_more { result ≡ Err Fault.TooLarge → TookMore (ends (S.left source.old) (S.left source.new) (S.faults source.old) (S.faults source.new)) }
     ensures took_within { result ≢ Err Fault.TooLarge → TookWithin (ends (S.left source.old) (S.left source.new) (S.faults source.old) (S.faults source.new)) }
     ensures source_kept { result ≡ Err Fault.BadWords → source.new ≡ source.old }
+    ensures source_steady { result ≢ Err Fault.ReadFault → S.faults source.new ≡ S.faults source.old }
+    ensures sink_steady { result ≢ Err Fault.WriteFault → K.faults sink.new ≡ K.faults sink.old }
 {
     if !asks_for_run(words) {
         return Err(Fault::BadWords);
     }
     let script = load(alloc, source)?;
-    let Ok(log) = run_script(alloc, &script, gate) else {
-        return Err(Fault::NoMemory);
+    let log = match run_script(alloc, &script, gate) {
+        Ok(log) => log,
+        Err(error) => return Err(Fault::NoMemory(error)),
     };
     match write_log(sink, &log) {
         Ok(()) => Ok(()),
@@ -107,7 +111,7 @@ pub fn run_words<R: Threads + Wait + Sync, S: Source, K: Sink, N: Sink, C: Clock
     source: &mut S,
     sink: &mut K,
     notes: &mut N,
-    _clock: &mut C,
+    clock: &mut C,
     gate: &G,
 ) -> u8
     // The run theorem: the bytes that came are a script, and what was added to the sink is the text of one
@@ -123,6 +127,9 @@ pub fn run_words<R: Threads + Wait + Sync, S: Source, K: Sink, N: Sink, C: Clock
     // Under any other status nothing is put to the sink, and bad words take nothing from the source.
     ensures nothing_written { result ≢ 0 → result ≢ 5 → sink.new ≡ sink.old }
     ensures nothing_taken { result ≡ 2 → source.new ≡ source.old }
+
+    // The clock is as it was.
+    ensures clock { clock.new ≡ clock.old }
 
     // The notes get the status's note, where they do not fail, and else a front of it.
     ensures note { Rose (N.faults notes.old) (N.faults notes.new) ⊎ Gains (N.holds notes.old) (note_of_status result) (N.holds notes.new) }

@@ -25,6 +25,7 @@ pub trait Sink {
         ensures taken { IfOk result (λ n. Gains (holds self.old) (take n piece.now) (holds self.new)) }
         ensures empty { piece.now ≡ [] → result ≡ Ok 0 }
         ensures failed { OnErr result (Rose (faults self.old) (faults self.new)) }
+        ensures steady { OnOk result (faults self.new ≡ faults self.old) }
         ensures kept { OnErr result (holds self.new ≡ holds self.old) }
         ensures faults { faults self.old ≤ faults self.new };
 }
@@ -38,6 +39,7 @@ pub fn put_all<K: Sink>(sink: &mut K, piece: &[u8]) -> Result<(), Failed>
     // What went out is a prefix of the piece.
     ensures cut { OnErr result ((n : ℕ) × Gains (K.holds sink.old) (take n piece.now) (K.holds sink.new)) }
     ensures failed { OnErr result (Rose (K.faults sink.old) (K.faults sink.new)) }
+    ensures steady { OnOk result (K.faults sink.new ≡ K.faults sink.old) }
     ensures faults { K.faults sink.old ≤ K.faults sink.new }
 {
     let mut done = 0;
@@ -130,6 +132,7 @@ impl Sink for MemSink {
         // What of the trait's clauses does not follow from these.
         ensures taken { IfOk result (λ n. Gains (taken_by self.old) (take n piece.now) (taken_by self.new)) }
         ensures failed { OnErr result (Rose self.old.plan.faults self.new.plan.faults) }
+        ensures steady { OnOk result (self.new.plan.faults ≡ self.old.plan.faults) }
         ensures faults { self.old.plan.faults ≤ self.new.plan.faults }
     {
         if piece.is_empty() {

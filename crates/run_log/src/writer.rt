@@ -18,6 +18,7 @@ pub fn write_log<K: Sink>(sink: &mut K, log: &Rows<Entry>) -> Result<(), Failed>
     // What went out is a prefix of the text.
     ensures cut { OnErr result ((n : ℕ) × Gains (K.holds sink.old) (take n (log_text log.now.items)) (K.holds sink.new)) }
     ensures failed { OnErr result (Rose (K.faults sink.old) (K.faults sink.new)) }
+    ensures steady { OnOk result (K.faults sink.new ≡ K.faults sink.old) }
     ensures faults { K.faults sink.old ≤ K.faults sink.new }
 {
     for (place, entry) in log.as_slice().iter().enumerate() {

@@ -10,7 +10,7 @@ status_of BadWords = 2
 status_of (BadScript line reason) = 3
 status_of ReadFault = 4
 status_of WriteFault = 5
-status_of NoMemory = 6
+status_of (NoMemory error) = 6
 status_of TooLarge = 7
 
 -- what is told of a fault: its words alone, without a line feed (this project's own rule)
@@ -20,5 +20,5 @@ note_of BadWords = codes "bad words"
 note_of (BadScript line reason) = codes "bad script"
 note_of ReadFault = codes "read fault"
 note_of WriteFault = codes "write fault"
-note_of NoMemory = codes "no memory"
+note_of (NoMemory error) = codes "no memory"
 note_of TooLarge = codes "too large"

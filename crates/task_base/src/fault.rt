@@ -1,6 +1,7 @@
 ghost use Rattle.std.specs.Prelude.{◌≡◌};
 ghost use Rattle.task_base.specs.Fault.{note_of, status_of};
 
+use std::alloc::AllocError;
 use std::fmt;
 use thiserror::Error;
 
@@ -18,8 +19,8 @@ pub enum Fault {
     ReadFault,
     /// Writing failed.
     WriteFault,
-    /// An allocation failed.
-    NoMemory,
+    /// An allocation failed. It carries that error, so that nothing else becomes this fault by mistake.
+    NoMemory(AllocError),
     /// The input is longer than the limit.
     TooLarge,
 }
@@ -44,7 +45,7 @@ impl Fault {
             Fault::BadScript { .. } => 3,
             Fault::ReadFault => 4,
             Fault::WriteFault => 5,
-            Fault::NoMemory => 6,
+            Fault::NoMemory(_) => 6,
             Fault::TooLarge => 7,
         }
     }
@@ -59,7 +60,7 @@ impl Fault {
             Fault::BadScript { .. } => "bad script",
             Fault::ReadFault => "read fault",
             Fault::WriteFault => "write fault",
-            Fault::NoMemory => "no memory",
+            Fault::NoMemory(_) => "no memory",
             Fault::TooLarge => "too large",
         }
     }

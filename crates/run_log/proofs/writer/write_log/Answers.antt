@@ -16,7 +16,7 @@ pub loop-place-preserved : goal.loop-place-preserved
 loop-place-preserved g c = record {
   taken = gains_line _ _ _ _ _ _ _ _ c.as_slice-entry-items.ensures (c.deref.ensures.0 ∙ c.line.ensures) c.loop-place-test.true c.loop-place.invariant.taken
       c.in_ok-put_all.ensures.written;
-  faults = omega arith;
+  steady = c.in_ok-put_all.ensures.steady ∙ c.loop-place.invariant.steady;
 }
 
 pub returns-clause-written : goal.returns-clause-written
