@@ -2,9 +2,9 @@
 -- priority among those that may be taken.
 use Rattle.task_base.specs.declared.script.RunnerKind.TheVariants.{Parallel, Sequenced, Single}
 use Rattle.task_base.specs.declared.script.RunnerKind.{RunnerKind}
-use Rattle.std.proofs.Common.{◌≡◌, ◌≢◌, ℕ, suc, ◌+◌, ◌-◌, ◌<◌, ◌≤◌, Bool, true, false, cond, ltb, List, [], ◌∷◌, ◌++◌, length, map, refl, sym, ap, subst, ◌∙◌, Option, Some, None, arith}
+use Rattle.std.proofs.Common.{◌≡◌, ◌≢◌, ℕ, suc, ◌+◌, ◌-◌, ◌<◌, ◌≤◌, Bool, true, false, cond, List, [], ◌∷◌, ◌++◌, length, map, refl, sym, ap, subst, ◌∙◌, Option, Some, None, arith}
 use Rattle.std.specs.Prelude.{not, ◌&&◌, filter, slice_get, option_and_then}
-use Rattle.std.specs.List.{AllByRecursion, filter_map, cons_option, range_with_len}
+use Rattle.std.specs.List.{AllByRecursion, filter_map, range_with_len}
 use Rattle.std.specs.Option.{option_map, IfSome}
 use Rattle.std.proofs.lemmas.Bool.{eqb-true, ne_eqb, false_from_ne_true}
 use Rattle.std.proofs.Math.Bool.{and_comm}
@@ -15,7 +15,6 @@ use Rattle.task_base.specs.Plan.{Plan}
 use Rattle.task_base.specs.declared.entry.Entry.{Entry}
 use Rattle.task_base.specs.declared.script.Runner.{Runner}
 use Rattle.list_laws.specs.Lists.{least, holds_of}
-use Rattle.task_model.specs.Time.{tick_from}
 use Rattle.task_model.specs.Posts.{Posted, Before, InOrder, posts}
 use Rattle.task_model.specs.Keys.{Ready, ready, key_of, key_at}
 use Rattle.task_base.specs.Keys.{key_below}
@@ -95,7 +94,7 @@ eligible_still script past s still =
       filter-filter (is_of script s) (may_start script past) (posts past),
     )
     (ap (map ready_of) (filter_congr (λ p. is_of script s p && may_start script past p) (λ p. may_start script past p && is_of script s p) (posts past)
-        (λ p. and_comm (is_of script s p) (may_start script past p))))
+    (λ p. and_comm (is_of script s p) (may_start script past p))))
 
 not_below : (a b : Posted) → Before a b → key_below (key_at b.place) (key_at a.place) ≡ false
 not_below a b h = let lt = h.earlier in grind (arith, nat_tests)
@@ -106,7 +105,7 @@ least_in_order [] h = refl
 least_in_order (p ∷ ps) h =
     least_split (λ a b. key_below a.key b.key) [] (ready_of p) (map ready_of ps) tt
     (AllByRecursion-mapped (λ r. key_below r.key (key_at p.place) ≡ false) ready_of ps
-        (AllByRecursion-map (Before p) (λ q. key_below (key_at q.place) (key_at p.place) ≡ false) ps (λ q b. not_below p q b) h.0))
+    (AllByRecursion-map (Before p) (λ q. key_below (key_at q.place) (key_at p.place) ≡ false) ps (λ q b. not_below p q b) h.0))
 
 -- the head of a sequence is the first of its tasks that may be taken
 head_still : (script : Plan) (past : List Entry) (s : ℕ) → IsStill past → InOrder (to_take script past)
@@ -142,10 +141,10 @@ unfolding waiting would_wait
 waiting_still script past formed still order =
     filter_always (λ c. not (is_held past c.priority)) _ (λ c. ap not (is_held_still past c.priority still))
     ∙ ap (λ n. filter_map (sequence_waiting script past) (range_with_len 0 (sequence_count script))
-        ++ filter_map (job_waiting script past) (range_with_len 0 n)) (ap length formed.no_jobs)
+    ++ filter_map (job_waiting script past) (range_with_len 0 n)) (ap length formed.no_jobs)
     ∙ append-nil (filter_map (sequence_waiting script past) (range_with_len 0 (sequence_count script)))
     ∙ filter_map_congr (sequence_waiting script past) (waits_for script (to_take script past)) (range_with_len 0 (sequence_count script))
-        (λ s. sequence_still script past s still order)
+    (λ s. sequence_still script past s still order)
 
 -- no runner is bound to a seat
 seat_none : (script : Plan) (runner : ℕ) → WellFormed script → seat_of script runner ≡ None
@@ -180,7 +179,7 @@ best_still script past seat formed still order =
     (AllByRecursion-filter_map (λ c. is_takeable script past seat c ≡ true) (waits_for script ts) numbers
     (AllByRecursion-always (λ s. IfSome (waits_for script ts s) (λ c. is_takeable script past seat c ≡ true)) numbers
     (λ s. of_first script s (λ c. is_takeable script past seat c ≡ true) (filter (is_of script s) ts)
-        (AllByRecursion-always (λ p. is_takeable script past seat (candidate script s p) ≡ true) (filter (is_of script s) ts) (λ p. takeable s p))))))
+    (AllByRecursion-always (λ p. is_takeable script past seat (candidate script s p) ≡ true) (filter (is_of script s) ts) (λ p. takeable s p))))))
   where
     ts : List Posted
     ts = to_take script past
@@ -232,10 +231,10 @@ none_before : (script : Plan) (xs : List Posted) (p : Posted) (ys : List Posted)
 none_before script xs p ys it =
     filter_none (is_of script home) xs
     (AllByRecursion-map (λ x. importance_of script x.home < importance_of script p.home × (Before x p × (x.home < length script.runners)))
-        (λ x. is_of script home x ≡ false) xs other
+    (λ x. is_of script home x ≡ false) xs other
     (AllByRecursion-both (λ x. importance_of script x.home < importance_of script p.home) (λ x. Before x p × (x.home < length script.runners)) xs it.lower
     (AllByRecursion-both (λ x. Before x p) (λ x. x.home < length script.runners) xs (InOrder-middle xs p ys it.order).0
-        (AllByRecursion-front (λ q. q.home < length script.runners) xs (p ∷ ys) it.declared))))
+    (AllByRecursion-front (λ q. q.home < length script.runners) xs (p ∷ ys) it.declared))))
   where
     home : ℕ
     home = sequence_of script p.home p.task
@@ -247,7 +246,7 @@ none_before script xs p ys it =
         → is_of script home x ≡ false
     other x h = false_from_ne_true (is_of script home x) (λ same.
         let one : x.home ≡ p.home = one_runner (parallel script x.home) (parallel script p.home) (length script.runners) x.task p.task x.home p.home
-            (eqb-true _ _ same) h.1.1 here h.1.0.another in
+        (eqb-true _ _ same) h.1.1 here h.1.0.another in
         absurd (omega (arith, h.0, ap (importance_of script) one)))
 
 -- so it is the first of its sequence
@@ -273,9 +272,9 @@ others_lose script xs p ys s it other =
     subst (AllByRecursion (beats script p)) (sym split)
     (AllByRecursion-append (beats script p) (filter (is_of script s) xs) (filter (is_of script s) ys)
     (AllByRecursion-filter (beats script p) (is_of script s) xs
-        (AllByRecursion-map (λ x. importance_of script x.home < importance_of script p.home) (beats script p) xs before it.lower))
+    (AllByRecursion-map (λ x. importance_of script x.home < importance_of script p.home) (beats script p) xs before it.lower))
     (AllByRecursion-filter (beats script p) (is_of script s) ys
-        (AllByRecursion-map (λ y. importance_of script y.home ≤ importance_of script p.home × Before p y) (beats script p) ys behind
+    (AllByRecursion-map (λ y. importance_of script y.home ≤ importance_of script p.home × Before p y) (beats script p) ys behind
     (AllByRecursion-both (λ y. importance_of script y.home ≤ importance_of script p.home) (Before p) ys it.no_higher (InOrder-middle xs p ys it.order).1))))
   where
     split : filter (is_of script s) (xs ++ p ∷ ys) ≡ filter (is_of script s) xs ++ filter (is_of script s) ys
@@ -317,7 +316,7 @@ best_of_still script past xs p ys seat formed still is it =
     (AllByRecursion-map (comes_after script p) (λ c. goes_before (candidate script home p) c ≡ true) (filter_map f (range_with_len 0 home)) (λ c b. b.0)
     (others_come_after script xs p ys 0 home it (λ s low high same. absurd (omega arith))))
     (AllByRecursion-map (comes_after script p) (λ c. goes_before c (candidate script home p) ≡ false) (filter_map f (range_with_len (home + 1) behind))
-        (λ c b. b.1)
+    (λ c b. b.1)
     (others_come_after script xs p ys (home + 1) behind it (λ s low high same. absurd (omega arith))))
   where
     home : ℕ

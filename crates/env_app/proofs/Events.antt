@@ -1,5 +1,5 @@
 -- What each entry keeps: the lists stand for the past with the entry behind it.
-use Rattle.std.proofs.Common.{◌≡◌, ℕ, ◌+◌, Bool, true, false, cond, eqb, leb, List, [], ◌∷◌, ◌++◌, length, take, replicate, map, refl, sym, ap, subst, ◌∙◌, Option, Some, None, arith}
+use Rattle.std.proofs.Common.{◌≡◌, ℕ, ◌+◌, Bool, true, false, cond, eqb, leb, List, [], ◌∷◌, ◌++◌, length, take, replicate, map, refl, sym, ap, subst, ◌∙◌, Some, None, arith}
 use Rattle.std.specs.Prelude.{not, ◌&&◌, ◌||◌, is_none, filter}
 use Rattle.std.specs.List.{list_any, list_all, AllByRecursion}
 use Rattle.std.proofs.Math.Bool.{or-false, or-true, and-true, and-false, not-not}
@@ -19,7 +19,6 @@ use Rattle.task_base.specs.Plan.{Plan}
 use Rattle.task_base.specs.declared.entry.Entry.{Entry}
 use Rattle.task_base.specs.declared.entry.Kind.{Kind}
 use Rattle.task_base.specs.declared.entry.Kind.TheVariants.{Post, Take, Idle, Shutdown, Done}
-use Rattle.task_base.specs.declared.policy.Policy.{Policy}
 use Rattle.task_base.specs.declared.policy.Policy.TheVariants.{All}
 use Rattle.task_model.specs.Past.{fold_past}
 use Rattle.task_model.specs.Posts.{Posted, Before, InOrder, post_behind, posts, posted_by, is_taken, takes, is_ended, ends}
@@ -87,7 +86,7 @@ to_take-post : (script : Plan) (past : List Entry) (task runner delay : ℕ) →
 unfolding to_take
 to_take-post script past task runner delay untaken allowed =
     filter_congr (may_start script (past ++ e ∷ [])) (may_start script past) (posts (past ++ e ∷ []))
-        (λ p. rw (is_taken_push past e p.task, or-false (is_taken past p.task), phase_of_push past e) refl)
+    (λ p. rw (is_taken_push past e p.task, or-false (is_taken past p.task), phase_of_push past e) refl)
     ∙ rw (posts_push past e, filter-append (may_start script past) (posts past) (made ∷ []), untaken, allowed) refl
   where
     e : Entry
@@ -118,7 +117,7 @@ pub to_take-done : (script : Plan) (past : List Entry) → to_take script (past 
 unfolding to_take
 to_take-done script past =
     filter_never (may_start script (past ++ e ∷ [])) (posts (past ++ e ∷ []))
-        (λ p. rw (phase_of_push past e) (and-false (not (is_taken (past ++ e ∷ []) p.task))))
+    (λ p. rw (phase_of_push past e) (and-false (not (is_taken (past ++ e ∷ []) p.task))))
   where
     e : Entry
     e = driver_entry Done
@@ -174,14 +173,14 @@ pub fresh-driver : (script : Plan) (past : List Entry) (kind : Kind) (want : Wan
     (t : ℕ) → posts_among (done_wants script (past ++ driver_entry kind ∷ [])) t ≡ false → is_taken (past ++ driver_entry kind ∷ []) t ≡ false
 fresh-driver script past kind want next fresh no_take t h =
     let before : posts_among (done_wants script past) t ≡ false = list_any-less (is_want_of t) (done_wants script past) want
-        (rw (done_wants-driver script past kind want next) at h) in
+    (rw (done_wants-driver script past kind want next) at h) in
     rw (is_taken_push past (driver_entry kind) t, no_take t, fresh t before) refl
 
 -- an entry that leaves the phase leaves it running where no made entry starts shutdown
 not_started-driver : (script : Plan) (past : List Entry) (kind : Kind) (want : Want) → wanted script past ≡ Some want
     → phase_after (phase_of past) kind ≡ phase_of past →
     (starts_among (done_wants script past) ≡ false → phase_of past ≡ phases.Running)
-        → starts_among (done_wants script (past ++ driver_entry kind ∷ [])) ≡ false → phase_of (past ++ driver_entry kind ∷ []) ≡ phases.Running
+    → starts_among (done_wants script (past ++ driver_entry kind ∷ [])) ≡ false → phase_of (past ++ driver_entry kind ∷ []) ≡ phases.Running
 not_started-driver script past kind want next same before h =
     rw (phase_of_push past (driver_entry kind), same)
     (before (list_any-less wants_shutdown (done_wants script past) want (rw (done_wants-driver script past kind want next) at h)))
@@ -197,7 +196,7 @@ share_of p ps BlockShutdown = omega arith
 -- how many block shutdown with one more task among them
 pub blocks_between : (script : Plan) (xs : List Posted) (p : Posted) (ys : List Posted) →
     length (filter (blocks_shutdown script) (xs ++ p ∷ ys)) ≡ length (filter (blocks_shutdown script) (xs ++ ys))
-        + block_share (effective_at script p.home p.delay)
+    + block_share (effective_at script p.home p.delay)
 blocks_between script xs p ys =
     let block = blocks_shutdown script in
     let with_it = ap length (filter-append block xs (p ∷ ys)) ∙ length-append (filter block xs) (filter block (p ∷ ys)) in
@@ -217,9 +216,9 @@ posted {script} {past} {queue} {values} {old} {new} task runner delay formed sta
   waits = rw (grown, stands.waits, map-append waiting_of (to_take script past) (made ∷ [])) refl;
   in_order = rw (grown) (InOrder-push (to_take script past) made stands.in_order
       (AllByRecursion-map (IsKnown script past) (λ x. Before x made) (to_take script past) (λ x k. record {
-    earlier = k.earlier;
-    another = λ same. both_ways _ sound.first_post (rw same at k.by_driver);
-  }) stands.known));
+        earlier = k.earlier;
+        another = λ same. both_ways _ sound.first_post (rw same at k.by_driver);
+      }) stands.known));
   known = rw (grown) (AllByRecursion-append (IsKnown script (past ++ e ∷ [])) (to_take script past) (made ∷ [])
       (known-driver script past kind want (to_take script past) next stands.known) (
         record {
@@ -262,7 +261,7 @@ posted {script} {past} {queue} {values} {old} {new} task runner delay formed sta
 unchanged : {script : Plan} {past : List Entry} {queue : List Waiting} {values : List ℕ} {tracked : Tracked} (kind : Kind) (want : Want) →
     StandsFor script past queue values tracked → wanted script past ≡ Some want → may_come script past 0 kind ≡ true →
     posted_by past kind ≡ [] → ((t : ℕ) → takes t kind ≡ false) → ((t : ℕ) → ends t kind ≡ false) → running_after None kind ≡ None
-        → holding_after None kind ≡ None → policy_after All kind ≡ All →
+    → holding_after None kind ≡ None → policy_after All kind ≡ All →
     ((s : ℕ) → cell_after script s past (cell_of script past s) 0 kind ≡ cell_of script past s) → phase_after (phase_of past) kind ≡ phase_of past →
     StandsFor script (past ++ driver_entry kind ∷ []) queue values tracked
 unchanged {script} {past} kind want stands next allowed no_post no_take no_end runs_none holds_none same_policy same_cell same_phase = record {
@@ -290,13 +289,13 @@ unchanged {script} {past} kind want stands next allowed no_post no_take no_end r
 -- a refused post leaves everything
 pub refused : {script : Plan} {past : List Entry} {queue : List Waiting} {values : List ℕ} {tracked : Tracked} (task runner delay : ℕ) →
     WellFormed script → StandsFor script past queue values tracked → wanted script past ≡ Some (WantsPost task runner delay)
-        → is_refused script past runner delay ≡ true →
+    → is_refused script past runner delay ≡ true →
     StandsFor script (past ++ driver_entry (Post task runner delay false) ∷ []) queue values tracked
 unfolding may_come
 refused {script} {past} task runner delay formed stands next forbidden =
     unchanged (Post task runner delay false) (WantsPost task runner delay) stands next
     (rw (by_script_next script past (WantsPost task runner delay) false formed next, forbidden) refl) refl (λ t. refl) (λ t. refl) refl refl refl
-        (λ s. refl) refl
+    (λ s. refl) refl
 
 -- ---- idle
 
@@ -317,7 +316,7 @@ unfolding may_come
 idled {script} {past} {queue} empty formed stands next =
     unchanged Idle WantsIdle stands next
     (rw (by_script_next script past WantsIdle true formed next, is_quiet_still script past stands.still, nothing) refl) refl (λ t. refl)
-        (λ t. refl) refl refl refl (λ s. refl) refl
+    (λ t. refl) refl refl refl (λ s. refl) refl
   where
     nothing : list_all (λ worker. is_none (best_of script past worker)) (worker_seats script) ≡ true
     nothing = list_all_always (λ worker. is_none (best_of script past worker)) (worker_seats script)
@@ -408,4 +407,3 @@ pub answer_is : (phase now : Phase) (effective there : Behaviour) (ok : Bool) �
     → forbids now there ≡ not ok
 answer_is phase now effective there ok same_phase same answer =
     rw (← same_phase, ← same, answer, not-not) refl
-

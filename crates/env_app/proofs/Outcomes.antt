@@ -1,5 +1,5 @@
 -- What the answers of the parts of a run say together.
-use Rattle.std.proofs.Common.{◌≡◌, ◌≤◌, ◌+◌, ℕ, Bool, List, [], ◌++◌, length, take, subst, Option, Some, None, refl, sym, ap, ◌∙◌, append-nil, arith}
+use Rattle.std.proofs.Common.{◌≡◌, ◌≤◌, ◌+◌, ℕ, Bool, List, [], ◌++◌, length, take, Option, Some, None, refl, append-nil, arith}
 use Rattle.std.specs.Prelude.{IfSome, OnOk, OnErr, Result, Ok, Err}
 use Rattle.std.proofs.lemmas.List.{take_all, length-append, length-take}
 use Rattle.task_base.specs.Fault.{status_of}

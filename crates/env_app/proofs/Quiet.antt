@@ -1,13 +1,12 @@
 -- What holds while no seat runs a task or holds an item, and nothing is held back.
-use Rattle.std.proofs.Common.{◌≡◌, ℕ, ◌+◌, Bool, true, false, cond, ltb, List, length, refl, ap, ◌∙◌, arith}
-use Rattle.std.specs.Prelude.{not, ◌||◌}
+use Rattle.std.proofs.Common.{◌≡◌, ℕ, ◌+◌, Bool, true, false, ltb, List, length, refl, ap, arith}
+use Rattle.std.specs.Prelude.{not}
 use Rattle.std.specs.List.{range_with_len}
 use Rattle.std.proofs.Math.Bool.{or-true}
 use Rattle.std.proofs.lemmas.Bool.Decides.{nat_tests}
 use Rattle.task_base.specs.Plan.{Plan}
 use Rattle.task_base.specs.Policy.{is_held_back}
 use Rattle.task_base.specs.declared.entry.Entry.{Entry}
-use Rattle.task_base.specs.declared.policy.Policy.{Policy}
 use Rattle.task_base.specs.declared.policy.Policy.TheVariants.{All}
 use Rattle.task_traits.specs.declared.phase.Phase.{Phase}
 use Rattle.task_traits.specs.declared.phase.Phase.TheVariants.{Running, Started, Done}
@@ -17,8 +16,8 @@ use Rattle.list_laws.specs.Lists.{holds_of, count}
 use Rattle.task_model.specs.Phase.{phase_of}
 use Rattle.task_model.specs.Policies.{is_held}
 use Rattle.task_model.specs.Seats.{running, runs_of, runs_sequence, is_free, is_quiet, worker_seats, all_seats}
-use Rattle.task_base.specs.Groups.{Group, is_best_effort, group_of, Foreground, Background}
-use Rattle.task_model.specs.Capacity.{is_in, is_best_in, work_at, load_of, blocked_of, load, capacity, best_load, best_capacity, has_room_in, has_room, HasRoom}
+use Rattle.task_base.specs.Groups.{is_best_effort, group_of, Foreground}
+use Rattle.task_model.specs.Capacity.{is_in, is_best_in, work_at, load_of, blocked_of, load, capacity, best_load, best_capacity, has_room, HasRoom}
 use Rattle.task_model.specs.Blockers.{is_open_job, is_in_skip_job}
 use Rattle.list_laws.proofs.Lists.{list_any_never, list_all_always, filter_never}
 use Rattle.task_script.specs.WellFormed.{WellFormed}

@@ -1,14 +1,12 @@
 -- The room that was taken lasts, and the script's wants are met one after the other.
-use Rattle.std.proofs.Common.{◌≡◌, ℕ, zero, suc, ◌+◌, ◌*◌, ◌<◌, ◌≤◌, List, [], ◌∷◌, ◌++◌, length, get_or, take, replicate, refl, sym, ap, ◌∙◌, Some, Bool, true, false, cond, vec_len, vec_capacity, arith}
+use Rattle.std.proofs.Common.{◌≡◌, ℕ, ◌+◌, ◌*◌, ◌<◌, ◌≤◌, List, [], ◌∷◌, ◌++◌, length, get_or, take, refl, ap, ◌∙◌, Some, Bool, true, false, cond, vec_len, vec_capacity, arith}
 use Rattle.std.specs.List.{flat_map}
 use Rattle.std.specs.Prelude.{slice_get}
 use Rattle.std.proofs.lemmas.Grind.{flat_map-append}
-use Rattle.std.proofs.lemmas.List.{append-nil, length-append, length-replicate, take_more, take_all}
+use Rattle.std.proofs.lemmas.List.{append-nil, length-append, take_more, take_all}
 use Rattle.std.proofs.lemmas.List.Concat.{get_or-flat_map, flat_map-cons}
 use Rattle.std.proofs.lemmas.List.Folds.{length-flat_map-take}
 use Rattle.std.proofs.lemmas.Option.{slice_get_within, slice_get-get_or, get_or_from_slice_get}
-use Rattle.task_traits.specs.declared.phase.Phase.TheVariants as phases
-use Rattle.task_tracker.specs.Tracked.{Tracked}
 use Rattle.task_base.specs.Plan.{Plan}
 use Rattle.task_base.specs.declared.entry.Entry.{Entry}
 use Rattle.task_base.specs.declared.entry.Kind.{Kind}
@@ -18,7 +16,7 @@ use Rattle.task_script.specs.Wants.{Want, wants_of, all_wants}
 use Rattle.task_script.specs.WellFormed.{WellFormed}
 use Rattle.env_app.specs.declared.engine.Engine.{Engine}
 use Rattle.env_app.specs.declared.engine.Waiting.{Waiting}
-use Rattle.env_app.specs.Engine.{done_count, wanted, HasRoom, IsNext, IsStill, StandsFor}
+use Rattle.env_app.specs.Engine.{done_count, wanted, HasRoom, IsNext, IsStill}
 use Rattle.env_app.proofs.Wanted.{finished}
 use Rattle.env_app.proofs.Quiet.{is_quiet_still}
 use Rattle.env_app.proofs.Events.{driver_entry, worker_entry, done_count-driver, own_entries-worker}
@@ -80,7 +78,7 @@ room_after_post script old new kind w room ahead log queue spare len capacity =
 pub room_after_entry : (script : Plan) (old new : Engine) (kind : Kind) → HasRoom script old → done_count old.log.items < length (all_wants script) →
     new.log.items ≡ old.log.items ++ driver_entry kind ∷ [] → new.log.spare + 1 ≡ old.log.spare →
     length new.queue.items ≤ length old.queue.items → vec_len new.queue ≤ vec_len old.queue → vec_capacity new.queue ≡ vec_capacity old.queue
-        → HasRoom script new
+    → HasRoom script new
 room_after_entry script old new kind room ahead log spare waits len capacity =
     let done : done_count new.log.items ≡ done_count old.log.items + 1 = ap done_count log ∙ done_count-driver old.log.items kind in
     let entries : length new.log.items ≡ length old.log.items + 1 = ap length log ∙ length-append old.log.items (driver_entry kind ∷ []) in
@@ -91,10 +89,10 @@ room_after_entry script old new kind room ahead log spare waits len capacity =
 pub room_after_serve : (script : Plan) (old new : Engine) (taken ended : Kind) (mid : List Entry) → HasRoom script old →
     mid ≡ old.log.items ++ worker_entry taken ∷ [] → new.log.items ≡ mid ++ worker_entry ended ∷ [] → new.log.spare + 2 ≡ old.log.spare →
     length new.queue.items + 1 ≡ length old.queue.items → vec_len new.queue + 1 ≡ vec_len old.queue → vec_capacity new.queue ≡ vec_capacity old.queue
-        → HasRoom script new
+    → HasRoom script new
 room_after_serve script old new taken ended mid room first log spare waits len capacity =
     let done : done_count new.log.items ≡ done_count old.log.items = ap done_count log ∙ done_count-worker mid ended ∙ ap done_count first
-        ∙ done_count-worker old.log.items taken in
+    ∙ done_count-worker old.log.items taken in
     let half : length mid ≡ length old.log.items + 1 = ap length first ∙ length-append old.log.items (worker_entry taken ∷ []) in
     let entries : length new.log.items ≡ length mid + 1 = ap length log ∙ length-append mid (worker_entry ended ∷ []) in
     let o = room.entries in let p = room.places in let f = room.few in

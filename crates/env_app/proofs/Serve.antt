@@ -1,19 +1,17 @@
 -- A worker takes the best task and ends it: the lists stand for the past with both entries behind it.
 use Rattle.std.proofs.Common.{◌≡◌, ◌≢◌, ℕ, ◌+◌, ◌<◌, ◌≤◌, Bool, true, false, cond, eqb, leb, List, [], ◌∷◌, ◌++◌, length, get_or, take, drop, set, map, refl, sym, ap, subst, ◌∙◌, inl, inr, Option, Some, None, add-one, arith}
-use Rattle.std.specs.Prelude.{not, ◌&&◌, ◌||◌, filter, slice_get}
-use Rattle.std.specs.List.{list_any, AllByRecursion, All}
+use Rattle.std.specs.Prelude.{not, ◌||◌, filter, slice_get}
+use Rattle.std.specs.List.{AllByRecursion, All}
 use Rattle.std.specs.Option.{option_map_or, IfSome}
 use Rattle.std.proofs.Math.Seq.{split_at}
 use Rattle.std.proofs.lemmas.Bool.Decides.{nat_tests, eqb_tells}
 use Rattle.std.proofs.Math.Bool.{or-false}
 use Rattle.std.proofs.lemmas.Bool.{ne_eqb, both_ways, not-true, and_parts}
 use Rattle.std.proofs.lemmas.Option.{slice_get-get_or}
-use Rattle.std.proofs.lemmas.List.{append-nil, map-append, take-map, drop-map, get_or-map, get_or-take, get_or-drop, get_or_default, length-append, length-map, length-take, length-drop, get_or-set_same, get_or-set_other, length-set}
-use Rattle.std.proofs.lemmas.List.Elements.{filter-append, recursion_from_All}
+use Rattle.std.proofs.lemmas.List.{append-nil, map-append, take-map, drop-map, get_or-map, get_or-take, get_or-drop, get_or_default, length-map, length-take, length-drop, get_or-set_same, get_or-set_other, length-set}
+use Rattle.std.proofs.lemmas.List.Elements.{recursion_from_All}
 use Rattle.task_traits.specs.Behaviour.{forbids}
 use Rattle.task_traits.specs.declared.traits.Behaviour.{Behaviour}
-use Rattle.task_traits.specs.declared.traits.Behaviour.TheVariants.{ContinueOnShutdown, SkipOnShutdown, BlockShutdown}
-use Rattle.task_traits.specs.declared.phase.Phase.{Phase}
 use Rattle.task_tracker.specs.Tracked.{Tracked, block_share}
 use Rattle.task_base.specs.Plan.{Plan}
 use Rattle.task_base.specs.Steps.{after, is_act}
@@ -22,20 +20,18 @@ use Rattle.task_base.specs.declared.entry.Entry.{Entry}
 use Rattle.task_base.specs.declared.entry.Kind.TheVariants.{Take, End}
 use Rattle.list_laws.specs.Lists.{holds_of}
 use Rattle.task_model.specs.Posts.{Posted, InOrder, posts, is_taken}
-use Rattle.task_model.specs.Phase.{phase_of}
 use Rattle.task_model.specs.Refusal.{effective_at, is_forbidden}
-use Rattle.task_model.specs.Blockers.{is_block}
 use Rattle.task_base.specs.Runners.{sequence_of, is_parallel}
 use Rattle.task_model.specs.Sequences.{may_start}
-use Rattle.task_model.specs.Seats.{Running, running, holding, steps_of, runs_of}
+use Rattle.task_model.specs.Seats.{running, steps_of}
 use Rattle.task_model.specs.Cells.{cell_of}
 use Rattle.hist_model.specs.Script.{is_finished}
 use Rattle.hist_model.specs.Allowed.{may_come, is_allowed}
 use Rattle.list_laws.proofs.Lists.{eqb-same, AllByRecursion-append, AllByRecursion-front, AllByRecursion-back, AllByRecursion-map, AllByRecursion-from_index, filter_passes, filter_none, slice_get_all}
 use Rattle.task_model.proofs.Growth.{posts_push, is_taken_push, is_ended_push, phase_of_push, policy_of_push, running_push, holding_push, acts_done_push, cell_of_push}
 use Rattle.hist_model.proofs.Laws.Legal.{is_legal_push}
-use Rattle.task_script.specs.Wants.{Want, all_wants}
-use Rattle.task_script.specs.WellFormed.{posts_among, starts_among, WellFormed}
+use Rattle.task_script.specs.Wants.{all_wants}
+use Rattle.task_script.specs.WellFormed.{posts_among, WellFormed}
 use Rattle.env_app.specs.declared.engine.Waiting.{Waiting}
 use Rattle.env_app.specs.Engine.{waiting_of, importance_of, ranks_of, IsFirstBest, done_wants, to_take, blocks_shutdown, IsKnown, IsStill, StandsFor}
 use Rattle.env_app.proofs.FirstBest.{rank_at}
@@ -85,8 +81,12 @@ pub in_range : {script : Plan} {past : List Entry} {queue : List Waiting} {value
 in_range {script} {past} k w stands lt is =
     let there = stands_at k w stands lt is in
     let p = at (to_take script past) k in
-    rw (there.is) (omega (arith, stands.cell_count, sequence_below (holds_of (λ x. is_parallel x.kind) (slice_get script.runners p.home))
-        (length script.runners) (length script.tasks) p.home p.task there.known.runner_declared there.known.task_declared))
+    rw (there.is) (omega (
+      arith,
+      stands.cell_count,
+      sequence_below (holds_of (λ x. is_parallel x.kind) (slice_get script.runners p.home))
+          (length script.runners) (length script.tasks) p.home p.task there.known.runner_declared there.known.task_declared,
+    ))
 
 -- the phase lets the task at a place of the queue start
 pub may_start_at : {script : Plan} {past : List Entry} {queue : List Waiting} {values : List ℕ} {tracked : Tracked} (k : ℕ) (w : Waiting) →
@@ -106,7 +106,7 @@ counted_at {script} {past} k w stands lt is =
     let there = stands_at k w stands lt is in
     let E = to_take script past in
     let split = ap (λ (ps : List Posted). length (filter (blocks_shutdown script) ps)) (around E k there.within)
-        ∙ blocks_between script (take k E) (at E k) (drop (k + 1) E) in
+    ∙ blocks_between script (take k E) (at E k) (drop (k + 1) E) in
     rw (there.is) (omega (arith, split, stands.blocks, ap (λ (d : ℕ). block_share (effective_at script (at E k).home d)) there.known.immediate))
 
 -- what the tracker knows after a task was started and has ended
@@ -151,13 +151,13 @@ no_acts script task formed = found (slice_get script.tasks task) (slice_get_all 
 -- the same of the tasks that may be taken: p is the best, between xs and ys
 served_between : (script : Plan) (past : List Entry) (values : List ℕ) (old new : Tracked) (xs : List Posted) (p : Posted) (ys : List Posted) (found left : ℕ) →
     WellFormed script → StandsFor script past (map waiting_of (xs ++ p ∷ ys)) values old → to_take script past ≡ xs ++ p ∷ ys → is_finished script past ≡ false
-        → Served old new (effective_at script p.home 0) →
+    → Served old new (effective_at script p.home 0) →
     AllByRecursion (λ x. importance_of script x.home < importance_of script p.home) xs →
     AllByRecursion (λ y. importance_of script y.home ≤ importance_of script p.home) ys →
     sequence_of script p.home p.task < length values →
     found ≡ get_or values (sequence_of script p.home p.task) 0 → left ≡ after (steps_of script p.task) found →
     StandsFor script ((past ++ worker_entry (Take p.task p.home found) ∷ []) ++ worker_entry (End p.task left) ∷ []) (map waiting_of (xs ++ ys))
-        (set values (sequence_of script p.home p.task) left) new
+    (set values (sequence_of script p.home p.task) left) new
 unfolding may_come
 served_between script past values old new xs p ys found left formed stands is next tracked lower upper within found_is left_is = record {
   legal = is_legal_push script mid ended ∙ rw (is_legal_push script past taken, stands.legal, take_allowed, end_allowed) refl;
@@ -279,7 +279,7 @@ pub served : {script : Plan} {past : List Entry} {queue : List Waiting} {values 
     IsFirstBest (ranks_of script queue) (length queue) k → w ≡ get_or queue k w →
     found ≡ get_or values (sequence_of script w.runner w.task) 0 → left ≡ after (steps_of script w.task) found →
     StandsFor script ((past ++ worker_entry (Take w.task w.runner found) ∷ []) ++ worker_entry (End w.task left) ∷ []) (take k queue ++ drop (k + 1) queue)
-        (set values (sequence_of script w.runner w.task) left) new
+    (set values (sequence_of script w.runner w.task) left) new
 served {script} {past} {queue} {values} {old} {new} k w found left formed stands next tracked best is found_is left_is =
     let E = to_take script past in
     let same_length : length queue ≡ length E = ap length stands.waits ∙ length-map E waiting_of in
@@ -308,5 +308,5 @@ served {script} {past} {queue} {values} {old} {new} k w found left formed stands
     let rest_is : map waiting_of (take k E ++ drop (k + 1) E) ≡ take k queue ++ drop (k + 1) queue =
     rw (map-append waiting_of (take k E) (drop (k + 1) E), stands.waits, take-map waiting_of k E, drop-map waiting_of (k + 1) E) refl in
     let after_both = served_between script past values old new (take k E) p (drop (k + 1) E) found left formed (rw queue_is at stands) split next
-        (rw it at tracked) lower upper (rw it at within) (rw it at found_is) (rw it at left_is) in
+    (rw it at tracked) lower upper (rw it at within) (rw it at found_is) (rw it at left_is) in
     rw (it, ← rest_is) after_both

@@ -1,6 +1,6 @@
 -- What the two entries of a shutdown keep, and what the tracker counts.
-use Rattle.std.proofs.Common.{◌≡◌, ℕ, ◌<◌, ◌≤◌, Bool, true, false, cond, eqb, List, [], ◌∷◌, ◌++◌, length, map, refl, sym, ap, ◌∙◌, inl, inr, Some, arith}
-use Rattle.std.specs.Prelude.{not, ◌&&◌, ◌||◌, filter, Result, Ok, Err, is_err, IsOk, OnOk}
+use Rattle.std.proofs.Common.{◌≡◌, ℕ, ◌<◌, ◌≤◌, Bool, true, false, eqb, List, [], ◌∷◌, ◌++◌, length, map, refl, sym, ap, ◌∙◌, inl, inr, Some, arith}
+use Rattle.std.specs.Prelude.{not, ◌&&◌, filter, Result, Ok, Err, is_err, IsOk, OnOk}
 use Rattle.std.specs.List.{list_any, AllByRecursion, IsDistinct}
 use Rattle.std.proofs.Math.Bool.{and_assoc, and_comm, and_self, and-not_self, and-false}
 use Rattle.std.proofs.lemmas.Bool.{eqb-true, ne_eqb, both_ways, or_cases}
@@ -9,7 +9,6 @@ use Rattle.std.proofs.lemmas.Map.Steps.{length-le_from_distinct_below}
 use Rattle.task_traits.specs.Behaviour.{forbids}
 use Rattle.task_traits.specs.declared.traits.Behaviour.{Behaviour}
 use Rattle.task_traits.specs.declared.traits.Behaviour.TheVariants.{ContinueOnShutdown, SkipOnShutdown, BlockShutdown}
-use Rattle.task_traits.specs.declared.phase.Phase.{Phase}
 use Rattle.task_traits.specs.declared.phase.Phase.TheVariants as phases
 use Rattle.task_tracker.specs.Tracked.{Tracked, blocker_count}
 use Rattle.task_base.specs.Plan.{Plan}
@@ -17,10 +16,10 @@ use Rattle.task_base.specs.declared.entry.Entry.{Entry}
 use Rattle.task_base.specs.declared.entry.Kind.TheVariants.{Shutdown, Done}
 use Rattle.list_laws.specs.Lists.{count}
 use Rattle.task_model.specs.Posts.{Posted, Before, InOrder, posts, is_taken, is_ended}
-use Rattle.task_model.specs.Phase.{phase_of, phase_after}
+use Rattle.task_model.specs.Phase.{phase_of}
 use Rattle.task_model.specs.Refusal.{effective_at}
 use Rattle.task_model.specs.Sequences.{may_start}
-use Rattle.task_model.specs.Blockers.{block_part, skip_part, is_block, is_skip, is_open_block, is_running_skip, blockers_of}
+use Rattle.task_model.specs.Blockers.{block_part, skip_part, is_block, is_open_block, is_running_skip, blockers_of}
 use Rattle.hist_model.specs.Allowed.{may_come}
 use Rattle.list_laws.proofs.Lists.{filter_congr, filter_congr_in, filter-filter, filter-map, filter_never, AllByRecursion-filter, AllByRecursion-map, AllByRecursion-mapped, count_le}
 use Rattle.task_model.proofs.Growth.{phase_of_push, cell_of_push}
@@ -47,7 +46,7 @@ filter_waiting : (script : Plan) (past : List Entry) (ps : List Posted) → AllB
     → filter (stays script) (map waiting_of ps) ≡ map waiting_of (filter (task_stays script) ps)
 filter_waiting script past ps known =
     filter-map (stays script) waiting_of ps ∙ ap (map waiting_of) (filter_congr_in (λ p. stays script (waiting_of p)) (task_stays script) ps
-        (AllByRecursion-map (IsKnown script past) (λ p. stays script (waiting_of p) ≡ task_stays script p) ps (λ p k. rw k.immediate refl) known))
+    (AllByRecursion-map (IsKnown script past) (λ p. stays script (waiting_of p) ≡ task_stays script p) ps (λ p k. rw k.immediate refl) known))
 
 -- what stays is block work
 stays_is_block : (b : Behaviour) → not (forbids phases.Started b) ≡ is_block b
@@ -97,7 +96,7 @@ started {script} {past} formed stands next left_is tracked = record {
     same_blocks : filter (blocks_shutdown script) (to_take script (past ++ e ∷ [])) ≡ filter (blocks_shutdown script) (to_take script past)
     same_blocks = ap (filter (blocks_shutdown script)) fewer ∙ filter-filter (blocks_shutdown script) (task_stays script) (to_take script past)
         ∙ filter_congr (λ p. task_stays script p && blocks_shutdown script p) (blocks_shutdown script) (to_take script past)
-            (λ p. rw (stays_is_block (effective_at script p.home p.delay)) (and_self (is_block (effective_at script p.home p.delay))))
+        (λ p. rw (stays_is_block (effective_at script p.home p.delay)) (and_self (is_block (effective_at script p.home p.delay))))
 
 -- ---- the end of shutdown
 
@@ -140,8 +139,14 @@ pub done : {script : Plan} {past : List Entry} {queue : List Waiting} {values : 
     StandsFor script (past ++ driver_entry Done ∷ []) queue values new
 unfolding may_come
 done {script} {past} {queue} formed stands next under_way empty tracked = record {
-  legal = is_legal_push script past e ∙ rw (stands.legal, driver_sits script, by_script_next script past WantsDone true formed next, now, nothing_blocks script
-      past formed stands.still now stands.ended nobody) refl;
+  legal = is_legal_push script past e ∙ rw (
+    stands.legal,
+    driver_sits script,
+    by_script_next script past WantsDone true formed next,
+    now,
+    nothing_blocks script
+        past formed stands.still now stands.ended nobody,
+  ) refl;
   still = still_after past e stands.still refl refl refl tt;
   ended = ended-driver past Done stands.ended (λ t. refl) (λ t. refl);
   waits = rw (gone) empty;
@@ -198,9 +203,9 @@ pub few_wait : {script : Plan} {past : List Entry} {queue : List Waiting} {value
 few_wait {script} {past} {queue} {values} {tracked} stands =
     let E = to_take script past in
     let below : AllByRecursion (λ p. p.task < length script.tasks) E = AllByRecursion-map (IsKnown script past) (λ p. p.task < length script.tasks) E
-        (λ p k. k.task_declared) stands.known in
+    (λ p k. k.task_declared) stands.known in
     let few : length (map (λ p. p.task) E) ≤ length script.tasks = length-le_from_distinct_below (map (λ p. p.task) E) (length script.tasks)
-        (distinct_tasks E stands.in_order) (tasks_below E (length script.tasks) below) in
+    (distinct_tasks E stands.in_order) (tasks_below E (length script.tasks) below) in
     let count = length-map E (λ p. p.task) in
     let shorter = count_le (blocks_shutdown script) E in
     (omega (arith, ap length stands.waits, length-map E waiting_of), omega (arith, stands.blocks, stands.no_skips))

@@ -1,4 +1,4 @@
-use Rattle.std.proofs.Common.{◌≤◌, ℕ, length, take, Ok, Err, OnErr, subst, arith, ◌∙◌}
+use Rattle.std.proofs.Common.{◌≤◌, ℕ, length, take, Ok, Err, OnErr, arith, ◌∙◌}
 use Rattle.env_io.specs.Bytes.{Gains}
 use Rattle.log_model.specs.LogText.{log_text}
 use Rattle.log_model.proofs.Laws.LogTexts.{log_text-take_all}
@@ -8,9 +8,9 @@ use Rattle.run_log.proofs.writer.write_log.Goals as goal
 pub returns-in_err-put_all-clause-cut : goal.returns-in_err-put_all-clause-cut
 returns-in_err-put_all-clause-cut g c =
     let cut = gains_cut _ _ _ _ _ _ _ _ c.as_slice-entry-items.ensures (c.deref.ensures.0 ∙ c.line.ensures) c.loop-place-test.true c.loop-place.invariant.taken
-        c.in_err-put_all.ensures.cut in
+    c.in_err-put_all.ensures.cut in
     elim c.from_residual.result as (λ r. OnErr r ((n : ℕ) × Gains (g.K.Sink.holds c.args.sink.now) (take n (log_text c.args.log.now.items))
-        (g.K.Sink.holds c.put_all.new.sink))) [ Ok _ ↦ tt | Err _ ↦ cut ]
+    (g.K.Sink.holds c.put_all.new.sink))) [ Ok _ ↦ tt | Err _ ↦ cut ]
 
 pub loop-place-preserved : goal.loop-place-preserved
 loop-place-preserved g c = record {

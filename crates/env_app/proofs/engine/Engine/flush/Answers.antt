@@ -9,7 +9,7 @@ use Rattle.env_app.proofs.engine.Engine.flush.Goals as goal
 pub serve-requires-clause-unfinished : goal.serve-requires-clause-unfinished
 serve-requires-clause-unfinished g c κs h =
     not_finished c.args.script.now c.loop-self.self.log.items _ c.requires.formed
-        (wanted-same c.args.script.now c.args.self.now.log.items c.loop-self.self.log.items c.loop-self.invariant.1 ∙ c.requires.next)
+    (wanted-same c.args.script.now c.args.self.now.log.items c.loop-self.self.log.items c.loop-self.invariant.1 ∙ c.requires.next)
 
 pub push_spare-requires : goal.push_spare-requires
 push_spare-requires g c =

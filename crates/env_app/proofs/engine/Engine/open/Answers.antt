@@ -1,5 +1,4 @@
 use Rattle.std.proofs.Common.{◌≡◌, ◌+◌, ◌∙◌, length, replicate, ap, arith}
-use Rattle.task_tracker.specs.Tracked.{Tracked}
 use Rattle.task_script.specs.FormDraft.{shuts_down}
 use Rattle.env_app.proofs.Events.{opened}
 use Rattle.env_app.proofs.Room.{room_at_start, at_most_one}

@@ -1,6 +1,4 @@
-use Rattle.std.proofs.Common.{◌≡◌, ◌∙◌, ◌+◌, true, false, ap, refl, arith}
-use Rattle.task_traits.specs.declared.traits.Behaviour.{Behaviour}
-use Rattle.task_tracker.specs.Tracked.{block_share}
+use Rattle.std.proofs.Common.{◌≡◌, true, false, refl, arith}
 use Rattle.task_model.specs.Refusal.{is_refused}
 use Rattle.env_app.proofs.Events.{posted, refused, answer_is}
 use Rattle.env_app.proofs.Room.{some_to_do, room_after_post, room_after_entry}

@@ -1,11 +1,9 @@
-use Rattle.std.proofs.Common.{◌≡◌, ℕ, List, length, get_or, ap, subst, arith, ◌∙◌}
+use Rattle.std.proofs.Common.{◌≡◌, ℕ, get_or, ap, arith, ◌∙◌}
 use Rattle.std.proofs.lemmas.Grind.{get_or_default_zero}
 use Rattle.task_traits.specs.Behaviour.{forbids}
 use Rattle.task_tracker.specs.Tracked.{Tracked, block_share}
 use Rattle.task_model.specs.Refusal.{effective_at}
 use Rattle.task_base.specs.Runners.{sequence_of}
-use Rattle.env_app.specs.declared.engine.Waiting.{Waiting}
-use Rattle.env_app.specs.Engine.{IsFirstBest, ranks_of}
 use Rattle.env_app.proofs.Serve.{in_range, may_start_at, counted_at, served, Served}
 use Rattle.env_app.proofs.Shutdown.{few_wait}
 use Rattle.env_app.proofs.Room.{room_after_serve}

@@ -1,11 +1,4 @@
-use Rattle.std.proofs.Common.{◌∙◌, ◌≤◌, not, length, ap, arith}
-use Rattle.std.specs.Prelude.{filter}
-use Rattle.task_traits.specs.Behaviour.{forbids}
-use Rattle.task_traits.specs.declared.phase.Phase.{Phase}
-use Rattle.task_traits.specs.declared.phase.Phase.TheVariants.{Started}
-use Rattle.task_tracker.specs.Tracked.{Tracked}
-use Rattle.task_model.specs.Refusal.{effective_at}
-use Rattle.env_app.specs.declared.engine.Waiting.{Waiting}
+use Rattle.std.proofs.Common.{◌≤◌, length, arith}
 use Rattle.list_laws.proofs.Lists.{count_le}
 use Rattle.env_app.proofs.Shutdown.{stays, still_running, started}
 use Rattle.env_app.proofs.Room.{some_to_do, room_after_entry}
