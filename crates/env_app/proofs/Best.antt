@@ -22,7 +22,11 @@ use Rattle.task_model.specs.Policies.{is_held}
 use Rattle.task_base.specs.Runners.{sequence_of, sequence_count, is_parallel, seat_of_kind, seat_of}
 use Rattle.task_model.specs.Sequences.{is_of, may_start, eligible, head_of}
 use Rattle.task_model.specs.Sources.{would_wait, Candidate, sequence_candidate, sequence_waiting, job_waiting, waiting, is_takeable, goes_before, best_of}
-use Rattle.list_laws.proofs.Lists.{eqb-same, filter_congr, filter-filter, filter-map, filter_all, filter_always, filter_none, filter_map_congr, filter_map_never, AllByRecursion-filter, AllByRecursion-append, AllByRecursion-map, AllByRecursion-both, AllByRecursion-front, AllByRecursion-back, AllByRecursion-always, AllByRecursion-mapped, AllByRecursion-range, AllByRecursion-filter_map, range_split, slice_get_all, least_split}
+use Rattle.list_laws.proofs.Values.{eqb-same}
+use Rattle.list_laws.proofs.Filters.{filter_congr, filter-filter, filter-map, filter_all, filter_always, filter_none, filter_map_congr, filter_map_never}
+use Rattle.list_laws.proofs.Elements.{AllByRecursion-filter, AllByRecursion-append, AllByRecursion-map, AllByRecursion-both, AllByRecursion-front, AllByRecursion-back, AllByRecursion-always, AllByRecursion-mapped, AllByRecursion-filter_map, slice_get_all}
+use Rattle.list_laws.proofs.Ranges.{AllByRecursion-range, range_split}
+use Rattle.list_laws.proofs.Least.{least_split}
 use Rattle.task_script.specs.WellFormed.{is_single, WellFormed}
 use Rattle.env_app.specs.Engine.{importance_of, to_take, IsStill}
 use Rattle.env_app.proofs.Quiet.{runs_sequence_still, is_held_still, has_room_still}

@@ -33,7 +33,10 @@ use Rattle.task_model.specs.Sources.{best_of}
 use Rattle.hist_model.specs.Views.{own_entries}
 use Rattle.hist_model.specs.Allowed.{may_come}
 use Rattle.hist_model.specs.Legal.{is_legal}
-use Rattle.list_laws.proofs.Lists.{eqb-same, filter_congr, filter-filter, filter_never, filter_all, list_all_always, AllByRecursion-append, AllByRecursion-map}
+use Rattle.list_laws.proofs.Values.{eqb-same}
+use Rattle.list_laws.proofs.Filters.{filter_congr, filter-filter, filter_never, filter_all}
+use Rattle.list_laws.proofs.Tests.{list_all_always}
+use Rattle.list_laws.proofs.Elements.{AllByRecursion-append, AllByRecursion-map}
 use Rattle.task_model.proofs.Growth.{posts_push, is_taken_push, is_ended_push, phase_of_push, policy_of_push, running_push, holding_push, cell_of_push}
 use Rattle.hist_model.proofs.Laws.Legal.{is_legal_push}
 use Rattle.task_script.specs.Wants.{Want, WantsPost, WantsIdle, wants_shutdown, all_wants}

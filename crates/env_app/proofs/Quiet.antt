@@ -19,7 +19,8 @@ use Rattle.task_model.specs.Seats.{running, runs_of, runs_sequence, is_free, is_
 use Rattle.task_base.specs.Groups.{is_best_effort, group_of, Foreground}
 use Rattle.task_model.specs.Capacity.{is_in, is_best_in, work_at, load_of, blocked_of, load, capacity, best_load, best_capacity, has_room, HasRoom}
 use Rattle.task_model.specs.Blockers.{is_open_job, is_in_skip_job}
-use Rattle.list_laws.proofs.Lists.{list_any_never, list_all_always, filter_never}
+use Rattle.list_laws.proofs.Tests.{list_any_never, list_all_always}
+use Rattle.list_laws.proofs.Filters.{filter_never}
 use Rattle.task_script.specs.WellFormed.{WellFormed}
 use Rattle.env_app.specs.Engine.{IsStill}
 

@@ -27,7 +27,9 @@ use Rattle.task_model.specs.Seats.{running, steps_of}
 use Rattle.task_model.specs.Cells.{cell_of}
 use Rattle.hist_model.specs.Script.{is_finished}
 use Rattle.hist_model.specs.Allowed.{may_come, is_allowed}
-use Rattle.list_laws.proofs.Lists.{eqb-same, AllByRecursion-append, AllByRecursion-front, AllByRecursion-back, AllByRecursion-map, AllByRecursion-from_index, filter_passes, filter_none, slice_get_all}
+use Rattle.list_laws.proofs.Values.{eqb-same}
+use Rattle.list_laws.proofs.Elements.{AllByRecursion-append, AllByRecursion-front, AllByRecursion-back, AllByRecursion-map, AllByRecursion-from_index, slice_get_all}
+use Rattle.list_laws.proofs.Filters.{filter_passes, filter_none}
 use Rattle.task_model.proofs.Growth.{posts_push, is_taken_push, is_ended_push, phase_of_push, policy_of_push, running_push, holding_push, acts_done_push, cell_of_push}
 use Rattle.hist_model.proofs.Laws.Legal.{is_legal_push}
 use Rattle.task_script.specs.Wants.{all_wants}

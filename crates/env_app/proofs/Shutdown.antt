@@ -21,7 +21,9 @@ use Rattle.task_model.specs.Refusal.{effective_at}
 use Rattle.task_model.specs.Sequences.{may_start}
 use Rattle.task_model.specs.Blockers.{block_part, skip_part, is_block, is_open_block, is_running_skip, blockers_of}
 use Rattle.hist_model.specs.Allowed.{may_come}
-use Rattle.list_laws.proofs.Lists.{filter_congr, filter_congr_in, filter-filter, filter-map, filter_never, AllByRecursion-filter, AllByRecursion-map, AllByRecursion-mapped, count_le}
+use Rattle.list_laws.proofs.Filters.{filter_congr, filter_congr_in, filter-filter, filter-map, filter_never}
+use Rattle.list_laws.proofs.Elements.{AllByRecursion-filter, AllByRecursion-map, AllByRecursion-mapped}
+use Rattle.list_laws.proofs.Lists.{count_le}
 use Rattle.task_model.proofs.Growth.{phase_of_push, cell_of_push}
 use Rattle.hist_model.proofs.Laws.Legal.{is_legal_push}
 use Rattle.task_script.specs.Wants.{WantsShutdown, WantsDone, wants_shutdown}

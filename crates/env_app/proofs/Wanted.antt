@@ -10,7 +10,7 @@ use Rattle.task_base.specs.declared.entry.Kind.TheVariants as kinds
 use Rattle.task_base.specs.declared.script.Action.{Action}
 use Rattle.task_base.specs.declared.script.Action.TheVariants.{Post, Flush, Shutdown}
 use Rattle.list_laws.specs.Lists.{holds_of}
-use Rattle.list_laws.proofs.Lists.{eqb-same}
+use Rattle.list_laws.proofs.Values.{eqb-same}
 use Rattle.hist_model.specs.Views.{own_entries}
 use Rattle.hist_model.specs.Script.{Current, current, current_from, wants, is_wanted, is_finished, IsFinished}
 use Rattle.hist_model.specs.Allowed.{by_script}

@@ -10,16 +10,18 @@ use Rattle.std.proofs.lemmas.Option.{none-some, cond_some}
 use Rattle.task_base.specs.declared.entry.Entry.{Entry}
 use Rattle.task_base.specs.declared.entry.Kind.{Kind}
 use Rattle.task_base.specs.declared.entry.Kind.TheVariants as kinds
-use Rattle.list_laws.specs.Lists.{count}
+use Rattle.list_laws.specs.Lists.{count, Ranks}
 use Rattle.task_model.specs.Past.{fold_past}
 use Rattle.task_model.specs.Time.{now_of, tick_from}
-use Rattle.task_model.specs.Posts.{Posted, Before, InOrder, is_delayed, post_behind, main_posted_by, main_posts}
-use Rattle.task_model.specs.Orders.{ripens, ripens_before, ripening, next_draw, drawn_at, order_of}
+use Rattle.task_model.specs.Posts.{Posted, Before, InOrder, is_delayed, post_behind, main_posted_by, main_posts, ripens_before}
+use Rattle.task_model.specs.Orders.{ripens, ripening, next_draw, drawn_at, order_of}
 use Rattle.queue_laws.specs.Orders.{moves_orders, OrdersBelow, Distinct, OrdersDistinct}
 use Rattle.task_model.proofs.Growth.{main_posts_push}
-use Rattle.list_laws.proofs.Lists.{some-injective, filter_split, count_less, AllByRecursion-members, AllByRecursion-at}
+use Rattle.list_laws.proofs.Values.{some-injective}
+use Rattle.list_laws.proofs.Lists.{filter_split, count_less, AllByRecursion-members}
+use Rattle.list_laws.proofs.Elements.{AllByRecursion-at}
 use Rattle.queue_laws.proofs.Orders.{main_places, order_of_same, order_tick, order_at_post, unordered}
-use Rattle.list_laws.proofs.Least.{Ranks, ranks_by, ranks_then_by}
+use Rattle.list_laws.proofs.Ranks.{ranks_by, ranks_then_by}
 use Rattle.pool_laws.specs.Keys.{NoTickAhead}
 
 -- pairs of a list, by where they stand

@@ -18,7 +18,8 @@ use Rattle.task_model.specs.Refusal.{is_closed, closes}
 use Rattle.task_model.specs.MainQueues.{of_least_class, choice_among, Front, fence_of, fence_after, votes_on, vote_after, voters_of, is_enabled, is_immediate, order_below, front_of, is_open, fronts_of, open_fronts, class_below, chosen_fronts, streak_of, streak_after, chosen_of}
 use Rattle.queue_laws.specs.Fronts.{moves_main_queues, moves_lanes, all_fronts}
 use Rattle.task_model.proofs.Growth.{is_closed_push, fence_of_push, votes_on_push, streak_of_push}
-use Rattle.list_laws.proofs.Lists.{filter_congr, filter-filter, list_all_congr}
+use Rattle.list_laws.proofs.Filters.{filter_congr, filter-filter}
+use Rattle.list_laws.proofs.Tests.{list_all_congr}
 use Rattle.queue_laws.proofs.Lanes.{front_same}
 
 -- Open fronts.

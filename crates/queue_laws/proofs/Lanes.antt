@@ -18,17 +18,20 @@ use Rattle.task_base.specs.declared.entry.Kind.{Kind}
 use Rattle.task_base.specs.declared.entry.Kind.TheVariants as kinds
 use Rattle.task_base.specs.declared.script.Lane.{Lane}
 use Rattle.task_base.specs.declared.script.Lane.TheVariants.{Immediate, Delayed}
-use Rattle.list_laws.specs.Lists.{count, least, IsLeast}
+use Rattle.list_laws.specs.Lists.{count, least, IsLeast, keep}
 use Rattle.task_model.specs.Time.{now_of, tick_from}
-use Rattle.task_model.specs.Posts.{Posted, is_delayed, post_behind, main_posts, main_posted_by, is_main_taken, main_takes}
-use Rattle.task_model.specs.Orders.{ripens, ripens_before, ripening, next_draw, drawn_at, order_of}
+use Rattle.task_model.specs.Posts.{Posted, is_delayed, post_behind, main_posts, main_posted_by, is_main_taken, main_takes, ripens_before}
+use Rattle.task_model.specs.Orders.{ripens, ripening, next_draw, drawn_at, order_of}
 use Rattle.task_model.specs.MainQueues.{Front, class_of, class_after, is_of_lane, is_immediate, front_with, is_in_lane, order_below, front_of}
 use Rattle.queue_laws.specs.Fronts.{moves_lanes, lane_of, front_behind, front_at_tick_of, drawn_at_tick_of, with_class}
 use Rattle.queue_laws.specs.Orders.{moves_orders, OrdersBelow, order_at_tick_of}
 use Rattle.task_model.proofs.Growth.{main_posts_push, is_main_taken_push, class_of_push}
-use Rattle.list_laws.proofs.Lists.{some-injective, keep, filter-keep, filter_congr, filter_map_congr_in, filter-filter, filter-filter_map, filter_passes, least-push, least-map, AllByRecursion-map, AllByRecursion-filter}
+use Rattle.list_laws.proofs.Values.{some-injective}
+use Rattle.list_laws.proofs.Filters.{filter-keep, filter_congr, filter_map_congr_in, filter-filter, filter-filter_map, filter_passes}
+use Rattle.list_laws.proofs.Least.{least-push, least-map, least_is_least, no_least}
+use Rattle.list_laws.proofs.Elements.{AllByRecursion-map, AllByRecursion-filter}
 use Rattle.pool_laws.proofs.Keys.Ready.{AllByRecursion-filter_map}
-use Rattle.list_laws.proofs.Least.{least_is_least, no_least, ranks_by}
+use Rattle.list_laws.proofs.Ranks.{ranks_by}
 use Rattle.queue_laws.proofs.Orders.{unordered, or-false, main_places, drawn, order_is, order_of_same, order_at_post, order_tick}
 
 -- Lanes.

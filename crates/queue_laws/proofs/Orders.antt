@@ -17,13 +17,16 @@ use Rattle.task_base.specs.declared.entry.Kind.TheVariants as kinds
 use Rattle.list_laws.specs.Lists.{count}
 use Rattle.task_model.specs.Past.{fold_past}
 use Rattle.task_model.specs.Time.{now_of, now_after, is_tick_from, tick_from}
-use Rattle.task_model.specs.Posts.{Posted, is_delayed, post_behind, main_posts, main_posted_by}
+use Rattle.task_model.specs.Posts.{Posted, is_delayed, post_behind, main_posts, main_posted_by, ripens_before}
 use Rattle.task_model.specs.Refusal.{is_closed, closes}
-use Rattle.task_model.specs.Orders.{ripens, ripens_before, ripening, next_draw, draws, drawn_by, drawn_at, moment_of, moment_at, order_of}
+use Rattle.task_model.specs.Orders.{ripens, ripening, next_draw, draws, drawn_by, drawn_at, moment_of, moment_at, order_of}
 use Rattle.pool_laws.specs.Keys.{tick_by, NoTickAhead}
 use Rattle.queue_laws.specs.Orders.{moves_ripening, moves_orders, OrdersBelow, order_at_tick_of}
 use Rattle.task_model.proofs.Growth.{now_of_push, main_posts_push, is_closed_push, draws_push}
-use Rattle.list_laws.proofs.Lists.{some-injective, filter_congr, filter_split, count_below, AllByRecursion-map, AllByRecursion-append, AllByRecursion-members, AllByRecursion-at}
+use Rattle.list_laws.proofs.Values.{some-injective}
+use Rattle.list_laws.proofs.Filters.{filter_congr}
+use Rattle.list_laws.proofs.Lists.{filter_split, count_below, AllByRecursion-members}
+use Rattle.list_laws.proofs.Elements.{AllByRecursion-map, AllByRecursion-append, AllByRecursion-at}
 use Rattle.pool_laws.proofs.Keys.Ready.{main_posts_within, tick_from_push, tick_from_stays, tick_within}
 
 pub or-false : (b : Bool) → (b || false) ≡ b

@@ -18,7 +18,7 @@ use Rattle.hist_model.specs.Allowed.{may_come}
 use Rattle.hist_model.specs.Legal.{is_legal}
 use Rattle.hist_model.specs.Laws.Choice.{IsTake, IsMainTake}
 use Rattle.hist_model.specs.Laws.Consistent.{RunsPoolTask, RunsMainTask, RunsAs, IsConsistent}
-use Rattle.list_laws.proofs.Lists.{eqb-same}
+use Rattle.list_laws.proofs.Values.{eqb-same}
 use Rattle.hist_model.proofs.Laws.Legal.{legal_induction}
 use Rattle.hist_model.proofs.Laws.Takes.{take_is, main_take_is, end_is}
 

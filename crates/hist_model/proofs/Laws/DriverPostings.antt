@@ -11,7 +11,7 @@ use Rattle.task_base.specs.declared.entry.Kind.TheVariants as kinds
 use Rattle.task_base.specs.declared.script.Action.{Action}
 use Rattle.task_base.specs.declared.script.Action.TheVariants as actions
 use Rattle.list_laws.specs.Lists.{holds_of}
-use Rattle.list_laws.proofs.Lists.{count-append}
+use Rattle.list_laws.proofs.Counts.{count-append}
 use Rattle.hist_model.specs.Views.{own_entries}
 use Rattle.hist_model.specs.Script.{behind_action, wants, is_wanted}
 use Rattle.hist_model.specs.Laws.Agenda.{agenda_from, agenda, first_of, completes, next_agenda}

@@ -10,7 +10,8 @@ use Rattle.task_base.specs.declared.entry.Kind.TheVariants as kinds
 use Rattle.task_model.specs.Past.{fold_past}
 use Rattle.task_model.specs.Posts.{Posted, post_behind, posts, posted_by, main_posts, main_posted_by, is_taken, is_ended, is_main_taken, Before, InOrder}
 use Rattle.task_model.proofs.Growth.{posts_push, main_posts_push}
-use Rattle.list_laws.proofs.Lists.{eqb-same, AllByRecursion-append, AllByRecursion-map, AllByRecursion-both}
+use Rattle.list_laws.proofs.Values.{eqb-same}
+use Rattle.list_laws.proofs.Elements.{AllByRecursion-append, AllByRecursion-map, AllByRecursion-both}
 use Rattle.hist_model.specs.Allowed.{is_allowed}
 use Rattle.hist_model.specs.Legal.{is_legal}
 use Rattle.hist_model.specs.Laws.Postings.{kind_posts, posted_in, AreAcceptedOnce, IsNew}

@@ -14,7 +14,8 @@ use Rattle.task_model.specs.Past.{fold_past}
 use Rattle.task_model.specs.Posts.{Posted, post_behind, posts, posted_by, main_posts, main_posted_by, is_taken, takes, is_main_taken, main_takes}
 use Rattle.task_model.specs.Refusal.{is_refused, is_closed}
 use Rattle.task_model.proofs.Growth.{posts_push, main_posts_push, is_taken_push, is_main_taken_push}
-use Rattle.list_laws.proofs.Lists.{eqb-same, count-append}
+use Rattle.list_laws.proofs.Values.{eqb-same}
+use Rattle.list_laws.proofs.Counts.{count-append}
 use Rattle.hist_model.specs.Allowed.{by_script, by_task, may_come, is_allowed}
 use Rattle.hist_model.specs.Legal.{is_legal}
 use Rattle.hist_model.specs.Laws.Postings.{kind_posts, posted_in}

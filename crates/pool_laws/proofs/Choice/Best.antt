@@ -30,7 +30,10 @@ use Rattle.task_model.specs.Jobs.{JobPosted, job_post_of, job_post_after, may_en
 use Rattle.task_model.specs.Sources.{Candidate, sequence_candidate, job_candidate, waiting, is_takeable, goes_before, best_of, IsWaiting}
 use Rattle.pool_laws.specs.Keys.{ready_below}
 use Rattle.pool_laws.specs.Choice.{IsBest, source_waiting, posted_source, source_at}
-use Rattle.list_laws.proofs.Lists.{some-injective, least_from-is, filter_passes, AllByRecursion-append, AllByRecursion-map, AllByRecursion-both, AllByRecursion-filter, AllByRecursion-filter_map}
+use Rattle.list_laws.proofs.Values.{some-injective}
+use Rattle.list_laws.proofs.Least.{least_from-is}
+use Rattle.list_laws.proofs.Filters.{filter_passes}
+use Rattle.list_laws.proofs.Elements.{AllByRecursion-append, AllByRecursion-map, AllByRecursion-both, AllByRecursion-filter, AllByRecursion-filter_map}
 use Rattle.pool_laws.proofs.Choice.Least.{best_is_best, no_best, keys_total}
 use Rattle.pool_laws.proofs.Choice.Lists.{waiting_is_free}
 

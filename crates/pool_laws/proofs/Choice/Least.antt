@@ -14,7 +14,7 @@ use Rattle.std.proofs.lemmas.List.Elements.{All-from_recursion, recursion_from_A
 use Rattle.task_base.specs.declared.source.Key.{Key}
 use Rattle.task_traits.specs.declared.traits.Priority.{Priority}
 use Rattle.task_traits.specs.declared.traits.Priority.TheVariants.{BestEffort, UserVisible, UserBlocking}
-use Rattle.list_laws.specs.Lists.{least, IsLeast}
+use Rattle.list_laws.specs.Lists.{least, IsLeast, Ranks, then_by}
 use Rattle.task_base.specs.Keys.{key_below}
 use Rattle.task_model.specs.Keys.{Ready}
 use Rattle.task_model.specs.Sequences.{eligible, head_of}
@@ -22,10 +22,13 @@ use Rattle.task_base.specs.Groups.{importance}
 use Rattle.task_model.specs.Sources.{Candidate, waiting, is_takeable, goes_before, best_of}
 use Rattle.pool_laws.specs.Keys.{ready_below}
 use Rattle.pool_laws.specs.Choice.{IsBest}
-use Rattle.list_laws.proofs.Lists.{some-injective, least_from-is, filter_passes, AllByRecursion-map, AllByRecursion-filter, AllByRecursion-both}
+use Rattle.list_laws.proofs.Values.{some-injective}
+use Rattle.list_laws.proofs.Least.{least_from-is, least_is_least, no_least}
+use Rattle.list_laws.proofs.Filters.{filter_passes}
+use Rattle.list_laws.proofs.Elements.{AllByRecursion-map, AllByRecursion-filter, AllByRecursion-both, unfiltered}
 use Rattle.task_base.specs.Plan.{Plan}
 use Rattle.task_base.specs.declared.entry.Entry.{Entry}
-use Rattle.list_laws.proofs.Least.{Ranks, least_is_least, no_least, ranks_by, then_by, ranks_then_by, ranks_same, unfiltered, tied}
+use Rattle.list_laws.proofs.Ranks.{ranks_by, ranks_then_by, ranks_same, tied}
 
 -- by keys
 pub ranks_key : {A : Type 0} (key : A → Key) → Ranks (λ a b. key_below (key a) (key b))

@@ -33,8 +33,9 @@ use Rattle.task_model.specs.Sources.{would_wait, Candidate, sequence_candidate, 
 use Rattle.pool_laws.specs.Jobs.{moves_jobs}
 use Rattle.pool_laws.specs.Choice.{source_waiting, IsFree, moves_sequence_waiting, moves_held, moves_sources}
 use Rattle.task_model.proofs.Growth.{phase_of_push, policy_of_push}
-use Rattle.list_laws.proofs.Lists.{filter_congr, filter_passes, filter_map_never, filter_map_congr_in, range_split, AllByRecursion-at, AllByRecursion-map, AllByRecursion-both, AllByRecursion-range, AllByRecursion-filter, AllByRecursion-filter_map, AllByRecursion-append}
-use Rattle.list_laws.proofs.Least.{unfiltered}
+use Rattle.list_laws.proofs.Filters.{filter_congr, filter_passes, filter_map_never, filter_map_congr_in}
+use Rattle.list_laws.proofs.Ranges.{range_split, AllByRecursion-range}
+use Rattle.list_laws.proofs.Elements.{AllByRecursion-at, AllByRecursion-map, AllByRecursion-both, AllByRecursion-filter, AllByRecursion-filter_map, AllByRecursion-append, unfiltered}
 use Rattle.pool_laws.proofs.Seats.Running.{seats_parts}
 use Rattle.pool_laws.proofs.Jobs.Answers.{job_same, job_waiting_kept}
 use Rattle.pool_laws.proofs.Choice.Waiting.{sequence_waiting_same, sequence_waiting_at_done, shut_at_done}

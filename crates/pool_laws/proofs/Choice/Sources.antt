@@ -36,7 +36,7 @@ use Rattle.pool_laws.specs.Room.{moves_capacity, moves_room}
 use Rattle.pool_laws.specs.Jobs.{moves_jobs, JobKept}
 use Rattle.pool_laws.specs.Choice.{moves_waiting, moves_best}
 use Rattle.task_model.proofs.Growth.{policy_of_push}
-use Rattle.list_laws.proofs.Lists.{filter_congr, filter_map_congr}
+use Rattle.list_laws.proofs.Filters.{filter_congr, filter_map_congr}
 use Rattle.pool_laws.proofs.Keys.Sequences.{head_same}
 use Rattle.pool_laws.proofs.Seats.Running.{runs_same, runs_at_main, seats_parts}
 use Rattle.pool_laws.proofs.Jobs.Answers.{job_same, job_waiting_kept}

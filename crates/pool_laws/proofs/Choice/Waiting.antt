@@ -26,7 +26,7 @@ use Rattle.task_traits.specs.declared.phase.Phase.TheVariants as phases
 use Rattle.task_traits.specs.declared.traits.Behaviour.{Behaviour}
 use Rattle.list_laws.specs.Lists.{holds_of, least}
 use Rattle.task_model.specs.Posts.{post_behind, posts}
-use Rattle.task_model.specs.Keys.{Ready}
+use Rattle.task_model.specs.Keys.{Ready, ready_behind}
 use Rattle.task_model.specs.Phase.{phase_of, phase_after, started_from}
 use Rattle.task_model.specs.Refusal.{behaviour_of_job, is_job_forbidden, is_forbidden}
 use Rattle.task_base.specs.Runners.{sequence_of}
@@ -35,7 +35,7 @@ use Rattle.task_model.specs.Seats.{runs_sequence, inside, running, runs_of, hold
 use Rattle.task_model.specs.Capacity.{priority_of_job}
 use Rattle.task_model.specs.Jobs.{JobPosted, job_post_of, job_post_after, is_cancelled, cancels, claimed, claims, done, value_by, items_of, cap_of, may_enter, has_unclaimed, is_job_accepted, concurrency}
 use Rattle.task_model.specs.Sources.{sequence_candidate, sequence_waiting, job_candidate, job_waiting, makes_way, leaves}
-use Rattle.pool_laws.specs.Keys.{ready_behind, moves_sequences, joins, is_task_of, is_unripe, ready_below}
+use Rattle.pool_laws.specs.Keys.{moves_sequences, joins, is_task_of, is_unripe, ready_below}
 use Rattle.pool_laws.specs.Seats.{moves_main, moves_running, moves_holding, runs_pool_task, IsSeat, holds_job}
 use Rattle.pool_laws.specs.Choice.{may_enter_with, job_candidate_with, job_waiting_with, JobBy, IsShut, moves_sequence_waiting}
 use Rattle.task_model.proofs.Growth.{phase_of_push, job_post_of_push, is_cancelled_push, claimed_push, done_push}

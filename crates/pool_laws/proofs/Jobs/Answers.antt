@@ -26,7 +26,7 @@ use Rattle.task_model.specs.Sources.{job_candidate, job_waiting}
 use Rattle.pool_laws.specs.Seats.{moves_holding, holds_job}
 use Rattle.pool_laws.specs.Jobs.{moves_jobs, JobKept}
 use Rattle.task_model.proofs.Growth.{phase_of_push, job_post_of_push, is_cancelled_push, claimed_push, done_push, job_sum_push}
-use Rattle.list_laws.proofs.Lists.{find_congr, list_all_congr}
+use Rattle.list_laws.proofs.Tests.{find_congr, list_all_congr}
 use Rattle.pool_laws.proofs.Seats.Running.{holding_same, inside_same, inside_at_other_take, inside_at_step, inside_at_other_leave}
 
 or-false : (b : Bool) → (b || false) ≡ b

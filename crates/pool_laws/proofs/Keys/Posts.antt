@@ -15,7 +15,7 @@ use Rattle.task_base.specs.declared.entry.Kind.TheVariants.{Post, Main}
 use Rattle.task_model.specs.Posts.{Posted, Before, InOrder, post_behind, posted_by, posts, main_posted_by, main_posts, post_of, main_post_of}
 use Rattle.pool_laws.specs.Keys.{moves_posts, moves_main_posts}
 use Rattle.task_model.proofs.Growth.{posts_push, main_posts_push}
-use Rattle.list_laws.proofs.Lists.{AllByRecursion-map, AllByRecursion-both}
+use Rattle.list_laws.proofs.Elements.{AllByRecursion-map, AllByRecursion-both}
 use Rattle.pool_laws.proofs.Keys.Ready.{posts_within, main_posts_within}
 
 pub posts_same : (past : List Entry) (e : Entry) → moves_posts e.kind ≡ false → posts (past ++ e ∷ []) ≡ posts past

@@ -25,10 +25,12 @@ use Rattle.task_base.specs.declared.source.Key.{Key}
 use Rattle.task_model.specs.Time.{now_of, now_after, is_tick_from, tick_from}
 use Rattle.task_model.specs.Past.{fold_past, fold_past_from}
 use Rattle.task_model.specs.Posts.{Posted, is_delayed, post_behind, posted_by, posts, main_posted_by, main_posts}
-use Rattle.task_model.specs.Keys.{Ready, key_at, key_of, ready}
-use Rattle.pool_laws.specs.Keys.{tick_by, key_by, moves_ready, NoTickAhead, ready_behind, ready_at_tick_of}
+use Rattle.task_model.specs.Keys.{Ready, key_at, key_of, ready, ready_behind}
+use Rattle.pool_laws.specs.Keys.{tick_by, key_by, moves_ready, NoTickAhead, ready_at_tick_of}
 use Rattle.task_model.proofs.Growth.{now_of_push, posts_push}
-use Rattle.list_laws.proofs.Lists.{some-injective, filter_map_congr, AllByRecursion-map, AllByRecursion-append}
+use Rattle.list_laws.proofs.Values.{some-injective}
+use Rattle.list_laws.proofs.Filters.{filter_map_congr}
+use Rattle.list_laws.proofs.Elements.{AllByRecursion-map, AllByRecursion-append}
 
 -- the first place in a joined list
 pub position-append : {A : Type 0} (test : A → Bool) (i : ℕ) (xs ys : List A)

@@ -24,17 +24,20 @@ use Rattle.task_traits.specs.Behaviour.{forbids}
 use Rattle.task_traits.specs.declared.phase.Phase.{Phase}
 use Rattle.task_traits.specs.declared.phase.Phase.TheVariants as phases
 use Rattle.task_traits.specs.declared.traits.Behaviour.{Behaviour}
-use Rattle.list_laws.specs.Lists.{least}
+use Rattle.list_laws.specs.Lists.{least, keep}
 use Rattle.task_model.specs.Phase.{phase_of, phase_after, started_from}
 use Rattle.task_base.specs.declared.source.Key.{Key}
 use Rattle.task_model.specs.Time.{tick_from, now_of}
 use Rattle.task_model.specs.Posts.{Posted, is_delayed, posts, posted_by, is_taken, takes}
-use Rattle.task_model.specs.Keys.{Ready, ready, key_at, key_of}
+use Rattle.task_model.specs.Keys.{Ready, ready, key_at, key_of, ready_behind}
 use Rattle.task_model.specs.Refusal.{effective_at, is_forbidden}
 use Rattle.task_model.specs.Sequences.{is_of, may_start, eligible, head_of}
-use Rattle.pool_laws.specs.Keys.{moves_ready, tick_by, key_by, ready_behind, moves_sequences, joins, is_task_of, ready_below, ripe_at_tick_of, is_unripe, ready_at_tick_of}
+use Rattle.pool_laws.specs.Keys.{moves_ready, tick_by, key_by, moves_sequences, joins, is_task_of, ready_below, ripe_at_tick_of, is_unripe, ready_at_tick_of}
 use Rattle.task_model.proofs.Growth.{posts_push, phase_of_push, is_taken_push}
-use Rattle.list_laws.proofs.Lists.{some-injective, keep, filter-keep, filter_map_congr, filter_congr, filter_passes, filter_map_congr_in, filter-filter_map, AllByRecursion-both, filter-filter, filter_all, filter_never, least-push, AllByRecursion-map, AllByRecursion-filter}
+use Rattle.list_laws.proofs.Values.{some-injective}
+use Rattle.list_laws.proofs.Filters.{filter-keep, filter_map_congr, filter_congr, filter_passes, filter_map_congr_in, filter-filter_map, filter-filter, filter_all, filter_never}
+use Rattle.list_laws.proofs.Elements.{AllByRecursion-both, AllByRecursion-map, AllByRecursion-filter}
+use Rattle.list_laws.proofs.Least.{least-push}
 use Rattle.pool_laws.proofs.Keys.Ready.{with_key, key_of_push, key_within, posts_within, tick_from_push, ready_same, ready_at_post, ready_at_delayed_post, ready_at_tick, keys_within, AllByRecursion-ready}
 
 abbrev chosen : Plan → List Entry → ℕ → Ready → Bool

@@ -13,7 +13,7 @@ use Rattle.task_model.specs.Sequences.{eligible, head_of, is_of, may_start}
 use Rattle.task_model.specs.Seats.{runs_sequence}
 use Rattle.task_model.specs.Sources.{sequence_candidate, Candidate, sequence_waiting}
 use Rattle.pool_laws.specs.Keys.{ready_below, ripe_at_tick_of}
-use Rattle.list_laws.proofs.Lists.{some-injective}
+use Rattle.list_laws.proofs.Values.{some-injective}
 use Rattle.pool_laws.proofs.Choice.Least.{no_head}
 use Rattle.pool_laws.proofs.Keys.Sequences.{eligible_old_at_tick, eligible_new_at_tick}
 use Rattle.pool_laws.proofs.Choice.Waiting.{sequence_waiting_at_tick}

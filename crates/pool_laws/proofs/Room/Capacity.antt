@@ -29,7 +29,10 @@ use Rattle.task_model.specs.Capacity.{OpenScope, limit, best_limit, priority_of,
 use Rattle.pool_laws.specs.Seats.{moves_main, moves_running, moves_holding, moves_seats, holds_job}
 use Rattle.pool_laws.specs.Room.{share, IsWorker, Loads, Capacities, moves_capacity, runs_task, scopes, moves_room}
 use Rattle.task_model.proofs.Growth.{now_of_push, open_scope_push}
-use Rattle.list_laws.proofs.Lists.{filter_congr_in, count_change_in, range_with, AllByRecursion-range, AllByRecursion-always}
+use Rattle.list_laws.proofs.Filters.{filter_congr_in}
+use Rattle.list_laws.proofs.Counts.{count_change_in}
+use Rattle.list_laws.proofs.Ranges.{range_with, AllByRecursion-range}
+use Rattle.list_laws.proofs.Elements.{AllByRecursion-always}
 use Rattle.pool_laws.proofs.Seats.Running.{running_here, running_other, running_same, holding_here, holding_other, holding_same, seats_parts}
 use Rattle.task_base.specs.declared.step.Scope.{Scope}
 

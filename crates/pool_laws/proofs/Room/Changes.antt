@@ -22,7 +22,7 @@ use Rattle.task_model.specs.Capacity.{OpenScope, limit, best_limit, priority_of,
 use Rattle.pool_laws.specs.Seats.{moves_running, moves_seats, holds_job}
 use Rattle.pool_laws.specs.Room.{share, IsWorker, Loads, Capacities, moves_capacity, scopes, is_apart, CapacityKept, runs_task, NoneComes}
 use Rattle.task_model.proofs.Growth.{now_of_push}
-use Rattle.list_laws.proofs.Lists.{count_mono}
+use Rattle.list_laws.proofs.Counts.{count_mono}
 use Rattle.pool_laws.proofs.Seats.Running.{running_same}
 use Rattle.pool_laws.proofs.Room.Capacity.{free_parts, blocked, blocked_same, blocked_kept, capacities_kept, scope_kept, load_same, load_at_driver, load_at_take, load_at_end, load_at_job_take, load_at_step, load_at_leave, capacity_same, capacity_at_take, capacity_at_open_end, capacity_at_enter, capacity_at_leave}
 

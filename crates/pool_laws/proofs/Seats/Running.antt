@@ -25,7 +25,10 @@ use Rattle.task_base.specs.Steps.{is_act}
 use Rattle.task_model.specs.Seats.{Running, Holding, running, running_after, holding, holding_after, acts_done, acts_after, is_free, is_quiet, runs_of, runs_sequence, inside, all_seats, steps_of, next_act}
 use Rattle.pool_laws.specs.Seats.{moves_main, moves_running, moves_holding, IsSeat, moves_seats, runs_pool_task, holds_job}
 use Rattle.task_model.proofs.Growth.{running_push, holding_push, acts_done_push}
-use Rattle.list_laws.proofs.Lists.{filter_congr, list_any_congr, list_all_congr, list_any_none, count_change, any_change, any_from_count, range_with, AllByRecursion-range, range_all_at, range_any_at, list_all-from_recursion}
+use Rattle.list_laws.proofs.Filters.{filter_congr}
+use Rattle.list_laws.proofs.Tests.{list_any_congr, list_all_congr, list_any_none, any_change, list_all-from_recursion}
+use Rattle.list_laws.proofs.Counts.{count_change, any_from_count}
+use Rattle.list_laws.proofs.Ranges.{range_with, AllByRecursion-range, range_all_at, range_any_at}
 
 both : {A : Type 0} (b : Bool) (x : A) → cond b x x ≡ x
 both true x = refl

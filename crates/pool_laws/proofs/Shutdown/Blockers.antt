@@ -29,7 +29,11 @@ use Rattle.pool_laws.specs.Seats.{moves_holding, IsSeat, holds_job}
 use Rattle.pool_laws.specs.Room.{share}
 use Rattle.pool_laws.specs.Shutdown.{moves_blockers, is_block_task, is_skip_task}
 use Rattle.task_model.proofs.Growth.{posts_push, is_taken_push, is_ended_push, job_post_of_push, is_cancelled_push, done_push}
-use Rattle.list_laws.proofs.Lists.{some-injective, AllByRecursion-map, filter_congr_in, filter_length_congr, count-cons, count-append, count_change, range_with}
+use Rattle.list_laws.proofs.Values.{some-injective}
+use Rattle.list_laws.proofs.Elements.{AllByRecursion-map}
+use Rattle.list_laws.proofs.Filters.{filter_congr_in}
+use Rattle.list_laws.proofs.Counts.{filter_length_congr, count-cons, count-append, count_change}
+use Rattle.list_laws.proofs.Ranges.{range_with}
 use Rattle.pool_laws.proofs.Seats.Running.{holding_same, holding_here, holding_other, seat_once, inside_same, inside_at_take, inside_at_other_take, inside_at_step, inside_at_leave, inside_at_other_leave}
 
 or-false : (b : Bool) → (b || false) ≡ b

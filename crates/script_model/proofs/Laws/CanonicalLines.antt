@@ -29,7 +29,9 @@ use Rattle.script_model.specs.Lines.{workers_line, groups_line, threshold_line, 
 use Rattle.script_model.specs.Grammar.{lines_read, script_read}
 use Rattle.script_model.specs.Canonical.{priority_word, behaviour_word, kind_word, steps_words, may_block_words, runner_words, queue_words, task_words, job_words, config_lines, numbered}
 use Rattle.script_model.specs.Laws.Sound.{IsSound, IsSeatThere, IsQueueWithin, IsStepWithin, IsStepSound, IsTaskSound, IsJobSound}
-use Rattle.list_laws.proofs.Lists.{eqb-same, count-append, count-cons, AllByRecursion-back}
+use Rattle.list_laws.proofs.Values.{eqb-same}
+use Rattle.list_laws.proofs.Counts.{count-append, count-cons}
+use Rattle.list_laws.proofs.Elements.{AllByRecursion-back}
 use Rattle.script_model.proofs.Laws.SoundParts.{IsSeatWithin, or_neither}
 use Rattle.script_model.proofs.Laws.SoundDeclarations.{posts_of_task, runner_made, job_made}
 use Rattle.script_model.proofs.Laws.CanonicalText.{is_plain_word, line_of, text_of, line_is_ascii, words_of-line, lines_of-text}

@@ -26,7 +26,8 @@ use Rattle.script_model.specs.Draft.{Draft, is_block, script_of, has_no_actions,
 use Rattle.task_base.specs.declared.limits.TheConstants.{MOST_RUNNERS, MOST_QUEUES, MOST_TASKS, MOST_JOBS, MOST_ITEMS, MOST_STEPS, MOST_EVENTS}
 use Rattle.script_model.specs.Lines.{workers_line, groups_line, threshold_line, runner_line, queue_line, task_line, job_line}
 use Rattle.script_model.specs.Laws.Sound.{IsSound, IsRunnerPost, IsQueuePost, IsSeatThere, IsQueueWithin, IsStepSound, IsTaskSound, IsJobSound, IsActionSound}
-use Rattle.list_laws.proofs.Lists.{count-append, AllByRecursion-map}
+use Rattle.list_laws.proofs.Counts.{count-append}
+use Rattle.list_laws.proofs.Elements.{AllByRecursion-map}
 use Rattle.script_model.proofs.Laws.SoundParts.{both_ok, line_ok, number_at-within, said_ok, IsSeatWithin, kind_named-within, steps_read-within, not_false, and_both, or_neither, at_most, below, nothing, slice_get_front, slice_get_push, all_push, times_fresh}
 
 abbrev pub Keeps : Draft → Type 0

@@ -25,7 +25,8 @@ use Rattle.script_model.specs.Lines.{workers_line, groups_line, threshold_line, 
 use Rattle.script_model.specs.Grammar.{lines_read, script_read, Reads}
 use Rattle.script_model.specs.Laws.Sound.{IsSound, IsActionSound, IsInOrder}
 use Rattle.script_model.proofs.Laws.FaultLaws.{ok_same, first_ok}
-use Rattle.list_laws.proofs.Lists.{count-append, count-cons, AllByRecursion-map}
+use Rattle.list_laws.proofs.Counts.{count-append, count-cons}
+use Rattle.list_laws.proofs.Elements.{AllByRecursion-map}
 use Rattle.script_model.proofs.Laws.SoundParts.{either_way, none_such, both_ok, refuse_ok, Passed, behind_ok, line_ok, number_at-within, not_false, at_most, below, slice_get_push, all_push, count_none}
 use Rattle.script_model.proofs.Laws.SoundDeclarations.{Keeps, runner_post_stays, queue_post_stays, task_stays, same_stays, keeps_workers, keeps_groups, keeps_threshold, keeps_runner, keeps_queue, declared_runner_post, declared_queue_post, posted_once_with_action, keeps_task, keeps_job}
 

@@ -8,7 +8,7 @@ use Rattle.list_laws.specs.Lists.{count}
 use Rattle.script_model.specs.Postings.{times}
 use Rattle.script_model.specs.Draft.{is_any_posted}
 use Rattle.script_model.proofs.Laws.FaultLaws.{ok_same}
-use Rattle.list_laws.proofs.Lists.{count-cons}
+use Rattle.list_laws.proofs.Counts.{count-cons}
 use Rattle.task_base.specs.declared.step.Step.{Step}
 use Rattle.task_base.specs.declared.step.Step.TheVariants.{Add, Mul, Set, Post, Main, Block, Unblock}
 use Rattle.task_base.specs.declared.script.RunnerKind.{RunnerKind}
