@@ -2,9 +2,9 @@
 -- priority among those that may be taken.
 use Rattle.task_base.specs.declared.script.RunnerKind.TheVariants.{Parallel, Sequenced, Single}
 use Rattle.task_base.specs.declared.script.RunnerKind.{RunnerKind}
-use Rattle.std.proofs.Common.{◌≡◌, ◌≢◌, ℕ, suc, ◌+◌, ◌-◌, ◌<◌, ◌≤◌, Bool, true, false, cond, ltb, List, [], ◌∷◌, ◌++◌, length, map, refl, sym, ap, subst, ◌∙◌, Option, Some, None, arith}
+use Rattle.std.proofs.Common.{◌≡◌, ◌≢◌, ℕ, suc, ◌+◌, ◌-◌, ◌<◌, ◌≤◌, Bool, true, false, cond, List, [], ◌∷◌, ◌++◌, length, map, refl, sym, ap, subst, ◌∙◌, Option, Some, None, arith}
 use Rattle.std.specs.Prelude.{not, ◌&&◌, filter, slice_get, option_and_then}
-use Rattle.std.specs.List.{AllByRecursion, filter_map, cons_option, range_with_len}
+use Rattle.std.specs.List.{AllByRecursion, filter_map, range_with_len}
 use Rattle.std.specs.Option.{option_map, IfSome}
 use Rattle.std.proofs.lemmas.Bool.{eqb-true, ne_eqb, false_from_ne_true}
 use Rattle.std.proofs.Math.Bool.{and_comm}
@@ -15,7 +15,6 @@ use Rattle.task_base.specs.Plan.{Plan}
 use Rattle.task_base.specs.declared.entry.Entry.{Entry}
 use Rattle.task_base.specs.declared.script.Runner.{Runner}
 use Rattle.list_laws.specs.Lists.{least, holds_of}
-use Rattle.task_model.specs.Time.{tick_from}
 use Rattle.task_model.specs.Posts.{Posted, Before, InOrder, posts}
 use Rattle.task_model.specs.Keys.{Ready, ready, key_of, key_at}
 use Rattle.task_base.specs.Keys.{key_below}
@@ -76,8 +75,7 @@ first (p ∷ ps) = Some p
 
 -- the key of an immediate task
 key_still : (past : List Entry) (p : Posted) → p.delay ≡ 0 → key_of past p ≡ Some (key_at p.place)
-key_still past p immediate = ap (λ (d : ℕ). cond (ltb 0 d) (option_map (λ place. record { place = place; ripe = p.ripe; post = p.place })
-    (tick_from past p.ripe)) (Some (key_at p.place))) immediate
+key_still past p immediate = rw immediate refl
 
 -- each immediate task is ready from its post on
 ready_still : (past : List Entry) → IsStill past → ready past ≡ map ready_of (posts past)
@@ -87,21 +85,20 @@ ready_still past still = from (posts past) still.immediate
     from : (ps : List Posted) → AllByRecursion (λ p. p.delay ≡ 0) ps
         → filter_map (λ p. option_map (λ key. record { posted = p; key = key }) (key_of past p)) ps ≡ map ready_of ps
     from [] h = refl
-    from (p ∷ ps) h =
-        ap (λ o. cons_option (option_map (λ key. record { posted = p; key = key }) o)
-            (filter_map (λ q. option_map (λ key. record { posted = q; key = key }) (key_of past q)) ps)) (key_still past p h.0)
-        ∙ ap (λ rest. ready_of p ∷ rest) (from ps h.1)
+    from (p ∷ ps) h = rw (key_still past p h.0, from ps h.1) refl
 
 -- the eligible tasks of a sequence are those of it that may be taken
 eligible_still : (script : Plan) (past : List Entry) (s : ℕ) → IsStill past
     → eligible script past s ≡ map ready_of (filter (is_of script s) (to_take script past))
 unfolding eligible to_take
 eligible_still script past s still =
-    ap (filter (λ r. is_of script s r.posted && may_start script past r.posted)) (ready_still past still)
-    ∙ filter-map (λ r. is_of script s r.posted && may_start script past r.posted) ready_of (posts past)
-    ∙ ap (map ready_of) (filter_congr (λ p. is_of script s p && may_start script past p) (λ p. may_start script past p && is_of script s p) (posts past)
-        (λ p. and_comm (is_of script s p) (may_start script past p))
-    ∙ sym (filter-filter (is_of script s) (may_start script past) (posts past)))
+    rw (
+      ready_still past still,
+      filter-map (λ r. is_of script s r.posted && may_start script past r.posted) ready_of (posts past),
+      filter-filter (is_of script s) (may_start script past) (posts past),
+    )
+    (ap (map ready_of) (filter_congr (λ p. is_of script s p && may_start script past p) (λ p. may_start script past p && is_of script s p) (posts past)
+    (λ p. and_comm (is_of script s p) (may_start script past p))))
 
 not_below : (a b : Posted) → Before a b → key_below (key_at b.place) (key_at a.place) ≡ false
 not_below a b h = let lt = h.earlier in grind (arith, nat_tests)
@@ -112,15 +109,15 @@ least_in_order [] h = refl
 least_in_order (p ∷ ps) h =
     least_split (λ a b. key_below a.key b.key) [] (ready_of p) (map ready_of ps) tt
     (AllByRecursion-mapped (λ r. key_below r.key (key_at p.place) ≡ false) ready_of ps
-        (AllByRecursion-map (Before p) (λ q. key_below (key_at q.place) (key_at p.place) ≡ false) ps (λ q b. not_below p q b) h.0))
+    (AllByRecursion-map (Before p) (λ q. key_below (key_at q.place) (key_at p.place) ≡ false) ps (λ q b. not_below p q b) h.0))
 
 -- the head of a sequence is the first of its tasks that may be taken
 head_still : (script : Plan) (past : List Entry) (s : ℕ) → IsStill past → InOrder (to_take script past)
     → head_of script past s ≡ option_map ready_of (first (filter (is_of script s) (to_take script past)))
 unfolding head_of
 head_still script past s still order =
-    ap (least (λ a b. key_below a.key b.key)) (eligible_still script past s still)
-    ∙ least_in_order (filter (is_of script s) (to_take script past)) (InOrder-filter (is_of script s) (to_take script past) order)
+    rw (eligible_still script past s still)
+    (least_in_order (filter (is_of script s) (to_take script past)) (InOrder-filter (is_of script s) (to_take script past) order))
 
 -- ---- what waits
 
@@ -148,10 +145,10 @@ unfolding waiting would_wait
 waiting_still script past formed still order =
     filter_always (λ c. not (is_held past c.priority)) _ (λ c. ap not (is_held_still past c.priority still))
     ∙ ap (λ n. filter_map (sequence_waiting script past) (range_with_len 0 (sequence_count script))
-        ++ filter_map (job_waiting script past) (range_with_len 0 n)) (ap length formed.no_jobs)
+    ++ filter_map (job_waiting script past) (range_with_len 0 n)) (ap length formed.no_jobs)
     ∙ append-nil (filter_map (sequence_waiting script past) (range_with_len 0 (sequence_count script)))
     ∙ filter_map_congr (sequence_waiting script past) (waits_for script (to_take script past)) (range_with_len 0 (sequence_count script))
-        (λ s. sequence_still script past s still order)
+    (λ s. sequence_still script past s still order)
 
 -- no runner is bound to a seat
 seat_none : (script : Plan) (runner : ℕ) → WellFormed script → seat_of script runner ≡ None
@@ -186,7 +183,7 @@ best_still script past seat formed still order =
     (AllByRecursion-filter_map (λ c. is_takeable script past seat c ≡ true) (waits_for script ts) numbers
     (AllByRecursion-always (λ s. IfSome (waits_for script ts s) (λ c. is_takeable script past seat c ≡ true)) numbers
     (λ s. of_first script s (λ c. is_takeable script past seat c ≡ true) (filter (is_of script s) ts)
-        (AllByRecursion-always (λ p. is_takeable script past seat (candidate script s p) ≡ true) (filter (is_of script s) ts) (λ p. takeable s p))))))
+    (AllByRecursion-always (λ p. is_takeable script past seat (candidate script s p) ≡ true) (filter (is_of script s) ts) (λ p. takeable s p))))))
   where
     ts : List Posted
     ts = to_take script past
@@ -202,8 +199,7 @@ pub best_of_none : (script : Plan) (past : List Entry) (seat : ℕ) → WellForm
     → best_of script past seat ≡ None
 best_of_none script past seat formed still none =
     best_still script past seat formed still (rw none tt)
-    ∙ ap (λ (ps : List Posted). least goes_before (filter_map (waits_for script ps) (range_with_len 0 (sequence_count script)))) none
-    ∙ ap (least goes_before) (filter_map_never (waits_for script []) (range_with_len 0 (sequence_count script)) (λ s. refl))
+    ∙ rw (none, filter_map_never (waits_for script []) (range_with_len 0 (sequence_count script)) (λ s. refl)) refl
 
 -- ---- the best
 
@@ -239,10 +235,10 @@ none_before : (script : Plan) (xs : List Posted) (p : Posted) (ys : List Posted)
 none_before script xs p ys it =
     filter_none (is_of script home) xs
     (AllByRecursion-map (λ x. importance_of script x.home < importance_of script p.home × (Before x p × (x.home < length script.runners)))
-        (λ x. is_of script home x ≡ false) xs other
+    (λ x. is_of script home x ≡ false) xs other
     (AllByRecursion-both (λ x. importance_of script x.home < importance_of script p.home) (λ x. Before x p × (x.home < length script.runners)) xs it.lower
     (AllByRecursion-both (λ x. Before x p) (λ x. x.home < length script.runners) xs (InOrder-middle xs p ys it.order).0
-        (AllByRecursion-front (λ q. q.home < length script.runners) xs (p ∷ ys) it.declared))))
+    (AllByRecursion-front (λ q. q.home < length script.runners) xs (p ∷ ys) it.declared))))
   where
     home : ℕ
     home = sequence_of script p.home p.task
@@ -254,16 +250,14 @@ none_before script xs p ys it =
         → is_of script home x ≡ false
     other x h = false_from_ne_true (is_of script home x) (λ same.
         let one : x.home ≡ p.home = one_runner (parallel script x.home) (parallel script p.home) (length script.runners) x.task p.task x.home p.home
-            (eqb-true _ _ same) h.1.1 here h.1.0.another in
+        (eqb-true _ _ same) h.1.1 here h.1.0.another in
         absurd (omega (arith, h.0, ap (importance_of script) one)))
 
 -- so it is the first of its sequence
 first_of_its : (script : Plan) (xs : List Posted) (p : Posted) (ys : List Posted) → IsFirst script xs p ys
     → first (filter (is_of script (sequence_of script p.home p.task)) (xs ++ p ∷ ys)) ≡ Some p
 first_of_its script xs p ys it =
-    ap first (filter-append (is_of script home) xs (p ∷ ys) ∙ ap (λ (front : List Posted). front ++ filter (is_of script home) (p ∷ ys))
-        (none_before script xs p ys it))
-    ∙ ap (λ (b : Bool). first (cond b (p ∷ filter (is_of script home) ys) (filter (is_of script home) ys))) (eqb-same home)
+    rw (filter-append (is_of script home) xs (p ∷ ys), none_before script xs p ys it, eqb-same home) refl
   where
     home : ℕ
     home = sequence_of script p.home p.task
@@ -273,9 +267,7 @@ pub head_of_still : (script : Plan) (past : List Entry) (xs : List Posted) (p : 
     → IsFirst script xs p ys →
     head_of script past (sequence_of script p.home p.task) ≡ Some (ready_of p)
 head_of_still script past xs p ys still is it =
-    head_still script past (sequence_of script p.home p.task) still (subst InOrder (sym is) it.order)
-    ∙ ap (λ (ps : List Posted). option_map ready_of (first (filter (is_of script (sequence_of script p.home p.task)) ps))) is
-    ∙ ap (option_map ready_of) (first_of_its script xs p ys it)
+    head_still script past (sequence_of script p.home p.task) still (rw is it.order) ∙ rw (is, first_of_its script xs p ys it) refl
 
 -- the tasks of another sequence come after it
 others_lose : (script : Plan) (xs : List Posted) (p : Posted) (ys : List Posted) (s : ℕ) → IsFirst script xs p ys → sequence_of script p.home p.task ≢ s
@@ -284,9 +276,9 @@ others_lose script xs p ys s it other =
     subst (AllByRecursion (beats script p)) (sym split)
     (AllByRecursion-append (beats script p) (filter (is_of script s) xs) (filter (is_of script s) ys)
     (AllByRecursion-filter (beats script p) (is_of script s) xs
-        (AllByRecursion-map (λ x. importance_of script x.home < importance_of script p.home) (beats script p) xs before it.lower))
+    (AllByRecursion-map (λ x. importance_of script x.home < importance_of script p.home) (beats script p) xs before it.lower))
     (AllByRecursion-filter (beats script p) (is_of script s) ys
-        (AllByRecursion-map (λ y. importance_of script y.home ≤ importance_of script p.home × Before p y) (beats script p) ys behind
+    (AllByRecursion-map (λ y. importance_of script y.home ≤ importance_of script p.home × Before p y) (beats script p) ys behind
     (AllByRecursion-both (λ y. importance_of script y.home ≤ importance_of script p.home) (Before p) ys it.no_higher (InOrder-middle xs p ys it.order).1))))
   where
     split : filter (is_of script s) (xs ++ p ∷ ys) ≡ filter (is_of script s) xs ++ filter (is_of script s) ys
@@ -317,17 +309,18 @@ pub best_of_still : (script : Plan) (past : List Entry) (xs : List Posted) (p : 
     → to_take script past ≡ xs ++ p ∷ ys → IsFirst script xs p ys →
     best_of script past seat ≡ Some (candidate script (sequence_of script p.home p.task) p)
 best_of_still script past xs p ys seat formed still is it =
-    best_still script past seat formed still (subst InOrder (sym is) it.order)
-    ∙ ap (λ (ps : List Posted). least goes_before (filter_map (waits_for script ps) (range_with_len 0 (sequence_count script)))) is
-    ∙ ap (λ (ns : List ℕ). least goes_before (filter_map f ns)) (range_split 0 home behind (sequence_count script) home (omega (arith, below)) (omega arith))
-    ∙ ap (least goes_before) (filter_map-append f (range_with_len 0 home) (home ∷ range_with_len (home + 1) behind))
-    ∙ ap (λ (o : Option Candidate). least goes_before (filter_map f (range_with_len 0 home)
-        ++ cons_option o (filter_map f (range_with_len (home + 1) behind)))) (ap (option_map (candidate script home)) (first_of_its script xs p ys it))
+    best_still script past seat formed still (rw is it.order)
+    ∙ rw (
+      is,
+      range_split 0 home behind (sequence_count script) home (omega (arith, below)) (omega arith),
+      filter_map-append f (range_with_len 0 home) (home ∷ range_with_len (home + 1) behind),
+      first_of_its script xs p ys it,
+    ) refl
     ∙ least_split goes_before (filter_map f (range_with_len 0 home)) (candidate script home p) (filter_map f (range_with_len (home + 1) behind))
     (AllByRecursion-map (comes_after script p) (λ c. goes_before (candidate script home p) c ≡ true) (filter_map f (range_with_len 0 home)) (λ c b. b.0)
     (others_come_after script xs p ys 0 home it (λ s low high same. absurd (omega arith))))
     (AllByRecursion-map (comes_after script p) (λ c. goes_before c (candidate script home p) ≡ false) (filter_map f (range_with_len (home + 1) behind))
-        (λ c b. b.1)
+    (λ c b. b.1)
     (others_come_after script xs p ys (home + 1) behind it (λ s low high same. absurd (omega arith))))
   where
     home : ℕ

@@ -1,12 +1,12 @@
 -- What holds while no seat runs a task or holds an item, and nothing is held back.
-use Rattle.std.proofs.Common.{◌≡◌, ℕ, ◌+◌, Bool, true, false, cond, ltb, List, length, refl, ap, ◌∙◌, arith}
-use Rattle.std.specs.Prelude.{not, ◌||◌}
+use Rattle.std.proofs.Common.{◌≡◌, ℕ, ◌+◌, Bool, true, false, ltb, List, length, refl, ap, arith}
+use Rattle.std.specs.Prelude.{not}
 use Rattle.std.specs.List.{range_with_len}
+use Rattle.std.proofs.Math.Bool.{or-true}
 use Rattle.std.proofs.lemmas.Bool.Decides.{nat_tests}
 use Rattle.task_base.specs.Plan.{Plan}
 use Rattle.task_base.specs.Policy.{is_held_back}
 use Rattle.task_base.specs.declared.entry.Entry.{Entry}
-use Rattle.task_base.specs.declared.policy.Policy.{Policy}
 use Rattle.task_base.specs.declared.policy.Policy.TheVariants.{All}
 use Rattle.task_traits.specs.declared.phase.Phase.{Phase}
 use Rattle.task_traits.specs.declared.phase.Phase.TheVariants.{Running, Started, Done}
@@ -16,8 +16,8 @@ use Rattle.list_laws.specs.Lists.{holds_of, count}
 use Rattle.task_model.specs.Phase.{phase_of}
 use Rattle.task_model.specs.Policies.{is_held}
 use Rattle.task_model.specs.Seats.{running, runs_of, runs_sequence, is_free, is_quiet, worker_seats, all_seats}
-use Rattle.task_base.specs.Groups.{Group, is_best_effort, group_of, Foreground, Background}
-use Rattle.task_model.specs.Capacity.{is_in, is_best_in, work_at, load_of, blocked_of, load, capacity, best_load, best_capacity, has_room_in, has_room}
+use Rattle.task_base.specs.Groups.{is_best_effort, group_of, Foreground}
+use Rattle.task_model.specs.Capacity.{is_in, is_best_in, work_at, load_of, blocked_of, load, capacity, best_load, best_capacity, has_room, HasRoom}
 use Rattle.task_model.specs.Blockers.{is_open_job, is_in_skip_job}
 use Rattle.list_laws.proofs.Tests.{list_any_never, list_all_always}
 use Rattle.list_laws.proofs.Filters.{filter_never}
@@ -35,7 +35,7 @@ is_quiet_still script past still = list_all_always (is_free past) (all_seats scr
 
 -- nothing is held back
 pub is_held_still : (past : List Entry) (priority : Priority) → IsStill past → is_held past priority ≡ false
-is_held_still past priority still = ap (λ (policy : Policy). is_held_back (phase_of past) policy priority) still.policy ∙ never (phase_of past)
+is_held_still past priority still = rw still.policy (never (phase_of past))
   where
     never : (phase : Phase) → is_held_back phase All priority ≡ false
     never Running = refl
@@ -49,7 +49,7 @@ load_of_still script past test still =
 
 -- all work belongs to the foreground group where there is no other
 foreground_alone : (script : Plan) (priority : Priority) → script.background ≡ 0 → group_of script priority ≡ Foreground
-foreground_alone script BestEffort none = ap (λ (n : ℕ). cond (ltb 0 n) Background Foreground) none
+foreground_alone script BestEffort none = rw none refl
 foreground_alone script UserVisible none = refl
 foreground_alone script UserBlocking none = refl
 
@@ -57,21 +57,17 @@ some_room : (load limit blocked n : ℕ) → load ≡ 0 → limit ≡ n + 1 → 
 some_room load limit blocked n none some = grind (arith, nat_tests)
 
 -- so there is room for every priority
-pub has_room_still : (script : Plan) (past : List Entry) (priority : Priority) → WellFormed script → IsStill past → has_room script past priority ≡ true
+pub has_room_still : (script : Plan) (past : List Entry) (priority : Priority) → WellFormed script → IsStill past → HasRoom script past priority
 unfolding has_room load capacity best_load best_capacity
 has_room_still script past priority formed still =
-    ap (λ (group : Group). has_room_in script past group priority) (foreground_alone script priority formed.background_is)
-    ∙ rw (
+    rw (
+      foreground_alone script priority formed.background_is,
       some_room (load_of script past (is_in script Foreground)) script.foreground (blocked_of script past (is_in script Foreground)) 3
           (load_of_still script past (is_in script Foreground) still) formed.foreground_is,
       some_room (load_of script past (is_best_in script Foreground)) script.foreground_best (blocked_of script past (is_best_in script Foreground)) 1
           (load_of_still script past (is_best_in script Foreground) still) formed.foreground_best_is,
     )
-    (either (is_best_effort priority))
-  where
-    either : (b : Bool) → (not b || true) ≡ true
-    either true = refl
-    either false = refl
+    (or-true (not (is_best_effort priority)))
 
 -- no job blocks shutdown: there is none, and nobody is inside one
 pub no_job_blocks : (script : Plan) (past : List Entry) → WellFormed script → IsStill past

@@ -1,14 +1,12 @@
 -- The room that was taken lasts, and the script's wants are met one after the other.
-use Rattle.std.proofs.Common.{◌≡◌, ℕ, zero, suc, ◌+◌, ◌*◌, ◌<◌, ◌≤◌, List, [], ◌∷◌, ◌++◌, length, get_or, take, replicate, refl, sym, ap, ◌∙◌, Some, Bool, true, false, cond, vec_len, vec_capacity, arith}
+use Rattle.std.proofs.Common.{◌≡◌, ℕ, ◌+◌, ◌*◌, ◌<◌, ◌≤◌, List, [], ◌∷◌, ◌++◌, length, get_or, take, refl, ap, ◌∙◌, Some, Bool, true, false, cond, vec_len, vec_capacity, arith}
 use Rattle.std.specs.List.{flat_map}
 use Rattle.std.specs.Prelude.{slice_get}
 use Rattle.std.proofs.lemmas.Grind.{flat_map-append}
-use Rattle.std.proofs.lemmas.List.{append-nil, length-append, length-replicate, take_more, take_all}
+use Rattle.std.proofs.lemmas.List.{append-nil, length-append, take_more, take_all}
 use Rattle.std.proofs.lemmas.List.Concat.{get_or-flat_map, flat_map-cons}
 use Rattle.std.proofs.lemmas.List.Folds.{length-flat_map-take}
 use Rattle.std.proofs.lemmas.Option.{slice_get_within, slice_get-get_or, get_or_from_slice_get}
-use Rattle.task_traits.specs.declared.phase.Phase.TheVariants as phases
-use Rattle.task_tracker.specs.Tracked.{Tracked}
 use Rattle.task_base.specs.Plan.{Plan}
 use Rattle.task_base.specs.declared.entry.Entry.{Entry}
 use Rattle.task_base.specs.declared.entry.Kind.{Kind}
@@ -18,10 +16,10 @@ use Rattle.task_script.specs.Wants.{Want, wants_of, all_wants}
 use Rattle.task_script.specs.WellFormed.{WellFormed}
 use Rattle.env_app.specs.declared.engine.Engine.{Engine}
 use Rattle.env_app.specs.declared.engine.Waiting.{Waiting}
-use Rattle.env_app.specs.Engine.{done_count, wanted, HasRoom, IsNext, IsStill, StandsFor}
+use Rattle.env_app.specs.Engine.{done_count, wanted, HasRoom, IsNext, IsStill}
 use Rattle.env_app.proofs.Wanted.{finished}
 use Rattle.env_app.proofs.Quiet.{is_quiet_still}
-use Rattle.env_app.proofs.Events.{opened, driver_entry, worker_entry, done_count-driver, own_entries-worker}
+use Rattle.env_app.proofs.Events.{driver_entry, worker_entry, done_count-driver, own_entries-worker}
 
 -- where an entry is wanted, not all are made
 pub some_to_do : (script : Plan) (past : List Entry) (want : Want) → wanted script past ≡ Some want → done_count past < length (all_wants script)
@@ -35,13 +33,13 @@ done_count-worker past kind = ap length (own_entries-worker past kind)
 -- the same number of made entries leaves the same entry wanted
 pub wanted-same : (script : Plan) (past later : List Entry) → done_count later ≡ done_count past → wanted script later ≡ wanted script past
 unfolding wanted
-wanted-same script past later same = ap (λ (n : ℕ). slice_get (all_wants script) n) same
+wanted-same script past later same = rw same refl
 
 -- the j-th entry that an action wants is wanted once the ones before it are made
 pub wanted_next : (script : Plan) (past later : List Entry) (wants : List Want) (j : ℕ) (want : Want) → IsNext script past wants
     → slice_get wants j ≡ Some want → done_count later ≡ done_count past + j → wanted script later ≡ Some want
 unfolding wanted
-wanted_next script past later wants j want next here count = ap (λ (n : ℕ). slice_get (all_wants script) n) count ∙ next j want here
+wanted_next script past later wants j want next here count = rw count (next j want here)
 
 -- the entries that the script's next action wants come next
 pub next_action : (script : Plan) (past : List Entry) (listed : List Action) (i : ℕ) (d : Action) → listed ≡ script.actions
@@ -51,9 +49,7 @@ next_action script past listed i d same count lt j want here =
     let found : get_or (flat_map wants_of listed) (length (flat_map wants_of (take i listed)) + j) want ≡ want =
     get_or-flat_map wants_of listed i j d want lt within ∙ get_or_from_slice_get (wants_of (get_or listed i d)) j want want here in
     let there : done_count past + j < length (flat_map wants_of listed) = omega (arith, count, within, length-flat_map-take wants_of listed i d lt) in
-    ap (λ (acts : List Action). slice_get (flat_map wants_of acts) (done_count past + j)) (sym same)
-    ∙ slice_get-get_or (flat_map wants_of listed) (done_count past + j) want there
-    ∙ ap Some (ap (λ (n : ℕ). get_or (flat_map wants_of listed) (n + j) want) count ∙ found)
+    rw (← same, slice_get-get_or (flat_map wants_of listed) (done_count past + j) want there, count, found) refl
 
 -- ---- the room
 
@@ -65,19 +61,6 @@ room_at_start script engine log queue none entries places =
     let written : length engine.log.items ≡ 0 = ap length log in
     let waits : length engine.queue.items ≡ 0 = ap length queue in
     record { entries = omega arith; places = omega arith; few = omega arith }
-
-zero_everywhere : (n i : ℕ) → ◌≡◌ {A = ℕ} (get_or (replicate n 0) i 0) 0
-zero_everywhere zero i = refl
-zero_everywhere (suc n) zero = refl
-zero_everywhere (suc n) (suc i) = zero_everywhere n i
-
--- cells that are all 0 and a new tracker stand for the start
-pub stands_at_start : (script : Plan) (past : List Entry) (queue : List Waiting) (values : List ℕ) (tracked : Tracked) (n : ℕ) → past ≡ [] → queue ≡ []
-    → values ≡ replicate n 0 → n ≡ length script.runners + length script.tasks →
-    tracked.phase ≡ phases.Running → tracked.block_items ≡ 0 → tracked.skip_items ≡ 0 → StandsFor script past queue values tracked
-stands_at_start script past queue values tracked n no_past no_queue zeros count phase blocks skips =
-    rw (no_past, no_queue) (opened script values tracked (ap length zeros ∙ length-replicate n 0 ∙ count) (λ s. ap (λ (v : List ℕ). get_or v s 0) zeros
-        ∙ zero_everywhere n s) phase blocks skips)
 
 -- an accepted post uses the room of its entry: one place in the log, and one in the queue
 pub room_after_post : (script : Plan) (old new : Engine) (kind : Kind) (w : Waiting) → HasRoom script old
@@ -95,7 +78,7 @@ room_after_post script old new kind w room ahead log queue spare len capacity =
 pub room_after_entry : (script : Plan) (old new : Engine) (kind : Kind) → HasRoom script old → done_count old.log.items < length (all_wants script) →
     new.log.items ≡ old.log.items ++ driver_entry kind ∷ [] → new.log.spare + 1 ≡ old.log.spare →
     length new.queue.items ≤ length old.queue.items → vec_len new.queue ≤ vec_len old.queue → vec_capacity new.queue ≡ vec_capacity old.queue
-        → HasRoom script new
+    → HasRoom script new
 room_after_entry script old new kind room ahead log spare waits len capacity =
     let done : done_count new.log.items ≡ done_count old.log.items + 1 = ap done_count log ∙ done_count-driver old.log.items kind in
     let entries : length new.log.items ≡ length old.log.items + 1 = ap length log ∙ length-append old.log.items (driver_entry kind ∷ []) in
@@ -106,10 +89,10 @@ room_after_entry script old new kind room ahead log spare waits len capacity =
 pub room_after_serve : (script : Plan) (old new : Engine) (taken ended : Kind) (mid : List Entry) → HasRoom script old →
     mid ≡ old.log.items ++ worker_entry taken ∷ [] → new.log.items ≡ mid ++ worker_entry ended ∷ [] → new.log.spare + 2 ≡ old.log.spare →
     length new.queue.items + 1 ≡ length old.queue.items → vec_len new.queue + 1 ≡ vec_len old.queue → vec_capacity new.queue ≡ vec_capacity old.queue
-        → HasRoom script new
+    → HasRoom script new
 room_after_serve script old new taken ended mid room first log spare waits len capacity =
     let done : done_count new.log.items ≡ done_count old.log.items = ap done_count log ∙ done_count-worker mid ended ∙ ap done_count first
-        ∙ done_count-worker old.log.items taken in
+    ∙ done_count-worker old.log.items taken in
     let half : length mid ≡ length old.log.items + 1 = ap length first ∙ length-append old.log.items (worker_entry taken ∷ []) in
     let entries : length new.log.items ≡ length mid + 1 = ap length log ∙ length-append mid (worker_entry ended ∷ []) in
     let o = room.entries in let p = room.places in let f = room.few in
@@ -134,12 +117,9 @@ at_most_one false = omega arith
 pub wants_taken : (listed : List Action) (i : ℕ) (d : Action) → i < length listed
     → length (flat_map wants_of (take i listed)) + length (wants_of (get_or listed i d)) ≡ length (flat_map wants_of (take (i + 1) listed))
 wants_taken listed i d lt =
-    sym (length-append (flat_map wants_of (take i listed)) (wants_of (get_or listed i d)))
-    ∙ ap length (sym (ap (flat_map wants_of) (take_more listed i d lt) ∙ flat_map-append wants_of (take i listed) (get_or listed i d ∷ [])
-        ∙ ap (λ (ws : List Want). flat_map wants_of (take i listed) ++ ws) (flat_map-cons wants_of (get_or listed i d) []
-        ∙ append-nil (wants_of (get_or listed i d)))))
+    simp (take_more listed i d lt, flat_map-append, flat_map-cons, append-nil, length-append)
 
 -- the entries that all actions want
 pub wants_all : (script : Plan) (listed : List Action) (i : ℕ) → listed ≡ script.actions → length listed ≤ i
     → length (flat_map wants_of (take i listed)) ≡ length (all_wants script)
-wants_all script listed i same all = ap (λ (acts : List Action). length (flat_map wants_of acts)) (take_all i listed all ∙ same)
+wants_all script listed i same all = rw (take_all i listed all, same) refl

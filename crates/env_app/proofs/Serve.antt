@@ -1,18 +1,17 @@
 -- A worker takes the best task and ends it: the lists stand for the past with both entries behind it.
 use Rattle.std.proofs.Common.{◌≡◌, ◌≢◌, ℕ, ◌+◌, ◌<◌, ◌≤◌, Bool, true, false, cond, eqb, leb, List, [], ◌∷◌, ◌++◌, length, get_or, take, drop, set, map, refl, sym, ap, subst, ◌∙◌, inl, inr, Option, Some, None, add-one, arith}
-use Rattle.std.specs.Prelude.{not, ◌&&◌, ◌||◌, filter, slice_get}
-use Rattle.std.specs.List.{list_any, AllByRecursion, All}
+use Rattle.std.specs.Prelude.{not, ◌||◌, filter, slice_get}
+use Rattle.std.specs.List.{AllByRecursion, All}
 use Rattle.std.specs.Option.{option_map_or, IfSome}
 use Rattle.std.proofs.Math.Seq.{split_at}
 use Rattle.std.proofs.lemmas.Bool.Decides.{nat_tests, eqb_tells}
-use Rattle.std.proofs.lemmas.Bool.{ne_eqb}
-use Rattle.std.proofs.lemmas.List.{append-nil, map-append, take-map, drop-map, get_or-map, get_or-take, get_or-drop, length-append, length-map, length-take, length-drop, get_or-set_same, get_or-set_other, length-set}
-use Rattle.std.proofs.lemmas.List.Elements.{filter-append, recursion_from_All}
+use Rattle.std.proofs.Math.Bool.{or-false}
+use Rattle.std.proofs.lemmas.Bool.{ne_eqb, both_ways, not-true, and_parts}
 use Rattle.std.proofs.lemmas.Option.{slice_get-get_or}
+use Rattle.std.proofs.lemmas.List.{append-nil, map-append, take-map, drop-map, get_or-map, get_or-take, get_or-drop, get_or_default, length-map, length-take, length-drop, get_or-set_same, get_or-set_other, length-set}
+use Rattle.std.proofs.lemmas.List.Elements.{recursion_from_All}
 use Rattle.task_traits.specs.Behaviour.{forbids}
 use Rattle.task_traits.specs.declared.traits.Behaviour.{Behaviour}
-use Rattle.task_traits.specs.declared.traits.Behaviour.TheVariants.{ContinueOnShutdown, SkipOnShutdown, BlockShutdown}
-use Rattle.task_traits.specs.declared.phase.Phase.{Phase}
 use Rattle.task_tracker.specs.Tracked.{Tracked, block_share}
 use Rattle.task_base.specs.Plan.{Plan}
 use Rattle.task_base.specs.Steps.{after, is_act}
@@ -21,27 +20,26 @@ use Rattle.task_base.specs.declared.entry.Entry.{Entry}
 use Rattle.task_base.specs.declared.entry.Kind.TheVariants.{Take, End}
 use Rattle.list_laws.specs.Lists.{holds_of}
 use Rattle.task_model.specs.Posts.{Posted, InOrder, posts, is_taken}
-use Rattle.task_model.specs.Phase.{phase_of}
 use Rattle.task_model.specs.Refusal.{effective_at, is_forbidden}
-use Rattle.task_model.specs.Blockers.{is_block}
 use Rattle.task_base.specs.Runners.{sequence_of, is_parallel}
 use Rattle.task_model.specs.Sequences.{may_start}
-use Rattle.task_model.specs.Seats.{Running, running, holding, steps_of, runs_of}
+use Rattle.task_model.specs.Seats.{running, steps_of}
 use Rattle.task_model.specs.Cells.{cell_of}
 use Rattle.hist_model.specs.Script.{is_finished}
 use Rattle.hist_model.specs.Allowed.{may_come, is_allowed}
 use Rattle.list_laws.proofs.Values.{eqb-same}
 use Rattle.list_laws.proofs.Elements.{AllByRecursion-append, AllByRecursion-front, AllByRecursion-back, AllByRecursion-map, AllByRecursion-from_index, slice_get_all}
-use Rattle.list_laws.proofs.Filters.{filter_passes}
+use Rattle.list_laws.proofs.Filters.{filter_passes, filter_none}
 use Rattle.list_laws.proofs.Tests.{list_any_none}
 use Rattle.task_model.proofs.Growth.{posts_push, is_taken_push, is_ended_push, phase_of_push, policy_of_push, running_push, holding_push, acts_done_push, cell_of_push}
 use Rattle.hist_model.proofs.Laws.Legal.{is_legal_push}
-use Rattle.task_script.specs.Wants.{Want, all_wants}
-use Rattle.task_script.specs.WellFormed.{posts_among, starts_among, WellFormed}
+use Rattle.task_script.specs.Wants.{all_wants}
+use Rattle.task_script.specs.WellFormed.{posts_among, WellFormed}
 use Rattle.env_app.specs.declared.engine.Waiting.{Waiting}
 use Rattle.env_app.specs.Engine.{waiting_of, importance_of, ranks_of, IsFirstBest, done_wants, to_take, blocks_shutdown, IsKnown, IsStill, StandsFor}
+use Rattle.env_app.proofs.FirstBest.{rank_at}
 use Rattle.env_app.proofs.Best.{IsFirst, InOrder-without, sequence_below, head_of_still, best_of_still}
-use Rattle.env_app.proofs.Events.{worker_entry, to_take-same, to_take-take, filter_one, own_entries-worker, known-worker, false_is_true}
+use Rattle.env_app.proofs.Events.{worker_entry, to_take-same, to_take-take, filter_one, own_entries-worker, known-worker, blocks_between, either_way}
 
 -- any accepted task, for places past the end
 abbrev nobody : Posted
@@ -52,90 +50,67 @@ abbrev pub at : List Posted → ℕ → Posted
 at ps k = get_or ps k nobody
 
 around : (ps : List Posted) (k : ℕ) → k < length ps → ps ≡ take k ps ++ at ps k ∷ drop (k + 1) ps
-around ps k lt = split_at ps k nobody lt ∙ ap (λ n. take k ps ++ at ps k ∷ drop n ps) (sym (add-one k))
-
-same_default : (ps : List Posted) (i : ℕ) (d e : Posted) → i < length ps → get_or ps i d ≡ get_or ps i e
-same_default ps i d e lt = let a = slice_get-get_or ps i d lt in let b = slice_get-get_or ps i e lt in cc
-
--- the engine's task at a place is the one that may be taken there
-waiting_at : (ps : List Posted) (k : ℕ) (w : Waiting) → k < length ps → w ≡ get_or (map waiting_of ps) k w → w ≡ waiting_of (at ps k)
-waiting_at ps k w lt is = is ∙ get_or-map waiting_of ps k nobody w lt
+around ps k lt = rw add-one (split_at ps k nobody lt)
 
 rank_at_place : (script : Plan) (ps : List Posted) (i : ℕ) → i < length ps
     → get_or (ranks_of script (map waiting_of ps)) i 0 ≡ importance_of script (at ps i).home
 rank_at_place script ps i lt =
-    get_or-map (λ (w : Waiting). importance_of script w.runner) (map waiting_of ps) i (waiting_of nobody) 0 (omega (arith, length-map ps waiting_of))
-    ∙ ap (λ (w : Waiting). importance_of script w.runner) (get_or-map waiting_of ps i nobody (waiting_of nobody) lt)
+    rank_at script (map waiting_of ps) i (waiting_of nobody) (omega (arith, length-map ps waiting_of))
+    ∙ rw (get_or-map waiting_of ps i nobody (waiting_of nobody) lt) refl
 
-known_at : (script : Plan) (past : List Entry) (ps : List Posted) (k : ℕ) → AllByRecursion (IsKnown script past) ps → k < length ps
-    → IsKnown script past (at ps k)
-known_at script past ps k known lt =
-    (AllByRecursion-back (IsKnown script past) (take k ps) (at ps k ∷ drop (k + 1) ps) (subst (AllByRecursion (IsKnown script past)) (around ps k lt) known)).0
+-- what holds of all elements holds of the one at a place
+holds_at : (P : Posted → Type 0) (ps : List Posted) (k : ℕ) → AllByRecursion P ps → k < length ps → P (at ps k)
+holds_at P ps k all lt = rw (slice_get-get_or ps k nobody lt) at (slice_get_all P ps k all)
 
-pub in_range : (script : Plan) (past : List Entry) (queue : List Waiting) (values : List ℕ) (tracked : Tracked) (k : ℕ) (w : Waiting) →
+-- the engine's task at a place of the queue is the accepted task that may be taken there
+record StandsAt (script : Plan) (past : List Entry) (k : ℕ) (w : Waiting) : Type 0 where
+  pub within : k < length (to_take script past)
+  pub is : w ≡ waiting_of (at (to_take script past) k)
+  pub known : IsKnown script past (at (to_take script past) k)
+
+stands_at : {script : Plan} {past : List Entry} {queue : List Waiting} {values : List ℕ} {tracked : Tracked} (k : ℕ) (w : Waiting) →
+    StandsFor script past queue values tracked → k < length queue → w ≡ get_or queue k w → StandsAt script past k w
+stands_at {script} {past} k w stands lt is =
+    let within : k < length (to_take script past) = omega (arith, ap length stands.waits, length-map (to_take script past) waiting_of) in
+    record {
+      within = within;
+      is = is ∙ rw (stands.waits) (get_or-map waiting_of (to_take script past) k nobody w within);
+      known = holds_at (IsKnown script past) (to_take script past) k stands.known within;
+    }
+
+-- the cell of the task at a place of the queue is there
+pub in_range : {script : Plan} {past : List Entry} {queue : List Waiting} {values : List ℕ} {tracked : Tracked} (k : ℕ) (w : Waiting) →
     StandsFor script past queue values tracked → k < length queue → w ≡ get_or queue k w → sequence_of script w.runner w.task < length values
-in_range script past queue values tracked k w stands lt is =
-    let E = to_take script past in
-    let below : k < length E = omega (arith, ap length stands.waits, length-map E waiting_of) in
-    let it : w ≡ waiting_of (at E k) = waiting_at E k w below (is ∙ ap (λ (q : List Waiting). get_or q k w) stands.waits) in
-    let known = known_at script past E k stands.known below in
-    let bound : sequence_of script (at E k).home (at E k).task < length script.runners + length script.tasks =
-    sequence_below (holds_of (λ x. is_parallel x.kind) (slice_get script.runners (at E k).home)) (length script.runners) (length script.tasks) (at E k).home
-        (at E k).task known.runner_declared known.task_declared in
-    omega (arith, bound, stands.cell_count, ap (λ (x : Waiting). sequence_of script x.runner x.task) it)
+in_range {script} {past} k w stands lt is =
+    let there = stands_at k w stands lt is in
+    let p = at (to_take script past) k in
+    rw (there.is) (omega (
+      arith,
+      stands.cell_count,
+      sequence_below (holds_of (λ x. is_parallel x.kind) (slice_get script.runners p.home))
+          (length script.runners) (length script.tasks) p.home p.task there.known.runner_declared there.known.task_declared,
+    ))
 
 -- the phase lets the task at a place of the queue start
-pub may_start_at : (script : Plan) (past : List Entry) (queue : List Waiting) (values : List ℕ) (tracked : Tracked) (k : ℕ) (w : Waiting) →
+pub may_start_at : {script : Plan} {past : List Entry} {queue : List Waiting} {values : List ℕ} {tracked : Tracked} (k : ℕ) (w : Waiting) →
     StandsFor script past queue values tracked → k < length queue → w ≡ get_or queue k w → forbids tracked.phase (effective_at script w.runner 0) ≡ false
 unfolding to_take
-may_start_at script past queue values tracked k w stands lt is =
-    let E = to_take script past in
-    let below : k < length E = omega (arith, ap length stands.waits, length-map E waiting_of) in
-    let it : w ≡ waiting_of (at E k) = waiting_at E k w below (is ∙ ap (λ (q : List Waiting). get_or q k w) stands.waits) in
-    let passes = filter_passes (may_start script past) (posts past) in
-    let here = (AllByRecursion-back (λ p. may_start script past p ≡ true) (take k E) (at E k ∷ drop (k + 1) E)
-    (subst (AllByRecursion (λ p. may_start script past p ≡ true)) (around E k below) passes)).0 in
-    let allowed : is_forbidden script past (at E k) ≡ false = second (not (is_taken past (at E k).task)) (is_forbidden script past (at E k)) here in
-    let now = (known_at script past E k stands.known below).immediate in
-    ap (λ (p : Phase). forbids p (effective_at script w.runner 0)) stands.phase
-    ∙ ap (λ (x : Waiting). forbids (phase_of past) (effective_at script x.runner 0)) it
-    ∙ ap (λ (d : ℕ). forbids (phase_of past) (effective_at script (at E k).home d)) (sym now)
-    ∙ allowed
-  where
-    second : (a b : Bool) → (a && not b) ≡ true → b ≡ false
-    second true true h = absurd cc
-    second true false h = refl
-    second false b h = absurd cc
-
--- a block task among those that wait is counted
-share_of : (p : Posted) (ps : List Posted) (b : Behaviour) → length (cond (is_block b) (p ∷ ps) ps) ≡ length ps + block_share b
-share_of p ps ContinueOnShutdown = omega arith
-share_of p ps SkipOnShutdown = omega arith
-share_of p ps BlockShutdown = omega arith
-
-blocks_between : (script : Plan) (xs : List Posted) (p : Posted) (ys : List Posted) →
-    length (filter (blocks_shutdown script) (xs ++ p ∷ ys)) ≡ length (filter (blocks_shutdown script) (xs ++ ys))
-        + block_share (effective_at script p.home p.delay)
-blocks_between script xs p ys =
-    let block = blocks_shutdown script in
-    let with_it = ap length (filter-append block xs (p ∷ ys)) ∙ length-append (filter block xs) (filter block (p ∷ ys)) in
-    let without = ap length (filter-append block xs ys) ∙ length-append (filter block xs) (filter block ys) in
-    let share = share_of p (filter block ys) (effective_at script p.home p.delay) in
-    omega (arith, with_it, without, share)
+may_start_at {script} {past} k w stands lt is =
+    let there = stands_at k w stands lt is in
+    let here = holds_at (λ p. may_start script past p ≡ true) (to_take script past) k (filter_passes (may_start script past) (posts past)) there.within in
+    let p = at (to_take script past) k in
+    let allowed : is_forbidden script past p ≡ false = not-true (is_forbidden script past p) (and_parts (not (is_taken past p.task)) _ here).1 in
+    rw (stands.phase, there.is) (rw (there.known.immediate) at allowed)
 
 -- the block task at a place of the queue is counted
-pub counted_at : (script : Plan) (past : List Entry) (queue : List Waiting) (values : List ℕ) (tracked : Tracked) (k : ℕ) (w : Waiting) →
+pub counted_at : {script : Plan} {past : List Entry} {queue : List Waiting} {values : List ℕ} {tracked : Tracked} (k : ℕ) (w : Waiting) →
     StandsFor script past queue values tracked → k < length queue → w ≡ get_or queue k w → block_share (effective_at script w.runner 0) ≤ tracked.block_items
-counted_at script past queue values tracked k w stands lt is =
+counted_at {script} {past} k w stands lt is =
+    let there = stands_at k w stands lt is in
     let E = to_take script past in
-    let below : k < length E = omega (arith, ap length stands.waits, length-map E waiting_of) in
-    let it : w ≡ waiting_of (at E k) = waiting_at E k w below (is ∙ ap (λ (q : List Waiting). get_or q k w) stands.waits) in
-    let now = (known_at script past E k stands.known below).immediate in
-    let same : block_share (effective_at script w.runner 0) ≡ block_share (effective_at script (at E k).home (at E k).delay) =
-    ap (λ (x : Waiting). block_share (effective_at script x.runner 0)) it ∙ ap (λ (d : ℕ). block_share (effective_at script (at E k).home d)) (sym now) in
-    let split = ap (λ (ps : List Posted). length (filter (blocks_shutdown script) ps)) (around E k below)
-        ∙ blocks_between script (take k E) (at E k) (drop (k + 1) E) in
-    omega (arith, same, split, stands.blocks)
+    let split = ap (λ (ps : List Posted). length (filter (blocks_shutdown script) ps)) (around E k there.within)
+    ∙ blocks_between script (take k E) (at E k) (drop (k + 1) E) in
+    rw (there.is) (omega (arith, split, stands.blocks, ap (λ (d : ℕ). block_share (effective_at script (at E k).home d)) there.known.immediate))
 
 -- what the tracker knows after a task was started and has ended
 pub record Served (old new : Tracked) (effective : Behaviour) : Type 0 where
@@ -147,11 +122,9 @@ pub record Served (old new : Tracked) (effective : Behaviour) : Type 0 where
 still_served : (past : List Entry) (task runner found left : ℕ) → IsStill past
     → IsStill ((past ++ worker_entry (Take task runner found) ∷ []) ++ worker_entry (End task left) ∷ [])
 still_served past task runner found left still = record {
-  runs = λ seat. running_push mid ended seat ∙ ap (λ (r : Option Running). cond (eqb 1 seat) None r) (running_push past taken seat)
-      ∙ either (eqb 1 seat) (running past seat) (still.runs seat);
-  holds = λ seat. holding_push mid ended seat ∙ same (eqb 1 seat) (holding mid seat) ∙ holding_push past taken seat ∙ same (eqb 1 seat) (holding past seat)
-      ∙ still.holds seat;
-  policy = policy_of_push mid ended ∙ policy_of_push past taken ∙ still.policy;
+  runs = λ seat. rw (running_push mid ended seat, running_push past taken seat, still.runs seat) (either (eqb 1 seat) _);
+  holds = λ seat. rw (holding_push mid ended seat, holding_push past taken seat, still.holds seat) (either_way (eqb 1 seat) _ ∙ either_way (eqb 1 seat) None);
+  policy = rw (policy_of_push mid ended, policy_of_push past taken) still.policy;
   immediate = subst (AllByRecursion (λ p. p.delay ≡ 0)) (sym (posts_push mid ended ∙ append-nil (posts mid) ∙ posts_push past taken ∙ append-nil (posts past)))
       still.immediate;
 }
@@ -165,59 +138,41 @@ still_served past task runner found left still = record {
     mid : List Entry
     mid = past ++ taken ∷ []
 
-    either : (b : Bool) (r : Option Running) → r ≡ None → cond b None (cond b (Some (record { task = task; home = runner; found = found; is_main = false })) r)
-        ≡ None
-    either true r none = refl
-    either false r none = none
-
-    same : {A : Type 0} (b : Bool) (x : A) → cond b x x ≡ x
-    same true x = refl
-    same false x = refl
-
-no_act_among : (steps : List Step) → list_any is_act steps ≡ false → filter is_act steps ≡ []
-no_act_among [] h = refl
-no_act_among (step ∷ steps) h = either (is_act step) (list_any is_act steps) (filter is_act steps) h (no_act_among steps)
-  where
-    either : (b c : Bool) (rest : List Step) → (b || c) ≡ false → (c ≡ false → rest ≡ []) → cond b (step ∷ rest) rest ≡ []
-    either true c rest h none = absurd cc
-    either false c rest h none = none h
+    either : {A : Type 0} (b : Bool) (x : A) → cond b None (cond b (Some x) None) ≡ None
+    either true x = refl
+    either false x = refl
 
 -- no step of a task makes an entry
 no_acts : (script : Plan) (task : ℕ) → WellFormed script → filter is_act (steps_of script task) ≡ []
-no_acts script task formed = found (slice_get script.tasks task) (slice_get_all (λ steps. list_any is_act steps ≡ false) script.tasks task compute)
+no_acts script task formed = found (slice_get script.tasks task) (slice_get_all (All (λ step. is_act step ≡ false)) script.tasks task
+    (recursion_from_All (All (λ step. is_act step ≡ false)) script.tasks formed.computes))
   where
-    compute : AllByRecursion (λ steps. list_any is_act steps ≡ false) script.tasks
-    compute = AllByRecursion-map (λ steps. All (λ step. is_act step ≡ false) steps) (λ steps. list_any is_act steps ≡ false) script.tasks
-        (λ steps h. list_any_none is_act steps (recursion_from_All (λ step. is_act step ≡ false) steps h))
-            (recursion_from_All (λ steps. All (λ step. is_act step ≡ false) steps) script.tasks formed.computes)
-
-    found : (o : Option (List Step)) → IfSome o (λ steps. list_any is_act steps ≡ false) → filter is_act (option_map_or (λ steps. steps) o []) ≡ []
+    found : (o : Option (List Step)) → IfSome o (All (λ step. is_act step ≡ false)) → filter is_act (option_map_or (λ steps. steps) o []) ≡ []
     found None h = refl
-    found (Some steps) h = no_act_among steps h
+    found (Some steps) h = filter_none is_act steps (recursion_from_All (λ step. is_act step ≡ false) steps h)
 
 -- the same of the tasks that may be taken: p is the best, between xs and ys
 served_between : (script : Plan) (past : List Entry) (values : List ℕ) (old new : Tracked) (xs : List Posted) (p : Posted) (ys : List Posted) (found left : ℕ) →
     WellFormed script → StandsFor script past (map waiting_of (xs ++ p ∷ ys)) values old → to_take script past ≡ xs ++ p ∷ ys → is_finished script past ≡ false
-        → Served old new (effective_at script p.home 0) →
+    → Served old new (effective_at script p.home 0) →
     AllByRecursion (λ x. importance_of script x.home < importance_of script p.home) xs →
     AllByRecursion (λ y. importance_of script y.home ≤ importance_of script p.home) ys →
     sequence_of script p.home p.task < length values →
     found ≡ get_or values (sequence_of script p.home p.task) 0 → left ≡ after (steps_of script p.task) found →
     StandsFor script ((past ++ worker_entry (Take p.task p.home found) ∷ []) ++ worker_entry (End p.task left) ∷ []) (map waiting_of (xs ++ ys))
-        (set values (sequence_of script p.home p.task) left) new
+    (set values (sequence_of script p.home p.task) left) new
 unfolding may_come
 served_between script past values old new xs p ys found left formed stands is next tracked lower upper within found_is left_is = record {
   legal = is_legal_push script mid ended ∙ rw (is_legal_push script past taken, stands.legal, take_allowed, end_allowed) refl;
   still = still_served past p.task p.home found left stands.still;
-  ended = λ t. rw (is_ended_push mid ended t, is_ended_push past taken t, is_taken_push mid ended t, is_taken_push past taken t, stands.ended t)
-      (sides (is_taken past t) (eqb p.task t));
+  ended = λ t. simp (is_ended_push mid ended t, is_ended_push past taken t, is_taken_push mid ended t, is_taken_push past taken t, stands.ended t, or-false);
   waits = ap (map waiting_of) (sym rest);
   in_order = rw (rest) (InOrder-without xs p ys order);
   known = rw (rest) (known-worker script mid (End p.task left) (xs ++ ys) (known-worker script past (Take p.task p.home found) (xs ++ ys) known_rest));
-  fresh = λ t h. is_taken_push mid ended t ∙ ap (λ (b : Bool). b || false) (is_taken_push past taken t) ∙ untaken t (same_done t h);
+  fresh = λ t h. rw (is_taken_push mid ended t, is_taken_push past taken t) (untaken t (rw same_wants at h));
   cells = λ u lt. stored u (omega (arith, lt, length-set values s left)) ∙ sym (cell_now u);
   cell_count = length-set values s left ∙ stands.cell_count;
-  phase = tracked.phase ∙ stands.phase ∙ sym (phase_of_push mid ended ∙ phase_of_push past taken);
+  phase = rw (phase_of_push mid ended, phase_of_push past taken) (tracked.phase ∙ stands.phase);
   blocks = omega (
     arith,
     ap (λ (ps : List Posted). length (filter (blocks_shutdown script) ps)) rest,
@@ -228,7 +183,7 @@ served_between script past values old new xs p ys found left formed stands is ne
     ap (λ (d : ℕ). block_share (effective_at script p.home d)) mine.immediate,
   );
   no_skips = tracked.skips ∙ stands.no_skips;
-  not_started = λ h. phase_of_push mid ended ∙ phase_of_push past taken ∙ stands.not_started (ap starts_among (sym same_wants) ∙ h);
+  not_started = λ h. rw (phase_of_push mid ended, phase_of_push past taken) (stands.not_started (rw same_wants at h));
 }
   where
     s : ℕ
@@ -301,29 +256,17 @@ served_between script past values old new xs p ys found left formed stands is ne
       eqb-same (after (steps_of script p.task) found),
     ) refl
 
-    sides : (a b : Bool) → ((a || false) || b) ≡ ((a || b) || false)
-    sides true b = refl
-    sides false true = refl
-    sides false false = refl
-
     same_wants : done_wants script (mid ++ ended ∷ []) ≡ done_wants script past
     same_wants = ap (λ (own : List Entry). take (length own) (all_wants script)) (own_entries-worker mid (End p.task left)
         ∙ own_entries-worker past (Take p.task p.home found))
 
-    same_done : (t : ℕ) → posts_among (done_wants script (mid ++ ended ∷ [])) t ≡ false → posts_among (done_wants script past) t ≡ false
-    same_done t h = ap (λ (ws : List Want). posts_among ws t) (sym same_wants) ∙ h
-
     untaken : (t : ℕ) → posts_among (done_wants script past) t ≡ false → ((is_taken past t || eqb p.task t) || false) ≡ false
     untaken t h =
-        let other : p.task ≢ t = λ same. false_is_true (posts_among (done_wants script past) t) (ap (posts_among (done_wants script past)) (sym same)
-            ∙ mine.by_driver) h in
+        let other : p.task ≢ t = λ same. both_ways _ h (rw same at mine.by_driver) in
         rw (stands.fresh t h, ne_eqb p.task t other) refl
 
     cell_now : (u : ℕ) → cell_of script (mid ++ ended ∷ []) u ≡ cond (eqb s u) left (cell_of script past u)
-    cell_now u =
-        cell_of_push script mid ended u
-        ∙ ap (λ (r : Option Running). cond (holds_of (runs_of script u) r) left (cell_of script mid u)) running_mid
-        ∙ ap (λ (v : ℕ). cond (eqb s u) left v) (cell_of_push script past taken u)
+    cell_now u = rw (cell_of_push script mid ended u, running_mid, cell_of_push script past taken u) refl
 
     stored : (u : ℕ) → u < length values → get_or (set values s left) u 0 ≡ cond (eqb s u) left (cell_of script past u)
     stored u lt = elim (eqb_tells s u) [
@@ -333,49 +276,40 @@ served_between script past values old new xs p ys found left formed stands is ne
           ∙ ap (λ (b : Bool). cond b left (cell_of script past u)) (sym there.0)
     ]
 
-pub served : (script : Plan) (past : List Entry) (queue : List Waiting) (values : List ℕ) (old new : Tracked) (k : ℕ) (w : Waiting) (found left : ℕ) →
+-- a task that is best is taken and ended
+pub served : {script : Plan} {past : List Entry} {queue : List Waiting} {values : List ℕ} {old new : Tracked} (k : ℕ) (w : Waiting) (found left : ℕ) →
     WellFormed script → StandsFor script past queue values old → is_finished script past ≡ false → Served old new (effective_at script w.runner 0) →
     IsFirstBest (ranks_of script queue) (length queue) k → w ≡ get_or queue k w →
     found ≡ get_or values (sequence_of script w.runner w.task) 0 → left ≡ after (steps_of script w.task) found →
     StandsFor script ((past ++ worker_entry (Take w.task w.runner found) ∷ []) ++ worker_entry (End w.task left) ∷ []) (take k queue ++ drop (k + 1) queue)
-        (set values (sequence_of script w.runner w.task) left) new
-served script past queue values old new k w found left formed stands next tracked best is found_is left_is =
+    (set values (sequence_of script w.runner w.task) left) new
+served {script} {past} {queue} {values} {old} {new} k w found left formed stands next tracked best is found_is left_is =
     let E = to_take script past in
     let same_length : length queue ≡ length E = ap length stands.waits ∙ length-map E waiting_of in
-    let below : k < length E = omega (arith, best.within) in
+    let there = stands_at k w stands best.within is in
+    let below : k < length E = there.within in
     let p = at E k in
-    let it : w ≡ waiting_of p = waiting_at E k w below (is ∙ ap (λ (q : List Waiting). get_or q k w) stands.waits) in
+    let it : w ≡ waiting_of p = there.is in
     let split : E ≡ take k E ++ p ∷ drop (k + 1) E = around E k below in
     let queue_is : queue ≡ map waiting_of (take k E ++ p ∷ drop (k + 1) E) = stands.waits ∙ ap (map waiting_of) split in
-    let rank : (i : ℕ) → i < length E → get_or (ranks_of script queue) i 0
-        ≡ importance_of script (at E i).home = λ i lt. ap (λ (q : List Waiting). get_or (ranks_of script q) i 0) stands.waits ∙ rank_at_place script E i lt in
+    let rank : (i : ℕ) → i < length E → get_or (ranks_of script queue) i 0 ≡ importance_of script (at E i).home =
+    λ i lt. rw stands.waits (rank_at_place script E i lt) in
     let lower : AllByRecursion (λ x. importance_of script x.home < importance_of script p.home) (take k E) =
     AllByRecursion-from_index (λ x. importance_of script x.home < importance_of script p.home) (take k E) (λ i d lt.
     let i_below : i < k = omega (arith, length-take k E) in
     let inside : i < length E = omega (arith, below) in
-    let e : get_or (take k E) i d ≡ at E i = get_or-take k E i d i_below ∙ same_default E i d nobody inside in
+    let e : get_or (take k E) i d ≡ at E i = get_or-take k E i d i_below ∙ get_or_default E i d nobody inside in
     let before = best.lower i i_below in
     rw (e, sym (rank i inside), sym (rank k below)) before) in
     let upper : AllByRecursion (λ y. importance_of script y.home ≤ importance_of script p.home) (drop (k + 1) E) =
     AllByRecursion-from_index (λ y. importance_of script y.home ≤ importance_of script p.home) (drop (k + 1) E) (λ i d lt.
     let inside : k + 1 + i < length E = omega (arith, length-drop (k + 1) E) in
-    let e : get_or (drop (k + 1) E) i d ≡ at E (k + 1 + i) = get_or-drop (k + 1) E i d ∙ same_default E (k + 1 + i) d nobody inside in
+    let e : get_or (drop (k + 1) E) i d ≡ at E (k + 1 + i) = get_or-drop (k + 1) E i d ∙ get_or_default E (k + 1 + i) d nobody inside in
     let behind = best.no_higher (k + 1 + i) (omega (arith, same_length)) in
     rw (e, sym (rank (k + 1 + i) inside), sym (rank k below)) behind) in
-    let within : sequence_of script p.home p.task < length values =
-    subst (λ (x : Waiting). sequence_of script x.runner x.task < length values) it (in_range script past queue values old k w stands best.within is) in
+    let within = in_range k w stands best.within is in
     let rest_is : map waiting_of (take k E ++ drop (k + 1) E) ≡ take k queue ++ drop (k + 1) queue =
-    map-append waiting_of (take k E) (drop (k + 1) E)
-    ∙ ap (λ (front : List Waiting). front ++ map waiting_of (drop (k + 1) E)) (sym (take-map waiting_of k E))
-    ∙ ap (λ (back : List Waiting). take k (map waiting_of E) ++ back) (sym (drop-map waiting_of (k + 1) E))
-    ∙ ap (λ (q : List Waiting). take k q ++ drop (k + 1) q) (sym stands.waits) in
-    let found_there : found ≡ get_or values (sequence_of script p.home p.task) 0 = found_is
-        ∙ ap (λ (x : Waiting). get_or values (sequence_of script x.runner x.task) 0) it in
-    let left_there : left ≡ after (steps_of script p.task) found = left_is ∙ ap (λ (x : Waiting). after (steps_of script x.task) found) it in
-    let tracked_there = subst (λ (x : Waiting). Served old new (effective_at script x.runner 0)) it tracked in
-    let there = served_between script past values old new (take k E) p (drop (k + 1) E) found left formed
-        (subst (λ (q : List Waiting). StandsFor script past q values old) queue_is stands) split next tracked_there lower upper within found_there left_there in
-    let moved = subst (λ (q : List Waiting). StandsFor script ((past ++ worker_entry (Take p.task p.home found) ∷ []) ++ worker_entry (End p.task left) ∷ []) q
-        (set values (sequence_of script p.home p.task) left) new) rest_is there in
-    subst (λ (x : Waiting). StandsFor script ((past ++ worker_entry (Take x.task x.runner found) ∷ []) ++ worker_entry (End x.task left) ∷ [])
-        (take k queue ++ drop (k + 1) queue) (set values (sequence_of script x.runner x.task) left) new) (sym it) moved
+    rw (map-append waiting_of (take k E) (drop (k + 1) E), stands.waits, take-map waiting_of k E, drop-map waiting_of (k + 1) E) refl in
+    let after_both = served_between script past values old new (take k E) p (drop (k + 1) E) found left formed (rw queue_is at stands) split next
+    (rw it at tracked) lower upper (rw it at within) (rw it at found_is) (rw it at left_is) in
+    rw (it, ← rest_is) after_both

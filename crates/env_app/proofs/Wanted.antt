@@ -1,5 +1,5 @@
 -- The entry that the script wants next, by how many the driver has made.
-use Rattle.std.proofs.Common.{◌≡◌, ◌≤◌, Bool, true, false, List, [], ◌∷◌, length, refl, ap, subst, Option, Some, None, arith}
+use Rattle.std.proofs.Common.{◌≡◌, ◌≤◌, Bool, true, false, List, [], ◌∷◌, length, refl, ap, Option, Some, None, arith}
 use Rattle.std.specs.Prelude.{slice_get, is_none}
 use Rattle.std.specs.List.{flat_map, AllByRecursion}
 use Rattle.std.proofs.lemmas.List.Elements.{recursion_from_All}
@@ -12,7 +12,7 @@ use Rattle.task_base.specs.declared.script.Action.TheVariants.{Post, Flush, Shut
 use Rattle.list_laws.specs.Lists.{holds_of}
 use Rattle.list_laws.proofs.Values.{eqb-same}
 use Rattle.hist_model.specs.Views.{own_entries}
-use Rattle.hist_model.specs.Script.{Current, current, current_from, wants, is_wanted, is_finished}
+use Rattle.hist_model.specs.Script.{Current, current, current_from, wants, is_wanted, is_finished, IsFinished}
 use Rattle.hist_model.specs.Allowed.{by_script}
 use Rattle.task_script.specs.Wants.{Want, WantsPost, WantsIdle, WantsShutdown, WantsDone, wants_of, all_wants}
 use Rattle.task_script.specs.WellFormed.{is_form_action, WellFormed}
@@ -40,18 +40,18 @@ wanted_from : (own : List Entry) (ok : Bool) (want : Want) (listed : List Action
 wanted_from own ok want [] left plain next = absurd cc
 wanted_from own ok want (Post t r d ∷ listed) [] plain next =
     let same : WantsPost t r d ≡ want = cc in
-    subst (λ (w : Want). accepts own (kind_of w ok) (Post t r d ∷ listed) [] ≡ true) same (rw (eqb-same t, eqb-same r, eqb-same d) refl)
+    rw (← same, eqb-same t, eqb-same r, eqb-same d) refl
 wanted_from own ok want (Post t r d ∷ listed) (e ∷ left) plain next = wanted_from own ok want listed left plain.1 next
 wanted_from own ok want (Flush ∷ listed) [] plain next =
     let same : WantsIdle ≡ want = cc in
-    subst (λ (w : Want). accepts own (kind_of w ok) (Flush ∷ listed) [] ≡ true) same refl
+    rw (← same) refl
 wanted_from own ok want (Flush ∷ listed) (e ∷ left) plain next = wanted_from own ok want listed left plain.1 next
 wanted_from own ok want (Shutdown ∷ listed) [] plain next =
     let same : WantsShutdown ≡ want = cc in
-    subst (λ (w : Want). accepts own (kind_of w ok) (Shutdown ∷ listed) [] ≡ true) same refl
+    rw (← same) refl
 wanted_from own ok want (Shutdown ∷ listed) (e ∷ []) plain next =
     let same : WantsDone ≡ want = cc in
-    subst (λ (w : Want). accepts own (kind_of w ok) (Shutdown ∷ listed) (e ∷ []) ≡ true) same refl
+    rw (← same) refl
 wanted_from own ok want (Shutdown ∷ listed) (e ∷ f ∷ left) plain next = wanted_from own ok want listed left plain.1 next
 wanted_from own ok want (action ∷ listed) left plain next = let not_plain = plain.0 in absurd cc
 
@@ -90,6 +90,6 @@ finished_from (Shutdown ∷ listed) (e ∷ f ∷ left) plain all = finished_from
 finished_from (action ∷ listed) left plain all = let not_plain = plain.0 in absurd cc
 
 -- where all wanted entries are made, the script is finished
-pub finished : (script : Plan) (past : List Entry) → WellFormed script → length (all_wants script) ≤ done_count past → is_finished script past ≡ true
+pub finished : (script : Plan) (past : List Entry) → WellFormed script → length (all_wants script) ≤ done_count past → IsFinished script past
 unfolding is_finished current
 finished script past formed all = ap is_none (finished_from script.actions (own_entries 0 past) (of_form script formed) all)

@@ -17,7 +17,7 @@ use Rattle.task_model.specs.Cells.{cell_of}
 use Rattle.task_base.specs.Groups.{importance}
 use Rattle.task_model.specs.Capacity.{priority_of}
 use Rattle.hist_model.specs.Views.{own_entries}
-use Rattle.hist_model.specs.Legal.{is_legal}
+use Rattle.hist_model.specs.Legal.{IsLegal}
 use Rattle.task_script.specs.Wants.{Want, all_wants}
 use Rattle.task_script.specs.WellFormed.{posts_among, starts_among}
 use Rattle.env_app.specs.declared.engine.Engine.{Engine}
@@ -69,7 +69,7 @@ pub record IsStill (past : List Entry) : Type 0 where
 -- the past is legal and nothing runs; the queue is what may be taken, in the order of its posts, the values are
 -- the cells, and the tracker knows the phase and what blocks shutdown
 pub record StandsFor (script : Plan) (past : List Entry) (queue : List Waiting) (values : List ℕ) (tracked : Tracked) : Type 0 where
-  pub legal : is_legal script past ≡ true
+  pub legal : IsLegal script past
   pub still : IsStill past
   pub ended : (t : ℕ) → is_ended past t ≡ is_taken past t
   pub waits : queue ≡ map waiting_of (to_take script past)

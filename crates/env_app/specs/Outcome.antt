@@ -1,7 +1,10 @@
 -- What a run did, by what it read and what it wrote.
-use Rattle.std.specs.Prelude.{◌≡◌, ◌≢◌, ◌↔◌, ◌⊎◌, ◌<◌, ◌≤◌, ℕ, Bool, true, false, ◌==◌, if◌then◌else◌, List, [], ◌∷◌, length, take, codes, Option, Some, None, IfSome, Result, Ok, Err, String, string_bytes}
+use Rattle.std.specs.Prelude.{alloc_error, ◌≡◌, ◌≢◌, ◌↔◌, ◌⊎◌, ◌<◌, ◌≤◌, ℕ, Bool, true, false, ◌==◌, List, [], ◌∷◌, ◌++◌, length, take, filter, codes, Option, Some, None, IfSome, Result, Ok, Err, String, string_bytes}
+use Rattle.std.specs.List.{flat_map}
 use Rattle.std.specs.declared.alloc.Global.{Global}
 use Rattle.task_base.specs.Plan.{Plan}
+use Rattle.task_base.specs.Fault.{status_of, note_of}
+use Rattle.task_base.specs.declared.limits.TheConstants.{MOST_BYTES}
 use Rattle.task_base.specs.declared.entry.Entry.{Entry}
 use Rattle.task_base.specs.declared.fault.Fault.{Fault}
 use Rattle.task_base.specs.declared.fault.Fault.TheVariants.{NotLegal, BadWords, BadScript, ReadFault, WriteFault, NoMemory, TooLarge}
@@ -57,19 +60,23 @@ OfBytes source P = (bytes : List ℕ) → source.before ≡ Some bytes → P byt
 
 -- the bytes are within the limit of the input
 abbrev pub IsWithin : List ℕ → Type 0
-IsWithin bytes = length bytes ≤ 8388608
+IsWithin bytes = length bytes ≤ MOST_BYTES
 
 -- more bytes were taken than the limit
 abbrev pub TookMore : Ends → Type 0
-TookMore source = (taken : List ℕ) × Gives source.before taken source.after × (8388608 < length taken)
+TookMore source = (taken : List ℕ) × Gives source.before taken source.after × (MOST_BYTES < length taken)
 
 -- no more bytes were taken than the limit
 abbrev pub TookWithin : Ends → Type 0
-TookWithin source = (taken : List ℕ) × Gives source.before taken source.after × (length taken ≤ 8388608)
+TookWithin source = (taken : List ℕ) × Gives source.before taken source.after × (length taken ≤ MOST_BYTES)
 
 -- the side failed in the call
 abbrev pub Failed : Ends → Type 0
 Failed side = Rose side.faults_before side.faults_after
+
+-- the side did not fail once in the call
+abbrev pub IsSteady : Ends → Type 0
+IsSteady side = side.faults_after ≡ side.faults_before
 
 -- what the answer of reading a script says
 abbrev pub LoadsScript : Ends → Result Plan Fault → Type 0
@@ -77,8 +84,8 @@ LoadsScript source (Ok script) = IsReadToEnd source × WellFormed script
     × OfBytes source (λ bytes. IsWithin bytes × Reads bytes script × (form_read bytes ≡ Some script))
 LoadsScript source (Err (BadScript line reason)) = IsReadToEnd source × OfBytes source (λ bytes. IsWithin bytes × (form_read bytes ≡ None))
 LoadsScript source (Err ReadFault) = Failed source
-LoadsScript source (Err TooLarge) = OfBytes source (λ bytes. 8388608 < length bytes)
-LoadsScript source (Err NoMemory) = Unit {0}
+LoadsScript source (Err TooLarge) = OfBytes source (λ bytes. MOST_BYTES < length bytes)
+LoadsScript source (Err (NoMemory error)) = Unit {0}
 LoadsScript source (Err (NotLegal line)) = ⊥
 LoadsScript source (Err BadWords) = ⊥
 LoadsScript source (Err WriteFault) = ⊥
@@ -95,8 +102,8 @@ RunsTo accepted source sink (Err WriteFault) = (accepted ≡ true) × IsReadToEn
 RunsTo accepted source sink (Err (BadScript line reason)) = (accepted ≡ true) × IsReadToEnd source
     × OfBytes source (λ bytes. IsWithin bytes × (form_read bytes ≡ None))
 RunsTo accepted source sink (Err ReadFault) = (accepted ≡ true) × Failed source
-RunsTo accepted source sink (Err TooLarge) = (accepted ≡ true) × OfBytes source (λ bytes. 8388608 < length bytes)
-RunsTo accepted source sink (Err NoMemory) = accepted ≡ true
+RunsTo accepted source sink (Err TooLarge) = (accepted ≡ true) × OfBytes source (λ bytes. MOST_BYTES < length bytes)
+RunsTo accepted source sink (Err (NoMemory error)) = accepted ≡ true
 RunsTo accepted source sink (Err (NotLegal line)) = ⊥
 
 -- each status has its cause
@@ -117,24 +124,28 @@ pub record HasCause (accepted : Bool) (source sink : Ends) (status : ℕ) : Type
   pub read_fault : status ≡ 4 → Failed source
   -- 5 comes only where the sink failed, and a front of the text was written
   pub write_fault : status ≡ 5 → Failed sink × Wrote WroteFront source sink
+  -- under every status but 4 the source did not fail once, and under every one but 5 the sink did not
+  pub source_steady : status ≢ 4 → IsSteady source
+  pub sink_steady : status ≢ 5 → IsSteady sink
   -- 7 comes only where more bytes came than the limit
-  pub too_large : status ≡ 7 → OfBytes source (λ bytes. 8388608 < length bytes)
+  pub too_large : status ≡ 7 → OfBytes source (λ bytes. MOST_BYTES < length bytes)
   -- exactly where more bytes were taken than the limit
   pub took_more : status ≡ 7 → TookMore source
   pub took_within : status ≢ 7 → TookWithin source
   -- and where more came, nothing but 7, a failed source and want of memory comes
-  pub large : accepted ≡ true → OfBytes source (λ bytes. 8388608 < length bytes → (status ≡ 4) ⊎ (status ≡ 6) ⊎ (status ≡ 7))
+  pub large : accepted ≡ true → OfBytes source (λ bytes. MOST_BYTES < length bytes → (status ≡ 4) ⊎ (status ≡ 6) ⊎ (status ≡ 7))
   -- good input gives no fault: where neither side fails, a script of that form is run, or memory is wanting
   pub good_input : accepted ≡ true → OfBytes source (λ bytes. (script : Plan) → IsWithin bytes → form_read bytes ≡ Some script → ¬ Failed source
       → ¬ Failed sink → (status ≡ 0) ⊎ (status ≡ 6))
 
--- the note that goes with a status, with its line feed
-abbrev pub note_of : ℕ → List ℕ
-note_of status =
-    if status == 2 then codes "bad words\n"
-    else (if status == 3 then codes "bad script\n"
-    else (if status == 4 then codes "read fault\n"
-    else (if status == 5 then codes "write fault\n"
-    else (if status == 6 then codes "no memory\n"
-    else (if status == 7 then codes "too large\n"
-    else [])))))
+-- the note of a fault, with its line feed
+abbrev pub note_line : Fault → List ℕ
+note_line fault = note_of fault ++ codes "\n"
+
+-- the faults that a run may end with
+abbrev pub run_faults : List Fault
+run_faults = BadWords ∷ BadScript 0 0 ∷ ReadFault ∷ WriteFault ∷ NoMemory alloc_error ∷ TooLarge ∷ []
+
+-- the note that goes with a status, with its line feed: that of the fault that ends a run with it, and nothing where none does
+abbrev pub note_of_status : ℕ → List ℕ
+note_of_status status = flat_map note_line (filter (λ fault. status_of fault == status) run_faults)

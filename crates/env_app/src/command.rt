@@ -1,14 +1,14 @@
 ghost use Rattle.std.specs.Prelude.{◌≡◌, ◌≢◌, ◌⊎◌, ◌↔◌, ◌<◌, ◌≤◌, ℕ, List, [], true, false, length, take, Some, None, Err, IfOk, IfErr, IfSome, OnOk, OnErr};
 ghost use Rattle.env_io.specs.Bytes.{Gains, Rose};
-ghost use Rattle.task_base.specs.Fault.{status_of};
 ghost use Rattle.script_model.specs.Grammar.{Reads};
 ghost use Rattle.task_script.specs.Form.{form_read};
-ghost use Rattle.env_app.specs.Outcome.{ends, accepts_run, HasRun, WroteAll, WroteFront, TookMore, TookWithin, LoadsScript, RunsTo, HasCause, note_of};
+ghost use Rattle.env_app.specs.Outcome.{ends, accepts_run, HasRun, WroteAll, WroteFront, TookMore, TookWithin, LoadsScript, RunsTo, HasCause, note_line, note_of_status};
 
 use crate::engine::run_script;
-use crate::input::{InputFault, MOST_BYTES, read_input};
-use env_io::{Clock, Gate, Sink, Source};
-use run_log::{put_all, write_log};
+use crate::input::{InputFault, read_input};
+use arrayvec::ArrayVec;
+use env_io::{Clock, Gate, Sink, Source, put_all};
+use run_log::write_log;
 use std::alloc::Global;
 use std::sync::Wait;
 use std::thread::Threads;
@@ -30,17 +30,18 @@ fn load<S: Source>(alloc: Global, source: &mut S) -> Result<Script, Fault>
     ensures outcome { LoadsScript (ends (S.left source.old) (S.left source.new) (S.faults source.old) (S.faults source.new)) result }
     ensures took_more { result ≡ Err Fault.TooLarge → TookMore (ends (S.left source.old) (S.left source.new) (S.faults source.old) (S.faults source.new)) }
     ensures took_within { result ≢ Err Fault.TooLarge → TookWithin (ends (S.left source.old) (S.left source.new) (S.faults source.old) (S.faults source.new)) }
+    ensures steady { result ≢ Err Fault.ReadFault → S.faults source.new ≡ S.faults source.old }
 {
     let bytes = match read_input(alloc, source) {
         Ok(bytes) => bytes,
         Err(InputFault::Read) => return Err(Fault::ReadFault),
-        Err(InputFault::Memory) => return Err(Fault::NoMemory),
+        Err(InputFault::Memory(error)) => return Err(Fault::NoMemory(error)),
         Err(InputFault::TooLarge) => return Err(Fault::TooLarge),
     };
     match read_script(alloc, &bytes) {
         Ok(script) => Ok(script),
         Err(ScriptFault::Bad) => Err(Fault::BadScript { line: 0, reason: 0 }),
-        Err(ScriptFault::Memory) => Err(Fault::NoMemory),
+        Err(ScriptFault::Memory(error)) => Err(Fault::NoMemory(error)),
     }
 }
 
@@ -59,13 +60,16 @@ fn run<S: Source, K: Sink, G: Gate>(
     ensures took_more { result ≡ Err Fault.TooLarge → TookMore (ends (S.left source.old) (S.left source.new) (S.faults source.old) (S.faults source.new)) }
     ensures took_within { result ≢ Err Fault.TooLarge → TookWithin (ends (S.left source.old) (S.left source.new) (S.faults source.old) (S.faults source.new)) }
     ensures source_kept { result ≡ Err Fault.BadWords → source.new ≡ source.old }
+    ensures source_steady { result ≢ Err Fault.ReadFault → S.faults source.new ≡ S.faults source.old }
+    ensures sink_steady { result ≢ Err Fault.WriteFault → K.faults sink.new ≡ K.faults sink.old }
 {
     if !asks_for_run(words) {
         return Err(Fault::BadWords);
     }
     let script = load(alloc, source)?;
-    let Ok(log) = run_script(alloc, &script, gate) else {
-        return Err(Fault::NoMemory);
+    let log = match run_script(alloc, &script, gate) {
+        Ok(log) => log,
+        Err(error) => return Err(Fault::NoMemory(error)),
     };
     match write_log(sink, &log) {
         Ok(()) => Ok(()),
@@ -73,27 +77,25 @@ fn run<S: Source, K: Sink, G: Gate>(
     }
 }
 
-/// The note that goes with a fault, with its line feed.
-fn note(fault: &Fault) -> &'static [u8]
-    ensures { result.now ≡ note_of (status_of fault.now) }
+/// The bytes of a note's line. The longest one has 12.
+type NoteLine = ArrayVec<u8, 32>;
+
+/// The note of a fault, with its line feed. It takes no memory.
+fn note_line(fault: &Fault) -> NoteLine
+    ensures { result.items ≡ note_line fault.now }
 {
-    match fault {
-        Fault::NotLegal { .. } => b"",
-        Fault::BadWords => b"bad words\n",
-        Fault::BadScript { .. } => b"bad script\n",
-        Fault::ReadFault => b"read fault\n",
-        Fault::WriteFault => b"write fault\n",
-        Fault::NoMemory => b"no memory\n",
-        Fault::TooLarge => b"too large\n",
-    }
+    let mut line = NoteLine::new();
+    let _fits = line.try_extend_from_slice(fault.note().as_bytes());
+    line.push(b'\n');
+    line
 }
 
 /// Puts the note of a fault, as far as the notes take it.
 fn tell<N: Sink>(notes: &mut N, fault: &Fault)
-    ensures written { Rose (N.faults notes.old) (N.faults notes.new) ⊎ Gains (N.holds notes.old) (note_of (status_of fault.now)) (N.holds notes.new) }
-    ensures front { WroteFront (N.holds notes.old) (N.holds notes.new) (note_of (status_of fault.now)) }
+    ensures written { Rose (N.faults notes.old) (N.faults notes.new) ⊎ Gains (N.holds notes.old) (note_line fault.now) (N.holds notes.new) }
+    ensures front { WroteFront (N.holds notes.old) (N.holds notes.new) (note_line fault.now) }
 {
-    let _ = put_all(notes, note(fault));
+    let _ = put_all(notes, &note_line(fault));
 }
 
 /// Does what the words ask for, and answers the exit status (this project's own rule).
@@ -109,7 +111,7 @@ pub fn run_words<R: Threads + Wait + Sync, S: Source, K: Sink, N: Sink, C: Clock
     source: &mut S,
     sink: &mut K,
     notes: &mut N,
-    _clock: &mut C,
+    clock: &mut C,
     gate: &G,
 ) -> u8
     // The run theorem: the bytes that came are a script, and what was added to the sink is the text of one
@@ -126,9 +128,12 @@ pub fn run_words<R: Threads + Wait + Sync, S: Source, K: Sink, N: Sink, C: Clock
     ensures nothing_written { result ≢ 0 → result ≢ 5 → sink.new ≡ sink.old }
     ensures nothing_taken { result ≡ 2 → source.new ≡ source.old }
 
+    // The clock is as it was.
+    ensures clock { clock.new ≡ clock.old }
+
     // The notes get the status's note, where they do not fail, and else a front of it.
-    ensures note { Rose (N.faults notes.old) (N.faults notes.new) ⊎ Gains (N.holds notes.old) (note_of result) (N.holds notes.new) }
-    ensures note_front { WroteFront (N.holds notes.old) (N.holds notes.new) (note_of result) }
+    ensures note { Rose (N.faults notes.old) (N.faults notes.new) ⊎ Gains (N.holds notes.old) (note_of_status result) (N.holds notes.new) }
+    ensures note_front { WroteFront (N.holds notes.old) (N.holds notes.new) (note_of_status result) }
 {
     match run(alloc, words, source, sink, gate) {
         Ok(()) => 0,

@@ -2,10 +2,8 @@ ghost use Rattle.std.specs.Prelude.{◌≡◌, ◌≢◌, ◌<◌, ◌≤◌, �
 ghost use Rattle.env_io.specs.Bytes.{Gives, Rose};
 
 use env_io::Source;
-use std::alloc::Global;
-
-/// The most bytes that an input may have (this project's own rule).
-pub const MOST_BYTES: usize = 8_388_608;
+use std::alloc::{AllocError, Global};
+use task_base::MOST_BYTES;
 
 /// How many bytes the source is asked for at a time.
 const PIECE: usize = 4096;
@@ -16,7 +14,7 @@ pub enum InputFault {
     /// The source failed.
     Read,
     /// An allocation failed.
-    Memory,
+    Memory(AllocError),
     /// More than `MOST_BYTES` bytes came.
     TooLarge,
 }
@@ -27,6 +25,7 @@ pub fn read_input<S: Source>(alloc: Global, source: &mut S) -> Result<Vec<u8>, I
     ensures end { OnOk result (IfSome (S.left source.new) (λ rest. rest ≡ [])) }
     ensures within { IfOk result (λ bytes. length bytes.items ≤ MOST_BYTES) }
     ensures failed { result ≡ Err InputFault.Read → Rose (S.faults source.old) (S.faults source.new) }
+    ensures steady { result ≢ Err InputFault.Read → S.faults source.new ≡ S.faults source.old }
     ensures large { result ≡ Err InputFault.TooLarge → (taken : List ℕ) × Gives (S.left source.old) taken (S.left source.new) × (MOST_BYTES < length taken) }
     ensures few { result ≢ Err InputFault.TooLarge → (taken : List ℕ) × Gives (S.left source.old) taken (S.left source.new) × (length taken ≤ MOST_BYTES) }
     ensures faults { S.faults source.old ≤ S.faults source.new }
@@ -43,8 +42,8 @@ pub fn read_input<S: Source>(alloc: Global, source: &mut S) -> Result<Vec<u8>, I
         if count > MOST_BYTES - bytes.len() {
             return Err(InputFault::TooLarge);
         }
-        if bytes.extend_from_slice(&piece[..count]).is_err() {
-            return Err(InputFault::Memory);
+        if let Err(error) = bytes.extend_from_slice(&piece[..count]) {
+            return Err(InputFault::Memory(error));
         }
     }
 }

@@ -1,5 +1,6 @@
 -- What follows from the words on bytes and counts.
-use Rattle.std.proofs.Common.{◌≡◌, ◌≤◌, ℕ, List, [], ◌++◌, Option, None, Some, refl, sym, ◌∙◌, ap, inl, inr, append_assoc, append-nil, arith}
+use Rattle.std.proofs.Common.{◌≡◌, ◌≤◌, ◌+◌, ◌-◌, ℕ, List, [], ◌++◌, length, take, drop, Option, None, Some, refl, sym, ◌∙◌, ap, inl, inr, append_assoc, append-nil, take-add, arith}
+use Rattle.std.proofs.lemmas.List.{take_rest}
 use Rattle.std.specs.Option.{option_map}
 use Rattle.env_io.specs.Bytes.{Gives, Gains, Rose}
 
@@ -25,6 +26,12 @@ Gains-trans a None c p q first second told = let lost : c ≡ None = second told
 Gains-trans None (Some y) c p q first second told = let lost : Some y ≡ None = first refl in cc
 Gains-trans (Some x) (Some y) c p q first second told =
     second told ∙ ap (option_map (λ held. held ++ q)) (first refl) ∙ ap Some (append_assoc x p q)
+
+-- a front of the rest of a piece was taken after a front of the piece
+pub gains_more : (a b c : Option (List ℕ)) (piece : List ℕ) (done n : ℕ) → Gains a (take done piece) b
+    → Gains b (take n (take (length piece - done) (drop done piece))) c → Gains a (take (done + n) piece) c
+gains_more a b c piece done n first second =
+    rw (take-add done n piece) (Gains-trans a b c (take done piece) (take n (drop done piece)) first (rw (take_rest piece done) at second))
 
 -- what rose in the last of some calls rose in all of them together
 pub Rose-after : (a b c : ℕ) → a ≤ b → Rose b c → Rose a c

@@ -1,6 +1,6 @@
 ghost use Rattle.std.specs.Prelude.{◌≡◌, ◌≤◌, ◌==◌};
 ghost use Rattle.std.specs.List.{list_any};
-ghost use Rattle.std.specs.Bool.{OnTrue};
+ghost use Rattle.std.specs.Bool.{OnFalse, OnTrue};
 ghost use Rattle.env_io.specs.Bytes.{Rose};
 ghost use Rattle.env_io.specs.Failing.{plan_of, fails_next, after_call};
 
@@ -38,6 +38,7 @@ impl Failing {
         ensures answer { result ≡ fails_next self.old }
         ensures counted { self.new ≡ after_call self.old }
         ensures rose { OnTrue result (Rose self.old.faults self.new.faults) }
+        ensures steady { OnFalse result (self.new.faults ≡ self.old.faults) }
         ensures faults { self.old.faults ≤ self.new.faults }
     {
         self.calls = self.calls.saturating_add(1);

@@ -16,7 +16,7 @@ pub use clock::Clock;
 pub use failed::Failed;
 pub use gate::{Gate, OpenGate};
 pub use real::{RealClock, StdSink, StdSource};
-pub use sink::{CountSink, MemSink, Sink};
+pub use sink::{CountSink, MemSink, Sink, put_all};
 pub use source::{MemSource, Source, SureSource};
 
 #[cfg(test)]

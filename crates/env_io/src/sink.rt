@@ -25,8 +25,28 @@ pub trait Sink {
         ensures taken { IfOk result (λ n. Gains (holds self.old) (take n piece.now) (holds self.new)) }
         ensures empty { piece.now ≡ [] → result ≡ Ok 0 }
         ensures failed { OnErr result (Rose (faults self.old) (faults self.new)) }
+        ensures steady { OnOk result (faults self.new ≡ faults self.old) }
         ensures kept { OnErr result (holds self.new ≡ holds self.old) }
         ensures faults { faults self.old ≤ faults self.new };
+}
+
+/// Puts a whole piece, in as many calls as the sink wants. It makes no call for an empty piece.
+///
+/// `Failed`: a `put` failed. What went out before stays out, and nothing was put after it.
+pub fn put_all<K: Sink>(sink: &mut K, piece: &[u8]) -> Result<(), Failed>
+    ensures written { OnOk result (Gains (K.holds sink.old) piece.now (K.holds sink.new)) }
+
+    // What went out is a prefix of the piece.
+    ensures cut { OnErr result ((n : ℕ) × Gains (K.holds sink.old) (take n piece.now) (K.holds sink.new)) }
+    ensures failed { OnErr result (Rose (K.faults sink.old) (K.faults sink.new)) }
+    ensures steady { OnOk result (K.faults sink.new ≡ K.faults sink.old) }
+    ensures faults { K.faults sink.old ≤ K.faults sink.new }
+{
+    let mut done = 0;
+    while done < piece.len() {
+        done += sink.put(&piece[done..])?;
+    }
+    Ok(())
 }
 
 /// Takes each piece whole and keeps what it has room for. It fails at the calls that it is told to fail at.
@@ -112,6 +132,7 @@ impl Sink for MemSink {
         // What of the trait's clauses does not follow from these.
         ensures taken { IfOk result (λ n. Gains (taken_by self.old) (take n piece.now) (taken_by self.new)) }
         ensures failed { OnErr result (Rose self.old.plan.faults self.new.plan.faults) }
+        ensures steady { OnOk result (self.new.plan.faults ≡ self.old.plan.faults) }
         ensures faults { self.old.plan.faults ≤ self.new.plan.faults }
     {
         if piece.is_empty() {

@@ -1,4 +1,4 @@
-ghost use Rattle.std.specs.Prelude.{◌≡◌, ◌+◌, ◌<◌, ◌≤◌, ◌++◌, ◌↔◌, [], ℕ, List, min, length, take, drop, IfOk, IfSome, Option, Some, OnErr, IsErr, IsTrue};
+ghost use Rattle.std.specs.Prelude.{◌≡◌, ◌+◌, ◌<◌, ◌≤◌, ◌++◌, ◌↔◌, [], ℕ, List, min, length, take, drop, IfOk, IfSome, Option, Some, OnOk, OnErr, IsErr, IsTrue};
 ghost use Rattle.env_io.specs.Bytes.{Gives, Rose};
 ghost use Rattle.env_io.specs.Failing.{plan_of, fails_next, after_call};
 
@@ -23,6 +23,7 @@ pub trait Source {
         ensures given { IfOk result (λ n. Gives (left self.old) (take n into.new) (left self.new)) }
         ensures end { result ≡ Ok 0 → 0 < length into.old → IfSome (left self.new) (λ rest. rest ≡ []) }
         ensures failed { OnErr result (Rose (faults self.old) (faults self.new)) }
+        ensures steady { OnOk result (faults self.new ≡ faults self.old) }
         ensures kept { OnErr result (left self.new ≡ left self.old) }
         ensures faults { faults self.old ≤ faults self.new };
 }
@@ -118,6 +119,7 @@ impl Source for MemSource {
 
         // What of the trait's clauses does not follow from these.
         ensures failed { OnErr result (Rose self.old.plan.faults self.new.plan.faults) }
+        ensures steady { OnOk result (self.new.plan.faults ≡ self.old.plan.faults) }
         ensures faults { self.old.plan.faults ≤ self.new.plan.faults }
     {
         if self.failing.next() {

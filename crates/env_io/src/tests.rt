@@ -63,6 +63,21 @@ fn mem_sink_keeps_what_has_room(rt: HostRuntime) -> Result<(), Fail> {
 }
 
 #[test]
+fn pieces_are_put_whole(rt: HostRuntime) -> Result<(), Fail> {
+    let alloc = rt.alloc();
+    let mut sink = MemSink::new(alloc, vec![in alloc; 2]?, 100)?;
+    for (piece, answer) in [
+        (b"abc".as_slice(), Ok(())),
+        (b"", Ok(())),
+        (b"de", Err(Failed)),
+    ] {
+        assert_eq!(rt; put_all(&mut sink, piece), answer);
+    }
+    assert_eq!(rt; sink.bytes(), b"abc".as_slice());
+    Ok(())
+}
+
+#[test]
 fn count_sink_counts(rt: HostRuntime) {
     let mut sink = CountSink::new();
     for piece in [b"abc".as_slice(), b"", b"de"] {

@@ -1,41 +1,29 @@
 -- What a sink took of a text, piece after piece.
-use Rattle.std.proofs.Common.{◌≡◌, ◌<◌, ◌+◌, ◌-◌, ℕ, min, List, ◌++◌, length, get_or, take, drop, Option, sym, ap, ◌∙◌, subst, arith, append_assoc, take-add}
+use Rattle.std.proofs.Common.{◌≡◌, ◌<◌, ◌≤◌, ◌+◌, ℕ, min, List, ◌++◌, length, get_or, take, Option, refl, arith, append_assoc}
 use Rattle.std.proofs.Math.Seq.{take-append-add}
-use Rattle.std.proofs.lemmas.List.{take_rest, take_min, take-append-le}
+use Rattle.std.proofs.lemmas.List.{take_min, take-append-le}
 use Rattle.task_base.specs.declared.entry.Entry.{Entry}
 use Rattle.env_io.specs.Bytes.{Gains}
 use Rattle.env_io.proofs.Bytes.{Gains-trans}
 use Rattle.log_model.specs.LogText.{line_of, text_from, log_text}
 use Rattle.log_model.proofs.Laws.LogTexts.{text_from-take_more, log_text-cut}
 
--- a front of the rest of a piece was taken after a front of the piece
-pub gains_more : (a b c : Option (List ℕ)) (piece : List ℕ) (done n : ℕ) → Gains a (take done piece) b
-    → Gains b (take n (take (length piece - done) (drop done piece))) c → Gains a (take (done + n) piece) c
-gains_more a b c piece done n first second =
-    let joined : take done piece ++ take n (take (length piece - done) (drop done piece)) ≡ take (done + n) piece =
-    ap (λ rest. take done piece ++ take n rest) (take_rest piece done) ∙ sym (take-add done n piece) in
-    subst (λ text. Gains a text c) joined (Gains-trans a b c (take done piece) (take n (take (length piece - done) (drop done piece))) first second)
-
 -- the lines before a place and the line of that place are the lines up to it
 joined_lines : (log items : List Entry) (line : List ℕ) (i : ℕ) (d : Entry) → items ≡ log → line ≡ line_of i (get_or items i d) → i < length items
     → text_from 0 (take i log) ++ line ≡ text_from 0 (take (i + 1) log)
-joined_lines log items line i d listed made within =
-    let same : line ≡ line_of i (get_or log i d) = made ∙ ap (λ entries. line_of i (get_or entries i d)) listed in
-    ap (λ text. text_from 0 (take i log) ++ text) same ∙ sym (text_from-take_more log i d (subst (λ entries. i < length entries) listed within))
+joined_lines log items line i d listed made within = let lines = text_from-take_more log i d (rw listed at within) in cc
 
 -- the line of a place was taken after the lines before it
 pub gains_line : (a b c : Option (List ℕ)) (log items : List Entry) (line : List ℕ) (i : ℕ) (d : Entry) → items ≡ log → line ≡ line_of i (get_or items i d)
     → i < length items → Gains a (text_from 0 (take i log)) b → Gains b line c → Gains a (text_from 0 (take (i + 1) log)) c
 gains_line a b c log items line i d listed made within first second =
-    let lines : text_from 0 (take i log) ++ line ≡ text_from 0 (take (i + 1) log) = joined_lines log items line i d listed made within in
-    subst (λ text. Gains a text c) lines (Gains-trans a b c (text_from 0 (take i log)) line first second)
+    rw (← joined_lines log items line i d listed made within) (Gains-trans a b c (text_from 0 (take i log)) line first second)
 
 -- a front of the middle of a text is the end of a front of the text
 front_of_text : (front middle rest : List ℕ) (m : ℕ) → front ++ take m middle ≡ take (length front + min m (length middle)) ((front ++ middle) ++ rest)
 front_of_text front middle rest m =
-    ap (λ end. front ++ end) (sym (take_min m middle) ∙ sym (take-append-le (min m (length middle)) middle rest (omega arith)))
-    ∙ sym (take-append-add front (middle ++ rest) (min m (length middle)))
-    ∙ ap (take (length front + min m (length middle))) (sym (append_assoc front middle rest))
+    let within : min m (length middle) ≤ length middle = omega arith in
+    rw (append_assoc, take-append-add, take-append-le, take_min) refl
 
 -- a front of the line of a place was taken after the lines before it
 pub gains_cut : (a b c : Option (List ℕ)) (log items : List Entry) (line : List ℕ) (i : ℕ) (d : Entry) → items ≡ log → line ≡ line_of i (get_or items i d)
@@ -43,7 +31,6 @@ pub gains_cut : (a b c : Option (List ℕ)) (log items : List Entry) (line : Lis
 gains_cut a b c log items line i d listed made within first second =
     let before : List ℕ = text_from 0 (take i log) in
     let rest = log_text-cut log (i + 1) in
-    let whole : (before ++ line) ++ rest.0 ≡ log_text log = ap (λ text. text ++ rest.0) (joined_lines log items line i d listed made within) ∙ sym rest.1 in
-    let n : ℕ = length before + min second.0 (length line) in
-    let same : before ++ take second.0 line ≡ take n (log_text log) = front_of_text before line rest.0 second.0 ∙ ap (take n) whole in
-    (n, subst (λ text. Gains a text c) same (Gains-trans a b c before (take second.0 line) first second.1))
+    let cut : before ++ take second.0 line ≡ take (length before + min second.0 (length line)) (log_text log) =
+    rw (rest.1, ← joined_lines log items line i d listed made within) (front_of_text before line rest.0 second.0) in
+    (length before + min second.0 (length line), rw (← cut) (Gains-trans a b c before (take second.0 line) first second.1))

@@ -1,5 +1,5 @@
 -- A line as its words, added one after the other.
-use Rattle.std.proofs.Common.{◌≡◌, ℕ, List, [], ◌∷◌, ◌++◌, refl, ap, ◌∙◌, append_assoc}
+use Rattle.std.proofs.Common.{◌≡◌, ℕ, List, [], ◌∷◌, ◌++◌, refl, ◌∙◌, append_assoc}
 use Rattle.std.specs.Fmt.{decimal}
 use Rattle.std.specs.List.{join_with_byte}
 use Rattle.task_base.specs.declared.entry.Entry.{Entry}
@@ -19,6 +19,4 @@ with_words_joins first (word ∷ words) = with_words_joins (first ++ 32 ∷ word
 -- the place, the seat, the kind's words and a line feed are the entry's line
 pub line_from_parts : (place : ℕ) (e : Entry) (first second third : List ℕ) → first ≡ decimal place → second ≡ first ++ 32 ∷ decimal e.seat
     → third ≡ with_words second (kind_words e.kind) → third ++ 10 ∷ [] ≡ line_of place e
-line_from_parts place e first second third p q r =
-    ap (λ line. line ++ 10 ∷ []) (r ∙ ap (λ line. with_words line (kind_words e.kind)) (q ∙ ap (λ line. line ++ 32 ∷ decimal e.seat) p)
-        ∙ with_words_joins (decimal place) (decimal e.seat ∷ kind_words e.kind))
+line_from_parts place e first second third p q r = rw (r, q, p, with_words_joins, joins_first) refl

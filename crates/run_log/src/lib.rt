@@ -7,7 +7,7 @@ mod lines;
 mod writer;
 
 pub use lines::{Line, line};
-pub use writer::{put_all, write_log};
+pub use writer::write_log;
 
 #[cfg(test)]
 mod tests;

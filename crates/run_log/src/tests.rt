@@ -1,6 +1,6 @@
 ghost use Rattle.std.specs.Prelude.{◌≡◌, length, IfOk};
 
-use super::{line, put_all, write_log};
+use super::{line, write_log};
 use env_io::{Failed, MemSink};
 use std::alloc::{AllocError, Global};
 use std::test::Fail;
@@ -344,20 +344,5 @@ fn failed_put_ends_the_text(rt: HostRuntime) -> Result<(), Fail> {
         assert_eq!(rt; write_log(&mut sink, &log), Err(Failed), "at call {call}");
         assert_eq!(rt; sink.bytes(), *text, "at call {call}");
     }
-    Ok(())
-}
-
-#[test]
-fn pieces_are_put_whole(rt: HostRuntime) -> Result<(), Fail> {
-    let alloc = rt.alloc();
-    let mut sink = MemSink::new(alloc, vec![in alloc; 2]?, 100)?;
-    for (piece, answer) in [
-        (b"abc".as_slice(), Ok(())),
-        (b"", Ok(())),
-        (b"de", Err(Failed)),
-    ] {
-        assert_eq!(rt; put_all(&mut sink, piece), answer);
-    }
-    assert_eq!(rt; sink.bytes(), b"abc".as_slice());
     Ok(())
 }

@@ -3,7 +3,7 @@ ghost use Rattle.env_io.specs.Bytes.{Gains, Rose};
 ghost use Rattle.log_model.specs.LogText.{log_text};
 
 use crate::lines::line;
-use env_io::{Failed, Sink};
+use env_io::{Failed, Sink, put_all};
 use task_base::{Entry, Place, Rows};
 
 /// Puts the text of the log, a line at a time, each in one `put` where the sink takes whole lines. It takes no
@@ -18,28 +18,11 @@ pub fn write_log<K: Sink>(sink: &mut K, log: &Rows<Entry>) -> Result<(), Failed>
     // What went out is a prefix of the text.
     ensures cut { OnErr result ((n : ℕ) × Gains (K.holds sink.old) (take n (log_text log.now.items)) (K.holds sink.new)) }
     ensures failed { OnErr result (Rose (K.faults sink.old) (K.faults sink.new)) }
+    ensures steady { OnOk result (K.faults sink.new ≡ K.faults sink.old) }
     ensures faults { K.faults sink.old ≤ K.faults sink.new }
 {
     for (place, entry) in log.as_slice().iter().enumerate() {
         put_all(sink, &line(place as Place, entry))?;
-    }
-    Ok(())
-}
-
-/// Puts a whole piece, in as many calls as the sink wants. It makes no call for an empty piece.
-///
-/// `Failed`: a `put` failed. What went out before stays out, and nothing was put after it.
-pub fn put_all<K: Sink>(sink: &mut K, piece: &[u8]) -> Result<(), Failed>
-    ensures written { OnOk result (Gains (K.holds sink.old) piece.now (K.holds sink.new)) }
-
-    // What went out is a prefix of the piece.
-    ensures cut { OnErr result ((n : ℕ) × Gains (K.holds sink.old) (take n piece.now) (K.holds sink.new)) }
-    ensures failed { OnErr result (Rose (K.faults sink.old) (K.faults sink.new)) }
-    ensures faults { K.faults sink.old ≤ K.faults sink.new }
-{
-    let mut done = 0;
-    while done < piece.len() {
-        done += sink.put(&piece[done..])?;
     }
     Ok(())
 }

@@ -1,33 +1,37 @@
 ghost use Rattle.std.specs.Prelude.{◌≡◌};
-ghost use Rattle.task_base.specs.Fault.{status_of};
+ghost use Rattle.task_base.specs.Fault.{note_of, status_of};
 
+use std::alloc::AllocError;
+use std::fmt;
 use thiserror::Error;
 
-/// Why a run did not end with status 0.
+/// Why a run did not end with status 0. It is shown as its note, with the line of a log that is not legal behind it.
 #[derive(Debug, PartialEq, Eq, Error, Drop)]
 pub enum Fault {
     /// The log is not that of a legal, whole run; `line` counts from 1.
-    #[error("not legal: line {line}")]
     NotLegal { line: u32 },
     /// The words of the command line are none of the accepted ones.
-    #[error("bad words")]
     BadWords,
     /// The input is no script. `line` counts from 1, and `reason` is the number of the rule that it breaks;
     /// both are 0 where they are not told.
-    #[error("bad script")]
     BadScript { line: u32, reason: u8 },
     /// Reading failed.
-    #[error("read fault")]
     ReadFault,
     /// Writing failed.
-    #[error("write fault")]
     WriteFault,
-    /// An allocation failed.
-    #[error("no memory")]
-    NoMemory,
+    /// An allocation failed. It carries that error, so that nothing else becomes this fault by mistake.
+    NoMemory(AllocError),
     /// The input is longer than the limit.
-    #[error("too large")]
     TooLarge,
+}
+
+impl fmt::Display for Fault {
+    fn fmt<W: fmt::Write>(&self, f: &mut fmt::Formatter<W>) -> fmt::Result {
+        match self {
+            Fault::NotLegal { line } => write!(f, "{}: line {line}", self.note()),
+            _ => f.write_str(self.note()),
+        }
+    }
 }
 
 impl Fault {
@@ -41,8 +45,23 @@ impl Fault {
             Fault::BadScript { .. } => 3,
             Fault::ReadFault => 4,
             Fault::WriteFault => 5,
-            Fault::NoMemory => 6,
+            Fault::NoMemory(_) => 6,
             Fault::TooLarge => 7,
+        }
+    }
+
+    /// What is told of the fault: its words alone, without a line feed (this project's own rule).
+    pub fn note(&self) -> &'static str
+        ensures { result.now ≡ note_of self.now }
+    {
+        match self {
+            Fault::NotLegal { .. } => "not legal",
+            Fault::BadWords => "bad words",
+            Fault::BadScript { .. } => "bad script",
+            Fault::ReadFault => "read fault",
+            Fault::WriteFault => "write fault",
+            Fault::NoMemory(_) => "no memory",
+            Fault::TooLarge => "too large",
         }
     }
 }

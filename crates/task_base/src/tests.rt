@@ -144,7 +144,7 @@ fn faults(rt: HostRuntime) -> Result<(), Fail> {
         (Fault::BadScript { line: 4, reason: 9 }, 3, "bad script"),
         (Fault::ReadFault, 4, "read fault"),
         (Fault::WriteFault, 5, "write fault"),
-        (Fault::NoMemory, 6, "no memory"),
+        (Fault::NoMemory(AllocError), 6, "no memory"),
         (Fault::TooLarge, 7, "too large"),
     ] {
         assert_eq!(rt; fault.status(), status);

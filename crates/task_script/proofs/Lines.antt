@@ -22,7 +22,7 @@ pub form_lines-fails : (fault : ScriptFault) (d : Draft) (lines : List (Bor (Lis
     → Fails fault (form_line d (get_or lines i e).now)
     → form_lines d (texts (drop i lines)) ≡ total → Fails fault total
 unfolding form_lines
-form_lines-fails Memory d lines i e total lt here so_far = tt
+form_lines-fails (Memory error) d lines i e total lt here so_far = tt
 form_lines-fails Bad d lines i e total lt here so_far = sym so_far ∙ rw (drop-cons lines i e, here) refl
 
 -- behind the last line nothing is added

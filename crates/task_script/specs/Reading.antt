@@ -6,7 +6,7 @@ use Rattle.task_script.specs.declared.fault.ScriptFault.TheVariants.{Bad, Memory
 -- nothing is there to read, or memory ran out
 abbrev pub Fails : {Y : Type 0} → ScriptFault → Option Y → Type 0
 Fails Bad read = read ≡ None
-Fails Memory read = Unit {0}
+Fails (Memory error) read = Unit {0}
 
 -- what was read, seen by view, is there to read
 abbrev pub Gives : {X Y : Type 0} → (X → Y) → Result X ScriptFault → Option Y → Type 0

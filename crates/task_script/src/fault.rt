@@ -1,4 +1,4 @@
-ghost use Rattle.std.specs.Prelude.{◌≡◌};
+ghost use Rattle.std.specs.Prelude.{◌≡◌, alloc_error};
 ghost use Rattle.task_script.specs.declared.fault.ScriptFault.TheVariants.{Memory};
 
 use std::alloc::{AllocError, AllocFailed};
@@ -9,21 +9,21 @@ pub enum ScriptFault {
     /// The bytes have not the small form.
     Bad,
     /// An allocation failed.
-    Memory,
+    Memory(AllocError),
 }
 
 impl From<AllocError> for ScriptFault {
-    ghost from_gives = { λ _ fault. fault ≡ Memory };
+    ghost from_gives = { λ error fault. fault ≡ Memory error };
 
-    fn from(_error: AllocError) -> ScriptFault {
-        ScriptFault::Memory
+    fn from(error: AllocError) -> ScriptFault {
+        ScriptFault::Memory(error)
     }
 }
 
 impl<T: Drop> From<AllocFailed<T>> for ScriptFault {
-    ghost from_gives = { λ _ fault. fault ≡ Memory };
+    ghost from_gives = { λ _ fault. fault ≡ Memory alloc_error };
 
     fn from(_error: AllocFailed<T>) -> ScriptFault {
-        ScriptFault::Memory
+        ScriptFault::Memory(AllocError)
     }
 }

@@ -20,5 +20,9 @@ loop-action-preserved g c = (
 pub returns-clause-whole : goal.returns-clause-whole
 returns-clause-whole g c =
     whole_at_end c.args.script.now c.loop-action.engine.log.items c.requires c.loop-action.invariant.0.stands.still
-    (omega (arith, c.loop-action.invariant.1, wants_all c.args.script.now c.as_slice-action-items.result.now c.loop-action.action-index
-        (c.as_slice-action-items.ensures ∙ ap (λ p. p.actions) c.script.view_is) c.loop-action-test.false))
+    (omega (
+      arith,
+      c.loop-action.invariant.1,
+      wants_all c.args.script.now c.as_slice-action-items.result.now c.loop-action.action-index
+          (c.as_slice-action-items.ensures ∙ ap (λ p. p.actions) c.script.view_is) c.loop-action-test.false,
+    ))

@@ -1,12 +1,13 @@
-use Rattle.std.proofs.Common.{◌≤◌, ◌-◌, vec_len}
+use Rattle.std.proofs.Common.{◌≡◌, ◌≤◌, ◌+◌, ◌-◌, vec_len}
+use Rattle.task_base.specs.declared.limits.TheConstants.{MOST_BYTES}
 use Rattle.env_io.specs.Bytes.{Gives}
 use Rattle.env_app.proofs.input.read_input.Given as goal
 
 abbrev pub invariant-pieces : goal.invariant-pieces
 invariant-pieces g l =
     Gives (g.S.Source.left l.fn.source) l.bytes.items (g.S.Source.left l.source)
-    × vec_len l.bytes ≤ 8388608
-    × g.S.Source.faults l.fn.source ≤ g.S.Source.faults l.source
+    × vec_len l.bytes ≤ MOST_BYTES
+    × g.S.Source.faults l.source ≡ g.S.Source.faults l.fn.source
 
 abbrev pub decreases-pieces : goal.decreases-pieces
-decreases-pieces g l = 8388609 - vec_len l.bytes
+decreases-pieces g l = MOST_BYTES + 1 - vec_len l.bytes

@@ -9,7 +9,7 @@ use Rattle.env_app.proofs.engine.Engine.flush.Goals as goal
 pub serve-requires-clause-unfinished : goal.serve-requires-clause-unfinished
 serve-requires-clause-unfinished g c κs h =
     not_finished c.args.script.now c.loop-self.self.log.items _ c.requires.formed
-        (wanted-same c.args.script.now c.args.self.now.log.items c.loop-self.self.log.items c.loop-self.invariant.1 ∙ c.requires.next)
+    (wanted-same c.args.script.now c.args.self.now.log.items c.loop-self.self.log.items c.loop-self.invariant.1 ∙ c.requires.next)
 
 pub push_spare-requires : goal.push_spare-requires
 push_spare-requires g c =
@@ -24,8 +24,7 @@ returns-clause-ready g c =
     let none : vec_len self.queue ≡ 0 = eqb-true _ _ (sym c.loop-self-test.ensures) in
     let empty : self.queue.items ≡ [] = nil_from_length self.queue.items (omega (arith, none, self.queue.ok.0)) in
     record {
-      stands = rw (c.push_spare.ensures.items) (idled c.args.script.now self.log.items self.queue.items self.cells.items self.tracker empty c.requires.formed
-          ready.stands next);
+      stands = rw (c.push_spare.ensures.items) (idled empty c.requires.formed ready.stands next);
       room = room_after_entry c.args.script.now self _ _ ready.room
           (some_to_do c.args.script.now self.log.items _ next) c.push_spare.ensures.items c.push_spare.ensures.spare (omega arith) (omega arith) refl;
     }

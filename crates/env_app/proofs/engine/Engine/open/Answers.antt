@@ -1,7 +1,7 @@
 use Rattle.std.proofs.Common.{◌≡◌, ◌+◌, ◌∙◌, length, replicate, ap, arith}
-use Rattle.task_tracker.specs.Tracked.{Tracked}
 use Rattle.task_script.specs.FormDraft.{shuts_down}
-use Rattle.env_app.proofs.Room.{room_at_start, stands_at_start, at_most_one}
+use Rattle.env_app.proofs.Events.{opened}
+use Rattle.env_app.proofs.Room.{room_at_start, at_most_one}
 use Rattle.env_app.proofs.engine.Engine.open.Goals as goal
 
 pub returns-clause-ready : goal.returns-clause-ready
@@ -14,9 +14,7 @@ returns-clause-ready c =
     let wants = c.requires.wants_count in
     let once = at_most_one (shuts_down script.actions) in
     record {
-      stands = stands_at_start script c.in_ok-log.log.items c.in_ok-queue.queue.items c.in_ok-cells.cells.items c.new.result
-          (c.len.result + c.len-2.result) c.in_ok-log.ensures.empty c.in_ok-queue.ensures.items zeros (omega arith)
-          (ap (λ (t : Tracked). t.phase) c.new.ensures) (ap (λ (t : Tracked). t.block_items) c.new.ensures) (ap (λ (t : Tracked). t.skip_items) c.new.ensures);
+      stands = opened _ c.in_ok-log.ensures.empty c.in_ok-queue.ensures.items zeros (omega arith) c.new.ensures;
       room = room_at_start script _ c.in_ok-log.ensures.empty c.in_ok-queue.ensures.items c.in_ok-queue.ensures.len
           (omega (arith, c.in_ok-log.ensures.room, wants, once, actions)) (omega (arith, c.in_ok-queue.ensures.exact, wants, once, actions));
     }

@@ -1,6 +1,4 @@
-use Rattle.std.proofs.Common.{◌≡◌, ◌∙◌, ◌+◌, true, false, ap, refl, arith}
-use Rattle.task_traits.specs.declared.traits.Behaviour.{Behaviour}
-use Rattle.task_tracker.specs.Tracked.{block_share}
+use Rattle.std.proofs.Common.{◌≡◌, true, false, refl, arith}
 use Rattle.task_model.specs.Refusal.{is_refused}
 use Rattle.env_app.proofs.Events.{posted, refused, answer_is}
 use Rattle.env_app.proofs.Room.{some_to_do, room_after_post, room_after_entry}
@@ -9,8 +7,7 @@ use Rattle.env_app.proofs.engine.Engine.post.Goals as goal
 
 pub accept-ok-requires : goal.accept-ok-requires
 accept-ok-requires c =
-    let few = few_wait c.args.script.now c.args.self.now.log.items c.args.self.now.queue.items c.args.self.now.cells.items c.args.self.now.tracker
-        c.requires.ready.stands in
+    let few = few_wait c.requires.ready.stands in
     record { room = omega (arith, few.1, c.requires.formed.few_tasks) }
 
 pub push_spare-requires : goal.push_spare-requires
@@ -31,12 +28,10 @@ returns-then-ok-clause-ready c =
     let ahead = some_to_do script old.log.items _ c.requires.next in
     let allowed : is_refused script old.log.items c.args.runner c.args.delay ≡ false =
     answer_is old.tracker.phase _ c.effective_at.result _ true ready.stands.phase c.effective_at.ensures c.if-ok.ensures.answer in
-    let tracked = c.if-ok.ensures.counted ∙ ap (λ (b : Behaviour). record old.tracker { block_items = old.tracker.block_items + block_share b })
-        c.effective_at.ensures in
+    let tracked = rw c.effective_at.ensures at c.if-ok.ensures.counted in
     record {
       stands = rw (c.push_spare.ensures.items, c.push_reserved.ensures.items, c.if-ok.true)
-          (posted script old.log.items old.queue.items old.cells.items old.tracker c.accept-ok.new.self c.args.task c.args.runner c.args.delay
-              c.requires.formed ready.stands c.requires.next allowed tracked);
+          (posted c.args.task c.args.runner c.args.delay c.requires.formed ready.stands c.requires.next allowed tracked);
       room = room_after_post script old _ _ _ ready.room ahead c.push_spare.ensures.items c.push_reserved.ensures.items c.push_spare.ensures.spare
           c.push_reserved.ensures.len c.push_reserved.ensures.capacity;
     }
@@ -51,7 +46,6 @@ returns-else-ok-clause-ready c =
     answer_is old.tracker.phase _ c.effective_at.result _ false ready.stands.phase c.effective_at.ensures c.if-ok.ensures.answer in
     record {
       stands = rw (c.push_spare.ensures.items, c.if-ok.ensures.refused, c.if-ok.false)
-          (refused script old.log.items old.queue.items old.cells.items old.tracker c.args.task c.args.runner c.args.delay c.requires.formed ready.stands
-          c.requires.next forbidden);
+          (refused c.args.task c.args.runner c.args.delay c.requires.formed ready.stands c.requires.next forbidden);
       room = room_after_entry script old _ _ ready.room ahead c.push_spare.ensures.items c.push_spare.ensures.spare (omega arith) (omega arith) refl;
     }

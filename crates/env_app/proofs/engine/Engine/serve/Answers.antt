@@ -1,11 +1,9 @@
-use Rattle.std.proofs.Common.{◌≡◌, ℕ, List, length, get_or, ap, subst, arith, ◌∙◌}
+use Rattle.std.proofs.Common.{◌≡◌, ℕ, get_or, ap, arith, ◌∙◌}
 use Rattle.std.proofs.lemmas.Grind.{get_or_default_zero}
 use Rattle.task_traits.specs.Behaviour.{forbids}
 use Rattle.task_tracker.specs.Tracked.{Tracked, block_share}
 use Rattle.task_model.specs.Refusal.{effective_at}
 use Rattle.task_base.specs.Runners.{sequence_of}
-use Rattle.env_app.specs.declared.engine.Waiting.{Waiting}
-use Rattle.env_app.specs.Engine.{IsFirstBest, ranks_of}
 use Rattle.env_app.proofs.Serve.{in_range, may_start_at, counted_at, served, Served}
 use Rattle.env_app.proofs.Shutdown.{few_wait}
 use Rattle.env_app.proofs.Room.{room_after_serve}
@@ -14,43 +12,35 @@ use Rattle.env_app.proofs.engine.Engine.serve.Goals as goal
 pub index-found-requires : goal.index-found-requires
 index-found-requires g c =
     let old = c.args.self.now in
-    let best = subst (λ (q : List Waiting). IsFirstBest (ranks_of c.args.script.now q) (length q) c.first_best-best.result) c.as_slice.ensures.value
-        c.first_best-best.ensures in
-    let inside = in_range c.args.script.now old.log.items old.queue.items old.cells.items old.tracker c.first_best-best.result c.remove-task.result
-        c.requires.ready.stands best.within c.remove-task.ensures.value in
+    let best = rw c.as_slice.ensures.value at c.first_best-best.ensures in
+    let inside = in_range c.first_best-best.result c.remove-task.result c.requires.ready.stands best.within c.remove-task.ensures.value in
     omega (arith, inside, c.sequence-cell.ensures, old.cells.ok.0)
 
 pub started-requires-clause-allowed : goal.started-requires-clause-allowed
 started-requires-clause-allowed g c =
     let old = c.args.self.now in
-    let best = subst (λ (q : List Waiting). IsFirstBest (ranks_of c.args.script.now q) (length q) c.first_best-best.result) c.as_slice.ensures.value
-        c.first_best-best.ensures in
+    let best = rw c.as_slice.ensures.value at c.first_best-best.ensures in
     ap (forbids old.tracker.phase) c.effective_at-effective.ensures
-    ∙ may_start_at c.args.script.now old.log.items old.queue.items old.cells.items old.tracker c.first_best-best.result c.remove-task.result
-        c.requires.ready.stands best.within c.remove-task.ensures.value
+    ∙ may_start_at c.first_best-best.result c.remove-task.result c.requires.ready.stands best.within c.remove-task.ensures.value
 
 pub started-requires-clause-room : goal.started-requires-clause-room
 started-requires-clause-room g c =
     let old = c.args.self.now in
-    let few = few_wait c.args.script.now old.log.items old.queue.items old.cells.items old.tracker c.requires.ready.stands in
+    let few = few_wait c.requires.ready.stands in
     omega (arith, few.1, c.requires.formed.few_tasks)
 
 pub index_mut-requires : goal.index_mut-requires
 index_mut-requires g c =
     let old = c.args.self.now in
-    let best = subst (λ (q : List Waiting). IsFirstBest (ranks_of c.args.script.now q) (length q) c.first_best-best.result) c.as_slice.ensures.value
-        c.first_best-best.ensures in
-    let inside = in_range c.args.script.now old.log.items old.queue.items old.cells.items old.tracker c.first_best-best.result c.remove-task.result
-        c.requires.ready.stands best.within c.remove-task.ensures.value in
+    let best = rw c.as_slice.ensures.value at c.first_best-best.ensures in
+    let inside = in_range c.first_best-best.result c.remove-task.result c.requires.ready.stands best.within c.remove-task.ensures.value in
     omega (arith, inside, c.sequence-cell.ensures, old.cells.ok.0)
 
 pub ended-requires-clause-block_counted : goal.ended-requires-clause-block_counted
 ended-requires-clause-block_counted g c =
     let old = c.args.self.now in
-    let best = subst (λ (q : List Waiting). IsFirstBest (ranks_of c.args.script.now q) (length q) c.first_best-best.result) c.as_slice.ensures.value
-        c.first_best-best.ensures in
-    let counted = counted_at c.args.script.now old.log.items old.queue.items old.cells.items old.tracker c.first_best-best.result c.remove-task.result
-        c.requires.ready.stands best.within c.remove-task.ensures.value in
+    let best = rw c.as_slice.ensures.value at c.first_best-best.ensures in
+    let counted = counted_at c.first_best-best.result c.remove-task.result c.requires.ready.stands best.within c.remove-task.ensures.value in
     omega (arith, counted, ap block_share c.effective_at-effective.ensures, ap (λ (t : Tracked). t.block_items) c.started.ensures)
 
 pub returns-clause-ready : goal.returns-clause-ready
@@ -60,23 +50,20 @@ returns-clause-ready g c =
     let queue = old.queue.items in
     let values = old.cells.items in
     let w = c.remove-task.result in
-    let best = subst (λ (q : List Waiting). IsFirstBest (ranks_of script q) (length q) c.first_best-best.result) c.as_slice.ensures.value
-        c.first_best-best.ensures in
-    let inside = in_range script old.log.items queue values old.tracker c.first_best-best.result w c.requires.ready.stands best.within
-        c.remove-task.ensures.value in
+    let best = rw c.as_slice.ensures.value at c.first_best-best.ensures in
+    let inside = in_range c.first_best-best.result w c.requires.ready.stands best.within c.remove-task.ensures.value in
     let found : c.index-found.result.now ≡ get_or values (sequence_of script w.runner w.task) 0 =
     c.index-found.ensures
     ∙ ap (λ (s : ℕ). get_or values s c.index-found.result.now) c.sequence-cell.ensures
     ∙ get_or_default_zero values (sequence_of script w.runner w.task) c.index-found.result.now inside in
-    let counted = counted_at script old.log.items queue values old.tracker c.first_best-best.result w c.requires.ready.stands best.within
-        c.remove-task.ensures.value in
+    let counted = counted_at c.first_best-best.result w c.requires.ready.stands best.within c.remove-task.ensures.value in
     let share = ap block_share c.effective_at-effective.ensures in
     let tracked : Served old.tracker c.ended.new.self (effective_at script w.runner 0) = record {
       phase = ap (λ (t : Tracked). t.phase) c.ended.ensures ∙ ap (λ (t : Tracked). t.phase) c.started.ensures;
       blocks = omega (arith, counted, share, ap (λ (t : Tracked). t.block_items) c.ended.ensures, ap (λ (t : Tracked). t.block_items) c.started.ensures);
       skips = omega (arith, ap (λ (t : Tracked). t.skip_items) c.ended.ensures, ap (λ (t : Tracked). t.skip_items) c.started.ensures);
     } in
-    let there = served script old.log.items queue values old.tracker c.ended.new.self c.first_best-best.result w c.index-found.result.now c.left_by-left.result
+    let there = served c.first_best-best.result w c.index-found.result.now c.left_by-left.result
     c.requires.formed c.requires.ready.stands c.requires.unfinished tracked best c.remove-task.ensures.value found c.left_by-left.ensures in
     record {
       stands = rw (c.push_spare-2.ensures.items, c.push_spare.ensures.items, c.remove-task.ensures.by_index.2, c.sequence-cell.ensures) there;

@@ -1,19 +1,13 @@
-use Rattle.std.proofs.Common.{◌∙◌, ◌≤◌, not, length, ap, arith}
-use Rattle.std.specs.Prelude.{filter}
-use Rattle.task_traits.specs.Behaviour.{forbids}
-use Rattle.task_traits.specs.declared.phase.Phase.{Phase}
-use Rattle.task_traits.specs.declared.phase.Phase.TheVariants.{Started}
-use Rattle.task_tracker.specs.Tracked.{Tracked}
-use Rattle.task_model.specs.Refusal.{effective_at}
-use Rattle.env_app.specs.declared.engine.Waiting.{Waiting}
-use Rattle.env_app.proofs.Shutdown.{still_running, started, filter_shorter}
+use Rattle.std.proofs.Common.{◌≤◌, length, arith}
+use Rattle.list_laws.proofs.Lists.{count_le}
+use Rattle.env_app.proofs.Shutdown.{stays, still_running, started}
 use Rattle.env_app.proofs.Room.{some_to_do, room_after_entry}
 use Rattle.env_app.proofs.engine.Engine.start_shutdown.Goals as goal
 
 pub start_shutdown-requires : goal.start_shutdown-requires
 start_shutdown-requires c =
     let old = c.args.self.now in
-    still_running c.args.script.now old.log.items old.queue.items old.cells.items old.tracker c.requires.formed c.requires.ready.stands c.requires.next
+    still_running c.requires.formed c.requires.ready.stands c.requires.next
 
 pub push_spare-requires : goal.push_spare-requires
 push_spare-requires c =
@@ -25,13 +19,10 @@ returns-clause-ready c =
     let script = c.args.script.now in
     let old = c.args.self.now in
     let ready = c.requires.ready in
-    let kept = c.drop_forbidden.ensures.kept ∙ ap (λ (p : Phase). filter (λ (w : Waiting). not (forbids p (effective_at script w.runner 0))) old.queue.items)
-        (ap (λ (t : Tracked). t.phase) c.start_shutdown.ensures) in
-    let shorter : length c.drop_forbidden.new.queue.items ≤ length old.queue.items = omega
-        (arith, ap length kept, filter_shorter (λ (w : Waiting). not (forbids Started (effective_at script w.runner 0))) old.queue.items) in
+    let kept = rw c.start_shutdown.ensures at c.drop_forbidden.ensures.kept in
+    let shorter : length c.drop_forbidden.new.queue.items ≤ length old.queue.items = rw kept (count_le (stays script) old.queue.items) in
     record {
-      stands = rw (c.push_spare.ensures.items) (started script old.log.items old.queue.items c.drop_forbidden.new.queue.items old.cells.items old.tracker
-          c.start_shutdown.new.self c.requires.formed ready.stands c.requires.next kept c.start_shutdown.ensures);
+      stands = rw (c.push_spare.ensures.items) (started c.requires.formed ready.stands c.requires.next kept c.start_shutdown.ensures);
       room = room_after_entry script old _ _ ready.room (some_to_do script old.log.items _ c.requires.next) c.push_spare.ensures.items
           c.push_spare.ensures.spare shorter (omega (arith, shorter, c.drop_forbidden.new.queue.ok.0, old.queue.ok.0)) c.drop_forbidden.ensures.capacity;
     }

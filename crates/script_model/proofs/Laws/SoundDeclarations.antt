@@ -1,0 +1,598 @@
+-- What a configuration line or a declaration adds to a sound script keeps it sound.
+use Rattle.std.proofs.Common.{◌≡◌, ℕ, ◌+◌, ◌<◌, ◌≤◌, Bool, true, false, eqb, List, [], ◌∷◌, ◌++◌, length, drop, refl, sym, ap, subst, ◌∙◌, inl, inr, Option, Some, Ok, arith}
+use Rattle.std.specs.Prelude.{◌^◌, not, ◌&&◌, ◌==◌, nat_lt, slice_get, slice_index_or, is_some, flat_map, option_map, unwrap_or}
+use Rattle.std.specs.List.{list_any, list_all, AllByRecursion}
+use Rattle.std.proofs.lemmas.Grind.{flat_map-append}
+use Rattle.std.proofs.lemmas.List.Concat.{flat_map-cons}
+use Rattle.std.proofs.lemmas.List.Sums.{sum_by_push}
+use Rattle.std.proofs.lemmas.List.{append-nil, length-append}
+use Rattle.task_traits.specs.declared.traits.Priority.{Priority}
+use Rattle.task_traits.specs.declared.traits.Behaviour.{Behaviour}
+use Rattle.task_base.specs.Plan.{Plan, JobPlan}
+use Rattle.task_base.specs.Steps.{is_act}
+use Rattle.task_base.specs.declared.step.Step.{Step}
+use Rattle.task_base.specs.declared.step.Step.TheVariants.{Add, Mul, Set, Post as PostStep, Main as MainStep, Block, Unblock}
+use Rattle.task_base.specs.declared.script.Runner.{Runner}
+use Rattle.task_base.specs.declared.script.RunnerKind.{RunnerKind}
+use Rattle.task_base.specs.declared.script.RunnerKind.TheVariants.{Parallel, Sequenced, Single}
+use Rattle.task_base.specs.declared.script.MainQueue.{MainQueue}
+use Rattle.task_base.specs.declared.script.Action.{Action}
+use Rattle.script_model.specs.Reasons.{◌&◌, out_of_range, out_of_order, undeclared, posted_twice, declaration_late, bad_block, job_use, config_twice, too_many}
+use Rattle.script_model.specs.Places.{said_at, ends_at, number_at, id_at, time_at, priority_named, behaviour_named, kind_named, may_block_at, steps_read}
+use Rattle.script_model.specs.Bound.{events_of_task, events_of_job}
+use Rattle.script_model.specs.Postings.{posts_of_step, posts_of_action, postings, times, IsPostedOnce}
+use Rattle.std.proofs.Math.ListN.{get_or-append}
+use Rattle.script_model.specs.Draft.{Draft, is_block, script_of, has_no_actions, is_bare, is_above_workers, is_declared, posted_in, is_any_posted, has_bad_scopes, is_bad_post, items_in, steps_in, events_in, workers_in, opens_scope, may_block_on}
+use Rattle.task_base.specs.declared.limits.TheConstants.{MOST_RUNNERS, MOST_QUEUES, MOST_TASKS, MOST_JOBS, MOST_ITEMS, MOST_STEPS, MOST_EVENTS}
+use Rattle.script_model.specs.Lines.{workers_line, groups_line, threshold_line, runner_line, queue_line, task_line, job_line}
+use Rattle.script_model.specs.Laws.Sound.{IsSound, IsRunnerPost, IsQueuePost, IsSeatThere, IsQueueWithin, IsStepSound, IsTaskSound, IsJobSound, IsActionSound}
+use Rattle.list_laws.proofs.Counts.{count-append}
+use Rattle.list_laws.proofs.Elements.{AllByRecursion-map}
+use Rattle.script_model.proofs.Laws.SoundParts.{both_ok, line_ok, number_at-within, said_ok, IsSeatWithin, kind_named-within, steps_read-within, not_false, and_both, or_neither, at_most, below, nothing, slice_get_front, slice_get_push, all_push, times_fresh}
+
+abbrev pub Keeps : Draft → Type 0
+Keeps d = IsSound (script_of d)
+
+-- ---- what is not there yet
+
+-- a bare draft has no runners and no actions
+bare_parts : (d : Draft) → is_bare d ≡ true → (d.runners ≡ []) × (d.actions ≡ [])
+bare_parts d e =
+    let a = and_both (eqb (length d.runners) 0 && eqb (length d.queues) 0 && eqb (length d.tasks) 0 && eqb (length d.jobs) 0) (has_no_actions d) e in
+    let b = and_both (eqb (length d.runners) 0 && eqb (length d.queues) 0 && eqb (length d.tasks) 0) (eqb (length d.jobs) 0) a.0 in
+    let c = and_both (eqb (length d.runners) 0 && eqb (length d.queues) 0) (eqb (length d.tasks) 0) b.0 in
+    let f = and_both (eqb (length d.runners) 0) (eqb (length d.queues) 0) c.0 in
+    (nothing d.runners f.0, nothing d.actions a.1)
+
+-- where nothing is done, all actions are sound
+no_actions_sound : (script : Plan) (actions : List Action) → actions ≡ [] → AllByRecursion (IsActionSound script) actions
+no_actions_sound script actions none = subst (AllByRecursion (IsActionSound script)) (sym none) tt
+
+no_seats : (script : Plan) (runners : List Runner) → runners ≡ [] → AllByRecursion (λ runner. IsSeatThere script runner.kind) runners
+no_seats script runners none = subst (AllByRecursion (λ (runner : Runner). IsSeatThere script runner.kind)) (sym none) tt
+
+-- ---- what stays
+
+-- what was declared in the first script is the same in the second
+pub record Stays (s z : Plan) : Type 0 where
+  runners : (r : ℕ) → r < length s.runners → (r < length z.runners) × (may_block_on z.runners r ≡ may_block_on s.runners r)
+  queues : (q : ℕ) → q < length s.queues → q < length z.queues
+  tasks : (t : ℕ) → t < length s.tasks → (t < length z.tasks) × (opens_scope z.tasks t ≡ opens_scope s.tasks t)
+
+pub runner_post_stays : (s z : Plan) (task runner : ℕ) → Stays s z → IsRunnerPost s task runner → IsRunnerPost z task runner
+runner_post_stays s z task runner stays post =
+    let there = stays.tasks task post.task_declared in
+    let home = stays.runners runner post.runner_declared in
+    record {
+      task_declared = there.0;
+      runner_declared = home.0;
+      may_block = λ opens. home.1 ∙ post.may_block (sym there.1 ∙ opens);
+    }
+
+pub queue_post_stays : (s z : Plan) (task queue : ℕ) → Stays s z → IsQueuePost s task queue → IsQueuePost z task queue
+queue_post_stays s z task queue stays post =
+    let there = stays.tasks task post.task_declared in
+    record {
+      task_declared = there.0;
+      queue_declared = stays.queues queue post.queue_declared;
+      no_scope = there.1 ∙ post.no_scope;
+    }
+
+step_stays : (s z : Plan) (t : ℕ) → Stays s z → (step : Step) → IsStepSound s t step → IsStepSound z t step
+step_stays s z t stays (PostStep task runner delay) h = (h.0, runner_post_stays s z task runner stays h.1)
+step_stays s z t stays (MainStep task queue delay) h = (h.0, queue_post_stays s z task queue stays h.1)
+step_stays s z t stays (Add by) h = tt
+step_stays s z t stays (Mul by) h = tt
+step_stays s z t stays (Set to) h = tt
+step_stays s z t stays (Block scope) h = tt
+step_stays s z t stays Unblock h = tt
+
+pub task_stays : (s z : Plan) (t : ℕ) (steps : List Step) → Stays s z → IsTaskSound s t steps → IsTaskSound z t steps
+task_stays s z t steps stays h = record {
+  steps_within = h.steps_within;
+  steps_sound = AllByRecursion-map (IsStepSound s t) (IsStepSound z t) steps (step_stays s z t stays) h.steps_sound;
+  scopes_in_turn = h.scopes_in_turn;
+}
+
+-- with one more runner, queue or task, what was declared stays
+runners_stay : (d : Draft) (made : Runner) → Stays (script_of d) (script_of (record d { runners = d.runners ++ made ∷ [] }))
+runners_stay d made = record {
+  runners = λ r here. (omega (arith, here, length-append d.runners (made ∷ [])), ap
+      (λ (o : Option Runner). unwrap_or (option_map (λ declared. declared.traits.may_block) o) false) (slice_get_front d.runners (made ∷ []) r here));
+  queues = λ q here. here;
+  tasks = λ t here. (here, refl);
+}
+
+queues_stay : (d : Draft) (made : MainQueue) → Stays (script_of d) (script_of (record d { queues = d.queues ++ made ∷ [] }))
+queues_stay d made = record {
+  runners = λ r here. (here, refl);
+  queues = λ q here. omega (arith, here, length-append d.queues (made ∷ []));
+  tasks = λ t here. (here, refl);
+}
+
+tasks_stay : (d : Draft) (made : List Step) → Stays (script_of d) (script_of (record d { tasks = d.tasks ++ made ∷ [] }))
+tasks_stay d made = record {
+  runners = λ r here. (here, refl);
+  queues = λ q here. here;
+  tasks = λ t here. (omega (arith, here, length-append d.tasks (made ∷ [])), ap (list_any is_block) (get_or-append d.tasks (made ∷ []) [] t here));
+}
+
+-- a script with the same declarations
+pub same_stays : (s z : Plan) → s.runners ≡ z.runners → s.queues ≡ z.queues → s.tasks ≡ z.tasks → Stays s z
+same_stays s z runners queues tasks = record {
+  runners = λ r here. (subst (λ (xs : List Runner). r < length xs) runners here, ap
+      (λ (xs : List Runner). unwrap_or (option_map (λ declared. declared.traits.may_block) (slice_get xs r)) false) (sym runners));
+  queues = λ q here. subst (λ (xs : List MainQueue). q < length xs) queues here;
+  tasks = λ t here. (subst (λ (xs : List (List Step)). t < length xs) tasks here, ap (λ (xs : List (List Step)). list_any is_block (slice_index_or xs t []))
+      (sym tasks));
+}
+
+-- ---- configuration
+
+with_workers : (d : Draft) (n : ℕ) → 1 ≤ n → n ≤ 64 → is_bare d ≡ true → Keeps d → Keeps (record d { workers = Some n })
+unfolding postings
+with_workers d n low high bare sound =
+    let bare_now = bare_parts d bare in
+    let script = script_of (record d { workers = Some n }) in
+    record {
+      some_workers = low;
+      few_workers = high;
+      some_foreground = sound.some_foreground;
+      few_foreground = sound.few_foreground;
+      some_best = sound.some_best;
+      best_within = sound.best_within;
+      few_background = sound.few_background;
+      threshold_within = sound.threshold_within;
+      few_runners = sound.few_runners;
+      few_queues = sound.few_queues;
+      few_tasks = sound.few_tasks;
+      few_jobs = sound.few_jobs;
+      few_items = sound.few_items;
+      few_steps = sound.few_steps;
+      few_ticks = sound.few_ticks;
+      few_events = sound.few_events;
+      seats_there = no_seats (script_of (record d { workers = Some n })) d.runners bare_now.0;
+      queues_within = sound.queues_within;
+      tasks_sound = λ t steps h. task_stays (script_of d) script t steps (same_stays (script_of d) script refl refl refl) (sound.tasks_sound t steps h);
+      jobs_sound = sound.jobs_sound;
+      actions_sound = no_actions_sound script d.actions bare_now.1;
+      in_order = sound.in_order;
+      posted_once = sound.posted_once;
+      started_once = sound.started_once;
+      one_shutdown = sound.one_shutdown;
+    }
+
+-- `workers N`
+pub keeps_workers : (d d' : Draft) (words : List (List ℕ)) → Keeps d → workers_line d words ≡ Ok d' → Keeps d'
+unfolding workers_line
+keeps_workers d d' words sound e =
+    let g = line_ok (number_at 1 64 words 0 & ends_at words 1) (λ p. (not (is_bare d), declaration_late) ∷ (is_some d.workers, config_twice) ∷ [])
+        (λ p. record d { workers = Some p.0 }) d' e in
+    let n = number_at-within 1 64 words 0 g.0.0 (both_ok (number_at 1 64 words 0) (ends_at words 1) g.0.0 g.0.1 g.1).0 in
+    subst Keeps g.3 (with_workers d g.0.0 n.0 n.1 (not_false (is_bare d) g.2.0) sound)
+
+with_groups : (d : Draft) (f fb b : ℕ) → 1 ≤ f → f ≤ 64 → 1 ≤ fb → fb ≤ f → b ≤ 64 → is_bare d ≡ true → Keeps d
+    → Keeps (record d { groups = Some (record { foreground = f; foreground_best = fb; background = b }) })
+unfolding postings
+with_groups d f fb b f_low f_high fb_low fb_high b_high bare sound =
+    let bare_now = bare_parts d bare in
+    let script = script_of (record d { groups = Some (record { foreground = f; foreground_best = fb; background = b }) }) in
+    record {
+      some_workers = sound.some_workers;
+      few_workers = sound.few_workers;
+      some_foreground = f_low;
+      few_foreground = f_high;
+      some_best = fb_low;
+      best_within = fb_high;
+      few_background = b_high;
+      threshold_within = sound.threshold_within;
+      few_runners = sound.few_runners;
+      few_queues = sound.few_queues;
+      few_tasks = sound.few_tasks;
+      few_jobs = sound.few_jobs;
+      few_items = sound.few_items;
+      few_steps = sound.few_steps;
+      few_ticks = sound.few_ticks;
+      few_events = sound.few_events;
+      seats_there = sound.seats_there;
+      queues_within = sound.queues_within;
+      tasks_sound = λ t steps h. task_stays (script_of d) script t steps (same_stays (script_of d) script refl refl refl) (sound.tasks_sound t steps h);
+      jobs_sound = sound.jobs_sound;
+      actions_sound = no_actions_sound script d.actions bare_now.1;
+      in_order = sound.in_order;
+      posted_once = sound.posted_once;
+      started_once = sound.started_once;
+      one_shutdown = sound.one_shutdown;
+    }
+
+-- `groups F FB B`
+pub keeps_groups : (d d' : Draft) (words : List (List ℕ)) → Keeps d → groups_line d words ≡ Ok d' → Keeps d'
+unfolding groups_line
+keeps_groups d d' words sound e =
+    let f_at = number_at 1 64 words 0 in
+    let fb_at = number_at 1 64 words 1 in
+    let b_at = number_at 0 64 words 2 in
+    let g = line_ok (f_at & fb_at & b_at & ends_at words 3) (λ p. (nat_lt p.0 p.1.0, out_of_range) ∷ (not (is_bare d), declaration_late) ∷
+        (is_some d.groups, config_twice) ∷ []) (λ p. record d { groups = Some (record { foreground = p.0; foreground_best = p.1.0; background = p.1.1.0 }) })
+        d' e in
+    let b0 = both_ok f_at (fb_at & b_at & ends_at words 3) g.0.0 g.0.1 g.1 in
+    let b1 = both_ok fb_at (b_at & ends_at words 3) g.0.1.0 g.0.1.1 b0.1 in
+    let b2 = both_ok b_at (ends_at words 3) g.0.1.1.0 g.0.1.1.1 b1.1 in
+    let f = number_at-within 1 64 words 0 g.0.0 b0.0 in
+    let fb = number_at-within 1 64 words 1 g.0.1.0 b1.0 in
+    let b = number_at-within 0 64 words 2 g.0.1.1.0 b2.0 in
+    subst Keeps g.3 (with_groups d g.0.0 g.0.1.0 g.0.1.1.0 f.0 f.1 fb.0 (at_most g.0.0 g.0.1.0 g.2.0) b.1 (not_false (is_bare d) g.2.1.0) sound)
+
+with_threshold : (d : Draft) (u : ℕ) → u ≤ 10 ^ 12 → is_bare d ≡ true → Keeps d → Keeps (record d { threshold = Some u })
+unfolding postings
+with_threshold d u high bare sound =
+    let bare_now = bare_parts d bare in
+    let script = script_of (record d { threshold = Some u }) in
+    record {
+      some_workers = sound.some_workers;
+      few_workers = sound.few_workers;
+      some_foreground = sound.some_foreground;
+      few_foreground = sound.few_foreground;
+      some_best = sound.some_best;
+      best_within = sound.best_within;
+      few_background = sound.few_background;
+      threshold_within = high;
+      few_runners = sound.few_runners;
+      few_queues = sound.few_queues;
+      few_tasks = sound.few_tasks;
+      few_jobs = sound.few_jobs;
+      few_items = sound.few_items;
+      few_steps = sound.few_steps;
+      few_ticks = sound.few_ticks;
+      few_events = sound.few_events;
+      seats_there = sound.seats_there;
+      queues_within = sound.queues_within;
+      tasks_sound = λ t steps h. task_stays (script_of d) script t steps (same_stays (script_of d) script refl refl refl) (sound.tasks_sound t steps h);
+      jobs_sound = sound.jobs_sound;
+      actions_sound = no_actions_sound script d.actions bare_now.1;
+      in_order = sound.in_order;
+      posted_once = sound.posted_once;
+      started_once = sound.started_once;
+      one_shutdown = sound.one_shutdown;
+    }
+
+-- `threshold U`
+pub keeps_threshold : (d d' : Draft) (words : List (List ℕ)) → Keeps d → threshold_line d words ≡ Ok d' → Keeps d'
+unfolding threshold_line
+keeps_threshold d d' words sound e =
+    let g = line_ok (time_at words 0 & ends_at words 1) (λ p. (not (is_bare d), declaration_late) ∷ (is_some d.threshold, config_twice) ∷ [])
+        (λ p. record d { threshold = Some p.0 }) d' e in
+    let u = number_at-within 0 (10 ^ 12) words 0 g.0.0 (both_ok (time_at words 0) (ends_at words 1) g.0.0 g.0.1 g.1).0 in
+    subst Keeps g.3 (with_threshold d g.0.0 u.1 (not_false (is_bare d) g.2.0) sound)
+
+-- ---- runners and queues
+
+with_runner : (d : Draft) (made : Runner) → IsSeatThere (script_of d) made.kind → d.actions ≡ [] → length d.runners + 1 ≤ MOST_RUNNERS → Keeps d
+    → Keeps (record d { runners = d.runners ++ made ∷ [] })
+unfolding postings
+with_runner d made seat none few sound =
+    let script = script_of (record d { runners = d.runners ++ made ∷ [] }) in
+    record {
+      some_workers = sound.some_workers;
+      few_workers = sound.few_workers;
+      some_foreground = sound.some_foreground;
+      few_foreground = sound.few_foreground;
+      some_best = sound.some_best;
+      best_within = sound.best_within;
+      few_background = sound.few_background;
+      threshold_within = sound.threshold_within;
+      few_runners = omega (arith, few, length-append d.runners (made ∷ []));
+      few_queues = sound.few_queues;
+      few_tasks = sound.few_tasks;
+      few_jobs = sound.few_jobs;
+      few_items = sound.few_items;
+      few_steps = sound.few_steps;
+      few_ticks = sound.few_ticks;
+      few_events = sound.few_events;
+      seats_there = all_push (λ (runner : Runner). IsSeatThere (script_of d) runner.kind) d.runners made sound.seats_there seat;
+      queues_within = sound.queues_within;
+      tasks_sound = λ t steps h. task_stays (script_of d) script t steps (runners_stay d made) (sound.tasks_sound t steps h);
+      jobs_sound = sound.jobs_sound;
+      actions_sound = no_actions_sound script d.actions none;
+      in_order = sound.in_order;
+      posted_once = sound.posted_once;
+      started_once = sound.started_once;
+      one_shutdown = sound.one_shutdown;
+    }
+
+-- a seat that a kind names, where it is within the workers, is there
+seat_there : (d : Draft) (kind : RunnerKind) → IsSeatWithin kind → is_above_workers d kind ≡ false → IsSeatThere (script_of d) kind
+seat_there d (Single seat) within e = (within.0, at_most (workers_in d) seat e)
+seat_there d Parallel within e = tt
+seat_there d Sequenced within e = tt
+
+abbrev pub runner_made : RunnerKind → Priority → Behaviour → Bool → Runner
+runner_made kind priority behaviour may_block = record { kind = kind; traits = record { priority = priority; behaviour = behaviour; may_block = may_block } }
+
+-- `runner R KIND PRIORITY BEHAVIOUR`
+pub keeps_runner : (d d' : Draft) (words : List (List ℕ)) → Keeps d → runner_line d words ≡ Ok d' → Keeps d'
+unfolding runner_line
+keeps_runner d d' words sound e =
+    let rest2 = said_at priority_named words 2 & said_at behaviour_named words 3 & may_block_at words 4 & ends_at words 5 in
+    let rest1 = said_at kind_named words 1 & rest2 in
+    let g = line_ok (id_at words 0 & rest1)
+    (λ p. (not (p.0 == length d.runners), out_of_order) ∷ (is_above_workers d p.1.0, undeclared) ∷ (not (has_no_actions d), declaration_late) ∷
+        (nat_lt MOST_RUNNERS (length d.runners + 1), too_many) ∷ [])
+    (λ p. record d { runners = d.runners ++ runner_made p.1.0 p.1.1.0 p.1.1.1.0 p.1.1.1.1.0 ∷ [] }) d' e in
+    let b0 = both_ok (id_at words 0) rest1 g.0.0 g.0.1 g.1 in
+    let b1 = both_ok (said_at kind_named words 1) rest2 g.0.1.0 g.0.1.1 b0.1 in
+    let word = said_ok kind_named words 1 g.0.1.0 b1.0 in
+    let made = runner_made g.0.1.0 g.0.1.1.0 g.0.1.1.1.0 g.0.1.1.1.1.0 in
+    subst Keeps {x = record d { runners = d.runners ++ made ∷ [] }} g.3
+    (with_runner d made (seat_there d g.0.1.0 (kind_named-within word.0 g.0.1.0 word.1) g.2.1.0) (nothing d.actions (not_false (has_no_actions d) g.2.1.1.0))
+        (at_most MOST_RUNNERS (length d.runners + 1) g.2.1.1.1.0) sound)
+
+with_queue : (d : Draft) (made : MainQueue) → IsQueueWithin made → d.actions ≡ [] → length d.queues + 1 ≤ MOST_QUEUES → Keeps d
+    → Keeps (record d { queues = d.queues ++ made ∷ [] })
+unfolding postings
+with_queue d made within none few sound =
+    let script = script_of (record d { queues = d.queues ++ made ∷ [] }) in
+    record {
+      some_workers = sound.some_workers;
+      few_workers = sound.few_workers;
+      some_foreground = sound.some_foreground;
+      few_foreground = sound.few_foreground;
+      some_best = sound.some_best;
+      best_within = sound.best_within;
+      few_background = sound.few_background;
+      threshold_within = sound.threshold_within;
+      few_runners = sound.few_runners;
+      few_queues = omega (arith, few, length-append d.queues (made ∷ []));
+      few_tasks = sound.few_tasks;
+      few_jobs = sound.few_jobs;
+      few_items = sound.few_items;
+      few_steps = sound.few_steps;
+      few_ticks = sound.few_ticks;
+      few_events = sound.few_events;
+      seats_there = sound.seats_there;
+      queues_within = all_push IsQueueWithin d.queues made sound.queues_within within;
+      tasks_sound = λ t steps h. task_stays (script_of d) script t steps (queues_stay d made) (sound.tasks_sound t steps h);
+      jobs_sound = sound.jobs_sound;
+      actions_sound = no_actions_sound script d.actions none;
+      in_order = sound.in_order;
+      posted_once = sound.posted_once;
+      started_once = sound.started_once;
+      one_shutdown = sound.one_shutdown;
+    }
+
+-- `queue Q CLASS VOTERS`
+pub keeps_queue : (d d' : Draft) (words : List (List ℕ)) → Keeps d → queue_line d words ≡ Ok d' → Keeps d'
+unfolding queue_line
+keeps_queue d d' words sound e =
+    let class_at = number_at 0 7 words 1 in
+    let voters_at = number_at 0 16 words 2 in
+    let g = line_ok (id_at words 0 & class_at & voters_at & ends_at words 3)
+    (λ p. (not (p.0 == length d.queues), out_of_order) ∷ (not (has_no_actions d), declaration_late) ∷ (nat_lt MOST_QUEUES (length d.queues + 1), too_many) ∷ [])
+    (λ p. record d { queues = d.queues ++ record { class = p.1.0; voters = p.1.1.0 } ∷ [] }) d' e in
+    let b0 = both_ok (id_at words 0) (class_at & voters_at & ends_at words 3) g.0.0 g.0.1 g.1 in
+    let b1 = both_ok class_at (voters_at & ends_at words 3) g.0.1.0 g.0.1.1 b0.1 in
+    let b2 = both_ok voters_at (ends_at words 3) g.0.1.1.0 g.0.1.1.1 b1.1 in
+    let class = number_at-within 0 7 words 1 g.0.1.0 b1.0 in
+    let voters = number_at-within 0 16 words 2 g.0.1.1.0 b2.0 in
+    let made : MainQueue = record { class = g.0.1.0; voters = g.0.1.1.0 } in
+    subst Keeps {x = record d { queues = d.queues ++ made ∷ [] }} g.3
+    (with_queue d made (record { class_within = class.1; voters_within = voters.1 }) (nothing d.actions (not_false (has_no_actions d) g.2.1.0))
+        (at_most MOST_QUEUES (length d.queues + 1) g.2.1.1.0) sound)
+
+-- ---- steps and postings
+
+-- what a step that posts says, where what it names is declared and it is no bad post
+pub declared_runner_post : (d : Draft) (task runner delay : ℕ) → is_declared d (PostStep task runner delay) ≡ true
+    → is_bad_post d (PostStep task runner delay) ≡ false → (task < length d.tasks) × IsRunnerPost (script_of d) task runner
+declared_runner_post d task runner delay declared good =
+    let both = and_both (nat_lt task (length d.tasks)) (nat_lt runner (length d.runners)) declared in
+    let here = below task (length d.tasks) both.0 in
+    (here, record { task_declared = here; runner_declared = below runner (length d.runners) both.1; may_block = may (opens_scope d.tasks task)
+        (may_block_on d.runners runner) good })
+  where
+    may : (opens takes : Bool) → (opens && not takes) ≡ false → opens ≡ true → takes ≡ true
+    may true true h o = refl
+    may true false h o = absurd cc
+    may false takes h o = absurd cc
+
+pub declared_queue_post : (d : Draft) (task queue delay : ℕ) → is_declared d (MainStep task queue delay) ≡ true
+    → is_bad_post d (MainStep task queue delay) ≡ false → (task < length d.tasks) × IsQueuePost (script_of d) task queue
+declared_queue_post d task queue delay declared good =
+    let both = and_both (nat_lt task (length d.tasks)) (nat_lt queue (length d.queues)) declared in
+    let here = below task (length d.tasks) both.0 in
+    (here, record { task_declared = here; queue_declared = below queue (length d.queues) both.1; no_scope = good })
+
+step_sound : (d : Draft) (step : Step) → is_declared d step ≡ true → is_bad_post d step ≡ false → IsStepSound (script_of d) (length d.tasks) step
+step_sound d (PostStep task runner delay) declared good = declared_runner_post d task runner delay declared good
+step_sound d (MainStep task queue delay) declared good = declared_queue_post d task queue delay declared good
+step_sound d (Add by) declared good = tt
+step_sound d (Mul by) declared good = tt
+step_sound d (Set to) declared good = tt
+step_sound d (Block scope) declared good = tt
+step_sound d Unblock declared good = tt
+
+steps_sound : (d : Draft) (steps : List Step) → list_all (is_declared d) steps ≡ true → list_any (is_bad_post d) steps ≡ false
+    → AllByRecursion (IsStepSound (script_of d) (length d.tasks)) steps
+steps_sound d [] declared good = tt
+steps_sound d (step ∷ steps) declared good =
+    let here = and_both (is_declared d step) (list_all (is_declared d) steps) declared in
+    let bad = or_neither (is_bad_post d step) (list_any (is_bad_post d) steps) good in
+    (step_sound d step here.0 bad.0, steps_sound d steps here.1 bad.1)
+
+flat_map_push : {A : Type 0} (f : A → List ℕ) (xs : List A) (x : A) → flat_map f (xs ++ x ∷ []) ≡ flat_map f xs ++ f x
+flat_map_push f xs x = flat_map-append f xs (x ∷ []) ∙ ap (λ (ys : List ℕ). flat_map f xs ++ ys) (flat_map-cons f x [] ∙ append-nil (f x))
+
+-- the tasks that steps of tasks post
+abbrev pub posts_of_task : List Step → List ℕ
+posts_of_task steps = flat_map posts_of_step steps
+
+-- how often a task is posted, by the actions and by the tasks
+times_posted : (d : Draft) (t : ℕ) → times t (postings (script_of d)) ≡ times t (flat_map posts_of_action d.actions) + times t (flat_map posts_of_task d.tasks)
+unfolding postings
+times_posted d t = count-append (λ u. eqb u t) (flat_map posts_of_action d.actions) (flat_map posts_of_task d.tasks)
+
+times_posted_in : (d : Draft) (t : ℕ) → times t (posted_in d) ≡ times t (flat_map posts_of_task d.tasks) + times t (flat_map posts_of_action d.actions)
+times_posted_in d t = count-append (λ u. eqb u t) (flat_map posts_of_task d.tasks) (flat_map posts_of_action d.actions)
+
+-- new postings behind those of a draft
+once_more : (d : Draft) (new : List ℕ) (t : ℕ) → is_any_posted (posted_in d) new ≡ false → times t (postings (script_of d)) ≤ 1
+    → times t (flat_map posts_of_action d.actions) + times t (flat_map posts_of_task d.tasks) + times t new ≤ 1
+once_more d new t fresh once =
+    let parts = times_posted d t in
+    let parts_in = times_posted_in d t in
+    let before : times t (posted_in d) ≤ 1 = omega (arith, parts, parts_in, once) in
+    omega (arith, parts_in, times_fresh (posted_in d) new t fresh before)
+
+posted_once_with_task : (d : Draft) (steps : List Step) → is_any_posted (posted_in d) (posts_of_task steps) ≡ false → IsPostedOnce (script_of d)
+    → IsPostedOnce (script_of (record d { tasks = d.tasks ++ steps ∷ [] }))
+posted_once_with_task d steps fresh once t =
+    let parts = times_posted (record d { tasks = d.tasks ++ steps ∷ [] }) t in
+    let more : times t (flat_map posts_of_task (d.tasks ++ steps ∷ [])) ≡ times t (flat_map posts_of_task d.tasks) + times t (posts_of_task steps) =
+    ap (times t) (flat_map_push posts_of_task d.tasks steps) ∙ count-append (λ u. eqb u t) (flat_map posts_of_task d.tasks) (posts_of_task steps) in
+    omega (arith, parts, more, once_more d (posts_of_task steps) t fresh (once t))
+
+pub posted_once_with_action : (d : Draft) (action : Action) → is_any_posted (posted_in d) (posts_of_action action) ≡ false → IsPostedOnce (script_of d)
+    → IsPostedOnce (script_of (record d { actions = d.actions ++ action ∷ [] }))
+posted_once_with_action d action fresh once t =
+    let parts = times_posted (record d { actions = d.actions ++ action ∷ [] }) t in
+    let more : times t (flat_map posts_of_action (d.actions ++ action ∷ [])) ≡ times t (flat_map posts_of_action d.actions) + times t (posts_of_action action) =
+    ap (times t) (flat_map_push posts_of_action d.actions action) ∙ count-append (λ u. eqb u t) (flat_map posts_of_action d.actions) (posts_of_action action) in
+    omega (arith, parts, more, once_more d (posts_of_action action) t fresh (once t))
+
+-- ---- tasks and jobs
+
+with_task : (d : Draft) (steps : List Step) → IsTaskSound (script_of d) (length d.tasks) steps → is_any_posted (posted_in d) (posts_of_task steps) ≡ false
+    → d.actions ≡ [] → length d.tasks + 1 ≤ MOST_TASKS → steps_in d + length steps ≤ MOST_STEPS → events_in d + events_of_task steps ≤ MOST_EVENTS → Keeps d
+    → Keeps (record d { tasks = d.tasks ++ steps ∷ [] })
+with_task d steps made fresh none few few_steps few_events sound =
+    let script = script_of (record d { tasks = d.tasks ++ steps ∷ [] }) in
+    let stay = tasks_stay d steps in
+    let more_steps = sum_by_push (λ s. length s) d.tasks steps in
+    let more_events = sum_by_push events_of_task d.tasks steps in
+    record {
+      some_workers = sound.some_workers;
+      few_workers = sound.few_workers;
+      some_foreground = sound.some_foreground;
+      few_foreground = sound.few_foreground;
+      some_best = sound.some_best;
+      best_within = sound.best_within;
+      few_background = sound.few_background;
+      threshold_within = sound.threshold_within;
+      few_runners = sound.few_runners;
+      few_queues = sound.few_queues;
+      few_tasks = omega (arith, few, length-append d.tasks (steps ∷ []));
+      few_jobs = sound.few_jobs;
+      few_items = sound.few_items;
+      few_steps = omega (arith, few_steps, more_steps);
+      few_ticks = sound.few_ticks;
+      few_events = omega (arith, few_events, more_events);
+      seats_there = sound.seats_there;
+      queues_within = sound.queues_within;
+      tasks_sound = λ t other h. elim (slice_get_push d.tasks steps t other h) [
+        | inl old ↦ task_stays (script_of d) script t other stay (sound.tasks_sound t other old.1)
+        | inr new ↦ subst (λ (s : List Step). IsTaskSound script t s) new.1
+            (subst (λ (n : ℕ). IsTaskSound script n steps) (sym new.0) (task_stays (script_of d) script (length d.tasks) steps stay made))
+      ];
+      jobs_sound = sound.jobs_sound;
+      actions_sound = no_actions_sound script d.actions none;
+      in_order = sound.in_order;
+      posted_once = posted_once_with_task d steps fresh sound.posted_once;
+      started_once = sound.started_once;
+      one_shutdown = sound.one_shutdown;
+    }
+
+-- `task T STEPS`
+pub keeps_task : (d d' : Draft) (words : List (List ℕ)) → Keeps d → task_line d words ≡ Ok d' → Keeps d'
+unfolding task_line
+keeps_task d d' words sound e =
+    let g = line_ok (id_at words 0 & steps_read (drop 1 words))
+    (λ p. (not (p.0 == length d.tasks), out_of_order) ∷ (not (list_all (is_declared d) p.1), undeclared) ∷
+        (is_any_posted (posted_in d) (flat_map posts_of_step p.1), posted_twice) ∷ (not (has_no_actions d), declaration_late) ∷
+        (has_bad_scopes false p.1, bad_block) ∷ (list_any (is_bad_post d) p.1, bad_block)
+    ∷ (nat_lt MOST_TASKS (length d.tasks + 1), too_many) ∷ (nat_lt MOST_STEPS (steps_in d + length p.1), too_many) ∷
+        (nat_lt MOST_EVENTS (events_in d + events_of_task p.1), too_many) ∷ [])
+    (λ p. record d { tasks = d.tasks ++ p.1 ∷ [] }) d' e in
+    let both = both_ok (id_at words 0) (steps_read (drop 1 words)) g.0.0 g.0.1 g.1 in
+    let steps = g.0.1 in
+    let declared = g.2.1 in let fresh = declared.1 in let late = fresh.1 in let scopes = late.1 in let good = scopes.1 in let count_room = good.1 in
+        let steps_room = count_room.1 in let events_room = steps_room.1 in
+    subst Keeps {x = record d { tasks = d.tasks ++ steps ∷ [] }} g.3
+    (with_task d steps (record { steps_within = steps_read-within (drop 1 words) steps both.1; steps_sound = steps_sound d steps
+        (not_false (list_all (is_declared d) steps) declared.0) good.0; scopes_in_turn = scopes.0 })
+    fresh.0 (nothing d.actions (not_false (has_no_actions d) late.0)) (at_most MOST_TASKS (length d.tasks + 1) count_room.0)
+        (at_most MOST_STEPS (steps_in d + length steps) steps_room.0) (at_most MOST_EVENTS (events_in d + events_of_task steps) events_room.0) sound)
+
+with_job : (d : Draft) (job : JobPlan) → IsJobSound job → d.actions ≡ [] → length d.jobs + 1 ≤ MOST_JOBS → items_in d + job.items ≤ MOST_ITEMS
+    → steps_in d + length job.steps ≤ MOST_STEPS → events_in d + events_of_job job ≤ MOST_EVENTS → Keeps d → Keeps (record d { jobs = d.jobs ++ job ∷ [] })
+unfolding postings
+with_job d job made none few few_items few_steps few_events sound =
+    let script = script_of (record d { jobs = d.jobs ++ job ∷ [] }) in
+    let more_items = sum_by_push (λ (j : JobPlan). j.items) d.jobs job in
+    let more_steps = sum_by_push (λ (j : JobPlan). length j.steps) d.jobs job in
+    let more_events = sum_by_push events_of_job d.jobs job in
+    record {
+      some_workers = sound.some_workers;
+      few_workers = sound.few_workers;
+      some_foreground = sound.some_foreground;
+      few_foreground = sound.few_foreground;
+      some_best = sound.some_best;
+      best_within = sound.best_within;
+      few_background = sound.few_background;
+      threshold_within = sound.threshold_within;
+      few_runners = sound.few_runners;
+      few_queues = sound.few_queues;
+      few_tasks = sound.few_tasks;
+      few_jobs = omega (arith, few, length-append d.jobs (job ∷ []));
+      few_items = omega (arith, few_items, more_items);
+      few_steps = omega (arith, few_steps, more_steps);
+      few_ticks = sound.few_ticks;
+      few_events = omega (arith, few_events, more_events);
+      seats_there = sound.seats_there;
+      queues_within = sound.queues_within;
+      tasks_sound = λ t steps h. task_stays (script_of d) script t steps (same_stays (script_of d) script refl refl refl) (sound.tasks_sound t steps h);
+      jobs_sound = all_push IsJobSound d.jobs job sound.jobs_sound made;
+      actions_sound = no_actions_sound script d.actions none;
+      in_order = sound.in_order;
+      posted_once = sound.posted_once;
+      started_once = sound.started_once;
+      one_shutdown = sound.one_shutdown;
+    }
+
+abbrev pub job_made : Priority → Behaviour → ℕ → ℕ → List Step → JobPlan
+job_made priority behaviour items cap steps = record { priority = priority; behaviour = behaviour; items = items; cap = cap; steps = steps }
+
+-- `job J PRIORITY BEHAVIOUR ITEMS CAP STEPS`
+pub keeps_job : (d d' : Draft) (words : List (List ℕ)) → Keeps d → job_line d words ≡ Ok d' → Keeps d'
+unfolding job_line
+keeps_job d d' words sound e =
+    let rest4 = number_at 1 64 words 4 & steps_read (drop 5 words) in
+    let rest3 = number_at 0 65536 words 3 & rest4 in
+    let rest2 = said_at behaviour_named words 2 & rest3 in
+    let rest1 = said_at priority_named words 1 & rest2 in
+    let g = line_ok (id_at words 0 & rest1)
+    (λ p.
+    let steps = p.1.1.1.1.1 in
+    (not (p.0 == length d.jobs), out_of_order) ∷ (not (list_all (is_declared d) steps), undeclared) ∷
+        (is_any_posted (posted_in d) (flat_map posts_of_step steps), posted_twice) ∷ (not (has_no_actions d), declaration_late) ∷
+        (list_any (is_bad_post d) steps, bad_block) ∷ (list_any is_act steps, job_use)
+    ∷ (nat_lt MOST_JOBS (length d.jobs + 1), too_many) ∷ (nat_lt MOST_ITEMS (items_in d + p.1.1.1.0), too_many) ∷
+        (nat_lt MOST_STEPS (steps_in d + length steps), too_many) ∷
+        (nat_lt MOST_EVENTS (events_in d + events_of_job (job_made p.1.0 p.1.1.0 p.1.1.1.0 p.1.1.1.1.0 steps)), too_many) ∷ [])
+    (λ p. record d { jobs = d.jobs ++ job_made p.1.0 p.1.1.0 p.1.1.1.0 p.1.1.1.1.0 p.1.1.1.1.1 ∷ [] }) d' e in
+    let b0 = both_ok (id_at words 0) rest1 g.0.0 g.0.1 g.1 in
+    let b1 = both_ok (said_at priority_named words 1) rest2 g.0.1.0 g.0.1.1 b0.1 in
+    let b2 = both_ok (said_at behaviour_named words 2) rest3 g.0.1.1.0 g.0.1.1.1 b1.1 in
+    let b3 = both_ok (number_at 0 65536 words 3) rest4 g.0.1.1.1.0 g.0.1.1.1.1 b2.1 in
+    let b4 = both_ok (number_at 1 64 words 4) (steps_read (drop 5 words)) g.0.1.1.1.1.0 g.0.1.1.1.1.1 b3.1 in
+    let items = number_at-within 0 65536 words 3 g.0.1.1.1.0 b3.0 in
+    let cap = number_at-within 1 64 words 4 g.0.1.1.1.1.0 b4.0 in
+    let steps = g.0.1.1.1.1.1 in
+    let job = job_made g.0.1.0 g.0.1.1.0 g.0.1.1.1.0 g.0.1.1.1.1.0 steps in
+    let late = g.2.1.1.1 in let computes = late.1.1 in let count_room = computes.1 in let items_room = count_room.1 in let steps_room = items_room.1 in
+        let events_room = steps_room.1 in
+    subst Keeps {x = record d { jobs = d.jobs ++ job ∷ [] }} g.3
+    (with_job d job (record { items_within = items.1; some_cap = cap.0; cap_within = cap.1; steps_within = steps_read-within
+        (drop 5 words) steps b4.1; steps_compute = computes.0 })
+    (nothing d.actions (not_false (has_no_actions d) late.0)) (at_most MOST_JOBS (length d.jobs + 1) count_room.0)
+        (at_most MOST_ITEMS (items_in d + job.items) items_room.0) (at_most MOST_STEPS (steps_in d + length steps) steps_room.0)
+        (at_most MOST_EVENTS (events_in d + events_of_job job) events_room.0) sound)

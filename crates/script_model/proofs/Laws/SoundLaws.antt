@@ -1,0 +1,398 @@
+-- Every script that is read is sound: each action, and so each line, keeps it so.
+use Rattle.std.proofs.Common.{◌≡◌, ℕ, ◌+◌, ◌<◌, ◌≤◌, Bool, true, false, cond, List, [], ◌∷◌, ◌++◌, length, take, refl, sym, ap, subst, ◌∙◌, inl, inr, Option, Some, None, Result, Ok, Err, arith}
+use Rattle.std.specs.Prelude.{◌^◌, not, nat_lt, slice_get, option_map, unwrap_or, codes}
+use Rattle.std.specs.List.{list_any}
+use Rattle.std.proofs.lemmas.Bool.{eqb-true}
+use Rattle.std.proofs.lemmas.List.Sums.{sum_by_push}
+use Rattle.std.proofs.lemmas.List.{take-append-le}
+use Rattle.std.proofs.Math.Seq.{take-append_seam}
+use Rattle.task_base.specs.Plan.{Plan}
+use Rattle.task_base.specs.declared.step.Step.{Step}
+use Rattle.task_base.specs.declared.step.Step.TheVariants.{Post as PostStep, Main as MainStep}
+use Rattle.task_base.specs.declared.script.MainQueue.{MainQueue}
+use Rattle.task_base.specs.declared.script.Action.{Action}
+use Rattle.task_base.specs.declared.script.Action.TheVariants.{Post, Main, Tick, Policy, Fence, Unfence, Vote, Rank, Close, Pump, Flush, StartJob, Join, Cancel, Shutdown}
+use Rattle.list_laws.specs.Lists.{count}
+use Rattle.script_model.specs.Words.{words_of, is_word, begins_comment, is_all_ascii, lines_of}
+use Rattle.script_model.specs.Reasons.{◌>>=◌, ◌>>◌, ◌&◌, refuse, not_ascii, unknown_word, undeclared, posted_twice, bad_block, job_use, shutdown_twice, too_many, word_count}
+use Rattle.script_model.specs.Places.{said_at, ends_at, number_at, id_at, time_at, policy_named, fence_named, vote_named}
+use Rattle.script_model.specs.Bound.{events_of_action}
+use Rattle.script_model.specs.Postings.{posts_of_step, posts_of_action, postings}
+use Rattle.std.proofs.lemmas.Option.{slice_get_within}
+use Rattle.script_model.specs.Draft.{Draft, empty_draft, script_of, is_declared, has_queue, has_voter, has_job, posted_in, is_any_posted, is_bad_post, is_start_of, is_started, is_shutdown, has_shutdown, ticks_of, ticks_in, events_in}
+use Rattle.task_base.specs.declared.limits.TheConstants.{MOST_TICKS, MOST_EVENTS}
+use Rattle.script_model.specs.Lines.{workers_line, groups_line, threshold_line, runner_line, queue_line, task_line, job_line, post_line, main_line, tick_line, policy_line, fence_line, unfence_line, vote_line, rank_line, close_line, pump_line, flush_line, start_job_line, join_line, cancel_line, shutdown_line, queue_command_read, action_command_read, command_read, words_read, line_read}
+use Rattle.script_model.specs.Grammar.{lines_read, script_read, Reads}
+use Rattle.script_model.specs.Laws.Sound.{IsSound, IsActionSound, IsInOrder}
+use Rattle.script_model.proofs.Laws.FaultLaws.{ok_same, first_ok}
+use Rattle.list_laws.proofs.Counts.{count-append, count-cons}
+use Rattle.list_laws.proofs.Elements.{AllByRecursion-map}
+use Rattle.script_model.proofs.Laws.SoundParts.{either_way, none_such, both_ok, refuse_ok, Passed, behind_ok, line_ok, number_at-within, not_false, at_most, below, slice_get_push, all_push, count_none}
+use Rattle.script_model.proofs.Laws.SoundDeclarations.{Keeps, runner_post_stays, queue_post_stays, task_stays, same_stays, keeps_workers, keeps_groups, keeps_threshold, keeps_runner, keeps_queue, declared_runner_post, declared_queue_post, posted_once_with_action, keeps_task, keeps_job}
+
+count_push : {A : Type 0} (p : A → Bool) (xs : List A) (x : A) → count p (xs ++ x ∷ []) ≡ count p xs + cond (p x) 1 0
+count_push p xs x =
+    let one : count p (x ∷ []) ≡ 0 + cond (p x) 1 0 = count-cons p x [] in
+    omega (arith, one, count-append p xs (x ∷ []))
+
+-- what stands at most once, and is not added where it stands, stands at most once
+once_with : {A : Type 0} (p : A → Bool) (xs : List A) (x : A) → count p xs ≤ 1 → (p x ≡ true → list_any p xs ≡ false) → count p (xs ++ x ∷ []) ≤ 1
+once_with {A = A} p xs x once fresh = by (p x) refl (count_push p xs x)
+  where
+    by : (b : Bool) → p x ≡ b → count p (xs ++ x ∷ []) ≡ count p xs + cond (p x) 1 0 → count p (xs ++ x ∷ []) ≤ 1
+    by true is more =
+        let none : count p xs ≡ 0 = count_none p xs (fresh is) in
+        let one : count p (xs ++ x ∷ []) ≡ count p xs + 1 = more ∙ ap (λ (b : Bool). count p xs + cond b 1 0) is in
+        omega (arith, none, one)
+    by false is more =
+        let one : count p (xs ++ x ∷ []) ≡ count p xs + 0 = more ∙ ap (λ (b : Bool). count p xs + cond b 1 0) is in
+        omega (arith, one, once)
+
+start_fresh : (earlier : List Action) (action : Action) (j : ℕ) → IsInOrder earlier action → is_start_of j action ≡ true
+    → list_any (is_start_of j) earlier ≡ false
+start_fresh earlier (StartJob job) j order e = let same : job ≡ j = eqb-true job j e in subst (λ (i : ℕ). list_any (is_start_of i) earlier ≡ false) same order
+start_fresh earlier action j order e = absurd cc
+
+shutdown_fresh : (earlier : List Action) (action : Action) → IsInOrder earlier action → is_shutdown action ≡ true → list_any is_shutdown earlier ≡ false
+shutdown_fresh earlier Shutdown order e = order
+shutdown_fresh earlier action order e = absurd cc
+
+-- that an action keeps the limits
+abbrev pub room : Draft → Action → List (Bool × ℕ)
+room d action = (nat_lt MOST_TICKS (ticks_in d + ticks_of action), too_many) ∷ (nat_lt MOST_EVENTS (events_in d + events_of_action action), too_many) ∷ []
+
+action_stays : (d : Draft) (actions : List Action) (action : Action) → IsActionSound (script_of d) action
+    → IsActionSound (script_of (record d { actions = actions })) action
+action_stays d actions (Post task runner delay) h = (runner_post_stays (script_of d) (script_of (record d { actions = actions })) task runner
+    (same_stays (script_of d) (script_of (record d { actions = actions })) refl refl refl) h.0, h.1)
+action_stays d actions (Main task queue delay) h = (queue_post_stays (script_of d) (script_of (record d { actions = actions })) task queue
+    (same_stays (script_of d) (script_of (record d { actions = actions })) refl refl refl) h.0, h.1)
+action_stays d actions (Tick count) h = h
+action_stays d actions (Policy policy) h = h
+action_stays d actions (Fence queue place) h = h
+action_stays d actions (Unfence queue) h = h
+action_stays d actions (Vote queue voter on) h = h
+action_stays d actions (Rank queue class) h = h
+action_stays d actions (Close queue) h = h
+action_stays d actions (Pump count) h = h
+action_stays d actions Flush h = h
+action_stays d actions (StartJob job) h = h
+action_stays d actions (Join job) h = h
+action_stays d actions (Cancel job) h = h
+action_stays d actions Shutdown h = h
+
+with_action : (d : Draft) (action : Action) → IsActionSound (script_of d) action → IsInOrder d.actions action
+    → is_any_posted (posted_in d) (posts_of_action action) ≡ false → Passed (room d action) → Keeps d → Keeps (record d { actions = d.actions ++ action ∷ [] })
+with_action d action made order fresh passed sound =
+    let script = script_of (record d { actions = d.actions ++ action ∷ [] }) in
+    let ticks = at_most MOST_TICKS (ticks_in d + ticks_of action) passed.0 in
+    let events = at_most MOST_EVENTS (events_in d + events_of_action action) passed.1.0 in
+    let more_ticks = sum_by_push ticks_of d.actions action in
+    let more_events = sum_by_push events_of_action d.actions action in
+    record {
+      some_workers = sound.some_workers;
+      few_workers = sound.few_workers;
+      some_foreground = sound.some_foreground;
+      few_foreground = sound.few_foreground;
+      some_best = sound.some_best;
+      best_within = sound.best_within;
+      few_background = sound.few_background;
+      threshold_within = sound.threshold_within;
+      few_runners = sound.few_runners;
+      few_queues = sound.few_queues;
+      few_tasks = sound.few_tasks;
+      few_jobs = sound.few_jobs;
+      few_items = sound.few_items;
+      few_steps = sound.few_steps;
+      few_ticks = omega (arith, ticks, more_ticks);
+      few_events = omega (arith, events, more_events);
+      seats_there = sound.seats_there;
+      queues_within = sound.queues_within;
+      tasks_sound = λ t steps h. task_stays (script_of d) script t steps (same_stays (script_of d) script refl refl refl) (sound.tasks_sound t steps h);
+      jobs_sound = sound.jobs_sound;
+      actions_sound = all_push (IsActionSound script) d.actions action
+          (AllByRecursion-map (IsActionSound (script_of d)) (IsActionSound script) d.actions (action_stays d (d.actions ++ action ∷ [])) sound.actions_sound)
+          (action_stays d (d.actions ++ action ∷ []) action made);
+      in_order = λ k other h. elim (slice_get_push d.actions action k other h) [
+        | inl old ↦ subst (λ (earlier : List Action). IsInOrder earlier other) (sym (take-append-le k d.actions (action ∷ []) (omega (arith, old.0))))
+            (sound.in_order k other old.1)
+        | inr new ↦
+            let all : take k (d.actions ++ action ∷ []) ≡ d.actions = ap (λ (n : ℕ). take n (d.actions ++ action ∷ [])) new.0
+                ∙ take-append_seam d.actions (action ∷ []) in
+            subst (λ (earlier : List Action). IsInOrder earlier other) (sym all) (subst (IsInOrder d.actions) new.1 order)
+      ];
+      posted_once = posted_once_with_action d action fresh sound.posted_once;
+      started_once = λ j. once_with (is_start_of j) d.actions action (sound.started_once j) (start_fresh d.actions action j order);
+      one_shutdown = once_with is_shutdown d.actions action sound.one_shutdown (shutdown_fresh d.actions action order);
+    }
+
+-- that a post names what is declared, posts a task for the first time, and not where it must not block
+abbrev pub post_room : Draft → Step → Action → List (Bool × ℕ)
+post_room d step action = (not (is_declared d step), undeclared) ∷ (is_any_posted (posted_in d) (posts_of_step step), posted_twice) ∷
+    (is_bad_post d step, bad_block) ∷ room d action
+
+-- `post T R D`
+keeps_post : (d d' : Draft) (words : List (List ℕ)) → Keeps d → post_line d words ≡ Ok d' → Keeps d'
+unfolding post_line
+keeps_post d d' words sound e =
+    let g = line_ok (id_at words 0 & id_at words 1 & time_at words 2 & ends_at words 3)
+        (λ p. post_room d (PostStep p.0 p.1.0 p.1.1.0) (Post p.0 p.1.0 p.1.1.0)) (λ p. record d { actions = d.actions ++ Post p.0 p.1.0 p.1.1.0 ∷ [] }) d' e in
+    let b0 = both_ok (id_at words 0) (id_at words 1 & time_at words 2 & ends_at words 3) g.0.0 g.0.1 g.1 in
+    let b1 = both_ok (id_at words 1) (time_at words 2 & ends_at words 3) g.0.1.0 g.0.1.1 b0.1 in
+    let b2 = both_ok (time_at words 2) (ends_at words 3) g.0.1.1.0 g.0.1.1.1 b1.1 in
+    let delay = number_at-within 0 (10 ^ 12) words 2 g.0.1.1.0 b2.0 in
+    let post = declared_runner_post d g.0.0 g.0.1.0 g.0.1.1.0 (not_false (is_declared d (PostStep g.0.0 g.0.1.0 g.0.1.1.0)) g.2.0) g.2.1.1.0 in
+    subst Keeps {x = record d { actions = d.actions ++ Post g.0.0 g.0.1.0 g.0.1.1.0 ∷ [] }} g.3
+        (with_action d (Post g.0.0 g.0.1.0 g.0.1.1.0) (post.1, delay.1) tt g.2.1.0 g.2.1.1.1 sound)
+
+-- `main T Q D`
+keeps_main : (d d' : Draft) (words : List (List ℕ)) → Keeps d → main_line d words ≡ Ok d' → Keeps d'
+unfolding main_line
+keeps_main d d' words sound e =
+    let g = line_ok (id_at words 0 & id_at words 1 & time_at words 2 & ends_at words 3)
+        (λ p. post_room d (MainStep p.0 p.1.0 p.1.1.0) (Main p.0 p.1.0 p.1.1.0)) (λ p. record d { actions = d.actions ++ Main p.0 p.1.0 p.1.1.0 ∷ [] }) d' e in
+    let b0 = both_ok (id_at words 0) (id_at words 1 & time_at words 2 & ends_at words 3) g.0.0 g.0.1 g.1 in
+    let b1 = both_ok (id_at words 1) (time_at words 2 & ends_at words 3) g.0.1.0 g.0.1.1 b0.1 in
+    let b2 = both_ok (time_at words 2) (ends_at words 3) g.0.1.1.0 g.0.1.1.1 b1.1 in
+    let delay = number_at-within 0 (10 ^ 12) words 2 g.0.1.1.0 b2.0 in
+    let post = declared_queue_post d g.0.0 g.0.1.0 g.0.1.1.0 (not_false (is_declared d (MainStep g.0.0 g.0.1.0 g.0.1.1.0)) g.2.0) g.2.1.1.0 in
+    subst Keeps {x = record d { actions = d.actions ++ Main g.0.0 g.0.1.0 g.0.1.1.0 ∷ [] }} g.3
+        (with_action d (Main g.0.0 g.0.1.0 g.0.1.1.0) (post.1, delay.1) tt g.2.1.0 g.2.1.1.1 sound)
+
+-- `tick N`
+keeps_tick : (d d' : Draft) (words : List (List ℕ)) → Keeps d → tick_line d words ≡ Ok d' → Keeps d'
+unfolding tick_line
+keeps_tick d d' words sound e =
+    let g = line_ok (number_at 1 65536 words 0 & ends_at words 1) (λ p. room d (Tick p.0)) (λ p. record d { actions = d.actions ++ Tick p.0 ∷ [] }) d' e in
+    let b0 = both_ok (number_at 1 65536 words 0) (ends_at words 1) g.0.0 g.0.1 g.1 in
+    let n0 = number_at-within 1 65536 words 0 g.0.0 b0.0 in
+    subst Keeps {x = record d { actions = d.actions ++ Tick g.0.0 ∷ [] }} g.3 (with_action d (Tick g.0.0) (n0) tt refl g.2 sound)
+
+-- `policy all`, `policy foreground`, `policy none`
+keeps_policy : (d d' : Draft) (words : List (List ℕ)) → Keeps d → policy_line d words ≡ Ok d' → Keeps d'
+unfolding policy_line
+keeps_policy d d' words sound e =
+    let g = line_ok (said_at policy_named words 0 & ends_at words 1) (λ p. room d (Policy p.0))
+        (λ p. record d { actions = d.actions ++ Policy p.0 ∷ [] }) d' e in
+    let b0 = both_ok (said_at policy_named words 0) (ends_at words 1) g.0.0 g.0.1 g.1 in
+    subst Keeps {x = record d { actions = d.actions ++ Policy g.0.0 ∷ [] }} g.3 (with_action d (Policy g.0.0) (tt) tt refl g.2 sound)
+
+-- `fence Q now`, `fence Q start`
+keeps_fence : (d d' : Draft) (words : List (List ℕ)) → Keeps d → fence_line d words ≡ Ok d' → Keeps d'
+unfolding fence_line
+keeps_fence d d' words sound e =
+    let g = line_ok (id_at words 0 & said_at fence_named words 1 & ends_at words 2) (λ p. (not (has_queue d p.0), undeclared) ∷ room d (Fence p.0 p.1.0))
+        (λ p. record d { actions = d.actions ++ Fence p.0 p.1.0 ∷ [] }) d' e in
+    let b0 = both_ok (id_at words 0) (said_at fence_named words 1 & ends_at words 2) g.0.0 g.0.1 g.1 in
+    let b1 = both_ok (said_at fence_named words 1) (ends_at words 2) g.0.1.0 g.0.1.1 b0.1 in
+    subst Keeps {x = record d { actions = d.actions ++ Fence g.0.0 g.0.1.0 ∷ [] }} g.3
+        (with_action d (Fence g.0.0 g.0.1.0) (below g.0.0 (length d.queues) (not_false (has_queue d g.0.0) g.2.0)) tt refl g.2.1 sound)
+
+-- `unfence Q`
+keeps_unfence : (d d' : Draft) (words : List (List ℕ)) → Keeps d → unfence_line d words ≡ Ok d' → Keeps d'
+unfolding unfence_line
+keeps_unfence d d' words sound e =
+    let g = line_ok (id_at words 0 & ends_at words 1) (λ p. (not (has_queue d p.0), undeclared) ∷ room d (Unfence p.0))
+        (λ p. record d { actions = d.actions ++ Unfence p.0 ∷ [] }) d' e in
+    let b0 = both_ok (id_at words 0) (ends_at words 1) g.0.0 g.0.1 g.1 in
+    subst Keeps {x = record d { actions = d.actions ++ Unfence g.0.0 ∷ [] }} g.3
+        (with_action d (Unfence g.0.0) (below g.0.0 (length d.queues) (not_false (has_queue d g.0.0) g.2.0)) tt refl g.2.1 sound)
+
+-- a voter that is declared has a queue that is
+voter_queue : (d : Draft) (queue voter : ℕ) → has_voter d queue voter ≡ true → queue < length d.queues
+voter_queue d queue voter e = by (slice_get d.queues queue) refl e
+  where
+    by : (o : Option MainQueue) → slice_get d.queues queue ≡ o → unwrap_or (option_map (λ declared. nat_lt voter declared.voters) o) false ≡ true
+        → queue < length d.queues
+    by (Some declared) is h = slice_get_within d.queues queue declared is
+    by None is h = absurd cc
+
+-- `vote Q V on`, `vote Q V off`
+keeps_vote : (d d' : Draft) (words : List (List ℕ)) → Keeps d → vote_line d words ≡ Ok d' → Keeps d'
+unfolding vote_line
+keeps_vote d d' words sound e =
+    let g = line_ok (id_at words 0 & number_at 0 255 words 1 & said_at vote_named words 2 & ends_at words 3)
+        (λ p. (not (has_voter d p.0 p.1.0), undeclared) ∷ room d (Vote p.0 p.1.0 p.1.1.0))
+        (λ p. record d { actions = d.actions ++ Vote p.0 p.1.0 p.1.1.0 ∷ [] }) d' e in
+    let b0 = both_ok (id_at words 0) (number_at 0 255 words 1 & said_at vote_named words 2 & ends_at words 3) g.0.0 g.0.1 g.1 in
+    let b1 = both_ok (number_at 0 255 words 1) (said_at vote_named words 2 & ends_at words 3) g.0.1.0 g.0.1.1 b0.1 in
+    let n1 = number_at-within 0 255 words 1 g.0.1.0 b1.0 in
+    let b2 = both_ok (said_at vote_named words 2) (ends_at words 3) g.0.1.1.0 g.0.1.1.1 b1.1 in
+    subst Keeps {x = record d { actions = d.actions ++ Vote g.0.0 g.0.1.0 g.0.1.1.0 ∷ [] }} g.3
+        (with_action d (Vote g.0.0 g.0.1.0 g.0.1.1.0) (voter_queue d g.0.0 g.0.1.0 (not_false (has_voter d g.0.0 g.0.1.0) g.2.0), n1.1, not_false
+        (has_voter d g.0.0 g.0.1.0) g.2.0) tt refl g.2.1 sound)
+
+-- `rank Q CLASS`
+keeps_rank : (d d' : Draft) (words : List (List ℕ)) → Keeps d → rank_line d words ≡ Ok d' → Keeps d'
+unfolding rank_line
+keeps_rank d d' words sound e =
+    let g = line_ok (id_at words 0 & number_at 0 7 words 1 & ends_at words 2) (λ p. (not (has_queue d p.0), undeclared) ∷ room d (Rank p.0 p.1.0))
+        (λ p. record d { actions = d.actions ++ Rank p.0 p.1.0 ∷ [] }) d' e in
+    let b0 = both_ok (id_at words 0) (number_at 0 7 words 1 & ends_at words 2) g.0.0 g.0.1 g.1 in
+    let b1 = both_ok (number_at 0 7 words 1) (ends_at words 2) g.0.1.0 g.0.1.1 b0.1 in
+    let n1 = number_at-within 0 7 words 1 g.0.1.0 b1.0 in
+    subst Keeps {x = record d { actions = d.actions ++ Rank g.0.0 g.0.1.0 ∷ [] }} g.3
+        (with_action d (Rank g.0.0 g.0.1.0) (below g.0.0 (length d.queues) (not_false (has_queue d g.0.0) g.2.0), n1.1) tt refl g.2.1 sound)
+
+-- `close Q`
+keeps_close : (d d' : Draft) (words : List (List ℕ)) → Keeps d → close_line d words ≡ Ok d' → Keeps d'
+unfolding close_line
+keeps_close d d' words sound e =
+    let g = line_ok (id_at words 0 & ends_at words 1) (λ p. (not (has_queue d p.0), undeclared) ∷ room d (Close p.0))
+        (λ p. record d { actions = d.actions ++ Close p.0 ∷ [] }) d' e in
+    let b0 = both_ok (id_at words 0) (ends_at words 1) g.0.0 g.0.1 g.1 in
+    subst Keeps {x = record d { actions = d.actions ++ Close g.0.0 ∷ [] }} g.3
+        (with_action d (Close g.0.0) (below g.0.0 (length d.queues) (not_false (has_queue d g.0.0) g.2.0)) tt refl g.2.1 sound)
+
+-- `pump N`
+keeps_pump : (d d' : Draft) (words : List (List ℕ)) → Keeps d → pump_line d words ≡ Ok d' → Keeps d'
+unfolding pump_line
+keeps_pump d d' words sound e =
+    let g = line_ok (number_at 1 16384 words 0 & ends_at words 1) (λ p. room d (Pump p.0)) (λ p. record d { actions = d.actions ++ Pump p.0 ∷ [] }) d' e in
+    let b0 = both_ok (number_at 1 16384 words 0) (ends_at words 1) g.0.0 g.0.1 g.1 in
+    let n0 = number_at-within 1 16384 words 0 g.0.0 b0.0 in
+    subst Keeps {x = record d { actions = d.actions ++ Pump g.0.0 ∷ [] }} g.3 (with_action d (Pump g.0.0) (n0) tt refl g.2 sound)
+
+-- `flush`
+keeps_flush : (d d' : Draft) (words : List (List ℕ)) → Keeps d → flush_line d words ≡ Ok d' → Keeps d'
+unfolding flush_line
+keeps_flush d d' words sound e =
+    let g = behind_ok ((nat_lt 0 (length words), word_count) ∷ room d Flush) (Ok (record d { actions = d.actions ++ Flush ∷ [] })) d' e in
+    subst Keeps {x = record d { actions = d.actions ++ Flush ∷ [] }} (ok_same {E = ℕ} (record d { actions = d.actions ++ Flush ∷ [] }) d' g.1)
+        (with_action d Flush tt tt refl g.0.1 sound)
+
+-- `shutdown`
+keeps_shutdown : (d d' : Draft) (words : List (List ℕ)) → Keeps d → shutdown_line d words ≡ Ok d' → Keeps d'
+unfolding shutdown_line
+keeps_shutdown d d' words sound e =
+    let g = behind_ok ((nat_lt 0 (length words), word_count) ∷ (has_shutdown d, shutdown_twice) ∷ room d Shutdown)
+        (Ok (record d { actions = d.actions ++ Shutdown ∷ [] })) d' e in
+    subst Keeps {x = record d { actions = d.actions ++ Shutdown ∷ [] }} (ok_same {E = ℕ} (record d { actions = d.actions ++ Shutdown ∷ [] }) d' g.1)
+        (with_action d Shutdown tt g.0.1.0 refl g.0.1.1 sound)
+
+-- `startjob J`
+keeps_start_job : (d d' : Draft) (words : List (List ℕ)) → Keeps d → start_job_line d words ≡ Ok d' → Keeps d'
+unfolding start_job_line
+keeps_start_job d d' words sound e =
+    let g = line_ok (id_at words 0 & ends_at words 1) (λ p. (not (has_job d p.0), undeclared) ∷ (is_started d p.0, job_use) ∷ room d (StartJob p.0))
+        (λ p. record d { actions = d.actions ++ StartJob p.0 ∷ [] }) d' e in
+    let b0 = both_ok (id_at words 0) (ends_at words 1) g.0.0 g.0.1 g.1 in
+    subst Keeps {x = record d { actions = d.actions ++ StartJob g.0.0 ∷ [] }} g.3
+        (with_action d (StartJob g.0.0) (below g.0.0 (length d.jobs) (not_false (has_job d g.0.0) g.2.0)) g.2.1.0 refl g.2.1.1 sound)
+
+-- `join J`
+keeps_join : (d d' : Draft) (words : List (List ℕ)) → Keeps d → join_line d words ≡ Ok d' → Keeps d'
+unfolding join_line
+keeps_join d d' words sound e =
+    let g = line_ok (id_at words 0 & ends_at words 1) (λ p. (not (has_job d p.0), undeclared) ∷ (not (is_started d p.0), job_use) ∷ room d (Join p.0))
+        (λ p. record d { actions = d.actions ++ Join p.0 ∷ [] }) d' e in
+    let b0 = both_ok (id_at words 0) (ends_at words 1) g.0.0 g.0.1 g.1 in
+    subst Keeps {x = record d { actions = d.actions ++ Join g.0.0 ∷ [] }} g.3
+        (with_action d (Join g.0.0) (below g.0.0 (length d.jobs) (not_false (has_job d g.0.0) g.2.0))
+        (not_false (is_started d g.0.0) g.2.1.0) refl g.2.1.1 sound)
+
+-- `cancel J`
+keeps_cancel : (d d' : Draft) (words : List (List ℕ)) → Keeps d → cancel_line d words ≡ Ok d' → Keeps d'
+unfolding cancel_line
+keeps_cancel d d' words sound e =
+    let g = line_ok (id_at words 0 & ends_at words 1) (λ p. (not (has_job d p.0), undeclared) ∷ (not (is_started d p.0), job_use) ∷ room d (Cancel p.0))
+        (λ p. record d { actions = d.actions ++ Cancel p.0 ∷ [] }) d' e in
+    let b0 = both_ok (id_at words 0) (ends_at words 1) g.0.0 g.0.1 g.1 in
+    subst Keeps {x = record d { actions = d.actions ++ Cancel g.0.0 ∷ [] }} g.3
+        (with_action d (Cancel g.0.0) (below g.0.0 (length d.jobs) (not_false (has_job d g.0.0) g.2.0))
+        (not_false (is_started d g.0.0) g.2.1.0) refl g.2.1.1 sound)
+
+-- ---- all lines
+
+keeps_queue_command : (d d' : Draft) (name : List ℕ) (words : List (List ℕ)) → Keeps d → queue_command_read d name words ≡ Ok d' → Keeps d'
+unfolding queue_command_read
+keeps_queue_command d d' name words sound e =
+    either_way Keeps (is_word name (codes "tick")) (tick_line d words) _ (λ x. keeps_tick d x words sound)
+    (either_way Keeps (is_word name (codes "fence")) (fence_line d words) _ (λ x. keeps_fence d x words sound)
+    (either_way Keeps (is_word name (codes "unfence")) (unfence_line d words) _ (λ x. keeps_unfence d x words sound)
+    (either_way Keeps (is_word name (codes "vote")) (vote_line d words) _ (λ x. keeps_vote d x words sound)
+    (either_way Keeps (is_word name (codes "rank")) (rank_line d words) _ (λ x. keeps_rank d x words sound)
+    (either_way Keeps (is_word name (codes "close")) (close_line d words) _ (λ x. keeps_close d x words sound)
+    (either_way Keeps (is_word name (codes "pump")) (pump_line d words) _ (λ x. keeps_pump d x words sound)
+    (none_such Keeps unknown_word))))))) d' e
+
+keeps_action_command : (d d' : Draft) (name : List ℕ) (words : List (List ℕ)) → Keeps d → action_command_read d name words ≡ Ok d' → Keeps d'
+unfolding action_command_read
+keeps_action_command d d' name words sound e =
+    either_way Keeps (is_word name (codes "post")) (post_line d words) _ (λ x. keeps_post d x words sound)
+    (either_way Keeps (is_word name (codes "main")) (main_line d words) _ (λ x. keeps_main d x words sound)
+    (either_way Keeps (is_word name (codes "policy")) (policy_line d words) _ (λ x. keeps_policy d x words sound)
+    (either_way Keeps (is_word name (codes "flush")) (flush_line d words) _ (λ x. keeps_flush d x words sound)
+    (either_way Keeps (is_word name (codes "startjob")) (start_job_line d words) _ (λ x. keeps_start_job d x words sound)
+    (either_way Keeps (is_word name (codes "join")) (join_line d words) _ (λ x. keeps_join d x words sound)
+    (either_way Keeps (is_word name (codes "cancel")) (cancel_line d words) _ (λ x. keeps_cancel d x words sound)
+    (either_way Keeps (is_word name (codes "shutdown")) (shutdown_line d words) _ (λ x. keeps_shutdown d x words sound)
+    (λ x. keeps_queue_command d x name words sound)))))))) d' e
+
+keeps_command : (d d' : Draft) (name : List ℕ) (words : List (List ℕ)) → Keeps d → command_read d name words ≡ Ok d' → Keeps d'
+unfolding command_read
+keeps_command d d' name words sound e =
+    either_way Keeps (is_word name (codes "workers")) (workers_line d words) _ (λ x. keeps_workers d x words sound)
+    (either_way Keeps (is_word name (codes "groups")) (groups_line d words) _ (λ x. keeps_groups d x words sound)
+    (either_way Keeps (is_word name (codes "threshold")) (threshold_line d words) _ (λ x. keeps_threshold d x words sound)
+    (either_way Keeps (is_word name (codes "runner")) (runner_line d words) _ (λ x. keeps_runner d x words sound)
+    (either_way Keeps (is_word name (codes "queue")) (queue_line d words) _ (λ x. keeps_queue d x words sound)
+    (either_way Keeps (is_word name (codes "task")) (task_line d words) _ (λ x. keeps_task d x words sound)
+    (either_way Keeps (is_word name (codes "job")) (job_line d words) _ (λ x. keeps_job d x words sound)
+    (λ x. keeps_action_command d x name words sound))))))) d' e
+
+keeps_words : (d d' : Draft) (line : List ℕ) (words : List (List ℕ)) → Keeps d → words_read d line words ≡ Ok d' → Keeps d'
+unfolding words_read
+keeps_words d d' line [] sound e = subst Keeps (ok_same {E = ℕ} d d' e) sound
+keeps_words d d' line (name ∷ words) sound e =
+    either_way Keeps (begins_comment name) (Ok d) (refuse (not (is_all_ascii line)) not_ascii >> command_read d name words)
+    (λ x h. subst Keeps (ok_same {E = ℕ} d x h) sound)
+    (λ x h. keeps_command d x name words sound (refuse_ok (not (is_all_ascii line)) not_ascii (command_read d name words) x h).1) d' e
+
+pub keeps_lines : (d : Draft) (n : ℕ) (lines : List (List ℕ)) (d' : Draft) → Keeps d → lines_read d n lines ≡ Ok d' → Keeps d'
+unfolding lines_read
+keeps_lines d n [] d' sound e = subst Keeps (ok_same {E = ℕ × ℕ} d d' e) sound
+keeps_lines d n (line ∷ lines) d' sound e =
+    let next = first_ok n (line_read d line) (λ next. lines_read next (n + 1) lines) d' e in
+    keeps_lines next.0 (n + 1) lines d' (keeps_words d next.0 line (words_of line) sound next.1) next.2
+
+-- what no line gives is sound
+empty_sound : Keeps empty_draft
+unfolding postings
+empty_sound = record {
+  some_workers = omega arith;
+  few_workers = omega arith;
+  some_foreground = omega arith;
+  few_foreground = omega arith;
+  some_best = omega arith;
+  best_within = omega arith;
+  few_background = omega arith;
+  threshold_within = omega arith;
+  few_runners = omega arith;
+  few_queues = omega arith;
+  few_tasks = omega arith;
+  few_jobs = omega arith;
+  few_items = omega arith;
+  few_steps = omega arith;
+  few_ticks = omega arith;
+  few_events = omega arith;
+  seats_there = tt;
+  queues_within = tt;
+  tasks_sound = λ t steps h. absurd cc;
+  jobs_sound = tt;
+  actions_sound = tt;
+  in_order = λ k action h. absurd cc;
+  posted_once = λ t. omega arith;
+  started_once = λ j. omega arith;
+  one_shutdown = omega arith;
+}
+
+script_ok : (r : Result Draft (ℕ × ℕ)) (script : Plan) → (r >>= λ d. Ok (script_of d)) ≡ Ok script → (d : Draft) × (r ≡ Ok d) × (script_of d ≡ script)
+script_ok (Ok d) script e = (d, refl, ok_same {E = ℕ × ℕ} (script_of d) script e)
+script_ok (Err r) script e = absurd cc
+
+pub reads_sound : (bytes : List ℕ) (script : Plan) → Reads bytes script → IsSound script
+unfolding script_read
+reads_sound bytes script e =
+    let d = script_ok (lines_read empty_draft 1 (lines_of bytes)) script e in
+    subst IsSound d.2 (keeps_lines empty_draft 1 (lines_of bytes) d.0 empty_sound d.1)
