@@ -23,7 +23,7 @@ use Rattle.task_model.specs.Blockers.{block_part, skip_part, is_block, is_open_b
 use Rattle.hist_model.specs.Allowed.{may_come}
 use Rattle.list_laws.proofs.Filters.{filter_congr, filter-filter, filter_never, filter_congr_in, filter-map}
 use Rattle.list_laws.proofs.Elements.{AllByRecursion-filter, AllByRecursion-map, AllByRecursion-mapped}
-use Rattle.list_laws.proofs.Lists.{count_le}
+use Rattle.list_laws.proofs.Counts.{count_le}
 use Rattle.task_model.proofs.Growth.{phase_of_push, cell_of_push}
 use Rattle.hist_model.proofs.Laws.Legal.{is_legal_push}
 use Rattle.task_script.specs.Wants.{WantsShutdown, WantsDone, wants_shutdown}

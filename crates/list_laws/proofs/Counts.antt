@@ -1,9 +1,10 @@
 -- How many elements pass a test.
 use Rattle.std.proofs.Common.{◌≡◌, ℕ, suc, ◌+◌, ◌≤◌, Bool, true, false, cond, List, [], ◌∷◌, ◌++◌, length, refl, sym, ap, ◌∙◌, arith}
-use Rattle.std.specs.Prelude.{◌||◌, filter}
+use Rattle.std.specs.Prelude.{◌||◌, filter, not}
 use Rattle.std.specs.List.{list_any, AllByRecursion}
 use Rattle.std.proofs.lemmas.List.{length-append}
 use Rattle.std.proofs.lemmas.List.Elements.{filter-append}
+use Rattle.std.proofs.lemmas.List.Filters.{length-filter_both}
 use Rattle.list_laws.specs.Lists.{count}
 use Rattle.list_laws.proofs.Elements.{AllByRecursion-always, AllByRecursion-map}
 use Rattle.list_laws.proofs.Filters.{filter_congr, filter_congr_in}
@@ -87,3 +88,7 @@ count_change_in {A = A} marks p q false false xs one f g h = ap (λ ys. length y
 pub count_change : {A : Type 0} (marks p q : A → Bool) (b c : Bool) (xs : List A) → count marks xs ≡ 1 → ((x : A) → marks x ≡ true → p x ≡ b)
     → ((x : A) → marks x ≡ true → q x ≡ c) → ((x : A) → marks x ≡ false → p x ≡ q x) → count p xs + cond c 1 0 ≡ count q xs + cond b 1 0
 count_change marks p q b c xs one f g h = count_change_in marks p q b c xs one f g (AllByRecursion-always (λ x. marks x ≡ false → p x ≡ q x) xs h)
+
+-- no more pass than there are
+pub count_le : {A : Type 0} (p : A → Bool) (xs : List A) → count p xs ≤ length xs
+count_le p xs = omega (arith, length-filter_both p (λ x. not (p x)) (λ x. refl) xs)

@@ -27,7 +27,6 @@ use Rattle.task_model.specs.Posts.{Posted, Before, InOrder, is_delayed, post_beh
 use Rattle.task_model.specs.Orders.{ripens, ripening, next_draw, drawn_at, order_of}
 use Rattle.queue_laws.specs.Orders.{moves_orders, OrdersBelow, Distinct, OrdersDistinct}
 use Rattle.list_laws.proofs.Elements.{AllByRecursion-at}
-use Rattle.list_laws.proofs.Lists.{filter_split, count_less, AllByRecursion-members}
 use Rattle.list_laws.proofs.Ranks.{ranks_by, ranks_then_by}
 use Rattle.pool_laws.specs.Keys.{NoTickAhead}
 

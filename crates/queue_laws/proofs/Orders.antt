@@ -23,7 +23,6 @@ use Rattle.list_laws.proofs.Filters.{filter_congr}
 use Rattle.list_laws.proofs.Options.{option_or-none}
 use Rattle.list_laws.proofs.Values.{some-injective}
 use Rattle.list_laws.proofs.Elements.{slice_get-front, slice_get-end, AllByRecursion-map, AllByRecursion-append, AllByRecursion-at}
-use Rattle.list_laws.proofs.Lists.{filter_split, count_below, AllByRecursion-members}
 use Rattle.pool_laws.proofs.Keys.Ready.{main_posts_within, tick_from_push, tick_from_stays, tick_within}
 
 -- each accepted main task has its place in the past

@@ -10,7 +10,6 @@ use Rattle.script_model.specs.Draft.{is_any_posted}
 use Rattle.list_laws.proofs.Counts.{count-cons}
 use Rattle.task_base.specs.declared.limits.TheConstants.{MOST_WORKERS, MOST_MICROSECONDS}
 use Rattle.script_model.proofs.Laws.Faults.{ok_same}
-use Rattle.script_model.proofs.Laws.FaultLaws.{ok_same}
 use Rattle.task_base.specs.declared.step.Step.{Step}
 use Rattle.task_base.specs.declared.step.Step.TheVariants.{Add, Mul, Set, Post, Main, Block, Unblock}
 use Rattle.task_base.specs.declared.script.RunnerKind.{RunnerKind}

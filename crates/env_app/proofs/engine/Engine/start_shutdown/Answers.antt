@@ -1,5 +1,5 @@
 use Rattle.std.proofs.Common.{◌≤◌, length, arith}
-use Rattle.list_laws.proofs.Lists.{count_le}
+use Rattle.list_laws.proofs.Counts.{count_le}
 use Rattle.env_app.proofs.Shutdown.{stays, still_running, started}
 use Rattle.env_app.proofs.Room.{some_to_do, room_after_entry}
 use Rattle.env_app.proofs.engine.Engine.start_shutdown.Goals as goal
