@@ -2,6 +2,7 @@
 pub mod Legal
 pub mod Choice
 pub mod Takes
+pub mod JobEntries
 pub mod Whose
 pub mod Consistent
 pub mod Own

@@ -1,5 +1,6 @@
 -- Words of the laws of legal histories.
 pub mod Choice
+pub mod Jobs
 pub mod Consistent
 pub mod Shutdown
 pub mod Agenda
