@@ -2,7 +2,6 @@
 pub mod Legal
 pub mod Choice
 pub mod Takes
-pub mod JobEntries
 pub mod Whose
 pub mod Consistent
 pub mod Own
@@ -14,6 +13,7 @@ pub mod PostingCounts
 pub mod PostedOnce
 pub mod Differing
 pub mod OneThing
+pub mod JobEntries
 pub mod Rising
 pub mod OneSeat
 pub mod Phases

@@ -7,7 +7,7 @@ ghost use Rattle.task_model.specs.Jobs.{claimed, done};
 ghost use Rattle.task_model.specs.Seats.{inside};
 ghost use Rattle.hist_model.specs.Allowed.{may_come};
 ghost use Rattle.hist_model.specs.Legal.{IsLegal};
-ghost use Rattle.hist_model.specs.Laws.Jobs.{IsJobTake, IsJobStep, IsJoin};
+ghost use Rattle.hist_model.specs.Laws.Jobs.{IsEntering, IsJobStep, IsJoin};
 
 /// In every legal history the claimed items of a job are those that are done and those that seats hold: no item is
 /// lost, and none is done that was not claimed.
@@ -19,9 +19,9 @@ pub fn claimed_items_are_done_or_held()
 /// An allowed entering of a job is by a seat that holds nothing, of a job that may be entered, under the least number that
 /// nobody inside has, at the least unclaimed item. An allowed step is of the item that the seat holds, with that item's
 /// value. An allowed join is by the driver, while nobody is inside, with the job's reply.
-#[tactic(auto, using(crate::proofs::Laws::JobEntries::job_take_is, crate::proofs::Laws::JobEntries::job_step_is, crate::proofs::Laws::JobEntries::join_is))]
+#[tactic(auto, using(crate::proofs::Laws::JobEntries::entering_is, crate::proofs::Laws::JobEntries::job_step_is, crate::proofs::Laws::JobEntries::join_is))]
 pub fn job_entries_are_exact()
-    ensures enter { (script : Plan) (past : List Entry) (seat job id item : ℕ) → may_come script past seat (kinds.JobTake job id item) ≡ true → IsJobTake script past seat job id item }
+    ensures enter { (script : Plan) (past : List Entry) (seat job id item : ℕ) → may_come script past seat (kinds.JobTake job id item) ≡ true → IsEntering script past seat job id item }
     ensures step { (script : Plan) (past : List Entry) (seat job id item value : ℕ) (next : Option ℕ) → may_come script past seat (kinds.JobStep job id item value next) ≡ true → IsJobStep script past seat job id item value next }
     ensures join { (script : Plan) (past : List Entry) (seat job : ℕ) (reply : JobReply) → may_come script past seat (kinds.Joined job reply) ≡ true → IsJoin script past seat job reply }
 {}

@@ -20,11 +20,7 @@ use Rattle.hist_model.specs.Laws.Consistent.{HoldsApart}
 use Rattle.hist_model.proofs.Laws.Legal.{entry_induction}
 use Rattle.hist_model.proofs.Laws.Whose.{HoldsBehind, holds_behind}
 use Rattle.hist_model.proofs.Laws.OneThing.{job_step_holds}
-
--- two numbers that are the same, as a test
-same_number_is : (o : Option ℕ) (n : ℕ) → same_number o (Some n) ≡ true → o ≡ Some n
-same_number_is None n h = absurd (true≢false (sym h))
-same_number_is (Some m) n h = ap Some (eqb-true m n h)
+use Rattle.hist_model.proofs.Laws.JobEntries.{entering_is, job_step_is}
 
 -- what is known of an item that a seat is to hold: it is claimed behind the entry, and no other seat holds it, or its number
 record IsNewlyHeld (past later : List Entry) (seat : ℕ) (h : Holding) : Type 0 where
@@ -80,29 +76,16 @@ free_number script past id s k job c holds of_job free same =
 take_apart : (script : Plan) (past : List Entry) (seat job id item : ℕ) → may_come script past seat (kinds.JobTake job id item) ≡ true → HoldsApart script past
     → (h : Holding) → record { job = job; id = id; item = item } ≡ h
     → IsNewlyHeld past (past ++ record { seat = seat; kind = kinds.JobTake job id item } ∷ []) seat h
-unfolding may_come
 take_apart script past seat job id item may c h is =
+    let entering = entering_is script past seat job id item may in
+    let free : is_free_id script past job id ≡ true = find_passes (is_free_id script past job) (range_with_len 0 (length (inside script past job) + 1)) id
+        entering.number_is in
     subst (IsNewlyHeld past (past ++ record { seat = seat; kind = kinds.JobTake job id item } ∷ []) seat) is (record {
-      is_claimed = rw (claimed_push past (record { seat = seat; kind = kinds.JobTake job id item }) job, eq-eqb job job refl) (omega (arith, least));
-      apart = λ s k holds other of_job. (free_number script past id s k job c holds of_job free, unclaimed script past item s k job c holds of_job least);
+      is_claimed = rw (claimed_push past (record { seat = seat; kind = kinds.JobTake job id item }) job, eq-eqb job job refl)
+          (omega (arith, entering.item_is));
+      apart = λ s k holds other of_job.
+          (free_number script past id s k job c holds of_job free, unclaimed script past item s k job c holds of_job entering.item_is);
     })
-  where
-    parts : ((enters_job script past seat job (kinds.JobTake job id item) && same_number (free_id script past job) (Some id)) ≡ true)
-        × (eqb item (claimed past job) ≡ true)
-    parts = and_parts _ (eqb item (claimed past job)) may
-
-    least : item ≡ claimed past job
-    least = eqb-true item (claimed past job) parts.1
-
-    free : is_free_id script past job id ≡ true
-    free = find_passes (is_free_id script past job) (range_with_len 0 (length (inside script past job) + 1)) id
-        (same_number_is (free_id script past job) id (and_parts _ (same_number (free_id script past job) (Some id)) parts.0).1)
-
--- the item that a step claims is the next one
-step_takes : (script : Plan) (past : List Entry) (seat job id item value : ℕ) (next : Option ℕ)
-    → may_come script past seat (kinds.JobStep job id item value next) ≡ true → same_number next (next_item script past seat job) ≡ true
-unfolding may_come
-step_takes script past seat job id item value next may = (and_parts _ (same_number next (next_item script past seat job)) may).1
 
 -- the seat goes on under its number with the least unclaimed item
 step_apart : (script : Plan) (past : List Entry) (seat job id item value next : ℕ)
@@ -117,14 +100,11 @@ step_apart script past seat job id item value next may c h is =
     })
   where
     least : next ≡ claimed past job
-    least = next_is (step_takes script past seat job id item value (Some next) may)
+    least = at (leaves script past seat job) (job_step_is script past seat job id item value (Some next) may).next_is
       where
-        next_is : same_number (Some next) (next_item script past seat job) ≡ true → next ≡ claimed past job
-        next_is k = at (leaves script past seat job) k
-          where
-            at : (b : Bool) → same_number (Some next) (cond b None (Some (claimed past job))) ≡ true → next ≡ claimed past job
-            at true l = absurd (true≢false (sym l))
-            at false l = eqb-true next (claimed past job) l
+        at : (b : Bool) → Some next ≡ cond b None (Some (claimed past job)) → next ≡ claimed past job
+        at true is = absurd cc
+        at false is = same_Some next (claimed past job) is
 
     not_mine : (s : ℕ) (k : Holding) → holding past s ≡ Some k → eqb seat s ≡ false → k.job ≡ job → k.id ≡ id → ⊥
     not_mine s k holds other of_job same = let (mine, mine_is, mine_job, mine_id, mine_item) = job_step_holds script past seat job id item value

@@ -9,7 +9,7 @@ use Rattle.hist_model.specs.Allowed.{next_item}
 
 -- a seat that holds nothing enters a job that may be entered, under the least number that nobody inside has, at the least
 -- unclaimed item
-pub record IsJobTake (script : Plan) (past : List Entry) (seat job id item : ℕ) : Type 0 where
+pub record IsEntering (script : Plan) (past : List Entry) (seat job id item : ℕ) : Type 0 where
   pub holds_nothing : holding past seat ≡ None
   pub may_be_entered : MayEnter script past job
   pub number_is : free_id script past job ≡ Some id
