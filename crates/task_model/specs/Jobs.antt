@@ -124,10 +124,6 @@ is_empty script past j = length (inside script past j) == 0
 abbrev pub is_over : Plan → List Entry → ℕ → Bool
 is_over script past j = is_empty script past j && (is_finished_job script past j || is_cancelled past j)
 
--- the fact of it
-abbrev pub IsOver : Plan → List Entry → ℕ → Type 0
-IsOver script past j = IsTrue (is_over script past j)
-
 -- the reply to a join, where it has one: the first of these that applies
 abbrev pub reply_of : Plan → List Entry → ℕ → Option JobReply
 reply_of script past j =

@@ -24,10 +24,6 @@ key_of past p =
     then option_map (λ place. record { place = place; ripe = p.ripe; post = p.place }) (tick_from past p.ripe)
     else Some (key_at p.place)
 
--- the fact of it
-abbrev pub KeyBelow : Key → Key → Type 0
-KeyBelow a b = IsTrue (key_below a b)
-
 -- an accepted task that has a key
 pub record Ready : Type 0 where
   pub posted : Posted

@@ -8,7 +8,7 @@ returns-then-count-len-clause-large g c =
     c.pieces.invariant.0 c.in-Ok.ensures.given in
     λ _. (more.0, more.1, omega (arith, more.2, c.pieces.bytes.ok.0))
 
-pub returns-in-Err-clause-few : goal.returns-then-is_err-clause-few
+pub returns-in-Err-clause-few : goal.returns-in-Err-clause-few
 returns-in-Err-clause-few g c =
     let more = gives_more _ _ _ c.pieces.bytes.items c.take.new.into c.in-Ok.count (omega (arith, c.in-Ok.ensures.within, c.take.auto.into))
     c.pieces.invariant.0 c.in-Ok.ensures.given in
