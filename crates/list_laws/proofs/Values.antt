@@ -1,6 +1,6 @@
 -- Equal numbers and options.
-use Rattle.std.proofs.Common.{◌≡◌, ℕ, true, eqb, refl, ap, Option, Some, None, arith}
-use Rattle.std.specs.Option.{option_map_or, option_or}
+use Rattle.std.proofs.Common.{◌≡◌, ℕ, true, eqb, ap, Some, arith}
+use Rattle.std.specs.Option.{option_map_or}
 
 -- a number is equal to itself, as a test
 pub eqb-same : (n : ℕ) → eqb n n ≡ true

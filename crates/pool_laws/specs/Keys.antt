@@ -8,7 +8,7 @@ use Rattle.task_base.specs.declared.entry.Kind.TheVariants.{Post, Tick, Main}
 use Rattle.task_base.specs.declared.source.Key.{Key}
 use Rattle.task_model.specs.Time.{now_of, is_tick_from, tick_from}
 use Rattle.task_model.specs.Posts.{Posted, is_delayed, post_behind, posts, IsDelayed}
-use Rattle.task_model.specs.Keys.{Ready, key_of, key_at}
+use Rattle.task_model.specs.Keys.{Ready, key_of}
 use Rattle.task_base.specs.Keys.{key_below}
 use Rattle.task_base.specs.Plan.{Plan}
 use Rattle.task_base.specs.declared.entry.Kind.TheVariants as kinds

@@ -6,29 +6,20 @@ use Rattle.std.specs.List.{AllByRecursion}
 use Rattle.std.proofs.lemmas.Bool.{true≢false}
 use Rattle.task_base.specs.declared.entry.Entry.{Entry}
 use Rattle.list_laws.specs.Sorts.{Differ, SameMembers}
-use Rattle.task_model.specs.Posts.{Posted, ripens_before, main_posts, Before, InOrder, is_delayed, post_behind, main_posted_by}
-use Rattle.task_model.specs.Orders.{Ordered, ordered, main_arrivals, next_draw, order_of, ripens, ripening, drawn_at}
-use Rattle.queue_laws.specs.Orders.{OrdersBelow, Distinct, OrdersDistinct, ordered_below, moves_orders}
-use Rattle.list_laws.proofs.Elements.{AllByRecursion-map, AllByRecursion-both, AllByRecursion-through, AllByRecursion-contains_itself, AllByRecursion-made, AllByRecursion-at}
-use Rattle.list_laws.specs.Lists.{Ranks, count}
-use Rattle.list_laws.proofs.Ranks.{ranks_by, ranks_then_by}
+use Rattle.task_model.specs.Posts.{Posted, ripens_before, main_posts}
+use Rattle.task_model.specs.Orders.{Ordered, ordered, main_arrivals, next_draw, order_of}
+use Rattle.queue_laws.specs.Orders.{OrdersBelow, Distinct, OrdersDistinct, ordered_below}
+use Rattle.list_laws.proofs.Elements.{AllByRecursion-map, AllByRecursion-both, AllByRecursion-through, AllByRecursion-contains_itself, AllByRecursion-made}
+use Rattle.list_laws.specs.Lists.{Ranks}
+use Rattle.list_laws.proofs.Ranks.{ranks_by}
 use Rattle.list_laws.proofs.Sorts.{rises_apart}
 use Rattle.pool_laws.proofs.Keys.Arrivals.{ranks_ripens, main_posts_differ}
 use Rattle.queue_laws.proofs.Arrivals.{main_arrivals_below, main_arrivals_rise}
-use Rattle.task_base.specs.declared.entry.Kind.{Kind}
-use Rattle.task_base.specs.declared.entry.Kind.TheVariants as kinds
-use Rattle.task_model.specs.Past.{fold_past}
-use Rattle.task_model.specs.Time.{now_of, tick_from}
-use Rattle.task_model.proofs.Growth.{main_posts_push}
-use Rattle.list_laws.proofs.Values.{some-injective}
-use Rattle.queue_laws.proofs.Orders.{main_places, order_of_same, order_tick, order_at_post, unordered}
-use Rattle.list_laws.specs.Lists.{count, Ranks}
-use Rattle.task_model.specs.Posts.{Posted, Before, InOrder, is_delayed, post_behind, main_posted_by, main_posts, ripens_before}
-use Rattle.task_model.specs.Orders.{ripens, ripening, next_draw, drawn_at, order_of}
-use Rattle.queue_laws.specs.Orders.{moves_orders, OrdersBelow, Distinct, OrdersDistinct}
-use Rattle.list_laws.proofs.Elements.{AllByRecursion-at}
-use Rattle.list_laws.proofs.Ranks.{ranks_by, ranks_then_by}
-use Rattle.pool_laws.specs.Keys.{NoTickAhead}
+use Rattle.list_laws.specs.Lists.{Ranks}
+use Rattle.task_model.specs.Posts.{Posted, main_posts, ripens_before}
+use Rattle.task_model.specs.Orders.{next_draw, order_of}
+use Rattle.queue_laws.specs.Orders.{OrdersBelow, Distinct, OrdersDistinct}
+use Rattle.list_laws.proofs.Ranks.{ranks_by}
 
 ranks_order : Ranks ordered_below
 ranks_order = ranks_by (λ o. o.order)

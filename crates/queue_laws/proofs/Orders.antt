@@ -13,16 +13,15 @@ use Rattle.task_base.specs.declared.entry.Entry.{Entry}
 use Rattle.task_base.specs.declared.entry.Kind.{Kind}
 use Rattle.task_base.specs.declared.entry.Kind.TheVariants as kinds
 use Rattle.task_model.specs.Time.{now_of, now_after, is_tick_from, tick_from}
-use Rattle.task_model.specs.Posts.{Posted, is_delayed, post_behind, main_posts, main_posted_by, ripens_before}
+use Rattle.task_model.specs.Posts.{Posted, is_delayed, post_behind, main_posts, main_posted_by}
 use Rattle.task_model.specs.Refusal.{is_closed, closes}
-use Rattle.task_model.specs.Orders.{ripens, ripening, next_draw, drawn_at, moment_of, moment_at, order_of, draws, drawn_by}
-use Rattle.pool_laws.specs.Keys.{tick_by, NoTickAhead}
-use Rattle.queue_laws.specs.Orders.{moves_ripening, moves_orders, order_at_tick_of, OrdersBelow}
-use Rattle.task_model.proofs.Growth.{now_of_push, main_posts_push, is_closed_push, draws_push}
+use Rattle.task_model.specs.Orders.{ripens, ripening, next_draw, drawn_at, moment_of, moment_at, order_of}
+use Rattle.pool_laws.specs.Keys.{tick_by}
+use Rattle.queue_laws.specs.Orders.{moves_ripening, moves_orders, order_at_tick_of}
+use Rattle.task_model.proofs.Growth.{now_of_push, main_posts_push, is_closed_push}
 use Rattle.list_laws.proofs.Filters.{filter_congr}
 use Rattle.list_laws.proofs.Options.{option_or-none}
-use Rattle.list_laws.proofs.Values.{some-injective}
-use Rattle.list_laws.proofs.Elements.{slice_get-front, slice_get-end, AllByRecursion-map, AllByRecursion-append, AllByRecursion-at}
+use Rattle.list_laws.proofs.Elements.{slice_get-front, slice_get-end, AllByRecursion-map}
 use Rattle.pool_laws.proofs.Keys.Ready.{main_posts_within, tick_from_push, tick_from_stays, tick_within}
 
 -- each accepted main task has its place in the past
@@ -87,7 +86,7 @@ no_tick kind h moment = refl
 pub tick_same : (past : List Entry) (e : Entry) → moves_orders e.kind ≡ false → (moment : ℕ) → tick_from (past ++ e ∷ []) moment ≡ tick_from past moment
 tick_same past e quiet moment = tick_from_push past e moment
     ∙ ap (λ (b : Bool). option_or (tick_from past moment) (cond b (Some (length past)) None)) (no_tick e.kind quiet moment)
-        ∙ option_or-none (tick_from past moment)
+    ∙ option_or-none (tick_from past moment)
 
 pub order_of_same : (past : List Entry) (e : Entry) (p : Posted) → p.place < length past → moves_orders e.kind ≡ false
     → order_of (past ++ e ∷ []) p ≡ order_of past p

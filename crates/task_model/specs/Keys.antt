@@ -1,5 +1,5 @@
 -- The order in which the tasks of a sequence are taken, which also decides between sources of one priority.
-use Rattle.std.specs.Prelude.{ℕ, Bool, true, ◌&&◌, nat_lt, nat_le, if◌then◌else◌, List, [], ◌∷◌, ◌++◌, length, map, filter, Option, Some, is_none, IsTrue}
+use Rattle.std.specs.Prelude.{ℕ, Bool, true, ◌&&◌, nat_lt, nat_le, if◌then◌else◌, List, [], ◌∷◌, ◌++◌, length, map, filter, Option, Some, is_none}
 use Rattle.std.specs.Option.{option_map}
 use Rattle.std.specs.List.{filter_map}
 use Rattle.list_laws.specs.Sorts.{sort_by}
@@ -10,7 +10,6 @@ use Rattle.task_base.specs.declared.source.Key.{Key}
 use Rattle.task_model.specs.Past.{fold_past}
 use Rattle.task_model.specs.Time.{tick_from}
 use Rattle.task_model.specs.Posts.{Posted, is_delayed, ripens_before, post_behind, posts}
-use Rattle.task_base.specs.Keys.{key_below}
 
 -- the key of what is ready from its post on: where it was posted
 abbrev pub key_at : ℕ → Key

@@ -17,8 +17,7 @@ use Rattle.hist_model.specs.Allowed.{may_come}
 use Rattle.hist_model.specs.Legal.{IsLegal}
 use Rattle.hist_model.specs.Laws.Choice.{IsTake, IsMainTake}
 use Rattle.hist_model.specs.Laws.Consistent.{RunsPoolTask, RunsMainTask, RunsAs, IsConsistent}
-use Rattle.list_laws.proofs.Values.{eqb-same}
-use Rattle.hist_model.proofs.Laws.Legal.{legal_induction, entry_induction}
+use Rattle.hist_model.proofs.Laws.Legal.{entry_induction}
 use Rattle.hist_model.proofs.Laws.Takes.{take_is, main_take_is, end_is, main_end_is}
 use Rattle.hist_model.proofs.Laws.Whose.{RunsBehind, runs_behind}
 

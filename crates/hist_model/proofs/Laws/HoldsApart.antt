@@ -1,8 +1,8 @@
 -- In every legal history no two seats hold one item of a job, or one number in it.
-use Rattle.std.proofs.Common.{◌≡◌, ℕ, ◌+◌, ◌<◌, ◌≤◌, Bool, true, false, cond, eqb, List, [], ◌∷◌, ◌++◌, length, refl, sym, ap, subst, ◌∙◌, Option, Some, None, inl, inr, arith}
-use Rattle.std.specs.Prelude.{◌&&◌, not}
+use Rattle.std.proofs.Common.{◌≡◌, ℕ, ◌+◌, ◌<◌, ◌≤◌, Bool, true, false, cond, eqb, List, [], ◌∷◌, ◌++◌, length, refl, sym, subst, ◌∙◌, Some, None, inl, inr, arith}
+use Rattle.std.specs.Prelude.{not}
 use Rattle.std.specs.List.{range_with_len}
-use Rattle.std.proofs.lemmas.Bool.{eq-eqb, eqb-true, and_parts, both_ways, not-true, true≢false}
+use Rattle.std.proofs.lemmas.Bool.{eq-eqb, both_ways, not-true}
 use Rattle.std.proofs.lemmas.Option.{none-some, same_Some}
 use Rattle.task_base.specs.Plan.{Plan}
 use Rattle.task_base.specs.declared.entry.Entry.{Entry}
@@ -11,10 +11,10 @@ use Rattle.task_base.specs.declared.entry.Kind.TheVariants as kinds
 use Rattle.list_laws.proofs.Ranges.{range_all_at}
 use Rattle.list_laws.proofs.Finds.{find_passes}
 use Rattle.task_model.specs.Seats.{Holding, holding, holding_after, inside}
-use Rattle.task_model.specs.Jobs.{claimed, holds_id, is_free_id, free_id}
+use Rattle.task_model.specs.Jobs.{claimed, holds_id, is_free_id}
 use Rattle.task_model.specs.Sources.{leaves}
 use Rattle.task_model.proofs.Growth.{claimed_push}
-use Rattle.hist_model.specs.Allowed.{enters_job, same_number, next_item, may_come}
+use Rattle.hist_model.specs.Allowed.{may_come}
 use Rattle.hist_model.specs.Legal.{IsLegal}
 use Rattle.hist_model.specs.Laws.Consistent.{HoldsApart}
 use Rattle.hist_model.proofs.Laws.Legal.{entry_induction}
@@ -79,7 +79,7 @@ take_apart : (script : Plan) (past : List Entry) (seat job id item : ℕ) → ma
 take_apart script past seat job id item may c h is =
     let entering = entering_is script past seat job id item may in
     let free : is_free_id script past job id ≡ true = find_passes (is_free_id script past job) (range_with_len 0 (length (inside script past job) + 1)) id
-        entering.number_is in
+    entering.number_is in
     subst (IsNewlyHeld past (past ++ record { seat = seat; kind = kinds.JobTake job id item } ∷ []) seat) is (record {
       is_claimed = rw (claimed_push past (record { seat = seat; kind = kinds.JobTake job id item }) job, eq-eqb job job refl)
           (omega (arith, entering.item_is));

@@ -1,5 +1,5 @@
 -- What is known of an allowed entry of a job: of its entering, of a step, and of a join.
-use Rattle.std.proofs.Common.{◌≡◌, ℕ, Bool, true, false, eqb, List, [], ◌∷◌, length, refl, sym, ap, subst, ◌∙◌, Option, Some, None, ⊎_elim, arith}
+use Rattle.std.proofs.Common.{◌≡◌, ℕ, true, eqb, List, [], ◌∷◌, length, refl, sym, ap, subst, ◌∙◌, Option, Some, None, ⊎_elim, arith}
 use Rattle.std.specs.Prelude.{◌&&◌, is_none}
 use Rattle.std.proofs.lemmas.Bool.{eqb-true, and_parts}
 use Rattle.task_base.specs.Plan.{Plan}

@@ -7,12 +7,10 @@ use Rattle.task_base.specs.declared.entry.Entry.{Entry}
 use Rattle.task_base.specs.declared.entry.Kind.{Kind}
 use Rattle.task_base.specs.declared.entry.Kind.TheVariants as kinds
 use Rattle.task_model.specs.Past.{fold_past}
-use Rattle.task_model.specs.Posts.{Posted, post_behind, posts, posted_by, main_posts, main_posted_by, is_taken, is_ended, is_main_taken, Before, InOrder}
-use Rattle.task_model.proofs.Growth.{posts_push, main_posts_push}
-use Rattle.list_laws.proofs.Values.{eqb-same}
+use Rattle.task_model.specs.Posts.{Posted, post_behind, posts, main_posts, is_taken, is_ended, is_main_taken, Before, InOrder}
 use Rattle.list_laws.proofs.Elements.{AllByRecursion-append, AllByRecursion-map, AllByRecursion-both}
-use Rattle.hist_model.specs.Allowed.{is_allowed, IsAllowed}
-use Rattle.hist_model.specs.Legal.{is_legal, IsLegal}
+use Rattle.hist_model.specs.Allowed.{IsAllowed}
+use Rattle.hist_model.specs.Legal.{IsLegal}
 use Rattle.list_laws.proofs.Finds.{none_counted, none_found, found_counts}
 use Rattle.hist_model.specs.Laws.Postings.{kind_posts, posted_in, AreAcceptedOnce, IsNew}
 use Rattle.script_model.specs.Postings.{times, IsPostedOnce}

@@ -11,11 +11,10 @@ use Rattle.list_laws.specs.Lists.{count}
 use Rattle.task_model.specs.Past.{fold_past}
 use Rattle.task_model.specs.Posts.{Posted, post_behind, posts, posted_by, main_posts, main_posted_by, is_taken, takes, is_main_taken, main_takes}
 use Rattle.task_model.specs.Refusal.{is_refused, is_closed}
-use Rattle.task_model.proofs.Growth.{posts_push, main_posts_push, is_taken_push, is_main_taken_push}
-use Rattle.list_laws.proofs.Values.{eqb-same}
+use Rattle.task_model.proofs.Growth.{posts_push, main_posts_push}
 use Rattle.list_laws.proofs.Counts.{count-append}
-use Rattle.hist_model.specs.Allowed.{by_script, by_task, may_come, is_allowed}
-use Rattle.hist_model.specs.Legal.{is_legal, IsLegal}
+use Rattle.hist_model.specs.Allowed.{by_script, by_task, may_come}
+use Rattle.hist_model.specs.Legal.{IsLegal}
 use Rattle.list_laws.proofs.Finds.{contained_counts}
 use Rattle.hist_model.specs.Laws.Postings.{kind_posts, posted_in}
 use Rattle.script_model.specs.Postings.{posts_of_step, posts_of_action, postings, times, IsPostedOnce}

@@ -24,14 +24,13 @@ use Rattle.pool_laws.proofs.Keys.Ready.{no_tick_ahead_at_start, no_tick_ahead_gr
 use Rattle.pool_laws.proofs.Keys.Arrivals.{arrivals_are_ready_at_start, arrivals_are_ready_grows}
 use Rattle.queue_laws.proofs.Arrivals.{main_arrivals_are_ordered_at_start, main_arrivals_are_ordered_grows}
 use Rattle.queue_laws.proofs.Distinct.{orders_below, orders_distinct}
-use Rattle.hist_model.specs.Allowed.{enters, by_script, by_task, may_come, is_allowed, IsAllowed}
-use Rattle.hist_model.specs.Legal.{is_legal, IsLegal}
+use Rattle.hist_model.specs.Allowed.{enters, by_script, by_task, may_come, IsAllowed}
+use Rattle.hist_model.specs.Legal.{IsLegal}
 use Rattle.hist_model.specs.Laws.Consistent.{RunsAs, IsConsistent}
 use Rattle.hist_model.specs.Laws.Rising.{Rises}
 use Rattle.hist_model.proofs.Laws.Legal.{legal_induction}
 use Rattle.hist_model.proofs.Laws.Choice.{found}
 use Rattle.hist_model.proofs.Laws.Consistent.{legal_is_consistent}
-use Rattle.hist_model.proofs.Laws.PostedOnce.{each_is_accepted_once}
 
 -- an entry that is allowed does not set the moment back
 moment_rises : (script : Plan) (past : List Entry) (seat : ℕ) (kind : Kind) → may_come script past seat kind ≡ true → now_of past ≤ now_after (now_of past) kind

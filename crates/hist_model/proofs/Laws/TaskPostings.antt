@@ -15,7 +15,6 @@ use Rattle.list_laws.specs.Lists.{holds_of}
 use Rattle.task_model.specs.Posts.{is_taken, takes, is_main_taken, main_takes}
 use Rattle.task_model.specs.Seats.{Running, running, running_after, acts_done, acts_after, steps_of}
 use Rattle.task_model.proofs.Growth.{running_push, acts_done_push, is_taken_push, is_main_taken_push}
-use Rattle.list_laws.proofs.Values.{eqb-same}
 use Rattle.hist_model.specs.Allowed.{enters, by_task}
 use Rattle.hist_model.specs.Laws.Postings.{kind_posts}
 use Rattle.script_model.specs.Postings.{posts_of_step, times}

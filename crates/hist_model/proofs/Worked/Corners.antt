@@ -1,6 +1,6 @@
 -- Histories that pin single words of the definitions: each would be judged otherwise, were that word left out or turned.
 use Rattle.std.proofs.Common.{◌≡◌, ℕ, suc, zero, ◌+◌, Bool, true, false, List, [], ◌∷◌, ◌++◌, refl}
-use Rattle.std.specs.Prelude.{codes, Option, Some, None, Result, Ok, Err}
+use Rattle.std.specs.Prelude.{codes, Option, Some, None, Ok, Err}
 use Rattle.task_base.specs.declared.entry.Entry.{Entry}
 use Rattle.task_base.specs.declared.entry.JobReply.TheVariants as replies
 use Rattle.task_base.specs.declared.entry.Kind.TheVariants as kinds
@@ -110,7 +110,7 @@ number_is_freed =
 
 freed_number_is_used_again : judged freed_number (number_is_freed
     ++ by 1 (kinds.JobTake 0 0 2) ∷ by 2 (kinds.JobStep 0 1 1 1 (Some 3)) ∷ by 1 (kinds.JobStep 0 0 2 2 None) ∷ by 2
-        (kinds.JobStep 0 1 3 3 None) ∷ by 0 kinds.Idle ∷ [])
+    (kinds.JobStep 0 1 3 3 None) ∷ by 0 kinds.Idle ∷ [])
     ≡ Some (true, true, None)
 unfolding judge read
 freed_number_is_used_again = refl

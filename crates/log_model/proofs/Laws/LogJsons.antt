@@ -25,7 +25,7 @@ json_lacks_bracket place e h = joined_parts_lack shown_json 93 44 (λ same. omeg
 same_json : (place : ℕ) (a b : Entry) → Fits a → Fits b → json_words place a ≡ json_words place b → a ≡ b
 same_json place a b p q e = same_entry a b
     (same_joined shown_json 44 (shown_json_lacks 44 refl (λ same. omega arith)) same_shown_json (decimal place) (seat_parts a) (seat_parts b)
-        (decimal_lacks 44 refl place) (seat_parts_fit a p) (seat_parts_fit b q) e)
+    (decimal_lacks 44 refl place) (seat_parts_fit a p) (seat_parts_fit b q) e)
 
 -- what joined items have behind the first: nothing, or a comma and the joined rest
 abbrev behind : List (List ℕ) → List ℕ
@@ -62,7 +62,7 @@ same_from place (x ∷ a) (y ∷ b) p q e =
     (json_lacks_bracket place x fits) (json_lacks_bracket place y fits') inside in
     let first : x ≡ y = same_json place x y fits fits' cut.0 in
     let rest : a ≡ b = same_from (place + 1) a b (All-tail Fits x a p) (All-tail Fits y b q)
-        (same_behind (jsons_from (place + 1) a) (jsons_from (place + 1) b) cut.1) in
+    (same_behind (jsons_from (place + 1) a) (jsons_from (place + 1) b) cut.1) in
     cc
 
 -- the whole form tells the history

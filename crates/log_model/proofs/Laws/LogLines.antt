@@ -40,4 +40,4 @@ line_lacks_feed place e h = joined_parts_lack shown 10 32 (λ same. omega arith)
 pub same_line : (place : ℕ) (a b : Entry) → Fits a → Fits b → line_words place a ≡ line_words place b → a ≡ b
 same_line place a b p q e = same_entry a b
     (same_joined shown 32 (shown_lacks 32 refl) same_shown (decimal place) (seat_parts a) (seat_parts b) (decimal_lacks 32 refl place) (seat_parts_fit a p)
-        (seat_parts_fit b q) e)
+    (seat_parts_fit b q) e)

@@ -171,7 +171,7 @@ digits_onto_digits zero n acc h = h
 digits_onto_digits (suc k) n acc h =
     let more : AllByRecursion IsDigit (digit_glyph false (n % 10) ∷ acc) = (digit_glyph_is_digit (n % 10) (omega arith), h) in
     elim (n / 10 == 0) as (λ last. AllByRecursion IsDigit (if last then digit_glyph false (n % 10) ∷ acc else digits_onto k 10 false (n / 10)
-        (digit_glyph false (n % 10) ∷ acc))) [
+    (digit_glyph false (n % 10) ∷ acc))) [
       | true ↦ more
       | false ↦ digits_onto_digits k (n / 10) (digit_glyph false (n % 10) ∷ acc) more
     ]
@@ -230,7 +230,7 @@ name_is_no_number bytes n h e =
 quoted_is_no_number : (bytes : List ℕ) (n : ℕ) → 34 ∷ bytes ++ 34 ∷ [] ≢ decimal n
 quoted_is_no_number bytes n e =
     let digits : list_all is_digit (34 ∷ bytes ++ 34 ∷ []) ≡ true = ap (list_all is_digit) e
-        ∙ digits_pass is_digit digit_passes (decimal n) (decimal_is_digits n) in
+    ∙ digits_pass is_digit digit_passes (decimal n) (decimal_is_digits n) in
     let clash : false ≡ true = digits in
     cc
 
@@ -272,10 +272,10 @@ parts_lack show c lacks (x ∷ xs) h = (lacks x h.0, parts_lack show c lacks xs 
 pub same_joined : (show : Part → List ℕ) (c : ℕ) → ((part : Part) → PartFits part → Lacks c (show part))
     → ((a b : Part) → PartFits a → PartFits b → show a ≡ show b → a ≡ b)
     → (first : List ℕ) (xs ys : List Part) → Lacks c first → AllByRecursion PartFits xs → AllByRecursion PartFits ys
-        → join_with_byte c (first ∷ map show xs) ≡ join_with_byte c (first ∷ map show ys) → xs ≡ ys
+    → join_with_byte c (first ∷ map show xs) ≡ join_with_byte c (first ∷ map show ys) → xs ≡ ys
 same_joined show c lacks same first xs ys l p q e =
     let pieces : first ∷ map show xs ≡ first ∷ map show ys = same_pieces c first first (map show xs) (map show ys) (l, parts_lack show c lacks xs p)
-        (l, parts_lack show c lacks ys q) e in
+    (l, parts_lack show c lacks ys q) e in
     let tails : map show xs ≡ map show ys = cc in
     same_parts show same xs ys p q tails
 

@@ -47,13 +47,16 @@ text_from-take_more log i d within =
     let place : 0 + length (take i log) ≡ i = omega (arith, length-take-le i log) in
     ap (text_from 0) more ∙ text_from-append 0 (take i log) (get_or log i d ∷ [])
     ∙ ap (λ text. text_from 0 (take i log) ++ text) (append-nil (line_of (0 + length (take i log)) (get_or log i d))
-        ∙ ap (λ start. line_of start (get_or log i d)) place)
+    ∙ ap (λ start. line_of start (get_or log i d)) place)
 
 -- the text of the first entries begins the whole text
 pub log_text-cut : (log : List Entry) (i : ℕ) → (rest : List ℕ) × (log_text log ≡ text_from 0 (take i log) ++ rest)
 unfolding log_text
-log_text-cut log i = (text_from (0 + length (take i log)) (drop i log), ap (text_from 0) (sym (take-append-drop i log))
-    ∙ text_from-append 0 (take i log) (drop i log))
+log_text-cut log i = (
+  text_from (0 + length (take i log)) (drop i log),
+  ap (text_from 0) (sym (take-append-drop i log))
+      ∙ text_from-append 0 (take i log) (drop i log),
+)
 
 -- the text of all entries is the whole text
 pub log_text-take_all : (log : List Entry) (i : ℕ) → length log ≤ i → text_from 0 (take i log) ≡ log_text log

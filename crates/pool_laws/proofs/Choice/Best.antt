@@ -8,14 +8,8 @@ use Rattle.task_base.specs.Plan.{Plan}
 use Rattle.task_base.specs.declared.entry.Entry.{Entry}
 use Rattle.task_base.specs.Keys.{key_below}
 use Rattle.task_base.specs.Groups.{importance}
-use Rattle.task_model.specs.Sources.{Candidate, waiting, is_takeable, goes_before, best_of, sequence_candidate, job_candidate, IsWaiting}
-use Rattle.pool_laws.specs.Choice.{IsBest, source_waiting, posted_source, source_at}
-use Rattle.task_model.specs.Jobs.{JobPosted, job_post_of, job_post_after, may_enter}
-use Rattle.pool_laws.specs.Keys.{ready_below}
-use Rattle.list_laws.proofs.Values.{some-injective}
-use Rattle.list_laws.proofs.Least.{least_from-is}
-use Rattle.list_laws.proofs.Filters.{filter_passes}
-use Rattle.list_laws.proofs.Elements.{AllByRecursion-append, AllByRecursion-map, AllByRecursion-both, AllByRecursion-filter, AllByRecursion-filter_map}
+use Rattle.task_model.specs.Sources.{Candidate, waiting, is_takeable, goes_before, best_of}
+use Rattle.pool_laws.specs.Choice.{IsBest}
 use Rattle.pool_laws.proofs.Choice.Least.{best_is_best, no_best, keys_total}
 use Rattle.list_laws.proofs.Ranks.{tied}
 use Rattle.pool_laws.proofs.Choice.Sources.{one_key}

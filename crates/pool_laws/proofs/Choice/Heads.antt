@@ -14,7 +14,6 @@ use Rattle.pool_laws.specs.Keys.{ready_below}
 use Rattle.list_laws.specs.Lists.{IsLeast}
 use Rattle.list_laws.proofs.Made.{contains_filter, contains_not_empty}
 use Rattle.list_laws.proofs.Values.{some-injective}
-use Rattle.list_laws.proofs.Elements.{AllByRecursion-map, AllByRecursion-filter, AllByRecursion-filter_map}
 use Rattle.pool_laws.proofs.Choice.Least.{head_is_least, no_head, keys_total}
 use Rattle.pool_laws.proofs.Keys.Sequences.{eligible_at_shutdown}
 use Rattle.pool_laws.proofs.Seats.Running.{runs_same}

@@ -8,9 +8,7 @@ use Rattle.std.specs.Prelude.{◌&&◌, ◌||◌, nat_lt, filter, Contains, All}
 use Rattle.std.proofs.lemmas.List.Elements.{All-weaker, All-contains, All-contains_itself}
 use Rattle.std.proofs.lemmas.Bool.{false_from_ne_true}
 use Rattle.task_base.specs.declared.source.Key.{Key}
-use Rattle.list_laws.specs.Lists.{IsLeast, Ranks, then_by, least}
-use Rattle.task_traits.specs.declared.traits.Priority.{Priority}
-use Rattle.task_traits.specs.declared.traits.Priority.TheVariants.{BestEffort, UserVisible, UserBlocking}
+use Rattle.list_laws.specs.Lists.{IsLeast, Ranks, then_by}
 use Rattle.task_base.specs.Keys.{key_below}
 use Rattle.task_model.specs.Keys.{Ready}
 use Rattle.task_model.specs.Sequences.{eligible, head_of}
@@ -20,12 +18,9 @@ use Rattle.pool_laws.specs.Keys.{ready_below}
 use Rattle.pool_laws.specs.Choice.{IsBest}
 use Rattle.task_base.specs.Plan.{Plan}
 use Rattle.task_base.specs.declared.entry.Entry.{Entry}
-use Rattle.list_laws.proofs.Least.{least_is_least, no_least, least_from-is}
+use Rattle.list_laws.proofs.Least.{least_is_least, no_least}
 use Rattle.list_laws.proofs.Made.{filter_contains, contains_filter, contains_not_empty}
-use Rattle.list_laws.proofs.Ranks.{ranks_turned, ranks_by, ranks_then_by, tied, ranks_same}
-use Rattle.list_laws.proofs.Values.{some-injective}
-use Rattle.list_laws.proofs.Filters.{filter_passes}
-use Rattle.list_laws.proofs.Elements.{AllByRecursion-map, AllByRecursion-filter, AllByRecursion-both, unfiltered}
+use Rattle.list_laws.proofs.Ranks.{ranks_turned, ranks_by, ranks_then_by, tied}
 
 -- by keys
 pub ranks_key : {A : Type 0} (key : A → Key) → Ranks (λ a b. key_below (key a) (key b))

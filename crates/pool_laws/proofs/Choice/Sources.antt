@@ -14,37 +14,18 @@ use Rattle.task_base.specs.declared.source.TaskSource.TheVariants.{Sequence, Job
 use Rattle.task_model.specs.Past.{fold_past}
 use Rattle.task_model.specs.Posts.{Posted}
 use Rattle.task_model.specs.Keys.{Ready}
-use Rattle.task_base.specs.Runners.{sequence_of, sequence_count}
+use Rattle.task_base.specs.Runners.{sequence_of}
 use Rattle.task_model.specs.Sequences.{is_of, head_of}
-use Rattle.task_model.specs.Jobs.{JobPosted, job_post_of, job_post_after, is_cancelled, items_of, has_unclaimed}
-use Rattle.task_model.specs.Sources.{Candidate, IsWaiting, would_wait, sequence_candidate, sequence_waiting, job_waiting, waiting, is_takeable, goes_before, best_of, is_outranked, makes_way, leaves}
-use Rattle.pool_laws.specs.Choice.{source_waiting, posted_source, source_at, WouldWait, post_by, post_at, moves_waiting, moves_best}
+use Rattle.task_model.specs.Jobs.{JobPosted, job_post_of, job_post_after}
+use Rattle.task_model.specs.Sources.{Candidate, IsWaiting}
+use Rattle.pool_laws.specs.Choice.{source_waiting, posted_source, source_at, WouldWait, post_by, post_at}
 use Rattle.list_laws.proofs.Elements.{slice_get-end, push_induction}
 use Rattle.list_laws.proofs.Places.{slice_get-more}
 use Rattle.list_laws.proofs.Values.{some-injective}
 use Rattle.pool_laws.proofs.Choice.Least.{head_is_least}
 use Rattle.pool_laws.proofs.Choice.Candidates.{waiting_is_not_held, would_wait_is_candidate, waiting_sequence, waiting_job, sequence_within, job_within}
-use Rattle.task_model.proofs.Growth.{job_post_of_push, policy_of_push}
+use Rattle.task_model.proofs.Growth.{job_post_of_push}
 use Rattle.pool_laws.proofs.Choice.Posts.{eligible_names_post}
-use Rattle.task_base.specs.declared.entry.Kind.TheVariants as kinds
-use Rattle.task_traits.specs.Behaviour.{forbids}
-use Rattle.task_traits.specs.declared.traits.Priority.{Priority}
-use Rattle.list_laws.specs.Lists.{least}
-use Rattle.task_model.specs.Phase.{phase_of}
-use Rattle.task_model.specs.Policies.{policy_of, policy_after, is_held}
-use Rattle.task_model.specs.Refusal.{behaviour_of_job, is_job_forbidden}
-use Rattle.task_model.specs.Seats.{runs_sequence}
-use Rattle.task_base.specs.Groups.{Group, importance, group_of, same_group}
-use Rattle.task_model.specs.Capacity.{priority_of_job, load, capacity, has_room}
-use Rattle.pool_laws.specs.Keys.{moves_sequences}
-use Rattle.pool_laws.specs.Seats.{moves_main, moves_running, moves_holding, moves_seats, runs_pool_task}
-use Rattle.pool_laws.specs.Room.{moves_capacity, moves_room}
-use Rattle.pool_laws.specs.Jobs.{moves_jobs, JobKept}
-use Rattle.list_laws.proofs.Filters.{filter_congr, filter_map_congr}
-use Rattle.pool_laws.proofs.Keys.Sequences.{head_same}
-use Rattle.pool_laws.proofs.Seats.Running.{runs_same, runs_at_main, seats_parts}
-use Rattle.pool_laws.proofs.Jobs.Answers.{job_same, job_waiting_kept}
-use Rattle.pool_laws.proofs.Room.Capacity.{load_same, load_at_driver, capacity_same, capacity_at_main, has_room_same, room_at_main}
 
 -- a post stays where it is
 source_more : (script : Plan) (past more : List Entry) (place : ℕ) (source : TaskSource) → source_at script past place ≡ Some source

@@ -12,21 +12,17 @@ use Rattle.task_base.specs.declared.entry.Entry.{Entry}
 use Rattle.task_base.specs.declared.entry.Kind.{Kind}
 use Rattle.task_base.specs.declared.entry.Kind.TheVariants as kinds
 use Rattle.list_laws.specs.Lists.{holds_of, least}
-use Rattle.task_model.specs.Posts.{posts, post_behind}
+use Rattle.task_model.specs.Posts.{posts}
 use Rattle.task_model.specs.Keys.{Ready, ready_behind}
-use Rattle.task_model.specs.Refusal.{is_forbidden, behaviour_of_job, is_job_forbidden}
+use Rattle.task_model.specs.Refusal.{is_forbidden}
 use Rattle.task_base.specs.Runners.{sequence_of}
-use Rattle.task_model.specs.Sequences.{head_of, eligible, may_start}
-use Rattle.task_model.specs.Seats.{runs_sequence, running, runs_of, inside, holding}
-use Rattle.task_model.specs.Sources.{sequence_candidate, sequence_waiting, job_candidate, job_waiting, makes_way, leaves}
+use Rattle.task_model.specs.Sequences.{head_of, eligible}
+use Rattle.task_model.specs.Seats.{runs_sequence, running, runs_of}
+use Rattle.task_model.specs.Sources.{sequence_candidate, sequence_waiting}
 use Rattle.pool_laws.specs.Keys.{moves_sequences, joins, is_task_of, is_unripe, ready_below}
-use Rattle.pool_laws.specs.Seats.{moves_main, moves_running, runs_pool_task, IsSeat, moves_holding, holds_job}
-use Rattle.pool_laws.specs.Choice.{moves_sequence_waiting, may_enter_with, job_candidate_with, job_waiting_with, JobBy, IsShut}
+use Rattle.pool_laws.specs.Seats.{moves_main, moves_running, runs_pool_task, IsSeat}
+use Rattle.pool_laws.specs.Choice.{moves_sequence_waiting}
 use Rattle.list_laws.proofs.Options.{option_or-none}
-use Rattle.task_model.specs.Phase.{phase_of, phase_after, started_from}
-use Rattle.task_model.specs.Capacity.{priority_of_job}
-use Rattle.task_model.specs.Jobs.{JobPosted, job_post_of, job_post_after, is_cancelled, cancels, claimed, claims, done, value_by, items_of, cap_of, may_enter, has_unclaimed, is_job_accepted, concurrency}
-use Rattle.task_model.proofs.Growth.{phase_of_push, job_post_of_push, is_cancelled_push, claimed_push, done_push}
 use Rattle.pool_laws.proofs.Keys.Sequences.{head_same, head_at_post, head_at_delayed_post, head_at_other_tick, head_at_other_take, head_at_shutdown, head_at_done}
 use Rattle.pool_laws.proofs.Seats.Running.{runs_same, runs_at_main, runs_at_take, runs_at_end, runs_at_other_end}
 use Rattle.task_model.specs.Time.{now_of, tick_from}

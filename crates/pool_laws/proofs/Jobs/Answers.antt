@@ -18,8 +18,7 @@ use Rattle.task_model.specs.Sources.{job_candidate, job_waiting}
 use Rattle.pool_laws.specs.Seats.{moves_main, moves_holding, holds_job}
 use Rattle.pool_laws.specs.Jobs.{moves_jobs, posts_job, JobKept}
 use Rattle.task_model.proofs.Growth.{phase_of_push, job_post_of_push, is_cancelled_push, claimed_push, done_push, job_sum_push}
-use Rattle.pool_laws.proofs.Seats.Running.{inside_same, inside_at_other_take, inside_at_step, inside_at_other_leave, holding_same}
-use Rattle.list_laws.proofs.Tests.{find_congr, list_all_congr}
+use Rattle.pool_laws.proofs.Seats.Running.{inside_same, inside_at_other_take, inside_at_step, inside_at_other_leave}
 
 -- the first post of a job stays at each entry that is no post of it
 pub post_stays : (j : ℕ) (past : List Entry) (now : Option JobPosted) (kind : Kind) → posts_job j kind ≡ false → job_post_after j past now kind ≡ now

@@ -27,12 +27,12 @@ use Rattle.list_laws.specs.Lists.{least, keep}
 use Rattle.task_model.specs.Phase.{phase_of, phase_after, started_from}
 use Rattle.task_base.specs.declared.source.Key.{Key}
 use Rattle.task_model.specs.Time.{tick_from, now_of}
-use Rattle.task_model.specs.Posts.{Posted, is_delayed, posts, posted_by, is_taken, takes}
+use Rattle.task_model.specs.Posts.{Posted, is_delayed, posts, is_taken, takes}
 use Rattle.task_model.specs.Keys.{Ready, ready, key_at, key_of, ready_behind}
 use Rattle.task_model.specs.Refusal.{effective_at, is_forbidden}
 use Rattle.task_model.specs.Sequences.{is_of, may_start, eligible, head_of}
-use Rattle.pool_laws.specs.Keys.{moves_ready, tick_by, key_by, moves_sequences, joins, is_task_of, ready_below, ripe_at_tick_of, is_unripe, ready_at_tick_of, moves_posts}
-use Rattle.task_model.proofs.Growth.{posts_push, phase_of_push, is_taken_push}
+use Rattle.pool_laws.specs.Keys.{moves_ready, key_by, moves_sequences, joins, is_task_of, ready_below, ripe_at_tick_of, is_unripe, ready_at_tick_of, moves_posts}
+use Rattle.task_model.proofs.Growth.{phase_of_push, is_taken_push}
 use Rattle.list_laws.proofs.Values.{some-injective}
 use Rattle.list_laws.proofs.Filters.{filter-keep, filter_map_congr, filter_congr, filter_passes, filter_map_congr_in, filter-filter_map, filter-filter, filter_all, filter_never}
 use Rattle.list_laws.proofs.Elements.{AllByRecursion-both, AllByRecursion-map, AllByRecursion-filter}

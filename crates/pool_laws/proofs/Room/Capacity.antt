@@ -34,7 +34,7 @@ use Rattle.list_laws.proofs.Filters.{filter_congr_in}
 use Rattle.list_laws.proofs.Counts.{count_change_in}
 use Rattle.list_laws.proofs.Ranges.{range_with, AllByRecursion-range}
 use Rattle.list_laws.proofs.Elements.{AllByRecursion-always}
-use Rattle.pool_laws.proofs.Seats.Running.{running_here, running_other, running_same, holding_here, holding_other, holding_same, seats_parts, taken_with_is}
+use Rattle.pool_laws.proofs.Seats.Running.{running_here, running_other, running_same, holding_here, holding_other, holding_same, taken_with_is}
 use Rattle.task_base.specs.declared.step.Scope.{Scope}
 
 worker_once : (script : Plan) (seat : ℕ) → IsWorker script seat → count (λ x. eqb seat x) (worker_seats script) ≡ 1

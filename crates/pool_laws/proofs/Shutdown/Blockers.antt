@@ -20,13 +20,6 @@ use Rattle.pool_laws.specs.Room.{share}
 use Rattle.pool_laws.specs.Shutdown.{moves_open_blocks, moves_running_skips, moves_open_jobs, moves_block_part, moves_skip_part, moves_blockers, is_block_task, is_skip_task}
 use Rattle.pool_laws.proofs.Shutdown.Tasks.{open_blocks_same, open_blocks_at_post, open_blocks_at_end, running_skips_same, running_skips_at_post, running_skips_at_take, running_skips_at_end}
 use Rattle.pool_laws.proofs.Shutdown.Jobs.{open_jobs_same, open_jobs_at_post, open_jobs_at_take, open_jobs_at_step, open_jobs_at_leave, open_jobs_at_cancel, skip_seats_same, skip_seats_at_take, skip_seats_at_step, skip_seats_at_leave}
-use Rattle.task_model.proofs.Growth.{posts_push, is_taken_push, is_ended_push, job_post_of_push, is_cancelled_push, done_push}
-use Rattle.list_laws.proofs.Values.{some-injective}
-use Rattle.list_laws.proofs.Elements.{AllByRecursion-map}
-use Rattle.list_laws.proofs.Filters.{filter_congr_in}
-use Rattle.list_laws.proofs.Counts.{filter_length_congr, count-cons, count-append, count_change}
-use Rattle.list_laws.proofs.Ranges.{range_with}
-use Rattle.pool_laws.proofs.Seats.Running.{holding_same, holding_here, holding_other, seat_once, inside_same, inside_at_take, inside_at_other_take, inside_at_step, inside_at_leave, inside_at_other_leave}
 
 -- The block part.
 

@@ -4,10 +4,6 @@ use Rattle.std.specs.Prelude.{◌-◌, ◌^◌, take, ◌&&◌, codes, slice_get
 use Rattle.std.specs.List.{AllByRecursion, slice_split}
 use Rattle.std.proofs.lemmas.Bool.Decides.{nat_tests}
 use Rattle.std.proofs.lemmas.Bool.{eqb-true}
-use Rattle.list_laws.specs.Lists.{count}
-use Rattle.script_model.specs.Postings.{times}
-use Rattle.script_model.specs.Draft.{is_any_posted}
-use Rattle.list_laws.proofs.Counts.{count-cons}
 use Rattle.task_base.specs.declared.limits.TheConstants.{MOST_WORKERS, MOST_MICROSECONDS}
 use Rattle.script_model.proofs.Laws.Faults.{ok_same}
 use Rattle.task_base.specs.declared.step.Step.{Step}

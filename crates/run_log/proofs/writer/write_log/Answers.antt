@@ -1,4 +1,4 @@
-use Rattle.std.proofs.Common.{◌≤◌, ℕ, length, take, Ok, Err, OnErr, arith, ◌∙◌}
+use Rattle.std.proofs.Common.{◌≤◌, ℕ, length, take, Ok, Err, OnErr, ◌∙◌}
 use Rattle.env_io.specs.Bytes.{Gains}
 use Rattle.log_model.specs.LogText.{log_text}
 use Rattle.log_model.proofs.Laws.LogTexts.{log_text-take_all}
