@@ -372,30 +372,34 @@ fn most_tasks(rt: HostRuntime) -> Result<(), Fail> {
     Ok(())
 }
 
-/// A gate that counts its calls for each of three tasks.
+/// A gate that numbers its calls from 1, and adds up for each of three tasks the numbers of its calls.
 #[derive(Drop)]
 struct CountingGate {
-    calls: [AtomicU64; 3],
+    calls: AtomicU64,
+    places: [AtomicU64; 3],
 }
 
 impl Gate for CountingGate {
     fn before(&self, seat: u32, task: u32) {
-        if let (1, Some(count)) = (seat, self.calls.get(task as usize)) {
-            count.fetch_add(1, Ordering::SeqCst);
+        if let (1, Some(place)) = (seat, self.places.get(task as usize)) {
+            let calls = self.calls.fetch_add(1, Ordering::SeqCst);
+            place.fetch_add(calls.wrapping_add(1), Ordering::SeqCst);
         }
     }
 }
 
 #[test]
-fn gate_is_passed_once_a_task(rt: HostRuntime) -> Result<(), Fail> {
+fn gate_is_passed_once_a_task_in_the_order_of_the_takes(rt: HostRuntime) -> Result<(), Fail> {
     let gate = CountingGate {
-        calls: [AtomicU64::new(0), AtomicU64::new(0), AtomicU64::new(0)],
+        calls: AtomicU64::new(0),
+        places: [AtomicU64::new(0), AtomicU64::new(0), AtomicU64::new(0)],
     };
     let bytes = RISING_PRIORITIES.as_bytes().to_vec(rt.alloc())?;
     let outcome = run_on(&rt, &["taskenv", "run"], &mut SureSource::new(bytes), &gate)?;
     assert_eq!(rt; outcome.status, 0);
-    for count in &gate.calls {
-        assert_eq!(rt; count.load(Ordering::SeqCst), 1);
+    assert_eq!(rt; gate.calls.load(Ordering::SeqCst), 3);
+    for (place, taken) in gate.places.iter().zip([3, 2, 1]) {
+        assert_eq!(rt; place.load(Ordering::SeqCst), taken);
     }
     Ok(())
 }

@@ -18,7 +18,6 @@ use Rattle.task_model.specs.Posts.{is_taken, takes, is_main_taken, main_takes}
 use Rattle.task_model.specs.Seats.{Running, running, next_act}
 use Rattle.task_model.specs.Capacity.{open_scope, scope_after}
 use Rattle.queue_laws.specs.Orders.{OrdersDistinct}
-use Rattle.script_model.specs.Postings.{IsPostedOnce}
 use Rattle.task_model.proofs.Growth.{is_taken_push, is_main_taken_push, open_scope_push}
 use Rattle.pool_laws.proofs.Keys.Ready.{no_tick_ahead_at_start, no_tick_ahead_grows}
 use Rattle.pool_laws.proofs.Keys.Arrivals.{arrivals_are_ready_at_start, arrivals_are_ready_grows}
@@ -109,5 +108,5 @@ pub legal_rises : (script : Plan) (past : List Entry) → IsLegal script past �
 legal_rises script = legal_induction script Rises nothing_risen (risen_next script)
 
 -- no two main tasks draw one order
-pub orders_are_distinct : (script : Plan) (past : List Entry) → IsPostedOnce script → IsLegal script past → OrdersDistinct past
-orders_are_distinct script past once legal = orders_distinct past (legal_rises script past legal).main_arrivals_are_ordered
+pub orders_are_distinct : (script : Plan) (past : List Entry) → IsLegal script past → OrdersDistinct past
+orders_are_distinct script past legal = orders_distinct past (legal_rises script past legal).main_arrivals_are_ordered
