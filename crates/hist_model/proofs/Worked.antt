@@ -6,3 +6,4 @@ pub mod Jobs
 pub mod Edges
 pub mod Refusals
 pub mod Corners
+pub mod Wanted

@@ -4,13 +4,13 @@ use Rattle.std.specs.Prelude.{codes, Option, Some, None, Result, Ok, Err}
 use Rattle.task_base.specs.declared.entry.Entry.{Entry}
 use Rattle.task_base.specs.declared.entry.JobReply.TheVariants as replies
 use Rattle.task_base.specs.declared.entry.Kind.TheVariants as kinds
-use Rattle.task_base.specs.declared.script.FenceAt.TheVariants.{Start}
-use Rattle.task_base.specs.declared.step.Scope.TheVariants.{Will}
+use Rattle.task_base.specs.declared.script.FenceAt.TheVariants.{Now, Start}
+use Rattle.task_base.specs.declared.step.Scope.TheVariants.{May, Will}
 use Rattle.hist_model.proofs.Worked.Rows.{judge, read, by}
 
 -- what is judged of a log, for the script that the text is: whether it is legal, whether it is whole, and its first place
 -- that is not allowed
-abbrev judged : List ℕ → List Entry → Option (Bool × Bool × Option ℕ)
+abbrev pub judged : List ℕ → List Entry → Option (Bool × Bool × Option ℕ)
 judged text log = elim (read text) as (λ _. Option (Bool × Bool × Option ℕ)) [ Ok script ↦ Some (judge script log) | Err fault ↦ None ]
 
 -- ---- whole: finished, and quiet
@@ -136,6 +136,58 @@ thirty_three_inside : judged forty_workers (by 0 (kinds.JobPost 0 true) ∷ ente
 unfolding judge read
 thirty_three_inside = refl
 
+-- two jobs of two items
+abbrev two_jobs : List ℕ
+two_jobs = codes "workers 2\njob 0 user_visible skip 2 2 add 1\njob 1 user_visible skip 2 2 add 5\nstartjob 0\nstartjob 1\njoin 0\njoin 1\n"
+
+abbrev two_jobs_start : List Entry
+two_jobs_start = by 0 (kinds.JobPost 0 true) ∷ by 0 (kinds.JobPost 1 true) ∷ []
+
+-- each job has its own items and its own sum
+jobs_add_up_apart : judged two_jobs
+    (two_jobs_start ++ by 0 (kinds.JobTake 0 0 0) ∷ by 0 (kinds.JobStep 0 0 0 1 (Some 1)) ∷ by 0 (kinds.JobStep 0 0 1 2 None)
+    ∷ by 0 (kinds.Joined 0 (replies.Finished 3)) ∷ by 0 (kinds.JobTake 1 0 0) ∷ by 0 (kinds.JobStep 1 0 0 5 (Some 1))
+    ∷ by 0 (kinds.JobStep 1 0 1 6 None) ∷ by 0 (kinds.Joined 1 (replies.Finished 11)) ∷ []) ≡ Some (true, true, None)
+unfolding judge read
+jobs_add_up_apart = refl
+
+-- job 1 has fewer inside, though it was posted later, and its numbers and items are its own
+seats_inside_are_counted_apart : judged two_jobs (two_jobs_start ++ by 1 (kinds.JobTake 0 0 0) ∷ by 2 (kinds.JobTake 1 0 0) ∷ []) ≡ Some (true, false, None)
+unfolding judge read
+seats_inside_are_counted_apart = refl
+
+more_inside_goes_first : judged two_jobs (two_jobs_start ++ by 1 (kinds.JobTake 0 0 0) ∷ by 2 (kinds.JobTake 0 1 1) ∷ []) ≡ Some (false, false, Some 3)
+unfolding judge read
+more_inside_goes_first = refl
+
+other_job_is_not_cancelled : judged (codes "workers 1\njob 0 user_visible skip 1 1\njob 1 user_visible skip 1 1\nstartjob 0\nstartjob 1\ncancel 0\njoin 1\n")
+    (by 0 (kinds.JobPost 0 true) ∷ by 0 (kinds.JobPost 1 true) ∷ by 0 (kinds.JobCancel 0) ∷ by 0 (kinds.Cancelled 0)
+    ∷ by 0 (kinds.JobTake 1 0 0) ∷ by 0 (kinds.JobStep 1 0 0 0 None) ∷ by 0 (kinds.Joined 1 (replies.Finished 0)) ∷ []) ≡ Some (true, true, None)
+unfolding judge read
+other_job_is_not_cancelled = refl
+
+cancelled_job_is_not_entered : judged (codes "workers 1\njob 0 user_visible skip 1 1\nstartjob 0\ncancel 0\n")
+    (by 0 (kinds.JobPost 0 true) ∷ by 0 (kinds.JobCancel 0) ∷ by 1 (kinds.JobTake 0 0 0) ∷ []) ≡ Some (false, false, Some 2)
+unfolding judge read
+cancelled_job_is_not_entered = refl
+
+forbidden_job_is_not_entered : judged (codes "workers 1\njob 0 user_visible skip 1 1\nstartjob 0\nshutdown\n")
+    (by 0 (kinds.JobPost 0 true) ∷ by 0 kinds.Shutdown ∷ by 1 (kinds.JobTake 0 0 0) ∷ []) ≡ Some (false, false, Some 2)
+unfolding judge read
+forbidden_job_is_not_entered = refl
+
+-- the job is neither refused, done, cancelled nor forbidden
+no_reply_yet : judged (codes "workers 1\njob 0 user_visible skip 1 1\nstartjob 0\njoin 0\n")
+    (by 0 (kinds.JobPost 0 true) ∷ by 0 (kinds.Joined 0 replies.Stopped) ∷ []) ≡ Some (false, true, Some 1)
+unfolding judge read
+no_reply_yet = refl
+
+sum_is_modulo_two_to_the_64 : judged (codes "workers 1\njob 0 user_visible skip 2 1 set 18446744073709551615\nstartjob 0\njoin 0\n")
+    (by 0 (kinds.JobPost 0 true) ∷ by 0 (kinds.JobTake 0 0 0) ∷ by 0 (kinds.JobStep 0 0 0 18446744073709551615 (Some 1))
+    ∷ by 0 (kinds.JobStep 0 0 1 18446744073709551615 None) ∷ by 0 (kinds.Joined 0 (replies.Finished 18446744073709551614)) ∷ []) ≡ Some (true, true, None)
+unfolding judge read
+sum_is_modulo_two_to_the_64 = refl
+
 -- ---- room
 
 -- the task of a single-thread runner waits and matters more, and the worker inside the job goes on
@@ -180,6 +232,84 @@ blocked_best_effort_makes_room : judged blocked_best_effort (best_effort_runs
 unfolding judge read
 blocked_best_effort_makes_room = refl
 
+abbrev best_effort_and_visible : List ℕ
+best_effort_and_visible =
+    codes "workers 2\ngroups 2 1 0\nrunner 0 parallel best_effort skip\nrunner 1 parallel user_visible skip\ntask 0\ntask 1\npost 0 0 0\npost 1 1 0\ntick 1\n"
+
+-- the best-effort limit is reached, and binds no other work
+visible_starts_beside_best_effort : judged best_effort_and_visible
+    (by 0 (kinds.Post 0 0 0 true) ∷ by 1 (kinds.Take 0 0 0) ∷ by 0 (kinds.Post 1 1 0 true) ∷ by 2 (kinds.Take 1 1 0) ∷ []) ≡ Some (true, false, None)
+unfolding judge read
+visible_starts_beside_best_effort = refl
+
+-- the best-effort limit counts best-effort work alone
+best_effort_starts_beside_visible : judged best_effort_and_visible
+    (by 0 (kinds.Post 0 0 0 true) ∷ by 0 (kinds.Post 1 1 0 true) ∷ by 1 (kinds.Take 1 1 0) ∷ by 2 (kinds.Take 0 0 0) ∷ []) ≡ Some (true, false, None)
+unfolding judge read
+best_effort_starts_beside_visible = refl
+
+abbrev three_tasks : List ℕ
+three_tasks =
+    codes "workers 3\ngroups 1 1 0\nrunner 0 parallel user_visible skip mayblock\ntask 0 block will ; unblock\ntask 1 block will ; unblock\ntask 2\npost 0 0 0\npost 1 0 0\npost 2 0 0\ntick 1\n"
+
+abbrev first_one_blocks : List Entry
+first_one_blocks =
+    by 0 (kinds.Post 0 0 0 true) ∷ by 0 (kinds.Post 1 0 0 true) ∷ by 0 (kinds.Post 2 0 0 true) ∷ by 1 (kinds.Take 0 0 0) ∷ by 1 (kinds.Enter 0 Will) ∷ []
+
+room_for_one_more : judged three_tasks (first_one_blocks ++ by 2 (kinds.Take 1 0 0) ∷ []) ≡ Some (true, false, None)
+unfolding judge read
+room_for_one_more = refl
+
+-- the other task that runs is not blocked
+scope_makes_room_once : judged three_tasks (first_one_blocks ++ by 2 (kinds.Take 1 0 0) ∷ by 3 (kinds.Take 2 0 0) ∷ []) ≡ Some (false, false, Some 6)
+unfolding judge read
+scope_makes_room_once = refl
+
+closed_scope_makes_no_room : judged three_tasks (first_one_blocks ++ by 1 (kinds.Leave 0) ∷ by 2 (kinds.Take 1 0 0) ∷ []) ≡ Some (false, false, Some 6)
+unfolding judge read
+closed_scope_makes_no_room = refl
+
+-- the second task closes its own scope, and the first one is still blocked
+scope_of_another_task_stays_open : judged three_tasks
+    (first_one_blocks ++ by 2 (kinds.Take 1 0 0) ∷ by 2 (kinds.Enter 1 Will) ∷ by 2 (kinds.Leave 1) ∷ by 2 (kinds.End 1 0)
+    ∷ by 2 (kinds.Take 2 0 0) ∷ []) ≡ Some (true, false, None)
+unfolding judge read
+scope_of_another_task_stays_open = refl
+
+-- a task of the background group is blocked, which makes no room in the foreground group
+blocked_in_the_other_group : judged (codes "workers 3\ngroups 1 1 1\nrunner 0 parallel best_effort skip mayblock\nrunner 1 parallel user_visible skip\ntask 0 block will ; unblock\ntask 1\ntask 2\npost 0 0 0\npost 1 1 0\npost 2 1 0\ntick 1\n")
+    (by 0 (kinds.Post 0 0 0 true) ∷ by 1 (kinds.Take 0 0 0) ∷ by 1 (kinds.Enter 0 Will) ∷ by 0 (kinds.Post 1 1 0 true)
+    ∷ by 2 (kinds.Take 1 1 0) ∷ by 0 (kinds.Post 2 1 0 true) ∷ by 3 (kinds.Take 2 1 0) ∷ []) ≡ Some (false, false, Some 6)
+unfolding judge read
+blocked_in_the_other_group = refl
+
+-- the scope was opened at 3 and counts at 8
+threshold_is_not_come : judged (codes "workers 2\ngroups 1 1 0\nthreshold 5\nrunner 0 parallel user_visible skip mayblock\ntask 0 block may ; unblock\ntask 1\ntick 1\npost 0 0 0\npost 1 0 0\ntick 1\nflush\n")
+    (by 0 (kinds.Tick 3) ∷ by 0 (kinds.Post 0 0 0 true) ∷ by 0 (kinds.Post 1 0 0 true) ∷ by 1 (kinds.Take 0 0 0)
+    ∷ by 1 (kinds.Enter 0 May) ∷ by 0 (kinds.Tick 7) ∷ by 2 (kinds.Take 1 0 0) ∷ []) ≡ Some (false, false, Some 6)
+unfolding judge read
+threshold_is_not_come = refl
+
+-- the background group is full, and the worker inside the job makes no way for the foreground group
+better_work_of_the_other_group_waits : judged (codes "workers 1\ngroups 1 1 1\nrunner 0 parallel user_visible skip\ntask 0\njob 0 best_effort skip 2 1\nstartjob 0\npost 0 0 0\ntick 1\n")
+    (by 0 (kinds.JobPost 0 true) ∷ by 1 (kinds.JobTake 0 0 0) ∷ by 0 (kinds.Post 0 0 0 true)
+    ∷ by 1 (kinds.JobStep 0 0 0 0 (Some 1)) ∷ []) ≡ Some (true, false, None)
+unfolding judge read
+better_work_of_the_other_group_waits = refl
+
+-- the group is full, and a worker makes no way for work of its own priority
+equal_work_waits : judged (codes "workers 1\ngroups 1 1 0\nrunner 0 parallel user_visible skip\ntask 0\njob 0 user_visible skip 2 1\nstartjob 0\npost 0 0 0\ntick 1\n")
+    (by 0 (kinds.JobPost 0 true) ∷ by 1 (kinds.JobTake 0 0 0) ∷ by 0 (kinds.Post 0 0 0 true)
+    ∷ by 1 (kinds.JobStep 0 0 0 0 (Some 1)) ∷ []) ≡ Some (true, false, None)
+unfolding judge read
+equal_work_waits = refl
+
+-- a main task of queue 0 runs, and so the sequence of runner 0 does not
+main_task_of_the_same_number : judged (codes "workers 1\nrunner 0 sequenced user_visible skip\nqueue 0 0 0\ntask 0\ntask 1\npost 0 0 0\nmain 1 0 0\npump 1\n")
+    (by 0 (kinds.Post 0 0 0 true) ∷ by 0 (kinds.Main 1 0 0 true) ∷ by 0 (kinds.MainTake 1 0 0) ∷ by 1 (kinds.Take 0 0 0) ∷ []) ≡ Some (true, false, None)
+unfolding judge read
+main_task_of_the_same_number = refl
+
 -- ---- tasks that post
 
 abbrev posting_tasks : List ℕ
@@ -215,6 +345,78 @@ main_post_to_another_queue : judged posting_tasks (posting_task_runs ++ by 1 (ki
     ≡ Some (false, false, Some 3)
 unfolding judge read
 main_post_to_another_queue = refl
+
+-- ---- shutdown
+
+abbrev done_while_a_task_runs : List Entry
+done_while_a_task_runs = by 0 (kinds.Post 0 0 0 true) ∷ by 1 (kinds.Take 0 0 0) ∷ by 0 kinds.Shutdown ∷ by 0 kinds.Done ∷ []
+
+running_skip_task_is_waited_for : judged (codes "workers 1\nrunner 0 parallel user_visible skip\ntask 0\npost 0 0 0\nshutdown\n") done_while_a_task_runs
+    ≡ Some (false, false, Some 3)
+unfolding judge read
+running_skip_task_is_waited_for = refl
+
+running_continue_task_is_not_waited_for : judged (codes "workers 1\nrunner 0 parallel user_visible continue\ntask 0\npost 0 0 0\nshutdown\n")
+    done_while_a_task_runs ≡ Some (true, false, None)
+unfolding judge read
+running_continue_task_is_not_waited_for = refl
+
+seat_inside_a_skip_job_is_waited_for : judged (codes "workers 1\njob 0 user_visible skip 1 1\nstartjob 0\nshutdown\n")
+    (by 0 (kinds.JobPost 0 true) ∷ by 1 (kinds.JobTake 0 0 0) ∷ by 0 kinds.Shutdown ∷ by 0 kinds.Done ∷ []) ≡ Some (false, false, Some 3)
+unfolding judge read
+seat_inside_a_skip_job_is_waited_for = refl
+
+-- nobody waits for it
+block_job_that_was_not_posted : judged (codes "workers 1\njob 0 user_visible block 1 1\nshutdown\n") (by 0 kinds.Shutdown ∷ by 0 kinds.Done ∷ [])
+    ≡ Some (true, true, None)
+unfolding judge read
+block_job_that_was_not_posted = refl
+
+one_block_task_of_two_has_ended : judged (codes "workers 1\nrunner 0 parallel user_visible block\ntask 0\ntask 1\npost 0 0 0\npost 1 0 0\nshutdown\n")
+    (by 0 (kinds.Post 0 0 0 true) ∷ by 0 (kinds.Post 1 0 0 true) ∷ by 1 (kinds.Take 0 0 0) ∷ by 1 (kinds.End 0 0)
+    ∷ by 0 kinds.Shutdown ∷ by 0 kinds.Done ∷ []) ≡ Some (false, true, Some 5)
+unfolding judge read
+one_block_task_of_two_has_ended = refl
+
+-- a block task with a delay of 1 is a skip task
+least_delay_makes_a_skip_task : judged (codes "workers 1\nrunner 0 parallel user_visible block\ntask 0\npost 0 0 1\nshutdown\n")
+    (by 0 (kinds.Post 0 0 1 true) ∷ by 0 kinds.Shutdown ∷ by 0 kinds.Done ∷ []) ≡ Some (true, true, None)
+unfolding judge read
+least_delay_makes_a_skip_task = refl
+
+-- ---- keys and values
+
+abbrev ripe_at_one_tick : List ℕ
+ripe_at_one_tick = codes "workers 1\nrunner 0 parallel user_visible skip\ntask 0\ntask 1\npost 1 0 5\npost 0 0 5\ntick 1\nflush\n"
+
+-- both ripen at one moment and tick, and the one with the greater number was posted first
+first_posted_of_two_that_ripen : judged ripe_at_one_tick
+    (by 0 (kinds.Post 1 0 5 true) ∷ by 0 (kinds.Post 0 0 5 true) ∷ by 0 (kinds.Tick 5) ∷ by 1 (kinds.Take 1 0 0) ∷ []) ≡ Some (true, false, None)
+unfolding judge read
+first_posted_of_two_that_ripen = refl
+
+-- the lesser ripe moment goes first, though it was posted later
+lesser_ripe_moment_of_two_sources : judged (codes "workers 1\nrunner 0 parallel user_visible skip\ntask 0\ntask 1\npost 1 0 5\npost 0 0 3\ntick 1\nflush\n")
+    (by 0 (kinds.Post 1 0 5 true) ∷ by 0 (kinds.Post 0 0 3 true) ∷ by 0 (kinds.Tick 5) ∷ by 1 (kinds.Take 0 0 0) ∷ []) ≡ Some (true, false, None)
+unfolding judge read
+lesser_ripe_moment_of_two_sources = refl
+
+-- the task ripens at 7
+delay_counts_from_the_post : judged (codes "workers 1\nrunner 0 parallel user_visible skip\ntask 0\ntick 1\npost 0 0 2\ntick 1\nflush\n")
+    (by 0 (kinds.Tick 5) ∷ by 0 (kinds.Post 0 0 2 true) ∷ by 0 (kinds.Tick 6) ∷ by 1 (kinds.Take 0 0 0) ∷ []) ≡ Some (false, false, Some 3)
+unfolding judge read
+delay_counts_from_the_post = refl
+
+abbrev great_values : List ℕ
+great_values =
+    codes "workers 1\nrunner 0 parallel user_visible skip\ntask 0 set 18446744073709551615 ; add 9223372036854775809\ntask 1 set 9223372036854775809 ; mul 3\npost 0 0 0\npost 1 0 0\nflush\n"
+
+values_are_modulo_two_to_the_64 : judged great_values
+    (by 0 (kinds.Post 0 0 0 true) ∷ by 0 (kinds.Post 1 0 0 true) ∷ by 1 (kinds.Take 0 0 0)
+    ∷ by 1 (kinds.End 0 9223372036854775808) ∷ by 1 (kinds.Take 1 0 0) ∷ by 1 (kinds.End 1 9223372036854775811)
+    ∷ by 0 kinds.Idle ∷ []) ≡ Some (true, true, None)
+unfolding judge read
+values_are_modulo_two_to_the_64 = refl
 
 -- ---- main queues
 
@@ -272,3 +474,71 @@ first_posted_first = refl
 main_task_finds_another_value : judged two_main_tasks (both_ripen ++ by 0 (kinds.MainTake 1 0 4) ∷ []) ≡ Some (false, false, Some 3)
 unfolding judge read
 main_task_finds_another_value = refl
+
+fence_of_another_queue : judged (codes "queue 0 0 0\nqueue 1 0 0\ntask 0\nfence 0 now\nmain 0 1 0\npump 1\n")
+    (by 0 (kinds.Fence 0 Now) ∷ by 0 (kinds.Main 0 1 0 true) ∷ by 0 (kinds.MainTake 0 1 0) ∷ by 0 (kinds.MainEnd 0 0) ∷ []) ≡ Some (true, true, None)
+unfolding judge read
+fence_of_another_queue = refl
+
+fence_at_the_start_of_another_queue : judged (codes "queue 0 0 0\nqueue 1 0 0\ntask 0\nfence 0 start\nmain 0 1 0\npump 1\n")
+    (by 0 (kinds.Fence 0 Start) ∷ by 0 (kinds.Main 0 1 0 true) ∷ by 0 (kinds.MainTake 0 1 0) ∷ by 0 (kinds.MainEnd 0 0) ∷ []) ≡ Some (true, true, None)
+unfolding judge read
+fence_at_the_start_of_another_queue = refl
+
+vote_of_another_queue : judged (codes "queue 0 0 1\nqueue 1 0 1\ntask 0\nvote 0 0 off\nmain 0 1 0\npump 1\n")
+    (by 0 (kinds.Vote 0 0 false) ∷ by 0 (kinds.Main 0 1 0 true) ∷ by 0 (kinds.MainTake 0 1 0) ∷ by 0 (kinds.MainEnd 0 0) ∷ []) ≡ Some (true, true, None)
+unfolding judge read
+vote_of_another_queue = refl
+
+close_of_another_queue : judged (codes "queue 0 0 0\nqueue 1 0 0\ntask 0\nclose 0\nmain 0 1 0\npump 1\n")
+    (by 0 (kinds.Close 0) ∷ by 0 (kinds.Main 0 1 0 true) ∷ by 0 (kinds.MainTake 0 1 0) ∷ by 0 (kinds.MainEnd 0 0) ∷ []) ≡ Some (true, true, None)
+unfolding judge read
+close_of_another_queue = refl
+
+another_queue_lost_its_fence : judged (codes "queue 0 0 0\nqueue 1 0 0\ntask 0\nfence 0 start\nunfence 1\nmain 0 0 0\npump 1\n")
+    (by 0 (kinds.Fence 0 Start) ∷ by 0 (kinds.Unfence 1) ∷ by 0 (kinds.Main 0 0 0 true) ∷ by 0 kinds.MainNone ∷ []) ≡ Some (true, true, None)
+unfolding judge read
+another_queue_lost_its_fence = refl
+
+-- the first voter is still off
+another_voter_votes_on : judged (codes "queue 0 0 2\ntask 0\nvote 0 0 off\nvote 0 1 on\nmain 0 0 0\npump 1\n")
+    (by 0 (kinds.Vote 0 0 false) ∷ by 0 (kinds.Vote 0 1 true) ∷ by 0 (kinds.Main 0 0 0 true) ∷ by 0 kinds.MainNone ∷ []) ≡ Some (true, true, None)
+unfolding judge read
+another_voter_votes_on = refl
+
+-- only queue 1 has the better class now
+class_of_another_queue : judged (codes "queue 0 1 0\nqueue 1 1 0\ntask 0\ntask 1\nmain 0 0 0\nmain 1 1 0\nrank 1 0\npump 1\n")
+    (by 0 (kinds.Main 0 0 0 true) ∷ by 0 (kinds.Main 1 1 0 true) ∷ by 0 (kinds.Rank 1 0) ∷ by 0 (kinds.MainTake 1 1 0)
+    ∷ by 0 (kinds.MainEnd 1 0) ∷ []) ≡ Some (true, true, None)
+unfolding judge read
+class_of_another_queue = refl
+
+closed_queue_has_no_open_front : judged (codes "queue 0 0 0\ntask 0\nmain 0 0 0\nclose 0\npump 1\n")
+    (by 0 (kinds.Main 0 0 0 true) ∷ by 0 (kinds.Close 0) ∷ by 0 kinds.MainNone ∷ []) ≡ Some (true, true, None)
+unfolding judge read
+closed_queue_has_no_open_front = refl
+
+-- both ripen at one moment and tick, and the one of the queue with the greater number was posted first
+first_posted_of_two_main_tasks_that_ripen : judged (codes "queue 0 0 0\nqueue 1 0 0\ntask 0\ntask 1\nmain 0 1 5\nmain 1 0 5\ntick 1\npump 1\n")
+    (by 0 (kinds.Main 0 1 5 true) ∷ by 0 (kinds.Main 1 0 5 true) ∷ by 0 (kinds.Tick 5) ∷ by 0 (kinds.MainTake 0 1 0)
+    ∷ by 0 (kinds.MainEnd 0 0) ∷ []) ≡ Some (true, true, None)
+unfolding judge read
+first_posted_of_two_main_tasks_that_ripen = refl
+
+-- three immediate tasks run, and then the delayed one goes before the last immediate one
+immediate_tasks_make_no_streak : judged (codes "queue 0 0 0\ntask 0\ntask 1\ntask 2\ntask 3\ntask 4\nmain 3 0 1\nmain 0 0 0\nmain 1 0 0\nmain 2 0 0\ntick 1\nmain 4 0 0\npump 4\n")
+    (by 0 (kinds.Main 3 0 1 true) ∷ by 0 (kinds.Main 0 0 0 true) ∷ by 0 (kinds.Main 1 0 0 true) ∷ by 0 (kinds.Main 2 0 0 true)
+    ∷ by 0 (kinds.Tick 1) ∷ by 0 (kinds.Main 4 0 0 true) ∷ by 0 (kinds.MainTake 0 0 0) ∷ by 0 (kinds.MainEnd 0 0)
+    ∷ by 0 (kinds.MainTake 1 0 0) ∷ by 0 (kinds.MainEnd 1 0) ∷ by 0 (kinds.MainTake 2 0 0) ∷ by 0 (kinds.MainEnd 2 0)
+    ∷ by 0 (kinds.MainTake 3 0 0) ∷ by 0 (kinds.MainEnd 3 0) ∷ []) ≡ Some (true, true, None)
+unfolding judge read
+immediate_tasks_make_no_streak = refl
+
+-- three delayed tasks run in a row behind an immediate one, while another immediate one waits
+streak_starts_at_nothing : judged (codes "queue 0 0 0\ntask 0\ntask 1\ntask 2\ntask 3\ntask 4\nmain 1 0 1\nmain 2 0 1\nmain 3 0 1\nmain 0 0 0\ntick 1\nmain 4 0 0\npump 4\n")
+    (by 0 (kinds.Main 1 0 1 true) ∷ by 0 (kinds.Main 2 0 1 true) ∷ by 0 (kinds.Main 3 0 1 true) ∷ by 0 (kinds.Main 0 0 0 true)
+    ∷ by 0 (kinds.Tick 1) ∷ by 0 (kinds.Main 4 0 0 true) ∷ by 0 (kinds.MainTake 0 0 0) ∷ by 0 (kinds.MainEnd 0 0)
+    ∷ by 0 (kinds.MainTake 1 0 0) ∷ by 0 (kinds.MainEnd 1 0) ∷ by 0 (kinds.MainTake 2 0 0) ∷ by 0 (kinds.MainEnd 2 0)
+    ∷ by 0 (kinds.MainTake 3 0 0) ∷ by 0 (kinds.MainEnd 3 0) ∷ []) ≡ Some (true, true, None)
+unfolding judge read
+streak_starts_at_nothing = refl
