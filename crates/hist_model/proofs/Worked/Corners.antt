@@ -188,6 +188,48 @@ sum_is_modulo_two_to_the_64 : judged (codes "workers 1\njob 0 user_visible skip 
 unfolding judge read
 sum_is_modulo_two_to_the_64 = refl
 
+driver_enters_beside_a_worker : judged (codes "workers 1\njob 0 user_visible skip 2 2\nstartjob 0\njoin 0\n")
+    (by 0 (kinds.JobPost 0 true) ∷ by 1 (kinds.JobTake 0 0 0) ∷ by 0 (kinds.JobTake 0 1 1) ∷ []) ≡ Some (true, false, None)
+unfolding judge read
+driver_enters_beside_a_worker = refl
+
+driver_enters_a_job_without_unclaimed_items : judged (codes "workers 1\njob 0 user_visible skip 1 1\nstartjob 0\njoin 0\n")
+    (by 0 (kinds.JobPost 0 true) ∷ by 1 (kinds.JobTake 0 0 0) ∷ by 1 (kinds.JobStep 0 0 0 0 None) ∷ by 0 (kinds.JobTake 0 0 1)
+    ∷ []) ≡ Some (false, false, Some 3)
+unfolding judge read
+driver_enters_a_job_without_unclaimed_items = refl
+
+-- a worker is inside the other job
+cancel_and_join_wait_for_their_own_job_alone : judged (codes "workers 1\njob 0 user_visible skip 1 1\njob 1 user_visible skip 1 1\nstartjob 0\nstartjob 1\ncancel 1\njoin 1\n")
+    (by 0 (kinds.JobPost 0 true) ∷ by 0 (kinds.JobPost 1 true) ∷ by 1 (kinds.JobTake 0 0 0) ∷ by 0 (kinds.JobCancel 1)
+    ∷ by 0 (kinds.Cancelled 1) ∷ by 0 (kinds.Joined 1 replies.Cancelled) ∷ []) ≡ Some (true, false, None)
+unfolding judge read
+cancel_and_join_wait_for_their_own_job_alone = refl
+
+abbrev task_and_job : List ℕ
+task_and_job = codes "workers 1\nrunner 0 parallel user_visible skip\ntask 0\njob 0 user_visible skip 1 1\npost 0 0 0\nstartjob 0\nflush\n"
+
+job_goes_behind_an_earlier_task : judged task_and_job (by 0 (kinds.Post 0 0 0 true) ∷ by 0 (kinds.JobPost 0 true) ∷ by 1 (kinds.JobTake 0 0 0) ∷ [])
+    ≡ Some (false, false, Some 2)
+unfolding judge read
+job_goes_behind_an_earlier_task = refl
+
+task_goes_behind_an_earlier_job : judged (codes "workers 1\nrunner 0 parallel user_visible skip\ntask 0\njob 0 user_visible skip 1 1\nstartjob 0\npost 0 0 0\nflush\n")
+    (by 0 (kinds.JobPost 0 true) ∷ by 0 (kinds.Post 0 0 0 true) ∷ by 1 (kinds.Take 0 0 0) ∷ []) ≡ Some (false, false, Some 2)
+unfolding judge read
+task_goes_behind_an_earlier_job = refl
+
+-- the task matters more, and waits for this worker
+job_goes_behind_single_thread_work : judged (codes "workers 1\nrunner 0 single:1 user_blocking skip\ntask 0\njob 0 user_visible skip 1 1\nstartjob 0\npost 0 0 0\nflush\n")
+    (by 0 (kinds.JobPost 0 true) ∷ by 0 (kinds.Post 0 0 0 true) ∷ by 1 (kinds.JobTake 0 0 0) ∷ []) ≡ Some (false, false, Some 2)
+unfolding judge read
+job_goes_behind_single_thread_work = refl
+
+block_job_goes_on_after_shutdown : judged (codes "workers 1\njob 0 user_visible block 2 1\nstartjob 0\nshutdown\n")
+    (by 0 (kinds.JobPost 0 true) ∷ by 1 (kinds.JobTake 0 0 0) ∷ by 0 kinds.Shutdown ∷ by 1 (kinds.JobStep 0 0 0 0 (Some 1)) ∷ []) ≡ Some (true, false, None)
+unfolding judge read
+block_job_goes_on_after_shutdown = refl
+
 -- ---- room
 
 -- the task of a single-thread runner waits and matters more, and the worker inside the job goes on
@@ -234,17 +276,17 @@ blocked_best_effort_makes_room = refl
 
 abbrev best_effort_and_visible : List ℕ
 best_effort_and_visible =
-    codes "workers 2\ngroups 2 1 0\nrunner 0 parallel best_effort skip\nrunner 1 parallel user_visible skip\ntask 0\ntask 1\npost 0 0 0\npost 1 1 0\ntick 1\n"
+    codes "workers 2\ngroups 2 1 0\nrunner 0 parallel best_effort skip\nrunner 1 parallel user_visible skip\ntask 0\ntask 1\npost 1 0 0\npost 0 1 0\ntick 1\n"
 
 -- the best-effort limit is reached, and binds no other work
 visible_starts_beside_best_effort : judged best_effort_and_visible
-    (by 0 (kinds.Post 0 0 0 true) ∷ by 1 (kinds.Take 0 0 0) ∷ by 0 (kinds.Post 1 1 0 true) ∷ by 2 (kinds.Take 1 1 0) ∷ []) ≡ Some (true, false, None)
+    (by 0 (kinds.Post 1 0 0 true) ∷ by 1 (kinds.Take 1 0 0) ∷ by 0 (kinds.Post 0 1 0 true) ∷ by 2 (kinds.Take 0 1 0) ∷ []) ≡ Some (true, false, None)
 unfolding judge read
 visible_starts_beside_best_effort = refl
 
 -- the best-effort limit counts best-effort work alone
 best_effort_starts_beside_visible : judged best_effort_and_visible
-    (by 0 (kinds.Post 0 0 0 true) ∷ by 0 (kinds.Post 1 1 0 true) ∷ by 1 (kinds.Take 1 1 0) ∷ by 2 (kinds.Take 0 0 0) ∷ []) ≡ Some (true, false, None)
+    (by 0 (kinds.Post 1 0 0 true) ∷ by 0 (kinds.Post 0 1 0 true) ∷ by 1 (kinds.Take 0 1 0) ∷ by 2 (kinds.Take 1 0 0) ∷ []) ≡ Some (true, false, None)
 unfolding judge read
 best_effort_starts_beside_visible = refl
 
@@ -277,9 +319,9 @@ unfolding judge read
 scope_of_another_task_stays_open = refl
 
 -- a task of the background group is blocked, which makes no room in the foreground group
-blocked_in_the_other_group : judged (codes "workers 3\ngroups 1 1 1\nrunner 0 parallel best_effort skip mayblock\nrunner 1 parallel user_visible skip\ntask 0 block will ; unblock\ntask 1\ntask 2\npost 0 0 0\npost 1 1 0\npost 2 1 0\ntick 1\n")
-    (by 0 (kinds.Post 0 0 0 true) ∷ by 1 (kinds.Take 0 0 0) ∷ by 1 (kinds.Enter 0 Will) ∷ by 0 (kinds.Post 1 1 0 true)
-    ∷ by 2 (kinds.Take 1 1 0) ∷ by 0 (kinds.Post 2 1 0 true) ∷ by 3 (kinds.Take 2 1 0) ∷ []) ≡ Some (false, false, Some 6)
+blocked_in_the_other_group : judged (codes "workers 3\ngroups 1 1 1\nrunner 0 parallel user_visible skip\nrunner 1 parallel best_effort skip mayblock\ntask 0 block will ; unblock\ntask 1\ntask 2\npost 0 1 0\npost 1 0 0\npost 2 0 0\ntick 1\n")
+    (by 0 (kinds.Post 0 1 0 true) ∷ by 1 (kinds.Take 0 1 0) ∷ by 1 (kinds.Enter 0 Will) ∷ by 0 (kinds.Post 1 0 0 true)
+    ∷ by 2 (kinds.Take 1 0 0) ∷ by 0 (kinds.Post 2 0 0 true) ∷ by 3 (kinds.Take 2 0 0) ∷ []) ≡ Some (false, false, Some 6)
 unfolding judge read
 blocked_in_the_other_group = refl
 
@@ -309,6 +351,61 @@ main_task_of_the_same_number : judged (codes "workers 1\nrunner 0 sequenced user
     (by 0 (kinds.Post 0 0 0 true) ∷ by 0 (kinds.Main 1 0 0 true) ∷ by 0 (kinds.MainTake 1 0 0) ∷ by 1 (kinds.Take 0 0 0) ∷ []) ≡ Some (true, false, None)
 unfolding judge read
 main_task_of_the_same_number = refl
+
+-- the script is finished, though a worker still runs
+started_behind_the_end_of_the_script : judged (codes "workers 2\nrunner 0 parallel user_visible skip\ntask 0\ntask 1\npost 0 0 0\npost 1 0 0\ntick 1\n")
+    (by 0 (kinds.Post 0 0 0 true) ∷ by 0 (kinds.Post 1 0 0 true) ∷ by 1 (kinds.Take 0 0 0) ∷ by 0 (kinds.Tick 0)
+    ∷ by 2 (kinds.Take 1 0 0) ∷ []) ≡ Some (false, false, Some 4)
+unfolding judge read
+started_behind_the_end_of_the_script = refl
+
+-- a scope that may block counts at once where the threshold is 0
+threshold_of_nothing : judged (codes "workers 2\ngroups 1 1 0\nthreshold 0\nrunner 0 parallel user_visible skip mayblock\ntask 0 block may ; unblock\ntask 1\npost 0 0 0\npost 1 0 0\ntick 1\n")
+    (by 0 (kinds.Post 0 0 0 true) ∷ by 0 (kinds.Post 1 0 0 true) ∷ by 1 (kinds.Take 0 0 0) ∷ by 1 (kinds.Enter 0 May)
+    ∷ by 2 (kinds.Take 1 0 0) ∷ []) ≡ Some (true, false, None)
+unfolding judge read
+threshold_of_nothing = refl
+
+-- the background group has a limit of its own
+background_group_of_two : judged (codes "workers 2\ngroups 1 1 2\nthreshold 0\nrunner 0 parallel best_effort skip\ntask 0\ntask 1\npost 0 0 0\npost 1 0 0\ntick 1\n")
+    (by 0 (kinds.Post 0 0 0 true) ∷ by 0 (kinds.Post 1 0 0 true) ∷ by 1 (kinds.Take 0 0 0) ∷ by 2 (kinds.Take 1 0 0) ∷ []) ≡ Some (true, false, None)
+unfolding judge read
+background_group_of_two = refl
+
+-- the item is best-effort work, and so the best-effort limit is reached
+held_item_counts_by_its_job : judged (codes "workers 2\ngroups 2 1 0\nrunner 0 parallel best_effort skip\nrunner 1 parallel user_visible skip\ntask 0\njob 0 user_visible skip 1 1\njob 1 best_effort skip 1 1\nstartjob 1\npost 0 0 0\ntick 1\n")
+    (by 0 (kinds.JobPost 1 true) ∷ by 1 (kinds.JobTake 1 0 0) ∷ by 0 (kinds.Post 0 0 0 true) ∷ by 2 (kinds.Take 0 0 0) ∷ []) ≡ Some (false, false, Some 3)
+unfolding judge read
+held_item_counts_by_its_job = refl
+
+-- the item that the driver holds takes no room
+driver_counts_in_no_group : judged (codes "workers 1\ngroups 1 1 0\nrunner 0 parallel user_visible skip\ntask 0\njob 0 user_visible skip 1 1\nstartjob 0\npost 0 0 0\njoin 0\n")
+    (by 0 (kinds.JobPost 0 true) ∷ by 0 (kinds.Post 0 0 0 true) ∷ by 0 (kinds.JobTake 0 0 0) ∷ by 1 (kinds.Take 0 0 0) ∷ []) ≡ Some (true, false, None)
+unfolding judge read
+driver_counts_in_no_group = refl
+
+-- it makes no room for best-effort work
+blocked_visible_task : judged (codes "workers 3\ngroups 3 1 0\nrunner 0 parallel user_visible skip mayblock\nrunner 1 parallel best_effort skip\ntask 0 block will ; unblock\ntask 1\ntask 2\npost 0 0 0\npost 1 1 0\npost 2 1 0\ntick 1\n")
+    (by 0 (kinds.Post 0 0 0 true) ∷ by 0 (kinds.Post 1 1 0 true) ∷ by 0 (kinds.Post 2 1 0 true) ∷ by 1 (kinds.Take 0 0 0)
+    ∷ by 1 (kinds.Enter 0 Will) ∷ by 2 (kinds.Take 1 1 0) ∷ by 3 (kinds.Take 2 1 0) ∷ []) ≡ Some (false, false, Some 6)
+unfolding judge read
+blocked_visible_task = refl
+
+single_thread_runner_of_another_number : judged (codes "workers 2\nrunner 0 parallel user_visible skip\nrunner 1 single:1 user_visible skip\ntask 0\npost 0 1 0\nflush\n")
+    (by 0 (kinds.Post 0 1 0 true) ∷ by 2 (kinds.Take 0 1 0) ∷ []) ≡ Some (false, false, Some 1)
+unfolding judge read
+single_thread_runner_of_another_number = refl
+
+more_runners_than_tasks : judged (codes "workers 1\nrunner 0 parallel user_visible skip\nrunner 1 parallel user_visible skip\ntask 0\npost 0 1 0\nflush\n")
+    (by 0 (kinds.Post 0 1 0 true) ∷ by 1 (kinds.Take 0 1 0) ∷ []) ≡ Some (true, false, None)
+unfolding judge read
+more_runners_than_tasks = refl
+
+-- the last worker runs a task
+more_workers_than_the_limit : judged (codes "workers 2\ngroups 1 1 0\nrunner 0 parallel user_visible skip\ntask 0\npost 0 0 0\nflush\n")
+    (by 0 (kinds.Post 0 0 0 true) ∷ by 2 (kinds.Take 0 0 0) ∷ by 0 kinds.Idle ∷ []) ≡ Some (false, false, Some 2)
+unfolding judge read
+more_workers_than_the_limit = refl
 
 -- ---- tasks that post
 
@@ -361,8 +458,8 @@ running_continue_task_is_not_waited_for : judged (codes "workers 1\nrunner 0 par
 unfolding judge read
 running_continue_task_is_not_waited_for = refl
 
-seat_inside_a_skip_job_is_waited_for : judged (codes "workers 1\njob 0 user_visible skip 1 1\nstartjob 0\nshutdown\n")
-    (by 0 (kinds.JobPost 0 true) ∷ by 1 (kinds.JobTake 0 0 0) ∷ by 0 kinds.Shutdown ∷ by 0 kinds.Done ∷ []) ≡ Some (false, false, Some 3)
+seat_inside_a_skip_job_is_waited_for : judged (codes "workers 1\njob 0 user_visible continue 1 1\njob 1 user_visible skip 1 1\nstartjob 1\nshutdown\n")
+    (by 0 (kinds.JobPost 1 true) ∷ by 1 (kinds.JobTake 1 0 0) ∷ by 0 kinds.Shutdown ∷ by 0 kinds.Done ∷ []) ≡ Some (false, false, Some 3)
 unfolding judge read
 seat_inside_a_skip_job_is_waited_for = refl
 
@@ -383,6 +480,44 @@ least_delay_makes_a_skip_task : judged (codes "workers 1\nrunner 0 parallel user
     (by 0 (kinds.Post 0 0 1 true) ∷ by 0 kinds.Shutdown ∷ by 0 kinds.Done ∷ []) ≡ Some (true, true, None)
 unfolding judge read
 least_delay_makes_a_skip_task = refl
+
+running_block_task_is_waited_for : judged (codes "workers 1\nrunner 0 parallel user_visible block\ntask 0\npost 0 0 0\nshutdown\n") done_while_a_task_runs
+    ≡ Some (false, false, Some 3)
+unfolding judge read
+running_block_task_is_waited_for = refl
+
+running_task_counts_by_its_runner : judged (codes "workers 1\nrunner 0 parallel user_visible continue\nrunner 1 parallel user_visible skip\ntask 0\npost 0 1 0\nshutdown\n")
+    (by 0 (kinds.Post 0 1 0 true) ∷ by 1 (kinds.Take 0 1 0) ∷ by 0 kinds.Shutdown ∷ by 0 kinds.Done ∷ []) ≡ Some (false, false, Some 3)
+unfolding judge read
+running_task_counts_by_its_runner = refl
+
+delayed_block_task_that_runs_is_waited_for : judged (codes "workers 1\nrunner 0 parallel user_visible block\ntask 0\npost 0 0 1\ntick 1\nshutdown\n")
+    (by 0 (kinds.Post 0 0 1 true) ∷ by 0 (kinds.Tick 1) ∷ by 1 (kinds.Take 0 0 0) ∷ by 0 kinds.Shutdown ∷ by 0 kinds.Done ∷ []) ≡ Some (false, false, Some 4)
+unfolding judge read
+delayed_block_task_that_runs_is_waited_for = refl
+
+-- it has no delay, though its ripe moment is above 0
+block_task_that_was_posted_late : judged (codes "workers 1\nrunner 0 parallel user_visible block\ntask 0\ntick 1\npost 0 0 0\nshutdown\n")
+    (by 0 (kinds.Tick 5) ∷ by 0 (kinds.Post 0 0 0 true) ∷ by 0 kinds.Shutdown ∷ by 0 kinds.Done ∷ []) ≡ Some (false, true, Some 3)
+unfolding judge read
+block_task_that_was_posted_late = refl
+
+-- one has ended, and the other was not taken
+skip_tasks_that_do_not_run : judged (codes "workers 1\nrunner 0 parallel user_visible skip\ntask 0\ntask 1\ntick 1\npost 0 0 0\npost 1 0 0\nshutdown\n")
+    (by 0 (kinds.Tick 0) ∷ by 0 (kinds.Post 0 0 0 true) ∷ by 1 (kinds.Take 0 0 0) ∷ by 1 (kinds.End 0 0)
+    ∷ by 0 (kinds.Post 1 0 0 true) ∷ by 0 kinds.Shutdown ∷ by 0 kinds.Done ∷ []) ≡ Some (true, true, None)
+unfolding judge read
+skip_tasks_that_do_not_run = refl
+
+seat_inside_a_block_job_is_waited_for : judged (codes "workers 1\njob 0 user_visible block 1 1\nstartjob 0\nshutdown\n")
+    (by 0 (kinds.JobPost 0 true) ∷ by 1 (kinds.JobTake 0 0 0) ∷ by 0 kinds.Shutdown ∷ by 0 kinds.Done ∷ []) ≡ Some (false, false, Some 3)
+unfolding judge read
+seat_inside_a_block_job_is_waited_for = refl
+
+refused_by_the_runner_that_is_posted_to : judged (codes "workers 1\nrunner 0 parallel user_visible block\nrunner 1 parallel user_visible skip\ntask 0\ntask 1 post 0 1 0\npost 1 0 0\nshutdown\n")
+    (by 0 (kinds.Post 1 0 0 true) ∷ by 1 (kinds.Take 1 0 0) ∷ by 0 kinds.Shutdown ∷ by 1 (kinds.Post 0 1 0 false) ∷ []) ≡ Some (true, false, None)
+unfolding judge read
+refused_by_the_runner_that_is_posted_to = refl
 
 -- ---- keys and values
 
@@ -417,6 +552,18 @@ values_are_modulo_two_to_the_64 : judged great_values
     ∷ by 0 kinds.Idle ∷ []) ≡ Some (true, true, None)
 unfolding judge read
 values_are_modulo_two_to_the_64 = refl
+
+first_posted_of_two_that_ripen_in_order : judged (codes "workers 1\nrunner 0 parallel user_visible skip\ntask 0\ntask 1\npost 0 0 5\npost 1 0 5\ntick 1\nflush\n")
+    (by 0 (kinds.Post 0 0 5 true) ∷ by 0 (kinds.Post 1 0 5 true) ∷ by 0 (kinds.Tick 5) ∷ by 1 (kinds.Take 0 0 0) ∷ []) ≡ Some (true, false, None)
+unfolding judge read
+first_posted_of_two_that_ripen_in_order = refl
+
+-- the ripe moments are 5 and 6
+lesser_ripe_moment_of_the_greater_delay : judged (codes "workers 1\nrunner 0 parallel user_visible skip\ntask 0\ntask 1\npost 0 0 5\ntick 1\npost 1 0 3\ntick 1\nflush\n")
+    (by 0 (kinds.Post 0 0 5 true) ∷ by 0 (kinds.Tick 3) ∷ by 0 (kinds.Post 1 0 3 true) ∷ by 0 (kinds.Tick 6)
+    ∷ by 1 (kinds.Take 0 0 0) ∷ []) ≡ Some (true, false, None)
+unfolding judge read
+lesser_ripe_moment_of_the_greater_delay = refl
 
 -- ---- main queues
 
@@ -507,8 +654,8 @@ unfolding judge read
 another_voter_votes_on = refl
 
 -- only queue 1 has the better class now
-class_of_another_queue : judged (codes "queue 0 1 0\nqueue 1 1 0\ntask 0\ntask 1\nmain 0 0 0\nmain 1 1 0\nrank 1 0\npump 1\n")
-    (by 0 (kinds.Main 0 0 0 true) ∷ by 0 (kinds.Main 1 1 0 true) ∷ by 0 (kinds.Rank 1 0) ∷ by 0 (kinds.MainTake 1 1 0)
+class_of_another_queue : judged (codes "queue 0 2 0\nqueue 1 2 0\ntask 0\ntask 1\nmain 0 0 0\nmain 1 1 0\nrank 1 1\npump 1\n")
+    (by 0 (kinds.Main 0 0 0 true) ∷ by 0 (kinds.Main 1 1 0 true) ∷ by 0 (kinds.Rank 1 1) ∷ by 0 (kinds.MainTake 1 1 0)
     ∷ by 0 (kinds.MainEnd 1 0) ∷ []) ≡ Some (true, true, None)
 unfolding judge read
 class_of_another_queue = refl
@@ -519,9 +666,9 @@ unfolding judge read
 closed_queue_has_no_open_front = refl
 
 -- both ripen at one moment and tick, and the one of the queue with the greater number was posted first
-first_posted_of_two_main_tasks_that_ripen : judged (codes "queue 0 0 0\nqueue 1 0 0\ntask 0\ntask 1\nmain 0 1 5\nmain 1 0 5\ntick 1\npump 1\n")
-    (by 0 (kinds.Main 0 1 5 true) ∷ by 0 (kinds.Main 1 0 5 true) ∷ by 0 (kinds.Tick 5) ∷ by 0 (kinds.MainTake 0 1 0)
-    ∷ by 0 (kinds.MainEnd 0 0) ∷ []) ≡ Some (true, true, None)
+first_posted_of_two_main_tasks_that_ripen : judged (codes "queue 0 0 0\nqueue 1 0 0\ntask 0\ntask 1\ntick 2\nmain 1 1 5\nmain 0 0 5\ntick 1\npump 1\n")
+    (by 0 (kinds.Tick 0) ∷ by 0 (kinds.Tick 1) ∷ by 0 (kinds.Main 1 1 5 true) ∷ by 0 (kinds.Main 0 0 5 true)
+    ∷ by 0 (kinds.Tick 6) ∷ by 0 (kinds.MainTake 1 1 0) ∷ by 0 (kinds.MainEnd 1 0) ∷ []) ≡ Some (true, true, None)
 unfolding judge read
 first_posted_of_two_main_tasks_that_ripen = refl
 
@@ -542,3 +689,64 @@ streak_starts_at_nothing : judged (codes "queue 0 0 0\ntask 0\ntask 1\ntask 2\nt
     ∷ by 0 (kinds.MainTake 3 0 0) ∷ by 0 (kinds.MainEnd 3 0) ∷ []) ≡ Some (true, true, None)
 unfolding judge read
 streak_starts_at_nothing = refl
+
+second_queue_is_steered : judged (codes "queue 0 0 0\nqueue 1 0 1\nfence 1 now\nunfence 1\nvote 1 0 off\nrank 1 1\nclose 1\n")
+    (by 0 (kinds.Fence 1 Now) ∷ by 0 (kinds.Unfence 1) ∷ by 0 (kinds.Vote 1 0 false) ∷ by 0 (kinds.Rank 1 1)
+    ∷ by 0 (kinds.Close 1) ∷ []) ≡ Some (true, true, None)
+unfolding judge read
+second_queue_is_steered = refl
+
+queue_is_fenced_by_a_worker : judged (codes "queue 0 0 0\nfence 0 now\n") (by 1 (kinds.Fence 0 Now) ∷ []) ≡ Some (false, false, Some 0)
+unfolding judge read
+queue_is_fenced_by_a_worker = refl
+
+-- the fence of queue 0 still stands
+later_fences_of_another_queue : judged (codes "queue 0 0 0\nqueue 1 0 0\ntask 0\nfence 0 start\nfence 1 now\nfence 1 start\nmain 0 0 0\npump 1\n")
+    (by 0 (kinds.Fence 0 Start) ∷ by 0 (kinds.Fence 1 Now) ∷ by 0 (kinds.Fence 1 Start) ∷ by 0 (kinds.Main 0 0 0 true)
+    ∷ by 0 kinds.MainNone ∷ []) ≡ Some (true, true, None)
+unfolding judge read
+later_fences_of_another_queue = refl
+
+another_vote_than_on : judged (codes "queue 0 0 1\nvote 0 0 on\n") (by 0 (kinds.Vote 0 0 false) ∷ []) ≡ Some (false, true, Some 0)
+unfolding judge read
+another_vote_than_on = refl
+
+-- each queue has a cell of its own
+cells_of_two_queues : judged (codes "queue 0 0 0\nqueue 1 0 0\ntask 0 add 4\ntask 1\ntask 2\nmain 0 1 0\nmain 1 1 0\nmain 2 0 0\npump 3\n")
+    (by 0 (kinds.Main 0 1 0 true) ∷ by 0 (kinds.Main 1 1 0 true) ∷ by 0 (kinds.Main 2 0 0 true) ∷ by 0 (kinds.MainTake 0 1 0)
+    ∷ by 0 (kinds.MainEnd 0 4) ∷ by 0 (kinds.MainTake 1 1 4) ∷ by 0 (kinds.MainEnd 1 4) ∷ by 0 (kinds.MainTake 2 0 0)
+    ∷ by 0 (kinds.MainEnd 2 0) ∷ []) ≡ Some (true, true, None)
+unfolding judge read
+cells_of_two_queues = refl
+
+none_while_a_delayed_task_is_open : judged (codes "queue 0 0 0\nqueue 1 0 0\nqueue 2 0 0\ntask 0\nmain 0 2 1\ntick 1\npump 1\n")
+    (by 0 (kinds.Main 0 2 1 true) ∷ by 0 (kinds.Tick 1) ∷ by 0 kinds.MainNone ∷ []) ≡ Some (false, true, Some 2)
+unfolding judge read
+none_while_a_delayed_task_is_open = refl
+
+first_posted_of_two_main_tasks : judged (codes "queue 0 0 0\nqueue 1 0 0\ntask 0\ntask 1\nmain 0 1 0\nmain 1 0 0\npump 1\n")
+    (by 0 (kinds.Main 0 1 0 true) ∷ by 0 (kinds.Main 1 0 0 true) ∷ by 0 (kinds.MainTake 0 1 0) ∷ by 0 (kinds.MainEnd 0 0) ∷ []) ≡ Some (true, true, None)
+unfolding judge read
+first_posted_of_two_main_tasks = refl
+
+-- the delay is less than the moment of its post
+main_task_ripens_by_its_post : judged (codes "queue 0 0 0\ntask 0\ntick 1\nmain 0 0 2\ntick 1\npump 1\n")
+    (by 0 (kinds.Tick 5) ∷ by 0 (kinds.Main 0 0 2 true) ∷ by 0 (kinds.Tick 7) ∷ by 0 (kinds.MainTake 0 0 0)
+    ∷ by 0 (kinds.MainEnd 0 0) ∷ []) ≡ Some (true, true, None)
+unfolding judge read
+main_task_ripens_by_its_post = refl
+
+lesser_ripe_moment_of_two_queues : judged (codes "queue 0 0 0\nqueue 1 0 0\ntask 0\ntask 1\ntick 1\nmain 0 1 5\nmain 1 0 6\ntick 1\npump 1\n")
+    (by 0 (kinds.Tick 1) ∷ by 0 (kinds.Main 0 1 5 true) ∷ by 0 (kinds.Main 1 0 6 true) ∷ by 0 (kinds.Tick 7)
+    ∷ by 0 (kinds.MainTake 0 1 0) ∷ by 0 (kinds.MainEnd 0 0) ∷ []) ≡ Some (true, true, None)
+unfolding judge read
+lesser_ripe_moment_of_two_queues = refl
+
+-- the immediate task waited through three, and all found 0
+fourth_delayed_task_in_a_row : judged (codes "queue 0 0 0\ntask 0\ntask 1\ntask 2\ntask 3\ntask 4\nmain 1 0 1\nmain 2 0 1\nmain 3 0 1\nmain 4 0 1\ntick 1\nmain 0 0 0\npump 4\n")
+    (by 0 (kinds.Main 1 0 1 true) ∷ by 0 (kinds.Main 2 0 1 true) ∷ by 0 (kinds.Main 3 0 1 true) ∷ by 0 (kinds.Main 4 0 1 true)
+    ∷ by 0 (kinds.Tick 1) ∷ by 0 (kinds.Main 0 0 0 true) ∷ by 0 (kinds.MainTake 1 0 0) ∷ by 0 (kinds.MainEnd 1 0)
+    ∷ by 0 (kinds.MainTake 2 0 0) ∷ by 0 (kinds.MainEnd 2 0) ∷ by 0 (kinds.MainTake 3 0 0) ∷ by 0 (kinds.MainEnd 3 0)
+    ∷ by 0 (kinds.MainTake 4 0 0) ∷ []) ≡ Some (false, false, Some 12)
+unfolding judge read
+fourth_delayed_task_in_a_row = refl

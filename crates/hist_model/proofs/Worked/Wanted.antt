@@ -5,6 +5,7 @@ use Rattle.std.specs.Prelude.{codes, Some, None}
 use Rattle.task_base.specs.declared.entry.Entry.{Entry}
 use Rattle.task_base.specs.declared.entry.JobReply.TheVariants as replies
 use Rattle.task_base.specs.declared.entry.Kind.TheVariants as kinds
+use Rattle.task_base.specs.declared.policy.Policy.TheVariants as policies
 use Rattle.task_base.specs.declared.script.FenceAt.TheVariants.{Now, Start}
 use Rattle.task_base.specs.declared.step.Scope.TheVariants.{Will}
 use Rattle.hist_model.proofs.Worked.Rows.{judge, read, by}
@@ -60,6 +61,10 @@ another_class_is_given = refl
 another_queue_is_closed : judged (two_of_each ++ codes "close 0\n") (by 0 (kinds.Close 1) ∷ []) ≡ Some (false, true, Some 0)
 unfolding judge read
 another_queue_is_closed = refl
+
+another_policy_is_set : judged (two_of_each ++ codes "policy none\n") (by 0 (kinds.Policy policies.All) ∷ []) ≡ Some (false, true, Some 0)
+unfolding judge read
+another_policy_is_set = refl
 
 another_job_is_started : judged (two_of_each ++ codes "startjob 0\n") (by 0 (kinds.JobPost 1 true) ∷ []) ≡ Some (false, true, Some 0)
 unfolding judge read
