@@ -4,6 +4,7 @@ use Rattle.std.specs.Prelude.{codes, Option, Some, None, Result, Ok, Err}
 use Rattle.task_base.specs.declared.entry.Entry.{Entry}
 use Rattle.task_base.specs.declared.entry.JobReply.TheVariants as replies
 use Rattle.task_base.specs.declared.entry.Kind.TheVariants as kinds
+use Rattle.task_base.specs.declared.policy.Policy.TheVariants as policies
 use Rattle.task_base.specs.declared.script.FenceAt.TheVariants.{Now, Start}
 use Rattle.task_base.specs.declared.step.Scope.TheVariants.{May, Will}
 use Rattle.hist_model.proofs.Worked.Rows.{judge, read, by}
@@ -206,11 +207,8 @@ cancel_and_join_wait_for_their_own_job_alone : judged (codes "workers 1\njob 0 u
 unfolding judge read
 cancel_and_join_wait_for_their_own_job_alone = refl
 
-abbrev task_and_job : List ℕ
-task_and_job = codes "workers 1\nrunner 0 parallel user_visible skip\ntask 0\njob 0 user_visible skip 1 1\npost 0 0 0\nstartjob 0\nflush\n"
-
-job_goes_behind_an_earlier_task : judged task_and_job (by 0 (kinds.Post 0 0 0 true) ∷ by 0 (kinds.JobPost 0 true) ∷ by 1 (kinds.JobTake 0 0 0) ∷ [])
-    ≡ Some (false, false, Some 2)
+job_goes_behind_an_earlier_task : judged (codes "workers 1\nrunner 0 parallel user_visible skip\ntask 0\njob 0 user_visible skip 1 1\ntick 1\npost 0 0 0\nstartjob 0\nflush\n")
+    (by 0 (kinds.Tick 0) ∷ by 0 (kinds.Post 0 0 0 true) ∷ by 0 (kinds.JobPost 0 true) ∷ by 1 (kinds.JobTake 0 0 0) ∷ []) ≡ Some (false, false, Some 3)
 unfolding judge read
 job_goes_behind_an_earlier_task = refl
 
@@ -225,10 +223,41 @@ job_goes_behind_single_thread_work : judged (codes "workers 1\nrunner 0 single:1
 unfolding judge read
 job_goes_behind_single_thread_work = refl
 
-block_job_goes_on_after_shutdown : judged (codes "workers 1\njob 0 user_visible block 2 1\nstartjob 0\nshutdown\n")
-    (by 0 (kinds.JobPost 0 true) ∷ by 1 (kinds.JobTake 0 0 0) ∷ by 0 kinds.Shutdown ∷ by 1 (kinds.JobStep 0 0 0 0 (Some 1)) ∷ []) ≡ Some (true, false, None)
+block_job_goes_on_after_shutdown : judged (codes "workers 1\njob 0 user_visible continue 0 1\njob 1 user_visible block 2 1\nstartjob 1\nshutdown\n")
+    (by 0 (kinds.JobPost 1 true) ∷ by 0 kinds.Shutdown ∷ by 1 (kinds.JobTake 1 0 0) ∷ by 1 (kinds.JobStep 1 0 0 0 (Some 1))
+    ∷ by 1 (kinds.JobStep 1 0 1 1 None) ∷ by 0 kinds.Done ∷ []) ≡ Some (true, true, None)
 unfolding judge read
 block_job_goes_on_after_shutdown = refl
+
+-- job 0 has no items, other limits and another behaviour, and is never posted
+second_job_alone : judged (codes "workers 1\njob 0 user_visible continue 0 1\njob 1 user_visible block 3 2 add 5\nstartjob 1\njoin 1\n")
+    (by 0 (kinds.JobPost 1 true) ∷ by 0 (kinds.JobTake 1 0 0) ∷ by 1 (kinds.JobTake 1 1 1)
+    ∷ by 0 (kinds.JobStep 1 0 0 5 (Some 2)) ∷ by 1 (kinds.JobStep 1 1 1 6 None) ∷ by 0 (kinds.JobStep 1 0 2 7 None)
+    ∷ by 0 (kinds.Joined 1 (replies.Finished 18)) ∷ []) ≡ Some (true, true, None)
+unfolding judge read
+second_job_alone = refl
+
+goes_on_while_another_job_is_cancelled : judged (codes "workers 1\njob 0 user_visible skip 1 1\njob 1 user_visible skip 2 1\nstartjob 1\nstartjob 0\ncancel 0\ntick 1\n")
+    (by 0 (kinds.JobPost 1 true) ∷ by 0 (kinds.JobPost 0 true) ∷ by 1 (kinds.JobTake 1 0 0) ∷ by 0 (kinds.JobCancel 0)
+    ∷ by 1 (kinds.JobStep 1 0 0 0 (Some 1)) ∷ []) ≡ Some (true, false, None)
+unfolding judge read
+goes_on_while_another_job_is_cancelled = refl
+
+fewer_inside_before_earlier_post : judged (codes "workers 2\njob 0 user_visible skip 2 2\njob 1 user_visible skip 2 2\nstartjob 1\nstartjob 0\nflush\n")
+    (by 0 (kinds.JobPost 1 true) ∷ by 0 (kinds.JobPost 0 true) ∷ by 1 (kinds.JobTake 1 0 0) ∷ by 2 (kinds.JobTake 0 0 0) ∷ []) ≡ Some (true, false, None)
+unfolding judge read
+fewer_inside_before_earlier_post = refl
+
+job_for_another_worker_than_the_single_thread : judged (codes "workers 2\nrunner 0 single:1 user_blocking skip\ntask 0\njob 0 user_visible skip 1 1\nstartjob 0\npost 0 0 0\nflush\n")
+    (by 0 (kinds.JobPost 0 true) ∷ by 0 (kinds.Post 0 0 0 true) ∷ by 2 (kinds.JobTake 0 0 0) ∷ []) ≡ Some (true, false, None)
+unfolding judge read
+job_for_another_worker_than_the_single_thread = refl
+
+best_effort_job_makes_way_for_visible_work : judged (codes "workers 1\ngroups 1 1 0\nrunner 0 parallel user_visible skip\ntask 0\njob 0 best_effort skip 2 1\nstartjob 0\npost 0 0 0\ntick 1\n")
+    (by 0 (kinds.JobPost 0 true) ∷ by 1 (kinds.JobTake 0 0 0) ∷ by 0 (kinds.Post 0 0 0 true) ∷ by 1 (kinds.JobStep 0 0 0 0 None)
+    ∷ []) ≡ Some (true, false, None)
+unfolding judge read
+best_effort_job_makes_way_for_visible_work = refl
 
 -- ---- room
 
@@ -407,6 +436,27 @@ more_workers_than_the_limit : judged (codes "workers 2\ngroups 1 1 0\nrunner 0 p
 unfolding judge read
 more_workers_than_the_limit = refl
 
+groups_fill_apart : judged (codes "workers 2\ngroups 1 1 1\nrunner 0 parallel best_effort skip\nrunner 1 parallel user_visible skip\ntask 0\ntask 1\npost 0 0 0\npost 1 1 0\ntick 1\n")
+    (by 0 (kinds.Post 0 0 0 true) ∷ by 1 (kinds.Take 0 0 0) ∷ by 0 (kinds.Post 1 1 0 true) ∷ by 2 (kinds.Take 1 1 0) ∷ []) ≡ Some (true, false, None)
+unfolding judge read
+groups_fill_apart = refl
+
+two_best_effort_tasks : judged (codes "workers 3\ngroups 3 2 0\nrunner 0 parallel best_effort skip\ntask 0\ntask 1\npost 0 0 0\npost 1 0 0\ntick 1\n")
+    (by 0 (kinds.Post 0 0 0 true) ∷ by 0 (kinds.Post 1 0 0 true) ∷ by 1 (kinds.Take 0 0 0) ∷ by 2 (kinds.Take 1 0 0) ∷ []) ≡ Some (true, false, None)
+unfolding judge read
+two_best_effort_tasks = refl
+
+visible_item_is_no_best_effort_work : judged (codes "workers 2\ngroups 2 1 0\nrunner 0 parallel best_effort skip\ntask 0\njob 0 user_visible skip 1 1\nstartjob 0\npost 0 0 0\ntick 1\n")
+    (by 0 (kinds.JobPost 0 true) ∷ by 1 (kinds.JobTake 0 0 0) ∷ by 0 (kinds.Post 0 0 0 true) ∷ by 2 (kinds.Take 0 0 0) ∷ []) ≡ Some (true, false, None)
+unfolding judge read
+visible_item_is_no_best_effort_work = refl
+
+-- the second worker runs a task of the sequence
+second_sequence_runs : judged (codes "workers 2\nrunner 0 parallel user_visible skip\nrunner 1 sequenced user_visible skip\ntask 0\ntask 1\npost 0 1 0\npost 1 1 0\ntick 1\n")
+    (by 0 (kinds.Post 0 1 0 true) ∷ by 0 (kinds.Post 1 1 0 true) ∷ by 2 (kinds.Take 0 1 0) ∷ by 1 (kinds.Take 1 1 0) ∷ []) ≡ Some (false, false, Some 3)
+unfolding judge read
+second_sequence_runs = refl
+
 -- ---- tasks that post
 
 abbrev posting_tasks : List ℕ
@@ -469,8 +519,8 @@ block_job_that_was_not_posted : judged (codes "workers 1\njob 0 user_visible blo
 unfolding judge read
 block_job_that_was_not_posted = refl
 
-one_block_task_of_two_has_ended : judged (codes "workers 1\nrunner 0 parallel user_visible block\ntask 0\ntask 1\npost 0 0 0\npost 1 0 0\nshutdown\n")
-    (by 0 (kinds.Post 0 0 0 true) ∷ by 0 (kinds.Post 1 0 0 true) ∷ by 1 (kinds.Take 0 0 0) ∷ by 1 (kinds.End 0 0)
+one_block_task_of_two_has_ended : judged (codes "workers 1\nrunner 0 parallel user_visible block\ntask 0\ntask 1\npost 1 0 0\npost 0 0 0\nshutdown\n")
+    (by 0 (kinds.Post 1 0 0 true) ∷ by 0 (kinds.Post 0 0 0 true) ∷ by 1 (kinds.Take 1 0 0) ∷ by 1 (kinds.End 1 0)
     ∷ by 0 kinds.Shutdown ∷ by 0 kinds.Done ∷ []) ≡ Some (false, true, Some 5)
 unfolding judge read
 one_block_task_of_two_has_ended = refl
@@ -519,14 +569,32 @@ refused_by_the_runner_that_is_posted_to : judged (codes "workers 1\nrunner 0 par
 unfolding judge read
 refused_by_the_runner_that_is_posted_to = refl
 
+continue_task_does_not_start_after_shutdown : judged (codes "workers 1\nrunner 0 parallel user_visible continue\ntask 0\npost 0 0 0\nshutdown\n")
+    (by 0 (kinds.Post 0 0 0 true) ∷ by 0 kinds.Shutdown ∷ by 1 (kinds.Take 0 0 0) ∷ []) ≡ Some (false, false, Some 2)
+unfolding judge read
+continue_task_does_not_start_after_shutdown = refl
+
+second_block_job_is_waited_for : judged (codes "workers 1\njob 0 user_visible continue 0 1\njob 1 user_visible block 1 1\nstartjob 1\nshutdown\n")
+    (by 0 (kinds.JobPost 1 true) ∷ by 0 kinds.Shutdown ∷ by 0 kinds.Done ∷ []) ≡ Some (false, true, Some 2)
+unfolding judge read
+second_block_job_is_waited_for = refl
+
+second_worker_inside_a_skip_job : judged (codes "workers 2\njob 0 user_visible skip 1 1\njob 1 user_visible continue 1 1\nstartjob 0\nshutdown\n")
+    (by 0 (kinds.JobPost 0 true) ∷ by 2 (kinds.JobTake 0 0 0) ∷ by 0 kinds.Shutdown ∷ by 0 kinds.Done ∷ []) ≡ Some (false, false, Some 3)
+unfolding judge read
+second_worker_inside_a_skip_job = refl
+
+accepted_by_the_runner_that_is_posted_to : judged (codes "workers 1\nrunner 0 parallel user_visible skip\nrunner 1 parallel user_visible block\ntask 0\ntask 1 post 0 1 0\npost 1 1 0\nshutdown\n")
+    (by 0 (kinds.Post 1 1 0 true) ∷ by 1 (kinds.Take 1 1 0) ∷ by 0 kinds.Shutdown ∷ by 1 (kinds.Post 0 1 0 true) ∷ []) ≡ Some (true, false, None)
+unfolding judge read
+accepted_by_the_runner_that_is_posted_to = refl
+
 -- ---- keys and values
 
-abbrev ripe_at_one_tick : List ℕ
-ripe_at_one_tick = codes "workers 1\nrunner 0 parallel user_visible skip\ntask 0\ntask 1\npost 1 0 5\npost 0 0 5\ntick 1\nflush\n"
-
 -- both ripen at one moment and tick, and the one with the greater number was posted first
-first_posted_of_two_that_ripen : judged ripe_at_one_tick
-    (by 0 (kinds.Post 1 0 5 true) ∷ by 0 (kinds.Post 0 0 5 true) ∷ by 0 (kinds.Tick 5) ∷ by 1 (kinds.Take 1 0 0) ∷ []) ≡ Some (true, false, None)
+first_posted_of_two_that_ripen : judged (codes "workers 1\nrunner 0 parallel user_visible skip\ntask 0\ntask 1\ntick 1\npost 1 0 5\npost 0 0 5\ntick 1\nflush\n")
+    (by 0 (kinds.Tick 0) ∷ by 0 (kinds.Post 1 0 5 true) ∷ by 0 (kinds.Post 0 0 5 true) ∷ by 0 (kinds.Tick 5)
+    ∷ by 1 (kinds.Take 1 0 0) ∷ []) ≡ Some (true, false, None)
 unfolding judge read
 first_posted_of_two_that_ripen = refl
 
@@ -564,6 +632,42 @@ lesser_ripe_moment_of_the_greater_delay : judged (codes "workers 1\nrunner 0 par
     ∷ by 1 (kinds.Take 0 0 0) ∷ []) ≡ Some (true, false, None)
 unfolding judge read
 lesser_ripe_moment_of_the_greater_delay = refl
+
+-- each sequence has a cell of its own, which lasts
+cells_of_two_sequences : judged (codes "workers 2\nrunner 0 sequenced user_visible skip\nrunner 1 sequenced user_visible skip\ntask 0 add 5\ntask 1\ntask 2\npost 0 1 0\npost 1 0 0\npost 2 1 0\ntick 1\n")
+    (by 0 (kinds.Post 0 1 0 true) ∷ by 2 (kinds.Take 0 1 0) ∷ by 2 (kinds.End 0 5) ∷ by 0 (kinds.Post 1 0 0 true)
+    ∷ by 1 (kinds.Take 1 0 0) ∷ by 1 (kinds.End 1 0) ∷ by 0 (kinds.Post 2 1 0 true) ∷ by 1 (kinds.Take 2 1 5) ∷ []) ≡ Some (true, false, None)
+unfolding judge read
+cells_of_two_sequences = refl
+
+-- its tasks are one sequence
+cell_of_a_single_thread_runner : judged (codes "workers 1\nrunner 0 single:1 user_visible skip\ntask 0 add 5\ntask 1\npost 0 0 0\npost 1 0 0\ntick 1\n")
+    (by 0 (kinds.Post 0 0 0 true) ∷ by 0 (kinds.Post 1 0 0 true) ∷ by 1 (kinds.Take 0 0 0) ∷ by 1 (kinds.End 0 5)
+    ∷ by 1 (kinds.Take 1 0 5) ∷ []) ≡ Some (true, false, None)
+unfolding judge read
+cell_of_a_single_thread_runner = refl
+
+abbrev all_of_number_nothing : List ℕ
+all_of_number_nothing =
+    codes "workers 1\nrunner 0 parallel user_visible skip\nqueue 0 0 1\ntask 0\ntask 1\njob 0 user_visible skip 1 1\ntick 1\npolicy none\npost 0 0 0\nstartjob 0\nmain 1 0 0\nfence 0 start\nvote 0 0 on\nrank 0 0\npump 1\nunfence 0\nvote 0 0 on\nrank 0 0\npolicy all\nflush\ncancel 0\njoin 0\npump 1\n"
+
+-- a task, a queue, a job and a runner may have one number, and none of them changes by what another does
+other_kinds_with_one_number : judged all_of_number_nothing
+    (by 0 (kinds.Tick 5) ∷ by 0 (kinds.Policy policies.Nothing) ∷ by 0 (kinds.Post 0 0 0 true) ∷ by 0 (kinds.JobPost 0 true)
+    ∷ by 0 (kinds.Main 1 0 0 true) ∷ by 0 (kinds.Fence 0 Start) ∷ by 0 (kinds.Vote 0 0 true) ∷ by 0 (kinds.Rank 0 0)
+    ∷ by 0 kinds.MainNone ∷ by 0 (kinds.Unfence 0) ∷ by 0 (kinds.Vote 0 0 true) ∷ by 0 (kinds.Rank 0 0)
+    ∷ by 0 (kinds.Policy policies.All) ∷ by 1 (kinds.Take 0 0 0) ∷ by 1 (kinds.End 0 0) ∷ by 1 (kinds.JobTake 0 0 0)
+    ∷ by 1 (kinds.JobStep 0 0 0 0 None) ∷ by 0 kinds.Idle ∷ by 0 (kinds.JobCancel 0) ∷ by 0 (kinds.Cancelled 0)
+    ∷ by 0 (kinds.Joined 0 (replies.Finished 0)) ∷ by 0 (kinds.MainTake 1 0 0) ∷ by 0 (kinds.MainEnd 1 0) ∷ []) ≡ Some (true, true, None)
+unfolding judge read
+other_kinds_with_one_number = refl
+
+moment_lasts : judged (codes "queue 0 0 1\njob 0 user_visible skip 0 1\ntick 1\nfence 0 now\nunfence 0\nvote 0 0 on\nrank 0 0\nclose 0\nstartjob 0\ncancel 0\njoin 0\ntick 1\n")
+    (by 0 (kinds.Tick 5) ∷ by 0 (kinds.Fence 0 Now) ∷ by 0 (kinds.Unfence 0) ∷ by 0 (kinds.Vote 0 0 true)
+    ∷ by 0 (kinds.Rank 0 0) ∷ by 0 (kinds.Close 0) ∷ by 0 (kinds.JobPost 0 true) ∷ by 0 (kinds.JobCancel 0)
+    ∷ by 0 (kinds.Cancelled 0) ∷ by 0 (kinds.Joined 0 (replies.Finished 0)) ∷ by 0 (kinds.Tick 4) ∷ []) ≡ Some (false, true, Some 10)
+unfolding judge read
+moment_lasts = refl
 
 -- ---- main queues
 
@@ -690,8 +794,8 @@ streak_starts_at_nothing : judged (codes "queue 0 0 0\ntask 0\ntask 1\ntask 2\nt
 unfolding judge read
 streak_starts_at_nothing = refl
 
-second_queue_is_steered : judged (codes "queue 0 0 0\nqueue 1 0 1\nfence 1 now\nunfence 1\nvote 1 0 off\nrank 1 1\nclose 1\n")
-    (by 0 (kinds.Fence 1 Now) ∷ by 0 (kinds.Unfence 1) ∷ by 0 (kinds.Vote 1 0 false) ∷ by 0 (kinds.Rank 1 1)
+second_queue_is_steered : judged (codes "queue 0 0 0\nqueue 1 0 1\nfence 1 now\nunfence 1\nvote 1 0 off\nrank 1 2\nclose 1\n")
+    (by 0 (kinds.Fence 1 Now) ∷ by 0 (kinds.Unfence 1) ∷ by 0 (kinds.Vote 1 0 false) ∷ by 0 (kinds.Rank 1 2)
     ∷ by 0 (kinds.Close 1) ∷ []) ≡ Some (true, true, None)
 unfolding judge read
 second_queue_is_steered = refl
@@ -750,3 +854,37 @@ fourth_delayed_task_in_a_row : judged (codes "queue 0 0 0\ntask 0\ntask 1\ntask 
     ∷ by 0 (kinds.MainTake 4 0 0) ∷ []) ≡ Some (false, false, Some 12)
 unfolding judge read
 fourth_delayed_task_in_a_row = refl
+
+votes_of_the_second_queue : judged (codes "queue 0 0 0\nqueue 1 0 1\ntask 0\nvote 1 0 off\nmain 0 1 0\npump 1\n")
+    (by 0 (kinds.Vote 1 0 false) ∷ by 0 (kinds.Main 0 1 0 true) ∷ by 0 kinds.MainNone ∷ []) ≡ Some (true, true, None)
+unfolding judge read
+votes_of_the_second_queue = refl
+
+unfenced_before_the_post : judged (codes "queue 0 0 0\ntask 0\nfence 0 start\nunfence 0\nmain 0 0 0\npump 1\n")
+    (by 0 (kinds.Fence 0 Start) ∷ by 0 (kinds.Unfence 0) ∷ by 0 (kinds.Main 0 0 0 true) ∷ by 0 (kinds.MainTake 0 0 0)
+    ∷ by 0 (kinds.MainEnd 0 0) ∷ []) ≡ Some (true, true, None)
+unfolding judge read
+unfenced_before_the_post = refl
+
+classes_above_the_first : judged (codes "queue 0 2 0\nqueue 1 0 0\ntask 0\ntask 1\nmain 1 1 0\nmain 0 0 0\nrank 1 3\npump 1\n")
+    (by 0 (kinds.Main 1 1 0 true) ∷ by 0 (kinds.Main 0 0 0 true) ∷ by 0 (kinds.Rank 1 3) ∷ by 0 (kinds.MainTake 0 0 0)
+    ∷ by 0 (kinds.MainEnd 0 0) ∷ []) ≡ Some (true, true, None)
+unfolding judge read
+classes_above_the_first = refl
+
+-- the pump takes up to the end of the main task
+main_task_posts_at_a_pump : judged (codes "queue 0 0 0\ntask 0\ntask 1 main 0 0 0\nmain 1 0 0\npump 1\ntick 1\n")
+    (by 0 (kinds.Main 1 0 0 true) ∷ by 0 (kinds.MainTake 1 0 0) ∷ by 0 (kinds.Main 0 0 0 true) ∷ by 0 (kinds.MainEnd 1 0)
+    ∷ by 0 (kinds.Tick 0) ∷ []) ≡ Some (true, true, None)
+unfolding judge read
+main_task_posts_at_a_pump = refl
+
+-- the immediate task has waited through three
+streak_lasts_between_pumps : judged (codes "workers 1\nrunner 0 parallel user_visible skip\nqueue 0 0 1\ntask 0\ntask 1\ntask 2\ntask 3\ntask 4\ntask 5\nmain 1 0 1\nmain 2 0 1\nmain 3 0 1\nmain 4 0 1\ntick 1\nmain 0 0 0\npump 3\ntick 1\npost 5 0 0\nflush\nunfence 0\nvote 0 0 on\nrank 0 0\npump 1\n")
+    (by 0 (kinds.Main 1 0 1 true) ∷ by 0 (kinds.Main 2 0 1 true) ∷ by 0 (kinds.Main 3 0 1 true) ∷ by 0 (kinds.Main 4 0 1 true)
+    ∷ by 0 (kinds.Tick 1) ∷ by 0 (kinds.Main 0 0 0 true) ∷ by 0 (kinds.MainTake 1 0 0) ∷ by 0 (kinds.MainEnd 1 0)
+    ∷ by 0 (kinds.MainTake 2 0 0) ∷ by 0 (kinds.MainEnd 2 0) ∷ by 0 (kinds.MainTake 3 0 0) ∷ by 0 (kinds.MainEnd 3 0)
+    ∷ by 0 (kinds.Tick 9) ∷ by 0 (kinds.Post 5 0 0 true) ∷ by 1 (kinds.Take 5 0 0) ∷ by 1 (kinds.End 5 0) ∷ by 0 kinds.Idle
+    ∷ by 0 (kinds.Unfence 0) ∷ by 0 (kinds.Vote 0 0 true) ∷ by 0 (kinds.Rank 0 0) ∷ by 0 (kinds.MainTake 4 0 0) ∷ []) ≡ Some (false, false, Some 20)
+unfolding judge read
+streak_lasts_between_pumps = refl

@@ -123,6 +123,10 @@ cancel_is_over_before_it_starts : judged (two_of_each ++ codes "startjob 0\ncanc
 unfolding judge read
 cancel_is_over_before_it_starts = refl
 
+ticks_inside_a_shutdown : judged (two_of_each ++ codes "shutdown\n") (by 0 kinds.Shutdown ∷ by 0 (kinds.Tick 0) ∷ []) ≡ Some (false, true, Some 1)
+unfolding judge read
+ticks_inside_a_shutdown = refl
+
 shut_down_twice : judged (two_of_each ++ codes "shutdown\n") (by 0 kinds.Shutdown ∷ by 0 kinds.Shutdown ∷ []) ≡ Some (false, true, Some 1)
 unfolding judge read
 shut_down_twice = refl
@@ -167,6 +171,60 @@ cancelled_by_a_worker = refl
 done_by_a_worker : judged (two_of_each ++ codes "shutdown\n") (by 0 kinds.Shutdown ∷ by 1 kinds.Done ∷ []) ≡ Some (false, false, Some 1)
 unfolding judge read
 done_by_a_worker = refl
+
+main_task_posted_by_a_worker : judged (two_of_each ++ codes "main 0 0 0\n") (by 1 (kinds.Main 0 0 0 true) ∷ []) ≡ Some (false, false, Some 0)
+unfolding judge read
+main_task_posted_by_a_worker = refl
+
+ticks_by_a_worker : judged (two_of_each ++ codes "tick 1\n") (by 1 (kinds.Tick 0) ∷ []) ≡ Some (false, false, Some 0)
+unfolding judge read
+ticks_by_a_worker = refl
+
+policy_by_a_worker : judged (two_of_each ++ codes "policy none\n") (by 1 (kinds.Policy policies.Nothing) ∷ []) ≡ Some (false, false, Some 0)
+unfolding judge read
+policy_by_a_worker = refl
+
+unfenced_by_a_worker : judged (two_of_each ++ codes "unfence 0\n") (by 1 (kinds.Unfence 0) ∷ []) ≡ Some (false, false, Some 0)
+unfolding judge read
+unfenced_by_a_worker = refl
+
+vote_by_a_worker : judged (codes "queue 0 0 1\nvote 0 0 off\n") (by 1 (kinds.Vote 0 0 false) ∷ []) ≡ Some (false, false, Some 0)
+unfolding judge read
+vote_by_a_worker = refl
+
+ranked_by_a_worker : judged (two_of_each ++ codes "rank 0 3\n") (by 1 (kinds.Rank 0 3) ∷ []) ≡ Some (false, false, Some 0)
+unfolding judge read
+ranked_by_a_worker = refl
+
+closed_by_a_worker : judged (two_of_each ++ codes "close 0\n") (by 1 (kinds.Close 0) ∷ []) ≡ Some (false, false, Some 0)
+unfolding judge read
+closed_by_a_worker = refl
+
+none_by_a_worker : judged (two_of_each ++ codes "pump 1\n") (by 1 kinds.MainNone ∷ []) ≡ Some (false, false, Some 0)
+unfolding judge read
+none_by_a_worker = refl
+
+job_started_by_a_worker : judged (two_of_each ++ codes "startjob 0\n") (by 1 (kinds.JobPost 0 true) ∷ []) ≡ Some (false, false, Some 0)
+unfolding judge read
+job_started_by_a_worker = refl
+
+job_cancelled_by_a_worker : judged (two_of_each ++ codes "startjob 0\ncancel 0\n") (by 0 (kinds.JobPost 0 true) ∷ by 1 (kinds.JobCancel 0) ∷ [])
+    ≡ Some (false, false, Some 1)
+unfolding judge read
+job_cancelled_by_a_worker = refl
+
+joined_by_a_worker : judged (two_of_each ++ codes "startjob 2\njoin 2\n") (by 0 (kinds.JobPost 2 true) ∷ by 1 (kinds.Joined 2 (replies.Finished 0)) ∷ [])
+    ≡ Some (false, false, Some 1)
+unfolding judge read
+joined_by_a_worker = refl
+
+idle_by_a_worker : judged (two_of_each ++ codes "flush\n") (by 1 kinds.Idle ∷ []) ≡ Some (false, false, Some 0)
+unfolding judge read
+idle_by_a_worker = refl
+
+shut_down_by_a_worker : judged (two_of_each ++ codes "shutdown\n") (by 1 kinds.Shutdown ∷ []) ≡ Some (false, false, Some 0)
+unfolding judge read
+shut_down_by_a_worker = refl
 
 -- ---- refused without cause
 
@@ -232,14 +290,14 @@ unfolding judge read
 item_is_ended_under_another_number = refl
 
 -- the other worker may take nothing
-idle_while_one_worker_may_take : judged (codes "workers 2\nrunner 0 single:1 user_visible skip\ntask 0\npost 0 0 0\nflush\n")
+idle_while_one_worker_may_take : judged (codes "workers 2\nrunner 0 single:2 user_visible skip\ntask 0\npost 0 0 0\nflush\n")
     (by 0 (kinds.Post 0 0 0 true) ∷ by 0 kinds.Idle ∷ []) ≡ Some (false, true, Some 1)
 unfolding judge read
 idle_while_one_worker_may_take = refl
 
 abbrev blocks_behind_a_post : List ℕ
 blocks_behind_a_post =
-    codes "workers 1\nrunner 0 parallel user_visible skip mayblock\nqueue 0 0 0\ntask 0\ntask 1 main 0 0 0 ; block will ; unblock\npost 1 0 0\nflush\n"
+    codes "workers 1\nrunner 0 parallel user_visible skip mayblock\nqueue 0 0 0\ntask 0\ntask 1 add 3 ; main 0 0 0 ; block will ; unblock\npost 1 0 0\nflush\n"
 
 abbrev blocking_task_runs : List Entry
 blocking_task_runs = by 0 (kinds.Post 1 0 0 true) ∷ by 1 (kinds.Take 1 0 0) ∷ []
@@ -247,7 +305,7 @@ blocking_task_runs = by 0 (kinds.Post 1 0 0 true) ∷ by 1 (kinds.Take 1 0 0) �
 -- the act steps are entered in order, also behind a post
 task_posts_then_blocks : judged blocks_behind_a_post
     (blocking_task_runs ++ by 1 (kinds.Main 0 0 0 true) ∷ by 1 (kinds.Enter 1 Will) ∷ by 1 (kinds.Leave 1)
-    ∷ by 1 (kinds.End 1 0) ∷ by 0 kinds.Idle ∷ []) ≡ Some (true, true, None)
+    ∷ by 1 (kinds.End 1 3) ∷ by 0 kinds.Idle ∷ []) ≡ Some (true, true, None)
 unfolding judge read
 task_posts_then_blocks = refl
 
