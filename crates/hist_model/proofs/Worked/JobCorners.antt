@@ -145,3 +145,10 @@ one_inside_goes_before_two : judged (codes "workers 4\njob 0 user_visible skip 4
     ∷ by 3 (kinds.JobTake 1 1 1) ∷ by 4 (kinds.JobTake 0 1 1) ∷ []) ≡ Some (true, false, None)
 unfolding judge read
 one_inside_goes_before_two = refl
+
+-- the queue with the number of the job is off
+job_asks_no_queue : judged (codes "workers 1\nqueue 0 0 1\njob 0 user_visible block 1 1\nvote 0 0 off\nstartjob 0\nflush\nshutdown\n")
+    (by 0 (kinds.Vote 0 0 false) ∷ by 0 (kinds.JobPost 0 true) ∷ by 1 (kinds.JobTake 0 0 0) ∷ by 1 (kinds.JobStep 0 0 0 0 None)
+    ∷ by 0 kinds.Idle ∷ by 0 kinds.Shutdown ∷ by 0 kinds.Done ∷ []) ≡ Some (true, true, None)
+unfolding judge read
+job_asks_no_queue = refl

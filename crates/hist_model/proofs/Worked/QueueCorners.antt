@@ -169,3 +169,18 @@ streak_lasts_between_pumps : judged (codes "workers 1\nrunner 0 parallel user_vi
     ∷ by 0 (kinds.MainTake 4 0 0) ∷ []) ≡ Some (false, false, Some 21)
 unfolding judge read
 streak_lasts_between_pumps = refl
+
+-- the other queues are closed
+task_ripens_by_its_own_queue : judged (codes "queue 0 0 0\nqueue 1 0 0\nqueue 2 0 0\ntask 0\nmain 0 2 1\nclose 0\nclose 1\ntick 1\npump 1\n")
+    (by 0 (kinds.Main 0 2 1 true) ∷ by 0 (kinds.Close 0) ∷ by 0 (kinds.Close 1) ∷ by 0 (kinds.Tick 1)
+    ∷ by 0 (kinds.MainTake 0 2 0) ∷ by 0 (kinds.MainEnd 0 0) ∷ []) ≡ Some (true, true, None)
+unfolding judge read
+task_ripens_by_its_own_queue = refl
+
+-- the job and the task with the number of the queue are over, and the queue is not closed
+task_ripens_whatever_else_is_over : judged (codes "workers 1\nrunner 0 parallel user_visible skip\nqueue 0 0 0\ntask 0\ntask 1\njob 0 user_visible skip 0 1\nmain 1 0 1\nstartjob 0\ncancel 0\npost 0 0 0\nflush\ntick 1\npump 1\n")
+    (by 0 (kinds.Main 1 0 1 true) ∷ by 0 (kinds.JobPost 0 true) ∷ by 0 (kinds.JobCancel 0) ∷ by 0 (kinds.Cancelled 0)
+    ∷ by 0 (kinds.Post 0 0 0 true) ∷ by 1 (kinds.Take 0 0 0) ∷ by 1 (kinds.End 0 0) ∷ by 0 kinds.Idle ∷ by 0 (kinds.Tick 1)
+    ∷ by 0 (kinds.MainTake 1 0 0) ∷ by 0 (kinds.MainEnd 1 0) ∷ []) ≡ Some (true, true, None)
+unfolding judge read
+task_ripens_whatever_else_is_over = refl
