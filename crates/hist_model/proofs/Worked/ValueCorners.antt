@@ -5,6 +5,7 @@ use Rattle.task_base.specs.declared.entry.JobReply.TheVariants as replies
 use Rattle.task_base.specs.declared.entry.Kind.TheVariants as kinds
 use Rattle.task_base.specs.declared.policy.Policy.TheVariants as policies
 use Rattle.task_base.specs.declared.script.FenceAt.TheVariants.{Now, Start}
+use Rattle.task_base.specs.declared.step.Scope.TheVariants.{Will}
 use Rattle.hist_model.proofs.Worked.Rows.{judge, read, by}
 use Rattle.hist_model.proofs.Worked.Corners.{judged}
 
@@ -85,3 +86,19 @@ moment_lasts : judged (codes "queue 0 0 1\njob 0 user_visible skip 0 1\ntick 1\n
     ∷ by 0 (kinds.Cancelled 0) ∷ by 0 (kinds.Joined 0 (replies.Finished 0)) ∷ by 0 (kinds.Tick 4) ∷ []) ≡ Some (false, true, Some 10)
 unfolding judge read
 moment_lasts = refl
+
+moment_lasts_through_work : judged (codes "workers 1\nrunner 0 parallel user_visible skip mayblock\ntask 0 block will ; unblock\njob 0 user_visible skip 1 1\ntick 1\npost 0 0 0\nstartjob 0\nflush\ntick 1\n")
+    (by 0 (kinds.Tick 5) ∷ by 0 (kinds.Post 0 0 0 true) ∷ by 0 (kinds.JobPost 0 true) ∷ by 1 (kinds.Take 0 0 0)
+    ∷ by 1 (kinds.Enter 0 Will) ∷ by 1 (kinds.Leave 0) ∷ by 1 (kinds.End 0 0) ∷ by 1 (kinds.JobTake 0 0 0)
+    ∷ by 1 (kinds.JobStep 0 0 0 0 None) ∷ by 0 kinds.Idle ∷ by 0 (kinds.Tick 4) ∷ []) ≡ Some (false, true, Some 10)
+unfolding judge read
+moment_lasts_through_work = refl
+
+-- the numbers of the entries between reach the ripe moment, and none of them is a tick
+only_a_tick_makes_ripe : judged (codes "workers 1\nrunner 0 parallel user_visible skip\nqueue 0 0 0\nqueue 1 0 1\ntask 0\ntask 1\njob 0 user_visible skip 0 1\njob 1 user_visible skip 0 1\npost 0 0 1\npost 1 0 0\nflush\nfence 1 now\nunfence 1\nvote 1 0 on\nrank 1 0\nclose 1\nstartjob 1\ncancel 1\njoin 1\ntick 1\n")
+    (by 0 (kinds.Post 0 0 1 true) ∷ by 0 (kinds.Post 1 0 0 true) ∷ by 1 (kinds.Take 1 0 0) ∷ by 1 (kinds.End 1 0)
+    ∷ by 0 kinds.Idle ∷ by 0 (kinds.Fence 1 Now) ∷ by 0 (kinds.Unfence 1) ∷ by 0 (kinds.Vote 1 0 true) ∷ by 0 (kinds.Rank 1 0)
+    ∷ by 0 (kinds.Close 1) ∷ by 0 (kinds.JobPost 1 true) ∷ by 0 (kinds.JobCancel 1) ∷ by 0 (kinds.Cancelled 1)
+    ∷ by 0 (kinds.Joined 1 (replies.Finished 0)) ∷ by 1 (kinds.Take 0 0 0) ∷ []) ≡ Some (false, false, Some 14)
+unfolding judge read
+only_a_tick_makes_ripe = refl
