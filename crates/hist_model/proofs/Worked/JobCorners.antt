@@ -152,3 +152,21 @@ job_asks_no_queue : judged (codes "workers 1\nqueue 0 0 1\njob 0 user_visible bl
     ∷ by 0 kinds.Idle ∷ by 0 kinds.Shutdown ∷ by 0 kinds.Done ∷ []) ≡ Some (true, true, None)
 unfolding judge read
 job_asks_no_queue = refl
+
+better_job_before_earlier_job : judged (codes "workers 1\njob 0 user_visible skip 1 1\njob 1 best_effort skip 1 1\nstartjob 1\nstartjob 0\nflush\n")
+    (by 0 (kinds.JobPost 1 true) ∷ by 0 (kinds.JobPost 0 true) ∷ by 1 (kinds.JobTake 0 0 0) ∷ []) ≡ Some (true, false, None)
+unfolding judge read
+better_job_before_earlier_job = refl
+
+second_job_done_first : judged (codes "workers 1\njob 0 user_visible skip 1 1\njob 1 user_visible skip 1 1\nstartjob 1\njoin 1\nstartjob 0\njoin 0\n")
+    (by 0 (kinds.JobPost 1 true) ∷ by 0 (kinds.JobTake 1 0 0) ∷ by 0 (kinds.JobStep 1 0 0 0 None)
+    ∷ by 0 (kinds.Joined 1 (replies.Finished 0)) ∷ by 0 (kinds.JobPost 0 true) ∷ by 0 (kinds.JobTake 0 0 0)
+    ∷ by 0 (kinds.JobStep 0 0 0 0 None) ∷ by 0 (kinds.Joined 0 (replies.Finished 0)) ∷ []) ≡ Some (true, true, None)
+unfolding judge read
+second_job_done_first = refl
+
+job_posts_no_main_task : judged (codes "workers 1\nqueue 0 0 0\ntask 0\njob 0 user_visible skip 1 1\nstartjob 0\njoin 0\npump 1\n")
+    (by 0 (kinds.JobPost 0 true) ∷ by 0 (kinds.JobTake 0 0 0) ∷ by 0 (kinds.JobStep 0 0 0 0 None)
+    ∷ by 0 (kinds.Joined 0 (replies.Finished 0)) ∷ by 0 kinds.MainNone ∷ []) ≡ Some (true, true, None)
+unfolding judge read
+job_posts_no_main_task = refl
