@@ -6,3 +6,9 @@ pub mod Jobs
 pub mod Edges
 pub mod Refusals
 pub mod Corners
+pub mod Wanted
+pub mod JobCorners
+pub mod RoomCorners
+pub mod ShutdownCorners
+pub mod ValueCorners
+pub mod QueueCorners

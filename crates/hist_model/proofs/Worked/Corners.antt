@@ -10,7 +10,7 @@ use Rattle.hist_model.proofs.Worked.Rows.{judge, read, by}
 
 -- what is judged of a log, for the script that the text is: whether it is legal, whether it is whole, and its first place
 -- that is not allowed
-abbrev judged : List ℕ → List Entry → Option (Bool × Bool × Option ℕ)
+abbrev pub judged : List ℕ → List Entry → Option (Bool × Bool × Option ℕ)
 judged text log = elim (read text) as (λ _. Option (Bool × Bool × Option ℕ)) [ Ok script ↦ Some (judge script log) | Err fault ↦ None ]
 
 -- ---- whole: finished, and quiet
