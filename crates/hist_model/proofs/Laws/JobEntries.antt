@@ -69,7 +69,8 @@ pub job_step_is : (script : Plan) (past : List Entry) (seat job id item value : 
 unfolding may_come
 job_step_is script past seat job id item value next h =
     let last = and_parts _ (same_number next (next_item script past seat job)) h in
-    let front = and_parts (holds_of (λ h. eqb h.job job && eqb h.id id && eqb h.item item) (holding past seat)) (eqb value (item_value script job item)) last.0 in
+    let front = and_parts (holds_of (λ h. eqb h.job job && eqb h.id id && eqb h.item item) (holding past seat))
+    (eqb value (item_value script job item)) last.0 in
     let held = found (λ h. eqb h.job job && eqb h.id id && eqb h.item item) (holding past seat) front.0 in
     record {
       held = held.is ∙ ap Some (same held.value held.passes);
@@ -93,7 +94,8 @@ join_is script past seat job reply h =
     let c = wanted_by script past seat (kinds.Joined job reply) front.0 in
     record {
       driver = by_driver script past seat (kinds.Joined job reply) front.0;
-      holds_nothing = sym (holding_own past 0) ∙ none_is (holding (own_entries 0 past) 0) (wants_nothing (own_entries 0 past) c.value.action c.value.made c.passes);
+      holds_nothing = sym (holding_own past 0) ∙ none_is (holding (own_entries 0 past) 0)
+          (wants_nothing (own_entries 0 past) c.value.action c.value.made c.passes);
       nobody_inside = nobody (inside script past job) front.1;
       reply_is = said.is ∙ ap Some (sym (same_reply_is reply said.value said.passes));
     }

@@ -184,7 +184,8 @@ blocked_best_effort_makes_room = refl
 
 abbrev posting_tasks : List ℕ
 posting_tasks =
-    codes "workers 1\nrunner 0 parallel user_visible skip\nrunner 1 parallel user_visible skip\nqueue 0 0 0\nqueue 1 0 0\ntask 0\ntask 1\ntask 2 post 0 0 5 ; main 1 0 5\npost 2 0 0\nflush\n"
+    (codes "workers 1\nrunner 0 parallel user_visible skip\nrunner 1 parallel user_visible skip\nqueue 0 0 0\nqueue 1 0 0\ntask 0\n"
+    ++ codes "task 1\ntask 2 post 0 0 5 ; main 1 0 5\npost 2 0 0\nflush\n")
 
 abbrev posting_task_runs : List Entry
 posting_task_runs = by 0 (kinds.Post 2 0 0 true) ∷ by 1 (kinds.Take 2 0 0) ∷ []

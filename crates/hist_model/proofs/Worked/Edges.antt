@@ -1,6 +1,6 @@
 -- Histories at the edges of the rules that were worked out by hand.
 use Rattle.std.proofs.Common.{true, false, List, [], ◌∷◌, refl}
-use Rattle.std.specs.Prelude.{codes, Some, None}
+use Rattle.std.specs.Prelude.{◌++◌, codes, Some, None}
 use Rattle.task_base.specs.Plan.{Plan}
 use Rattle.task_base.specs.declared.entry.Entry.{Entry}
 use Rattle.task_base.specs.declared.entry.Kind.TheVariants as kinds
@@ -117,8 +117,10 @@ driver_does_not_make_way_log =
 -- the driver inside a job makes no way
 abbrev driver_does_not_make_way : Worked
 driver_does_not_make_way = worked driver_does_not_make_way_script driver_does_not_make_way_log
-    (codes "workers 1\ngroups 1 1 0\nrunner 0 parallel user_visible skip\nrunner 1 parallel user_blocking skip\ntask 0\ntask 1 post 0 1 0\njob 0 best_effort skip 2 1 add 0\nstartjob 0\npost 1 0 0\njoin 0\nflush\n")
-    (codes "0 0 startjob 0 ok\n1 0 post 1 0 0 ok\n2 1 take 1 0 0\n3 0 jobtake 0 0 0\n4 1 post 0 1 0 ok\n5 0 jobstep 0 0 0 0 1\n6 0 jobstep 0 0 1 1 -\n7 0 joined 0 done 1\n8 1 end 1 0\n9 1 take 0 1 0\n10 1 end 0 0\n11 0 idle\n")
+    (codes "workers 1\ngroups 1 1 0\nrunner 0 parallel user_visible skip\nrunner 1 parallel user_blocking skip\ntask 0\n"
+    ++ codes "task 1 post 0 1 0\njob 0 best_effort skip 2 1 add 0\nstartjob 0\npost 1 0 0\njoin 0\nflush\n")
+    (codes "0 0 startjob 0 ok\n1 0 post 1 0 0 ok\n2 1 take 1 0 0\n3 0 jobtake 0 0 0\n4 1 post 0 1 0 ok\n5 0 jobstep 0 0 0 0 1\n"
+    ++ codes "6 0 jobstep 0 0 1 1 -\n7 0 joined 0 done 1\n8 1 end 1 0\n9 1 take 0 1 0\n10 1 end 0 0\n11 0 idle\n")
 
 abbrev threshold_from_the_opening_script : Plan
 threshold_from_the_opening_script = record plain {
@@ -150,8 +152,10 @@ threshold_from_the_opening_log =
 -- the threshold counts from the moment of the opening
 abbrev threshold_from_the_opening : Worked
 threshold_from_the_opening = worked threshold_from_the_opening_script threshold_from_the_opening_log
-    (codes "workers 2\ngroups 1 1 0\nthreshold 5\nrunner 0 parallel user_visible skip mayblock\ntask 0 block may ; unblock\ntask 1\ntick 1\npost 0 0 0\npost 1 0 0\ntick 2\nflush\n")
-    (codes "0 0 tick 3\n1 0 post 0 0 0 ok\n2 0 post 1 0 0 ok\n3 1 take 0 0 0\n4 1 block 0 may\n5 0 tick 7\n6 0 tick 8\n7 2 take 1 0 0\n8 1 unblock 0\n9 1 end 0 0\n10 2 end 1 0\n11 0 idle\n")
+    (codes "workers 2\ngroups 1 1 0\nthreshold 5\nrunner 0 parallel user_visible skip mayblock\ntask 0 block may ; unblock\ntask 1\n"
+    ++ codes "tick 1\npost 0 0 0\npost 1 0 0\ntick 2\nflush\n")
+    (codes "0 0 tick 3\n1 0 post 0 0 0 ok\n2 0 post 1 0 0 ok\n3 1 take 0 0 0\n4 1 block 0 may\n5 0 tick 7\n6 0 tick 8\n"
+    ++ codes "7 2 take 1 0 0\n8 1 unblock 0\n9 1 end 0 0\n10 2 end 1 0\n11 0 idle\n")
 
 abbrev forbidden_task_is_passed_over_script : Plan
 forbidden_task_is_passed_over_script = record plain {
@@ -235,8 +239,11 @@ ripened_before_posted_log =
 -- a task that ripened at a tick goes before one posted after it, and ties go by ripe moment then post
 abbrev ripened_before_posted : Worked
 ripened_before_posted = worked ripened_before_posted_script ripened_before_posted_log
-    (codes "workers 1\nrunner 0 sequenced user_visible skip\ntask 0\ntask 1\ntask 2\ntask 3\npolicy none\npost 0 0 5\npost 1 0 3\npost 2 0 3\ntick 1\npost 3 0 0\npolicy all\nflush\n")
-    (codes "0 0 policy none\n1 0 post 0 0 5 ok\n2 0 post 1 0 3 ok\n3 0 post 2 0 3 ok\n4 0 tick 5\n5 0 post 3 0 0 ok\n6 0 policy all\n7 1 take 1 0 0\n8 1 end 1 0\n9 1 take 2 0 0\n10 1 end 2 0\n11 1 take 0 0 0\n12 1 end 0 0\n13 1 take 3 0 0\n14 1 end 3 0\n15 0 idle\n")
+    (codes "workers 1\nrunner 0 sequenced user_visible skip\ntask 0\ntask 1\ntask 2\ntask 3\npolicy none\npost 0 0 5\npost 1 0 3\n"
+    ++ codes "post 2 0 3\ntick 1\npost 3 0 0\npolicy all\nflush\n")
+    (codes "0 0 policy none\n1 0 post 0 0 5 ok\n2 0 post 1 0 3 ok\n3 0 post 2 0 3 ok\n4 0 tick 5\n5 0 post 3 0 0 ok\n"
+    ++ codes "6 0 policy all\n7 1 take 1 0 0\n8 1 end 1 0\n9 1 take 2 0 0\n10 1 end 2 0\n11 1 take 0 0 0\n12 1 end 0 0\n"
+    ++ codes "13 1 take 3 0 0\n14 1 end 3 0\n15 0 idle\n")
 
 abbrev fence_holds_the_delayed_lane_script : Plan
 fence_holds_the_delayed_lane_script = record plain {
@@ -297,8 +304,11 @@ streak_ended_by_another_class_log =
 -- a delayed task of a better class without immediate tasks ends the streak
 abbrev streak_ended_by_another_class : Worked
 streak_ended_by_another_class = worked streak_ended_by_another_class_script streak_ended_by_another_class_log
-    (codes "queue 0 3 0\nqueue 1 2 0\ntask 0\ntask 1\ntask 2\ntask 3\ntask 4\ntask 5\nmain 0 0 1\nmain 1 0 1\nmain 2 0 1\nmain 3 0 1\nmain 5 1 2\ntick 1\nmain 4 0 0\npump 3\ntick 1\npump 2\n")
-    (codes "0 0 main 0 0 1 ok\n1 0 main 1 0 1 ok\n2 0 main 2 0 1 ok\n3 0 main 3 0 1 ok\n4 0 main 5 1 2 ok\n5 0 tick 1\n6 0 main 4 0 0 ok\n7 0 maintake 0 0 0\n8 0 mainend 0 0\n9 0 maintake 1 0 0\n10 0 mainend 1 0\n11 0 maintake 2 0 0\n12 0 mainend 2 0\n13 0 tick 2\n14 0 maintake 5 1 0\n15 0 mainend 5 0\n16 0 maintake 3 0 0\n17 0 mainend 3 0\n")
+    (codes "queue 0 3 0\nqueue 1 2 0\ntask 0\ntask 1\ntask 2\ntask 3\ntask 4\ntask 5\nmain 0 0 1\nmain 1 0 1\nmain 2 0 1\n"
+    ++ codes "main 3 0 1\nmain 5 1 2\ntick 1\nmain 4 0 0\npump 3\ntick 1\npump 2\n")
+    (codes "0 0 main 0 0 1 ok\n1 0 main 1 0 1 ok\n2 0 main 2 0 1 ok\n3 0 main 3 0 1 ok\n4 0 main 5 1 2 ok\n5 0 tick 1\n"
+    ++ codes "6 0 main 4 0 0 ok\n7 0 maintake 0 0 0\n8 0 mainend 0 0\n9 0 maintake 1 0 0\n10 0 mainend 1 0\n11 0 maintake 2 0 0\n"
+    ++ codes "12 0 mainend 2 0\n13 0 tick 2\n14 0 maintake 5 1 0\n15 0 mainend 5 0\n16 0 maintake 3 0 0\n17 0 mainend 3 0\n")
 
 abbrev done_then_cancelled_script : Plan
 done_then_cancelled_script = record plain {
@@ -348,7 +358,8 @@ held_work_makes_no_way_log =
 -- work that the policy holds back makes no worker leave
 abbrev held_work_makes_no_way : Worked
 held_work_makes_no_way = worked held_work_makes_no_way_script held_work_makes_no_way_log
-    (codes "workers 1\ngroups 1 1 0\nrunner 0 parallel user_visible skip\ntask 0\njob 0 best_effort skip 2 1 add 0\nstartjob 0\ntick 1\npolicy none\npost 0 0 0\ntick 1\n")
+    (codes "workers 1\ngroups 1 1 0\nrunner 0 parallel user_visible skip\ntask 0\njob 0 best_effort skip 2 1 add 0\nstartjob 0\n"
+    ++ codes "tick 1\npolicy none\npost 0 0 0\ntick 1\n")
     (codes "0 0 startjob 0 ok\n1 0 tick 0\n2 1 jobtake 0 0 0\n3 0 policy none\n4 0 post 0 0 0 ok\n5 1 jobstep 0 0 0 0 1\n6 1 jobstep 0 0 1 1 -\n7 0 tick 0\n")
 
 -- each of them is right

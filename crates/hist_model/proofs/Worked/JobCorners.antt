@@ -72,24 +72,29 @@ unfolding judge read
 driver_enters_a_job_without_unclaimed_items = refl
 
 -- a worker is inside the other job
-cancel_and_join_wait_for_their_own_job_alone : judged (codes "workers 1\njob 0 user_visible skip 1 1\njob 1 user_visible skip 1 1\nstartjob 0\nstartjob 1\ncancel 1\njoin 1\n")
+cancel_and_join_wait_for_their_own_job_alone : judged (codes
+    "workers 1\njob 0 user_visible skip 1 1\njob 1 user_visible skip 1 1\nstartjob 0\nstartjob 1\ncancel 1\njoin 1\n")
     (by 0 (kinds.JobPost 0 true) ∷ by 0 (kinds.JobPost 1 true) ∷ by 1 (kinds.JobTake 0 0 0) ∷ by 0 (kinds.JobCancel 1)
     ∷ by 0 (kinds.Cancelled 1) ∷ by 0 (kinds.Joined 1 replies.Cancelled) ∷ []) ≡ Some (true, false, None)
 unfolding judge read
 cancel_and_join_wait_for_their_own_job_alone = refl
 
-job_goes_behind_an_earlier_task : judged (codes "workers 1\nrunner 0 parallel user_visible skip\ntask 0\njob 0 user_visible skip 1 1\ntick 1\npost 0 0 0\nstartjob 0\nflush\n")
+job_goes_behind_an_earlier_task : judged
+    (codes "workers 1\nrunner 0 parallel user_visible skip\ntask 0\njob 0 user_visible skip 1 1\ntick 1\npost 0 0 0\nstartjob 0\n"
+    ++ codes "flush\n")
     (by 0 (kinds.Tick 0) ∷ by 0 (kinds.Post 0 0 0 true) ∷ by 0 (kinds.JobPost 0 true) ∷ by 1 (kinds.JobTake 0 0 0) ∷ []) ≡ Some (false, false, Some 3)
 unfolding judge read
 job_goes_behind_an_earlier_task = refl
 
-task_goes_behind_an_earlier_job : judged (codes "workers 1\nrunner 0 parallel user_visible skip\ntask 0\njob 0 user_visible skip 1 1\nstartjob 0\npost 0 0 0\nflush\n")
+task_goes_behind_an_earlier_job : judged
+    (codes "workers 1\nrunner 0 parallel user_visible skip\ntask 0\njob 0 user_visible skip 1 1\nstartjob 0\npost 0 0 0\nflush\n")
     (by 0 (kinds.JobPost 0 true) ∷ by 0 (kinds.Post 0 0 0 true) ∷ by 1 (kinds.Take 0 0 0) ∷ []) ≡ Some (false, false, Some 2)
 unfolding judge read
 task_goes_behind_an_earlier_job = refl
 
 -- the task matters more, and waits for this worker
-job_goes_behind_single_thread_work : judged (codes "workers 1\nrunner 0 single:1 user_blocking skip\ntask 0\njob 0 user_visible skip 1 1\nstartjob 0\npost 0 0 0\nflush\n")
+job_goes_behind_single_thread_work : judged
+    (codes "workers 1\nrunner 0 single:1 user_blocking skip\ntask 0\njob 0 user_visible skip 1 1\nstartjob 0\npost 0 0 0\nflush\n")
     (by 0 (kinds.JobPost 0 true) ∷ by 0 (kinds.Post 0 0 0 true) ∷ by 1 (kinds.JobTake 0 0 0) ∷ []) ≡ Some (false, false, Some 2)
 unfolding judge read
 job_goes_behind_single_thread_work = refl
@@ -108,7 +113,8 @@ second_job_alone : judged (codes "workers 1\njob 0 user_visible continue 0 1\njo
 unfolding judge read
 second_job_alone = refl
 
-goes_on_while_another_job_is_cancelled : judged (codes "workers 1\njob 0 user_visible skip 1 1\njob 1 user_visible skip 2 1\nstartjob 1\nstartjob 0\ncancel 0\ntick 1\n")
+goes_on_while_another_job_is_cancelled : judged
+    (codes "workers 1\njob 0 user_visible skip 1 1\njob 1 user_visible skip 2 1\nstartjob 1\nstartjob 0\ncancel 0\ntick 1\n")
     (by 0 (kinds.JobPost 1 true) ∷ by 0 (kinds.JobPost 0 true) ∷ by 1 (kinds.JobTake 1 0 0) ∷ by 0 (kinds.JobCancel 0)
     ∷ by 1 (kinds.JobStep 1 0 0 0 (Some 1)) ∷ []) ≡ Some (true, false, None)
 unfolding judge read
@@ -119,12 +125,15 @@ fewer_inside_before_earlier_post : judged (codes "workers 2\njob 0 user_visible 
 unfolding judge read
 fewer_inside_before_earlier_post = refl
 
-job_for_another_worker_than_the_single_thread : judged (codes "workers 2\nrunner 0 single:1 user_blocking skip\ntask 0\njob 0 user_visible skip 1 1\nstartjob 0\npost 0 0 0\nflush\n")
+job_for_another_worker_than_the_single_thread : judged (codes
+    "workers 2\nrunner 0 single:1 user_blocking skip\ntask 0\njob 0 user_visible skip 1 1\nstartjob 0\npost 0 0 0\nflush\n")
     (by 0 (kinds.JobPost 0 true) ∷ by 0 (kinds.Post 0 0 0 true) ∷ by 2 (kinds.JobTake 0 0 0) ∷ []) ≡ Some (true, false, None)
 unfolding judge read
 job_for_another_worker_than_the_single_thread = refl
 
-best_effort_job_makes_way_for_visible_work : judged (codes "workers 1\ngroups 1 1 0\nrunner 0 parallel user_visible skip\ntask 0\njob 0 user_blocking skip 1 1\njob 1 best_effort skip 2 1\nstartjob 1\npost 0 0 0\ntick 1\n")
+best_effort_job_makes_way_for_visible_work : judged
+    (codes "workers 1\ngroups 1 1 0\nrunner 0 parallel user_visible skip\ntask 0\njob 0 user_blocking skip 1 1\n"
+    ++ codes "job 1 best_effort skip 2 1\nstartjob 1\npost 0 0 0\ntick 1\n")
     (by 0 (kinds.JobPost 1 true) ∷ by 1 (kinds.JobTake 1 0 0) ∷ by 0 (kinds.Post 0 0 0 true) ∷ by 1 (kinds.JobStep 1 0 0 0 None)
     ∷ []) ≡ Some (true, false, None)
 unfolding judge read
@@ -135,7 +144,9 @@ second_job_is_full : judged (codes "workers 2\njob 0 user_visible skip 2 2\njob 
 unfolding judge read
 second_job_is_full = refl
 
-task_goes_before_a_job_with_a_worker_inside : judged (codes "workers 2\nrunner 0 parallel user_visible skip\ntask 0\njob 0 user_visible skip 1 1\njob 1 user_visible skip 2 2\nstartjob 1\npost 0 0 0\nflush\n")
+task_goes_before_a_job_with_a_worker_inside : judged
+    (codes "workers 2\nrunner 0 parallel user_visible skip\ntask 0\njob 0 user_visible skip 1 1\njob 1 user_visible skip 2 2\n"
+    ++ codes "startjob 1\npost 0 0 0\nflush\n")
     (by 0 (kinds.JobPost 1 true) ∷ by 1 (kinds.JobTake 1 0 0) ∷ by 0 (kinds.Post 0 0 0 true) ∷ by 2 (kinds.Take 0 0 0) ∷ []) ≡ Some (true, false, None)
 unfolding judge read
 task_goes_before_a_job_with_a_worker_inside = refl

@@ -10,7 +10,7 @@ use Rattle.task_base.specs.declared.step.Scope.TheVariants.{May, Will}
 use Rattle.task_base.specs.declared.step.Step.TheVariants as steps
 use Rattle.task_traits.specs.declared.traits.Behaviour.TheVariants.{SkipOnShutdown, BlockShutdown}
 use Rattle.task_traits.specs.declared.traits.Priority.TheVariants.{BestEffort, UserVisible, UserBlocking}
-use Rattle.std.specs.Prelude.{codes, Some, None}
+use Rattle.std.specs.Prelude.{◌++◌, codes, Some, None}
 use Rattle.hist_model.specs.Legal.{first_illegal}
 use Rattle.hist_model.proofs.Worked.Rows.{judge, read, written, Worked, worked, AreRight, runner_of, by, plain}
 
@@ -120,8 +120,11 @@ priority_before_posting_order_log =
 -- the higher priority goes first, whatever the order of the posts
 abbrev priority_before_posting_order : Worked
 priority_before_posting_order = worked priority_before_posting_order_script priority_before_posting_order_log
-    (codes "workers 1\nrunner 0 parallel best_effort skip\nrunner 1 parallel user_visible skip\nrunner 2 parallel user_blocking skip\ntask 0 add 1\ntask 1 add 1\ntask 2 add 1\npolicy none\npost 0 0 0\npost 1 1 0\npost 2 2 0\npolicy all\nflush\n")
-    (codes "0 0 policy none\n1 0 post 0 0 0 ok\n2 0 post 1 1 0 ok\n3 0 post 2 2 0 ok\n4 0 policy all\n5 1 take 2 2 0\n6 1 end 2 1\n7 1 take 1 1 0\n8 1 end 1 1\n9 1 take 0 0 0\n10 1 end 0 1\n11 0 idle\n")
+    (codes "workers 1\nrunner 0 parallel best_effort skip\nrunner 1 parallel user_visible skip\n"
+    ++ codes "runner 2 parallel user_blocking skip\ntask 0 add 1\ntask 1 add 1\ntask 2 add 1\npolicy none\npost 0 0 0\npost 1 1 0\n"
+    ++ codes "post 2 2 0\npolicy all\nflush\n")
+    (codes "0 0 policy none\n1 0 post 0 0 0 ok\n2 0 post 1 1 0 ok\n3 0 post 2 2 0 ok\n4 0 policy all\n5 1 take 2 2 0\n6 1 end 2 1\n"
+    ++ codes "7 1 take 1 1 0\n8 1 end 1 1\n9 1 take 0 0 0\n10 1 end 0 1\n11 0 idle\n")
 
 abbrev lower_priority_first_log : List Entry
 lower_priority_first_log =
@@ -164,8 +167,11 @@ foreground_holds_best_effort_log =
 -- the policy foreground holds best-effort work back
 abbrev foreground_holds_best_effort : Worked
 foreground_holds_best_effort = worked foreground_holds_best_effort_script foreground_holds_best_effort_log
-    (codes "workers 1\nrunner 0 parallel best_effort skip\nrunner 1 parallel user_visible skip\nrunner 2 parallel user_blocking skip\ntask 0 add 1\ntask 1 add 1\ntask 2 add 1\npolicy none\npost 0 0 0\npost 1 1 0\npost 2 2 0\npolicy foreground\nflush\n")
-    (codes "0 0 policy none\n1 0 post 0 0 0 ok\n2 0 post 1 1 0 ok\n3 0 post 2 2 0 ok\n4 0 policy foreground\n5 1 take 2 2 0\n6 1 end 2 1\n7 1 take 1 1 0\n8 1 end 1 1\n9 0 idle\n")
+    (codes "workers 1\nrunner 0 parallel best_effort skip\nrunner 1 parallel user_visible skip\n"
+    ++ codes "runner 2 parallel user_blocking skip\ntask 0 add 1\ntask 1 add 1\ntask 2 add 1\npolicy none\npost 0 0 0\npost 1 1 0\n"
+    ++ codes "post 2 2 0\npolicy foreground\nflush\n")
+    (codes "0 0 policy none\n1 0 post 0 0 0 ok\n2 0 post 1 1 0 ok\n3 0 post 2 2 0 ok\n4 0 policy foreground\n5 1 take 2 2 0\n"
+    ++ codes "6 1 end 2 1\n7 1 take 1 1 0\n8 1 end 1 1\n9 0 idle\n")
 
 abbrev held_back_work_taken_log : List Entry
 held_back_work_taken_log =
@@ -211,7 +217,8 @@ ties_by_post_place_log =
 -- of one priority, the task that was posted first goes first
 abbrev ties_by_post_place : Worked
 ties_by_post_place = worked ties_by_post_place_script ties_by_post_place_log
-    (codes "workers 1\nrunner 0 sequenced user_visible skip\nrunner 1 sequenced user_visible skip\ntask 0 add 1\ntask 1 add 1\npolicy none\npost 0 1 0\npost 1 0 0\npolicy all\nflush\n")
+    (codes "workers 1\nrunner 0 sequenced user_visible skip\nrunner 1 sequenced user_visible skip\ntask 0 add 1\ntask 1 add 1\n"
+    ++ codes "policy none\npost 0 1 0\npost 1 0 0\npolicy all\nflush\n")
     (codes "0 0 policy none\n1 0 post 0 1 0 ok\n2 0 post 1 0 0 ok\n3 0 policy all\n4 1 take 0 1 0\n5 1 end 0 1\n6 1 take 1 0 0\n7 1 end 1 1\n8 0 idle\n")
 
 abbrev ripening_order_script : Plan
@@ -242,8 +249,10 @@ ripening_order_log =
 -- delayed tasks go by the order in which they ripen, behind what was posted earlier
 abbrev ripening_order : Worked
 ripening_order = worked ripening_order_script ripening_order_log
-    (codes "workers 1\nrunner 0 sequenced user_visible skip\ntask 0 add 1\ntask 1 mul 2\ntask 2 set 7\npolicy none\npost 0 0 5\npost 1 0 3\npost 2 0 0\ntick 1\npolicy all\nflush\n")
-    (codes "0 0 policy none\n1 0 post 0 0 5 ok\n2 0 post 1 0 3 ok\n3 0 post 2 0 0 ok\n4 0 tick 10\n5 0 policy all\n6 1 take 2 0 0\n7 1 end 2 7\n8 1 take 1 0 7\n9 1 end 1 14\n10 1 take 0 0 14\n11 1 end 0 15\n12 0 idle\n")
+    (codes "workers 1\nrunner 0 sequenced user_visible skip\ntask 0 add 1\ntask 1 mul 2\ntask 2 set 7\npolicy none\npost 0 0 5\n"
+    ++ codes "post 1 0 3\npost 2 0 0\ntick 1\npolicy all\nflush\n")
+    (codes "0 0 policy none\n1 0 post 0 0 5 ok\n2 0 post 1 0 3 ok\n3 0 post 2 0 0 ok\n4 0 tick 10\n5 0 policy all\n6 1 take 2 0 0\n"
+    ++ codes "7 1 end 2 7\n8 1 take 1 0 7\n9 1 end 1 14\n10 1 take 0 0 14\n11 1 end 0 15\n12 0 idle\n")
 
 abbrev shutdown_skips_and_blocks_script : Plan
 shutdown_skips_and_blocks_script = record plain {
@@ -267,7 +276,8 @@ shutdown_skips_and_blocks_log =
 -- shutdown waits for block tasks, skips the others, and refuses posts once it is done
 abbrev shutdown_skips_and_blocks : Worked
 shutdown_skips_and_blocks = worked shutdown_skips_and_blocks_script shutdown_skips_and_blocks_log
-    (codes "workers 1\nrunner 0 parallel user_visible skip\nrunner 1 parallel user_visible block\ntask 0 add 1\ntask 1 add 2\ntask 2 add 3\npolicy none\npost 0 0 0\npost 1 1 0\nshutdown\npost 2 1 0\n")
+    (codes "workers 1\nrunner 0 parallel user_visible skip\nrunner 1 parallel user_visible block\ntask 0 add 1\ntask 1 add 2\n"
+    ++ codes "task 2 add 3\npolicy none\npost 0 0 0\npost 1 1 0\nshutdown\npost 2 1 0\n")
     (codes "0 0 policy none\n1 0 post 0 0 0 ok\n2 0 post 1 1 0 ok\n3 0 shutdown\n4 1 take 1 1 0\n5 1 end 1 2\n6 0 done\n7 0 post 2 1 0 no\n")
 
 abbrev block_task_posts_during_shutdown_script : Plan
@@ -343,7 +353,8 @@ will_block_log =
 -- a scope that will block lets one more task run at once
 abbrev will_block : Worked
 will_block = worked will_block_script will_block_log
-    (codes "workers 2\ngroups 1 1 0\nrunner 0 parallel user_visible skip mayblock\ntask 0 block will ; add 1 ; unblock\ntask 1 add 2\npost 0 0 0\npost 1 0 0\nflush\n")
+    (codes "workers 2\ngroups 1 1 0\nrunner 0 parallel user_visible skip mayblock\ntask 0 block will ; add 1 ; unblock\n"
+    ++ codes "task 1 add 2\npost 0 0 0\npost 1 0 0\nflush\n")
     (codes "0 0 post 0 0 0 ok\n1 0 post 1 0 0 ok\n2 1 take 0 0 0\n3 1 block 0 will\n4 2 take 1 0 0\n5 2 end 1 2\n6 1 unblock 0\n7 1 end 0 1\n8 0 idle\n")
 
 abbrev no_room_before_the_scope_log : List Entry
@@ -393,8 +404,10 @@ may_block_log =
 -- a scope that may block lets one more task run once it was open for the threshold
 abbrev may_block : Worked
 may_block = worked may_block_script may_block_log
-    (codes "workers 2\ngroups 1 1 0\nthreshold 5\nrunner 0 parallel user_visible skip mayblock\ntask 0 block may ; add 1 ; unblock\ntask 1 add 2\npost 0 0 0\npost 1 0 0\ntick 2\nflush\n")
-    (codes "0 0 post 0 0 0 ok\n1 0 post 1 0 0 ok\n2 1 take 0 0 0\n3 1 block 0 may\n4 0 tick 4\n5 0 tick 5\n6 2 take 1 0 0\n7 2 end 1 2\n8 1 unblock 0\n9 1 end 0 1\n10 0 idle\n")
+    (codes "workers 2\ngroups 1 1 0\nthreshold 5\nrunner 0 parallel user_visible skip mayblock\ntask 0 block may ; add 1 ; unblock\n"
+    ++ codes "task 1 add 2\npost 0 0 0\npost 1 0 0\ntick 2\nflush\n")
+    (codes "0 0 post 0 0 0 ok\n1 0 post 1 0 0 ok\n2 1 take 0 0 0\n3 1 block 0 may\n4 0 tick 4\n5 0 tick 5\n6 2 take 1 0 0\n"
+    ++ codes "7 2 end 1 2\n8 1 unblock 0\n9 1 end 0 1\n10 0 idle\n")
 
 abbrev no_room_before_the_threshold_log : List Entry
 no_room_before_the_threshold_log =

@@ -1,6 +1,6 @@
 -- Histories that pin single words of the definitions of main queues: what one queue has is not another's, orders, and the streak.
 use Rattle.std.proofs.Common.{◌≡◌, true, false, [], ◌∷◌, refl}
-use Rattle.std.specs.Prelude.{codes, Some, None}
+use Rattle.std.specs.Prelude.{◌++◌, codes, Some, None}
 use Rattle.task_base.specs.declared.entry.Kind.TheVariants as kinds
 use Rattle.task_base.specs.declared.script.FenceAt.TheVariants.{Now, Start}
 use Rattle.hist_model.proofs.Worked.Rows.{judge, read, by}
@@ -57,7 +57,8 @@ unfolding judge read
 first_posted_of_two_main_tasks_that_ripen = refl
 
 -- three immediate tasks run, and then the delayed one goes before the last immediate one
-immediate_tasks_make_no_streak : judged (codes "queue 0 0 0\ntask 0\ntask 1\ntask 2\ntask 3\ntask 4\nmain 3 0 1\nmain 0 0 0\nmain 1 0 0\nmain 2 0 0\ntick 1\nmain 4 0 0\npump 4\n")
+immediate_tasks_make_no_streak : judged (codes "queue 0 0 0\ntask 0\ntask 1\ntask 2\ntask 3\ntask 4\nmain 3 0 1\nmain 0 0 0\nmain 1 0 0\nmain 2 0 0\ntick 1\n"
+    ++ codes "main 4 0 0\npump 4\n")
     (by 0 (kinds.Main 3 0 1 true) ∷ by 0 (kinds.Main 0 0 0 true) ∷ by 0 (kinds.Main 1 0 0 true) ∷ by 0 (kinds.Main 2 0 0 true)
     ∷ by 0 (kinds.Tick 1) ∷ by 0 (kinds.Main 4 0 0 true) ∷ by 0 (kinds.MainTake 0 0 0) ∷ by 0 (kinds.MainEnd 0 0)
     ∷ by 0 (kinds.MainTake 1 0 0) ∷ by 0 (kinds.MainEnd 1 0) ∷ by 0 (kinds.MainTake 2 0 0) ∷ by 0 (kinds.MainEnd 2 0)
@@ -66,7 +67,8 @@ unfolding judge read
 immediate_tasks_make_no_streak = refl
 
 -- three delayed tasks run in a row behind an immediate one, while another immediate one waits
-streak_starts_at_nothing : judged (codes "queue 0 0 0\ntask 0\ntask 1\ntask 2\ntask 3\ntask 4\nmain 1 0 1\nmain 2 0 1\nmain 3 0 1\nmain 0 0 0\ntick 1\nmain 4 0 0\npump 4\n")
+streak_starts_at_nothing : judged (codes "queue 0 0 0\ntask 0\ntask 1\ntask 2\ntask 3\ntask 4\nmain 1 0 1\nmain 2 0 1\nmain 3 0 1\nmain 0 0 0\ntick 1\n"
+    ++ codes "main 4 0 0\npump 4\n")
     (by 0 (kinds.Main 1 0 1 true) ∷ by 0 (kinds.Main 2 0 1 true) ∷ by 0 (kinds.Main 3 0 1 true) ∷ by 0 (kinds.Main 0 0 0 true)
     ∷ by 0 (kinds.Tick 1) ∷ by 0 (kinds.Main 4 0 0 true) ∷ by 0 (kinds.MainTake 0 0 0) ∷ by 0 (kinds.MainEnd 0 0)
     ∷ by 0 (kinds.MainTake 1 0 0) ∷ by 0 (kinds.MainEnd 1 0) ∷ by 0 (kinds.MainTake 2 0 0) ∷ by 0 (kinds.MainEnd 2 0)
@@ -127,7 +129,8 @@ unfolding judge read
 lesser_ripe_moment_of_two_queues = refl
 
 -- the immediate task waited through three, and all found 0
-fourth_delayed_task_in_a_row : judged (codes "queue 0 0 0\ntask 0\ntask 1\ntask 2\ntask 3\ntask 4\nmain 1 0 1\nmain 2 0 1\nmain 3 0 1\nmain 4 0 1\ntick 1\nmain 0 0 0\npump 4\n")
+fourth_delayed_task_in_a_row : judged (codes "queue 0 0 0\ntask 0\ntask 1\ntask 2\ntask 3\ntask 4\nmain 1 0 1\nmain 2 0 1\nmain 3 0 1\nmain 4 0 1\ntick 1\n"
+    ++ codes "main 0 0 0\npump 4\n")
     (by 0 (kinds.Main 1 0 1 true) ∷ by 0 (kinds.Main 2 0 1 true) ∷ by 0 (kinds.Main 3 0 1 true) ∷ by 0 (kinds.Main 4 0 1 true)
     ∷ by 0 (kinds.Tick 1) ∷ by 0 (kinds.Main 0 0 0 true) ∷ by 0 (kinds.MainTake 1 0 0) ∷ by 0 (kinds.MainEnd 1 0)
     ∷ by 0 (kinds.MainTake 2 0 0) ∷ by 0 (kinds.MainEnd 2 0) ∷ by 0 (kinds.MainTake 3 0 0) ∷ by 0 (kinds.MainEnd 3 0)
@@ -160,7 +163,10 @@ unfolding judge read
 main_task_posts_at_a_pump = refl
 
 -- the immediate task has waited through three
-streak_lasts_between_pumps : judged (codes "workers 1\nrunner 0 parallel user_visible skip\nqueue 0 0 1\ntask 0\ntask 1\ntask 2\ntask 3\ntask 4\ntask 5\ntask 6\nmain 1 0 1\nmain 2 0 1\nmain 3 0 1\nmain 4 0 1\ntick 1\nmain 0 0 0\npump 3\ntick 1\npost 5 0 0\nflush\nmain 6 0 0\nunfence 0\nvote 0 0 on\nrank 0 0\npump 1\n")
+streak_lasts_between_pumps : judged
+    (codes "workers 1\nrunner 0 parallel user_visible skip\nqueue 0 0 1\ntask 0\ntask 1\ntask 2\ntask 3\ntask 4\ntask 5\ntask 6\n"
+    ++ codes "main 1 0 1\nmain 2 0 1\nmain 3 0 1\nmain 4 0 1\ntick 1\nmain 0 0 0\npump 3\ntick 1\npost 5 0 0\nflush\nmain 6 0 0\n"
+    ++ codes "unfence 0\nvote 0 0 on\nrank 0 0\npump 1\n")
     (by 0 (kinds.Main 1 0 1 true) ∷ by 0 (kinds.Main 2 0 1 true) ∷ by 0 (kinds.Main 3 0 1 true) ∷ by 0 (kinds.Main 4 0 1 true)
     ∷ by 0 (kinds.Tick 1) ∷ by 0 (kinds.Main 0 0 0 true) ∷ by 0 (kinds.MainTake 1 0 0) ∷ by 0 (kinds.MainEnd 1 0)
     ∷ by 0 (kinds.MainTake 2 0 0) ∷ by 0 (kinds.MainEnd 2 0) ∷ by 0 (kinds.MainTake 3 0 0) ∷ by 0 (kinds.MainEnd 3 0)
@@ -178,7 +184,9 @@ unfolding judge read
 task_ripens_by_its_own_queue = refl
 
 -- the job and the task with the number of the queue are over, and the queue is not closed
-task_ripens_whatever_else_is_over : judged (codes "workers 1\nrunner 0 parallel user_visible skip\nqueue 0 0 0\ntask 0\ntask 1\njob 0 user_visible skip 0 1\nmain 1 0 1\nstartjob 0\ncancel 0\npost 0 0 0\nflush\ntick 1\npump 1\n")
+task_ripens_whatever_else_is_over : judged
+    (codes "workers 1\nrunner 0 parallel user_visible skip\nqueue 0 0 0\ntask 0\ntask 1\njob 0 user_visible skip 0 1\nmain 1 0 1\n"
+    ++ codes "startjob 0\ncancel 0\npost 0 0 0\nflush\ntick 1\npump 1\n")
     (by 0 (kinds.Main 1 0 1 true) ∷ by 0 (kinds.JobPost 0 true) ∷ by 0 (kinds.JobCancel 0) ∷ by 0 (kinds.Cancelled 0)
     ∷ by 0 (kinds.Post 0 0 0 true) ∷ by 1 (kinds.Take 0 0 0) ∷ by 1 (kinds.End 0 0) ∷ by 0 kinds.Idle ∷ by 0 (kinds.Tick 1)
     ∷ by 0 (kinds.MainTake 1 0 0) ∷ by 0 (kinds.MainEnd 1 0) ∷ []) ≡ Some (true, true, None)

@@ -6,7 +6,7 @@ use Rattle.task_base.specs.declared.entry.Kind.TheVariants as kinds
 use Rattle.task_base.specs.declared.script.Action.TheVariants as actions
 use Rattle.task_base.specs.declared.script.FenceAt.TheVariants.{Now, Start}
 use Rattle.task_base.specs.declared.step.Step.TheVariants as steps
-use Rattle.std.specs.Prelude.{codes}
+use Rattle.std.specs.Prelude.{◌++◌, codes}
 use Rattle.hist_model.proofs.Worked.Rows.{judge, read, written, Worked, worked, AreRight, queue_of, by, plain}
 
 abbrev fence_now_script : Plan
@@ -35,7 +35,8 @@ fence_now_log =
 abbrev fence_now : Worked
 fence_now = worked fence_now_script fence_now_log
     (codes "queue 0 3 0\ntask 0 add 1\ntask 1 add 2\nmain 0 0 0\nfence 0 now\nmain 1 0 0\npump 5\nunfence 0\npump 5\n")
-    (codes "0 0 main 0 0 0 ok\n1 0 fence 0 now\n2 0 main 1 0 0 ok\n3 0 maintake 0 0 0\n4 0 mainend 0 1\n5 0 mainnone\n6 0 unfence 0\n7 0 maintake 1 0 1\n8 0 mainend 1 3\n9 0 mainnone\n")
+    (codes "0 0 main 0 0 0 ok\n1 0 fence 0 now\n2 0 main 1 0 0 ok\n3 0 maintake 0 0 0\n4 0 mainend 0 1\n5 0 mainnone\n"
+    ++ codes "6 0 unfence 0\n7 0 maintake 1 0 1\n8 0 mainend 1 3\n9 0 mainnone\n")
 
 abbrev fence_replaced_script : Plan
 fence_replaced_script = record plain {
@@ -63,7 +64,8 @@ fence_replaced_log =
 abbrev fence_replaced : Worked
 fence_replaced = worked fence_replaced_script fence_replaced_log
     (codes "queue 0 3 0\ntask 0 add 1\ntask 1 add 2\ntask 2 add 4\nmain 0 0 0\nfence 0 start\nmain 1 0 0\nfence 0 now\nmain 2 0 0\npump 5\n")
-    (codes "0 0 main 0 0 0 ok\n1 0 fence 0 start\n2 0 main 1 0 0 ok\n3 0 fence 0 now\n4 0 main 2 0 0 ok\n5 0 maintake 0 0 0\n6 0 mainend 0 1\n7 0 maintake 1 0 1\n8 0 mainend 1 3\n9 0 mainnone\n")
+    (codes "0 0 main 0 0 0 ok\n1 0 fence 0 start\n2 0 main 1 0 0 ok\n3 0 fence 0 now\n4 0 main 2 0 0 ok\n5 0 maintake 0 0 0\n"
+    ++ codes "6 0 mainend 0 1\n7 0 maintake 1 0 1\n8 0 mainend 1 3\n9 0 mainnone\n")
 
 abbrev starvation_bound_script : Plan
 starvation_bound_script = record plain {
@@ -96,8 +98,11 @@ starvation_bound_log =
 -- after three delayed tasks in a row an immediate one goes first
 abbrev starvation_bound : Worked
 starvation_bound = worked starvation_bound_script starvation_bound_log
-    (codes "queue 0 3 0\ntask 0 add 1\ntask 1 add 1\ntask 2 add 1\ntask 3 add 1\ntask 4 add 1\nmain 0 0 1\nmain 1 0 1\nmain 2 0 1\nmain 3 0 1\ntick 1\nmain 4 0 0\npump 5\n")
-    (codes "0 0 main 0 0 1 ok\n1 0 main 1 0 1 ok\n2 0 main 2 0 1 ok\n3 0 main 3 0 1 ok\n4 0 tick 10\n5 0 main 4 0 0 ok\n6 0 maintake 0 0 0\n7 0 mainend 0 1\n8 0 maintake 1 0 1\n9 0 mainend 1 2\n10 0 maintake 2 0 2\n11 0 mainend 2 3\n12 0 maintake 4 0 3\n13 0 mainend 4 4\n14 0 maintake 3 0 4\n15 0 mainend 3 5\n")
+    (codes "queue 0 3 0\ntask 0 add 1\ntask 1 add 1\ntask 2 add 1\ntask 3 add 1\ntask 4 add 1\nmain 0 0 1\nmain 1 0 1\nmain 2 0 1\n"
+    ++ codes "main 3 0 1\ntick 1\nmain 4 0 0\npump 5\n")
+    (codes "0 0 main 0 0 1 ok\n1 0 main 1 0 1 ok\n2 0 main 2 0 1 ok\n3 0 main 3 0 1 ok\n4 0 tick 10\n5 0 main 4 0 0 ok\n"
+    ++ codes "6 0 maintake 0 0 0\n7 0 mainend 0 1\n8 0 maintake 1 0 1\n9 0 mainend 1 2\n10 0 maintake 2 0 2\n11 0 mainend 2 3\n"
+    ++ codes "12 0 maintake 4 0 3\n13 0 mainend 4 4\n14 0 maintake 3 0 4\n15 0 mainend 3 5\n")
 
 abbrev voters_and_closing_script : Plan
 voters_and_closing_script = record plain {
@@ -152,7 +157,8 @@ classes_log =
 abbrev classes : Worked
 classes = worked classes_script classes_log
     (codes "queue 0 3 0\nqueue 1 2 0\ntask 0 add 1\ntask 1 add 1\ntask 2 add 1\nmain 0 0 0\nmain 1 1 0\npump 1\nrank 0 0\nmain 2 1 0\npump 5\n")
-    (codes "0 0 main 0 0 0 ok\n1 0 main 1 1 0 ok\n2 0 maintake 1 1 0\n3 0 mainend 1 1\n4 0 rank 0 0\n5 0 main 2 1 0 ok\n6 0 maintake 0 0 0\n7 0 mainend 0 1\n8 0 maintake 2 1 1\n9 0 mainend 2 2\n10 0 mainnone\n")
+    (codes "0 0 main 0 0 0 ok\n1 0 main 1 1 0 ok\n2 0 maintake 1 1 0\n3 0 mainend 1 1\n4 0 rank 0 0\n5 0 main 2 1 0 ok\n"
+    ++ codes "6 0 maintake 0 0 0\n7 0 mainend 0 1\n8 0 maintake 2 1 1\n9 0 mainend 2 2\n10 0 mainnone\n")
 
 -- each of them is right
 queues_are_right : AreRight (fence_now ∷ fence_replaced ∷ starvation_bound ∷ voters_and_closing ∷ classes ∷ [])

@@ -39,7 +39,8 @@ use Rattle.std.specs.Fmt.{digits}
 -- takes open
 unfoldable pub judge : Plan → List Entry → Bool × Bool × Option ℕ
 unfolding fold_past now_of tick_from posts main_posts is_taken is_ended is_main_taken phase_of policy_of is_closed ready eligible head_of running holding
-    is_quiet runs_sequence inside acts_done cell_of main_cell_of taken_with open_scope load capacity best_load best_capacity has_room job_post_of is_cancelled claimed done
+    is_quiet runs_sequence inside acts_done cell_of main_cell_of taken_with open_scope load capacity best_load best_capacity has_room job_post_of is_cancelled
+    claimed done
     job_sum may_enter would_wait waiting best_of leaves block_part skip_part blockers_of ripening draws order_of fence_of votes_on class_of front_of open_fronts
     of_least_class streak_of choice_among current is_wanted is_finished by_script by_task may_come is_legal first_illegal
 judge script log = (is_legal script log, is_whole script log, first_illegal script log)

@@ -49,7 +49,8 @@ running_block_task_is_waited_for : judged (codes "workers 1\nrunner 0 parallel u
 unfolding judge read
 running_block_task_is_waited_for = refl
 
-running_task_counts_by_its_runner : judged (codes "workers 1\nrunner 0 parallel user_visible continue\nrunner 1 parallel user_visible skip\ntask 0\npost 0 1 0\nshutdown\n")
+running_task_counts_by_its_runner : judged
+    (codes "workers 1\nrunner 0 parallel user_visible continue\nrunner 1 parallel user_visible skip\ntask 0\npost 0 1 0\nshutdown\n")
     (by 0 (kinds.Post 0 1 0 true) ∷ by 1 (kinds.Take 0 1 0) ∷ by 0 kinds.Shutdown ∷ by 0 kinds.Done ∷ []) ≡ Some (false, false, Some 3)
 unfolding judge read
 running_task_counts_by_its_runner = refl
@@ -77,7 +78,9 @@ seat_inside_a_block_job_is_waited_for : judged (codes "workers 1\njob 0 user_vis
 unfolding judge read
 seat_inside_a_block_job_is_waited_for = refl
 
-refused_by_the_runner_that_is_posted_to : judged (codes "workers 1\nrunner 0 parallel user_visible block\nrunner 1 parallel user_visible skip\ntask 0\ntask 1 post 0 1 0\npost 1 0 0\nshutdown\n")
+refused_by_the_runner_that_is_posted_to : judged
+    (codes "workers 1\nrunner 0 parallel user_visible block\nrunner 1 parallel user_visible skip\ntask 0\ntask 1 post 0 1 0\n"
+    ++ codes "post 1 0 0\nshutdown\n")
     (by 0 (kinds.Post 1 0 0 true) ∷ by 1 (kinds.Take 1 0 0) ∷ by 0 kinds.Shutdown ∷ by 1 (kinds.Post 0 1 0 false) ∷ []) ≡ Some (true, false, None)
 unfolding judge read
 refused_by_the_runner_that_is_posted_to = refl
@@ -97,7 +100,9 @@ second_worker_inside_a_skip_job : judged (codes "workers 2\njob 0 user_visible s
 unfolding judge read
 second_worker_inside_a_skip_job = refl
 
-accepted_by_the_runner_that_is_posted_to : judged (codes "workers 1\nrunner 0 parallel user_visible skip\nrunner 1 parallel user_visible block\ntask 0\ntask 1 post 0 1 0\npost 1 1 0\nshutdown\n")
+accepted_by_the_runner_that_is_posted_to : judged
+    (codes "workers 1\nrunner 0 parallel user_visible skip\nrunner 1 parallel user_visible block\ntask 0\ntask 1 post 0 1 0\n"
+    ++ codes "post 1 1 0\nshutdown\n")
     (by 0 (kinds.Post 1 1 0 true) ∷ by 1 (kinds.Take 1 1 0) ∷ by 0 kinds.Shutdown ∷ by 1 (kinds.Post 0 1 0 true) ∷ []) ≡ Some (true, false, None)
 unfolding judge read
 accepted_by_the_runner_that_is_posted_to = refl
@@ -110,7 +115,8 @@ another_job_was_cancelled = refl
 
 abbrev task_waits_through_all : List ℕ
 task_waits_through_all =
-    codes "workers 1\nrunner 0 parallel user_visible block\nqueue 0 0 1\ntask 0\njob 0 user_visible skip 0 1\npost 0 0 0\ntick 1\nfence 0 now\nunfence 0\nvote 0 0 on\nrank 0 0\nclose 0\nstartjob 0\ncancel 0\njoin 0\nshutdown\n"
+    (codes "workers 1\nrunner 0 parallel user_visible block\nqueue 0 0 1\ntask 0\njob 0 user_visible skip 0 1\npost 0 0 0\ntick 1\n"
+    ++ codes "fence 0 now\nunfence 0\nvote 0 0 on\nrank 0 0\nclose 0\nstartjob 0\ncancel 0\njoin 0\nshutdown\n")
 
 abbrev all_before_the_shutdown : List Entry
 all_before_the_shutdown =

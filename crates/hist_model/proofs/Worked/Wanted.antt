@@ -14,7 +14,8 @@ use Rattle.hist_model.proofs.Worked.Corners.{judged}
 -- two runners, main queues and tasks, two jobs of two items, and one without items; the actions follow
 abbrev two_of_each : List ℕ
 two_of_each =
-    codes "workers 2\nrunner 0 parallel user_visible skip\nrunner 1 parallel user_visible skip\nqueue 0 0 0\nqueue 1 0 0\ntask 0\ntask 1\njob 0 user_visible skip 2 2\njob 1 user_visible skip 2 2\njob 2 user_visible skip 0 1\n"
+    (codes "workers 2\nrunner 0 parallel user_visible skip\nrunner 1 parallel user_visible skip\nqueue 0 0 0\nqueue 1 0 0\ntask 0\n"
+    ++ codes "task 1\njob 0 user_visible skip 2 2\njob 1 user_visible skip 2 2\njob 2 user_visible skip 0 1\n")
 
 -- ---- another one than the action says
 
