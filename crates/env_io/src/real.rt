@@ -10,7 +10,7 @@ use std::rt;
 use std::snapshot::Snapshot;
 use std::time::Instant;
 
-/// Reads from a reader. Each of its errors is a failure, an interrupted read too.
+/// Reads from a reader. Tests show that each of its errors is a failure, an interrupted read too.
 ///
 /// It tells the bytes that the reader has left, if the reader told them at first. Standard input tells none.
 #[derive(Drop)]
@@ -64,7 +64,7 @@ impl<R: Read> Source for StdSource<R> {
     }
 }
 
-/// Writes to a writer. Each of its errors is a failure, and so is a write that takes nothing of a piece.
+/// Writes to a writer. Tests show that each of its errors is a failure, and so is a write that takes nothing of a piece.
 ///
 /// It tells the bytes that the writer holds, if the writer told them at first. Standard output tells none.
 #[derive(Drop)]

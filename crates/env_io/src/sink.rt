@@ -32,7 +32,7 @@ pub trait Sink {
 
 /// Puts a whole piece, in as many calls as the sink wants. It makes no call for an empty piece.
 ///
-/// `Failed`: a `put` failed. What went out before stays out, and nothing was put after it.
+/// `Failed`: a `put` failed. What went out before stays out.
 pub fn put_all<K: Sink>(sink: &mut K, piece: &[u8]) -> Result<(), Failed>
     ensures written { OnOk result (Gains (K.holds sink.old) piece.now (K.holds sink.new)) }
 

@@ -7,6 +7,7 @@ ghost use Rattle.task_model.specs.Jobs.{claimed, done};
 ghost use Rattle.task_model.specs.Seats.{inside};
 ghost use Rattle.hist_model.specs.Allowed.{may_come};
 ghost use Rattle.hist_model.specs.Legal.{IsLegal};
+ghost use Rattle.hist_model.specs.Laws.Consistent.{HoldsApart};
 ghost use Rattle.hist_model.specs.Laws.Jobs.{IsEntering, IsJobStep, IsJoin};
 
 /// In every legal history the claimed items of a job are those that are done and those that seats hold: no item is
@@ -14,6 +15,13 @@ ghost use Rattle.hist_model.specs.Laws.Jobs.{IsEntering, IsJobStep, IsJoin};
 #[tactic(auto, using(crate::proofs::Laws::Claims::claimed_is))]
 pub fn claimed_items_are_done_or_held()
     ensures { (script : Plan) (past : List Entry) (job : ℕ) → IsLegal script past → claimed past job ≡ done past job + length (inside script past job) }
+{}
+
+/// In every legal history what a seat holds of a job is claimed, and no two seats hold one item of it, or are inside it under
+/// one number.
+#[tactic(auto, using(crate::proofs::Laws::HoldsApart::legal_holds_apart))]
+pub fn holders_of_a_job_are_apart()
+    ensures { (script : Plan) (past : List Entry) → IsLegal script past → HoldsApart script past }
 {}
 
 /// An allowed entering of a job is by a seat that holds nothing, of a job that may be entered, under the least number that

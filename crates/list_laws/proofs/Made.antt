@@ -1,12 +1,16 @@
 -- What is in a filtered list, in what is made of a list, and in a row of numbers.
-use Rattle.std.proofs.Common.{◌≡◌, ℕ, ◌+◌, ◌-◌, ◌<◌, Bool, true, List, [], ◌∷◌, ◌++◌, length, refl, sym, ap, ◌∙◌, Option, Some, None, arith}
-use Rattle.std.specs.Prelude.{filter, Contains}
+use Rattle.std.proofs.Common.{false, ◌≡◌, ℕ, ◌+◌, ◌-◌, ◌<◌, Bool, true, List, [], ◌∷◌, ◌++◌, length, refl, sym, ap, ◌∙◌, Option, Some, None, arith}
+use Rattle.std.specs.Prelude.{filter, Contains, not, ◌&&◌}
 use Rattle.std.specs.Option.{IfSome}
 use Rattle.std.specs.List.{filter_map, cons_option, range_with_len}
 use Rattle.std.proofs.lemmas.List.Elements.{All-from_recursion, recursion_from_All, All-contains, All-contains_itself, All-filter, filter_passes, filter_map-append}
 use Rattle.std.proofs.lemmas.List.FromFn.{length-range_with_len, get_or-range_with_len}
+use Rattle.std.proofs.lemmas.Bool.{not_from_false, and_right}
+use Rattle.std.proofs.lemmas.List.Filters.{length-filter_both}
+use Rattle.list_laws.specs.Lists.{count}
+use Rattle.list_laws.proofs.Finds.{contained_counts}
 use Rattle.list_laws.proofs.Elements.{AllByRecursion-made, AllByRecursion-filter_map, AllByRecursion-map, unfiltered}
-use Rattle.list_laws.proofs.Filters.{filter_map_congr_in}
+use Rattle.list_laws.proofs.Filters.{filter-filter, filter_congr, filter_map_congr_in}
 use Rattle.list_laws.proofs.Ranges.{AllByRecursion-range, range_split}
 
 -- what is in a filtered list is in the list, and passes
@@ -82,3 +86,16 @@ filter_map_at {B = B} f g n i less same = (
 -- a list with something in it is not empty
 pub contains_not_empty : {A : Type 0} (xs : List A) (x : A) → Contains xs x → xs ≡ [] → ⊥
 contains_not_empty xs x is none = let less : is.0 < length xs = is.1 in let long : length xs ≡ 0 = ap length none in omega (arith, less, long)
+
+-- what passes the first test passes the second, and an element of the list passes the second alone
+pub count_less : {A : Type 0} (p q : A → Bool) (xs : List A) (x : A) → ((y : A) → p y ≡ true → q y ≡ true) → Contains xs x → p x ≡ false → q x ≡ true
+    → count p xs < count q xs
+count_less {A = A} p q xs x h among fails passes =
+    let parts = length-filter_both p (λ y. not (p y)) (λ y. refl) (filter q xs) in
+    let more = contained_counts (λ y. not (p y)) (filter q xs) x (contains_filter q xs x among passes) (not_from_false (p x) fails) in
+    let kept = ap length (filter-filter p q xs ∙ filter_congr (λ y. q y && p y) p xs (λ y. both (p y) (q y) (h y))) in
+    omega (arith, parts, more, kept)
+  where
+    both : (a b : Bool) → (a ≡ true → b ≡ true) → (b && a) ≡ a
+    both true b k = rw (k refl) refl
+    both false b k = and_right b false refl

@@ -4,9 +4,8 @@ use Rattle.std.specs.Prelude.{slice_get}
 use Rattle.std.specs.List.{list_any, AllByRecursion}
 use Rattle.std.proofs.lemmas.Bool.{cases_Bool, cond-true, cond-false, or_parts, or_from}
 use Rattle.std.proofs.lemmas.Option.{slice_get_within}
-use Rattle.list_laws.proofs.Elements.{slice_get-front}
+use Rattle.list_laws.proofs.Elements.{slice_get-front, AllByRecursion-append}
 use Rattle.list_laws.specs.Lists.{count}
-use Rattle.list_laws.proofs.Elements.{AllByRecursion-append}
 use Rattle.list_laws.proofs.Counts.{count-append, count-cons}
 
 -- ---- by index

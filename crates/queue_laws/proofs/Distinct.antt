@@ -1,25 +1,27 @@
 -- The orders of main tasks: each is below the next draw, and no two tasks have one. Both hold since the main arrivals rise.
-use Rattle.std.proofs.Common.{◌≡◌, ℕ, ◌<◌, true, List, [], ◌∷◌, sym, ap, ◌∙◌, subst, Option, Some, inl, inr}
-use Rattle.std.specs.Prelude.{◌⊎◌, Contains}
+use Rattle.std.proofs.Common.{◌≡◌, ℕ, ◌+◌, ◌<◌, Bool, true, cond, None, arith, List, [], ◌∷◌, ◌++◌, sym, ap, ◌∙◌, subst, Option, Some, inl, inr}
+use Rattle.std.specs.Prelude.{◌⊎◌, ◌&&◌, not, nat_lt, nat_le, Contains}
 use Rattle.std.specs.Option.{option_map, IfSome}
 use Rattle.std.specs.List.{AllByRecursion}
-use Rattle.std.proofs.lemmas.Bool.{true≢false}
+use Rattle.std.proofs.lemmas.Bool.{true≢false, and_parts, ltb-true, true_from_ne_false, both_ways}
 use Rattle.task_base.specs.declared.entry.Entry.{Entry}
+use Rattle.task_base.specs.declared.entry.Kind.TheVariants as kinds
+use Rattle.list_laws.proofs.Made.{count_less, contains_filter}
+use Rattle.task_model.specs.Time.{now_of}
+use Rattle.task_model.specs.Refusal.{is_closed}
+use Rattle.pool_laws.specs.Keys.{NoTickAhead}
+use Rattle.queue_laws.proofs.Orders.{order_at_tick}
+use Rattle.std.proofs.lemmas.Option.{same_Some}
 use Rattle.list_laws.specs.Sorts.{Differ, SameMembers}
-use Rattle.task_model.specs.Posts.{Posted, ripens_before, main_posts}
-use Rattle.task_model.specs.Orders.{Ordered, ordered, main_arrivals, next_draw, order_of}
+use Rattle.task_model.specs.Posts.{Posted, is_delayed, ripens_before, main_posts}
+use Rattle.task_model.specs.Orders.{ripens, ripening, Ordered, ordered, main_arrivals, next_draw, order_of}
 use Rattle.queue_laws.specs.Orders.{OrdersBelow, Distinct, OrdersDistinct, ordered_below}
 use Rattle.list_laws.proofs.Elements.{AllByRecursion-map, AllByRecursion-both, AllByRecursion-through, AllByRecursion-contains_itself, AllByRecursion-made}
-use Rattle.list_laws.specs.Lists.{Ranks}
+use Rattle.list_laws.specs.Lists.{Ranks, count}
 use Rattle.list_laws.proofs.Ranks.{ranks_by}
 use Rattle.list_laws.proofs.Sorts.{rises_apart}
 use Rattle.pool_laws.proofs.Keys.Arrivals.{ranks_ripens, main_posts_differ}
 use Rattle.queue_laws.proofs.Arrivals.{main_arrivals_below, main_arrivals_rise}
-use Rattle.list_laws.specs.Lists.{Ranks}
-use Rattle.task_model.specs.Posts.{Posted, main_posts, ripens_before}
-use Rattle.task_model.specs.Orders.{next_draw, order_of}
-use Rattle.queue_laws.specs.Orders.{OrdersBelow, Distinct, OrdersDistinct}
-use Rattle.list_laws.proofs.Ranks.{ranks_by}
 
 ranks_order : Ranks ordered_below
 ranks_order = ranks_by (λ o. o.order)
@@ -66,3 +68,31 @@ orders_distinct past same = apart (main_posts past) (main_posts_differ past)
           (AllByRecursion-both (λ q. (ripens_before p q ≡ true) ⊎ (ripens_before q p ≡ true)) arrives ps differ.0 all.1),
       apart ps differ.1 all.1,
     )
+
+-- of two main tasks that ripen at one tick, the one that ripens before the other has the lesser order
+pub ripened_in_order : (past : List Entry) (e : Entry) (p q : Posted) (moment m n : ℕ) → NoTickAhead past → e.kind ≡ kinds.Tick moment
+    → Contains (main_posts past) p → ripens past moment p ≡ true → ripens past moment q ≡ true → ripens_before p q ≡ true
+    → order_of (past ++ e ∷ []) p ≡ Some m → order_of (past ++ e ∷ []) q ≡ Some n → m < n
+unfolding ripening
+ripened_in_order past e p q moment m n ahead tick among ripe also first of_p of_q =
+    omega (
+      arith,
+      drew p m ripe of_p,
+      drew q n also of_q,
+      count_less (λ r. ripens_before r p) (λ r. ripens_before r q) (ripening past moment) p (λ r h. through r h)
+          (contains_filter (ripens past moment) (main_posts past) p among ripe) (ranks_ripens.itself p) first,
+    )
+  where
+    through : (r : Posted) → ripens_before r p ≡ true → ripens_before r q ≡ true
+    through r h = true_from_ne_false (ripens_before r q) (λ no. both_ways (ripens_before r p)
+        (ranks_ripens.through r q p no (ranks_ripens.one_way p q first)) h)
+
+    -- what a task that ripens draws
+    drew : (r : Posted) (k : ℕ) → ripens past moment r ≡ true → order_of (past ++ e ∷ []) r ≡ Some k
+        → next_draw past + count (λ x. ripens_before x r) (ripening past moment) ≡ k
+    drew r k is order =
+        let last = and_parts (is_delayed r && not (is_closed past r.home) && nat_lt (now_of past) r.ripe) (nat_le r.ripe moment) is in
+        let later = and_parts (is_delayed r && not (is_closed past r.home)) (nat_lt (now_of past) r.ripe) last.0 in
+        let delayed = (and_parts (is_delayed r) (not (is_closed past r.home)) later.0).0 in
+        same_Some _ _ (sym (ap (λ (b : Bool). cond b (Some (next_draw past + count (λ x. ripens_before x r) (ripening past moment))) None) is)
+        ∙ sym (order_at_tick past e r moment tick delayed (ahead r.ripe (ltb-true (now_of past) r.ripe later.1))) ∙ order)

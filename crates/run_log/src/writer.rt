@@ -9,7 +9,7 @@ use task_base::{Entry, Place, Rows};
 /// Puts the text of the log, a line at a time, each in one `put` where the sink takes whole lines. It takes no
 /// memory.
 ///
-/// `Failed`: a `put` failed. What went out before stays out, and nothing was put after it.
+/// `Failed`: a `put` failed. What went out before stays out.
 pub fn write_log<K: Sink>(sink: &mut K, log: &Rows<Entry>) -> Result<(), Failed>
     // Places are of 32 bits.
     requires { length log.now.items < 2 ^ 32 }

@@ -13,13 +13,12 @@ use Rattle.task_model.specs.Policies.{is_held}
 use Rattle.task_model.specs.Refusal.{is_job_forbidden}
 use Rattle.task_model.specs.Keys.{Ready, key_at}
 use Rattle.task_base.specs.Keys.{key_below}
-use Rattle.task_base.specs.Runners.{sequence_count}
+use Rattle.task_base.specs.Runners.{sequence_count, seat_of}
 use Rattle.task_model.specs.Sequences.{head_of}
 use Rattle.task_model.specs.Seats.{runs_sequence, inside}
 use Rattle.task_base.specs.Groups.{importance, group_of, same_group}
 use Rattle.task_model.specs.Capacity.{priority_of, priority_of_job, load, capacity, has_room}
 use Rattle.task_model.specs.Jobs.{JobPosted, job_post_of, is_cancelled, has_unclaimed, may_enter}
-use Rattle.task_base.specs.Runners.{seat_of}
 
 -- work that waits: a source, its priority, how many are inside, its key, and the only seat that may take it, if
 -- there is one

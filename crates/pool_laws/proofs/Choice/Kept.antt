@@ -15,12 +15,11 @@ use Rattle.pool_laws.specs.Keys.{moves_sequences}
 use Rattle.pool_laws.specs.Seats.{moves_main, moves_running, moves_holding, runs_pool_task}
 use Rattle.pool_laws.specs.Room.{moves_capacity, moves_room}
 use Rattle.pool_laws.specs.Jobs.{moves_jobs, JobKept}
-use Rattle.pool_laws.specs.Choice.{moves_waiting, moves_best}
+use Rattle.pool_laws.specs.Choice.{moves_waiting, moves_best, moves_sequence_waiting}
 use Rattle.list_laws.proofs.Filters.{filter_congr}
 use Rattle.pool_laws.proofs.Jobs.Answers.{job_at_main, job_same}
 use Rattle.pool_laws.proofs.Room.Capacity.{load_same, load_at_driver, capacity_same, capacity_at_main, has_room_same, room_at_main}
 use Rattle.pool_laws.proofs.Choice.Candidates.{source_waits, waiting_same, waiting_at_main}
-use Rattle.pool_laws.specs.Choice.{moves_sequence_waiting}
 
 -- the best, where the same waits and there is the same room
 pub best_kept : (script : Plan) (past later : List Entry) (seat : ℕ) → waiting script later ≡ waiting script past
