@@ -6,3 +6,4 @@ pub mod Shutdown
 pub mod Agenda
 pub mod Postings
 pub mod Rising
+pub mod Places
