@@ -1,0 +1,2 @@
+-- Histories that break a law, each judged illegal at the place where it does.
+pub mod Refusals
