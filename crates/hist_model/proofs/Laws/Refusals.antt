@@ -139,7 +139,8 @@ continue_as_skip phases.Started = refl
 continue_as_skip phases.Done = refl
 
 -- what shutdown asks of the entry at a place of a legal log
-pub keeps_at : (script : Plan) (log : List Entry) (k seat : ℕ) (kind : Kind) → IsLegal script log → IsAt log k seat kind → KeepsShutdown script (take k log) kind
+pub keeps_at : (script : Plan) (log : List Entry) (k seat : ℕ) (kind : Kind) → IsLegal script log → IsAt log k seat kind
+    → KeepsShutdown script (take k log) kind
 keeps_at script log k seat kind legal is = waits_and_forbids script (take k log) (record { seat = seat; kind = kind }) (drop (suc k) log)
     (subst (IsLegal script) (sym (parted_at log k _ is)) legal)
 
@@ -150,7 +151,8 @@ from_same is both = (λ h. both.0 (sym is ∙ h), λ p. is ∙ both.1 p)
 -- the phase at a place of a legal log forbids a behaviour exactly where the entry stands before from which on it is refused
 pub forbidden_from : (script : Plan) (log : List Entry) (k : ℕ) (b : Behaviour) → IsLegal script (take k log)
     → (forbids (phase_of (take k log)) b ≡ true) ↔ StandsBefore log k (refused_from b)
-forbidden_from script log k SkipOnShutdown legal = from_same (shutdown_stands script (take k log) legal) (stands_before starts kinds.Shutdown only_shutdown refl log k)
+forbidden_from script log k SkipOnShutdown legal = from_same (shutdown_stands script (take k log) legal)
+    (stands_before starts kinds.Shutdown only_shutdown refl log k)
 forbidden_from script log k ContinueOnShutdown legal = from_same (continue_as_skip (phase_of (take k log)) ∙ shutdown_stands script (take k log) legal)
     (stands_before starts kinds.Shutdown only_shutdown refl log k)
 forbidden_from script log k BlockShutdown legal = from_same (done_stands (take k log)) (stands_before finishes kinds.Done only_done refl log k)

@@ -1,2 +1,3 @@
 -- Histories that break a law, each judged illegal at the place where it does.
 pub mod Refusals
+pub mod Fences
