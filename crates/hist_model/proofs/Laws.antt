@@ -22,3 +22,4 @@ pub mod Claims
 pub mod HoldsApart
 pub mod Refusals
 pub mod Fences
+pub mod ShutdownPlaces

@@ -9,3 +9,4 @@ pub mod Rising
 pub mod Places
 pub mod Refusals
 pub mod Fences
+pub mod ShutdownPlaces

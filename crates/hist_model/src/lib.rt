@@ -28,4 +28,4 @@ pub use seats::{
     legal_histories_are_consistent, own_entries_tell_the_seat, running_tasks_have_one_seat,
     seats_do_one_thing, takes_are_of_heads,
 };
-pub use shutdown::shutdown_waits_and_forbids;
+pub use shutdown::{shutdown_waits_and_forbids, shutdown_waits_and_forbids_over_the_log};

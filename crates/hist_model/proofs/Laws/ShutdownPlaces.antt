@@ -1,0 +1,224 @@
+-- What shutdown waits for and forbids in a legal log, over its places.
+use Rattle.std.proofs.Common.{◌≡◌, ℕ, ◌+◌, ◌<◌, Bool, true, false, List, [], ◌∷◌, ◌++◌, length, take, refl, sym, ap, subst, ◌∙◌, Option, Some, None, ⊎_elim, arith}
+use Rattle.std.specs.Prelude.{not, ◌&&◌, slice_get, Contains}
+use Rattle.std.specs.List.{range_with_len, AllByRecursion}
+use Rattle.std.specs.Option.{option_map_or}
+use Rattle.std.proofs.lemmas.Bool.{eqb-true, eq-eqb, true≢false}
+use Rattle.std.proofs.lemmas.List.Elements.{All-contains, Contains-append_left, Contains-append_right}
+use Rattle.std.proofs.lemmas.Option.{none-some, slice_get_within}
+use Rattle.task_base.specs.Plan.{Plan, JobPlan}
+use Rattle.task_base.specs.declared.entry.Entry.{Entry}
+use Rattle.task_base.specs.declared.entry.Kind.{Kind}
+use Rattle.task_base.specs.declared.entry.Kind.TheVariants as kinds
+use Rattle.task_traits.specs.Behaviour.{forbids}
+use Rattle.task_traits.specs.declared.phase.Phase.{Phase}
+use Rattle.task_traits.specs.declared.phase.Phase.TheVariants as phases
+use Rattle.task_traits.specs.declared.traits.Behaviour.{Behaviour}
+use Rattle.task_traits.specs.declared.traits.Behaviour.TheVariants.{ContinueOnShutdown, SkipOnShutdown, BlockShutdown}
+use Rattle.list_laws.specs.Lists.{holds_of}
+use Rattle.list_laws.proofs.Elements.{push_induction, AllByRecursion-append, AllByRecursion-map, AllByRecursion-contains, slice_get-end}
+use Rattle.list_laws.proofs.Made.{contains_range}
+use Rattle.list_laws.proofs.Places.{slice_get-more, slice_get_push}
+use Rattle.task_model.specs.Past.{fold_past}
+use Rattle.task_model.specs.Phase.{phase_of}
+use Rattle.task_model.specs.Posts.{Posted, posts, posted_by, post_behind, is_taken, takes, is_ended, ends}
+use Rattle.task_model.specs.Refusal.{effective_at, behaviour_of_job}
+use Rattle.task_model.specs.Seats.{all_seats}
+use Rattle.task_model.specs.Jobs.{is_over}
+use Rattle.task_model.specs.Blockers.{is_block, is_skip, is_open_block, is_running_skip, is_open_job, is_in_skip_job}
+use Rattle.task_model.proofs.Growth.{posts_push}
+use Rattle.hist_model.specs.Legal.{IsLegal}
+use Rattle.hist_model.specs.Laws.Places.{IsAt}
+use Rattle.hist_model.specs.Laws.Shutdown.{MayStart, HasWaited}
+use Rattle.hist_model.specs.Laws.Refusals.{StandsBefore}
+use Rattle.hist_model.specs.Laws.ShutdownPlaces.{EndsBefore, IsBlockTask, WaitsAndForbids}
+use Rattle.hist_model.proofs.Laws.AtPlaces.{passes_at, passed_by, in_past, of_past, past_is_legal}
+use Rattle.hist_model.proofs.Laws.Refusals.{forbidden_from, keeps_at}
+
+-- the post of an accepted task stands in the past
+pub record IsPostedIn (past : List Entry) (p : Posted) : Type 0 where
+  pub at : ℕ
+  pub seat : ℕ
+  pub is : IsAt past at seat (kinds.Post p.task p.home p.delay true)
+
+nothing_posted : posts [] ≡ []
+unfolding posts fold_past
+nothing_posted = refl
+
+posts_stand : (past : List Entry) → AllByRecursion (IsPostedIn past) (posts past)
+posts_stand = push_induction (λ past. AllByRecursion (IsPostedIn past) (posts past)) start
+    (λ past e all. subst (AllByRecursion (IsPostedIn (past ++ e ∷ []))) (sym (posts_push past e))
+    (AllByRecursion-append (IsPostedIn (past ++ e ∷ [])) (posts past) (posted_by past e.kind)
+    (AllByRecursion-map (IsPostedIn past) (IsPostedIn (past ++ e ∷ [])) (posts past) (more past e) all) (new past e.seat e.kind)))
+  where
+    start : AllByRecursion (IsPostedIn []) (posts [])
+    start = subst (AllByRecursion (IsPostedIn [])) (sym nothing_posted) tt
+
+    more : (past : List Entry) (e : Entry) (p : Posted) → IsPostedIn past p → IsPostedIn (past ++ e ∷ []) p
+    more past e p was = record { at = was.at; seat = was.seat; is = slice_get-more past (e ∷ []) was.at _ was.is }
+
+    new : (past : List Entry) (seat : ℕ) (kind : Kind) → AllByRecursion (IsPostedIn (past ++ record { seat = seat; kind = kind } ∷ [])) (posted_by past kind)
+    new past seat (kinds.Post task runner delay true) = (record { at = length past; seat = seat; is = slice_get-end past _ }, tt)
+    new past seat kind = tt
+
+-- a post that was accepted gives an accepted task
+pub record Accepted (past : List Entry) (task runner delay : ℕ) : Type 0 where
+  pub posted : Posted
+  pub contained : Contains (posts past) posted
+  pub task_is : posted.task ≡ task
+  pub home_is : posted.home ≡ runner
+  pub delay_is : posted.delay ≡ delay
+
+accepted : (past : List Entry) (i seat task runner delay : ℕ) → IsAt past i seat (kinds.Post task runner delay true) → Accepted past task runner delay
+accepted = push_induction
+    (λ past. (i seat task runner delay : ℕ) → IsAt past i seat (kinds.Post task runner delay true) → Accepted past task runner delay)
+    (λ i seat task runner delay is. absurd (none-some _ is)) step
+  where
+    old : (past : List Entry) (e : Entry) (task runner delay : ℕ) → Accepted past task runner delay → Accepted (past ++ e ∷ []) task runner delay
+    old past e task runner delay was = record {
+      posted = was.posted;
+      contained = subst (λ ps. Contains ps was.posted) (sym (posts_push past e))
+          (Contains-append_left (posts past) (posted_by past e.kind) was.posted was.contained);
+      task_is = was.task_is;
+      home_is = was.home_is;
+      delay_is = was.delay_is;
+    }
+
+    new : (past : List Entry) (seat task runner delay : ℕ)
+        → Accepted (past ++ record { seat = seat; kind = kinds.Post task runner delay true } ∷ []) task runner delay
+    new past seat task runner delay = record {
+      posted = post_behind past task runner delay;
+      contained = subst (λ ps. Contains ps (post_behind past task runner delay)) (sym (posts_push past _))
+          (Contains-append_right (posts past) (post_behind past task runner delay ∷ []) (post_behind past task runner delay) (0, omega arith, refl));
+      task_is = refl;
+      home_is = refl;
+      delay_is = refl;
+    }
+
+    step : (past : List Entry) (e : Entry)
+        → ((i seat task runner delay : ℕ) → IsAt past i seat (kinds.Post task runner delay true) → Accepted past task runner delay)
+        → (i seat task runner delay : ℕ) → IsAt (past ++ e ∷ []) i seat (kinds.Post task runner delay true) → Accepted (past ++ e ∷ []) task runner delay
+    step past e before i seat task runner delay is = ⊎_elim
+        (λ k. old past e task runner delay (before i seat task runner delay k.1))
+        (λ k. subst (λ x. Accepted (past ++ x ∷ []) task runner delay) (sym k.1) (new past seat task runner delay))
+        (slice_get_push past e i _ is)
+
+-- what has ended in the past has its end before the place
+ends_before : (log : List Entry) (k task : ℕ) → is_ended (take k log) task ≡ true → EndsBefore log k task
+unfolding is_ended
+ends_before log k task h =
+    let p = passes_at (λ (e : Entry). ends task e.kind) (take k log) h in
+    let o = of_past log p.place k p.value p.is in
+    at p.place p.value.seat p.value.kind o.0 o.1 p.passes
+  where
+    at : (i seat : ℕ) (kind : Kind) → i < k → IsAt log i seat kind → ends task kind ≡ true → EndsBefore log k task
+    at i seat (kinds.End t left) less is same = (
+      left,
+      record {
+        at = i;
+        seat = seat;
+        earlier = less;
+        is = is
+            ∙ ap (λ u. Some (record { seat = seat; kind = kinds.End u left })) (eqb-true t task same);
+      },
+    )
+    at i seat kind less is same = absurd cc
+
+-- what is taken before the place is taken in its past
+taken_in : (log : List Entry) (k task runner found : ℕ) → StandsBefore log k (kinds.Take task runner found) → is_taken (take k log) task ≡ true
+unfolding is_taken
+taken_in log k task runner found s = passed_by (λ (e : Entry). takes task e.kind) (take k log) s.at
+    (record { seat = s.seat; kind = kinds.Take task runner found }) (in_past log s.at k s.earlier ∙ s.is) (eq-eqb task task refl)
+
+-- two tests of which not both pass, where the first does
+second_fails : (a b : Bool) → (a && not b) ≡ false → a ≡ true → b ≡ true
+second_fails true true h is = refl
+second_fails true false h is = absurd cc
+second_fails false b h is = absurd cc
+
+-- a job whose behaviour is not that of an unknown job is one of the script's
+known_job : (script : Plan) (j : ℕ) (b : Behaviour) → behaviour_of_job script j ≡ b → (b ≡ ContinueOnShutdown → ⊥) → j < length script.jobs
+known_job script j b is other = at (slice_get script.jobs j) refl
+  where
+    at : (o : Option JobPlan) → slice_get script.jobs j ≡ o → j < length script.jobs
+    at None none = absurd (other (sym is ∙ ap (λ o. option_map_or (λ job. job.behaviour) o ContinueOnShutdown) none))
+    at (Some job) some = slice_get_within script.jobs j job some
+
+-- what a phase that forbids block forbids
+forbids_all : (now : Phase) (b : Behaviour) → forbids now BlockShutdown ≡ true → forbids now b ≡ true
+forbids_all phases.Running b h = absurd cc
+forbids_all phases.Started b h = absurd cc
+forbids_all phases.Done b h = refl
+
+-- what may start behind a start of shutdown is block
+only_block : (script : Plan) (log : List Entry) (k : ℕ) (b : Behaviour) → IsLegal script (take k log) → forbids (phase_of (take k log)) b ≡ false
+    → StandsBefore log k kinds.Shutdown → b ≡ BlockShutdown
+only_block script log k BlockShutdown legal free s = refl
+only_block script log k SkipOnShutdown legal free s = absurd (true≢false (sym ((forbidden_from script log k SkipOnShutdown legal).1 s) ∙ free))
+only_block script log k ContinueOnShutdown legal free s = absurd (true≢false (sym ((forbidden_from script log k ContinueOnShutdown legal).1 s) ∙ free))
+
+-- and nothing may start behind a done
+nothing_starts : (script : Plan) (log : List Entry) (k : ℕ) (b : Behaviour) → IsLegal script (take k log) → forbids (phase_of (take k log)) b ≡ false
+    → StandsBefore log k kinds.Done → ⊥
+nothing_starts script log k b legal free s =
+    true≢false (sym (forbids_all (phase_of (take k log)) b ((forbidden_from script log k BlockShutdown legal).1 s)) ∙ free)
+
+pub shutdown_waits_and_forbids : (script : Plan) (log : List Entry) → IsLegal script log → WaitsAndForbids script log
+shutdown_waits_and_forbids script log legal = record {
+  block_tasks_have_ended = λ k seat task runner delay there post block.
+      let a = in_the_past k task runner delay post in
+      ends_before log k task (ap (is_ended (take k log)) (sym a.task_is) ∙ second_fails _ (is_ended (take k log) a.posted.task)
+      (All-contains (λ p. is_open_block script (take k log) p ≡ false) (posts (take k log)) a.posted (waited k seat there).blocks_ended a.contained)
+      (ap is_block (effect k task runner delay a ∙ block)));
+  taken_skip_tasks_have_ended = λ k seat task runner delay taken_on found there post skip take_stands.
+      let a = in_the_past k task runner delay post in
+      ends_before log k task (ap (is_ended (take k log)) (sym a.task_is) ∙ second_fails _ (is_ended (take k log) a.posted.task)
+      (All-contains (λ p. is_running_skip script (take k log) p ≡ false) (posts (take k log)) a.posted (waited k seat there).no_skip_runs a.contained)
+      (both (ap is_skip (effect k task runner delay a ∙ skip)) (ap (is_taken (take k log)) a.task_is ∙ taken_in log k task taken_on found take_stands)));
+  block_jobs_are_over = λ k seat job there posted block. second_fails _ (is_over script (take k log) job)
+      (All-contains (λ j. is_open_job script (take k log) j ≡ false) (range_with_len 0 (length script.jobs)) job (waited k seat there).jobs_over
+      (contains_range (length script.jobs) job (known_job script job BlockShutdown block (λ same. cc))))
+      (both (ap is_block block) posted);
+  nobody_is_inside_skip_jobs = λ k seat holder held there known is skip. true≢false (
+      sym (ap (holds_of (λ h. is_skip (behaviour_of_job script h.job))) is ∙ ap is_skip skip)
+      ∙ All-contains (λ s. is_in_skip_job script (take k log) s ≡ false) (all_seats script) holder (waited k seat there).nobody_inside
+      (contains_range (script.workers + 1) holder (omega (arith, known))));
+  only_block_tasks_start = λ k seat task runner found there s. starts k task runner (keeps_at script log k seat (kinds.Take task runner found) legal there)
+      (past_is_legal script log k _ legal there) s;
+  only_block_jobs_are_entered = λ k seat job id item there s. only_block script log k (behaviour_of_job script job)
+      (past_is_legal script log k _ legal there) (keeps_at script log k seat (kinds.JobTake job id item) legal there) s;
+  no_task_starts_after_done = λ k seat task runner found there s.
+      let may : MayStart script (take k log) task runner = keeps_at script log k seat (kinds.Take task runner found) legal there in
+      nothing_starts script log k (effective_at script may.accepted.home may.accepted.delay) (past_is_legal script log k _ legal there) may.free s;
+  no_job_is_entered_after_done = λ k seat job id item there s. nothing_starts script log k (behaviour_of_job script job)
+      (past_is_legal script log k _ legal there) (keeps_at script log k seat (kinds.JobTake job id item) legal there) s;
+}
+  where
+    waited : (k seat : ℕ) → IsAt log k seat kinds.Done → HasWaited script (take k log)
+    waited k seat there = keeps_at script log k seat kinds.Done legal there
+
+    in_the_past : (k task runner delay : ℕ) → StandsBefore log k (kinds.Post task runner delay true) → Accepted (take k log) task runner delay
+    in_the_past k task runner delay s = accepted (take k log) s.at s.seat task runner delay (in_past log s.at k s.earlier ∙ s.is)
+
+    effect : (k task runner delay : ℕ) (a : Accepted (take k log) task runner delay)
+        → effective_at script a.posted.home a.posted.delay ≡ effective_at script runner delay
+    effect k task runner delay a = rw (a.home_is, a.delay_is) refl
+
+    both : {a b : Bool} → a ≡ true → b ≡ true → (a && b) ≡ true
+    both {a} {b} h k = ap (λ c. c && b) h ∙ k
+
+    starts : (k task runner : ℕ) → MayStart script (take k log) task runner → IsLegal script (take k log) → StandsBefore log k kinds.Shutdown
+        → IsBlockTask script log k task runner
+    starts k task runner may past_legal s =
+        let p = AllByRecursion-contains (IsPostedIn (take k log)) (posts (take k log)) may.accepted (posts_stand (take k log)) may.posted in
+        let o = of_past log p.at k _ p.is in (
+          may.accepted.delay,
+          record {
+            at = p.at;
+            seat = p.seat;
+            earlier = o.0;
+            is = rw (← may.task_is, ← may.runner_is) o.1;
+          },
+          ap (λ r. effective_at script r may.accepted.delay) (sym may.runner_is)
+              ∙ only_block script log k (effective_at script may.accepted.home may.accepted.delay) past_legal may.free s,
+        )
