@@ -1,9 +1,9 @@
 -- What shutdown waits for and forbids in a legal log, over its places.
-use Rattle.std.proofs.Common.{◌≡◌, ℕ, ◌+◌, ◌<◌, Bool, true, false, List, [], ◌∷◌, ◌++◌, length, take, refl, sym, ap, subst, ◌∙◌, Option, Some, None, ⊎_elim, arith}
+use Rattle.std.proofs.Common.{◌≡◌, ℕ, ◌+◌, ◌<◌, Bool, true, false, List, [], ◌∷◌, ◌++◌, length, take, refl, sym, ap, subst, ◌∙◌, Option, Some, None, ⊎_elim, arith, cond, leb, eqb}
 use Rattle.std.specs.Prelude.{not, ◌&&◌, slice_get, Contains}
 use Rattle.std.specs.List.{range_with_len, AllByRecursion}
 use Rattle.std.specs.Option.{option_map_or}
-use Rattle.std.proofs.lemmas.Bool.{eqb-true, eq-eqb, true≢false}
+use Rattle.std.proofs.lemmas.Bool.{and_parts, eqb-true, eq-eqb, true≢false}
 use Rattle.std.proofs.lemmas.List.Elements.{All-contains, Contains-append_left, Contains-append_right}
 use Rattle.std.proofs.lemmas.Option.{none-some, slice_get_within}
 use Rattle.task_base.specs.Plan.{Plan, JobPlan}
@@ -22,16 +22,19 @@ use Rattle.list_laws.proofs.Places.{slice_get-more, slice_get_push}
 use Rattle.task_model.specs.Past.{fold_past}
 use Rattle.task_model.specs.Phase.{phase_of}
 use Rattle.task_model.specs.Posts.{Posted, posts, posted_by, post_behind, is_taken, takes, is_ended, ends}
-use Rattle.task_model.specs.Refusal.{effective_at, behaviour_of_job}
+use Rattle.task_model.specs.Refusal.{effective_at, behaviour_of_job, is_job_forbidden}
 use Rattle.task_model.specs.Seats.{all_seats}
-use Rattle.task_model.specs.Jobs.{is_over}
+use Rattle.task_model.specs.Jobs.{JobPosted, job_post_of, job_post_after, is_job_accepted, is_over}
 use Rattle.task_model.specs.Blockers.{is_block, is_skip, is_open_block, is_running_skip, is_open_job, is_in_skip_job}
-use Rattle.task_model.proofs.Growth.{posts_push}
+use Rattle.task_model.proofs.Growth.{posts_push, job_post_of_push}
+use Rattle.hist_model.specs.Allowed.{by_script, is_reply, may_come, is_allowed, IsAllowed}
 use Rattle.hist_model.specs.Legal.{IsLegal}
 use Rattle.hist_model.specs.Laws.Places.{IsAt}
 use Rattle.hist_model.specs.Laws.Shutdown.{MayStart, HasWaited}
 use Rattle.hist_model.specs.Laws.Refusals.{StandsBefore}
 use Rattle.hist_model.specs.Laws.ShutdownPlaces.{EndsBefore, IsBlockTask, WaitsAndForbids}
+use Rattle.hist_model.proofs.Laws.Legal.{legal_induction, entry_induction}
+use Rattle.hist_model.proofs.Laws.Phases.{job_forbidden_on}
 use Rattle.hist_model.proofs.Laws.AtPlaces.{passes_at, passed_by, in_past, of_past, past_is_legal}
 use Rattle.hist_model.proofs.Laws.Refusals.{forbidden_from, keeps_at}
 
@@ -101,6 +104,107 @@ accepted = push_induction
     step past e before i seat task runner delay is = ⊎_elim
         (λ k. old past e task runner delay (before i seat task runner delay k.1))
         (λ k. subst (λ x. Accepted (past ++ x ∷ []) task runner delay) (sym k.1) (new past seat task runner delay))
+        (slice_get_push past e i _ is)
+
+-- the job's post, if there is one, was refused, or was accepted
+abbrev was_refused : Option JobPosted → Bool
+was_refused post = holds_of (λ p. not p.ok) post
+
+abbrev was_accepted : Option JobPosted → Bool
+was_accepted post = holds_of (λ p. p.ok) post
+
+-- the first post of a job stays its first
+first_stays : (j : ℕ) (before : List Entry) (p : JobPosted) (kind : Kind) → job_post_after j before (Some p) kind ≡ Some p
+first_stays j before p (kinds.JobPost job ok) = refl
+first_stays j before p kind = refl
+
+-- a job's post that is refused is forbidden, and one that is accepted is not
+refused_reply : (script : Plan) (past : List Entry) (seat job : ℕ) → may_come script past seat (kinds.JobPost job false) ≡ true
+    → is_job_forbidden script past job ≡ true
+unfolding may_come
+refused_reply script past seat job h = said (is_job_forbidden script past job)
+    (and_parts (by_script script past seat (kinds.JobPost job false)) (is_reply (is_job_forbidden script past job) false) h).1
+  where
+    said : (b : Bool) → is_reply b false ≡ true → b ≡ true
+    said true k = refl
+    said false k = absurd cc
+
+accepted_reply : (script : Plan) (past : List Entry) (seat job : ℕ) → may_come script past seat (kinds.JobPost job true) ≡ true
+    → is_job_forbidden script past job ≡ false
+unfolding may_come
+accepted_reply script past seat job h = said (is_job_forbidden script past job)
+    (and_parts (by_script script past seat (kinds.JobPost job true)) (is_reply (is_job_forbidden script past job) true) h).1
+  where
+    said : (b : Bool) → is_reply b true ≡ true → b ≡ false
+    said false k = refl
+    said true k = absurd cc
+
+not_posted : (j : ℕ) → job_post_of [] j ≡ None
+unfolding job_post_of fold_past
+not_posted j = refl
+
+-- a job whose first post was refused is forbidden from then on
+refused_job : (script : Plan) (j : ℕ) (past : List Entry) → IsLegal script past → was_refused (job_post_of past j) ≡ true
+    → is_job_forbidden script past j ≡ true
+refused_job script j = entry_induction script
+    (λ past. was_refused (job_post_of past j) ≡ true → is_job_forbidden script past j ≡ true)
+    (λ h. absurd (true≢false (sym h ∙ ap was_refused (not_posted j))))
+    (λ past e known may before h. job_forbidden_on script past (e ∷ []) j
+    (by past e.seat (job_post_of past j) e.kind may before (ap was_refused (sym (job_post_of_push past e j)) ∙ h)))
+  where
+    ours : (past : List Entry) (job : ℕ) (b : Bool) → eqb job j ≡ b → is_job_forbidden script past job ≡ true
+        → was_refused (cond b (Some (record { place = length past; ok = false })) None) ≡ true → is_job_forbidden script past j ≡ true
+    ours past job true same k h = ap (is_job_forbidden script past) (sym (eqb-true job j same)) ∙ k
+    ours past job false other k h = absurd cc
+
+    theirs : (past : List Entry) (b : Bool) → was_refused (cond b (Some (record { place = length past; ok = true })) None) ≡ true → ⊥
+    theirs past true h = absurd cc
+    theirs past false h = absurd cc
+
+    by : (past : List Entry) (seat : ℕ) (post : Option JobPosted) (kind : Kind) → may_come script past seat kind ≡ true
+        → (was_refused post ≡ true → is_job_forbidden script past j ≡ true)
+        → was_refused (job_post_after j past post kind) ≡ true → is_job_forbidden script past j ≡ true
+    by past seat (Some p) kind may before h = before (ap was_refused (sym (first_stays j past p kind)) ∙ h)
+    by past seat None (kinds.JobPost job true) may before h = absurd (theirs past (eqb job j) h)
+    by past seat None (kinds.JobPost job false) may before h = ours past job (eqb job j) refl (refused_reply script past seat job may) h
+    by past seat None kind may before h = absurd cc
+
+-- a job one of whose posts was accepted is accepted: its first post was
+accepted_job : (script : Plan) (j : ℕ) (past : List Entry) → IsLegal script past → (i seat : ℕ) → IsAt past i seat (kinds.JobPost j true)
+    → is_job_accepted past j ≡ true
+accepted_job script j = legal_induction script (λ past. (i seat : ℕ) → IsAt past i seat (kinds.JobPost j true) → is_job_accepted past j ≡ true)
+    (λ i seat is. absurd (none-some _ is)) step
+  where
+    old : (past : List Entry) (kind : Kind) (post : Option JobPosted) → was_accepted post ≡ true
+        → was_accepted (job_post_after j past post kind) ≡ true
+    old past kind None h = absurd cc
+    old past kind (Some p) h = ap was_accepted (first_stays j past p kind) ∙ h
+
+    new : (past : List Entry) (post : Option JobPosted) → is_job_forbidden script past j ≡ false
+        → (was_refused post ≡ true → is_job_forbidden script past j ≡ true)
+        → was_accepted (job_post_after j past post (kinds.JobPost j true)) ≡ true
+    new past None free refused =
+        ap (λ b. was_accepted (cond b (Some (record { place = length past; ok = true })) None)) (eq-eqb j j refl)
+    new past (Some p) free refused = first p.ok refl
+      where
+        first : (ok : Bool) → p.ok ≡ ok → p.ok ≡ true
+        first true is = is
+        first false is = absurd (true≢false (sym (refused (ap not is)) ∙ free))
+
+    of_seat : (past : List Entry) (e : Entry) (seat : ℕ) → IsLegal script past → IsAllowed script past e → e ≡ record { seat = seat; kind = kinds.JobPost j true }
+        → is_job_accepted (past ++ e ∷ []) j ≡ true
+    of_seat past e seat legal allowed same =
+        let may : may_come script past seat (kinds.JobPost j true) ≡ true = (and_parts (leb seat script.workers)
+        (may_come script past seat (kinds.JobPost j true)) (ap (is_allowed script past) (sym same) ∙ allowed)).1 in
+        ap was_accepted (job_post_of_push past e j) ∙ ap (λ x. was_accepted (job_post_after j past (job_post_of past j) x.kind)) same
+        ∙ new past (job_post_of past j) (accepted_reply script past seat j may) (refused_job script j past legal)
+
+    step : (past : List Entry) (e : Entry) → IsLegal script past → IsAllowed script past e
+        → ((i seat : ℕ) → IsAt past i seat (kinds.JobPost j true) → is_job_accepted past j ≡ true)
+        → (i seat : ℕ) → IsAt (past ++ e ∷ []) i seat (kinds.JobPost j true) → is_job_accepted (past ++ e ∷ []) j ≡ true
+    step past e legal allowed before i seat is = ⊎_elim
+        (λ k. ap was_accepted (job_post_of_push past e j) ∙ old past e.kind (job_post_of past j) (before i seat k.1))
+        (λ k. of_seat past e seat legal allowed k.1)
         (slice_get_push past e i _ is)
 
 -- what has ended in the past has its end before the place
@@ -178,7 +282,8 @@ shutdown_waits_and_forbids script log legal = record {
   block_jobs_are_over = λ k seat job there posted block. second_fails _ (is_over script (take k log) job)
       (All-contains (λ j. is_open_job script (take k log) j ≡ false) (range_with_len 0 (length script.jobs)) job (waited k seat there).jobs_over
       (contains_range (length script.jobs) job (known_job script job BlockShutdown block (λ same. cc))))
-      (both (ap is_block block) posted);
+      (both (ap is_block block) (accepted_job script job (take k log) (past_is_legal script log k _ legal there) posted.at posted.seat
+      (in_past log posted.at k posted.earlier ∙ posted.is)));
   nobody_is_inside_skip_jobs = λ k seat holder held there known is skip. true≢false (
       sym (ap (holds_of (λ h. is_skip (behaviour_of_job script h.job))) is ∙ ap is_skip skip)
       ∙ All-contains (λ s. is_in_skip_job script (take k log) s ≡ false) (all_seats script) holder (waited k seat there).nobody_inside

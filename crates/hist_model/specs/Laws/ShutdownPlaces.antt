@@ -6,7 +6,7 @@ use Rattle.task_base.specs.declared.entry.Kind.TheVariants as kinds
 use Rattle.task_traits.specs.declared.traits.Behaviour.TheVariants.{SkipOnShutdown, BlockShutdown}
 use Rattle.task_model.specs.Refusal.{effective_at, behaviour_of_job}
 use Rattle.task_model.specs.Seats.{Holding, holding}
-use Rattle.task_model.specs.Jobs.{is_job_accepted, is_over}
+use Rattle.task_model.specs.Jobs.{is_over}
 use Rattle.hist_model.specs.Laws.Places.{IsAt}
 use Rattle.hist_model.specs.Laws.Refusals.{StandsBefore}
 
@@ -29,7 +29,7 @@ pub record WaitsAndForbids (script : Plan) (log : List Entry) : Type 0 where
       → StandsBefore log k (kinds.Post task runner delay true) → effective_at script runner delay ≡ SkipOnShutdown
       → StandsBefore log k (kinds.Take task taken_on found) → EndsBefore log k task
   -- each accepted block job is over there: nobody is inside, and all its items are done or it is cancelled
-  pub block_jobs_are_over : (k seat job : ℕ) → IsAt log k seat kinds.Done → is_job_accepted (take k log) job ≡ true
+  pub block_jobs_are_over : (k seat job : ℕ) → IsAt log k seat kinds.Done → StandsBefore log k (kinds.JobPost job true)
       → behaviour_of_job script job ≡ BlockShutdown → is_over script (take k log) job ≡ true
   -- and no seat is inside a skip job
   pub nobody_is_inside_skip_jobs : (k seat holder : ℕ) (held : Holding) → IsAt log k seat kinds.Done → holder ≤ script.workers
