@@ -34,6 +34,7 @@ use Rattle.hist_model.specs.Laws.Shutdown.{MayStart, HasWaited}
 use Rattle.hist_model.specs.Laws.Refusals.{StandsBefore}
 use Rattle.hist_model.specs.Laws.ShutdownPlaces.{EndsBefore, IsBlockTask, WaitsAndForbids}
 use Rattle.hist_model.proofs.Laws.Legal.{legal_induction, entry_induction}
+use Rattle.hist_model.proofs.Laws.HoldsApart.{legal_holds_apart}
 use Rattle.hist_model.proofs.Laws.Phases.{job_forbidden_on}
 use Rattle.hist_model.proofs.Laws.AtPlaces.{passes_at, passed_by, in_past, of_past, past_is_legal}
 use Rattle.hist_model.proofs.Laws.Refusals.{forbidden_from, keeps_at}
@@ -191,7 +192,8 @@ accepted_job script j = legal_induction script (λ past. (i seat : ℕ) → IsAt
         first true is = is
         first false is = absurd (true≢false (sym (refused (ap not is)) ∙ free))
 
-    of_seat : (past : List Entry) (e : Entry) (seat : ℕ) → IsLegal script past → IsAllowed script past e → e ≡ record { seat = seat; kind = kinds.JobPost j true }
+    of_seat : (past : List Entry) (e : Entry) (seat : ℕ) → IsLegal script past → IsAllowed script past e
+        → e ≡ record { seat = seat; kind = kinds.JobPost j true }
         → is_job_accepted (past ++ e ∷ []) j ≡ true
     of_seat past e seat legal allowed same =
         let may : may_come script past seat (kinds.JobPost j true) ≡ true = (and_parts (leb seat script.workers)
@@ -284,10 +286,10 @@ shutdown_waits_and_forbids script log legal = record {
       (contains_range (length script.jobs) job (known_job script job BlockShutdown block (λ same. cc))))
       (both (ap is_block block) (accepted_job script job (take k log) (past_is_legal script log k _ legal there) posted.at posted.seat
       (in_past log posted.at k posted.earlier ∙ posted.is)));
-  nobody_is_inside_skip_jobs = λ k seat holder held there known is skip. true≢false (
+  nobody_is_inside_skip_jobs = λ k seat holder held there is skip. true≢false (
       sym (ap (holds_of (λ h. is_skip (behaviour_of_job script h.job))) is ∙ ap is_skip skip)
       ∙ All-contains (λ s. is_in_skip_job script (take k log) s ≡ false) (all_seats script) holder (waited k seat there).nobody_inside
-      (contains_range (script.workers + 1) holder (omega (arith, known))));
+      (contains_range (script.workers + 1) holder (omega (arith, (legal_holds_apart script (take k log) (past_is_legal script log k _ legal there)).known holder held is))));
   only_block_tasks_start = λ k seat task runner found there s. starts k task runner (keeps_at script log k seat (kinds.Take task runner found) legal there)
       (past_is_legal script log k _ legal there) s;
   only_block_jobs_are_entered = λ k seat job id item there s. only_block script log k (behaviour_of_job script job)

@@ -1,5 +1,5 @@
 -- What shutdown waits for and forbids, over the places of a log.
-use Rattle.std.specs.Prelude.{◌≡◌, ℕ, ◌≤◌, true, List, Some, take}
+use Rattle.std.specs.Prelude.{◌≡◌, ℕ, true, List, Some, take}
 use Rattle.task_base.specs.Plan.{Plan}
 use Rattle.task_base.specs.declared.entry.Entry.{Entry}
 use Rattle.task_base.specs.declared.entry.Kind.TheVariants as kinds
@@ -32,7 +32,7 @@ pub record WaitsAndForbids (script : Plan) (log : List Entry) : Type 0 where
   pub block_jobs_are_over : (k seat job : ℕ) → IsAt log k seat kinds.Done → StandsBefore log k (kinds.JobPost job true)
       → behaviour_of_job script job ≡ BlockShutdown → is_over script (take k log) job ≡ true
   -- and no seat is inside a skip job
-  pub nobody_is_inside_skip_jobs : (k seat holder : ℕ) (held : Holding) → IsAt log k seat kinds.Done → holder ≤ script.workers
+  pub nobody_is_inside_skip_jobs : (k seat holder : ℕ) (held : Holding) → IsAt log k seat kinds.Done
       → holding (take k log) holder ≡ Some held → behaviour_of_job script held.job ≡ SkipOnShutdown → ⊥
   -- once shutdown was started, a task is taken only if its behaviour in effect is block
   pub only_block_tasks_start : (k seat task runner found : ℕ) → IsAt log k seat (kinds.Take task runner found) → StandsBefore log k kinds.Shutdown
