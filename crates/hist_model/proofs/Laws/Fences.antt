@@ -1,8 +1,8 @@
 -- No queue of a legal log passes its fence, over its places.
-use Rattle.std.proofs.Common.{◌≡◌, ℕ, zero, suc, ◌+◌, ◌<◌, ◌≤◌, Bool, true, false, cond, eqb, ltb, List, length, get_or, take, refl, sym, ap, ◌∙◌, Option, Some, None, ◌⊎◌, inl, inr, arith}
+use Rattle.std.proofs.Common.{◌≡◌, ℕ, zero, suc, ◌+◌, ◌<◌, ◌≤◌, Bool, true, false, cond, eqb, ltb, List, length, get_or, take, refl, sym, ap, ◌∙◌, Option, Some, None, ◌⊎◌, inl, inr, arith, [], ◌∷◌, ◌++◌}
 use Rattle.std.specs.Prelude.{not, ◌&&◌, option_and_then, slice_get}
 use Rattle.std.specs.Option.{option_map_or}
-use Rattle.std.proofs.lemmas.Bool.{and_parts, cases_lt, eq-eqb, ltb-true, not-true}
+use Rattle.std.proofs.lemmas.Bool.{and_parts, cases_lt, eq-eqb, ltb-true, not-true, true≢false}
 use Rattle.std.proofs.lemmas.Option.{none-some, same_Some, slice_get_within, slice_get-get_or}
 use Rattle.task_base.specs.Plan.{Plan}
 use Rattle.task_base.specs.declared.entry.Entry.{Entry}
@@ -16,13 +16,13 @@ use Rattle.task_model.specs.Posts.{Posted, ripens_before, is_delayed}
 use Rattle.task_model.specs.Refusal.{is_closed}
 use Rattle.task_model.specs.Orders.{ripens, ripening, draws, next_draw, drawn_at, moment_at, order_of}
 use Rattle.task_model.specs.Time.{tick_from}
-use Rattle.task_model.specs.MainQueues.{Front, IsOpen, fence_of, fence_after, votes_on, voters_of, is_enabled}
-use Rattle.task_model.proofs.Growth.{fence_of_push}
+use Rattle.task_model.specs.MainQueues.{Front, IsOpen, fence_of, fence_after, votes_on, vote_after, voters_of, is_enabled}
+use Rattle.task_model.proofs.Growth.{fence_of_push, votes_on_push}
 use Rattle.queue_laws.proofs.Orders.{drawn, order_is}
 use Rattle.hist_model.specs.Legal.{IsLegal}
 use Rattle.hist_model.specs.Laws.Choice.{IsMainTake}
 use Rattle.hist_model.specs.Laws.Places.{IsAt}
-use Rattle.hist_model.specs.Laws.Fences.{moves_fence, IsUnmoved, HasOrderBelow, KeepsFences}
+use Rattle.hist_model.specs.Laws.Fences.{moves_fence, votes, NoneBetween, HasOrderBelow, KeepsFences}
 use Rattle.hist_model.proofs.Laws.AtPlaces.{take_at, may_come_at}
 use Rattle.hist_model.proofs.Laws.Refusals.{closed_from}
 use Rattle.hist_model.proofs.Laws.Takes.{main_take_is}
@@ -51,30 +51,47 @@ left_alone q before now (kinds.Fence queue Start) h = ap (λ b. cond b (Some 1) 
 left_alone q before now (kinds.Unfence queue) h = ap (λ b. cond b None now) h
 left_alone q before now kind h = refl
 
--- a fence that no entry moves stands on
-stands_on : (log : List Entry) (i q m : ℕ) → i < m → m ≤ length log → IsUnmoved log i m q → fence_of (take m log) q ≡ fence_of (take (suc i) log) q
-stands_on log i q zero behind within unmoved = absurd (omega (arith, behind))
-stands_on log i q (suc m) behind within unmoved = by (cases_lt i m) (λ more. stands_on log i q m more (omega (arith, within))
-    (λ j seat kind from to is. unmoved j seat kind from (omega (arith, to)) is))
+-- and one that is no vote of the voter leaves that
+not_voted : (q v : ℕ) (now : Bool) (kind : Kind) → votes q v kind ≡ false → vote_after q v now kind ≡ now
+not_voted q v now (kinds.Vote queue voter on) h = ap (λ b. cond b on now) h
+not_voted q v now kind h = refl
+
+-- what only entries that pass a test change stays behind a place as long as none comes
+stands_on : {A : Type 0} (notion : List Entry → A) (moves : Kind → Bool)
+    → ((past : List Entry) (e : Entry) → moves e.kind ≡ false → notion (past ++ e ∷ []) ≡ notion past) → (log : List Entry) (i m : ℕ) → i < m
+    → m ≤ length log → NoneBetween log i m moves → notion (take m log) ≡ notion (take (suc i) log)
+stands_on notion moves same log i zero behind within none = absurd (omega (arith, behind))
+stands_on notion moves same log i (suc m) behind within none = by (cases_lt i m) (λ more. stands_on notion moves same log i m more (omega (arith, within))
+    (λ j seat kind from to is. none j seat kind from (omega (arith, to)) is))
   where
-    none : Entry
-    none = record { seat = 0; kind = kinds.Done }
+    other : Entry
+    other = record { seat = 0; kind = kinds.Done }
 
-    at : (e : Entry) → i < m → slice_get log m ≡ Some e → fence_of (take m log) q ≡ fence_of (take (suc i) log) q
-        → fence_of (take (suc m) log) q ≡ fence_of (take (suc i) log) q
-    at e more is before = ap (λ past. fence_of past q) (take_at log m e is) ∙ fence_of_push (take m log) e q
-        ∙ left_alone q (take m log) (fence_of (take m log) q) e.kind (unmoved m e.seat e.kind more (omega arith) is) ∙ before
+    at : (e : Entry) → i < m → slice_get log m ≡ Some e → notion (take m log) ≡ notion (take (suc i) log)
+        → notion (take (suc m) log) ≡ notion (take (suc i) log)
+    at e more is before = ap notion (take_at log m e is) ∙ same (take m log) e (none m e.seat e.kind more (omega arith) is) ∙ before
 
-    by : (i < m) ⊎ (m ≤ i) → (i < m → fence_of (take m log) q ≡ fence_of (take (suc i) log) q)
-        → fence_of (take (suc m) log) q ≡ fence_of (take (suc i) log) q
-    by (inl more) before = at (get_or log m none) more (slice_get-get_or log m none (omega (arith, within))) (before more)
-    by (inr here) before = let same : m ≡ i = omega (arith, behind, here) in ap (λ j. fence_of (take (suc j) log) q) same
+    by : (i < m) ⊎ (m ≤ i) → (i < m → notion (take m log) ≡ notion (take (suc i) log)) → notion (take (suc m) log) ≡ notion (take (suc i) log)
+    by (inl more) before = at (get_or log m other) more (slice_get-get_or log m other (omega (arith, within))) (before more)
+    by (inr here) before = let as_one : m ≡ i = omega (arith, behind, here) in ap (λ j. notion (take (suc j) log)) as_one
 
 -- the fence at a place is the one that was set last
-last_fence : (log : List Entry) (i setter k q : ℕ) (at : FenceAt) (e : Entry) → IsAt log i setter (kinds.Fence q at) → i < k → IsUnmoved log i k q
-    → slice_get log k ≡ Some e → fence_of (take k log) q ≡ fence_after q (take i log) (fence_of (take i log) q) (kinds.Fence q at)
-last_fence log i setter k q at e is less unmoved there = stands_on log i q k less (omega (arith, slice_get_within log k e there)) unmoved
+last_fence : (log : List Entry) (i setter k q : ℕ) (at : FenceAt) (e : Entry) → IsAt log i setter (kinds.Fence q at) → i < k
+    → NoneBetween log i k (moves_fence q) → slice_get log k ≡ Some e
+    → fence_of (take k log) q ≡ fence_after q (take i log) (fence_of (take i log) q) (kinds.Fence q at)
+last_fence log i setter k q at e is less unmoved there =
+    stands_on (λ past. fence_of past q) (moves_fence q) (λ past x still. fence_of_push past x q ∙ left_alone q past (fence_of past q) x.kind still) log i k less
+    (omega (arith, slice_get_within log k e there)) unmoved
     ∙ ap (λ past. fence_of past q) (take_at log i _ is) ∙ fence_of_push (take i log) (record { seat = setter; kind = kinds.Fence q at }) q
+
+-- and a voter's vote the one that it cast last
+last_vote : (log : List Entry) (i steerer k q v : ℕ) (on : Bool) (e : Entry) → IsAt log i steerer (kinds.Vote q v on) → i < k
+    → NoneBetween log i k (votes q v) → slice_get log k ≡ Some e → votes_on (take k log) q v ≡ on
+last_vote log i steerer k q v on e is less unmoved there =
+    stands_on (λ past. votes_on past q v) (votes q v) (λ past x still. votes_on_push past x q v ∙ not_voted q v (votes_on past q v) x.kind still) log i k less
+    (omega (arith, slice_get_within log k e there)) unmoved
+    ∙ ap (λ past. votes_on past q v) (take_at log i _ is) ∙ votes_on_push (take i log) (record { seat = steerer; kind = kinds.Vote q v on }) q v
+    ∙ rw (eq-eqb q q refl, eq-eqb v v refl) refl
 
 -- what an open front says: its queue is not closed, each of its voters votes on, and it is below the fence
 open_parts : (script : Plan) (past : List Entry) (f : Front) → IsOpen script past f
@@ -109,10 +126,9 @@ no_queue_passes_its_fence script log legal = record {
       let shut : is_closed (take k log) queue ≡ true = (closed_from log k queue).1 closed in
       let free : is_closed (take k log) queue ≡ false = ap (is_closed (take k log)) (sym t.queue_is) ∙ (open_parts script (take k log) t.front t.opened).0 in
       cc;
-  all_vote_on = λ k seat task queue found voter there less.
-      let t = taken k seat task queue found there in
-      range_all_at (votes_on (take k log) queue) 0 (voters_of script queue) voter
-      (ap (is_enabled script (take k log)) (sym t.queue_is) ∙ (open_parts script (take k log) t.front t.opened).1) (omega arith) (omega (arith, less));
+  all_vote_on = voting;
+  none_against_a_vote = λ i steerer k seat task queue found voter is less unmoved known there.
+      true≢false (sym (voting k seat task queue found voter there known) ∙ last_vote log i steerer k queue voter false _ is less unmoved there);
 }
   where
     taken : (k seat task queue found : ℕ) → IsAt log k seat (kinds.MainTake task queue found) → IsMainTake script (take k log) seat task queue found
@@ -127,3 +143,10 @@ no_queue_passes_its_fence script log legal = record {
 
     too_low : (k task queue : ℕ) → HasOrderBelow (take k log) task queue 1 → ⊥
     too_low k task queue h = let low = from_two (take k log) h.posted h.order h.order_is in omega (arith, h.below)
+
+    voting : (k seat task queue found voter : ℕ) → IsAt log k seat (kinds.MainTake task queue found) → voter < voters_of script queue
+        → votes_on (take k log) queue voter ≡ true
+    voting k seat task queue found voter there less =
+        let t = taken k seat task queue found there in
+        range_all_at (votes_on (take k log) queue) 0 (voters_of script queue) voter
+        (ap (is_enabled script (take k log)) (sym t.queue_is) ∙ (open_parts script (take k log) t.front t.opened).1) (omega arith) (omega (arith, less))

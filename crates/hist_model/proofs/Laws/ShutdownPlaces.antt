@@ -289,7 +289,10 @@ shutdown_waits_and_forbids script log legal = record {
   nobody_is_inside_skip_jobs = λ k seat holder held there is skip. true≢false (
       sym (ap (holds_of (λ h. is_skip (behaviour_of_job script h.job))) is ∙ ap is_skip skip)
       ∙ All-contains (λ s. is_in_skip_job script (take k log) s ≡ false) (all_seats script) holder (waited k seat there).nobody_inside
-      (contains_range (script.workers + 1) holder (omega (arith, (legal_holds_apart script (take k log) (past_is_legal script log k _ legal there)).known holder held is))));
+      (contains_range (script.workers + 1) holder (omega (
+        arith,
+        (legal_holds_apart script (take k log) (past_is_legal script log k _ legal there)).known holder held is,
+      ))));
   only_block_tasks_start = λ k seat task runner found there s. starts k task runner (keeps_at script log k seat (kinds.Take task runner found) legal there)
       (past_is_legal script log k _ legal there) s;
   only_block_jobs_are_entered = λ k seat job id item there s. only_block script log k (behaviour_of_job script job)

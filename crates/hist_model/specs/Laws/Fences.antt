@@ -1,5 +1,5 @@
 -- What holds back the main tasks of a queue, over the places of a log.
-use Rattle.std.specs.Prelude.{◌≡◌, ℕ, ◌==◌, ◌<◌, Bool, true, false, List, Some, take, Contains}
+use Rattle.std.specs.Prelude.{◌≡◌, ℕ, ◌==◌, ◌&&◌, ◌<◌, Bool, true, false, List, Some, take, Contains}
 use Rattle.task_base.specs.Plan.{Plan}
 use Rattle.task_base.specs.declared.entry.Entry.{Entry}
 use Rattle.task_base.specs.declared.entry.Kind.{Kind}
@@ -17,9 +17,14 @@ moves_fence q (kinds.Fence queue at) = queue == q
 moves_fence q (kinds.Unfence queue) = queue == q
 moves_fence q kind = false
 
--- what stood of the queue's fence behind the first place still stands at the second: no entry between them moves it
-abbrev pub IsUnmoved : List Entry → ℕ → ℕ → ℕ → Type 0
-IsUnmoved log i k queue = (j seat : ℕ) (kind : Kind) → i < j → j < k → IsAt log j seat kind → moves_fence queue kind ≡ false
+-- the entry is a vote of this voter of the queue
+abbrev pub votes : ℕ → ℕ → Kind → Bool
+votes q v (kinds.Vote queue voter on) = queue == q && voter == v
+votes q v kind = false
+
+-- no entry between the two places passes the test
+abbrev pub NoneBetween : List Entry → ℕ → ℕ → (Kind → Bool) → Type 0
+NoneBetween log i k test = (j seat : ℕ) (kind : Kind) → i < j → j < k → IsAt log j seat kind → test kind ≡ false
 
 -- the task was accepted on this queue, and its order is below this one
 pub record HasOrderBelow (past : List Entry) (task queue limit : ℕ) : Type 0 where
@@ -38,10 +43,10 @@ pub record KeepsFences (script : Plan) (log : List Entry) : Type 0 where
   pub below_its_fence : (k seat task queue found fence : ℕ) → IsAt log k seat (kinds.MainTake task queue found)
       → fence_of (take k log) queue ≡ Some fence → HasOrderBelow (take k log) task queue fence
   -- where the fence of the queue was set last behind its tasks by then, only a task that drew its order before is taken
-  pub drawn_before_the_fence : (i setter k seat task queue found : ℕ) → IsAt log i setter (kinds.Fence queue Now) → i < k → IsUnmoved log i k queue
+  pub drawn_before_the_fence : (i setter k seat task queue found : ℕ) → IsAt log i setter (kinds.Fence queue Now) → i < k → NoneBetween log i k (moves_fence queue)
       → IsAt log k seat (kinds.MainTake task queue found) → HasOrderBelow (take k log) task queue (next_draw (take i log))
   -- where it was set last at the start, before all its tasks, none is taken
-  pub none_behind_the_start : (i setter k seat task queue found : ℕ) → IsAt log i setter (kinds.Fence queue Start) → i < k → IsUnmoved log i k queue
+  pub none_behind_the_start : (i setter k seat task queue found : ℕ) → IsAt log i setter (kinds.Fence queue Start) → i < k → NoneBetween log i k (moves_fence queue)
       → IsAt log k seat (kinds.MainTake task queue found) → ⊥
   -- once a queue was closed, none of its tasks is taken
   pub none_after_the_close : (k seat task queue found : ℕ) → IsAt log k seat (kinds.MainTake task queue found)
@@ -49,3 +54,6 @@ pub record KeepsFences (script : Plan) (log : List Entry) : Type 0 where
   -- where a main task is taken, each voter of its queue votes on
   pub all_vote_on : (k seat task queue found voter : ℕ) → IsAt log k seat (kinds.MainTake task queue found) → voter < voters_of script queue
       → votes_on (take k log) queue voter ≡ true
+  -- where a voter of the queue voted off last, none is taken
+  pub none_against_a_vote : (i steerer k seat task queue found voter : ℕ) → IsAt log i steerer (kinds.Vote queue voter false) → i < k
+      → NoneBetween log i k (votes queue voter) → voter < voters_of script queue → IsAt log k seat (kinds.MainTake task queue found) → ⊥
