@@ -43,10 +43,12 @@ pub record KeepsFences (script : Plan) (log : List Entry) : Type 0 where
   pub below_its_fence : (k seat task queue found fence : ℕ) → IsAt log k seat (kinds.MainTake task queue found)
       → fence_of (take k log) queue ≡ Some fence → HasOrderBelow (take k log) task queue fence
   -- where the fence of the queue was set last behind its tasks by then, only a task that drew its order before is taken
-  pub drawn_before_the_fence : (i setter k seat task queue found : ℕ) → IsAt log i setter (kinds.Fence queue Now) → i < k → NoneBetween log i k (moves_fence queue)
+  pub drawn_before_the_fence : (i setter k seat task queue found : ℕ) → IsAt log i setter (kinds.Fence queue Now) → i < k
+      → NoneBetween log i k (moves_fence queue)
       → IsAt log k seat (kinds.MainTake task queue found) → HasOrderBelow (take k log) task queue (next_draw (take i log))
   -- where it was set last at the start, before all its tasks, none is taken
-  pub none_behind_the_start : (i setter k seat task queue found : ℕ) → IsAt log i setter (kinds.Fence queue Start) → i < k → NoneBetween log i k (moves_fence queue)
+  pub none_behind_the_start : (i setter k seat task queue found : ℕ) → IsAt log i setter (kinds.Fence queue Start) → i < k
+      → NoneBetween log i k (moves_fence queue)
       → IsAt log k seat (kinds.MainTake task queue found) → ⊥
   -- once a queue was closed, none of its tasks is taken
   pub none_after_the_close : (k seat task queue found : ℕ) → IsAt log k seat (kinds.MainTake task queue found)
