@@ -20,3 +20,5 @@ pub mod OneSeat
 pub mod Phases
 pub mod Claims
 pub mod HoldsApart
+pub mod Since
+pub mod Starts
