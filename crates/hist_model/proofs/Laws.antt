@@ -22,3 +22,4 @@ pub mod Claims
 pub mod HoldsApart
 pub mod Since
 pub mod Starts
+pub mod Singly

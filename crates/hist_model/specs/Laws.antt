@@ -8,3 +8,4 @@ pub mod Postings
 pub mod Rising
 pub mod Places
 pub mod Starts
+pub mod Singly

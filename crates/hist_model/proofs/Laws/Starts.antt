@@ -157,38 +157,38 @@ one_end_place script log main t i k d e legal = one_place (λ x. ends_as main t 
     fresh true k e at ends_it =
         ends_fresh script (take k log) e.seat e.kind true t (past_is_legal script log k e legal at) (may_come_at script log k e legal at) ends_it
 
--- the entry that took what a seat runs stands at an earlier place of the log
-pub record TakenAs (log : List Entry) (place seat : ℕ) (main : Bool) (t : ℕ) : Type 0 where
+-- the seat took the task from this home at an earlier place of the log
+pub record TakenAs (log : List Entry) (place seat : ℕ) (main : Bool) (t home : ℕ) : Type 0 where
   pub at : ℕ
-  pub home : ℕ
   pub found : ℕ
   pub earlier : at < place
   pub is : IsAt log at seat (taking main t home found)
 
+-- so it did with what it runs at the place
 pub taken_as_before : (log : List Entry) (place seat : ℕ) (w : Running) (main : Bool) (t : ℕ) → running (take place log) seat ≡ Some w → w.is_main ≡ main
-    → w.task ≡ t → TakenAs log place seat main t
+    → w.task ≡ t → TakenAs log place seat main t w.home
 taken_as_before log place seat w main t runs as_main task_is =
     let since : RunningSince (take place log) seat w = running_since (take place log) seat w runs in
     let there = of_past log since.place place _ since.is in
     record {
       at = since.place;
-      home = w.home;
       found = w.found;
       earlier = there.0;
       is = subst (λ m. IsAt log since.place seat (taking m t w.home w.found)) as_main
           (subst (λ u. IsAt log since.place seat (taking w.is_main u w.home w.found)) task_is there.1);
     }
 
-ended_by_taker : (script : Plan) (log : List Entry) (k seat : ℕ) (kind : Kind) (main : Bool) (t : ℕ) → IsLegal script log → IsAt log k seat kind
-    → ends_as main t kind ≡ true → TakenAs log k seat main t
-ended_by_taker script log k seat kind main t legal at ends_it =
+-- and with what it ends there
+pub taken_before_end : (script : Plan) (log : List Entry) (k seat : ℕ) (kind : Kind) (main : Bool) (t : ℕ) → IsLegal script log → IsAt log k seat kind
+    → ends_as main t kind ≡ true → (home : ℕ) × TakenAs log k seat main t home
+taken_before_end script log k seat kind main t legal at ends_it =
     let r : RunsIt (take k log) seat main t = ends_what_runs script (take k log) seat kind main t (may_come_at script log k _ legal at) ends_it in
-    taken_as_before log k seat r.now main t r.running_is r.as_main r.task_is
+    (r.now.home, taken_as_before log k seat r.now main t r.running_is r.as_main r.task_is)
 
 -- ---- the law
 
 -- what stands at one place is one entry
-same_entry : (log : List Entry) (i k : ℕ) (d e : Entry) → i ≡ k → slice_get log i ≡ Some d → slice_get log k ≡ Some e → d ≡ e
+pub same_entry : (log : List Entry) (i k : ℕ) (d e : Entry) → i ≡ k → slice_get log i ≡ Some d → slice_get log k ≡ Some e → d ≡ e
 same_entry log i k d e same at_i at_k = same_Some d e (sym at_i ∙ ap (slice_get log) same ∙ at_k)
 
 -- the runner or the queue of a take
@@ -211,8 +211,8 @@ tasks_start_at_most_once script log legal = record {
       let same : i ≡ k = one_end_place script log false task i k _ _ legal at_i at_k (eq-eqb task task refl) (eq-eqb task task refl) in
       (same, ap (λ e. e.seat) (same_entry log i k _ _ same at_i at_k));
   taken_before = λ k seat task left at.
-      let t : TakenAs log k seat false task = ended_by_taker script log k seat _ false task legal at (eq-eqb task task refl) in
-      record { at = t.at; runner = t.home; found = t.found; earlier = t.earlier; is = t.is };
+      let (home, t) = taken_before_end script log k seat _ false task legal at (eq-eqb task task refl) in
+      record { at = t.at; runner = home; found = t.found; earlier = t.earlier; is = t.is };
   one_main_take = λ i k seat other task queue home found value at_i at_k.
       let same : i ≡ k = one_take_place script log true task i k _ _ legal at_i at_k (eq-eqb task task refl) (eq-eqb task task refl) in
       let entry = same_entry log i k _ _ same at_i at_k in
@@ -227,6 +227,6 @@ tasks_start_at_most_once script log legal = record {
       let same : i ≡ k = one_end_place script log true task i k _ _ legal at_i at_k (eq-eqb task task refl) (eq-eqb task task refl) in
       (same, ap (λ e. e.seat) (same_entry log i k _ _ same at_i at_k));
   main_taken_before = λ k seat task left at.
-      let t : TakenAs log k seat true task = ended_by_taker script log k seat _ true task legal at (eq-eqb task task refl) in
-      record { at = t.at; queue = t.home; found = t.found; earlier = t.earlier; is = t.is };
+      let (home, t) = taken_before_end script log k seat _ true task legal at (eq-eqb task task refl) in
+      record { at = t.at; queue = home; found = t.found; earlier = t.earlier; is = t.is };
 }
