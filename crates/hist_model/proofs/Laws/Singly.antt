@@ -1,5 +1,5 @@
 -- A sequence runs one task at a time, and so do the main queues.
-use Rattle.std.proofs.Common.{◌≡◌, ℕ, ◌<◌, Bool, true, false, eqb, List, take, refl, sym, ap, subst, ◌∙◌, Some, ◌⊎◌, inl, inr, arith}
+use Rattle.std.proofs.Common.{◌≡◌, ℕ, ◌<◌, Bool, true, false, List, take, refl, sym, ap, subst, ◌∙◌, Some, inl, inr, arith}
 use Rattle.std.specs.Prelude.{slice_get, is_none}
 use Rattle.std.specs.List.{list_any}
 use Rattle.std.proofs.lemmas.Bool.{eqb-true, eq-eqb, both_ways, true≢false, cases_Bool}
@@ -9,12 +9,10 @@ use Rattle.task_base.specs.declared.entry.Entry.{Entry}
 use Rattle.task_base.specs.declared.entry.Kind.{Kind}
 use Rattle.task_base.specs.declared.entry.Kind.TheVariants as kinds
 use Rattle.task_model.specs.Posts.{is_taken, takes, is_ended, is_main_taken, main_takes, is_main_ended}
-use Rattle.task_model.specs.Seats.{Running, running, runs_sequence, runs_of}
+use Rattle.task_model.specs.Seats.{running, runs_sequence}
 use Rattle.pool_laws.proofs.Seats.Running.{seat_runs}
-use Rattle.hist_model.specs.Allowed.{may_come}
 use Rattle.hist_model.specs.Legal.{IsLegal}
 use Rattle.hist_model.specs.Laws.Places.{IsAt}
-use Rattle.hist_model.specs.Laws.Choice.{IsTake}
 use Rattle.hist_model.specs.Laws.Consistent.{RunsAtOneSeat, RunsAtDriver}
 use Rattle.hist_model.specs.Laws.Starts.{TasksStartAtMostOnce}
 use Rattle.hist_model.specs.Laws.Singly.{EndsBetween, MainEndsBetween, SequencesRunSingly}
@@ -22,7 +20,7 @@ use Rattle.hist_model.proofs.Laws.AtPlaces.{PassesAt, passes_at, of_past, past_i
 use Rattle.hist_model.proofs.Laws.Takes.{take_is, main_take_is}
 use Rattle.hist_model.proofs.Laws.OneThing.{main_take_free}
 use Rattle.hist_model.proofs.Laws.OneSeat.{runs_at_one_seat, runs_at_driver}
-use Rattle.hist_model.proofs.Laws.Consistent.{ended_as, ends_as, takes_as}
+use Rattle.hist_model.proofs.Laws.Consistent.{ends_as, takes_as}
 use Rattle.hist_model.proofs.Laws.Since.{taking}
 use Rattle.hist_model.proofs.Laws.Starts.{passed_before, TakenAs, taken_as_before, one_take_place, taken_before_end, same_entry, tasks_start_at_most_once}
 
@@ -133,6 +131,7 @@ main_ended_before script log i j seat other t u queue home found value legal les
         both_ways (is_none (running (take j log) 0)) (ap is_none r.running_is)
         (ap (λ s. is_none (running (take j log) s)) (sym driver) ∙ main_take_free script (take j log) other u home value may)
 
+-- the tasks of a sequence run one at a time, and so do the main tasks
 pub sequences_run_singly : (script : Plan) (log : List Entry) → IsLegal script log → SequencesRunSingly script log
 sequences_run_singly script log legal = record {
   ended_before = before;

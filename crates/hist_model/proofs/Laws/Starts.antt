@@ -35,6 +35,7 @@ record StandsIn (main : Bool) (past : List Entry) (p : Posted) : Type 0 where
   poster : ℕ
   is : IsAt past p.place poster (posting main p.task p.home p.delay)
 
+-- what an entry adds stands behind the past
 new_stands : (main : Bool) (past : List Entry) (seat : ℕ) (kind : Kind)
     → AllByRecursion (StandsIn main (past ++ record { seat = seat; kind = kind } ∷ [])) (posted_as main past kind)
 new_stands false past seat (kinds.Post task runner delay true) = (record { poster = seat; is = slice_get_seam past _ [] }, tt)
@@ -49,6 +50,7 @@ unfolding fold_past posts main_posts
 none_stands false = tt
 none_stands true = tt
 
+-- each accepted post stands in the past, at its place
 all_stand : (main : Bool) (past : List Entry) → AllByRecursion (StandsIn main past) (posts_as main past)
 all_stand main = push_induction (λ past. AllByRecursion (StandsIn main past) (posts_as main past)) (none_stands main) (λ past e before.
     subst (AllByRecursion (StandsIn main (past ++ e ∷ []))) (sym (posts_as_push main past e))
@@ -135,6 +137,7 @@ one_place test log fresh i k d e at_i at_k first second = elim (cases_order i k)
   | inr (inr less) ↦ absurd (both_ways (list_any test (take i log)) (fresh i d at_i first) (passed_before test log k i e less at_k second))
 ]
 
+-- two places that take one task of the pool, or one main task, are one place
 pub one_take_place : (script : Plan) (log : List Entry) (main : Bool) (t i k : ℕ) (d e : Entry) → IsLegal script log → slice_get log i ≡ Some d
     → slice_get log k ≡ Some e → takes_as main t d.kind ≡ true → takes_as main t e.kind ≡ true → i ≡ k
 unfolding is_taken is_main_taken
@@ -145,6 +148,7 @@ one_take_place script log main t i k d e legal = one_place (λ x. takes_as main 
     fresh false k e at takes_it = takes_fresh script (take k log) e.seat e.kind false t (may_come_at script log k e legal at) takes_it
     fresh true k e at takes_it = takes_fresh script (take k log) e.seat e.kind true t (may_come_at script log k e legal at) takes_it
 
+-- two places that end one are one place
 pub one_end_place : (script : Plan) (log : List Entry) (main : Bool) (t i k : ℕ) (d e : Entry) → IsLegal script log → slice_get log i ≡ Some d
     → slice_get log k ≡ Some e → ends_as main t d.kind ≡ true → ends_as main t e.kind ≡ true → i ≡ k
 unfolding is_ended is_main_ended
@@ -197,6 +201,7 @@ home_of_take (kinds.Take task runner found) = runner
 home_of_take (kinds.MainTake task queue found) = queue
 home_of_take kind = 0
 
+-- tasks start at most once, and end at most once
 pub tasks_start_at_most_once : (script : Plan) (log : List Entry) → IsLegal script log → TasksStartAtMostOnce log
 tasks_start_at_most_once script log legal = record {
   one_take = λ i k seat other task runner home found value at_i at_k.
