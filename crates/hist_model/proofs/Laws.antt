@@ -20,3 +20,6 @@ pub mod OneSeat
 pub mod Phases
 pub mod Claims
 pub mod HoldsApart
+pub mod Since
+pub mod Starts
+pub mod Singly

@@ -7,3 +7,5 @@ pub mod Agenda
 pub mod Postings
 pub mod Rising
 pub mod Places
+pub mod Starts
+pub mod Singly

@@ -13,6 +13,8 @@ mod phases;
 mod postings;
 mod seats;
 mod shutdown;
+mod singly;
+mod starts;
 
 pub use current::the_current_action_moves_on;
 pub use histories::{legal_histories_grow, the_first_illegal_place_is_told};
@@ -25,3 +27,5 @@ pub use seats::{
     seats_do_one_thing, takes_are_of_heads,
 };
 pub use shutdown::shutdown_waits_and_forbids;
+pub use singly::sequences_run_singly;
+pub use starts::tasks_start_at_most_once;
