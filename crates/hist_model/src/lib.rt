@@ -11,6 +11,7 @@ mod jobs;
 mod moments;
 mod phases;
 mod postings;
+mod readings;
 mod seats;
 mod shutdown;
 
@@ -20,6 +21,7 @@ pub use jobs::{claimed_items_are_done_or_held, holders_of_a_job_are_apart, job_e
 pub use moments::moments_and_orders_rise;
 pub use phases::phases_never_go_back;
 pub use postings::each_task_is_posted_once;
+pub use readings::moments_never_fall;
 pub use seats::{
     legal_histories_are_consistent, own_entries_tell_the_seat, running_tasks_have_one_seat,
     seats_do_one_thing, takes_are_of_heads,
