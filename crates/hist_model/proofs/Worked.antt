@@ -13,3 +13,4 @@ pub mod ShutdownCorners
 pub mod ValueCorners
 pub mod QueueCorners
 pub mod Moments
+pub mod Broken

@@ -14,6 +14,7 @@ mod postings;
 mod readings;
 mod seats;
 mod shutdown;
+mod whole;
 
 pub use current::the_current_action_moves_on;
 pub use histories::{legal_histories_grow, the_first_illegal_place_is_told};
@@ -27,3 +28,4 @@ pub use seats::{
     seats_do_one_thing, takes_are_of_heads,
 };
 pub use shutdown::shutdown_waits_and_forbids;
+pub use whole::whole_logs_lose_nothing;

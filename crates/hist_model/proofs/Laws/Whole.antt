@@ -1,0 +1,386 @@
+-- What a legal and whole log has done, and what it has left.
+use Rattle.std.proofs.Common.{◌≡◌, ℕ, ◌+◌, ◌<◌, ◌≤◌, Bool, true, false, cond, eqb, List, [], ◌∷◌, length, refl, sym, ap, subst, ◌∙◌, Option, Some, None, inl, inr, ⊎_elim, arith}
+use Rattle.std.specs.Prelude.{◌⊎◌, ◌&&◌, ◌||◌, not, nat_lt, filter, take, slice_get, Contains, is_none, option_and_then}
+use Rattle.std.specs.Option.{IfSome, option_map, option_map_or}
+use Rattle.std.specs.List.{AllByRecursion, filter_map}
+use Rattle.std.proofs.lemmas.Bool.{and_parts, or_cases, eq-eqb, eqb-true, both_ways}
+use Rattle.std.proofs.lemmas.Option.{none-some, same_Some}
+use Rattle.std.proofs.lemmas.List.Elements.{All-contains}
+use Rattle.task_base.specs.Plan.{Plan}
+use Rattle.task_base.specs.Steps.{is_act}
+use Rattle.task_base.specs.Keys.{key_below}
+use Rattle.task_base.specs.Runners.{is_parallel, sequence_of, sequence_count}
+use Rattle.task_base.specs.declared.entry.Entry.{Entry}
+use Rattle.task_base.specs.declared.entry.Kind.{Kind}
+use Rattle.task_base.specs.declared.entry.Kind.TheVariants as kinds
+use Rattle.task_base.specs.declared.script.Action.{Action}
+use Rattle.task_base.specs.declared.script.Action.TheVariants as actions
+use Rattle.task_base.specs.declared.script.Lane.{Lane}
+use Rattle.task_base.specs.declared.script.Lane.TheVariants.{Immediate, Delayed}
+use Rattle.task_base.specs.declared.source.Key.{Key}
+use Rattle.task_base.specs.declared.source.TaskSource.TheVariants.{Sequence}
+use Rattle.task_base.specs.declared.step.Step.{Step}
+use Rattle.task_base.specs.declared.step.Step.TheVariants as steps
+use Rattle.list_laws.specs.Lists.{holds_of}
+use Rattle.list_laws.proofs.Elements.{AllByRecursion-append, AllByRecursion-contains, AllByRecursion-filter, slice_get_all}
+use Rattle.list_laws.proofs.Least.{least_is_least, no_least}
+use Rattle.list_laws.proofs.Made.{contains_filter, contains_filter_map, contains_not_empty}
+use Rattle.list_laws.proofs.Ranks.{ranks_by}
+use Rattle.script_model.specs.Laws.Sound.{IsRunnerPost, IsStepSound, IsActionSound, IsSound}
+use Rattle.task_model.specs.Time.{tick_from}
+use Rattle.task_model.specs.Past.{fold_past}
+use Rattle.task_model.specs.Posts.{Posted, is_delayed, posts, posted_by, main_posts, is_taken, is_ended, is_main_taken, is_main_ended}
+use Rattle.task_model.specs.Policies.{is_held}
+use Rattle.task_model.specs.Refusal.{is_forbidden, is_closed}
+use Rattle.task_model.specs.Keys.{Ready, key_at, key_of, ready}
+use Rattle.task_model.specs.Sequences.{is_of, may_start, eligible, head_of}
+use Rattle.task_model.specs.Seats.{Running, running, holding, inside, all_seats, is_quiet, runs_of, runs_sequence, steps_of, acts_done, next_act}
+use Rattle.task_model.specs.Jobs.{claimed, done}
+use Rattle.task_model.specs.Sources.{Candidate, sequence_candidate, IsWaiting}
+use Rattle.task_model.specs.Orders.{next_draw, order_of}
+use Rattle.task_model.specs.MainQueues.{Front, class_of, is_of_lane, is_in_lane, front_with, order_below, front_of}
+use Rattle.task_model.proofs.Growth.{posts_push}
+use Rattle.list_laws.proofs.Filters.{filter_never}
+use Rattle.pool_laws.specs.Keys.{ready_below}
+use Rattle.pool_laws.specs.Choice.{WouldWait}
+use Rattle.pool_laws.proofs.Seats.Running.{quiet_is_free, no_seat_runs}
+use Rattle.pool_laws.proofs.Choice.Least.{head_is_least, no_head, keys_total}
+use Rattle.pool_laws.proofs.Choice.Candidates.{sequence_in, candidate_would_wait, not_held_is_waiting}
+use Rattle.hist_model.specs.Views.{own_entries}
+use Rattle.hist_model.specs.Script.{Current, behind_action, current_from, current, wants, is_finished, IsWhole}
+use Rattle.hist_model.specs.Allowed.{by_script, by_task, enters, may_come}
+use Rattle.hist_model.specs.Legal.{IsLegal}
+use Rattle.hist_model.specs.Laws.Consistent.{RunsAs}
+use Rattle.hist_model.specs.Laws.Whole.{sequence_at, IsUnripe, WaitsInSequence, LeftTask, IsLeftToWorkers, HasNoOrder, WaitsInLane, LeftMainTask, LosesNothing}
+use Rattle.hist_model.specs.Laws.Whole.LeftTask.{Forbidden, Unripe, Waits}
+use Rattle.hist_model.specs.Laws.Whole.LeftMainTask.{Closed, NoOrder, InLane}
+use Rattle.hist_model.proofs.Laws.Legal.{entry_induction}
+use Rattle.hist_model.proofs.Laws.Choice.{found}
+use Rattle.hist_model.proofs.Laws.Claims.{claimed_is}
+use Rattle.hist_model.proofs.Laws.HoldsApart.{legal_holds_apart}
+use Rattle.hist_model.proofs.Laws.Consistent.{legal_is_consistent}
+use Rattle.hist_model.proofs.Laws.OneSeat.{runs_at_one_seat, runs_at_driver}
+use Rattle.hist_model.proofs.Laws.OneThing.{wanted_by}
+
+-- Nobody is at anything.
+
+none_of : {A : Type 0} (o : Option A) → ((x : A) → o ≡ Some x → ⊥) → o ≡ None
+none_of None h = refl
+none_of (Some x) h = absurd (h x refl)
+
+whole_is_quiet : (script : Plan) (log : List Entry) → IsWhole script log → is_quiet script log ≡ true
+whole_is_quiet script log whole = (and_parts (is_finished script log) (is_quiet script log) whole).1
+
+free_seat : (script : Plan) (log : List Entry) (seat : ℕ) → IsWhole script log → seat ≤ script.workers
+    → (is_none (running log seat) ≡ true) × (is_none (holding log seat) ≡ true)
+free_seat script log seat whole known = and_parts (is_none (running log seat)) (is_none (holding log seat))
+    (quiet_is_free script log seat (whole_is_quiet script log whole) (omega (arith, known)))
+
+-- who runs is a seat of the script
+runs_known : (script : Plan) (log : List Entry) (seat : ℕ) (w : Running) (main : Bool) → RunsAs script log seat w main → seat ≤ script.workers
+runs_known script log seat w false r = r.known
+runs_known script log seat w true r = omega (arith, r.driver)
+
+nobody_runs : (script : Plan) (log : List Entry) → IsLegal script log → IsWhole script log → (seat : ℕ) → running log seat ≡ None
+nobody_runs script log legal whole seat = none_of (running log seat) (λ w runs. both_ways (is_none (running log seat)) (ap is_none runs)
+    (free_seat script log seat whole (runs_known script log seat w w.is_main ((legal_is_consistent script log legal).runs seat w runs))).0)
+
+nobody_holds : (script : Plan) (log : List Entry) → IsLegal script log → IsWhole script log → (seat : ℕ) → holding log seat ≡ None
+nobody_holds script log legal whole seat = none_of (holding log seat) (λ h holds. both_ways (is_none (holding log seat)) (ap is_none holds)
+    (free_seat script log seat whole ((legal_holds_apart script log legal).known seat h holds)).1)
+
+-- What was begun is done.
+
+not_none_some : {A : Type 0} (o : Option A) (x : A) → o ≡ None → o ≡ Some x → ⊥
+not_none_some o x none some = none-some x (sym none ∙ some)
+
+ended : (b : Bool) → (b ≡ false → ⊥) → b ≡ true
+ended true h = refl
+ended false h = absurd (h refl)
+
+tasks_ended : (script : Plan) (log : List Entry) → IsLegal script log → IsWhole script log → (t : ℕ) → is_taken log t ≡ true → is_ended log t ≡ true
+tasks_ended script log legal whole t taken = ended (is_ended log t) (λ open_still.
+    let r = runs_at_one_seat script log t legal taken open_still in
+    not_none_some (running log r.seat) r.now (nobody_runs script log legal whole r.seat) r.running_is)
+
+main_tasks_ended : (script : Plan) (log : List Entry) → IsLegal script log → IsWhole script log → (t : ℕ) → is_main_taken log t ≡ true
+    → is_main_ended log t ≡ true
+main_tasks_ended script log legal whole t taken = ended (is_main_ended log t) (λ open_still.
+    let r = runs_at_driver script log t legal taken open_still in
+    not_none_some (running log 0) r.now (nobody_runs script log legal whole 0) r.running_is)
+
+items_done : (script : Plan) (log : List Entry) → IsLegal script log → IsWhole script log → (j : ℕ) → claimed log j ≡ done log j
+unfolding inside
+items_done script log legal whole j =
+    let nobody : inside script log j ≡ [] = filter_never (λ seat. holds_of (λ h. eqb h.job j) (holding log seat)) (all_seats script)
+    (λ seat. ap (holds_of (λ h. eqb h.job j)) (nobody_holds script log legal whole seat)) in
+    omega (arith, claimed_is script log j legal, ap length nobody)
+
+-- Tasks of the pool that were never taken.
+
+-- a task that has a key is among those that have keys
+is_ready : (past : List Entry) (p : Posted) (key : Key) → Contains (posts past) p → key_of past p ≡ Some key
+    → Contains (ready past) (record { posted = p; key = key })
+unfolding ready
+is_ready past p key among is = contains_filter_map (λ q. option_map (λ k. record { posted = q; key = k }) (key_of past q)) (posts past) p
+    (record { posted = p; key = key }) among (ap (option_map (λ k. record { posted = p; key = k })) is)
+
+-- and among those that may be taken from its sequence, where it was not taken and is not forbidden
+in_sequence : (script : Plan) (past : List Entry) (p : Posted) (key : Key) → Contains (posts past) p → key_of past p ≡ Some key
+    → is_taken past p.task ≡ false → is_forbidden script past p ≡ false → Contains (eligible script past (sequence_at script p)) (record { posted = p; key = key })
+unfolding eligible
+in_sequence script past p key among is free allowed = contains_filter (λ r. is_of script (sequence_at script p) r.posted && may_start script past r.posted)
+    (ready past) (record { posted = p; key = key }) (is_ready past p key among is)
+    (rw (eq-eqb (sequence_at script p) (sequence_at script p) refl, free, allowed) refl)
+
+no_task_runs : (script : Plan) (log : List Entry) (s : ℕ) → IsLegal script log → IsWhole script log → runs_sequence script log s ≡ false
+no_task_runs script log s legal whole = no_seat_runs script log s (λ seat known. ap (holds_of (runs_of script s)) (nobody_runs script log legal whole seat))
+
+-- of a head and a task that may be taken, the head's key is the task's own or below it
+head_first : (head : Ready) (key : Key) → key_below key head.key ≡ false → (head.key ≡ key) ⊎ (key_below head.key key ≡ true)
+head_first head key not_above = by (key_below head.key key) refl
+  where
+    by : (b : Bool) → key_below head.key key ≡ b → (head.key ≡ key) ⊎ (key_below head.key key ≡ true)
+    by true is = inr is
+    by false is = inl (keys_total head.key key is not_above)
+
+waits_in_sequence : (script : Plan) (log : List Entry) (p : Posted) (key : Key) → IsLegal script log → IsWhole script log → Contains (posts log) p
+    → key_of log p ≡ Some key → is_taken log p.task ≡ false → is_forbidden script log p ≡ false → WaitsInSequence script log p
+waits_in_sequence script log p key legal whole among is free allowed = by (head_of script log (sequence_at script p)) refl
+  where
+    it : Ready
+    it = record { posted = p; key = key }
+
+    eligible_is : Contains (eligible script log (sequence_at script p)) it
+    eligible_is = in_sequence script log p key among is free allowed
+
+    by : (o : Option Ready) → head_of script log (sequence_at script p) ≡ o → WaitsInSequence script log p
+    by None none = absurd (contains_not_empty (eligible script log (sequence_at script p)) it eligible_is (no_head script log (sequence_at script p) none))
+    by (Some head) some = record {
+      key = key;
+      key_is = is;
+      is_eligible = eligible_is;
+      head = head;
+      head_is = some;
+      at_or_below = head_first head key (All-contains (λ r. ready_below r head ≡ false) (eligible script log (sequence_at script p)) it
+          (head_is_least script log (sequence_at script p) head some).none_below eligible_is);
+      not_running = no_task_runs script log (sequence_at script p) legal whole;
+      waits = rw (no_task_runs script log (sequence_at script p) legal whole, some) refl;
+    }
+
+-- a task has no key where it is delayed and no tick has come to its ripe moment
+unripe : (past : List Entry) (p : Posted) → key_of past p ≡ None → IsUnripe past p
+unripe past p none = by (is_delayed p) (tick_from past p.ripe) refl refl none
+  where
+    by : (b : Bool) (o : Option ℕ) → is_delayed p ≡ b → tick_from past p.ripe ≡ o
+        → cond b (option_map (λ place. record { place = place; ripe = p.ripe; post = p.place }) o) (Some (key_at p.place)) ≡ None → IsUnripe past p
+    by false o delayed tick k = absurd (none-some (key_at p.place) (sym k))
+    by true None delayed tick k = record { delayed = delayed; no_tick = tick; no_key = none }
+    by true (Some place) delayed tick k = absurd (none-some _ (sym k))
+
+tasks_left : (script : Plan) (log : List Entry) → IsLegal script log → IsWhole script log → (p : Posted) → Contains (posts log) p
+    → is_taken log p.task ≡ false → LeftTask script log p
+tasks_left script log legal whole p among free = by (is_forbidden script log p) (key_of log p) refl refl
+  where
+    by : (b : Bool) (o : Option Key) → is_forbidden script log p ≡ b → key_of log p ≡ o → LeftTask script log p
+    by true o forbidden key_is = Forbidden forbidden
+    by false None allowed no_key = Unripe (unripe log p no_key)
+    by false (Some key) allowed key_is = Waits (waits_in_sequence script log p key legal whole among key_is free allowed)
+
+-- What waits for workers, where the script is sound.
+
+-- the task and the runner are declared
+record IsDeclared (script : Plan) (task runner : ℕ) : Type 0 where
+  task_declared : task < length script.tasks
+  runner_declared : runner < length script.runners
+
+declared : (script : Plan) (task runner t r : ℕ) → eqb task t ≡ true → eqb runner r ≡ true → IsRunnerPost script t r → IsDeclared script task runner
+declared script task runner t r same_task same_runner post =
+    let task_is : task ≡ t = eqb-true task t same_task in
+    let runner_is : runner ≡ r = eqb-true runner r same_runner in
+    record { task_declared = omega (arith, task_is, post.task_declared); runner_declared = omega (arith, runner_is, post.runner_declared) }
+
+-- the action that the driver is at is one of the script's
+current_is_one : (P : Action → Type 0) (xs : List Action) (made : List Entry) (c : Current) → AllByRecursion P xs → current_from xs made ≡ Some c
+    → P c.action
+current_is_one P [] made c all is = absurd (none-some c is)
+current_is_one P (x ∷ rest) made c all is = at (behind_action x made) is (λ left k. current_is_one P rest left c all.1 k)
+  where
+    at : (o : Option (List Entry)) → option_map_or (λ left. current_from rest left) o (Some (record { action = x; made = made })) ≡ Some c
+        → ((left : List Entry) → current_from rest left ≡ Some c → P c.action) → P c.action
+    at None k later = subst (λ (d : Current). P d.action) (same_Some (record { action = x; made = made }) c k) all.0
+    at (Some left) k later = later left k
+
+-- an action posts what is declared
+action_posts : (script : Plan) (own : List Entry) (x : Action) (made : List Entry) (task runner delay : ℕ) (ok : Bool) → IsActionSound script x
+    → wants own x made (kinds.Post task runner delay ok) ≡ true → IsDeclared script task runner
+action_posts script own (actions.Post t r d) made task runner delay ok sound h =
+    let outer = and_parts (eqb task t && eqb runner r) (eqb delay d) h in
+    let inner = and_parts (eqb task t) (eqb runner r) outer.0 in
+    declared script task runner t r inner.0 inner.1 sound.0
+action_posts script own x made task runner delay ok sound h = absurd cc
+
+driver_posts : (script : Plan) (past : List Entry) (seat task runner delay : ℕ) (ok : Bool) → IsSound script
+    → by_script script past seat (kinds.Post task runner delay ok) ≡ true → IsDeclared script task runner
+unfolding current
+driver_posts script past seat task runner delay ok sound h =
+    let c = wanted_by script past seat (kinds.Post task runner delay ok) h in
+    action_posts script (own_entries 0 past) c.value.action c.value.made task runner delay ok
+    (current_is_one (IsActionSound script) script.actions (own_entries 0 past) c.value sound.actions.each_sound c.is) c.passes
+
+-- so does a step
+step_posts : (script : Plan) (of : ℕ) (step : Step) (task runner delay : ℕ) (ok : Bool) → IsStepSound script of step
+    → enters of step (kinds.Post task runner delay ok) ≡ true → IsDeclared script task runner
+step_posts script of (steps.Post t r d) task runner delay ok sound h =
+    let outer = and_parts (eqb task t && eqb runner r) (eqb delay d) h in
+    let inner = and_parts (eqb task t) (eqb runner r) outer.0 in
+    declared script task runner t r inner.0 inner.1 sound.1
+step_posts script of step task runner delay ok sound h = absurd cc
+
+steps_are_sound : (script : Plan) (task : ℕ) → IsSound script → AllByRecursion (IsStepSound script task) (steps_of script task)
+steps_are_sound script task sound = by (slice_get script.tasks task) refl
+  where
+    by : (o : Option (List Step)) → slice_get script.tasks task ≡ o → AllByRecursion (IsStepSound script task) (option_map_or (λ xs. xs) o [])
+    by None is = tt
+    by (Some xs) is = (sound.declarations.tasks_sound task xs is).steps_sound
+
+task_posts : (script : Plan) (past : List Entry) (seat task runner delay : ℕ) (ok : Bool) → IsSound script
+    → by_task script past seat (kinds.Post task runner delay ok) ≡ true → IsDeclared script task runner
+unfolding by_task
+task_posts script past seat task runner delay ok sound h =
+    let w = found (λ (x : Running). holds_of (λ step. enters x.task step (kinds.Post task runner delay ok)) (next_act script past seat)) (running past seat) h in
+    let step = found (λ s. enters w.value.task s (kinds.Post task runner delay ok)) (next_act script past seat) w.passes in
+    let at : slice_get (filter is_act (steps_of script w.value.task)) (acts_done past seat) ≡ Some step.value = ap
+    (option_and_then (λ (x : Running). slice_get (filter is_act (steps_of script x.task)) (acts_done past seat))) (sym w.is) ∙ step.is in
+    let acts = AllByRecursion-filter (IsStepSound script w.value.task) is_act (steps_of script w.value.task) (steps_are_sound script w.value.task sound) in
+    step_posts script w.value.task step.value task runner delay ok
+    (subst (λ o. IfSome o (IsStepSound script w.value.task)) at
+    (slice_get_all (IsStepSound script w.value.task) (filter is_act (steps_of script w.value.task)) (acts_done past seat) acts)) step.passes
+
+posts_declared : (script : Plan) (past : List Entry) (seat : ℕ) (kind : Kind) → IsSound script → may_come script past seat kind ≡ true
+    → AllByRecursion (λ p. IsDeclared script p.task p.home) (posted_by past kind)
+unfolding may_come
+posts_declared script past seat (kinds.Post task runner delay true) sound may =
+    let kind = kinds.Post task runner delay true in
+    let wanted = and_parts (by_script script past seat kind || by_task script past seat kind) _ may in (
+      ⊎_elim (driver_posts script past seat task runner delay true sound) (task_posts script past seat task runner delay true sound)
+          (or_cases (by_script script past seat kind) (by_task script past seat kind) wanted.0),
+      tt,
+    )
+posts_declared script past seat (kinds.Post task runner delay false) sound may = tt
+posts_declared script past seat kind sound may = tt
+
+-- each accepted task of the pool is declared, and so is its runner
+abbrev AreDeclared : Plan → List Entry → Type 0
+AreDeclared script past = AllByRecursion (λ p. IsDeclared script p.task p.home) (posts past)
+
+no_posts : (script : Plan) → AreDeclared script []
+unfolding posts fold_past
+no_posts script = tt
+
+are_declared : (script : Plan) (log : List Entry) → IsSound script → IsLegal script log → AreDeclared script log
+are_declared script log sound = entry_induction script (AreDeclared script) (no_posts script) (λ past e known may all.
+    subst (AllByRecursion (λ p. IsDeclared script p.task p.home)) (sym (posts_push past e))
+    (AllByRecursion-append (λ p. IsDeclared script p.task p.home) (posts past) (posted_by past e.kind) all (posts_declared script past e.seat e.kind sound may))) log
+
+-- so its sequence is one of the script's
+sequence_within : (script : Plan) (task runner : ℕ) → IsDeclared script task runner → sequence_of script runner task < sequence_count script
+sequence_within script task runner d = by (holds_of (λ r. is_parallel r.kind) (slice_get script.runners runner))
+  where
+    by : (b : Bool) → cond b (length script.runners + task) runner < length script.runners + length script.tasks
+    by true = omega (arith, d.task_declared)
+    by false = omega (arith, d.runner_declared)
+
+left_to_workers : (script : Plan) (log : List Entry) (c : Candidate) → WouldWait script log c → IsLeftToWorkers script log c
+left_to_workers script log c would = record { would_wait = would; held_or_waits = by (is_held log c.priority) refl }
+  where
+    by : (b : Bool) → is_held log c.priority ≡ b → (is_held log c.priority ≡ true) ⊎ IsWaiting script log c
+    by true held = inl held
+    by false free = inr (not_held_is_waiting script log c would free)
+
+-- the sequence of a task that waits is left to the workers, where the script is sound
+pub waits_for_workers : (script : Plan) (log : List Entry) (p : Posted) → IsSound script → IsLegal script log → Contains (posts log) p
+    → (w : WaitsInSequence script log p) → IsLeftToWorkers script log (sequence_candidate script (sequence_at script p) w.head)
+waits_for_workers script log p sound legal among w =
+    let known = AllByRecursion-contains (λ q. IsDeclared script q.task q.home) (posts log) p (are_declared script log sound legal) among in
+    let within = sequence_within script p.task p.home known in
+    left_to_workers script log (sequence_candidate script (sequence_at script p) w.head)
+    (candidate_would_wait script log (Sequence (sequence_at script p)) (sequence_candidate script (sequence_at script p) w.head)
+    (sequence_in script log (sequence_at script p) within ∙ w.waits))
+
+-- Main tasks that were never taken.
+
+abbrev lane_of : Posted → Lane
+lane_of p = cond (is_delayed p) Delayed Immediate
+
+lies_in_lane : (p : Posted) → is_of_lane (lane_of p) p ≡ true
+lies_in_lane p = by (is_delayed p) refl
+  where
+    by : (b : Bool) → is_delayed p ≡ b → is_of_lane (cond b Delayed Immediate) p ≡ true
+    by true is = is
+    by false is = ap not is
+
+waits_in_lane : (script : Plan) (past : List Entry) (p : Posted) (order : ℕ) → Contains (main_posts past) p → order_of past p ≡ Some order
+    → is_main_taken past p.task ≡ false → WaitsInLane script past p
+unfolding front_of
+waits_in_lane script past p order among is free = by (front_of script past p.home (lane_of p)) refl
+  where
+    in_lane : is_in_lane past p.home (lane_of p) p ≡ true
+    in_lane = rw (eq-eqb p.home p.home refl, lies_in_lane p, free) refl
+
+    own : Front
+    own = record { queue = p.home; lane = lane_of p; task = p.task; order = order; class = class_of script past p.home }
+
+    fronts : List Front
+    fronts = filter_map (front_with script past p.home (lane_of p)) (filter (is_in_lane past p.home (lane_of p)) (main_posts past))
+
+    own_there : Contains fronts own
+    own_there = contains_filter_map (front_with script past p.home (lane_of p)) (filter (is_in_lane past p.home (lane_of p)) (main_posts past)) p own
+        (contains_filter (is_in_lane past p.home (lane_of p)) (main_posts past) p among in_lane)
+        (ap (option_map (λ n. record { queue = p.home; lane = lane_of p; task = p.task; order = n; class = class_of script past p.home })) is)
+
+    at_most : (n m : ℕ) → nat_lt n m ≡ false → m ≤ n
+    at_most n m h = grind arith
+
+    by : (o : Option Front) → front_of script past p.home (lane_of p) ≡ o → WaitsInLane script past p
+    by None none = absurd (contains_not_empty fronts own own_there (no_least order_below fronts none))
+    by (Some front) some = record {
+      order = order;
+      order_is = is;
+      lane = lane_of p;
+      in_lane = in_lane;
+      front = front;
+      front_is = some;
+      at_or_below = at_most order front.order (All-contains (λ f. order_below f front ≡ false) fronts own
+          (least_is_least order_below (ranks_by (λ f. f.order)) fronts front some).none_below own_there);
+    }
+
+-- an immediate main task has an order from its post on
+no_order : (past : List Entry) (p : Posted) → order_of past p ≡ None → HasNoOrder past p
+unfolding order_of
+no_order past p none = record {
+  delayed = ended (is_delayed p) (λ immediate. not_none_some (order_of past p) (next_draw (take p.place past)) none (rw immediate refl));
+  no_order = none;
+}
+
+main_tasks_left : (script : Plan) (past : List Entry) (p : Posted) → Contains (main_posts past) p → is_main_taken past p.task ≡ false
+    → LeftMainTask script past p
+main_tasks_left script past p among free = by (is_closed past p.home) (order_of past p) refl refl
+  where
+    by : (b : Bool) (o : Option ℕ) → is_closed past p.home ≡ b → order_of past p ≡ o → LeftMainTask script past p
+    by true o closed order_is = Closed closed
+    by false None opened none = NoOrder (no_order past p none)
+    by false (Some order) opened order_is = InLane (waits_in_lane script past p order among order_is free)
+
+-- All of it.
+
+pub loses_nothing : (script : Plan) (log : List Entry) → IsLegal script log → IsWhole script log → LosesNothing script log
+loses_nothing script log legal whole = record {
+  nobody_runs = nobody_runs script log legal whole;
+  nobody_holds = nobody_holds script log legal whole;
+  tasks_ended = tasks_ended script log legal whole;
+  main_tasks_ended = main_tasks_ended script log legal whole;
+  items_done = items_done script log legal whole;
+  tasks_left = tasks_left script log legal whole;
+  main_tasks_left = main_tasks_left script log;
+}
