@@ -1,9 +1,9 @@
 -- What a legal and whole log has done, and what it has left.
-use Rattle.std.proofs.Common.{◌≡◌, ℕ, ◌+◌, ◌<◌, ◌≤◌, Bool, true, false, cond, eqb, List, [], ◌∷◌, length, refl, sym, ap, subst, ◌∙◌, Option, Some, None, inl, inr, ⊎_elim, arith}
-use Rattle.std.specs.Prelude.{◌⊎◌, ◌&&◌, ◌||◌, not, nat_lt, filter, take, slice_get, Contains, is_none, option_and_then}
-use Rattle.std.specs.Option.{IfSome, option_map, option_map_or}
+use Rattle.std.proofs.Common.{◌≡◌, ℕ, ◌+◌, ◌<◌, ◌≤◌, Bool, true, false, cond, eqb, List, [], ◌∷◌, ◌++◌, length, refl, sym, ap, subst, ◌∙◌, Option, Some, None, inl, inr, ⊎_elim, arith}
+use Rattle.std.specs.Prelude.{◌⊎◌, ◌&&◌, ◌||◌, not, nat_lt, nat_le, filter, take, slice_get, Contains, is_none, option_and_then}
+use Rattle.std.specs.Option.{IfSome, option_map, option_map_or, option_or}
 use Rattle.std.specs.List.{AllByRecursion, filter_map}
-use Rattle.std.proofs.lemmas.Bool.{and_parts, or_cases, eq-eqb, eqb-true, both_ways}
+use Rattle.std.proofs.lemmas.Bool.{and_parts, or_cases, or_parts, eq-eqb, eqb-true, lt-ltb, ltb-true, both_ways}
 use Rattle.std.proofs.lemmas.Option.{none-some, same_Some}
 use Rattle.std.proofs.lemmas.List.Elements.{All-contains}
 use Rattle.task_base.specs.Plan.{Plan}
@@ -21,28 +21,31 @@ use Rattle.task_base.specs.declared.source.Key.{Key}
 use Rattle.task_base.specs.declared.source.TaskSource.TheVariants.{Sequence}
 use Rattle.task_base.specs.declared.step.Step.{Step}
 use Rattle.task_base.specs.declared.step.Step.TheVariants as steps
-use Rattle.list_laws.specs.Lists.{holds_of}
-use Rattle.list_laws.proofs.Elements.{AllByRecursion-append, AllByRecursion-contains, AllByRecursion-filter, slice_get_all}
+use Rattle.list_laws.specs.Lists.{count, holds_of}
+use Rattle.list_laws.proofs.Elements.{AllByRecursion-append, AllByRecursion-both, AllByRecursion-contains, AllByRecursion-filter, AllByRecursion-map, push_induction, slice_get_all}
 use Rattle.list_laws.proofs.Least.{least_is_least, no_least}
 use Rattle.list_laws.proofs.Made.{contains_filter, contains_filter_map, contains_not_empty}
 use Rattle.list_laws.proofs.Ranks.{ranks_by}
 use Rattle.script_model.specs.Laws.Sound.{IsRunnerPost, IsStepSound, IsActionSound, IsSound}
-use Rattle.task_model.specs.Time.{tick_from}
+use Rattle.task_model.specs.Time.{now_of, now_after, tick_from}
 use Rattle.task_model.specs.Past.{fold_past}
-use Rattle.task_model.specs.Posts.{Posted, is_delayed, posts, posted_by, main_posts, is_taken, is_ended, is_main_taken, is_main_ended}
+use Rattle.task_model.specs.Posts.{Posted, is_delayed, ripens_before, post_behind, posts, posted_by, main_posts, main_posted_by, is_taken, is_ended, is_main_taken, is_main_ended}
 use Rattle.task_model.specs.Policies.{is_held}
-use Rattle.task_model.specs.Refusal.{is_forbidden, is_closed}
+use Rattle.task_model.specs.Refusal.{is_forbidden, is_closed, closes}
 use Rattle.task_model.specs.Keys.{Ready, key_at, key_of, ready}
 use Rattle.task_model.specs.Sequences.{is_of, may_start, eligible, head_of}
 use Rattle.task_model.specs.Seats.{Running, running, holding, inside, all_seats, is_quiet, runs_of, runs_sequence, steps_of, acts_done, next_act}
 use Rattle.task_model.specs.Jobs.{claimed, done}
 use Rattle.task_model.specs.Sources.{Candidate, sequence_candidate, IsWaiting}
-use Rattle.task_model.specs.Orders.{next_draw, order_of}
+use Rattle.task_model.specs.Orders.{ripens, ripening, next_draw, drawn_at, order_of}
 use Rattle.task_model.specs.MainQueues.{Front, class_of, is_of_lane, is_in_lane, front_with, order_below, front_of}
-use Rattle.task_model.proofs.Growth.{posts_push}
+use Rattle.task_model.proofs.Growth.{now_of_push, posts_push, main_posts_push, is_closed_push}
 use Rattle.list_laws.proofs.Filters.{filter_never}
-use Rattle.pool_laws.specs.Keys.{ready_below}
+use Rattle.pool_laws.specs.Keys.{NoTickAhead, ready_below, tick_by}
 use Rattle.pool_laws.specs.Choice.{WouldWait}
+use Rattle.pool_laws.proofs.Keys.Ready.{tick_from_push}
+use Rattle.queue_laws.specs.Orders.{moves_orders}
+use Rattle.queue_laws.proofs.Orders.{main_places, order_at_tick, order_of_stays, tick_same}
 use Rattle.pool_laws.proofs.Seats.Running.{quiet_is_free, no_seat_runs}
 use Rattle.pool_laws.proofs.Choice.Least.{head_is_least, no_head, keys_total}
 use Rattle.pool_laws.proofs.Choice.Candidates.{sequence_in, candidate_would_wait, not_held_is_waiting}
@@ -54,13 +57,14 @@ use Rattle.hist_model.specs.Laws.Consistent.{RunsAs}
 use Rattle.hist_model.specs.Laws.Whole.{sequence_at, IsUnripe, WaitsInSequence, LeftTask, IsLeftToWorkers, HasNoOrder, WaitsInLane, LeftMainTask, LosesNothing}
 use Rattle.hist_model.specs.Laws.Whole.LeftTask.{Forbidden, Unripe, Waits}
 use Rattle.hist_model.specs.Laws.Whole.LeftMainTask.{Closed, NoOrder, InLane}
-use Rattle.hist_model.proofs.Laws.Legal.{entry_induction}
+use Rattle.hist_model.proofs.Laws.Legal.{entry_induction, legal_induction}
 use Rattle.hist_model.proofs.Laws.Choice.{found}
 use Rattle.hist_model.proofs.Laws.Claims.{claimed_is}
 use Rattle.hist_model.proofs.Laws.HoldsApart.{legal_holds_apart}
 use Rattle.hist_model.proofs.Laws.Consistent.{legal_is_consistent}
 use Rattle.hist_model.proofs.Laws.OneSeat.{runs_at_one_seat, runs_at_driver}
 use Rattle.hist_model.proofs.Laws.OneThing.{wanted_by}
+use Rattle.hist_model.proofs.Laws.Rising.{legal_rises}
 
 -- Nobody is at anything.
 
@@ -127,7 +131,8 @@ is_ready past p key among is = contains_filter_map (λ q. option_map (λ k. reco
 
 -- and among those that may be taken from its sequence, where it was not taken and is not forbidden
 in_sequence : (script : Plan) (past : List Entry) (p : Posted) (key : Key) → Contains (posts past) p → key_of past p ≡ Some key
-    → is_taken past p.task ≡ false → is_forbidden script past p ≡ false → Contains (eligible script past (sequence_at script p)) (record { posted = p; key = key })
+    → is_taken past p.task ≡ false → is_forbidden script past p ≡ false
+    → Contains (eligible script past (sequence_at script p)) (record { posted = p; key = key })
 unfolding eligible
 in_sequence script past p key among is free allowed = contains_filter (λ r. is_of script (sequence_at script p) r.posted && may_start script past r.posted)
     (ready past) (record { posted = p; key = key }) (is_ready past p key among is)
@@ -248,7 +253,8 @@ task_posts : (script : Plan) (past : List Entry) (seat task runner delay : ℕ) 
     → by_task script past seat (kinds.Post task runner delay ok) ≡ true → IsDeclared script task runner
 unfolding by_task
 task_posts script past seat task runner delay ok sound h =
-    let w = found (λ (x : Running). holds_of (λ step. enters x.task step (kinds.Post task runner delay ok)) (next_act script past seat)) (running past seat) h in
+    let w = found (λ (x : Running). holds_of (λ step. enters x.task step (kinds.Post task runner delay ok)) (next_act script past seat))
+    (running past seat) h in
     let step = found (λ s. enters w.value.task s (kinds.Post task runner delay ok)) (next_act script past seat) w.passes in
     let at : slice_get (filter is_act (steps_of script w.value.task)) (acts_done past seat) ≡ Some step.value = ap
     (option_and_then (λ (x : Running). slice_get (filter is_act (steps_of script x.task)) (acts_done past seat))) (sym w.is) ∙ step.is in
@@ -281,7 +287,8 @@ no_posts script = tt
 are_declared : (script : Plan) (log : List Entry) → IsSound script → IsLegal script log → AreDeclared script log
 are_declared script log sound = entry_induction script (AreDeclared script) (no_posts script) (λ past e known may all.
     subst (AllByRecursion (λ p. IsDeclared script p.task p.home)) (sym (posts_push past e))
-    (AllByRecursion-append (λ p. IsDeclared script p.task p.home) (posts past) (posted_by past e.kind) all (posts_declared script past e.seat e.kind sound may))) log
+    (AllByRecursion-append (λ p. IsDeclared script p.task p.home) (posts past) (posted_by past e.kind)
+    all (posts_declared script past e.seat e.kind sound may))) log
 
 -- so its sequence is one of the script's
 sequence_within : (script : Plan) (task runner : ℕ) → IsDeclared script task runner → sequence_of script runner task < sequence_count script
@@ -355,22 +362,125 @@ waits_in_lane script past p order among is free = by (front_of script past p.hom
           (least_is_least order_below (ranks_by (λ f. f.order)) fronts front some).none_below own_there);
     }
 
+-- Orders.
+
+both_none : {A : Type 0} (a b : Option A) → option_or a b ≡ None → (a ≡ None) × (b ≡ None)
+both_none None b h = (refl, h)
+both_none (Some x) b h = absurd (none-some x (sym h))
+
+-- where no tick has come to a moment, the history has not
+not_there_yet : (moment : ℕ) (past : List Entry) → 0 < moment → tick_from past moment ≡ None → now_of past < moment
+unfolding now_of
+not_there_yet moment past above = push_induction (λ xs. tick_from xs moment ≡ None → now_of xs < moment) (λ none. above) next past
+  where
+    by : (xs : List Entry) (kind : Kind) → tick_by xs moment kind ≡ None → now_of xs < moment → now_after (now_of xs) kind < moment
+    by xs (kinds.Tick now) none before = below (nat_le moment now) refl none
+      where
+        below : (b : Bool) → nat_le moment now ≡ b → cond b (Some (length xs)) None ≡ None → now < moment
+        below true is k = absurd (none-some (length xs) (sym k))
+        below false is k = grind arith
+    by xs kind none before = before
+
+    next : (xs : List Entry) (x : Entry) → (tick_from xs moment ≡ None → now_of xs < moment) → tick_from (xs ++ x ∷ []) moment ≡ None
+        → now_of (xs ++ x ∷ []) < moment
+    next xs x before none =
+        let both = both_none (tick_from xs moment) (tick_by xs moment x.kind) (sym (tick_from_push xs x moment) ∙ none) in
+        subst (λ n. n < moment) (sym (now_of_push xs x)) (by xs x.kind both.1 (before both.0))
+
+-- a main task of an open queue draws at the first tick at or past its ripe moment, which is above 0 where it is delayed
+record DrawsInTime (past : List Entry) (p : Posted) : Type 0 where
+  later : is_delayed p ≡ true → 0 < p.ripe
+  draws : is_closed past p.home ≡ false → order_of past p ≡ None → tick_from past p.ripe ≡ None
+
+abbrev AllDraw : List Entry → Type 0
+AllDraw past = AllByRecursion (DrawsInTime past) (main_posts past)
+
 -- an immediate main task has an order from its post on
-no_order : (past : List Entry) (p : Posted) → order_of past p ≡ None → HasNoOrder past p
+is_late : (past : List Entry) (p : Posted) → order_of past p ≡ None → is_delayed p ≡ true
 unfolding order_of
-no_order past p none = record {
-  delayed = ended (is_delayed p) (λ immediate. not_none_some (order_of past p) (next_draw (take p.place past)) none (rw immediate refl));
+is_late past p none = ended (is_delayed p) (λ immediate. not_none_some (order_of past p) (next_draw (take p.place past)) none (rw immediate refl))
+
+-- a task that ripens at the tick draws there
+draws_nothing : (past : List Entry) (moment : ℕ) (p : Posted) → is_delayed p ≡ true → is_closed past p.home ≡ false → now_of past < p.ripe
+    → drawn_at past moment p ≡ None → tick_by past p.ripe (kinds.Tick moment) ≡ None
+draws_nothing past moment p delayed opened ahead none = by (nat_le p.ripe moment) refl
+  where
+    drawing : nat_le p.ripe moment ≡ true → ripens past moment p ≡ true
+    drawing ripe = rw (delayed, opened, lt-ltb (now_of past) p.ripe ahead, ripe) refl
+
+    by : (b : Bool) → nat_le p.ripe moment ≡ b → cond b (Some (length past)) None ≡ None
+    by true ripe = absurd (not_none_some (drawn_at past moment p) (next_draw past + count (λ q. ripens_before q p) (ripening past moment)) none
+        (ap (λ (b : Bool). cond b (Some (next_draw past + count (λ q. ripens_before q p) (ripening past moment))) None) (drawing ripe)))
+    by false early = refl
+
+-- a task of the past draws in time after one more entry
+draws_next : (past : List Entry) (e : Entry) (p : Posted) → p.place < length past → DrawsInTime past p → DrawsInTime (past ++ e ∷ []) p
+draws_next past e p within d = record { later = d.later; draws = λ opened none. still e.kind refl (opened_before opened) none (no_order_before none) }
+  where
+    opened_before : is_closed (past ++ e ∷ []) p.home ≡ false → is_closed past p.home ≡ false
+    opened_before opened = (or_parts (is_closed past p.home) (closes p.home e.kind) (sym (is_closed_push past e p.home) ∙ opened)).0
+
+    no_order_before : order_of (past ++ e ∷ []) p ≡ None → order_of past p ≡ None
+    no_order_before none = none_of (order_of past p) (λ n is.
+        not_none_some (order_of (past ++ e ∷ []) p) n none (order_of_stays past (e ∷ []) p n within is))
+
+    still : (kind : Kind) → e.kind ≡ kind → is_closed past p.home ≡ false → order_of (past ++ e ∷ []) p ≡ None → order_of past p ≡ None
+        → tick_from (past ++ e ∷ []) p.ripe ≡ None
+    still (kinds.Tick moment) is opened none before =
+        let delayed = is_late past p before in
+        let no_tick = d.draws opened before in
+        let nothing : drawn_at past moment p ≡ None = sym (order_at_tick past e p moment is delayed no_tick) ∙ none in
+        tick_from_push past e p.ripe
+        ∙ ap (λ o. option_or o (tick_by past p.ripe e.kind)) no_tick
+        ∙ ap (tick_by past p.ripe) is
+        ∙ draws_nothing past moment p delayed opened (not_there_yet p.ripe past (d.later delayed) no_tick) nothing
+    still kind is opened none before = tick_same past e (ap moves_orders is) p.ripe ∙ d.draws opened before
+
+-- so does one that is posted now
+draws_new : (past : List Entry) (e : Entry) → NoTickAhead past → AllByRecursion (DrawsInTime (past ++ e ∷ [])) (main_posted_by past e.kind)
+draws_new past e ahead = by e.kind refl
+  where
+    by : (kind : Kind) → e.kind ≡ kind → AllByRecursion (DrawsInTime (past ++ e ∷ [])) (main_posted_by past kind)
+    by (kinds.Main task queue delay true) is = (
+      record {
+        later = λ delayed. let more : 0 < delay = ltb-true 0 delay delayed in omega (arith, more);
+        draws = λ opened none. let more : 0 < delay = ltb-true 0 delay (is_late (past ++ e ∷ []) (post_behind past task queue delay) none) in
+            tick_same past e (ap moves_orders is) (now_of past + delay) ∙ ahead (now_of past + delay) (omega (arith, more));
+      },
+      tt,
+    )
+    by (kinds.Main task queue delay false) is = tt
+    by kind is = tt
+
+none_posted : AllDraw []
+unfolding main_posts fold_past
+none_posted = tt
+
+all_draw : (script : Plan) (log : List Entry) → IsLegal script log → AllDraw log
+all_draw script = legal_induction script AllDraw none_posted (λ past e legal allowed all.
+    subst (AllByRecursion (DrawsInTime (past ++ e ∷ []))) (sym (main_posts_push past e))
+    (AllByRecursion-append (DrawsInTime (past ++ e ∷ [])) (main_posts past) (main_posted_by past e.kind)
+    (AllByRecursion-map (λ p. (p.place < length past) × DrawsInTime past p) (DrawsInTime (past ++ e ∷ [])) (main_posts past)
+    (λ p both. draws_next past e p both.0 both.1)
+    (AllByRecursion-both (λ p. p.place < length past) (DrawsInTime past) (main_posts past) (main_places past) all))
+    (draws_new past e (legal_rises script past legal).no_tick_ahead)))
+
+no_order : (script : Plan) (log : List Entry) (p : Posted) → IsLegal script log → Contains (main_posts log) p → is_closed log p.home ≡ false
+    → order_of log p ≡ None → HasNoOrder log p
+no_order script log p legal among opened none = record {
+  delayed = is_late log p none;
+  no_tick = (AllByRecursion-contains (DrawsInTime log) (main_posts log) p (all_draw script log legal) among).draws opened none;
   no_order = none;
 }
 
-main_tasks_left : (script : Plan) (past : List Entry) (p : Posted) → Contains (main_posts past) p → is_main_taken past p.task ≡ false
-    → LeftMainTask script past p
-main_tasks_left script past p among free = by (is_closed past p.home) (order_of past p) refl refl
+main_tasks_left : (script : Plan) (log : List Entry) → IsLegal script log → (p : Posted) → Contains (main_posts log) p → is_main_taken log p.task ≡ false
+    → LeftMainTask script log p
+main_tasks_left script log legal p among free = by (is_closed log p.home) (order_of log p) refl refl
   where
-    by : (b : Bool) (o : Option ℕ) → is_closed past p.home ≡ b → order_of past p ≡ o → LeftMainTask script past p
+    by : (b : Bool) (o : Option ℕ) → is_closed log p.home ≡ b → order_of log p ≡ o → LeftMainTask script log p
     by true o closed order_is = Closed closed
-    by false None opened none = NoOrder (no_order past p none)
-    by false (Some order) opened order_is = InLane (waits_in_lane script past p order among order_is free)
+    by false None opened none = NoOrder (no_order script log p legal among opened none)
+    by false (Some order) opened order_is = InLane (waits_in_lane script log p order among order_is free)
 
 -- All of it.
 
@@ -382,5 +492,5 @@ loses_nothing script log legal whole = record {
   main_tasks_ended = main_tasks_ended script log legal whole;
   items_done = items_done script log legal whole;
   tasks_left = tasks_left script log legal whole;
-  main_tasks_left = main_tasks_left script log;
+  main_tasks_left = main_tasks_left script log legal;
 }

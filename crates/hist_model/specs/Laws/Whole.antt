@@ -57,9 +57,10 @@ pub record IsLeftToWorkers (script : Plan) (past : List Entry) (c : Candidate) :
   pub would_wait : WouldWait script past c
   pub held_or_waits : (is_held past c.priority ≡ true) ⊎ IsWaiting script past c
 
--- the main task is delayed, and drew no order yet
+-- the main task is delayed, and no tick has come to its ripe moment, so it has no order
 pub record HasNoOrder (past : List Entry) (p : Posted) : Type 0 where
   pub delayed : IsDelayed p
+  pub no_tick : tick_from past p.ripe ≡ None
   pub no_order : order_of past p ≡ None
 
 -- the main task lies in a lane of its queue
@@ -78,7 +79,7 @@ pub record WaitsInLane (script : Plan) (past : List Entry) (p : Posted) : Type 0
 pub data LeftMainTask (script : Plan) (past : List Entry) (p : Posted) : Type 0 where
   -- its queue is closed
   Closed : is_closed past p.home ≡ true → LeftMainTask script past p
-  -- it has no order yet
+  -- it is not ripe yet, so it has no order
   NoOrder : HasNoOrder past p → LeftMainTask script past p
   -- it lies in a lane of its queue, and the script was finished before a pump took it
   InLane : WaitsInLane script past p → LeftMainTask script past p
@@ -97,5 +98,5 @@ pub record LosesNothing (script : Plan) (log : List Entry) : Type 0 where
   pub items_done : (job : ℕ) → claimed log job ≡ done log job
   -- each accepted task of the pool that was never taken is forbidden, not ripe, or waits in its sequence
   pub tasks_left : (p : Posted) → Contains (posts log) p → is_taken log p.task ≡ false → LeftTask script log p
-  -- each accepted main task that was never taken is of a closed queue, has no order, or lies in a lane
+  -- each accepted main task that was never taken is of a closed queue, not ripe, or lies in a lane
   pub main_tasks_left : (p : Posted) → Contains (main_posts log) p → is_main_taken log p.task ≡ false → LeftMainTask script log p
