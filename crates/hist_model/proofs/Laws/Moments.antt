@@ -55,10 +55,7 @@ between before (r ∷ rest) (suc k) m less is =
 
 pub at_most_last : (readings : List ℕ) (k m : ℕ) → slice_get (moments_of readings) k ≡ Some m → m ≤ LAST_MOMENT
 unfolding moments_of
-at_most_last readings k m is = (between 0 readings k m (zero_least LAST_MOMENT) is).1
-  where
-    zero_least : (n : ℕ) → 0 ≤ n
-    zero_least n = omega arith
+at_most_last readings k m is = (between 0 readings k m (omega arith) is).1
 
 -- a moment is at most each that follows
 rises_from : (before : ℕ) (readings : List ℕ) (i k m n : ℕ) → i ≤ k → slice_get (moments_from before readings) i ≡ Some m

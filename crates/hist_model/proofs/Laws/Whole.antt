@@ -3,7 +3,7 @@ use Rattle.std.proofs.Common.{◌≡◌, ℕ, ◌+◌, ◌<◌, ◌≤◌, Bool,
 use Rattle.std.specs.Prelude.{◌⊎◌, ◌&&◌, ◌||◌, not, nat_lt, nat_le, filter, take, slice_get, Contains, is_none, option_and_then}
 use Rattle.std.specs.Option.{IfSome, option_map, option_map_or, option_or}
 use Rattle.std.specs.List.{AllByRecursion, filter_map}
-use Rattle.std.proofs.lemmas.Bool.{and_parts, or_cases, or_parts, eq-eqb, eqb-true, lt-ltb, ltb-true, both_ways}
+use Rattle.std.proofs.lemmas.Bool.{and_parts, or_cases, or_parts, eq-eqb, eqb-true, lt-ltb, ltb-true, true_from_ne_false, both_ways}
 use Rattle.std.proofs.lemmas.Option.{none-some, same_Some}
 use Rattle.std.proofs.lemmas.List.Elements.{All-contains}
 use Rattle.task_base.specs.Plan.{Plan}
@@ -68,6 +68,7 @@ use Rattle.hist_model.proofs.Laws.Rising.{legal_rises}
 
 -- Nobody is at anything.
 
+-- what is no value is none
 none_of : {A : Type 0} (o : Option A) → ((x : A) → o ≡ Some x → ⊥) → o ≡ None
 none_of None h = refl
 none_of (Some x) h = absurd (h x refl)
@@ -98,18 +99,14 @@ nobody_holds script log legal whole seat = none_of (holding log seat) (λ h hold
 not_none_some : {A : Type 0} (o : Option A) (x : A) → o ≡ None → o ≡ Some x → ⊥
 not_none_some o x none some = none-some x (sym none ∙ some)
 
-ended : (b : Bool) → (b ≡ false → ⊥) → b ≡ true
-ended true h = refl
-ended false h = absurd (h refl)
-
 tasks_ended : (script : Plan) (log : List Entry) → IsLegal script log → IsWhole script log → (t : ℕ) → is_taken log t ≡ true → is_ended log t ≡ true
-tasks_ended script log legal whole t taken = ended (is_ended log t) (λ open_still.
+tasks_ended script log legal whole t taken = true_from_ne_false (is_ended log t) (λ open_still.
     let r = runs_at_one_seat script log t legal taken open_still in
     not_none_some (running log r.seat) r.now (nobody_runs script log legal whole r.seat) r.running_is)
 
 main_tasks_ended : (script : Plan) (log : List Entry) → IsLegal script log → IsWhole script log → (t : ℕ) → is_main_taken log t ≡ true
     → is_main_ended log t ≡ true
-main_tasks_ended script log legal whole t taken = ended (is_main_ended log t) (λ open_still.
+main_tasks_ended script log legal whole t taken = true_from_ne_false (is_main_ended log t) (λ open_still.
     let r = runs_at_driver script log t legal taken open_still in
     not_none_some (running log 0) r.now (nobody_runs script log legal whole 0) r.running_is)
 
@@ -398,7 +395,7 @@ AllDraw past = AllByRecursion (DrawsInTime past) (main_posts past)
 -- an immediate main task has an order from its post on
 is_late : (past : List Entry) (p : Posted) → order_of past p ≡ None → is_delayed p ≡ true
 unfolding order_of
-is_late past p none = ended (is_delayed p) (λ immediate. not_none_some (order_of past p) (next_draw (take p.place past)) none (rw immediate refl))
+is_late past p none = true_from_ne_false (is_delayed p) (λ immediate. not_none_some (order_of past p) (next_draw (take p.place past)) none (rw immediate refl))
 
 -- a task that ripens at the tick draws there
 draws_nothing : (past : List Entry) (moment : ℕ) (p : Posted) → is_delayed p ≡ true → is_closed past p.home ≡ false → now_of past < p.ripe
