@@ -1,9 +1,12 @@
 -- What a legal and whole log has done, and what it has left (`thread_pool.h` for sequences, `sequence_manager.h` for lanes).
-use Rattle.std.specs.Prelude.{◌≡◌, ℕ, ◌≤◌, ◌⊎◌, true, false, List, Some, None, Contains}
+use Rattle.std.specs.Prelude.{◌≡◌, ℕ, ◌<◌, ◌≤◌, ◌==◌, ◌&&◌, ◌⊎◌, Bool, true, false, List, Some, None, Contains}
+use Rattle.std.specs.List.{list_any}
 use Rattle.task_base.specs.Plan.{Plan}
 use Rattle.task_base.specs.Keys.{key_below}
 use Rattle.task_base.specs.Runners.{sequence_of}
 use Rattle.task_base.specs.declared.entry.Entry.{Entry}
+use Rattle.task_base.specs.declared.entry.Kind.{Kind}
+use Rattle.task_base.specs.declared.entry.Kind.TheVariants as kinds
 use Rattle.task_base.specs.declared.script.Lane.{Lane}
 use Rattle.task_base.specs.declared.source.Key.{Key}
 use Rattle.task_model.specs.Time.{tick_from}
@@ -18,6 +21,15 @@ use Rattle.task_model.specs.Sources.{Candidate, sequence_candidate, sequence_wai
 use Rattle.task_model.specs.Orders.{order_of}
 use Rattle.task_model.specs.MainQueues.{Front, is_in_lane, front_of}
 use Rattle.pool_laws.specs.Choice.{WouldWait}
+
+-- the entry is the step of this item of the job
+abbrev pub steps_item : ℕ → ℕ → Kind → Bool
+steps_item j i (kinds.JobStep job id item value next) = job == j && item == i
+steps_item j i kind = false
+
+-- the item of the job has its step
+abbrev pub has_step : List Entry → ℕ → ℕ → Bool
+has_step past j item = list_any (λ e. steps_item j item e.kind) past
 
 -- the sequence of an accepted task
 abbrev pub sequence_at : Plan → Posted → ℕ
@@ -95,6 +107,8 @@ pub record LosesNothing (script : Plan) (log : List Entry) : Type 0 where
   -- each main task that was taken has its end
   pub main_tasks_ended : (t : ℕ) → is_main_taken log t ≡ true → is_main_ended log t ≡ true
   -- each item of a job that was claimed has its step
+  pub items_stepped : (job item : ℕ) → item < claimed log job → has_step log job item ≡ true
+  -- as many items of a job are done as were claimed
   pub items_done : (job : ℕ) → claimed log job ≡ done log job
   -- each accepted task of the pool that was never taken is forbidden, not ripe, or waits in its sequence
   pub tasks_left : (p : Posted) → Contains (posts log) p → is_taken log p.task ≡ false → LeftTask script log p
