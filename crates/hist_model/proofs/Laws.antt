@@ -23,3 +23,5 @@ pub mod HoldsApart
 pub mod Since
 pub mod Starts
 pub mod Singly
+pub mod Moments
+pub mod Whole

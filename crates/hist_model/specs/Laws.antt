@@ -9,3 +9,4 @@ pub mod Rising
 pub mod Places
 pub mod Starts
 pub mod Singly
+pub mod Whole

@@ -11,10 +11,12 @@ mod jobs;
 mod moments;
 mod phases;
 mod postings;
+mod readings;
 mod seats;
 mod shutdown;
 mod singly;
 mod starts;
+mod whole;
 
 pub use current::the_current_action_moves_on;
 pub use histories::{legal_histories_grow, the_first_illegal_place_is_told};
@@ -22,6 +24,7 @@ pub use jobs::{claimed_items_are_done_or_held, holders_of_a_job_are_apart, job_e
 pub use moments::moments_and_orders_rise;
 pub use phases::phases_never_go_back;
 pub use postings::each_task_is_posted_once;
+pub use readings::moments_never_fall;
 pub use seats::{
     legal_histories_are_consistent, own_entries_tell_the_seat, running_tasks_have_one_seat,
     seats_do_one_thing, takes_are_of_heads,
@@ -29,3 +32,4 @@ pub use seats::{
 pub use shutdown::shutdown_waits_and_forbids;
 pub use singly::sequences_run_singly;
 pub use starts::tasks_start_at_most_once;
+pub use whole::whole_logs_lose_nothing;

@@ -1,3 +1,4 @@
 -- Histories that break a law of every legal log, each illegal where it breaks it.
 pub mod Starts
 pub mod Singly
+pub mod Whole
