@@ -20,3 +20,8 @@ pub mod OneSeat
 pub mod Phases
 pub mod Claims
 pub mod HoldsApart
+pub mod EntriesSums
+pub mod EntriesDriver
+pub mod EntriesTasks
+pub mod EntriesJobs
+pub mod Entries
