@@ -25,3 +25,8 @@ pub mod Starts
 pub mod Singly
 pub mod Moments
 pub mod Whole
+pub mod EntriesSums
+pub mod EntriesDriver
+pub mod EntriesTasks
+pub mod EntriesJobs
+pub mod Entries

@@ -6,6 +6,7 @@
 #![tactic(auto)]
 
 mod current;
+mod entries;
 mod histories;
 mod jobs;
 mod moments;
@@ -19,6 +20,7 @@ mod starts;
 mod whole;
 
 pub use current::the_current_action_moves_on;
+pub use entries::entries_are_bounded;
 pub use histories::{legal_histories_grow, the_first_illegal_place_is_told};
 pub use jobs::{claimed_items_are_done_or_held, holders_of_a_job_are_apart, job_entries_are_exact};
 pub use moments::moments_and_orders_rise;

@@ -1,4 +1,5 @@
 -- Histories that break a law of every legal log, each illegal where it breaks it.
 pub mod Starts
 pub mod Singly
+pub mod Entries
 pub mod Whole
