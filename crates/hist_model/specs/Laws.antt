@@ -10,3 +10,4 @@ pub mod Places
 pub mod Starts
 pub mod Singly
 pub mod Whole
+pub mod LegalPast
