@@ -15,6 +15,7 @@ pub mod Differing
 pub mod OneThing
 pub mod JobEntries
 pub mod Rising
+pub mod LegalPast
 pub mod AtPlaces
 pub mod OneSeat
 pub mod Phases
@@ -23,3 +24,13 @@ pub mod HoldsApart
 pub mod Refusals
 pub mod Fences
 pub mod ShutdownPlaces
+pub mod Since
+pub mod Starts
+pub mod Singly
+pub mod Moments
+pub mod Whole
+pub mod EntriesSums
+pub mod EntriesDriver
+pub mod EntriesTasks
+pub mod EntriesJobs
+pub mod Entries

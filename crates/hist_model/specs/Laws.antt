@@ -10,3 +10,7 @@ pub mod Places
 pub mod Refusals
 pub mod Fences
 pub mod ShutdownPlaces
+pub mod Starts
+pub mod Singly
+pub mod Whole
+pub mod LegalPast
