@@ -16,11 +16,8 @@ use Rattle.pool_laws.proofs.Seats.Running.{inside_same, inside_at_take, inside_a
 use Rattle.hist_model.specs.Allowed.{may_come}
 use Rattle.hist_model.specs.Legal.{IsLegal}
 use Rattle.hist_model.proofs.Laws.Legal.{entry_induction}
+use Rattle.hist_model.proofs.Laws.JobEntries.{none_is}
 use Rattle.hist_model.proofs.Laws.OneThing.{job_take_free, job_step_holds}
-
-none_is : {A : Type 0} (o : Option A) → is_none o ≡ true → o ≡ None
-none_is None h = refl
-none_is (Some x) h = absurd cc
 
 -- each claimed item is done or held, and no other
 abbrev AllClaimed : Plan → List Entry → Type 0

@@ -21,8 +21,8 @@ use Rattle.task_model.proofs.Growth.{fence_of_push, votes_on_push}
 use Rattle.queue_laws.proofs.Orders.{drawn, order_is}
 use Rattle.hist_model.specs.Legal.{IsLegal}
 use Rattle.hist_model.specs.Laws.Choice.{IsMainTake}
-use Rattle.hist_model.specs.Laws.Places.{IsAt}
-use Rattle.hist_model.specs.Laws.Fences.{moves_fence, votes, NoneBetween, HasOrderBelow, KeepsFences}
+use Rattle.hist_model.specs.Laws.Places.{IsAt, NoneBetween}
+use Rattle.hist_model.specs.Laws.Fences.{moves_fence, votes, HasOrderBelow, KeepsFences}
 use Rattle.hist_model.proofs.Laws.AtPlaces.{take_at, may_come_at}
 use Rattle.hist_model.proofs.Laws.Refusals.{closed_from}
 use Rattle.hist_model.proofs.Laws.Takes.{main_take_is}

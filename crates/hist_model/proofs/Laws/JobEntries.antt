@@ -26,7 +26,7 @@ use Rattle.hist_model.proofs.Laws.OneThing.{wanted_by, job_take_free}
 use Rattle.hist_model.proofs.Laws.Own.{holding_own}
 
 -- an optional value that is none, as a test
-none_is : {A : Type 0} (o : Option A) → is_none o ≡ true → o ≡ None
+pub none_is : {A : Type 0} (o : Option A) → is_none o ≡ true → o ≡ None
 none_is None h = refl
 none_is (Some x) h = absurd cc
 

@@ -21,9 +21,9 @@ use Rattle.task_model.specs.Blockers.{blockers_of}
 use Rattle.task_model.proofs.Growth.{phase_of_push}
 use Rattle.hist_model.specs.Allowed.{by_script, may_come}
 use Rattle.hist_model.specs.Legal.{IsLegal}
-use Rattle.hist_model.specs.Laws.Places.{IsAt}
+use Rattle.hist_model.specs.Laws.Places.{IsAt, StandsBefore}
 use Rattle.hist_model.specs.Laws.Shutdown.{KeepsShutdown}
-use Rattle.hist_model.specs.Laws.Refusals.{StandsBefore, refused_from, RefusalsAreExact}
+use Rattle.hist_model.specs.Laws.Refusals.{refused_from, RefusalsAreExact}
 use Rattle.hist_model.proofs.Laws.Legal.{entry_induction}
 use Rattle.hist_model.proofs.Laws.Shutdown.{waits_and_forbids}
 use Rattle.hist_model.proofs.Laws.AtPlaces.{passes_at, passed_by, in_past, of_past, past_is_legal, parted_at}

@@ -29,41 +29,15 @@ use Rattle.task_model.specs.Blockers.{is_block, is_skip, is_open_block, is_runni
 use Rattle.task_model.proofs.Growth.{posts_push, job_post_of_push}
 use Rattle.hist_model.specs.Allowed.{by_script, is_reply, may_come, is_allowed, IsAllowed}
 use Rattle.hist_model.specs.Legal.{IsLegal}
-use Rattle.hist_model.specs.Laws.Places.{IsAt}
+use Rattle.hist_model.specs.Laws.Places.{IsAt, StandsBefore}
 use Rattle.hist_model.specs.Laws.Shutdown.{MayStart, HasWaited}
-use Rattle.hist_model.specs.Laws.Refusals.{StandsBefore}
 use Rattle.hist_model.specs.Laws.ShutdownPlaces.{EndsBefore, IsBlockTask, WaitsAndForbids}
 use Rattle.hist_model.proofs.Laws.Legal.{legal_induction, entry_induction}
 use Rattle.hist_model.proofs.Laws.HoldsApart.{legal_holds_apart}
 use Rattle.hist_model.proofs.Laws.Phases.{job_forbidden_on}
 use Rattle.hist_model.proofs.Laws.AtPlaces.{passes_at, passed_by, in_past, of_past, past_is_legal}
+use Rattle.hist_model.proofs.Laws.Starts.{StandsIn, all_stand}
 use Rattle.hist_model.proofs.Laws.Refusals.{forbidden_from, keeps_at}
-
--- the post of an accepted task stands in the past
-pub record IsPostedIn (past : List Entry) (p : Posted) : Type 0 where
-  pub at : ℕ
-  pub seat : ℕ
-  pub is : IsAt past at seat (kinds.Post p.task p.home p.delay true)
-
-nothing_posted : posts [] ≡ []
-unfolding posts fold_past
-nothing_posted = refl
-
-posts_stand : (past : List Entry) → AllByRecursion (IsPostedIn past) (posts past)
-posts_stand = push_induction (λ past. AllByRecursion (IsPostedIn past) (posts past)) start
-    (λ past e all. subst (AllByRecursion (IsPostedIn (past ++ e ∷ []))) (sym (posts_push past e))
-    (AllByRecursion-append (IsPostedIn (past ++ e ∷ [])) (posts past) (posted_by past e.kind)
-    (AllByRecursion-map (IsPostedIn past) (IsPostedIn (past ++ e ∷ [])) (posts past) (more past e) all) (new past e.seat e.kind)))
-  where
-    start : AllByRecursion (IsPostedIn []) (posts [])
-    start = subst (AllByRecursion (IsPostedIn [])) (sym nothing_posted) tt
-
-    more : (past : List Entry) (e : Entry) (p : Posted) → IsPostedIn past p → IsPostedIn (past ++ e ∷ []) p
-    more past e p was = record { at = was.at; seat = was.seat; is = slice_get-more past (e ∷ []) was.at _ was.is }
-
-    new : (past : List Entry) (seat : ℕ) (kind : Kind) → AllByRecursion (IsPostedIn (past ++ record { seat = seat; kind = kind } ∷ [])) (posted_by past kind)
-    new past seat (kinds.Post task runner delay true) = (record { at = length past; seat = seat; is = slice_get-end past _ }, tt)
-    new past seat kind = tt
 
 -- a post that was accepted gives an accepted task
 pub record Accepted (past : List Entry) (task runner delay : ℕ) : Type 0 where
@@ -320,12 +294,12 @@ shutdown_waits_and_forbids script log legal = record {
     starts : (k task runner : ℕ) → MayStart script (take k log) task runner → IsLegal script (take k log) → StandsBefore log k kinds.Shutdown
         → IsBlockTask script log k task runner
     starts k task runner may past_legal s =
-        let p = AllByRecursion-contains (IsPostedIn (take k log)) (posts (take k log)) may.accepted (posts_stand (take k log)) may.posted in
-        let o = of_past log p.at k _ p.is in (
+        let p = AllByRecursion-contains (StandsIn false (take k log)) (posts (take k log)) may.accepted (all_stand false (take k log)) may.posted in
+        let o = of_past log may.accepted.place k _ p.is in (
           may.accepted.delay,
           record {
-            at = p.at;
-            seat = p.seat;
+            at = may.accepted.place;
+            seat = p.poster;
             earlier = o.0;
             is = rw (← may.task_is, ← may.runner_is) o.1;
           },

@@ -26,14 +26,14 @@ use Rattle.hist_model.proofs.Laws.Since.{taking, RunningSince, running_since}
 -- ---- accepted posts stand at their places
 
 -- the accepted post of a task of the pool, or of a main task
-abbrev posting : Bool → ℕ → ℕ → ℕ → Kind
+abbrev pub posting : Bool → ℕ → ℕ → ℕ → Kind
 posting false task home delay = kinds.Post task home delay true
 posting true task home delay = kinds.Main task home delay true
 
 -- the accepted post stands in the past
-record StandsIn (main : Bool) (past : List Entry) (p : Posted) : Type 0 where
-  poster : ℕ
-  is : IsAt past p.place poster (posting main p.task p.home p.delay)
+pub record StandsIn (main : Bool) (past : List Entry) (p : Posted) : Type 0 where
+  pub poster : ℕ
+  pub is : IsAt past p.place poster (posting main p.task p.home p.delay)
 
 -- what an entry adds stands behind the past
 new_stands : (main : Bool) (past : List Entry) (seat : ℕ) (kind : Kind)
@@ -51,7 +51,7 @@ none_stands false = tt
 none_stands true = tt
 
 -- each accepted post stands in the past, at its place
-all_stand : (main : Bool) (past : List Entry) → AllByRecursion (StandsIn main past) (posts_as main past)
+pub all_stand : (main : Bool) (past : List Entry) → AllByRecursion (StandsIn main past) (posts_as main past)
 all_stand main = push_induction (λ past. AllByRecursion (StandsIn main past) (posts_as main past)) (none_stands main) (λ past e before.
     subst (AllByRecursion (StandsIn main (past ++ e ∷ []))) (sym (posts_as_push main past e))
     (AllByRecursion-append (StandsIn main (past ++ e ∷ [])) (posts_as main past) (posted_as main past e.kind)

@@ -8,8 +8,7 @@ use Rattle.task_base.specs.declared.script.FenceAt.TheVariants.{Now, Start}
 use Rattle.task_model.specs.Posts.{Posted, main_posts}
 use Rattle.task_model.specs.Orders.{next_draw, order_of}
 use Rattle.task_model.specs.MainQueues.{fence_of, votes_on, voters_of}
-use Rattle.hist_model.specs.Laws.Places.{IsAt}
-use Rattle.hist_model.specs.Laws.Refusals.{StandsBefore}
+use Rattle.hist_model.specs.Laws.Places.{IsAt, StandsBefore, NoneBetween}
 
 -- the entry sets the fence of the queue or removes it
 abbrev pub moves_fence : ℕ → Kind → Bool
@@ -21,10 +20,6 @@ moves_fence q kind = false
 abbrev pub votes : ℕ → ℕ → Kind → Bool
 votes q v (kinds.Vote queue voter on) = queue == q && voter == v
 votes q v kind = false
-
--- no entry between the two places passes the test
-abbrev pub NoneBetween : List Entry → ℕ → ℕ → (Kind → Bool) → Type 0
-NoneBetween log i k test = (j seat : ℕ) (kind : Kind) → i < j → j < k → IsAt log j seat kind → test kind ≡ false
 
 -- the task was accepted on this queue, and its order is below this one
 pub record HasOrderBelow (past : List Entry) (task queue limit : ℕ) : Type 0 where

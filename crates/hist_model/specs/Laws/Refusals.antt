@@ -7,14 +7,7 @@ use Rattle.task_base.specs.declared.entry.Kind.TheVariants as kinds
 use Rattle.task_traits.specs.declared.traits.Behaviour.{Behaviour}
 use Rattle.task_traits.specs.declared.traits.Behaviour.TheVariants.{ContinueOnShutdown, SkipOnShutdown, BlockShutdown}
 use Rattle.task_model.specs.Refusal.{effective_at, behaviour_of_job}
-use Rattle.hist_model.specs.Laws.Places.{IsAt}
-
--- some seat enters this before the place
-pub record StandsBefore (log : List Entry) (place : ℕ) (kind : Kind) : Type 0 where
-  pub at : ℕ
-  pub seat : ℕ
-  pub earlier : at < place
-  pub is : IsAt log at seat kind
+use Rattle.hist_model.specs.Laws.Places.{IsAt, StandsBefore}
 
 -- the entry from which on work of this behaviour is refused: continue and skip from the start of shutdown on, block only once
 -- shutdown is done (`task_traits.h`)

@@ -7,8 +7,7 @@ use Rattle.task_traits.specs.declared.traits.Behaviour.TheVariants.{SkipOnShutdo
 use Rattle.task_model.specs.Refusal.{effective_at, behaviour_of_job}
 use Rattle.task_model.specs.Seats.{Holding, holding}
 use Rattle.task_model.specs.Jobs.{is_over}
-use Rattle.hist_model.specs.Laws.Places.{IsAt}
-use Rattle.hist_model.specs.Laws.Refusals.{StandsBefore}
+use Rattle.hist_model.specs.Laws.Places.{IsAt, StandsBefore}
 
 -- the end of the task stands before the place
 abbrev pub EndsBefore : List Entry → ℕ → ℕ → Type 0
