@@ -20,3 +20,4 @@ pub mod OneSeat
 pub mod Phases
 pub mod Claims
 pub mod HoldsApart
+pub mod State

@@ -12,3 +12,4 @@ pub mod RoomCorners
 pub mod ShutdownCorners
 pub mod ValueCorners
 pub mod QueueCorners
+pub mod Broken

@@ -7,3 +7,4 @@ pub mod Agenda
 pub mod Postings
 pub mod Rising
 pub mod Places
+pub mod State

@@ -13,6 +13,7 @@ mod phases;
 mod postings;
 mod seats;
 mod shutdown;
+mod state;
 
 pub use current::the_current_action_moves_on;
 pub use histories::{legal_histories_grow, the_first_illegal_place_is_told};
@@ -25,3 +26,4 @@ pub use seats::{
     seats_do_one_thing, takes_are_of_heads,
 };
 pub use shutdown::shutdown_waits_and_forbids;
+pub use state::state_moves_along;
