@@ -21,3 +21,4 @@ pub mod Phases
 pub mod Claims
 pub mod HoldsApart
 pub mod State
+pub mod Order

@@ -8,3 +8,4 @@ pub mod Postings
 pub mod Rising
 pub mod Places
 pub mod State
+pub mod Order

@@ -111,7 +111,7 @@ one_place : (i k : ℕ) → (i < k → ⊥) → (k < i → ⊥) → i ≡ k
 one_place i k a b = grind arith
 
 -- two entries at one place
-same_at : (log : List Entry) (i k a b : ℕ) (m n : Kind) → i ≡ k → IsAt log i a m → IsAt log k b n → m ≡ n
+pub same_at : (log : List Entry) (i k a b : ℕ) (m n : Kind) → i ≡ k → IsAt log i a m → IsAt log k b n → m ≡ n
 same_at log i k a b m n same first second = ap (λ e. e.kind) (same_Some _ _ (sym first ∙ ap (slice_get log) same ∙ second))
 
 one_runner : (script : Plan) (log : List Entry) (i k a b task p q v w : ℕ) → IsLegal script log → IsAt log i a (kinds.Take task p v)

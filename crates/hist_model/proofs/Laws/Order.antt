@@ -1,0 +1,454 @@
+-- The tasks of a sequence are taken in the order of their keys.
+use Rattle.std.proofs.Common.{◌≡◌, ℕ, zero, suc, ◌+◌, ◌<◌, ◌≤◌, Bool, true, false, eqb, leb, cond, List, [], ◌∷◌, ◌++◌, length, take, drop, refl, sym, ap, subst, ◌∙◌, append_assoc, Option, Some, None, inl, inr, arith}
+use Rattle.std.specs.Prelude.{◌⊎◌, not, ◌&&◌, ◌||◌, nat_lt, slice_get, Contains}
+use Rattle.std.specs.Option.{option_map, option_or}
+use Rattle.std.specs.List.{AllByRecursion, position_from}
+use Rattle.std.proofs.lemmas.Bool.{eqb-true, and_parts, not-true, true≢false, eq-eqb, both_ways, ltb-true, false_from_ne_true}
+use Rattle.std.proofs.lemmas.Option.{none-some, same_Some, slice_get_within}
+use Rattle.std.proofs.lemmas.List.{append-nil, length-append, take-append-drop, take-append-le}
+use Rattle.std.proofs.lemmas.List.Elements.{Contains-append_cases, All-contains}
+use Rattle.std.proofs.Math.Seq.{take-append_seam}
+use Rattle.task_base.specs.Plan.{Plan}
+use Rattle.task_base.specs.Keys.{key_below}
+use Rattle.task_base.specs.Runners.{sequence_of}
+use Rattle.task_base.specs.declared.entry.Entry.{Entry}
+use Rattle.task_base.specs.declared.entry.Kind.{Kind}
+use Rattle.task_base.specs.declared.entry.Kind.TheVariants as kinds
+use Rattle.task_base.specs.declared.source.Key.{Key}
+use Rattle.task_base.specs.declared.source.TaskSource.{TaskSource}
+use Rattle.task_base.specs.declared.source.TaskSource.TheVariants.{Sequence, Job}
+use Rattle.list_laws.specs.Lists.{holds_of}
+use Rattle.list_laws.proofs.Elements.{slice_get-end, AllByRecursion-map, AllByRecursion-append, AllByRecursion-contains, push_induction}
+use Rattle.list_laws.proofs.Made.{contains_filter, contains_filter_map}
+use Rattle.list_laws.proofs.Options.{position-append}
+use Rattle.list_laws.proofs.Places.{slice_get-more}
+use Rattle.list_laws.proofs.Ranks.{by_less}
+use Rattle.task_model.specs.Past.{fold_past}
+use Rattle.task_model.specs.Time.{is_tick_from, tick_from}
+use Rattle.task_model.specs.Posts.{Posted, is_delayed, post_behind, posted_by, posts, main_posted_by, main_posts, is_taken, takes}
+use Rattle.task_model.specs.Keys.{Ready, key_at, key_of, ready}
+use Rattle.task_model.specs.Refusal.{is_forbidden}
+use Rattle.task_model.specs.Sequences.{is_of, may_start, eligible, head_of}
+use Rattle.task_model.specs.Sources.{Candidate, best_of}
+use Rattle.task_model.proofs.Growth.{posts_push, main_posts_push}
+use Rattle.pool_laws.specs.Keys.{ready_below}
+use Rattle.pool_laws.proofs.Keys.Ready.{posts_within, key_within}
+use Rattle.pool_laws.proofs.Choice.Least.{head_is_least, keys_total}
+use Rattle.hist_model.specs.Allowed.{is_head_of, is_ready_worker, may_come}
+use Rattle.hist_model.specs.Legal.{IsLegal}
+use Rattle.hist_model.specs.Laws.Choice.{IsHead}
+use Rattle.hist_model.specs.Laws.Places.{IsAt}
+use Rattle.hist_model.specs.Laws.Order.{HasKeyAt, TakenInOrder}
+use Rattle.hist_model.proofs.Laws.AtPlaces.{in_past, of_past, length-past, passes_at, passed_by, past_is_legal, may_come_at}
+use Rattle.hist_model.proofs.Laws.Choice.{Found, found, head_is}
+use Rattle.hist_model.proofs.Laws.Phases.{forbidden_on}
+use Rattle.hist_model.proofs.Laws.Rising.{legal_rises}
+use Rattle.hist_model.proofs.Laws.State.{same_at}
+
+-- ---- pasts of one log
+
+-- the front of a front
+take_take : {A : Type 0} (xs : List A) (i j : ℕ) → i ≤ j → take i (take j xs) ≡ take i xs
+take_take xs zero j le = refl
+take_take xs (suc i) zero le = absurd (omega (arith, le))
+take_take [] (suc i) (suc j) le = refl
+take_take (x ∷ xs) (suc i) (suc j) le = ap (λ rest. x ∷ rest) (take_take xs i j (omega (arith, le)))
+
+-- the past of a later place is that of an earlier one with what stands between
+longer_past : {A : Type 0} (xs : List A) (i j : ℕ) → i ≤ j → take i xs ++ drop i (take j xs) ≡ take j xs
+longer_past xs i j le = ap (λ front. front ++ drop i (take j xs)) (sym (take_take xs i j le)) ∙ take-append-drop i (take j xs)
+
+-- what was taken stays taken
+still_taken : (log : List Entry) (i j t : ℕ) → i < j → is_taken (take i log) t ≡ true → is_taken (take j log) t ≡ true
+unfolding is_taken
+still_taken log i j t less taken =
+    let at = passes_at (λ e. takes t e.kind) (take i log) taken in
+    let (before, is) = of_past log at.place i at.value at.is in
+    passed_by (λ e. takes t e.kind) (take j log) at.place at.value (in_past log at.place j (omega (arith, less, before)) ∙ is) at.passes
+
+-- what is taken at a place is taken behind it
+taken_behind : (log : List Entry) (i j seat t r v : ℕ) → i < j → IsAt log i seat (kinds.Take t r v) → is_taken (take j log) t ≡ true
+unfolding is_taken
+taken_behind log i j seat t r v less is = passed_by (λ e. takes t e.kind) (take j log) i _ (in_past log i j less ∙ is) (eq-eqb t t refl)
+
+-- ---- the first tick
+
+-- the first place is not before the start
+position_behind : {A : Type 0} (test : A → Bool) (i : ℕ) (xs : List A) (n : ℕ) → position_from test i xs ≡ Some n → i ≤ n
+position_behind test i [] n is = absurd (none-some n is)
+position_behind test i (x ∷ xs) n is = by (test x) is (position_behind test (i + 1) xs n)
+  where
+    by : (b : Bool) → cond b (Some i) (position_from test (i + 1) xs) ≡ Some n → (position_from test (i + 1) xs ≡ Some n → i + 1 ≤ n) → i ≤ n
+    by true h rest = omega (arith, same_Some i n h)
+    by false h rest = omega (arith, rest h)
+
+-- a first tick inside the front is the first tick of the front
+tick_early : (xs rest : List Entry) (moment place : ℕ) → tick_from (xs ++ rest) moment ≡ Some place → place < length xs → tick_from xs moment ≡ Some place
+unfolding tick_from
+tick_early xs rest moment place is less =
+    by (position_from test 0 xs) (sym (position-append test 0 xs rest) ∙ is)
+  where
+    test : Entry → Bool
+    test e = is_tick_from moment e.kind
+
+    by : (o : Option ℕ) → option_or o (position_from test (0 + length xs) rest) ≡ Some place → o ≡ Some place
+    by (Some n) h = h
+    by None h = absurd (omega (arith, less, position_behind test (0 + length xs) rest place h))
+
+-- ---- accepted tasks
+
+-- the accepted tasks of the pool, and of the main queues
+abbrev posts_as : Bool → List Entry → List Posted
+posts_as false past = posts past
+posts_as true past = main_posts past
+
+-- their posts
+abbrev post_as : Bool → ℕ → ℕ → ℕ → Kind
+post_as false task home delay = kinds.Post task home delay true
+post_as true task home delay = kinds.Main task home delay true
+
+-- what an entry adds to them
+abbrev added_as : Bool → List Entry → Kind → List Posted
+added_as false past kind = posted_by past kind
+added_as true past kind = main_posted_by past kind
+
+-- the task was accepted at its place
+record IsPostedAt (main : Bool) (past : List Entry) (p : Posted) : Type 0 where
+  seat : ℕ
+  is : IsAt past p.place seat (post_as main p.task p.home p.delay)
+  same : post_behind (take p.place past) p.task p.home p.delay ≡ p
+
+-- what an entry adds is posted by it
+added_by : (main : Bool) (past : List Entry) (kind : Kind) → AllByRecursion (λ p. (kind ≡ post_as main p.task p.home p.delay)
+    × (post_behind past p.task p.home p.delay ≡ p)) (added_as main past kind)
+added_by false past (kinds.Post task runner delay true) = ((refl, refl), tt)
+added_by false past kind = tt
+added_by true past (kinds.Main task queue delay true) = ((refl, refl), tt)
+added_by true past kind = tt
+
+posts_as_push : (main : Bool) (past : List Entry) (e : Entry) → posts_as main (past ++ e ∷ []) ≡ posts_as main past ++ added_as main past e.kind
+posts_as_push false past e = posts_push past e
+posts_as_push true past e = main_posts_push past e
+
+nothing_posted : (main : Bool) → posts_as main [] ≡ []
+unfolding posts main_posts fold_past
+nothing_posted false = refl
+nothing_posted true = refl
+
+posted_at : (main : Bool) (past : List Entry) → AllByRecursion (IsPostedAt main past) (posts_as main past)
+posted_at main = push_induction (λ past. AllByRecursion (IsPostedAt main past) (posts_as main past))
+    (subst (AllByRecursion (IsPostedAt main [])) (sym (nothing_posted main)) tt)
+    (λ past e all. subst (AllByRecursion (IsPostedAt main (past ++ e ∷ []))) (sym (posts_as_push main past e))
+    (AllByRecursion-append (IsPostedAt main (past ++ e ∷ [])) (posts_as main past) (added_as main past e.kind)
+    (AllByRecursion-map (IsPostedAt main past) (IsPostedAt main (past ++ e ∷ [])) (posts_as main past) (λ p h. more past e p h) all)
+    (AllByRecursion-map _ (IsPostedAt main (past ++ e ∷ [])) (added_as main past e.kind) (λ p h. new past e p h.0 h.1) (added_by main past e.kind))))
+  where
+    more : (past : List Entry) (e : Entry) (p : Posted) → IsPostedAt main past p → IsPostedAt main (past ++ e ∷ []) p
+    more past e p h = record {
+      seat = h.seat;
+      is = slice_get-more past (e ∷ []) p.place _ h.is;
+      same = ap (λ before. post_behind before p.task p.home p.delay)
+          (take-append-le p.place past (e ∷ []) (omega (arith, slice_get_within past p.place _ h.is))) ∙ h.same;
+    }
+
+    new : (past : List Entry) (e : Entry) (p : Posted) → e.kind ≡ post_as main p.task p.home p.delay → post_behind past p.task p.home p.delay ≡ p
+        → IsPostedAt main (past ++ e ∷ []) p
+    new past e p kind same =
+        let place : length past ≡ p.place = ap (λ q. q.place) same in
+        record {
+          seat = e.seat;
+          is = ap (slice_get (past ++ e ∷ [])) (sym place) ∙ slice_get-end past e ∙ ap (λ k. Some (record { seat = e.seat; kind = k })) kind;
+          same = ap (λ n. post_behind (take n (past ++ e ∷ [])) p.task p.home p.delay) (sym place)
+              ∙ ap (λ before. post_behind before p.task p.home p.delay) (take-append_seam past (e ∷ [])) ∙ same;
+        }
+
+-- the post of an accepted task
+was_posted : (main : Bool) (past : List Entry) (p : Posted) → Contains (posts_as main past) p → IsPostedAt main past p
+was_posted main past p among = AllByRecursion-contains (IsPostedAt main past) (posts_as main past) p (posted_at main past) among
+
+-- a task whose post stands in the front is accepted in the front
+posts_early : (main : Bool) (xs rest : List Entry) (p : Posted) → Contains (posts_as main (xs ++ rest)) p → p.place < length xs → Contains (posts_as main xs) p
+posts_early main xs rest p among less = push_induction (λ ys. Contains (posts_as main (xs ++ ys)) p → Contains (posts_as main xs) p)
+    (λ h. subst (λ ys. Contains (posts_as main ys) p) (append-nil xs) h) (λ ys e before h. before (earlier ys e h)) rest among
+  where
+    earlier : (ys : List Entry) (e : Entry) → Contains (posts_as main (xs ++ (ys ++ e ∷ []))) p → Contains (posts_as main (xs ++ ys)) p
+    earlier ys e h = by (Contains-append_cases (posts_as main (xs ++ ys)) (added_as main (xs ++ ys) e.kind) p
+        (subst (λ all. Contains all p) (ap (posts_as main) (sym (append_assoc xs ys (e ∷ []))) ∙ posts_as_push main (xs ++ ys) e) h))
+      where
+        by : Contains (posts_as main (xs ++ ys)) p ⊎ Contains (added_as main (xs ++ ys) e.kind) p → Contains (posts_as main (xs ++ ys)) p
+        by (inl k) = k
+        by (inr k) = let made = AllByRecursion-contains _ (added_as main (xs ++ ys) e.kind) p (added_by main (xs ++ ys) e.kind) k in
+            absurd (omega (arith, less, ap (λ q. q.place) made.1, length-append xs ys))
+
+-- no tick at or past the ripe moment of a delayed task stands before its post
+no_tick_before : (script : Plan) (main : Bool) (log : List Entry) (p : Posted) (place : ℕ) → IsLegal script log → IsPostedAt main log p → is_delayed p ≡ true
+    → tick_from log p.ripe ≡ Some place → p.place ≤ place
+no_tick_before script main log p place legal was delayed tick = at (leb p.place place) refl
+  where
+    before : List Entry
+    before = take p.place log
+
+    size : length before ≡ p.place
+    size = length-past log p.place _ was.is
+
+    none : tick_from before p.ripe ≡ None
+    none = (legal_rises script before (past_is_legal script log p.place _ legal was.is)).no_tick_ahead p.ripe
+        (omega (arith, ap (λ q. q.ripe) was.same, ltb-true 0 p.delay delayed))
+
+    at : (b : Bool) → leb p.place place ≡ b → p.place ≤ place
+    at true h = grind (arith, h)
+    at false h = absurd (none-some place (sym none ∙ tick_early before (drop p.place log) p.ripe place
+        (ap (λ all. tick_from all p.ripe) (take-append-drop p.place log) ∙ tick) (grind (arith, h, size))))
+
+-- ---- keys
+
+-- the key of a delayed task at a tick
+abbrev ticked : Posted → ℕ → Key
+ticked p place = record { place = place; ripe = p.ripe; post = p.place }
+
+-- the key tells the place of the post
+key_post : (past : List Entry) (p : Posted) (key : Key) → key_of past p ≡ Some key → key.post ≡ p.place
+key_post past p key is = by (is_delayed p) is
+  where
+    late : (o : Option ℕ) → option_map (ticked p) o ≡ Some key → key.post ≡ p.place
+    late None h = absurd (none-some key h)
+    late (Some place) h = sym (ap (λ k. k.post) (same_Some _ key h))
+
+    by : (b : Bool) → cond b (option_map (ticked p) (tick_from past p.ripe)) (Some (key_at p.place)) ≡ Some key → key.post ≡ p.place
+    by true h = late (tick_from past p.ripe) h
+    by false h = sym (ap (λ k. k.post) (same_Some _ key h))
+
+-- a key whose place stands in the front is known in the front, and so is its task
+key_early : (script : Plan) (past rest : List Entry) (p : Posted) (key : Key) → IsLegal script (past ++ rest) → Contains (posts (past ++ rest)) p
+    → key_of (past ++ rest) p ≡ Some key → key.place < length past → Contains (posts past) p × (key_of past p ≡ Some key)
+key_early script past rest p key legal among is less = by (is_delayed p) refl is
+  where
+    later : List Entry
+    later = past ++ rest
+
+    was : IsPostedAt false later p
+    was = was_posted false later p among
+
+    late : is_delayed p ≡ true → (o : Option ℕ) → tick_from later p.ripe ≡ o → option_map (ticked p) o ≡ Some key
+        → Contains (posts past) p × (option_map (ticked p) (tick_from past p.ripe) ≡ Some key)
+    late delayed None tick h = absurd (none-some key h)
+    late delayed (Some place) tick h =
+        let here : place ≡ key.place = ap (λ k. k.place) (same_Some _ key h) in
+        (posts_early false past rest p among (omega (arith, here, less, no_tick_before script false later p place legal was delayed tick)),
+        ap (option_map (ticked p)) (tick_early past rest p.ripe place tick (omega (arith, here, less))) ∙ h)
+
+    by : (b : Bool) → is_delayed p ≡ b → cond b (option_map (ticked p) (tick_from later p.ripe)) (Some (key_at p.place)) ≡ Some key
+        → Contains (posts past) p × (cond b (option_map (ticked p) (tick_from past p.ripe)) (Some (key_at p.place)) ≡ Some key)
+    by true delayed h = late delayed (tick_from later p.ripe) refl h
+    by false immediate h = (posts_early false past rest p among (omega (arith, ap (λ k. k.place) (same_Some _ key h), less)), h)
+
+-- ---- heads
+
+-- the head that a take takes
+record TakesHead (script : Plan) (past : List Entry) (task runner : ℕ) : Type 0 where
+  head : Ready
+  is_head : head_of script past (sequence_of script runner task) ≡ Some head
+  task_is : head.posted.task ≡ task
+  home_is : head.posted.home ≡ runner
+
+takes_head : (script : Plan) (past : List Entry) (seat task runner value : ℕ) → may_come script past seat (kinds.Take task runner value) ≡ true
+    → TakesHead script past task runner
+unfolding may_come
+takes_head script past seat task runner value h = of_best (found (λ c. is_head_of script past task runner value c.source) (best_of script past seat)
+    (and_parts (is_ready_worker script past seat) _ h).1)
+  where
+    is_it : Ready → Bool
+    is_it r = eqb r.posted.task task && eqb r.posted.home runner
+
+    of_source : (source : TaskSource) → is_head_of script past task runner value source ≡ true → TakesHead script past task runner
+    of_source (Job j) k = absurd cc
+    of_source (Sequence s) k =
+        let head = found is_it (head_of script past s) (and_parts (holds_of is_it (head_of script past s)) _ k).0 in
+        let same = and_parts (eqb head.value.posted.task task) (eqb head.value.posted.home runner) head.passes in
+        let task_is = eqb-true head.value.posted.task task same.0 in
+        let home_is = eqb-true head.value.posted.home runner same.1 in
+        record {
+          head = head.value;
+          is_head = ap (head_of script past) (ap (λ t. sequence_of script runner t) (sym task_is)
+              ∙ ap (λ r. sequence_of script r head.value.posted.task) (sym home_is)
+              ∙ eqb-true (sequence_of script head.value.posted.home head.value.posted.task) s (head_is script past s head.value head.is).of_sequence) ∙ head.is;
+          task_is = task_is;
+          home_is = home_is;
+        }
+
+    of_best : Found Candidate (λ c. is_head_of script past task runner value c.source) (best_of script past seat) → TakesHead script past task runner
+    of_best c = of_source c.value.source c.passes
+
+-- a task that has a key and may start is among the eligible
+among_eligible : (script : Plan) (past : List Entry) (s : ℕ) (p : Posted) (key : Key) → Contains (posts past) p → key_of past p ≡ Some key
+    → is_of script s p ≡ true → is_taken past p.task ≡ false → is_forbidden script past p ≡ false
+    → Contains (eligible script past s) (record { posted = p; key = key })
+unfolding eligible ready
+among_eligible script past s p key among keyed of free starts = contains_filter (λ r. is_of script s r.posted && may_start script past r.posted) _ _
+    (contains_filter_map (λ q. option_map (λ k. record { posted = q; key = k }) (key_of past q)) (posts past) p (record { posted = p; key = key }) among
+    (ap (option_map (λ k. record { posted = p; key = k })) keyed))
+    (rw (of, free, starts) refl)
+
+-- of immediate tasks with keys one below the other the first was posted first
+posted_first : (m n : ℕ) → key_below (key_at m) (key_at n) ≡ true → m < n
+posted_first m n h = at (nat_lt m n) refl h
+  where
+    at : (b : Bool) → nat_lt m n ≡ b → (b || (eqb m n && b)) ≡ true → m < n
+    at true less k = ltb-true m n less
+    at false less k = absurd (true≢false (sym k ∙ none (eqb m n)))
+      where
+        none : (b : Bool) → (b && false) ≡ false
+        none true = refl
+        none false = refl
+
+-- the key of an immediate task is where it was posted
+immediate_key : (past : List Entry) (p : Posted) (key : Key) → p.delay ≡ 0 → key_of past p ≡ Some key → key_at p.place ≡ key
+immediate_key past p key now is = same_Some _ key
+    (ap (λ d. cond (nat_lt 0 d) (option_map (ticked p) (tick_from past p.ripe)) (Some (key_at p.place))) (sym now) ∙ is)
+
+-- what is known of the first and of the second take
+record Taking (script : Plan) (log : List Entry) (place task runner : ℕ) : Type 0 where
+  p : Posted
+  key : Key
+  among : Contains (posts (take place log)) p
+  keyed : key_of (take place log) p ≡ Some key
+  task_is : p.task ≡ task
+  home_is : p.home ≡ runner
+  before : p.place < place
+  seat : ℕ
+  posted : IsAt log p.place seat (kinds.Post task runner p.delay true)
+  same : post_behind (take p.place log) task runner p.delay ≡ p
+  of_sequence : is_of script (sequence_of script runner task) p ≡ true
+  free : may_start script (take place log) p ≡ true
+  least : (r : Ready) → Contains (eligible script (take place log) (sequence_of script runner task)) r → key_below r.key key ≡ false
+  within : key.place < place
+
+taking : (script : Plan) (log : List Entry) (k seat task runner value : ℕ) → IsLegal script log → IsAt log k seat (kinds.Take task runner value)
+    → Taking script log k task runner
+taking script log k seat task runner value legal is = record {
+  p = p;
+  key = t.head.key;
+  among = head.accepted;
+  keyed = head.keyed;
+  task_is = t.task_is;
+  home_is = t.home_is;
+  before = there.0;
+  seat = was.seat;
+  posted = there.1 ∙ ap (λ n. Some (record { seat = was.seat; kind = kinds.Post n p.home p.delay true })) t.task_is
+      ∙ ap (λ r. Some (record { seat = was.seat; kind = kinds.Post task r p.delay true })) t.home_is;
+  same = ap (λ before. post_behind before task runner p.delay) (sym (take_take log p.place k (omega (arith, there.0))))
+      ∙ ap (λ n. post_behind (take p.place past) n runner p.delay) (sym t.task_is)
+      ∙ ap (λ r. post_behind (take p.place past) p.task r p.delay) (sym t.home_is) ∙ was.same;
+  of_sequence = head.of_sequence;
+  free = head.free;
+  least = λ r among. All-contains (λ y. ready_below y t.head ≡ false) (eligible script past s) r
+      (head_is_least script past s t.head t.is_head).none_below among;
+  within = subst (λ n. t.head.key.place < n) (length-past log k _ is) (ltb-true t.head.key.place (length past) (key_within past p t.head.key
+      (AllByRecursion-contains (λ q. nat_lt q.place (length past) ≡ true) (posts past) p (posts_within past) head.accepted) head.keyed));
+}
+  where
+    past : List Entry
+    past = take k log
+
+    s : ℕ
+    s = sequence_of script runner task
+
+    t : TakesHead script past task runner
+    t = takes_head script past seat task runner value (may_come_at script log k _ legal is)
+
+    p : Posted
+    p = t.head.posted
+
+    head : IsHead script past s t.head
+    head = head_is script past s t.head t.is_head
+
+    was : IsPostedAt false past p
+    was = was_posted false past p head.accepted
+
+    there : (p.place < k) × IsAt log p.place was.seat (kinds.Post p.task p.home p.delay true)
+    there = of_past log p.place k _ was.is
+
+-- the task of a post
+abbrev posted_task : Kind → ℕ
+posted_task (kinds.Post task runner delay ok) = task
+posted_task kind = 0
+
+-- the key of the first of two takes of one sequence is below that of the second
+keys_rise : (script : Plan) (log : List Entry) (i j seat worker task other runner home value w : ℕ) → IsLegal script log → i < j
+    → IsAt log i seat (kinds.Take task runner value) → IsAt log j worker (kinds.Take other home w)
+    → sequence_of script runner task ≡ sequence_of script home other → (a : Taking script log i task runner) (b : Taking script log j other home)
+    → key_below a.key b.key ≡ true
+keys_rise script log i j seat worker task other runner home value w legal less first second one a b = at (nat_lt b.key.place i) refl
+  where
+    past : List Entry
+    past = take i log
+
+    rest : List Entry
+    rest = drop i (take j log)
+
+    longer : past ++ rest ≡ take j log
+    longer = longer_past log i j (omega (arith, less))
+
+    free : (not (is_taken (take j log) b.p.task) ≡ true) × (not (is_forbidden script (take j log) b.p) ≡ true)
+    free = and_parts (not (is_taken (take j log) b.p.task)) (not (is_forbidden script (take j log) b.p)) b.free
+
+    not_taken : is_taken (take j log) b.p.task ≡ false
+    not_taken = not-true (is_taken (take j log) b.p.task) free.0
+
+    -- the second task waited already when the first was taken
+    waited : b.key.place < i → key_below b.key a.key ≡ false
+    waited early =
+        let known = key_early script past rest b.p b.key (subst (IsLegal script) (sym longer) (past_is_legal script log j _ legal second))
+        (subst (λ l. Contains (posts l) b.p) (sym longer) b.among) (ap (λ l. key_of l b.p) longer ∙ b.keyed)
+        (omega (arith, early, length-past log i _ first)) in
+        a.least (record { posted = b.p; key = b.key }) (among_eligible script past (sequence_of script runner task) b.p b.key known.0 known.1
+        (ap (λ s. is_of script s b.p) one ∙ b.of_sequence)
+        (false_from_ne_true (is_taken past b.p.task) (λ h. both_ways (is_taken (take j log) b.p.task) not_taken (still_taken log i j b.p.task less h)))
+        (false_from_ne_true (is_forbidden script past b.p) (λ h. both_ways (is_forbidden script (take j log) b.p) (not-true _ free.1)
+        (subst (λ l. is_forbidden script l b.p ≡ true) longer (forbidden_on script past rest b.p h)))))
+
+    -- the two have two posts
+    differ : a.key ≡ b.key → ⊥
+    differ same =
+        let place : a.p.place ≡ b.p.place = sym (key_post past a.p a.key a.keyed) ∙ ap (λ k. k.post) same ∙ key_post (take j log) b.p b.key b.keyed in
+        let task_is : task ≡ other = ap posted_task (same_at log a.p.place b.p.place a.seat b.seat _ _ place a.posted b.posted) in
+        both_ways (is_taken (take j log) b.p.task) not_taken (ap (is_taken (take j log)) (b.task_is ∙ sym task_is)
+        ∙ taken_behind log i j seat task runner value less first)
+
+    settled : key_below b.key a.key ≡ false → (c : Bool) → key_below a.key b.key ≡ c → key_below a.key b.key ≡ true
+    settled not_after true h = h
+    settled not_after false h = absurd (differ (keys_total a.key b.key h not_after))
+
+    at : (c : Bool) → nat_lt b.key.place i ≡ c → key_below a.key b.key ≡ true
+    at true early = settled (waited (ltb-true b.key.place i early)) (key_below a.key b.key) refl
+    at false late = by_less (λ k. k.place) (λ x y. nat_lt x.ripe y.ripe || (eqb x.ripe y.ripe && nat_lt x.post y.post)) a.key b.key
+        (grind (arith, late, a.within))
+
+-- the task that is taken has a key
+abbrev has_key : (script : Plan) (log : List Entry) (place task runner : ℕ) → Taking script log place task runner → HasKeyAt log place task runner
+has_key script log place task runner a = record {
+  post = a.p.place;
+  poster = a.seat;
+  delay = a.p.delay;
+  key = a.key;
+  before = a.before;
+  posts = a.posted;
+  keyed = ap (key_of (take place log)) a.same ∙ a.keyed;
+}
+
+-- in every legal log the tasks of a sequence are taken in order
+pub taken_in_order : (script : Plan) (log : List Entry) → IsLegal script log → TakenInOrder script log
+taken_in_order script log legal = record {
+  in_order = λ i j seat worker task other runner home value w less first second one.
+      let a = taking script log i seat task runner value legal first in
+      let b = taking script log j worker other home w legal second in
+      let below = keys_rise script log i j seat worker task other runner home value w legal less first second one a b in
+      record {
+        first = has_key script log i task runner a;
+        second = has_key script log j other home b;
+        below = below;
+        immediate = λ p_now q_now. posted_first a.p.place b.p.place
+            (ap (λ k. key_below k (key_at b.p.place)) (immediate_key (take i log) a.p a.key p_now a.keyed)
+            ∙ ap (key_below a.key) (immediate_key (take j log) b.p b.key q_now b.keyed) ∙ below);
+      };
+}
