@@ -9,6 +9,7 @@ mod current;
 mod histories;
 mod jobs;
 mod moments;
+mod order;
 mod phases;
 mod postings;
 mod seats;
@@ -19,6 +20,7 @@ pub use current::the_current_action_moves_on;
 pub use histories::{legal_histories_grow, the_first_illegal_place_is_told};
 pub use jobs::{claimed_items_are_done_or_held, holders_of_a_job_are_apart, job_entries_are_exact};
 pub use moments::moments_and_orders_rise;
+pub use order::tasks_are_taken_in_order;
 pub use phases::phases_never_go_back;
 pub use postings::each_task_is_posted_once;
 pub use seats::{
