@@ -25,7 +25,7 @@ use Rattle.list_laws.proofs.Places.{slice_get-more}
 use Rattle.list_laws.proofs.Ranks.{by_less}
 use Rattle.task_model.specs.Past.{fold_past}
 use Rattle.task_model.specs.Time.{is_tick_from, tick_from}
-use Rattle.task_model.specs.Posts.{Posted, is_delayed, ripens_before, post_behind, posted_by, posts, main_posted_by, main_posts, is_taken, takes, is_main_taken, main_takes}
+use Rattle.task_model.specs.Posts.{Posted, is_delayed, ripens_before, post_behind, posts, main_posts, is_taken, takes, is_main_taken, main_takes}
 use Rattle.task_model.specs.Keys.{Ready, key_at, key_of, ready}
 use Rattle.task_model.specs.Refusal.{is_forbidden}
 use Rattle.task_model.specs.Sequences.{is_of, may_start, eligible, head_of}
@@ -36,7 +36,7 @@ use Rattle.task_model.specs.Cells.{main_cell_of}
 use Rattle.task_model.specs.MainQueues.{streak_of, Front, is_of_lane, is_immediate, is_in_lane, front_with, order_below, front_of, fronts_of, is_open, open_fronts, class_of, chosen_class, chosen_fronts, immediate_fronts, is_starved, chosen_of, choice_among, of_least_class}
 use Rattle.queue_laws.specs.Fronts.{lane_of}
 use Rattle.queue_laws.proofs.Lanes.{front_is_first}
-use Rattle.task_model.proofs.Growth.{posts_push, main_posts_push, draws_push}
+use Rattle.task_model.proofs.Growth.{draws_push}
 use Rattle.task_model.specs.Orders.{ripens, ripening, draws, next_draw, drawn_at, moment_of, moment_at, order_of}
 use Rattle.pool_laws.specs.Keys.{ready_below}
 use Rattle.queue_laws.specs.Orders.{Distinct}
@@ -50,6 +50,7 @@ use Rattle.hist_model.specs.Laws.Places.{IsAt}
 use Rattle.hist_model.specs.Laws.Order.{HasOrderAt, HasKeyAt, TakenInOrder}
 use Rattle.hist_model.proofs.Laws.AtPlaces.{in_past, of_past, length-past, passes_at, passed_by, past_is_legal, may_come_at}
 use Rattle.hist_model.proofs.Laws.Choice.{Found, found, head_is, of_least}
+use Rattle.hist_model.proofs.Laws.Consistent.{posts_as, posted_as, posts_as_push}
 use Rattle.hist_model.proofs.Laws.Phases.{forbidden_on}
 use Rattle.hist_model.proofs.Laws.Rising.{legal_rises, orders_are_distinct}
 use Rattle.hist_model.proofs.Laws.State.{same_at}
@@ -106,20 +107,10 @@ tick_early xs rest moment place is less =
 
 -- ---- accepted tasks
 
--- the accepted tasks of the pool, and of the main queues
-abbrev posts_as : Bool → List Entry → List Posted
-posts_as false past = posts past
-posts_as true past = main_posts past
-
--- their posts
+-- the post of a task of the pool, and of a main task
 abbrev post_as : Bool → ℕ → ℕ → ℕ → Kind
 post_as false task home delay = kinds.Post task home delay true
 post_as true task home delay = kinds.Main task home delay true
-
--- what an entry adds to them
-abbrev added_as : Bool → List Entry → Kind → List Posted
-added_as false past kind = posted_by past kind
-added_as true past kind = main_posted_by past kind
 
 -- the task was accepted at its place
 record IsPostedAt (main : Bool) (past : List Entry) (p : Posted) : Type 0 where
@@ -129,15 +120,11 @@ record IsPostedAt (main : Bool) (past : List Entry) (p : Posted) : Type 0 where
 
 -- what an entry adds is posted by it
 added_by : (main : Bool) (past : List Entry) (kind : Kind) → AllByRecursion (λ p. (kind ≡ post_as main p.task p.home p.delay)
-    × (post_behind past p.task p.home p.delay ≡ p)) (added_as main past kind)
+    × (post_behind past p.task p.home p.delay ≡ p)) (posted_as main past kind)
 added_by false past (kinds.Post task runner delay true) = ((refl, refl), tt)
 added_by false past kind = tt
 added_by true past (kinds.Main task queue delay true) = ((refl, refl), tt)
 added_by true past kind = tt
-
-posts_as_push : (main : Bool) (past : List Entry) (e : Entry) → posts_as main (past ++ e ∷ []) ≡ posts_as main past ++ added_as main past e.kind
-posts_as_push false past e = posts_push past e
-posts_as_push true past e = main_posts_push past e
 
 nothing_posted : (main : Bool) → posts_as main [] ≡ []
 unfolding posts main_posts fold_past
@@ -148,9 +135,9 @@ posted_at : (main : Bool) (past : List Entry) → AllByRecursion (IsPostedAt mai
 posted_at main = push_induction (λ past. AllByRecursion (IsPostedAt main past) (posts_as main past))
     (subst (AllByRecursion (IsPostedAt main [])) (sym (nothing_posted main)) tt)
     (λ past e all. subst (AllByRecursion (IsPostedAt main (past ++ e ∷ []))) (sym (posts_as_push main past e))
-    (AllByRecursion-append (IsPostedAt main (past ++ e ∷ [])) (posts_as main past) (added_as main past e.kind)
+    (AllByRecursion-append (IsPostedAt main (past ++ e ∷ [])) (posts_as main past) (posted_as main past e.kind)
     (AllByRecursion-map (IsPostedAt main past) (IsPostedAt main (past ++ e ∷ [])) (posts_as main past) (λ p h. more past e p h) all)
-    (AllByRecursion-map _ (IsPostedAt main (past ++ e ∷ [])) (added_as main past e.kind) (λ p h. new past e p h.0 h.1) (added_by main past e.kind))))
+    (AllByRecursion-map _ (IsPostedAt main (past ++ e ∷ [])) (posted_as main past e.kind) (λ p h. new past e p h.0 h.1) (added_by main past e.kind))))
   where
     more : (past : List Entry) (e : Entry) (p : Posted) → IsPostedAt main past p → IsPostedAt main (past ++ e ∷ []) p
     more past e p h = record {
@@ -181,12 +168,12 @@ posts_early main xs rest p among less = push_induction (λ ys. Contains (posts_a
     (λ h. subst (λ ys. Contains (posts_as main ys) p) (append-nil xs) h) (λ ys e before h. before (earlier ys e h)) rest among
   where
     earlier : (ys : List Entry) (e : Entry) → Contains (posts_as main (xs ++ (ys ++ e ∷ []))) p → Contains (posts_as main (xs ++ ys)) p
-    earlier ys e h = by (Contains-append_cases (posts_as main (xs ++ ys)) (added_as main (xs ++ ys) e.kind) p
+    earlier ys e h = by (Contains-append_cases (posts_as main (xs ++ ys)) (posted_as main (xs ++ ys) e.kind) p
         (subst (λ all. Contains all p) (ap (posts_as main) (sym (append_assoc xs ys (e ∷ []))) ∙ posts_as_push main (xs ++ ys) e) h))
       where
-        by : Contains (posts_as main (xs ++ ys)) p ⊎ Contains (added_as main (xs ++ ys) e.kind) p → Contains (posts_as main (xs ++ ys)) p
+        by : Contains (posts_as main (xs ++ ys)) p ⊎ Contains (posted_as main (xs ++ ys) e.kind) p → Contains (posts_as main (xs ++ ys)) p
         by (inl k) = k
-        by (inr k) = let made = AllByRecursion-contains _ (added_as main (xs ++ ys) e.kind) p (added_by main (xs ++ ys) e.kind) k in
+        by (inr k) = let made = AllByRecursion-contains _ (posted_as main (xs ++ ys) e.kind) p (added_by main (xs ++ ys) e.kind) k in
             absurd (omega (arith, less, ap (λ q. q.place) made.1, length-append xs ys))
 
 -- no tick at or past the ripe moment of a delayed task stands before its post
@@ -467,7 +454,7 @@ drawn_in_front : (past rest : List Entry) (p : Posted) (place : ℕ) → place <
 drawn_in_front past rest p place less =
     ap (λ before. option_and_then (λ moment. drawn_at before moment p) (moment_at (past ++ rest) place)) (take-append-le place past rest (omega (arith, less)))
     ∙ ap (λ o. option_and_then (λ moment. drawn_at (take place past) moment p) (option_and_then (λ x. moment_of x.kind) o))
-        (slice_get-front past rest place less)
+    (slice_get-front past rest place less)
 
 -- what a delayed task draws is not below the next draw
 drawn_from : (before : List Entry) (o : Option ℕ) (p : Posted) (n : ℕ) → option_and_then (λ moment. drawn_at before moment p) o ≡ Some n → next_draw before ≤ n
@@ -491,7 +478,7 @@ order_early script past rest p n legal among is = by (is_delayed p) refl (sym (o
 
     at_tick : is_delayed p ≡ true → (place : ℕ) → tick_from later p.ripe ≡ Some place → drawn later p place ≡ Some n → (b : Bool)
         → nat_lt place (length past) ≡ b → (Contains (main_posts past) p × (option_and_then (drawn past p) (tick_from past p.ripe) ≡ Some n))
-            ⊎ (next_draw past ≤ n)
+        ⊎ (next_draw past ≤ n)
     at_tick delayed place tick h true early =
         let less : place < length past = ltb-true place (length past) early in
         inl (
