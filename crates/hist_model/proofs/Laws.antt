@@ -20,5 +20,15 @@ pub mod OneSeat
 pub mod Phases
 pub mod Claims
 pub mod HoldsApart
+pub mod Since
+pub mod Starts
+pub mod Singly
+pub mod Moments
+pub mod Whole
+pub mod EntriesSums
+pub mod EntriesDriver
+pub mod EntriesTasks
+pub mod EntriesJobs
+pub mod Entries
 pub mod State
 pub mod Order

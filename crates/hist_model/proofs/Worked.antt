@@ -12,4 +12,5 @@ pub mod RoomCorners
 pub mod ShutdownCorners
 pub mod ValueCorners
 pub mod QueueCorners
+pub mod Moments
 pub mod Broken

@@ -7,5 +7,8 @@ pub mod Agenda
 pub mod Postings
 pub mod Rising
 pub mod Places
+pub mod Starts
+pub mod Singly
+pub mod Whole
 pub mod State
 pub mod Order

@@ -2,4 +2,5 @@ pub mod Views
 pub mod Script
 pub mod Allowed
 pub mod Legal
+pub mod Moments
 pub mod Laws

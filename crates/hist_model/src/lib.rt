@@ -6,26 +6,36 @@
 #![tactic(auto)]
 
 mod current;
+mod entries;
 mod histories;
 mod jobs;
 mod moments;
 mod order;
 mod phases;
 mod postings;
+mod readings;
 mod seats;
 mod shutdown;
+mod singly;
+mod starts;
 mod state;
+mod whole;
 
 pub use current::the_current_action_moves_on;
+pub use entries::entries_are_bounded;
 pub use histories::{legal_histories_grow, the_first_illegal_place_is_told};
 pub use jobs::{claimed_items_are_done_or_held, holders_of_a_job_are_apart, job_entries_are_exact};
 pub use moments::moments_and_orders_rise;
 pub use order::tasks_are_taken_in_order;
 pub use phases::phases_never_go_back;
 pub use postings::each_task_is_posted_once;
+pub use readings::moments_never_fall;
 pub use seats::{
     legal_histories_are_consistent, own_entries_tell_the_seat, running_tasks_have_one_seat,
     seats_do_one_thing, takes_are_of_heads,
 };
 pub use shutdown::shutdown_waits_and_forbids;
+pub use singly::sequences_run_singly;
+pub use starts::tasks_start_at_most_once;
 pub use state::state_moves_along;
+pub use whole::whole_logs_lose_nothing;

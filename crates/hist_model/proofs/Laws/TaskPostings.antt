@@ -93,7 +93,7 @@ enters_posts t u step (kinds.Main task queue delay ok) h = absurd cc
 enters_posts t u step kind h = omega arith
 
 -- such an entry is one more act step, and what the seat runs goes on
-entered : (u n : ℕ) (w : Option Running) (step : Step) (kind : Kind) → enters u step kind ≡ true → (acts_after n kind ≡ n + 1) × (running_after w kind ≡ w)
+pub entered : (u n : ℕ) (w : Option Running) (step : Step) (kind : Kind) → enters u step kind ≡ true → (acts_after n kind ≡ n + 1) × (running_after w kind ≡ w)
 entered u n w (steps.Post v r d) (kinds.Post task runner delay ok) h = (refl, refl)
 entered u n w (steps.Main v q d) (kinds.Main task queue delay ok) h = (refl, refl)
 entered u n w (steps.Block s) (kinds.Enter task scope) h = (refl, refl)
@@ -256,14 +256,14 @@ is_untaken past u = not (is_taken past u || is_main_taken past u)
 pub tasks_have : Plan → ℕ → List Entry → ℕ
 tasks_have script t past = weigh (is_untaken past) t 0 script.tasks
 
-was_untaken : (past : List Entry) (e : Entry) (u : ℕ) → is_untaken (past ++ e ∷ []) u ≡ true → is_untaken past u ≡ true
+pub was_untaken : (past : List Entry) (e : Entry) (u : ℕ) → is_untaken (past ++ e ∷ []) u ≡ true → is_untaken past u ≡ true
 was_untaken past e u = rw (is_taken_push past e u, is_main_taken_push past e u)
     (at (is_taken past u) (takes u e.kind) (is_main_taken past u) (main_takes u e.kind))
   where
     at : (a b c d : Bool) → not ((a || b) || (c || d)) ≡ true → not (a || c) ≡ true
     at a b c d h = grind (arith, h)
 
-is_now_taken : (past : List Entry) (e : Entry) (u : ℕ) → (takes u e.kind || main_takes u e.kind) ≡ true → is_untaken (past ++ e ∷ []) u ≡ false
+pub is_now_taken : (past : List Entry) (e : Entry) (u : ℕ) → (takes u e.kind || main_takes u e.kind) ≡ true → is_untaken (past ++ e ∷ []) u ≡ false
 is_now_taken past e u = rw (is_taken_push past e u, is_main_taken_push past e u)
     (at (is_taken past u) (takes u e.kind) (is_main_taken past u) (main_takes u e.kind))
   where

@@ -1,3 +1,7 @@
--- Histories that break one law each, and are illegal where they break it.
+-- Histories that break a law of every legal log, each illegal where it breaks it.
+pub mod Starts
+pub mod Singly
+pub mod Entries
+pub mod Whole
 pub mod State
 pub mod Order
