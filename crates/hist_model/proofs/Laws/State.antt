@@ -1,8 +1,8 @@
 -- The state of a sequence, or of a main queue, moves along from task to task.
-use Rattle.std.proofs.Common.{◌≡◌, ℕ, zero, suc, ◌<◌, ◌≤◌, Bool, true, false, eqb, cond, List, [], ◌∷◌, ◌++◌, length, take, refl, sym, ap, subst, ◌∙◌, Option, Some, None, inl, inr, arith}
-use Rattle.std.specs.Prelude.{◌⊎◌, not, ◌&&◌, slice_get}
+use Rattle.std.proofs.Common.{◌≡◌, ℕ, zero, suc, ◌<◌, ◌≤◌, Bool, true, false, eqb, cond, List, [], ◌∷◌, length, take, refl, sym, ap, subst, ◌∙◌, Some, inl, inr, arith}
+use Rattle.std.specs.Prelude.{not, ◌&&◌, slice_get}
 use Rattle.std.proofs.lemmas.Bool.{eqb-true, and_parts, not-true, true≢false, eq-eqb, both_ways}
-use Rattle.std.proofs.lemmas.Option.{none-some, same_Some, slice_get_within}
+use Rattle.std.proofs.lemmas.Option.{same_Some, slice_get_within}
 use Rattle.task_base.specs.Plan.{Plan}
 use Rattle.task_base.specs.Steps.{after}
 use Rattle.task_base.specs.Runners.{sequence_of}
@@ -12,74 +12,36 @@ use Rattle.task_base.specs.declared.entry.Kind.TheVariants as kinds
 use Rattle.list_laws.specs.Lists.{holds_of}
 use Rattle.task_model.specs.Posts.{is_taken, is_main_taken, takes, main_takes}
 use Rattle.task_model.specs.Past.{fold_past}
-use Rattle.task_model.specs.Seats.{Running, running, running_after, runs_of, steps_of}
+use Rattle.task_model.specs.Seats.{Running, running, runs_of, steps_of}
 use Rattle.task_model.specs.Cells.{cell_of, cell_after, main_cell_of, main_cell_after}
 use Rattle.task_model.proofs.Growth.{cell_of_push, main_cell_of_push}
-use Rattle.pool_laws.proofs.Seats.Running.{running_here, running_other}
 use Rattle.hist_model.specs.Allowed.{has_done, may_come}
 use Rattle.hist_model.specs.Legal.{IsLegal}
 use Rattle.hist_model.specs.Laws.Places.{IsAt}
 use Rattle.hist_model.specs.Laws.State.{EndOfSequence, EndOfQueue, IsLastLeft, LeavesOfFound, LeavesOfFoundMain, StateMovesAlong}
-use Rattle.hist_model.proofs.Laws.AtPlaces.{take_at, in_past, passed_by, may_come_at}
+use Rattle.hist_model.proofs.Laws.AtPlaces.{of_past, take_at, in_past, passed_by, may_come_at}
 use Rattle.hist_model.proofs.Laws.Choice.{found}
+use Rattle.hist_model.proofs.Laws.Since.{taking, running_since}
 use Rattle.hist_model.proofs.Laws.Takes.{take_is, main_take_is}
 
--- ---- what a seat runs it took at an earlier place
-
--- the take of what runs
-abbrev take_of : Running → Kind
-take_of w = cond w.is_main (kinds.MainTake w.task w.home w.found) (kinds.Take w.task w.home w.found)
-
--- what runs behind an entry was taken by it, or ran before
-ran_or_taken : (kind : Kind) (now : Option Running) (w : Running) → running_after now kind ≡ Some w → (kind ≡ take_of w) ⊎ (now ≡ Some w)
-ran_or_taken (kinds.Take task runner value) now w h = inl (ap take_of (same_Some _ w h))
-ran_or_taken (kinds.MainTake task queue value) now w h = inl (ap take_of (same_Some _ w h))
-ran_or_taken (kinds.End task left) now w h = absurd (none-some w h)
-ran_or_taken (kinds.MainEnd task left) now w h = absurd (none-some w h)
-ran_or_taken kind now w h = inr h
-
--- the entry before each place of a log
+-- each place of a log has an entry
 entry_at : (log : List Entry) (k : ℕ) → suc k ≤ length log → (e : Entry) × (slice_get log k ≡ Some e)
 entry_at [] k h = absurd (omega (arith, h))
 entry_at (x ∷ log) zero h = (x, refl)
 entry_at (x ∷ log) (suc k) h = entry_at log k (omega (arith, h))
 
-nothing_ran : (seat : ℕ) → running [] seat ≡ None
-unfolding running
-nothing_ran seat = refl
+-- ---- what a seat runs it took at an earlier place
 
 -- the seat took this before the place
 abbrev TakenBefore : List Entry → ℕ → ℕ → Running → Type 0
-TakenBefore log k seat w = (i : ℕ) × (i < k) × IsAt log i seat (take_of w)
-
-taken_later : (log : List Entry) (k seat : ℕ) (w : Running) → TakenBefore log k seat w → TakenBefore log (suc k) seat w
-taken_later log k seat w (i, less, is) = (i, omega (arith, less), is)
-
-taken_at_or_before : (log : List Entry) (k seat : ℕ) (w : Running) (e : Entry) → slice_get log k ≡ Some e
-    → (running (take k log) seat ≡ Some w → TakenBefore log k seat w) → running (take (suc k) log) seat ≡ Some w → TakenBefore log (suc k) seat w
-taken_at_or_before log k seat w e is before runs = at (eqb e.seat seat) refl
-  where
-    ran : running (take k log ++ e ∷ []) seat ≡ Some w
-    ran = ap (λ past. running past seat) (sym (take_at log k e is)) ∙ runs
-
-    at : (b : Bool) → eqb e.seat seat ≡ b → TakenBefore log (suc k) seat w
-    at false other = taken_later log k seat w (before (sym (running_other (take k log) e seat other) ∙ ran))
-    at true own = by (ran_or_taken e.kind (running (take k log) e.seat) w (sym (running_here (take k log) e seat own) ∙ ran))
-      where
-        by : (e.kind ≡ take_of w) ⊎ (running (take k log) e.seat ≡ Some w) → TakenBefore log (suc k) seat w
-        by (inl kind) = (
-          k,
-          omega arith,
-          is ∙ ap (λ n. Some (record { seat = n; kind = e.kind })) (eqb-true e.seat seat own)
-              ∙ ap (λ m. Some (record { seat = seat; kind = m })) kind,
-        )
-        by (inr now) = taken_later log k seat w (before (ap (running (take k log)) (sym (eqb-true e.seat seat own)) ∙ now))
+TakenBefore log k seat w = (i : ℕ) × (i < k) × IsAt log i seat (taking w.is_main w.task w.home w.found)
 
 -- what a seat runs before a place of the log it took at an earlier place
-taken_at : (log : List Entry) (k seat : ℕ) (w : Running) → k ≤ length log → running (take k log) seat ≡ Some w → TakenBefore log k seat w
-taken_at log zero seat w within runs = absurd (none-some w (sym (nothing_ran seat) ∙ runs))
-taken_at log (suc k) seat w within runs = let (e, is) = entry_at log k within in
-    taken_at_or_before log k seat w e is (taken_at log k seat w (omega (arith, within))) runs
+taken_at : (log : List Entry) (k seat : ℕ) (w : Running) → running (take k log) seat ≡ Some w → TakenBefore log k seat w
+taken_at log k seat w runs =
+    let since = running_since (take k log) seat w runs in
+    let (less, is) = of_past log since.place k _ since.is in
+    (since.place, less, is)
 
 -- ---- a task is taken at one place
 
@@ -229,7 +191,7 @@ cell_next script log s k value seat (kinds.End task left) legal is last = of_run
     of_run : ((home value : ℕ) × (running (take k log) seat ≡ Some (record { task = task; home = home; found = value; is_main = false }))
         × (left ≡ after (steps_of script task) value))
         → IsLastLeft (EndOfSequence script log s) (suc k) (cell_after script s (take k log) value seat (kinds.End task left))
-    of_run (home, v, runs, leaves) = of_take (taken_at log k seat _ (omega (arith, slice_get_within log k _ is)) runs)
+    of_run (home, v, runs, leaves) = of_take (taken_at log k seat _ runs)
       where
         w : Running
         w = record { task = task; home = home; found = v; is_main = false }
@@ -286,7 +248,7 @@ main_cell_next script log q k value seat (kinds.MainEnd task left) legal is last
     of_run : ((home value : ℕ) × (running (take k log) seat ≡ Some (record { task = task; home = home; found = value; is_main = true }))
         × (left ≡ after (steps_of script task) value))
         → IsLastLeft (EndOfQueue log q) (suc k) (main_cell_after q (take k log) value seat (kinds.MainEnd task left))
-    of_run (home, v, runs, leaves) = of_take (taken_at log k seat _ (omega (arith, slice_get_within log k _ is)) runs)
+    of_run (home, v, runs, leaves) = of_take (taken_at log k seat _ runs)
       where
         w : Running
         w = record { task = task; home = home; found = v; is_main = true }
@@ -337,14 +299,14 @@ leaves_of_found : (script : Plan) (log : List Entry) (place seat task left : ℕ
     → LeavesOfFound script log place seat task left
 leaves_of_found script log place seat task left legal is =
     let (home, value, runs, leaves) = ends_running script (take place log) seat task left (may_come_at script log place _ legal is) in
-    let (i, less, was) = taken_at log place seat _ (omega (arith, slice_get_within log place _ is)) runs in
+    let (i, less, was) = taken_at log place seat _ runs in
     record { runner = home; found = value; taken = i; before = less; takes = was; leaves = leaves }
 
 leaves_of_found_main : (script : Plan) (log : List Entry) (place seat task left : ℕ) → IsLegal script log → IsAt log place seat (kinds.MainEnd task left)
     → LeavesOfFoundMain script log place seat task left
 leaves_of_found_main script log place seat task left legal is =
     let (home, value, runs, leaves) = main_ends_running script (take place log) seat task left (may_come_at script log place _ legal is) in
-    let (i, less, was) = taken_at log place seat _ (omega (arith, slice_get_within log place _ is)) runs in
+    let (i, less, was) = taken_at log place seat _ runs in
     record { queue = home; found = value; taken = i; before = less; takes = was; leaves = leaves }
 
 -- in every legal log the state moves along
