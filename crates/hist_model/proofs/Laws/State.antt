@@ -10,7 +10,6 @@ use Rattle.task_base.specs.declared.entry.Entry.{Entry}
 use Rattle.task_base.specs.declared.entry.Kind.{Kind}
 use Rattle.task_base.specs.declared.entry.Kind.TheVariants as kinds
 use Rattle.list_laws.specs.Lists.{holds_of}
-use Rattle.task_model.specs.Posts.{is_taken, is_main_taken, takes, main_takes}
 use Rattle.task_model.specs.Past.{fold_past}
 use Rattle.task_model.specs.Seats.{Running, running, runs_of, steps_of}
 use Rattle.task_model.specs.Cells.{cell_of, cell_after, main_cell_of, main_cell_after}
@@ -19,9 +18,10 @@ use Rattle.hist_model.specs.Allowed.{has_done, may_come}
 use Rattle.hist_model.specs.Legal.{IsLegal}
 use Rattle.hist_model.specs.Laws.Places.{IsAt}
 use Rattle.hist_model.specs.Laws.State.{EndOfSequence, EndOfQueue, IsLastLeft, LeavesOfFound, LeavesOfFoundMain, StateMovesAlong}
-use Rattle.hist_model.proofs.Laws.AtPlaces.{of_past, take_at, in_past, passed_by, may_come_at}
+use Rattle.hist_model.proofs.Laws.AtPlaces.{of_past, take_at, may_come_at}
 use Rattle.hist_model.proofs.Laws.Choice.{found}
 use Rattle.hist_model.proofs.Laws.Since.{taking, running_since}
+use Rattle.hist_model.proofs.Laws.Starts.{tasks_start_at_most_once}
 use Rattle.hist_model.proofs.Laws.Takes.{take_is, main_take_is}
 
 -- each place of a log has an entry
@@ -43,30 +43,7 @@ taken_at log k seat w runs =
     let (less, is) = of_past log since.place k _ since.is in
     (since.place, less, is)
 
--- ---- a task is taken at one place
-
--- of two places where a task is taken none is before the other
-no_take_before : (script : Plan) (log : List Entry) (i k a b task p q v w : ℕ) → IsLegal script log → i < k → IsAt log i a (kinds.Take task p v)
-    → IsAt log k b (kinds.Take task q w) → ⊥
-unfolding is_taken
-no_take_before script log i k a b task p q v w legal less first second = both_ways (is_taken (take k log) task)
-    (take_is script (take k log) b task q w (may_come_at script log k _ legal second)).not_taken
-    (passed_by (λ e. takes task e.kind) (take k log) i _ (in_past log i k less ∙ first) (eq-eqb task task refl))
-
-no_main_take_before : (script : Plan) (log : List Entry) (i k a b task p q v w : ℕ) → IsLegal script log → i < k → IsAt log i a (kinds.MainTake task p v)
-    → IsAt log k b (kinds.MainTake task q w) → ⊥
-unfolding is_main_taken
-no_main_take_before script log i k a b task p q v w legal less first second =
-    let is = main_take_is script (take k log) b task q w (may_come_at script log k _ legal second) in
-    both_ways (is_main_taken (take k log) task)
-    (ap (is_main_taken (take k log)) (sym is.task_is) ∙ is.is_front.not_taken)
-    (passed_by (λ e. main_takes task e.kind) (take k log) i _ (in_past log i k less ∙ first) (eq-eqb task task refl))
-
--- the runner, or the queue, of a take
-abbrev home_of_kind : ℕ → Kind → ℕ
-home_of_kind n (kinds.Take task runner value) = runner
-home_of_kind n (kinds.MainTake task queue value) = queue
-home_of_kind n kind = n
+-- ---- entries at one place
 
 -- of places that are not one before the other
 one_place : (i k : ℕ) → (i < k → ⊥) → (k < i → ⊥) → i ≡ k
@@ -75,18 +52,6 @@ one_place i k a b = grind arith
 -- two entries at one place
 pub same_at : (log : List Entry) (i k a b : ℕ) (m n : Kind) → i ≡ k → IsAt log i a m → IsAt log k b n → m ≡ n
 same_at log i k a b m n same first second = ap (λ e. e.kind) (same_Some _ _ (sym first ∙ ap (slice_get log) same ∙ second))
-
-one_runner : (script : Plan) (log : List Entry) (i k a b task p q v w : ℕ) → IsLegal script log → IsAt log i a (kinds.Take task p v)
-    → IsAt log k b (kinds.Take task q w) → p ≡ q
-one_runner script log i k a b task p q v w legal first second = ap (home_of_kind 0) (same_at log i k a b _ _
-    (one_place i k (λ less. no_take_before script log i k a b task p q v w legal less first second)
-    (λ less. no_take_before script log k i b a task q p w v legal less second first)) first second)
-
-one_queue : (script : Plan) (log : List Entry) (i k a b task p q v w : ℕ) → IsLegal script log → IsAt log i a (kinds.MainTake task p v)
-    → IsAt log k b (kinds.MainTake task q w) → p ≡ q
-one_queue script log i k a b task p q v w legal first second = ap (home_of_kind 0) (same_at log i k a b _ _
-    (one_place i k (λ less. no_main_take_before script log i k a b task p q v w legal less first second)
-    (λ less. no_main_take_before script log k i b a task q p w v legal less second first)) first second)
 
 -- ---- ends
 
@@ -222,8 +187,8 @@ cell_next script log s k value seat (kinds.End task left) legal is last = of_run
                 none : (x : ℕ) → EndOfSequence script log s k x → ⊥
                 none x end =
                     let task_is : end.task ≡ task = ap ended_task (same_at log k k end.seat seat _ _ refl end.ends is) in
-                    let home_is = one_runner script log end.taken i end.seat seat task end.runner home end.found v legal
-                    (subst (λ t. IsAt log end.taken end.seat (kinds.Take t end.runner end.found)) task_is end.takes) was in
+                    let home_is = ((tasks_start_at_most_once script log legal).one_take end.taken i end.seat seat task end.runner home end.found v
+                    (subst (λ t. IsAt log end.taken end.seat (kinds.Take t end.runner end.found)) task_is end.takes) was).2 in
                     both_ways (eqb (sequence_of script home task) s) same (eq-eqb (sequence_of script home task) s
                     (ap (λ r. sequence_of script r task) (sym home_is) ∙ ap (sequence_of script end.runner) (sym task_is) ∙ end.of_sequence))
 cell_next script log s k value seat kind legal is last =
@@ -276,8 +241,8 @@ main_cell_next script log q k value seat (kinds.MainEnd task left) legal is last
                 none : (x : ℕ) → EndOfQueue log q k x → ⊥
                 none x end =
                     let task_is : end.task ≡ task = ap ended_task (same_at log k k end.seat seat _ _ refl end.ends is) in
-                    let home_is = one_queue script log end.taken i end.seat seat task q home end.found v legal
-                    (subst (λ t. IsAt log end.taken end.seat (kinds.MainTake t q end.found)) task_is end.takes) was in
+                    let home_is = ((tasks_start_at_most_once script log legal).one_main_take end.taken i end.seat seat task q home end.found v
+                    (subst (λ t. IsAt log end.taken end.seat (kinds.MainTake t q end.found)) task_is end.takes) was).2 in
                     both_ways (eqb home q) same (eq-eqb home q (sym home_is))
 main_cell_next script log q k value seat kind legal is last =
     last_stays (EndOfQueue log q) k value (λ x end. no_main_end_at log q k seat x kind is refl end) last
