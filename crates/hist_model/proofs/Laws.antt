@@ -15,6 +15,7 @@ pub mod Differing
 pub mod OneThing
 pub mod JobEntries
 pub mod Rising
+pub mod LegalPast
 pub mod AtPlaces
 pub mod OneSeat
 pub mod Phases

@@ -10,5 +10,6 @@ pub mod Places
 pub mod Starts
 pub mod Singly
 pub mod Whole
+pub mod LegalPast
 pub mod State
 pub mod Order
