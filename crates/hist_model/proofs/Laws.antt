@@ -34,3 +34,5 @@ pub mod EntriesDriver
 pub mod EntriesTasks
 pub mod EntriesJobs
 pub mod Entries
+pub mod State
+pub mod Order

@@ -14,3 +14,5 @@ pub mod Starts
 pub mod Singly
 pub mod Whole
 pub mod LegalPast
+pub mod State
+pub mod Order

@@ -6,3 +6,5 @@ pub mod Starts
 pub mod Singly
 pub mod Entries
 pub mod Whole
+pub mod State
+pub mod Order
