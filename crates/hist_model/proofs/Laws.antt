@@ -35,4 +35,7 @@ pub mod EntriesTasks
 pub mod EntriesJobs
 pub mod Entries
 pub mod State
+pub mod OrderPasts
+pub mod OrderKeys
+pub mod OrderDraws
 pub mod Order

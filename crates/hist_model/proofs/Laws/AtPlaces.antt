@@ -1,6 +1,6 @@
 -- A log at one of its places: the past of the place, and the entry that may come after it.
-use Rattle.std.proofs.Common.{◌≡◌, ℕ, zero, suc, ◌+◌, ◌<◌, ◌≤◌, Bool, true, false, leb, List, [], ◌∷◌, ◌++◌, length, take, drop, refl, sym, ap, subst, ◌∙◌, Some, inl, inr, arith}
-use Rattle.std.specs.Prelude.{◌⊎◌, slice_get, filter}
+use Rattle.std.proofs.Common.{◌≡◌, ℕ, zero, suc, ◌<◌, Bool, true, leb, List, [], ◌∷◌, ◌++◌, length, take, drop, refl, sym, ap, subst, ◌∙◌, Some, inl, inr, arith}
+use Rattle.std.specs.Prelude.{◌⊎◌, slice_get}
 use Rattle.std.specs.List.{list_any}
 use Rattle.std.proofs.lemmas.Bool.{and_parts, or_cases, or_left, or_right}
 use Rattle.std.proofs.lemmas.List.{length-take-le}
@@ -76,4 +76,5 @@ allowed_at script log k e legal is = each_is_allowed script (take k log) e (drop
 
 pub may_come_at : (script : Plan) (log : List Entry) (k : ℕ) (e : Entry) → IsLegal script log → slice_get log k ≡ Some e
     → may_come script (take k log) e.seat e.kind ≡ true
-may_come_at script log k e legal is = (and_parts (leb e.seat script.workers) (may_come script (take k log) e.seat e.kind) (allowed_at script log k e legal is)).1
+may_come_at script log k e legal is = (and_parts (leb e.seat script.workers) (may_come script (take k log) e.seat e.kind)
+    (allowed_at script log k e legal is)).1

@@ -1,7 +1,7 @@
 -- What shutdown waits for and forbids in a legal log, over its places.
 use Rattle.std.proofs.Common.{◌≡◌, ℕ, ◌+◌, ◌<◌, Bool, true, false, List, [], ◌∷◌, ◌++◌, length, take, refl, sym, ap, subst, ◌∙◌, Option, Some, None, ⊎_elim, arith, cond, leb, eqb}
 use Rattle.std.specs.Prelude.{not, ◌&&◌, slice_get, Contains}
-use Rattle.std.specs.List.{range_with_len, AllByRecursion}
+use Rattle.std.specs.List.{range_with_len}
 use Rattle.std.specs.Option.{option_map_or}
 use Rattle.std.proofs.lemmas.Bool.{and_parts, eqb-true, eq-eqb, true≢false}
 use Rattle.std.proofs.lemmas.List.Elements.{All-contains, Contains-append_left, Contains-append_right}
@@ -16,9 +16,9 @@ use Rattle.task_traits.specs.declared.phase.Phase.TheVariants as phases
 use Rattle.task_traits.specs.declared.traits.Behaviour.{Behaviour}
 use Rattle.task_traits.specs.declared.traits.Behaviour.TheVariants.{ContinueOnShutdown, SkipOnShutdown, BlockShutdown}
 use Rattle.list_laws.specs.Lists.{holds_of}
-use Rattle.list_laws.proofs.Elements.{push_induction, AllByRecursion-append, AllByRecursion-map, AllByRecursion-contains, slice_get-end}
+use Rattle.list_laws.proofs.Elements.{push_induction, AllByRecursion-contains}
 use Rattle.list_laws.proofs.Made.{contains_range}
-use Rattle.list_laws.proofs.Places.{slice_get-more, slice_get_push}
+use Rattle.list_laws.proofs.Places.{slice_get_push}
 use Rattle.task_model.specs.Past.{fold_past}
 use Rattle.task_model.specs.Phase.{phase_of}
 use Rattle.task_model.specs.Posts.{Posted, posts, posted_by, post_behind, is_taken, takes, is_ended, ends}

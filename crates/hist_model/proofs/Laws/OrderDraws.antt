@@ -1,0 +1,416 @@
+-- The main tasks of a lane are taken in the order of what they drew.
+use Rattle.std.proofs.Common.{◌≡◌, ℕ, zero, suc, ◌+◌, ◌<◌, ◌≤◌, Bool, true, false, eqb, cond, List, [], ◌∷◌, ◌++◌, length, take, drop, refl, sym, ap, subst, ◌∙◌, append_assoc, Option, Some, None, inl, inr, arith}
+use Rattle.std.specs.Prelude.{◌⊎◌, not, ◌&&◌, nat_lt, Contains, option_and_then, filter, if◌then◌else◌}
+use Rattle.std.specs.Option.{option_map, option_to_list}
+use Rattle.std.specs.List.{AllByRecursion, flat_map, range_with_len}
+use Rattle.std.proofs.lemmas.Bool.{eqb-true, and_parts, not-true, eq-eqb, both_ways, ltb-true, false_from_ne_true}
+use Rattle.std.proofs.lemmas.Option.{none-some, same_Some}
+use Rattle.std.proofs.lemmas.List.{append-nil, take-append-drop, take-append-le}
+use Rattle.std.proofs.lemmas.List.Elements.{All-contains}
+use Rattle.std.proofs.Math.Seq.{take-append_seam}
+use Rattle.task_base.specs.Plan.{Plan}
+use Rattle.task_base.specs.declared.entry.Entry.{Entry}
+use Rattle.task_base.specs.declared.entry.Kind.TheVariants as kinds
+use Rattle.list_laws.specs.Lists.{IsLeast, count, holds_of}
+use Rattle.list_laws.proofs.Elements.{slice_get-front, AllByRecursion-append, AllByRecursion-contains, AllByRecursion-filter, push_induction}
+use Rattle.list_laws.proofs.Made.{contains_filter, contains_filter_map, filter_contains, filter_map_contains}
+use Rattle.task_model.specs.Time.{tick_from}
+use Rattle.task_model.specs.Posts.{Posted, is_delayed, ripens_before, post_behind, main_posts, is_main_taken, main_takes}
+use Rattle.task_base.specs.declared.script.Lane.{Lane}
+use Rattle.task_base.specs.declared.script.Lane.TheVariants.{Immediate, Delayed}
+use Rattle.task_model.specs.Cells.{main_cell_of}
+use Rattle.task_model.specs.MainQueues.{streak_of, Front, is_of_lane, is_immediate, is_in_lane, front_with, order_below, front_of, fronts_of, is_open, open_fronts, class_of, chosen_class, chosen_fronts, immediate_fronts, is_starved, chosen_of, choice_among, of_least_class}
+use Rattle.queue_laws.specs.Fronts.{lane_of}
+use Rattle.queue_laws.proofs.Lanes.{front_is_first}
+use Rattle.task_model.proofs.Growth.{draws_push}
+use Rattle.task_model.specs.Orders.{ripens, ripening, draws, next_draw, drawn_at, moment_of, moment_at, order_of}
+use Rattle.queue_laws.specs.Orders.{Distinct}
+use Rattle.queue_laws.proofs.Orders.{drawn, order_is}
+use Rattle.hist_model.specs.Allowed.{is_front, by_script, may_come}
+use Rattle.hist_model.specs.Legal.{IsLegal}
+use Rattle.hist_model.specs.Laws.Places.{IsAt}
+use Rattle.hist_model.specs.Laws.Order.{HasOrderAt}
+use Rattle.hist_model.proofs.Laws.AtPlaces.{in_past, of_past, passes_at, passed_by, past_is_legal, may_come_at}
+use Rattle.hist_model.proofs.Laws.Choice.{found, of_least}
+use Rattle.hist_model.proofs.Laws.Rising.{legal_rises, orders_are_distinct}
+use Rattle.hist_model.proofs.Laws.OrderPasts.{take_take, longer_past, tick_early, IsPostedAt, was_posted, posts_early, no_tick_before}
+
+-- ---- orders
+
+-- draws never fall
+pub draws_rise : (past rest : List Entry) → draws past ≤ draws (past ++ rest)
+draws_rise past = push_induction (λ rest. draws past ≤ draws (past ++ rest)) (omega (arith, ap draws (append-nil past)))
+    (λ rest e less. omega (arith, less, ap draws (sym (append_assoc past rest (e ∷ []))) ∙ draws_push (past ++ rest) e))
+
+-- what is drawn at or behind a past is not below its next draw
+pub draws_by : (past rest : List Entry) (k : ℕ) → length past ≤ k → next_draw past ≤ next_draw (take k (past ++ rest))
+draws_by past rest k le =
+    let all = past ++ rest in
+    let front : take (length past) (take k all) ≡ past = take_take all (length past) k le ∙ take-append_seam past rest in
+    let whole : past ++ drop (length past) (take k all) ≡ take k all
+    = ap (λ xs. xs ++ drop (length past) (take k all)) (sym front) ∙ take-append-drop (length past) (take k all) in
+    omega (arith, draws_rise past (drop (length past) (take k all)), ap draws whole)
+
+-- what a delayed task drew at a tick of the front
+pub drawn_in_front : (past rest : List Entry) (p : Posted) (place : ℕ) → place < length past → drawn (past ++ rest) p place ≡ drawn past p place
+drawn_in_front past rest p place less =
+    ap (λ before. option_and_then (λ moment. drawn_at before moment p) (moment_at (past ++ rest) place)) (take-append-le place past rest (omega (arith, less)))
+    ∙ ap (λ o. option_and_then (λ moment. drawn_at (take place past) moment p) (option_and_then (λ x. moment_of x.kind) o))
+    (slice_get-front past rest place less)
+
+-- what a delayed task draws is not below the next draw
+pub drawn_from : (before : List Entry) (o : Option ℕ) (p : Posted) (n : ℕ) → option_and_then (λ moment. drawn_at before moment p) o ≡ Some n
+    → next_draw before ≤ n
+drawn_from before None p n h = absurd (none-some n h)
+drawn_from before (Some moment) p n h = by (ripens before moment p) h
+  where
+    by : (b : Bool) → cond b (Some (next_draw before + count (λ q. ripens_before q p) (ripening before moment))) None ≡ Some n → next_draw before ≤ n
+    by true k = omega (arith, same_Some _ n k)
+    by false k = absurd (none-some n k)
+
+-- an order is known in the front, and so is its task, or it was drawn behind the front
+pub order_early : (script : Plan) (past rest : List Entry) (p : Posted) (n : ℕ) → IsLegal script (past ++ rest) → Contains (main_posts (past ++ rest)) p
+    → order_of (past ++ rest) p ≡ Some n → (Contains (main_posts past) p × (order_of past p ≡ Some n)) ⊎ (next_draw past ≤ n)
+order_early script past rest p n legal among is = by (is_delayed p) refl (sym (order_is later p) ∙ is)
+  where
+    later : List Entry
+    later = past ++ rest
+
+    was : IsPostedAt true later p
+    was = was_posted true later p among
+
+    at_tick : is_delayed p ≡ true → (place : ℕ) → tick_from later p.ripe ≡ Some place → drawn later p place ≡ Some n → (b : Bool)
+        → nat_lt place (length past) ≡ b → (Contains (main_posts past) p × (option_and_then (drawn past p) (tick_from past p.ripe) ≡ Some n))
+        ⊎ (next_draw past ≤ n)
+    at_tick delayed place tick h true early =
+        let less : place < length past = ltb-true place (length past) early in
+        inl (
+          posts_early true past rest p among (omega (arith, less, no_tick_before script true later p place legal was delayed tick)),
+          ap (option_and_then (drawn past p)) (tick_early past rest p.ripe place tick less) ∙ sym (drawn_in_front past rest p place less) ∙ h,
+        )
+    at_tick delayed place tick h false late = inr (omega (
+      arith,
+      draws_by past rest place (grind (arith, late)),
+      drawn_from (take place later) (moment_at later place) p n h,
+    ))
+
+    ticked_at : is_delayed p ≡ true → (o : Option ℕ) → tick_from later p.ripe ≡ o → option_and_then (drawn later p) o ≡ Some n
+        → (Contains (main_posts past) p × (option_and_then (drawn past p) (tick_from past p.ripe) ≡ Some n)) ⊎ (next_draw past ≤ n)
+    ticked_at delayed None tick h = absurd (none-some n h)
+    ticked_at delayed (Some place) tick h = at_tick delayed place tick h (nat_lt place (length past)) refl
+
+    at_post : next_draw (take p.place later) ≡ n → (b : Bool) → nat_lt p.place (length past) ≡ b
+        → (Contains (main_posts past) p × (next_draw (take p.place past) ≡ n)) ⊎ (next_draw past ≤ n)
+    at_post h true early =
+        let less : p.place < length past = ltb-true p.place (length past) early in
+        inl (posts_early true past rest p among less, ap next_draw (sym (take-append-le p.place past rest (omega (arith, less)))) ∙ h)
+    at_post h false late = inr (omega (arith, draws_by past rest p.place (grind (arith, late)), h))
+
+    by : (b : Bool) → is_delayed p ≡ b → cond b (option_and_then (drawn later p) (tick_from later p.ripe)) (Some (next_draw (take p.place later))) ≡ Some n
+        → (Contains (main_posts past) p × (order_of past p ≡ Some n)) ⊎ (next_draw past ≤ n)
+    by true delayed h = known (λ k. order_is past p ∙ ap (λ b. cond b (option_and_then (drawn past p) (tick_from past p.ripe))
+        (Some (next_draw (take p.place past)))) delayed ∙ k) (ticked_at delayed (tick_from later p.ripe) refl h)
+      where
+        known : ((option_and_then (drawn past p) (tick_from past p.ripe) ≡ Some n) → order_of past p ≡ Some n)
+            → (Contains (main_posts past) p × (option_and_then (drawn past p) (tick_from past p.ripe) ≡ Some n)) ⊎ (next_draw past ≤ n)
+            → (Contains (main_posts past) p × (order_of past p ≡ Some n)) ⊎ (next_draw past ≤ n)
+        known f (inl k) = inl (k.0, f k.1)
+        known f (inr k) = inr k
+    by false immediate h = known (at_post (same_Some _ n h) (nat_lt p.place (length past)) refl)
+      where
+        known : (Contains (main_posts past) p × (next_draw (take p.place past) ≡ n)) ⊎ (next_draw past ≤ n)
+            → (Contains (main_posts past) p × (order_of past p ≡ Some n)) ⊎ (next_draw past ≤ n)
+        known (inl k) = inl (
+          k.0,
+          order_is past p ∙ ap (λ b. cond b (option_and_then (drawn past p) (tick_from past p.ripe))
+              (Some (next_draw (take p.place past)))) immediate ∙ ap Some k.1,
+        )
+        known (inr k) = inr k
+
+-- an element of a list with one more in front
+pub one_more : {A : Type 0} (x : A) (xs : List A) (y : A) → Contains (x ∷ xs) y → (x ≡ y) ⊎ Contains xs y
+one_more x xs y (zero, less, is) = inl is
+one_more x xs y (suc k, less, is) = inr (k, omega (arith, less), is)
+
+-- where no two have one number, two with one number are the same
+pub same_number : (number : Posted → Option ℕ) (ps : List Posted) (p q : Posted) (n : ℕ) → Distinct number ps → Contains ps p → Contains ps q
+    → number p ≡ Some n → number q ≡ Some n → p ≡ q
+same_number number [] p q n apart (k, less, is) among pn qn = absurd (omega (arith, less))
+same_number number (x ∷ ps) p q n apart one two pn qn = by (one_more x ps p one) (one_more x ps q two) (λ a b. same_number number ps p q n apart.1 a b pn qn)
+  where
+    alone : (r : Posted) → Contains ps r → (m : ℕ) → number x ≡ Some m → number r ≡ Some m → ⊥
+    alone r among = AllByRecursion-contains (λ s. (m : ℕ) → number x ≡ Some m → number s ≡ Some m → ⊥) ps r apart.0 among
+
+    by : (x ≡ p) ⊎ Contains ps p → (x ≡ q) ⊎ Contains ps q → (Contains ps p → Contains ps q → p ≡ q) → p ≡ q
+    by (inl a) (inl b) later = sym a ∙ b
+    by (inl a) (inr b) later = absurd (alone q b n (ap number a ∙ pn) qn)
+    by (inr a) (inl b) later = absurd (alone p a n (ap number b ∙ qn) pn)
+    by (inr a) (inr b) later = later a b
+
+-- ---- fronts
+
+-- the front is that of a lane of a queue
+pub record FrontOf (script : Plan) (past : List Entry) (f : Front) : Type 0 where
+  pub queue : ℕ
+  pub lane : Lane
+  pub is : front_of script past queue lane ≡ Some f
+
+pub each_front : (script : Plan) (past : List Entry) (q : ℕ) → AllByRecursion (FrontOf script past) (fronts_of script past q)
+each_front script past q = AllByRecursion-append (FrontOf script past) (option_to_list (front_of script past q Immediate))
+    (option_to_list (front_of script past q Delayed)) (one Immediate (front_of script past q Immediate) refl)
+    (one Delayed (front_of script past q Delayed) refl)
+  where
+    one : (lane : Lane) (o : Option Front) → front_of script past q lane ≡ o → AllByRecursion (FrontOf script past) (option_to_list o)
+    one lane None is = tt
+    one lane (Some f) is = (record { queue = q; lane = lane; is = is }, tt)
+
+pub each_front_of : (script : Plan) (past : List Entry) (queues : List ℕ) → AllByRecursion (FrontOf script past) (flat_map (fronts_of script past) queues)
+each_front_of script past [] = tt
+each_front_of script past (q ∷ queues) = AllByRecursion-append (FrontOf script past) (fronts_of script past q) (flat_map (fronts_of script past) queues)
+    (each_front script past q) (each_front_of script past queues)
+
+-- the chosen front is that of a lane
+pub chosen_front : (script : Plan) (past : List Entry) (f : Front) → chosen_of script past ≡ Some f → FrontOf script past f
+unfolding choice_among of_least_class open_fronts
+chosen_front script past f is = of_least (FrontOf script past) order_below
+    (if is_starved (open_fronts script past) (streak_of script past) then immediate_fronts script past else chosen_fronts script past) f
+    (either (is_starved (open_fronts script past) (streak_of script past))) is
+  where
+    chosen : AllByRecursion (FrontOf script past) (chosen_fronts script past)
+    chosen = AllByRecursion-filter (FrontOf script past) (λ g. holds_of (λ class. eqb g.class class) (chosen_class script past)) (open_fronts script past)
+        (AllByRecursion-filter (FrontOf script past) (is_open script past) _ (each_front_of script past (range_with_len 0 (length script.queues))))
+
+    either : (b : Bool) → AllByRecursion (FrontOf script past) (if b then immediate_fronts script past else chosen_fronts script past)
+    either true = AllByRecursion-filter (FrontOf script past) (λ g. is_immediate g.lane) (chosen_fronts script past) chosen
+    either false = chosen
+
+-- the front that a main take takes
+pub record TakesFront (script : Plan) (past : List Entry) (task queue : ℕ) : Type 0 where
+  pub front : Front
+  pub of_lane : FrontOf script past front
+  pub task_is : front.task ≡ task
+  pub queue_is : front.queue ≡ queue
+
+pub takes_front : (script : Plan) (past : List Entry) (seat task queue value : ℕ) → may_come script past seat (kinds.MainTake task queue value) ≡ true
+    → TakesFront script past task queue
+unfolding may_come
+takes_front script past seat task queue value h =
+    let last = and_parts _ (eqb value (main_cell_of past queue)) h in
+    let wanted = and_parts (by_script script past seat (kinds.MainTake task queue value)) (holds_of (is_front task queue) (chosen_of script past)) last.0 in
+    let front = found (is_front task queue) (chosen_of script past) wanted.1 in
+    let same = and_parts (eqb front.value.task task) (eqb front.value.queue queue) front.passes in
+    record {
+      front = front.value;
+      of_lane = chosen_front script past front.value front.is;
+      task_is = eqb-true front.value.task task same.0;
+      queue_is = eqb-true front.value.queue queue same.1;
+    }
+
+-- what is known of a main take
+pub record MainTaking (script : Plan) (log : List Entry) (place task queue : ℕ) : Type 0 where
+  pub p : Posted
+  pub order : ℕ
+  pub lane : Lane
+  pub among : Contains (main_posts (take place log)) p
+  pub ordered : order_of (take place log) p ≡ Some order
+  pub task_is : p.task ≡ task
+  pub home_is : p.home ≡ queue
+  pub before : p.place < place
+  pub seat : ℕ
+  pub posted : IsAt log p.place seat (kinds.Main task queue p.delay true)
+  pub same : post_behind (take p.place log) task queue p.delay ≡ p
+  pub in_lane : is_of_lane lane p ≡ true
+  pub not_taken : is_main_taken (take place log) p.task ≡ false
+  pub least : (f : Front) → Contains (lane_of script (take place log) queue lane) f → nat_lt f.order order ≡ false
+
+-- what an optional value is mapped to comes of it
+pub mapped_from : {A B : Type 0} (f : A → B) (o : Option A) (y : B) → option_map f o ≡ Some y → (x : A) × (o ≡ Some x) × (f x ≡ y)
+mapped_from f None y h = absurd (none-some y h)
+mapped_from f (Some x) y h = (x, refl, same_Some (f x) y h)
+
+pub main_taking : (script : Plan) (log : List Entry) (k seat task queue value : ℕ) → IsLegal script log → IsAt log k seat (kinds.MainTake task queue value)
+    → MainTaking script log k task queue
+main_taking script log k seat task queue value legal is = of_member
+    (filter_map_contains (front_with script past q lane) (filter (is_in_lane past q lane) (main_posts past))
+    t.front first.member)
+  where
+    past : List Entry
+    past = take k log
+
+    t : TakesFront script past task queue
+    t = takes_front script past seat task queue value (may_come_at script log k _ legal is)
+
+    q : ℕ
+    q = t.of_lane.queue
+
+    lane : Lane
+    lane = t.of_lane.lane
+
+    first : IsLeast order_below (lane_of script past q lane) t.front
+    first = front_is_first script past q lane t.front t.of_lane.is
+
+    of_member : ((p : Posted) × Contains (filter (is_in_lane past q lane) (main_posts past)) p × (front_with script past q lane p ≡ Some t.front))
+        → MainTaking script log k task queue
+    of_member (p, inside, made) = of_order (mapped_from (λ n. record { queue = q; lane = lane; task = p.task; order = n; class = class_of script past q })
+        (order_of past p) t.front made)
+      where
+        kept : Contains (main_posts past) p × (is_in_lane past q lane p ≡ true)
+        kept = filter_contains (is_in_lane past q lane) (main_posts past) p inside
+
+        parts : ((eqb p.home q && is_of_lane lane p) ≡ true) × (not (is_main_taken past p.task) ≡ true)
+        parts = and_parts (eqb p.home q && is_of_lane lane p) (not (is_main_taken past p.task)) kept.1
+
+        where_is : (eqb p.home q ≡ true) × (is_of_lane lane p ≡ true)
+        where_is = and_parts (eqb p.home q) (is_of_lane lane p) parts.0
+
+        was : IsPostedAt true past p
+        was = was_posted true past p kept.0
+
+        there : (p.place < k) × IsAt log p.place was.seat (kinds.Main p.task p.home p.delay true)
+        there = of_past log p.place k _ was.is
+
+        of_order : ((n : ℕ) × (order_of past p ≡ Some n) × (record { queue = q; lane = lane; task = p.task; order = n; class = class_of script past q }
+            ≡ t.front))
+            → MainTaking script log k task queue
+        of_order (n, order_is, front) = record {
+          p = p;
+          order = n;
+          lane = lane;
+          among = kept.0;
+          ordered = order_is;
+          task_is = task_is;
+          home_is = home_is;
+          before = there.0;
+          seat = was.seat;
+          posted = there.1 ∙ ap (λ m. Some (record { seat = was.seat; kind = kinds.Main m p.home p.delay true })) task_is
+              ∙ ap (λ r. Some (record { seat = was.seat; kind = kinds.Main task r p.delay true })) home_is;
+          same = ap (λ before. post_behind before task queue p.delay) (sym (take_take log p.place k (omega (arith, there.0))))
+              ∙ ap (λ m. post_behind (take p.place past) m queue p.delay) (sym task_is)
+              ∙ ap (λ r. post_behind (take p.place past) p.task r p.delay) (sym home_is) ∙ was.same;
+          in_lane = where_is.1;
+          not_taken = not-true (is_main_taken past p.task) parts.1;
+          least = λ f among. ap (nat_lt f.order) (ap (λ g. g.order) front) ∙ All-contains (λ y. order_below y t.front ≡ false) (lane_of script past q lane) f
+              first.none_below (subst (λ r. Contains (lane_of script past r lane) f) (sym here) among);
+        }
+          where
+            task_is : p.task ≡ task
+            task_is = ap (λ g. g.task) front ∙ t.task_is
+
+            here : q ≡ queue
+            here = ap (λ g. g.queue) front ∙ t.queue_is
+
+            home_is : p.home ≡ queue
+            home_is = eqb-true p.home q where_is.0 ∙ here
+
+-- ---- two main takes
+
+-- what was taken stays taken, and what is taken at a place is taken behind it
+pub main_still_taken : (log : List Entry) (i j t : ℕ) → i < j → is_main_taken (take i log) t ≡ true → is_main_taken (take j log) t ≡ true
+unfolding is_main_taken
+main_still_taken log i j t less taken =
+    let at = passes_at (λ e. main_takes t e.kind) (take i log) taken in
+    let (before, is) = of_past log at.place i at.value at.is in
+    passed_by (λ e. main_takes t e.kind) (take j log) at.place at.value (in_past log at.place j (omega (arith, less, before)) ∙ is) at.passes
+
+pub main_taken_behind : (log : List Entry) (i j seat t q v : ℕ) → i < j → IsAt log i seat (kinds.MainTake t q v) → is_main_taken (take j log) t ≡ true
+unfolding is_main_taken
+main_taken_behind log i j seat t q v less is = passed_by (λ e. main_takes t e.kind) (take j log) i _ (in_past log i j less ∙ is) (eq-eqb t t refl)
+
+-- two tasks that are both immediate or both delayed are of one lane
+pub one_lane : (lane : Lane) (p q : Posted) → is_delayed p ≡ is_delayed q → is_of_lane lane p ≡ true → is_of_lane lane q ≡ true
+one_lane Immediate p q same is = ap not (sym same) ∙ is
+one_lane Delayed p q same is = sym same ∙ is
+
+-- a task that has an order and has not been taken is in its lane
+pub among_lane : (script : Plan) (past : List Entry) (q : ℕ) (lane : Lane) (p : Posted) (n : ℕ) → Contains (main_posts past) p → order_of past p ≡ Some n
+    → p.home ≡ q → is_of_lane lane p ≡ true → is_main_taken past p.task ≡ false
+    → Contains (lane_of script past q lane) (record { queue = q; lane = lane; task = p.task; order = n; class = class_of script past q })
+among_lane script past q lane p n among ordered home of free = contains_filter_map (front_with script past q lane) _ p _
+    (contains_filter (is_in_lane past q lane) (main_posts past) p among (rw (eq-eqb p.home q home, of, free) refl))
+    (ap (option_map (λ order. record { queue = q; lane = lane; task = p.task; order = order; class = class_of script past q })) ordered)
+
+-- the order of the first of two takes of one lane is below that of the second
+pub orders_rise : (script : Plan) (log : List Entry) (i j seat worker task other queue value w : ℕ) → IsLegal script log → i < j
+    → IsAt log i seat (kinds.MainTake task queue value) → IsAt log j worker (kinds.MainTake other queue w)
+    → (a : MainTaking script log i task queue) (b : MainTaking script log j other queue) → is_delayed a.p ≡ is_delayed b.p → a.order < b.order
+orders_rise script log i j seat worker task other queue value w legal less first second a b one =
+    by (order_early script past rest b.p b.order (subst (IsLegal script) (sym longer) (past_is_legal script log j _ legal second))
+    (subst (λ l. Contains (main_posts l) b.p) (sym longer) b.among) (ap (λ l. order_of l b.p) longer ∙ b.ordered))
+  where
+    past : List Entry
+    past = take i log
+
+    rest : List Entry
+    rest = drop i (take j log)
+
+    longer : past ++ rest ≡ take j log
+    longer = longer_past log i j (omega (arith, less))
+
+    known : IsLegal script past
+    known = past_is_legal script log i _ legal first
+
+    -- the two have two posts
+    differ : a.p ≡ b.p → ⊥
+    differ same = both_ways (is_main_taken (take j log) b.p.task) b.not_taken
+        (ap (is_main_taken (take j log)) (sym (ap (λ p. p.task) same) ∙ a.task_is) ∙ main_taken_behind log i j seat task queue value less first)
+
+    -- the second task waited already when the first was taken
+    waited : Contains (main_posts past) b.p → order_of past b.p ≡ Some b.order → a.order < b.order
+    waited among ordered = at (nat_lt a.order b.order) refl
+      where
+        not_before : nat_lt b.order a.order ≡ false
+        not_before = a.least _ (among_lane script past queue a.lane b.p b.order among ordered b.home_is (one_lane a.lane a.p b.p one a.in_lane)
+            (false_from_ne_true (is_main_taken past b.p.task) (λ h. both_ways (is_main_taken (take j log) b.p.task) b.not_taken
+            (main_still_taken log i j b.p.task less h))))
+
+        at : (c : Bool) → nat_lt a.order b.order ≡ c → a.order < b.order
+        at true h = ltb-true a.order b.order h
+        at false h =
+            let equal : a.order ≡ b.order = grind (arith, h, not_before) in
+            absurd (differ (same_number (order_of past) (main_posts past) a.p b.p a.order (orders_are_distinct script past known) a.among among a.ordered
+            (ordered ∙ ap Some (sym equal))))
+
+    by : (Contains (main_posts past) b.p × (order_of past b.p ≡ Some b.order)) ⊎ (next_draw past ≤ b.order) → a.order < b.order
+    by (inl early) = waited early.0 early.1
+    by (inr late) = omega (
+      arith,
+      late,
+      AllByRecursion-contains (λ p. (n : ℕ) → order_of past p ≡ Some n → n < next_draw past) (main_posts past) a.p
+          (legal_rises script past known).orders_below a.among a.order a.ordered,
+    )
+
+-- of immediate main tasks with orders one below the other the first was posted first
+pub drawn_first : (script : Plan) (log : List Entry) (i j task other queue : ℕ) → i ≤ j
+    → (a : MainTaking script log i task queue) (b : MainTaking script log j other queue)
+    → a.p.delay ≡ 0 → b.p.delay ≡ 0 → a.order < b.order → a.p.place < b.p.place
+drawn_first script log i j task other queue le a b a_now b_now below = at (nat_lt a.p.place b.p.place) refl
+  where
+    order_at : (k t : ℕ) (c : MainTaking script log k t queue) → c.p.delay ≡ 0 → next_draw (take c.p.place log) ≡ c.order
+    order_at k t c now = ap next_draw (sym (take_take log c.p.place k (omega (arith, c.before))))
+        ∙ same_Some _ c.order (ap (λ d. cond (nat_lt 0 d) (option_and_then (drawn (take k log) c.p) (tick_from (take k log) c.p.ripe))
+        (Some (next_draw (take c.p.place (take k log))))) (sym now) ∙ sym (order_is (take k log) c.p) ∙ c.ordered)
+
+    at : (c : Bool) → nat_lt a.p.place b.p.place ≡ c → a.p.place < b.p.place
+    at true h = ltb-true a.p.place b.p.place h
+    at false h =
+        let longer = longer_past log b.p.place a.p.place (grind (arith, h)) in
+        absurd (omega (
+          arith,
+          below,
+          order_at i task a a_now,
+          order_at j other b b_now,
+          draws_rise (take b.p.place log) (drop b.p.place (take a.p.place log)),
+          ap draws longer,
+        ))
+
+-- the main task that is taken has an order
+abbrev pub has_order : (script : Plan) (log : List Entry) (place task queue : ℕ) → MainTaking script log place task queue → HasOrderAt log place task queue
+has_order script log place task queue a = record {
+  post = a.p.place;
+  poster = a.seat;
+  delay = a.p.delay;
+  order = a.order;
+  before = a.before;
+  posts = a.posted;
+  ordered = ap (order_of (take place log)) a.same ∙ a.ordered;
+}
