@@ -1,19 +1,20 @@
-ghost use Rattle.std.specs.Prelude.{◌≡◌};
-ghost use Rattle.task_base.specs.Fault.{note_of, status_of};
+ghost use Rattle.std.specs.Prelude.{◌≡◌, ◌+◌, ◌≤◌, ◌++◌, length};
+ghost use Rattle.task_base.specs.Fault.{bad_script_note, note_of, reason_name, status_of};
 
+use line_text::{Line, add, add_decimal};
 use std::alloc::AllocError;
-use std::fmt;
+use std::{fmt, str};
 use thiserror::Error;
 
-/// Why a run did not end with status 0. It is shown as its note, with the line of a log that is not legal behind it.
+/// Why a run did not end with status 0. It is shown as its note.
 #[derive(Debug, PartialEq, Eq, Error, Drop)]
 pub enum Fault {
     /// The log is not that of a legal, whole run; `line` counts from 1.
     NotLegal { line: u32 },
     /// The words of the command line are none of the accepted ones.
     BadWords,
-    /// The input is no script. `line` counts from 1, and `reason` is the number of the rule that it breaks;
-    /// both are 0 where they are not told.
+    /// The input is no script. `line` counts from 1, and `reason` is the number of the rule that it breaks. A script
+    /// that this program does not run yet has line 0 and the reason `NOT_BUILT`.
     BadScript { line: u32, reason: u8 },
     /// Reading failed.
     ReadFault,
@@ -25,11 +26,14 @@ pub enum Fault {
     TooLarge,
 }
 
+/// The reason of a script that breaks no rule, and that this program does not run yet (this project's own).
+pub const NOT_BUILT: u8 = 15;
+
 impl fmt::Display for Fault {
     fn fmt<W: fmt::Write>(&self, f: &mut fmt::Formatter<W>) -> fmt::Result {
-        match self {
-            Fault::NotLegal { line } => write!(f, "{}: line {line}", self.note()),
-            _ => f.write_str(self.note()),
+        match str::from_utf8(&self.note()) {
+            Ok(note) => f.write_str(note),
+            Err(_) => Err(fmt::Error),
         }
     }
 }
@@ -50,18 +54,66 @@ impl Fault {
         }
     }
 
-    /// What is told of the fault: its words alone, without a line feed (this project's own rule).
-    pub fn note(&self) -> &'static str
-        ensures { result.now ≡ note_of self.now }
+    /// What is told of the fault, without a line feed (this project's own rule). It takes no memory.
+    pub fn note(&self) -> Line
+        ensures note { result.items ≡ note_of self.now }
+        ensures short { length result.items ≤ 100 }
     {
-        match self {
-            Fault::NotLegal { .. } => "not legal",
-            Fault::BadWords => "bad words",
-            Fault::BadScript { .. } => "bad script",
-            Fault::ReadFault => "read fault",
-            Fault::WriteFault => "write fault",
-            Fault::NoMemory(_) => "no memory",
-            Fault::TooLarge => "too large",
+        let mut note = Line::new();
+        match *self {
+            Fault::NotLegal { line } => {
+                add(&mut note, b"not legal: line ");
+                add_decimal(&mut note, u64::from(line));
+            }
+            Fault::BadWords => add(&mut note, b"bad words"),
+            Fault::BadScript {
+                reason: NOT_BUILT,
+                ..
+            } => add(&mut note, b"bad script: not built"),
+            Fault::BadScript { line, reason } => add_rule(&mut note, line, reason),
+            Fault::ReadFault => add(&mut note, b"read fault"),
+            Fault::WriteFault => add(&mut note, b"write fault"),
+            Fault::NoMemory(_) => add(&mut note, b"no memory"),
+            Fault::TooLarge => add(&mut note, b"too large"),
         }
+        note
+    }
+}
+
+// Adds the line of a script that breaks a rule, and the rule.
+fn add_rule(note: &mut Line, line: u32, reason: u8)
+    requires { length note.old.items ≤ 9 }
+    ensures note { note.new.items ≡ note.old.items ++ bad_script_note line reason }
+    ensures short { length note.new.items ≤ 100 }
+{
+    add(note, b"bad script: line ");
+    add_decimal(note, u64::from(line));
+    add(note, b": reason ");
+    add_decimal(note, u64::from(reason));
+    add(note, b" ");
+    add(note, reason_name(reason));
+}
+
+// The name of a rule of the script's grammar, by its number.
+fn reason_name(reason: u8) -> &'static [u8]
+    ensures name { result.now ≡ reason_name reason }
+    ensures short { length result.now ≤ 15 }
+{
+    match reason {
+        1 => b"NotAscii",
+        2 => b"UnknownWord",
+        3 => b"WordCount",
+        4 => b"BadNumber",
+        5 => b"OutOfRange",
+        6 => b"OutOfOrder",
+        7 => b"Undeclared",
+        8 => b"PostedTwice",
+        9 => b"DeclarationLate",
+        10 => b"BadBlock",
+        11 => b"JobUse",
+        12 => b"ShutdownTwice",
+        13 => b"ConfigTwice",
+        14 => b"TooMany",
+        _ => b"",
     }
 }

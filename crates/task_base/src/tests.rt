@@ -141,7 +141,19 @@ fn faults(rt: HostRuntime) -> Result<(), Fail> {
     for (fault, status, text) in [
         (Fault::NotLegal { line: 3 }, 1, "not legal: line 3"),
         (Fault::BadWords, 2, "bad words"),
-        (Fault::BadScript { line: 4, reason: 9 }, 3, "bad script"),
+        (
+            Fault::BadScript { line: 4, reason: 9 },
+            3,
+            "bad script: line 4: reason 9 DeclarationLate",
+        ),
+        (
+            Fault::BadScript {
+                line: 0,
+                reason: NOT_BUILT,
+            },
+            3,
+            "bad script: not built",
+        ),
         (Fault::ReadFault, 4, "read fault"),
         (Fault::WriteFault, 5, "write fault"),
         (Fault::NoMemory(AllocError), 6, "no memory"),
