@@ -1,5 +1,6 @@
-pub mod Numbers
-pub mod Pieces
-pub mod Tables
-pub mod Lines
-pub mod Form
+pub mod Flags
+pub mod LinesOfText
+pub mod ReadLines
+pub mod Puts
+pub mod Texts
+pub mod Bounds

@@ -1,8 +1,6 @@
-pub mod FormDraft
-pub mod FormLines
-pub mod Form
-pub mod Wants
-pub mod WellFormed
-pub mod Texts
-pub mod Reading
+pub mod Added
+pub mod Marks
+pub mod Scopes
+pub mod Plain
 pub mod Reader
+pub mod Written

@@ -6,8 +6,9 @@ use std::alloc::{AllocError, AllocFailed};
 /// Why bytes gave no script.
 #[derive(Clone, Copy, Debug, PartialEq, Eq)]
 pub enum ScriptFault {
-    /// The bytes have not the small form.
-    Bad,
+    /// The bytes are no script. `line` is the first bad line, counted from 1, and `reason` the number of the rule that it
+    /// breaks: the least of those that it breaks.
+    Bad { line: u32, reason: u8 },
     /// An allocation failed.
     Memory(AllocError),
 }

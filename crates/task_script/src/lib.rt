@@ -1,16 +1,31 @@
-//! The reader of scripts. It takes the scripts of a small form, a part of the grammar of `task_model`: bytes of that
-//! form give the one script that the grammar reads in them, and all others the fault that they have not that form.
+//! Scripts as texts: their reader, the writer of their canonical text, and the bound on the entries of a run.
+//!
+//! Bytes that are a script by the grammar of `script_model` give that script, and all others the first bad line and its
+//! first reason. Contracts see a script as its `Plan`.
 #![tactic(auto)]
 
+mod act;
+mod bound;
+mod config;
+mod declare;
 mod fault;
-mod keywords;
+mod groups;
+mod lines;
+mod posts;
 mod read;
 mod reader;
+mod reasons;
+mod refuse;
 mod steps;
-mod words;
+mod write;
+mod write_lines;
 
+pub use bound::events_bound;
 pub use fault::ScriptFault;
 pub use read::read_script;
+pub use write::write_script;
 
 #[cfg(test)]
 mod tests;
+#[cfg(test)]
+mod tests_write;

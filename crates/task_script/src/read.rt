@@ -1,32 +1,35 @@
-ghost use Rattle.std.specs.Prelude.{◌≡◌, IfOk, Some, None, Err};
-ghost use Rattle.script_model.specs.Grammar.{Reads};
-ghost use Rattle.task_script.specs.Form.{form_read};
-ghost use Rattle.task_script.specs.WellFormed.{WellFormed};
+ghost use Rattle.std.specs.Prelude.{◌≡◌, ◌≤◌, ℕ, Some, Err, IfOk, length};
+ghost use Rattle.script_model.specs.Canonical.{IsValid};
+ghost use Rattle.script_model.specs.Grammar.{Reads, first_fault, lines_read};
+ghost use Rattle.script_model.specs.Laws.Sound.{IsSound};
 
 use crate::fault::ScriptFault;
 use crate::reader::Reader;
-use crate::words::lines_of;
 use std::alloc::Global;
 use task_base::Script;
 
-/// Reads the text of a script, if it has the small form: workers, parallel and sequenced runners that take no
-/// blocking task, tasks of steps that compute, posts without a delay, `flush` and `shutdown`. The text is then a
-/// script of the whole grammar, the same one. The time and the memory that it takes grow with the number of bytes
-/// alone.
+/// Reads the text of a script, by the whole grammar. It has at most 4,294,967,294 bytes, so that each line has a number
+/// of 32 bits.
 ///
-/// The errors are text that has not the small form, and want of memory. Which of the two comes is open where
-/// memory runs out before a fault of the text is met.
-#[tactic(auto, unfolding(crate::specs::Form::form_read))]
+/// The errors are the first bad line, by its number, with the first reason that holds of it, and want of memory. Which
+/// of the two comes is open where memory runs out before the bad line is met.
+///
+/// The text is read once, line by line, in time that grows with the number of its bytes alone. The memory that it takes
+/// is that of the script and of one line, and some bytes for each task and job.
 pub fn read_script(alloc: Global, bytes: &[u8]) -> Result<Script, ScriptFault>
-    // The text is this script, by the whole grammar.
+    requires { length bytes.now ≤ 4294967294 }
+    // The text is this script.
     ensures read { IfOk result (λ script. Reads bytes.now script) }
-    ensures form { IfOk result (λ script. form_read bytes.now ≡ Some script) }
-    ensures formed { IfOk result WellFormed }
-    // Bytes are bad only where they have not the small form.
-    ensures bad { result ≡ Err ScriptFault.Bad → form_read bytes.now ≡ None }
+    // The text is none: this is its first bad line, and the first reason of that line.
+    ensures bad { (line reason : ℕ) → result ≡ Err (ScriptFault.Bad line reason) → first_fault bytes.now ≡ Some (line, reason) }
+    ensures valid { IfOk result IsValid }
+    ensures sound { IfOk result IsSound }
 {
-    let lines = lines_of(alloc, bytes)?;
     let mut reader = Reader::new(alloc);
-    reader.read_lines(&lines)?;
+    let mut number = 0;
+    for line in bytes.split(|byte| *byte == b'\n') {
+        number += 1;
+        reader.read_line(number, line)?;
+    }
     Ok(reader.finish())
 }

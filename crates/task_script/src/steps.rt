@@ -1,58 +1,105 @@
-ghost use Rattle.std.specs.Prelude.{◌≡◌, IfOk, map, codes};
-ghost use Rattle.std.specs.List.{slice_split};
-ghost use Rattle.script_model.specs.Words.{is_word};
-ghost use Rattle.task_script.specs.FormLines.{form_step, form_steps, all_some};
-ghost use Rattle.task_script.specs.Texts.{texts, texts_of_each};
-ghost use Rattle.task_script.specs.Reading.{Gives};
+ghost use Rattle.std.specs.Prelude.{◌≡◌, false, count_by, flat_map, slice_index_or, slice_set, true, Option, Some, None};
+ghost use Rattle.std.specs.List.{list_any};
+ghost use Rattle.task_base.specs.Steps.{is_act};
+ghost use Rattle.script_model.specs.Draft.{has_bad_scopes, is_block};
+ghost use Rattle.script_model.specs.Postings.{posts_of_step};
+ghost use Rattle.task_script.specs.Marks.{marked, is_any_marked};
+ghost use Rattle.task_script.specs.Scopes.{next_inside};
 
-use crate::fault::ScriptFault;
-use crate::keywords::step_named;
-use crate::words::number_in;
-use std::alloc::{AllocError, Global};
-use task_base::Step;
+use task_base::{Step, TaskId};
 
-/// The steps that words say: none, or some with `;` between them.
-#[tactic(auto, unfolding(crate::specs::FormLines::form_steps))]
-pub(crate) fn steps_of(alloc: Global, words: &[&[u8]]) -> Result<Vec<Step>, ScriptFault>
-    ensures { Gives (λ steps. steps.items) result (form_steps (texts words.now)) }
+/// Whether a step posts a task that has a mark, or one that a step before it posts. If not, all tasks that the steps post
+/// have their marks.
+pub(crate) fn is_any_posted(marks: &mut [bool], steps: &[Step]) -> bool
+    ensures found { result ≡ is_any_marked marks.old (flat_map posts_of_step steps.now) }
+    ensures marked { result ≡ false → marks.new ≡ marked marks.old (flat_map posts_of_step steps.now) }
 {
-    if words.is_empty() {
-        return Ok(Vec::new(alloc));
+    for step in steps {
+        if mark_posted(marks, step) {
+            return true;
+        }
     }
-    let pieces = pieces_of(alloc, words)?;
-    steps_of_pieces(alloc, &pieces)
+    false
 }
 
-fn steps_of_pieces(alloc: Global, pieces: &[&[&[u8]]]) -> Result<Vec<Step>, ScriptFault>
-    ensures { Gives (λ steps. steps.items) result (all_some (map form_step (texts_of_each pieces.now))) }
+/// Gives the task that a step posts its mark. Whether it had one.
+fn mark_posted(marks: &mut [bool], step: &Step) -> bool
+    ensures found { result ≡ is_any_marked marks.old (posts_of_step step.now) }
+    ensures marked { marks.new ≡ marked marks.old (posts_of_step step.now) }
 {
-    let mut steps = Vec::new(alloc);
-    for piece in pieces {
-        let step = step_of(piece).ok_or(ScriptFault::Bad)?;
-        steps.push(step)?;
+    match *step {
+        Step::Post { task, .. } | Step::Main { task, .. } => mark(marks, task),
+        Step::Add(_) | Step::Mul(_) | Step::Set(_) | Step::Block(_) | Step::Unblock => false,
     }
-    Ok(steps)
 }
 
-/// What stands between the words `;`.
-fn pieces_of<'a>(alloc: Global, words: &'a [&'a [u8]]) -> Result<Vec<&'a [&'a [u8]]>, AllocError>
-    ensures { IfOk result (λ pieces. texts_of_each pieces.items ≡ slice_split (λ word. is_word word (codes ";")) (texts words.now)) }
+/// Gives a task its mark, if it is one of the marks. Whether it had one.
+fn mark(marks: &mut [bool], task: TaskId) -> bool
+    ensures found { result ≡ slice_index_or marks.old task false }
+    ensures marked { marks.new ≡ slice_set marks.old task true }
 {
-    words.split(|word| is_separator(word)).collect(alloc)
+    let place = task as usize;
+    if place >= marks.len() {
+        return false;
+    }
+    let had = marks[place];
+    marks[place] = true;
+    had
 }
 
-fn is_separator(word: &[u8]) -> bool
-    ensures { result ≡ is_word word.now (codes ";") }
+/// Whether the blocking scopes of a task do not open and close in turn.
+pub(crate) fn has_bad_scopes(steps: &[Step]) -> bool
+    ensures { result ≡ has_bad_scopes false steps.now }
 {
-    word == b";".as_slice()
+    let mut inside = false;
+    for step in steps {
+        match inside_behind(inside, step) {
+            Some(next) => inside = next,
+            None => return true,
+        }
+    }
+    inside
 }
 
-#[tactic(auto, unfolding(crate::specs::FormLines::form_step))]
-fn step_of(words: &[&[u8]]) -> Option<Step>
-    ensures { result ≡ form_step (texts words.now) }
+/// Whether a blocking scope is open behind a step, or nothing where the step opens a second scope or closes none.
+fn inside_behind(inside: bool, step: &Step) -> Option<bool>
+    ensures { result ≡ next_inside inside step.now }
 {
-    match words {
-        [word, number] => step_named(word, number_in(0, u64::MAX, number)?),
-        _ => None,
+    match *step {
+        Step::Block(_) => (!inside).then_some(true),
+        Step::Unblock => inside.then_some(false),
+        Step::Add(_) | Step::Mul(_) | Step::Set(_) | Step::Post { .. } | Step::Main { .. } => {
+            Some(inside)
+        }
+    }
+}
+
+/// Whether a step opens a blocking scope.
+pub(crate) fn opens_scope(steps: &[Step]) -> bool
+    ensures { result ≡ list_any is_block steps.now }
+{
+    steps.iter().any(|step| matches!(*step, Step::Block(_)))
+}
+
+/// Whether a step makes an entry of the history.
+pub(crate) fn has_act_step(steps: &[Step]) -> bool
+    ensures { result ≡ list_any is_act steps.now }
+{
+    steps.iter().any(|step| is_act(step))
+}
+
+/// How many steps make an entry of the history.
+pub(crate) fn count_act_steps(steps: &[Step]) -> usize
+    ensures { result ≡ count_by is_act steps.now }
+{
+    steps.iter().filter(|step| is_act(step)).count()
+}
+
+fn is_act(step: &Step) -> bool
+    ensures { result ≡ is_act step.now }
+{
+    match *step {
+        Step::Add(_) | Step::Mul(_) | Step::Set(_) => false,
+        Step::Post { .. } | Step::Main { .. } | Step::Block(_) | Step::Unblock => true,
     }
 }

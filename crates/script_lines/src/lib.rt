@@ -1,0 +1,24 @@
+//! What one line of a script says by its words alone: a command with its values, or the reason why it says nothing.
+//! What earlier lines have to do with it is not looked at here.
+#![tactic(auto)]
+
+mod actions;
+mod command;
+mod fault;
+mod keywords;
+mod lines;
+mod numbers;
+mod places;
+mod posting;
+mod read;
+mod reason;
+mod stepped;
+mod steps;
+mod words;
+
+pub use command::Command;
+pub use fault::LineFault;
+pub use read::{read_line, without_return};
+
+#[cfg(test)]
+mod tests;
