@@ -1,1 +1,6 @@
 pub mod Lines
+pub mod Json
+pub mod JsonRows
+pub mod Words
+pub mod Kinds
+pub mod TextLines

@@ -1,13 +1,31 @@
-//! The text of a log, written to a sink.
+//! Logs as texts: the writer and the reader of a log's text, and the writer of its JSON form.
 //!
-//! What was written is a prefix of the log's text, and the whole of it where nothing failed.
+//! What was written is a prefix of the log's text, and the whole of it where nothing failed; what is read is the log of
+//! exactly this text. Contracts see a log as the list of its entries.
 #![tactic(auto)]
 
+mod entries;
+mod fault;
+mod json;
+mod json_fault;
+mod json_rows;
+mod keywords;
+mod kinds;
 mod lines;
+mod numerals;
+mod read;
 mod writer;
 
-pub use lines::{Line, line};
+pub use fault::LogFault;
+pub use json::write_json;
+pub use json_fault::JsonFault;
+pub use lines::line;
+pub use read::read_log;
 pub use writer::write_log;
 
 #[cfg(test)]
 mod tests;
+#[cfg(test)]
+mod tests_json;
+#[cfg(test)]
+mod tests_read;

@@ -3,20 +3,16 @@ ghost use Rattle.task_base.specs.declared.entry.Kind.TheVariants.{Vote, JobStep,
 ghost use Rattle.log_model.specs.LogText.{kind_words, line_of, shown, next_part, reply_parts, reply_word, vote_word, scope_word, policy_word, fence_word};
 ghost use Rattle.run_log.specs.Lines.{with_words};
 
-use arrayvec::ArrayVec;
-use itoa::Buffer;
+use line_text::{Line, add_decimal, add_number, add_word};
 use task_base::{Entry, FenceAt, JobId, JobReply, Kind, Place, Policy, QueueId, Scope};
 
-/// The bytes of one line. The longest line, that of a job's step, has 95.
-pub type Line = ArrayVec<u8, 256>;
-
 /// The line of an entry at its place, with its line feed: decimal numbers and words, parted by single spaces (this
-/// project's own rule). It takes no memory.
+/// project's own rule). The longest line, that of a job's step, has 95 bytes. It takes no memory.
 pub fn line(place: Place, entry: &Entry) -> Line
     ensures { result.items ≡ line_of place entry.now }
 {
     let mut line = Line::new();
-    extend(&mut line, Buffer::new().format(place).as_bytes());
+    add_decimal(&mut line, u64::from(place));
     add_number(&mut line, u64::from(entry.seat));
     add_kind(&mut line, &entry.kind);
     line.push(b'\n');
@@ -262,31 +258,4 @@ fn fence_bytes(at: FenceAt) -> &'static [u8]
         FenceAt::Now => b"now",
         FenceAt::Start => b"start",
     }
-}
-
-// Adds a space and the number, at most 21 bytes.
-fn add_number(line: &mut Line, number: u64)
-    requires { length line.old.items ≤ 200 }
-    ensures items { line.new.items ≡ line.old.items ++ 32 ∷ decimal number }
-    ensures short { length line.new.items ≤ length line.old.items + 21 }
-{
-    add_word(line, Buffer::new().format(number).as_bytes());
-}
-
-// Adds a space and the word.
-fn add_word(line: &mut Line, word: &[u8])
-    requires { length line.old.items + length word.now ≤ 255 }
-    ensures items { line.new.items ≡ line.old.items ++ 32 ∷ word.now }
-    ensures length { length line.new.items ≡ length line.old.items + length word.now + 1 }
-{
-    line.push(b' ');
-    extend(line, word);
-}
-
-// Adds the bytes, for which there is room.
-fn extend(line: &mut Line, bytes: &[u8])
-    requires { length line.old.items + length bytes.now ≤ 256 }
-    ensures { line.new.items ≡ line.old.items ++ bytes.now }
-{
-    let _fits = line.try_extend_from_slice(bytes);
 }

@@ -1,0 +1,49 @@
+-- The words of the line of an entry.
+use Rattle.std.proofs.Common.{◌≡◌, ℕ, ◌-◌, List, [], ◌∷◌, length, take, All, map, eqb, false, refl, ap, ◌∙◌, arith, length-append}
+use Rattle.std.specs.Fmt.{decimal}
+use Rattle.std.specs.List.{AllByRecursion, slice_split, join_with_byte}
+use Rattle.std.proofs.Math.Seq.{take-append_seam}
+use Rattle.std.proofs.lemmas.Bool.{eq-eqb, ne_eqb}
+use Rattle.std.proofs.lemmas.List.Elements.{All-nil, All-cons}
+use Rattle.std.proofs.lemmas.List.Splits.{slice_split_none, slice_split_at}
+use Rattle.task_base.specs.declared.entry.Entry.{Entry}
+use Rattle.log_model.specs.Fits.{Fits}
+use Rattle.log_model.specs.LogText.{IsLogLine, Part, entry_parts, shown, line_of}
+use Rattle.log_model.proofs.Laws.Pieces.{Lacks}
+use Rattle.log_model.proofs.Laws.LogParts.{PartFits, decimal_lacks, shown_lacks}
+use Rattle.log_model.proofs.Laws.LogLines.{line_words, seat_parts, seat_parts_fit}
+use Rattle.run_log.specs.Words.{words_of}
+
+-- a piece that lacks the byte, as a test
+fails_each : (c : ℕ) (piece : List ℕ) → Lacks c piece → All (λ b. eqb b c ≡ false) piece
+fails_each c [] h = All-nil (λ b. eqb b c ≡ false)
+fails_each c (b ∷ piece) h = All-cons (λ x. eqb x c ≡ false) b piece (ne_eqb b c h.0) (fails_each c piece h.1)
+
+-- joined pieces that lack the byte are split into the pieces
+split_joined : (c : ℕ) (piece : List ℕ) (pieces : List (List ℕ)) → AllByRecursion (Lacks c) (piece ∷ pieces)
+    → slice_split (λ b. eqb b c) (join_with_byte c (piece ∷ pieces)) ≡ piece ∷ pieces
+split_joined c piece [] h = slice_split_none (λ b. eqb b c) piece (fails_each c piece h.0)
+split_joined c piece (next ∷ pieces) h =
+    slice_split_at (λ b. eqb b c) piece c (join_with_byte c (next ∷ pieces)) (fails_each c piece h.0) (eq-eqb c c refl)
+    ∙ ap (λ rest. piece ∷ rest) (split_joined c next pieces h.1)
+
+-- no part has a space
+parts_lack_space : (parts : List Part) → AllByRecursion PartFits parts → AllByRecursion (Lacks 32) (map shown parts)
+parts_lack_space [] h = tt
+parts_lack_space (part ∷ parts) h = (shown_lacks 32 refl part h.0, parts_lack_space parts h.1)
+
+-- the words of a line are the parts of its entry
+pub words_of-line : (place : ℕ) (e : Entry) → Fits e → words_of (line_words place e) ≡ map shown (entry_parts place e)
+words_of-line place e h =
+    split_joined 32 (decimal place) (map shown (seat_parts e)) (decimal_lacks 32 refl place, parts_lack_space (seat_parts e) (seat_parts_fit e h))
+
+-- what stands before the last byte of a line is its words
+front_of-line : (place : ℕ) (e : Entry) (bytes : List ℕ) → bytes ≡ line_of place e → take (length bytes - 1) bytes ≡ line_words place e
+front_of-line place e bytes same =
+    let count : length bytes - 1 ≡ length (line_words place e) = rw (same, length-append) (omega arith) in
+    rw (count, same) (take-append_seam (line_words place e) (10 ∷ []))
+
+-- so the bytes before it are split into the parts of the entry
+pub words_of-front : (place : ℕ) (e : Entry) (bytes : List ℕ) → IsLogLine place bytes e
+    → words_of (take (length bytes - 1) bytes) ≡ map shown (entry_parts place e)
+words_of-front place e bytes h = ap words_of (front_of-line place e bytes h.same) ∙ words_of-line place e h.fits

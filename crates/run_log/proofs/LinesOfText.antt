@@ -1,0 +1,83 @@
+-- How a text falls into lines.
+use Rattle.std.proofs.Common.{◌≡◌, ◌≢◌, ◌<◌, ◌≤◌, ◌+◌, ℕ, zero, suc, min, Bool, eqb, List, [], ◌∷◌, ◌++◌, length, refl, inl, inr, arith}
+use Rattle.std.specs.List.{IsFirstMatchOrLen, concat, onto_first}
+use Rattle.std.proofs.lemmas.Bool.{both_ways, cases_eq, eq-eqb, ne_eqb, eqb-true}
+use Rattle.log_model.proofs.Laws.Pieces.{Lacks}
+use Rattle.run_log.specs.TextLines.{text_lines}
+
+-- ends a line
+abbrev pub is_feed : ℕ → Bool
+is_feed byte = eqb byte 10
+
+-- a byte that ends no line is the first of the first line
+line_grows : (byte : ℕ) (text line : List ℕ) (lines : List (List ℕ)) → byte ≢ 10 → text_lines text ≡ line ∷ lines
+    → text_lines (byte ∷ text) ≡ (byte ∷ line) ∷ lines
+line_grows byte text line lines other h = rw (ne_eqb byte 10 other, h) refl
+
+-- what stands before a line feed is the first line, with the feed
+pub text_lines-fed : (front rest : List ℕ) → Lacks 10 front → text_lines (front ++ 10 ∷ rest) ≡ (front ++ 10 ∷ []) ∷ text_lines rest
+text_lines-fed [] rest h = refl
+text_lines-fed (byte ∷ front) rest h = line_grows byte (front ++ 10 ∷ rest) (front ++ 10 ∷ []) (text_lines rest) h.0 (text_lines-fed front rest h.1)
+
+-- the part is the first line of the text that begins with it
+abbrev IsFirstPart : List ℕ → List ℕ → Type 0
+IsFirstPart line rest = (i : ℕ) → length line ≡ min (i + 1) (length (line ++ rest)) → IsFirstMatchOrLen is_feed (line ++ rest) i → 0 < length (line ++ rest)
+    → text_lines (line ++ rest) ≡ line ∷ text_lines rest
+
+-- where the first byte is a line feed
+part_of_feed : (byte : ℕ) (line rest : List ℕ) → byte ≡ 10 → IsFirstPart (byte ∷ line) rest
+part_of_feed byte [] rest feed i long first some = rw feed refl
+part_of_feed byte (next ∷ line) rest feed zero long first some = absurd (omega arith)
+part_of_feed byte (next ∷ line) rest feed (suc i) long first some =
+    absurd (both_ways (is_feed byte) (first.0 0 0 (omega arith) (omega arith)) (eq-eqb byte 10 feed))
+
+-- the first match in a list that begins with no match is that in its tail
+first_in_tail : (byte : ℕ) (text : List ℕ) (i : ℕ) → IsFirstMatchOrLen is_feed (byte ∷ text) (suc i) → IsFirstMatchOrLen is_feed text i
+first_in_tail byte text i first = (λ k d low high. first.0 (suc k) d (omega arith) (omega arith), λ within d. first.1 (omega arith) d)
+
+-- where it is none
+part_of_other : (byte : ℕ) (line rest : List ℕ) → byte ≢ 10 → IsFirstPart line rest → IsFirstPart (byte ∷ line) rest
+part_of_other byte line rest other inside zero long first some = absurd (other (eqb-true byte 10 (first.1 (omega arith) 0)))
+part_of_other byte [] [] other inside (suc i) long first some = rw (ne_eqb byte 10 other) refl
+part_of_other byte [] (next ∷ rest) other inside (suc i) long first some = absurd (omega arith)
+part_of_other byte (next ∷ line) rest other inside (suc i) long first some =
+    line_grows byte (next ∷ line ++ rest) (next ∷ line) (text_lines rest) other
+    (inside i (omega arith) (first_in_tail byte (next ∷ line ++ rest) i first) (omega arith))
+
+-- a part that ends at the first line feed, or else with the text, is the first line
+pub text_lines-part : (line rest : List ℕ) → IsFirstPart line rest
+text_lines-part [] rest i long first some = absurd (omega arith)
+text_lines-part (byte ∷ line) rest i long first some =
+    elim (cases_eq byte 10) [
+      | inl feed ↦ part_of_feed byte line rest feed i long first some
+      | inr other ↦ part_of_other byte line rest other (text_lines-part line rest) i long first some
+    ]
+
+-- a byte that joins the first line joins the text
+concat-onto_first : (byte : ℕ) (lines : List (List ℕ)) → concat (onto_first byte lines) ≡ byte ∷ concat lines
+concat-onto_first byte [] = refl
+concat-onto_first byte (line ∷ lines) = refl
+
+-- the lines of a text, joined, are the text
+pub concat-text_lines : (text : List ℕ) → concat (text_lines text) ≡ text
+concat-text_lines [] = refl
+concat-text_lines (byte ∷ text) =
+    elim (cases_eq byte 10) [
+      | inl feed ↦ rw (feed, concat-text_lines text) refl
+      | inr other ↦ rw (ne_eqb byte 10 other, concat-onto_first byte (text_lines text), concat-text_lines text) refl
+    ]
+
+-- a byte more is at most a line more
+length-onto_first : (byte : ℕ) (lines : List (List ℕ)) → length (onto_first byte lines) ≤ length lines + 1
+length-onto_first byte [] = omega arith
+length-onto_first byte (line ∷ lines) = omega arith
+
+-- a text has at most as many lines as bytes
+pub few_lines : (text : List ℕ) → length (text_lines text) ≤ length text
+few_lines [] = omega arith
+few_lines (byte ∷ text) =
+    let few : length (text_lines text) ≤ length text = few_lines text in
+    elim (cases_eq byte 10) [
+      | inl feed ↦ rw (eq-eqb byte 10 feed) (omega arith)
+      | inr other ↦ rw (ne_eqb byte 10 other) (omega (arith, length-onto_first byte (text_lines text)))
+    ]

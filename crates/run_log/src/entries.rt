@@ -1,0 +1,63 @@
+ghost use Rattle.std.specs.Prelude.{◌≡◌, ℕ, ◌<◌, Some, None, MatchOption, IfSome, length};
+ghost use Rattle.task_base.specs.declared.entry.Entry.{Entry};
+ghost use Rattle.log_model.specs.Fits.{Fits};
+ghost use Rattle.log_model.specs.LogText.{IsLogLine};
+ghost use Rattle.run_log.specs.Kinds.{entry_of};
+ghost use Rattle.run_log.specs.Words.{texts, words_of};
+
+use crate::kinds::kind_of;
+use crate::lines::line;
+use crate::numerals::number_32;
+use arrayvec::ArrayVec;
+use task_base::{Entry, Place};
+
+/// The entry whose line these bytes are at this place, if there is one.
+pub(crate) fn entry_at(place: Place, bytes: &[u8]) -> Option<Entry>
+    ensures found { IfSome result (λ e. IsLogLine place bytes.now e) }
+    ensures none { result ≡ None → (e : Entry) → ¬ IsLogLine place bytes.now e }
+{
+    let entry = candidate(bytes)?;
+    let expected = line(place, &entry);
+    if expected.as_slice() != bytes {
+        return None;
+    }
+    Some(entry)
+}
+
+// The one entry whose line these bytes may be. At no place are they the line of another.
+fn candidate(bytes: &[u8]) -> Option<Entry>
+    ensures only { (place : ℕ) (e : Entry) → IsLogLine place bytes.now e → result ≡ Some e }
+    ensures fits { IfSome result Fits }
+{
+    let [front @ .., b'\n'] = bytes else {
+        return None;
+    };
+    entry_of(&words_of(front)?)
+}
+
+#[tactic(auto, unfolding(crate::specs::Kinds::entry_of))]
+fn entry_of(words: &[&[u8]]) -> Option<Entry>
+    ensures same { result ≡ entry_of (texts words.now) }
+    ensures fits { IfSome result Fits }
+{
+    let [_place, seat, words @ ..] = words else {
+        return None;
+    };
+    let seat = number_32(seat)?;
+    let kind = kind_of(words)?;
+    Some(Entry { seat, kind })
+}
+
+// The words of a line, if there are at most eight: no line of a log has more.
+fn words_of(line: &[u8]) -> Option<ArrayVec<&[u8], 8>>
+    ensures { MatchOption result (8 < length (words_of line.now)) (λ words. texts words.items ≡ words_of line.now) }
+{
+    let mut words = ArrayVec::new();
+    for word in line.split(|byte| *byte == b' ') {
+        if words.is_full() {
+            return None;
+        }
+        words.push(word);
+    }
+    Some(words)
+}

@@ -1,0 +1,101 @@
+ghost use Rattle.std.specs.Prelude.{◌≡◌, IfSome};
+ghost use Rattle.log_model.specs.Fits.{NextFits, ReplyFits};
+ghost use Rattle.run_log.specs.Kinds.{reply_of, vote_of, scope_of, policy_of, fence_of, next_of, ending_of};
+
+use crate::numerals::number_32;
+use task_base::{FenceAt, JobReply, Policy, Scope};
+
+/// The reply of a post.
+pub(crate) fn reply_of(word: &[u8]) -> Option<bool>
+    ensures { result ≡ reply_of word.now }
+{
+    if word == b"ok".as_slice() {
+        Some(true)
+    } else if word == b"no".as_slice() {
+        Some(false)
+    } else {
+        None
+    }
+}
+
+/// A vote.
+pub(crate) fn vote_of(word: &[u8]) -> Option<bool>
+    ensures { result ≡ vote_of word.now }
+{
+    if word == b"on".as_slice() {
+        Some(true)
+    } else if word == b"off".as_slice() {
+        Some(false)
+    } else {
+        None
+    }
+}
+
+/// A blocking scope.
+pub(crate) fn scope_of(word: &[u8]) -> Option<Scope>
+    ensures { result ≡ scope_of word.now }
+{
+    if word == b"may".as_slice() {
+        Some(Scope::May)
+    } else if word == b"will".as_slice() {
+        Some(Scope::Will)
+    } else {
+        None
+    }
+}
+
+/// A policy.
+pub(crate) fn policy_of(word: &[u8]) -> Option<Policy>
+    ensures { result ≡ policy_of word.now }
+{
+    if word == b"all".as_slice() {
+        Some(Policy::All)
+    } else if word == b"foreground".as_slice() {
+        Some(Policy::Foreground)
+    } else if word == b"none".as_slice() {
+        Some(Policy::Nothing)
+    } else {
+        None
+    }
+}
+
+/// Where a fence is set.
+pub(crate) fn fence_of(word: &[u8]) -> Option<FenceAt>
+    ensures { result ≡ fence_of word.now }
+{
+    if word == b"now".as_slice() {
+        Some(FenceAt::Now)
+    } else if word == b"start".as_slice() {
+        Some(FenceAt::Start)
+    } else {
+        None
+    }
+}
+
+/// The item that a seat goes on with: `-` says that there is none.
+pub(crate) fn next_of(word: &[u8]) -> Option<Option<u32>>
+    ensures same { result ≡ next_of word.now }
+    ensures fits { IfSome result NextFits }
+{
+    if word == b"-".as_slice() {
+        Some(None)
+    } else {
+        Some(Some(number_32(word)?))
+    }
+}
+
+/// How a joined job has ended that has no sum.
+pub(crate) fn ending_of(word: &[u8]) -> Option<JobReply>
+    ensures same { result ≡ ending_of word.now }
+    ensures fits { IfSome result ReplyFits }
+{
+    if word == b"refused".as_slice() {
+        Some(JobReply::Refused)
+    } else if word == b"cancelled".as_slice() {
+        Some(JobReply::Cancelled)
+    } else if word == b"stopped".as_slice() {
+        Some(JobReply::Stopped)
+    } else {
+        None
+    }
+}
