@@ -10,7 +10,7 @@ use Rattle.std.proofs.lemmas.Bool.{eqb-true, ne_eqb, false_from_ne_true}
 use Rattle.std.proofs.Math.Bool.{and_comm}
 use Rattle.std.proofs.lemmas.Bool.Decides.{nat_tests}
 use Rattle.std.proofs.lemmas.List.{append-nil}
-use Rattle.std.proofs.lemmas.List.Elements.{filter-append, filter_map-append, recursion_from_All}
+use Rattle.std.proofs.lemmas.List.Elements.{filter-append, filter_map-append}
 use Rattle.task_base.specs.Plan.{Plan}
 use Rattle.task_base.specs.declared.entry.Entry.{Entry}
 use Rattle.task_base.specs.declared.script.Runner.{Runner}
@@ -27,7 +27,7 @@ use Rattle.list_laws.proofs.Filters.{filter_congr, filter-filter, filter-map, fi
 use Rattle.list_laws.proofs.Elements.{AllByRecursion-filter, AllByRecursion-append, AllByRecursion-map, AllByRecursion-both, AllByRecursion-front, AllByRecursion-back, AllByRecursion-always, AllByRecursion-mapped, AllByRecursion-filter_map, slice_get_all}
 use Rattle.list_laws.proofs.Ranges.{AllByRecursion-range, range_split}
 use Rattle.list_laws.proofs.Least.{least_split}
-use Rattle.task_script.specs.WellFormed.{is_single, WellFormed}
+use Rattle.env_app.specs.Built.{is_single, IsRunnable}
 use Rattle.env_app.specs.Engine.{importance_of, to_take, IsStill}
 use Rattle.env_app.proofs.Quiet.{runs_sequence_still, is_held_still, has_room_still}
 
@@ -139,7 +139,7 @@ sequence_still script past s still order =
     twice (Some p) = refl
 
 -- what waits are the sequences of the tasks that may be taken
-waiting_still : (script : Plan) (past : List Entry) → WellFormed script → IsStill past → InOrder (to_take script past) →
+waiting_still : (script : Plan) (past : List Entry) → IsRunnable script → IsStill past → InOrder (to_take script past) →
     waiting script past ≡ filter_map (waits_for script (to_take script past)) (range_with_len 0 (sequence_count script))
 unfolding waiting would_wait
 waiting_still script past formed still order =
@@ -151,7 +151,7 @@ waiting_still script past formed still order =
     (λ s. sequence_still script past s still order)
 
 -- no runner is bound to a seat
-seat_none : (script : Plan) (runner : ℕ) → WellFormed script → seat_of script runner ≡ None
+seat_none : (script : Plan) (runner : ℕ) → IsRunnable script → seat_of script runner ≡ None
 seat_none script runner formed = found (slice_get script.runners runner) (slice_get_all (λ r. seat_of_kind r.kind ≡ None) script.runners runner shared)
   where
     no_seat : (kind : RunnerKind) → is_single kind ≡ false → seat_of_kind kind ≡ None
@@ -161,7 +161,7 @@ seat_none script runner formed = found (slice_get script.runners runner) (slice_
 
     shared : AllByRecursion (λ r. seat_of_kind r.kind ≡ None) script.runners
     shared = AllByRecursion-map (λ r. is_single r.kind ≡ false) (λ r. seat_of_kind r.kind ≡ None) script.runners (λ r h. no_seat r.kind h)
-        (recursion_from_All (λ r. is_single r.kind ≡ false) script.runners formed.no_single)
+        formed.no_single
 
     found : (o : Option Runner) → IfSome o (λ r. seat_of_kind r.kind ≡ None) → option_and_then (λ r. seat_of_kind r.kind) o ≡ None
     found None h = refl
@@ -174,7 +174,7 @@ of_first script s P [] h = tt
 of_first script s P (p ∷ ps) h = h.0
 
 -- each seat may take all that waits
-best_still : (script : Plan) (past : List Entry) (seat : ℕ) → WellFormed script → IsStill past → InOrder (to_take script past) →
+best_still : (script : Plan) (past : List Entry) (seat : ℕ) → IsRunnable script → IsStill past → InOrder (to_take script past) →
     best_of script past seat ≡ least goes_before (filter_map (waits_for script (to_take script past)) (range_with_len 0 (sequence_count script)))
 unfolding best_of
 best_still script past seat formed still order =
@@ -195,7 +195,7 @@ best_still script past seat formed still order =
     takeable s p = rw (has_room_still script past (candidate script s p).priority formed still, seat_none script p.home formed) refl
 
 -- where nothing may be taken, there is no best source
-pub best_of_none : (script : Plan) (past : List Entry) (seat : ℕ) → WellFormed script → IsStill past → to_take script past ≡ []
+pub best_of_none : (script : Plan) (past : List Entry) (seat : ℕ) → IsRunnable script → IsStill past → to_take script past ≡ []
     → best_of script past seat ≡ None
 best_of_none script past seat formed still none =
     best_still script past seat formed still (rw none tt)
@@ -305,7 +305,7 @@ sequence_below true runners tasks runner task hr ht = omega arith
 sequence_below false runners tasks runner task hr ht = omega arith
 
 -- the sequence of the first task of highest priority is the best source
-pub best_of_still : (script : Plan) (past : List Entry) (xs : List Posted) (p : Posted) (ys : List Posted) (seat : ℕ) → WellFormed script → IsStill past
+pub best_of_still : (script : Plan) (past : List Entry) (xs : List Posted) (p : Posted) (ys : List Posted) (seat : ℕ) → IsRunnable script → IsStill past
     → to_take script past ≡ xs ++ p ∷ ys → IsFirst script xs p ys →
     best_of script past seat ≡ Some (candidate script (sequence_of script p.home p.task) p)
 best_of_still script past xs p ys seat formed still is it =

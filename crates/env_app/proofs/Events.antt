@@ -39,8 +39,9 @@ use Rattle.list_laws.proofs.Tests.{list_all_always}
 use Rattle.list_laws.proofs.Elements.{AllByRecursion-append, AllByRecursion-map}
 use Rattle.task_model.proofs.Growth.{posts_push, is_taken_push, is_ended_push, phase_of_push, policy_of_push, running_push, holding_push, cell_of_push}
 use Rattle.hist_model.proofs.Laws.Legal.{is_legal_push}
-use Rattle.task_script.specs.Wants.{Want, WantsPost, WantsIdle, wants_shutdown, all_wants}
-use Rattle.task_script.specs.WellFormed.{is_want_of, posts_among, starts_among, WellFormed, IsSoundPost}
+use Rattle.env_app.specs.Wants.{Want, WantsPost, WantsIdle, wants_shutdown, all_wants}
+use Rattle.env_app.specs.Built.{IsRunnable, IsSoundPost}
+use Rattle.env_app.specs.Wants.{is_want_of, posts_among, starts_among}
 use Rattle.env_app.specs.declared.engine.Waiting.{Waiting}
 use Rattle.env_app.specs.Engine.{waiting_of, done_count, done_wants, wanted, to_take, IsKnown, IsStill, blocks_shutdown, StandsFor}
 use Rattle.env_app.proofs.Wanted.{by_script_next}
@@ -208,7 +209,7 @@ blocks_between script xs p ys =
 
 -- an accepted post
 pub posted : {script : Plan} {past : List Entry} {queue : List Waiting} {values : List ℕ} {old new : Tracked} (task runner delay : ℕ) →
-    WellFormed script → StandsFor script past queue values old → wanted script past ≡ Some (WantsPost task runner delay) →
+    IsRunnable script → StandsFor script past queue values old → wanted script past ≡ Some (WantsPost task runner delay) →
     is_refused script past runner delay ≡ false → new ≡ record old { block_items = old.block_items + block_share (effective_at script runner delay) } →
     StandsFor script (past ++ driver_entry (Post task runner delay true) ∷ []) (queue ++ record { task = task; runner = runner } ∷ []) values new
 unfolding may_come wanted
@@ -291,7 +292,7 @@ unchanged {script} {past} kind want stands next allowed no_post no_take no_end r
 
 -- a refused post leaves everything
 pub refused : {script : Plan} {past : List Entry} {queue : List Waiting} {values : List ℕ} {tracked : Tracked} (task runner delay : ℕ) →
-    WellFormed script → StandsFor script past queue values tracked → wanted script past ≡ Some (WantsPost task runner delay)
+    IsRunnable script → StandsFor script past queue values tracked → wanted script past ≡ Some (WantsPost task runner delay)
     → is_refused script past runner delay ≡ true →
     StandsFor script (past ++ driver_entry (Post task runner delay false) ∷ []) queue values tracked
 unfolding may_come
@@ -313,7 +314,7 @@ none_to_take script past queue waits none = empty (to_take script past) (sym non
 
 -- so does an idle
 pub idled : {script : Plan} {past : List Entry} {queue : List Waiting} {values : List ℕ} {tracked : Tracked} → queue ≡ [] →
-    WellFormed script → StandsFor script past queue values tracked → wanted script past ≡ Some WantsIdle →
+    IsRunnable script → StandsFor script past queue values tracked → wanted script past ≡ Some WantsIdle →
     StandsFor script (past ++ driver_entry Idle ∷ []) queue values tracked
 unfolding may_come
 idled {script} {past} {queue} empty formed stands next =

@@ -1,4 +1,7 @@
 pub mod FirstBest
+pub mod Runnable
+pub mod Steps
+pub mod Parses
 pub mod Wanted
 pub mod Quiet
 pub mod Best
@@ -7,3 +10,5 @@ pub mod Serve
 pub mod Shutdown
 pub mod Room
 pub mod Outcomes
+pub mod Causes
+pub mod Worked

@@ -1,11 +1,17 @@
 -- What the answers of the parts of a run say together.
-use Rattle.std.proofs.Common.{◌≡◌, ◌≤◌, ◌+◌, ℕ, Bool, List, [], ◌++◌, length, take, Option, Some, None, refl, append-nil, arith}
+use Rattle.std.proofs.Common.{◌≡◌, ◌≤◌, ◌+◌, ℕ, true, false, List, [], ◌++◌, length, take, Option, Some, None, refl, sym, ap, subst, ◌∙◌, append-nil, arith}
 use Rattle.std.specs.Prelude.{IfSome, OnOk, OnErr, Result, Ok, Err}
 use Rattle.std.proofs.lemmas.List.{take_all, length-append, length-take}
 use Rattle.task_base.specs.Fault.{status_of}
 use Rattle.task_base.specs.declared.fault.Fault.{Fault}
 use Rattle.task_base.specs.declared.fault.Fault.TheVariants.{NotLegal, BadWords, BadScript, ReadFault, WriteFault, NoMemory, TooLarge}
-use Rattle.env_app.specs.Outcome.{Ends, WroteFront, RunsTo, note_line, note_of_status}
+use Rattle.std.specs.Result.{result_err}
+use Rattle.task_base.specs.Plan.{Plan}
+use Rattle.task_base.specs.declared.fault.TheConstants.{NOT_BUILT}
+use Rattle.script_model.specs.Grammar.{Reads, first_fault, script_read}
+use Rattle.env_app.specs.Built.{is_built}
+use Rattle.env_app.specs.declared.words.Command.{Command}
+use Rattle.env_app.specs.Outcome.{Ends, WroteFront, RunsTo, IsFaultAt, fault_in, note_line, note_of_status, script_fault}
 use Rattle.env_io.specs.Bytes.{Gives, Gains}
 use Rattle.env_io.proofs.Bytes.{Gives-trans}
 
@@ -30,13 +36,71 @@ pub wrote_front : {E : Type 0} (result : Result (Unit {0}) E) (before after : Op
 wrote_front (Ok done) before after text whole part = (length text, rw (take_all (length text) text (omega arith)) whole)
 wrote_front (Err e) before after text whole part = part
 
+-- ---- scripts and their faults
+
+-- a script that runs today has no fault
+pub built_fault : (bytes : List ℕ) (script : Plan) → Reads bytes script → is_built script ≡ true → script_fault bytes ≡ None
+unfolding script_fault
+built_fault bytes script reads built = rw (reads, built) refl
+
+-- one that does not has line 0 and its own reason
+pub unbuilt_fault : (bytes : List ℕ) (script : Plan) → Reads bytes script → is_built script ≡ false → script_fault bytes ≡ Some (0, NOT_BUILT)
+unfolding script_fault
+unbuilt_fault bytes script reads built = rw (reads, built) refl
+
+-- and bytes that are no script have their first fault
+pub first_fault_is : (bytes : List ℕ) (at : ℕ × ℕ) → first_fault bytes ≡ Some at → script_fault bytes ≡ Some at
+unfolding script_fault
+first_fault_is bytes at first = found (script_read bytes) first
+  where
+    found : (r : Result Plan (ℕ × ℕ)) → result_err r ≡ Some at → fault_in r ≡ Some at
+    found (Ok script) h = absurd cc
+    found (Err at') h = h
+
+-- ---- notes
+
+-- the line and the reason of a fault, where it has them
+abbrev place_of : Fault → ℕ × ℕ
+place_of (BadScript line reason) = (line, reason)
+place_of (NotLegal line) = (0, 0)
+place_of BadWords = (0, 0)
+place_of ReadFault = (0, 0)
+place_of WriteFault = (0, 0)
+place_of (NoMemory error) = (0, 0)
+place_of TooLarge = (0, 0)
+
 -- the line of the fault that ends a run is the note of its status
-pub note_line-of_run : (accepted : Bool) (source sink : Ends) (fault : Fault) → RunsTo accepted source sink (Err fault)
-    → note_line fault ≡ note_of_status (status_of fault)
-note_line-of_run accepted source sink (NotLegal line) never = absurd never
-note_line-of_run accepted source sink BadWords runs = refl
-note_line-of_run accepted source sink (BadScript line reason) runs = refl
-note_line-of_run accepted source sink ReadFault runs = refl
-note_line-of_run accepted source sink WriteFault runs = refl
-note_line-of_run accepted source sink (NoMemory error) runs = refl
-note_line-of_run accepted source sink TooLarge runs = refl
+pub note_line-of_run : (command : Option Command) (source sink : Ends) (fault : Fault) → RunsTo command source sink (Err fault)
+    → note_line fault ≡ note_of_status (place_of fault) (status_of fault)
+note_line-of_run command source sink (NotLegal line) never = absurd never
+note_line-of_run command source sink BadWords runs = refl
+note_line-of_run command source sink (BadScript line reason) runs = refl
+note_line-of_run command source sink ReadFault runs = refl
+note_line-of_run command source sink WriteFault runs = refl
+note_line-of_run command source sink (NoMemory error) runs = refl
+note_line-of_run command source sink TooLarge runs = refl
+
+-- and its line and reason are those of the bytes
+pub fault_at-of_run : (command : Option Command) (source sink : Ends) (fault : Fault) → RunsTo command source sink (Err fault)
+    → IsFaultAt source.before (status_of fault) (place_of fault)
+fault_at-of_run command source sink (NotLegal line) never = absurd never
+fault_at-of_run command source sink BadWords runs = λ three. absurd (omega arith)
+fault_at-of_run command source sink (BadScript line reason) runs = λ three bytes told. (runs.2 bytes told).1
+fault_at-of_run command source sink ReadFault runs = λ three. absurd (omega arith)
+fault_at-of_run command source sink WriteFault runs = λ three. absurd (omega arith)
+fault_at-of_run command source sink (NoMemory error) runs = λ three. absurd (omega arith)
+fault_at-of_run command source sink TooLarge runs = λ three. absurd (omega arith)
+
+-- so what holds of the fault's line holds of the note that goes with its status
+pub told : (command : Option Command) (source sink : Ends) (fault : Fault) (status : ℕ) (P : List ℕ → Type 0) → RunsTo command source sink (Err fault)
+    → status ≡ status_of fault → P (note_line fault) → (at : ℕ × ℕ) × IsFaultAt source.before status at × P (note_of_status at status)
+told command source sink fault status P runs is written = (
+  place_of fault,
+  λ three. fault_at-of_run command source sink fault runs (sym is ∙ three),
+  subst P (note_line-of_run command source sink fault runs ∙ ap (note_of_status (place_of fault)) (sym is)) written,
+)
+
+-- nothing was added to what is as it was
+pub gains_nothing : (held : Option (List ℕ)) → Gains held [] held
+gains_nothing None = λ there. refl
+gains_nothing (Some bytes) = λ there. ap Some (sym (append-nil bytes))

@@ -21,7 +21,7 @@ use Rattle.task_model.specs.Capacity.{is_in, is_best_in, work_at, load_of, block
 use Rattle.task_model.specs.Blockers.{is_open_job, is_in_skip_job}
 use Rattle.list_laws.proofs.Tests.{list_any_never, list_all_always}
 use Rattle.list_laws.proofs.Filters.{filter_never}
-use Rattle.task_script.specs.WellFormed.{WellFormed}
+use Rattle.env_app.specs.Built.{IsRunnable}
 use Rattle.env_app.specs.Engine.{IsStill}
 
 pub runs_sequence_still : (script : Plan) (past : List Entry) (s : ℕ) → IsStill past → runs_sequence script past s ≡ false
@@ -57,7 +57,7 @@ some_room : (load limit blocked n : ℕ) → load ≡ 0 → limit ≡ n + 1 → 
 some_room load limit blocked n none some = grind (arith, nat_tests)
 
 -- so there is room for every priority
-pub has_room_still : (script : Plan) (past : List Entry) (priority : Priority) → WellFormed script → IsStill past → HasRoom script past priority
+pub has_room_still : (script : Plan) (past : List Entry) (priority : Priority) → IsRunnable script → IsStill past → HasRoom script past priority
 unfolding has_room load capacity best_load best_capacity
 has_room_still script past priority formed still =
     rw (
@@ -70,7 +70,7 @@ has_room_still script past priority formed still =
     (or-true (not (is_best_effort priority)))
 
 -- no job blocks shutdown: there is none, and nobody is inside one
-pub no_job_blocks : (script : Plan) (past : List Entry) → WellFormed script → IsStill past
+pub no_job_blocks : (script : Plan) (past : List Entry) → IsRunnable script → IsStill past
     → count (is_open_job script past) (range_with_len 0 (length script.jobs)) + count (is_in_skip_job script past) (all_seats script) ≡ 0
 no_job_blocks script past formed still =
     let jobs = ap (λ listed. count (is_open_job script past) (range_with_len 0 (length listed))) formed.no_jobs in

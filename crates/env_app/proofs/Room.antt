@@ -1,5 +1,5 @@
 -- The room that was taken lasts, and the script's wants are met one after the other.
-use Rattle.std.proofs.Common.{◌≡◌, ℕ, ◌+◌, ◌*◌, ◌<◌, ◌≤◌, List, [], ◌∷◌, ◌++◌, length, get_or, take, refl, ap, ◌∙◌, Some, Bool, true, false, cond, vec_len, vec_capacity, arith}
+use Rattle.std.proofs.Common.{◌≡◌, ℕ, ◌+◌, ◌*◌, ◌<◌, ◌≤◌, List, [], ◌∷◌, ◌++◌, length, get_or, take, refl, ap, ◌∙◌, Some, vec_len, vec_capacity, arith}
 use Rattle.std.specs.List.{flat_map}
 use Rattle.std.specs.Prelude.{slice_get}
 use Rattle.std.proofs.lemmas.Grind.{flat_map-append}
@@ -12,8 +12,8 @@ use Rattle.task_base.specs.declared.entry.Entry.{Entry}
 use Rattle.task_base.specs.declared.entry.Kind.{Kind}
 use Rattle.task_base.specs.declared.script.Action.{Action}
 use Rattle.hist_model.specs.Script.{IsWhole}
-use Rattle.task_script.specs.Wants.{Want, wants_of, all_wants}
-use Rattle.task_script.specs.WellFormed.{WellFormed}
+use Rattle.env_app.specs.Wants.{Want, wants_of, all_wants}
+use Rattle.env_app.specs.Built.{IsRunnable}
 use Rattle.env_app.specs.declared.engine.Engine.{Engine}
 use Rattle.env_app.specs.declared.engine.Waiting.{Waiting}
 use Rattle.env_app.specs.Engine.{done_count, wanted, HasRoom, IsNext, IsStill}
@@ -101,17 +101,13 @@ room_after_serve script old new taken ended mid room first log spare waits len c
 -- ---- the end
 
 -- where every wanted entry is made and nothing runs, the history is whole
-pub whole_at_end : (script : Plan) (past : List Entry) → WellFormed script → IsStill past → length (all_wants script) ≤ done_count past → IsWhole script past
+pub whole_at_end : (script : Plan) (past : List Entry) → IsRunnable script → IsStill past → length (all_wants script) ≤ done_count past → IsWhole script past
 whole_at_end script past formed still all = rw (finished script past formed all, is_quiet_still script past still) refl
 
 -- the log of a whole run is short
-pub short_log : (script : Plan) (engine : Engine) → WellFormed script → HasRoom script engine → done_count engine.log.items ≤ length (all_wants script)
+pub short_log : (script : Plan) (engine : Engine) → IsRunnable script → HasRoom script engine → done_count engine.log.items ≤ length (all_wants script)
     → length engine.log.items ≤ 786432
 short_log script engine formed room done = let f = room.few in let e = formed.few_entries in omega arith
-
-pub at_most_one : (b : Bool) → cond b 1 0 ≤ 1
-at_most_one true = omega arith
-at_most_one false = omega arith
 
 -- the entries that one more action wants
 pub wants_taken : (listed : List Action) (i : ℕ) (d : Action) → i < length listed

@@ -1,7 +1,7 @@
 -- A worker takes the best task and ends it: the lists stand for the past with both entries behind it.
 use Rattle.std.proofs.Common.{◌≡◌, ◌≢◌, ℕ, ◌+◌, ◌<◌, ◌≤◌, Bool, true, false, cond, eqb, leb, List, [], ◌∷◌, ◌++◌, length, get_or, take, drop, set, map, refl, sym, ap, subst, ◌∙◌, inl, inr, Option, Some, None, add-one, arith}
 use Rattle.std.specs.Prelude.{not, ◌||◌, filter, slice_get}
-use Rattle.std.specs.List.{AllByRecursion, All}
+use Rattle.std.specs.List.{AllByRecursion}
 use Rattle.std.specs.Option.{option_map_or, IfSome}
 use Rattle.std.proofs.Math.Seq.{split_at}
 use Rattle.std.proofs.lemmas.Bool.Decides.{nat_tests, eqb_tells}
@@ -9,7 +9,6 @@ use Rattle.std.proofs.Math.Bool.{or-false}
 use Rattle.std.proofs.lemmas.Bool.{ne_eqb, both_ways, not-true, and_parts}
 use Rattle.std.proofs.lemmas.Option.{slice_get-get_or}
 use Rattle.std.proofs.lemmas.List.{append-nil, map-append, take-map, drop-map, get_or-map, get_or-take, get_or-drop, get_or_default, length-map, length-take, length-drop, get_or-set_same, get_or-set_other, length-set}
-use Rattle.std.proofs.lemmas.List.Elements.{recursion_from_All}
 use Rattle.task_traits.specs.Behaviour.{forbids}
 use Rattle.task_traits.specs.declared.traits.Behaviour.{Behaviour}
 use Rattle.task_tracker.specs.Tracked.{Tracked, block_share}
@@ -30,10 +29,12 @@ use Rattle.hist_model.specs.Allowed.{may_come, is_allowed}
 use Rattle.list_laws.proofs.Values.{eqb-same}
 use Rattle.list_laws.proofs.Elements.{AllByRecursion-append, AllByRecursion-front, AllByRecursion-back, AllByRecursion-map, AllByRecursion-from_index, slice_get_all}
 use Rattle.list_laws.proofs.Filters.{filter_passes, filter_none}
+use Rattle.list_laws.proofs.Options.{AllByRecursion-not_any}
 use Rattle.task_model.proofs.Growth.{posts_push, is_taken_push, is_ended_push, phase_of_push, policy_of_push, running_push, holding_push, acts_done_push, cell_of_push}
 use Rattle.hist_model.proofs.Laws.Legal.{is_legal_push}
-use Rattle.task_script.specs.Wants.{all_wants}
-use Rattle.task_script.specs.WellFormed.{posts_among, WellFormed}
+use Rattle.env_app.specs.Wants.{all_wants}
+use Rattle.env_app.specs.Built.{has_acts, IsRunnable}
+use Rattle.env_app.specs.Wants.{posts_among}
 use Rattle.env_app.specs.declared.engine.Waiting.{Waiting}
 use Rattle.env_app.specs.Engine.{waiting_of, importance_of, ranks_of, IsFirstBest, done_wants, to_take, blocks_shutdown, IsKnown, IsStill, StandsFor}
 use Rattle.env_app.proofs.FirstBest.{rank_at}
@@ -142,17 +143,16 @@ still_served past task runner found left still = record {
     either false x = refl
 
 -- no step of a task makes an entry
-no_acts : (script : Plan) (task : ℕ) → WellFormed script → filter is_act (steps_of script task) ≡ []
-no_acts script task formed = found (slice_get script.tasks task) (slice_get_all (All (λ step. is_act step ≡ false)) script.tasks task
-    (recursion_from_All (All (λ step. is_act step ≡ false)) script.tasks formed.computes))
+no_acts : (script : Plan) (task : ℕ) → IsRunnable script → filter is_act (steps_of script task) ≡ []
+no_acts script task formed = found (slice_get script.tasks task) (slice_get_all (λ steps. has_acts steps ≡ false) script.tasks task formed.computes)
   where
-    found : (o : Option (List Step)) → IfSome o (All (λ step. is_act step ≡ false)) → filter is_act (option_map_or (λ steps. steps) o []) ≡ []
+    found : (o : Option (List Step)) → IfSome o (λ steps. has_acts steps ≡ false) → filter is_act (option_map_or (λ steps. steps) o []) ≡ []
     found None h = refl
-    found (Some steps) h = filter_none is_act steps (recursion_from_All (λ step. is_act step ≡ false) steps h)
+    found (Some steps) h = filter_none is_act steps (AllByRecursion-not_any is_act steps h)
 
 -- the same of the tasks that may be taken: p is the best, between xs and ys
 served_between : (script : Plan) (past : List Entry) (values : List ℕ) (old new : Tracked) (xs : List Posted) (p : Posted) (ys : List Posted) (found left : ℕ) →
-    WellFormed script → StandsFor script past (map waiting_of (xs ++ p ∷ ys)) values old → to_take script past ≡ xs ++ p ∷ ys → is_finished script past ≡ false
+    IsRunnable script → StandsFor script past (map waiting_of (xs ++ p ∷ ys)) values old → to_take script past ≡ xs ++ p ∷ ys → is_finished script past ≡ false
     → Served old new (effective_at script p.home 0) →
     AllByRecursion (λ x. importance_of script x.home < importance_of script p.home) xs →
     AllByRecursion (λ y. importance_of script y.home ≤ importance_of script p.home) ys →
@@ -277,7 +277,7 @@ served_between script past values old new xs p ys found left formed stands is ne
 
 -- a task that is best is taken and ended
 pub served : {script : Plan} {past : List Entry} {queue : List Waiting} {values : List ℕ} {old new : Tracked} (k : ℕ) (w : Waiting) (found left : ℕ) →
-    WellFormed script → StandsFor script past queue values old → is_finished script past ≡ false → Served old new (effective_at script w.runner 0) →
+    IsRunnable script → StandsFor script past queue values old → is_finished script past ≡ false → Served old new (effective_at script w.runner 0) →
     IsFirstBest (ranks_of script queue) (length queue) k → w ≡ get_or queue k w →
     found ≡ get_or values (sequence_of script w.runner w.task) 0 → left ≡ after (steps_of script w.task) found →
     StandsFor script ((past ++ worker_entry (Take w.task w.runner found) ∷ []) ++ worker_entry (End w.task left) ∷ []) (take k queue ++ drop (k + 1) queue)

@@ -26,8 +26,9 @@ use Rattle.list_laws.proofs.Elements.{AllByRecursion-filter, AllByRecursion-map,
 use Rattle.list_laws.proofs.Counts.{count_le}
 use Rattle.task_model.proofs.Growth.{phase_of_push, cell_of_push}
 use Rattle.hist_model.proofs.Laws.Legal.{is_legal_push}
-use Rattle.task_script.specs.Wants.{WantsShutdown, WantsDone, wants_shutdown}
-use Rattle.task_script.specs.WellFormed.{starts_among, WellFormed}
+use Rattle.env_app.specs.Wants.{WantsShutdown, WantsDone, wants_shutdown}
+use Rattle.env_app.specs.Built.{IsRunnable}
+use Rattle.env_app.specs.Wants.{starts_among}
 use Rattle.env_app.specs.declared.engine.Waiting.{Waiting}
 use Rattle.env_app.specs.Engine.{waiting_of, done_count, done_wants, wanted, to_take, IsKnown, IsStill, blocks_shutdown, StandsFor}
 use Rattle.env_app.proofs.Wanted.{by_script_next}
@@ -58,13 +59,13 @@ stays_is_block BlockShutdown = refl
 
 -- shutdown that is wanted was not started yet
 pub still_running : {script : Plan} {past : List Entry} {queue : List Waiting} {values : List ℕ} {tracked : Tracked} →
-    WellFormed script → StandsFor script past queue values tracked → wanted script past ≡ Some WantsShutdown → tracked.phase ≡ phases.Running
+    IsRunnable script → StandsFor script past queue values tracked → wanted script past ≡ Some WantsShutdown → tracked.phase ≡ phases.Running
 unfolding wanted
 still_running {script} {past} {queue} {values} {tracked} formed stands next = stands.phase ∙ stands.not_started (formed.one_shutdown (done_count past) next)
 
 -- the start of shutdown
 pub started : {script : Plan} {past : List Entry} {queue left : List Waiting} {values : List ℕ} {old new : Tracked} →
-    WellFormed script → StandsFor script past queue values old → wanted script past ≡ Some WantsShutdown →
+    IsRunnable script → StandsFor script past queue values old → wanted script past ≡ Some WantsShutdown →
     left ≡ filter (stays script) queue → new ≡ record old { phase = phases.Started } →
     StandsFor script (past ++ driver_entry Shutdown ∷ []) left values new
 unfolding may_come wanted
@@ -111,7 +112,7 @@ only_blocks script past under_way =
     (λ p. rw (under_way, stays_is_block (effective_at script p.home p.delay), and_assoc, and_self (is_block (effective_at script p.home p.delay))) refl)
 
 -- where nothing may be taken and what was taken has ended, nothing blocks shutdown
-pub nothing_blocks : (script : Plan) (past : List Entry) → WellFormed script → IsStill past → phase_of past ≡ phases.Started
+pub nothing_blocks : (script : Plan) (past : List Entry) → IsRunnable script → IsStill past → phase_of past ≡ phases.Started
     → ((t : ℕ) → is_ended past t ≡ is_taken past t) → to_take script past ≡ [] → blockers_of script past ≡ 0
 unfolding blockers_of block_part skip_part to_take
 nothing_blocks script past formed still under_way ended none =
@@ -136,7 +137,7 @@ waiting_count {script} {past} {queue} {values} {tracked} stands under_way =
 
 -- the end of shutdown
 pub done : {script : Plan} {past : List Entry} {queue : List Waiting} {values : List ℕ} {old new : Tracked} →
-    WellFormed script → StandsFor script past queue values old → wanted script past ≡ Some WantsDone →
+    IsRunnable script → StandsFor script past queue values old → wanted script past ≡ Some WantsDone →
     old.phase ≡ phases.Started → queue ≡ [] → new ≡ record old { phase = phases.Done } →
     StandsFor script (past ++ driver_entry Done ∷ []) queue values new
 unfolding may_come

@@ -14,8 +14,8 @@ use Rattle.list_laws.proofs.Values.{eqb-same}
 use Rattle.hist_model.specs.Views.{own_entries}
 use Rattle.hist_model.specs.Script.{Current, current, current_from, wants, is_wanted, is_finished, IsFinished}
 use Rattle.hist_model.specs.Allowed.{by_script}
-use Rattle.task_script.specs.Wants.{Want, WantsPost, WantsIdle, WantsShutdown, WantsDone, wants_of, all_wants}
-use Rattle.task_script.specs.WellFormed.{is_form_action, WellFormed}
+use Rattle.env_app.specs.Wants.{Want, WantsPost, WantsIdle, WantsShutdown, WantsDone, wants_of, all_wants}
+use Rattle.env_app.specs.Built.{is_built_action, IsRunnable}
 use Rattle.env_app.specs.Engine.{done_count, wanted}
 
 -- the kind of the entry that is wanted; a post says whether it is accepted
@@ -30,12 +30,12 @@ abbrev accepts : List Entry → Kind → List Action → List Entry → Bool
 accepts own kind listed left = holds_of (λ c. wants own c.action c.made kind) (current_from listed left)
 
 -- each action is one of the small form
-of_form : (script : Plan) → WellFormed script → AllByRecursion (λ action. is_form_action action ≡ true) script.actions
-of_form script formed = recursion_from_All (λ action. is_form_action action ≡ true) script.actions formed.form_actions
+of_form : (script : Plan) → IsRunnable script → AllByRecursion (λ action. is_built_action action ≡ true) script.actions
+of_form script formed = recursion_from_All (λ action. is_built_action action ≡ true) script.actions formed.built_actions
 
 -- the want at the place of what is made is the one of the action that the driver is at
 wanted_from : (own : List Entry) (ok : Bool) (want : Want) (listed : List Action) (left : List Entry)
-    → AllByRecursion (λ action. is_form_action action ≡ true) listed →
+    → AllByRecursion (λ action. is_built_action action ≡ true) listed →
     slice_get (flat_map wants_of listed) (length left) ≡ Some want → accepts own (kind_of want ok) listed left ≡ true
 wanted_from own ok want [] left plain next = absurd cc
 wanted_from own ok want (Post t r d ∷ listed) [] plain next =
@@ -56,19 +56,19 @@ wanted_from own ok want (Shutdown ∷ listed) (e ∷ f ∷ left) plain next = wa
 wanted_from own ok want (action ∷ listed) left plain next = let not_plain = plain.0 in absurd cc
 
 -- the script wants the entry that is next among all wanted ones
-is_wanted_next : (script : Plan) (past : List Entry) (want : Want) (ok : Bool) → WellFormed script → wanted script past ≡ Some want
+is_wanted_next : (script : Plan) (past : List Entry) (want : Want) (ok : Bool) → IsRunnable script → wanted script past ≡ Some want
     → is_wanted script (own_entries 0 past) (kind_of want ok) ≡ true
 unfolding is_wanted current wanted
 is_wanted_next script past want ok formed next = wanted_from (own_entries 0 past) ok want script.actions (own_entries 0 past) (of_form script formed) next
 
 -- so the driver may make it
-pub by_script_next : (script : Plan) (past : List Entry) (want : Want) (ok : Bool) → WellFormed script → wanted script past ≡ Some want
+pub by_script_next : (script : Plan) (past : List Entry) (want : Want) (ok : Bool) → IsRunnable script → wanted script past ≡ Some want
     → by_script script past 0 (kind_of want ok) ≡ true
 unfolding by_script
 by_script_next script past want ok formed next = is_wanted_next script past want ok formed next
 
 -- where an entry is wanted, the script is not finished
-pub not_finished : (script : Plan) (past : List Entry) (want : Want) → WellFormed script → wanted script past ≡ Some want → is_finished script past ≡ false
+pub not_finished : (script : Plan) (past : List Entry) (want : Want) → IsRunnable script → wanted script past ≡ Some want → is_finished script past ≡ false
 unfolding is_finished is_wanted
 not_finished script past want formed next = some (λ c. wants (own_entries 0 past) c.action c.made (kind_of want true)) (current script (own_entries 0 past))
     (is_wanted_next script past want true formed next)
@@ -77,7 +77,7 @@ not_finished script past want formed next = some (λ c. wants (own_entries 0 pas
     some test None h = absurd cc
     some test (Some c) h = refl
 
-finished_from : (listed : List Action) (left : List Entry) → AllByRecursion (λ action. is_form_action action ≡ true) listed
+finished_from : (listed : List Action) (left : List Entry) → AllByRecursion (λ action. is_built_action action ≡ true) listed
     → length (flat_map wants_of listed) ≤ length left → current_from listed left ≡ None
 finished_from [] left plain all = refl
 finished_from (Post t r d ∷ listed) [] plain all = absurd (omega arith)
@@ -90,6 +90,6 @@ finished_from (Shutdown ∷ listed) (e ∷ f ∷ left) plain all = finished_from
 finished_from (action ∷ listed) left plain all = let not_plain = plain.0 in absurd cc
 
 -- where all wanted entries are made, the script is finished
-pub finished : (script : Plan) (past : List Entry) → WellFormed script → length (all_wants script) ≤ done_count past → IsFinished script past
+pub finished : (script : Plan) (past : List Entry) → IsRunnable script → length (all_wants script) ≤ done_count past → IsFinished script past
 unfolding is_finished current
 finished script past formed all = ap is_none (finished_from script.actions (own_entries 0 past) (of_form script formed) all)

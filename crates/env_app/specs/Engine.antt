@@ -18,8 +18,8 @@ use Rattle.task_base.specs.Groups.{importance}
 use Rattle.task_model.specs.Capacity.{priority_of}
 use Rattle.hist_model.specs.Views.{own_entries}
 use Rattle.hist_model.specs.Legal.{IsLegal}
-use Rattle.task_script.specs.Wants.{Want, all_wants}
-use Rattle.task_script.specs.WellFormed.{posts_among, starts_among}
+use Rattle.env_app.specs.Wants.{Want, all_wants}
+use Rattle.env_app.specs.Wants.{posts_among, starts_among}
 use Rattle.env_app.specs.declared.engine.Engine.{Engine}
 use Rattle.env_app.specs.declared.engine.Waiting.{Waiting}
 

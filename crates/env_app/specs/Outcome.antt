@@ -1,7 +1,6 @@
 -- What a run did, by what it read and what it wrote.
-use Rattle.std.specs.Prelude.{alloc_error, ◌≡◌, ◌≢◌, ◌↔◌, ◌⊎◌, ◌<◌, ◌≤◌, ℕ, Bool, true, false, ◌==◌, List, [], ◌∷◌, ◌++◌, length, take, filter, codes, Option, Some, None, IfSome, Result, Ok, Err, String, string_bytes}
-use Rattle.std.specs.List.{flat_map}
-use Rattle.std.specs.declared.alloc.Global.{Global}
+use Rattle.std.specs.Prelude.{alloc_error, ◌≡◌, ◌≢◌, ◌⊎◌, ◌<◌, ◌≤◌, ℕ, Bool, true, ◌==◌, if◌then◌else◌, List, [], ◌∷◌, ◌++◌, length, take, find, codes, Option, Some, None, IfSome, IsSome, Result, Ok, Err}
+use Rattle.std.specs.Option.{option_map_or}
 use Rattle.task_base.specs.Plan.{Plan}
 use Rattle.task_base.specs.Fault.{status_of, note_of}
 use Rattle.task_base.specs.declared.limits.TheConstants.{MOST_BYTES}
@@ -9,28 +8,37 @@ use Rattle.task_base.specs.declared.entry.Entry.{Entry}
 use Rattle.task_base.specs.declared.fault.Fault.{Fault}
 use Rattle.task_base.specs.declared.fault.Fault.TheVariants.{NotLegal, BadWords, BadScript, ReadFault, WriteFault, NoMemory, TooLarge}
 use Rattle.env_io.specs.Bytes.{Gives, Gains, Rose}
-use Rattle.script_model.specs.Words.{is_word}
-use Rattle.script_model.specs.Grammar.{Reads}
-use Rattle.log_model.specs.LogText.{log_text}
+use Rattle.task_base.specs.declared.fault.TheConstants.{NOT_BUILT}
+use Rattle.script_model.specs.Grammar.{Reads, script_read}
+use Rattle.log_model.specs.LogText.{log_json, log_text}
 use Rattle.hist_model.specs.Legal.{IsLegal}
 use Rattle.hist_model.specs.Script.{IsWhole}
-use Rattle.task_script.specs.Form.{form_read}
-use Rattle.task_script.specs.WellFormed.{WellFormed}
+use Rattle.env_app.specs.Built.{is_built, IsRunnable}
+use Rattle.env_app.specs.declared.words.Command.{Command}
+use Rattle.env_app.specs.CommandLine.{asks_json}
 
--- the words ask for a run: the program's name, and `run`
-abbrev pub accepts_run : List (String Global) → Bool
-accepts_run (program ∷ mode ∷ []) = is_word (string_bytes mode) (codes "run")
-accepts_run words = false
+-- what a run writes of its log: its text, or its JSON form and a line feed
+abbrev pub output_of : Bool → List Entry → List ℕ
+output_of json log = if json then log_json log ++ codes "\n" else log_text log
 
--- the bytes are a script, of the form that is read today, and this holds of the text of one legal, whole history of it
-pub record HasRun (bytes : List ℕ) (Written : List ℕ → Type 0) : Type 0 where
+-- the bytes are a script, and this holds of what a run writes of one legal, whole history of it
+pub record HasRun (bytes : List ℕ) (json : Bool) (Written : List ℕ → Type 0) : Type 0 where
   pub script : Plan
   pub log : List Entry
   pub reads : Reads bytes script
-  pub of_form : form_read bytes ≡ Some script
   pub legal : IsLegal script log
   pub whole : IsWhole script log
-  pub written : Written (log_text log)
+  pub written : Written (output_of json log)
+
+-- the fault of a script that was read, or of its first bad line: that one's number and reason, or line 0 and its own reason
+-- for a script that does not run today
+abbrev pub fault_in : Result Plan (ℕ × ℕ) → Option (ℕ × ℕ)
+fault_in (Err at) = Some at
+fault_in (Ok script) = if is_built script then None else Some (0, NOT_BUILT)
+
+-- the fault that the bytes have as a script to be run, as line and reason, if they have one
+unfoldable pub script_fault : List ℕ → Option (ℕ × ℕ)
+script_fault bytes = fault_in (script_read bytes)
 
 -- the whole text was added to what the sink holds
 abbrev pub WroteAll : Option (List ℕ) → Option (List ℕ) → List ℕ → Type 0
@@ -80,9 +88,9 @@ IsSteady side = side.faults_after ≡ side.faults_before
 
 -- what the answer of reading a script says
 abbrev pub LoadsScript : Ends → Result Plan Fault → Type 0
-LoadsScript source (Ok script) = IsReadToEnd source × WellFormed script
-    × OfBytes source (λ bytes. IsWithin bytes × Reads bytes script × (form_read bytes ≡ Some script))
-LoadsScript source (Err (BadScript line reason)) = IsReadToEnd source × OfBytes source (λ bytes. IsWithin bytes × (form_read bytes ≡ None))
+LoadsScript source (Ok script) = IsReadToEnd source × IsRunnable script
+    × OfBytes source (λ bytes. IsWithin bytes × Reads bytes script × (script_fault bytes ≡ None))
+LoadsScript source (Err (BadScript line reason)) = IsReadToEnd source × OfBytes source (λ bytes. IsWithin bytes × (script_fault bytes ≡ Some (line, reason)))
 LoadsScript source (Err ReadFault) = Failed source
 LoadsScript source (Err TooLarge) = OfBytes source (λ bytes. MOST_BYTES < length bytes)
 LoadsScript source (Err (NoMemory error)) = Unit {0}
@@ -90,40 +98,44 @@ LoadsScript source (Err (NotLegal line)) = ⊥
 LoadsScript source (Err BadWords) = ⊥
 LoadsScript source (Err WriteFault) = ⊥
 
--- the bytes are a script, and this much of the text of its history was written
-abbrev pub Wrote : (Option (List ℕ) → Option (List ℕ) → List ℕ → Type 0) → Ends → Ends → Type 0
-Wrote How source sink = OfBytes source (λ bytes. IsWithin bytes × HasRun bytes (How sink.before sink.after))
+-- the bytes are a script that runs today, and this much of what the command writes of its history was written
+abbrev pub Wrote : Option Command → (Option (List ℕ) → Option (List ℕ) → List ℕ → Type 0) → Ends → Ends → Type 0
+Wrote command How source sink =
+    OfBytes source (λ bytes. IsWithin bytes × HasRun bytes (asks_json command) (How sink.before sink.after) × (script_fault bytes ≡ None))
 
--- what the answer of a run says: its words are accepted or not, and its source and its sink were left so
-abbrev pub RunsTo : Bool → Ends → Ends → Result (Unit {0}) Fault → Type 0
-RunsTo accepted source sink (Ok done) = (accepted ≡ true) × IsReadToEnd source × Wrote WroteAll source sink
-RunsTo accepted source sink (Err BadWords) = accepted ≡ false
-RunsTo accepted source sink (Err WriteFault) = (accepted ≡ true) × IsReadToEnd source × Failed sink × Wrote WroteFront source sink
-RunsTo accepted source sink (Err (BadScript line reason)) = (accepted ≡ true) × IsReadToEnd source
-    × OfBytes source (λ bytes. IsWithin bytes × (form_read bytes ≡ None))
-RunsTo accepted source sink (Err ReadFault) = (accepted ≡ true) × Failed source
-RunsTo accepted source sink (Err TooLarge) = (accepted ≡ true) × OfBytes source (λ bytes. MOST_BYTES < length bytes)
-RunsTo accepted source sink (Err (NoMemory error)) = accepted ≡ true
-RunsTo accepted source sink (Err (NotLegal line)) = ⊥
+-- what the answer of a run says: its words are a command or none, and its source and its sink were left so
+abbrev pub RunsTo : Option Command → Ends → Ends → Result (Unit {0}) Fault → Type 0
+RunsTo command source sink (Ok done) = IsSome command × IsReadToEnd source × Wrote command WroteAll source sink
+RunsTo command source sink (Err BadWords) = command ≡ None
+RunsTo command source sink (Err WriteFault) = IsSome command × IsReadToEnd source × Failed sink × Wrote command WroteFront source sink
+RunsTo command source sink (Err (BadScript line reason)) = IsSome command × IsReadToEnd source
+    × OfBytes source (λ bytes. IsWithin bytes × (script_fault bytes ≡ Some (line, reason)))
+RunsTo command source sink (Err ReadFault) = IsSome command × Failed source
+RunsTo command source sink (Err TooLarge) = IsSome command × OfBytes source (λ bytes. MOST_BYTES < length bytes)
+RunsTo command source sink (Err (NoMemory error)) = Unit {0}
+RunsTo command source sink (Err (NotLegal line)) = ⊥
 
 -- each status has its cause
-pub record HasCause (accepted : Bool) (source sink : Ends) (status : ℕ) : Type 0 where
+pub record HasCause (command : Option Command) (source sink : Ends) (status : ℕ) : Type 0 where
   -- 1 is never answered, and nothing above 7
   pub known : (status ≤ 7) × (status ≢ 1)
-  -- 2 comes exactly where the words are not accepted
-  pub bad_words : (status ≡ 2) ↔ (accepted ≡ false)
+  -- 2 comes only where the words are no command
+  pub bad_words : status ≡ 2 → command ≡ None
+  -- and where they are none, nothing but 2 and want of memory comes
+  pub no_command : command ≡ None → (status ≡ 2) ⊎ (status ≡ 6)
   -- under 0, 3 and 5 the source was read to its end
   pub read_to_end : (status ≡ 0) ⊎ (status ≡ 3) ⊎ (status ≡ 5) → IsReadToEnd source
-  -- under 0 the whole text of the run's history was written
-  pub done : status ≡ 0 → Wrote WroteAll source sink
-  -- 3 comes only where the bytes, within the limit, are no script of the form that is read today
-  pub bad_script : status ≡ 3 → OfBytes source (λ bytes. IsWithin bytes × (form_read bytes ≡ None))
-  -- and where they are none, nothing but 3, a failed source and want of memory comes
-  pub no_script : accepted ≡ true → OfBytes source (λ bytes. IsWithin bytes → form_read bytes ≡ None → (status ≡ 3) ⊎ (status ≡ 4) ⊎ (status ≡ 6))
+  -- under 0 the whole of what the command writes of the run's history was written
+  pub done : status ≡ 0 → Wrote command WroteAll source sink
+  -- 3 comes only where the bytes, within the limit, have a fault as a script: the grammar gives none, or one that does not
+  -- run today
+  pub bad_script : status ≡ 3 → OfBytes source (λ bytes. IsWithin bytes × IsSome (script_fault bytes))
+  -- and where they have one, nothing but 3, a failed source and want of memory comes
+  pub no_script : IsSome command → OfBytes source (λ bytes. IsWithin bytes → IsSome (script_fault bytes) → (status ≡ 3) ⊎ (status ≡ 4) ⊎ (status ≡ 6))
   -- 4 comes only where the source failed
   pub read_fault : status ≡ 4 → Failed source
-  -- 5 comes only where the sink failed, and a front of the text was written
-  pub write_fault : status ≡ 5 → Failed sink × Wrote WroteFront source sink
+  -- 5 comes only where the sink failed, and a front of what the command writes was written
+  pub write_fault : status ≡ 5 → Failed sink × Wrote command WroteFront source sink
   -- under every status but 4 the source did not fail once, and under every one but 5 the sink did not
   pub source_steady : status ≢ 4 → IsSteady source
   pub sink_steady : status ≢ 5 → IsSteady sink
@@ -133,19 +145,23 @@ pub record HasCause (accepted : Bool) (source sink : Ends) (status : ℕ) : Type
   pub took_more : status ≡ 7 → TookMore source
   pub took_within : status ≢ 7 → TookWithin source
   -- and where more came, nothing but 7, a failed source and want of memory comes
-  pub large : accepted ≡ true → OfBytes source (λ bytes. MOST_BYTES < length bytes → (status ≡ 4) ⊎ (status ≡ 6) ⊎ (status ≡ 7))
-  -- good input gives no fault: where neither side fails, a script of that form is run, or memory is wanting
-  pub good_input : accepted ≡ true → OfBytes source (λ bytes. (script : Plan) → IsWithin bytes → form_read bytes ≡ Some script → ¬ Failed source
-      → ¬ Failed sink → (status ≡ 0) ⊎ (status ≡ 6))
+  pub large : IsSome command → OfBytes source (λ bytes. MOST_BYTES < length bytes → (status ≡ 4) ⊎ (status ≡ 6) ⊎ (status ≡ 7))
+  -- good input gives no fault: where neither side fails, a script that runs today is run, or memory is wanting
+  pub good_input : IsSome command → OfBytes source (λ bytes. (script : Plan) → IsWithin bytes → Reads bytes script → is_built script ≡ true
+      → ¬ Failed source → ¬ Failed sink → (status ≡ 0) ⊎ (status ≡ 6))
 
 -- the note of a fault, with its line feed
 abbrev pub note_line : Fault → List ℕ
 note_line fault = note_of fault ++ codes "\n"
 
--- the faults that a run may end with
-abbrev pub run_faults : List Fault
-run_faults = BadWords ∷ BadScript 0 0 ∷ ReadFault ∷ WriteFault ∷ NoMemory alloc_error ∷ TooLarge ∷ []
+-- the faults that a run may end with, where a bad script has this line and reason
+abbrev pub run_faults : ℕ × ℕ → List Fault
+run_faults at = BadWords ∷ BadScript at.0 at.1 ∷ ReadFault ∷ WriteFault ∷ NoMemory alloc_error ∷ TooLarge ∷ []
 
 -- the note that goes with a status, with its line feed: that of the fault that ends a run with it, and nothing where none does
-abbrev pub note_of_status : ℕ → List ℕ
-note_of_status status = flat_map note_line (filter (λ fault. status_of fault == status) run_faults)
+abbrev pub note_of_status : ℕ × ℕ → ℕ → List ℕ
+note_of_status at status = option_map_or note_line (find (λ fault. status_of fault == status) (run_faults at)) []
+
+-- under the status of a bad script, this is the line and the reason of the fault that the source's bytes have as a script
+abbrev pub IsFaultAt : Option (List ℕ) → ℕ → ℕ × ℕ → Type 0
+IsFaultAt left status at = status ≡ 3 → (bytes : List ℕ) → left ≡ Some bytes → script_fault bytes ≡ Some at

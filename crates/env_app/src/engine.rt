@@ -6,8 +6,8 @@ ghost use Rattle.task_base.specs.Runners.{sequence_of};
 ghost use Rattle.task_traits.specs.Behaviour.{forbids};
 ghost use Rattle.hist_model.specs.Legal.{IsLegal};
 ghost use Rattle.hist_model.specs.Script.{is_finished, IsWhole};
-ghost use Rattle.task_script.specs.Wants.{WantsPost, WantsIdle, WantsShutdown, WantsDone, wants_of};
-ghost use Rattle.task_script.specs.WellFormed.{is_form_action, WellFormed};
+ghost use Rattle.env_app.specs.Wants.{WantsPost, WantsIdle, WantsShutdown, WantsDone, wants_of};
+ghost use Rattle.env_app.specs.Built.{is_built_action, IsRunnable};
 ghost use Rattle.env_app.specs.Engine.{IsFirstBest, importance_of, ranks_of, wanted};
 
 use env_io::Gate;
@@ -135,7 +135,7 @@ impl Engine {
 
     /// Takes all memory for the run.
     fn open(alloc: Global, script: &Script) -> Result<Engine, AllocError>
-        requires { WellFormed script.now }
+        requires { IsRunnable script.now }
         ensures ready { IfOk result (λ engine. IsReady script.now engine) }
         ensures start { IfOk result (λ engine. done_count engine.log.items ≡ 0) }
     {
@@ -154,7 +154,7 @@ impl Engine {
 
     /// Posts a task. Where it is not refused, it waits.
     fn post(&mut self, script: &Script, task: TaskId, runner: RunnerId, delay: u64)
-        requires formed { WellFormed script.now }
+        requires formed { IsRunnable script.now }
         requires ready { IsReady script.now self.old }
         requires next { wanted script.now self.old.log.items ≡ Some (WantsPost task runner delay) }
         ensures ready { IsReady script.now self.new }
@@ -177,7 +177,7 @@ impl Engine {
 
     /// Takes the best task as the worker, and does all of its work.
     fn serve<G: Gate>(&mut self, script: &Script, gate: &G)
-        requires formed { WellFormed script.now }
+        requires formed { IsRunnable script.now }
         requires ready { IsReady script.now self.old }
         requires unfinished { is_finished script.now self.old.log.items ≡ false }
         requires waits { 0 < vec_len self.old.queue }
@@ -212,7 +212,7 @@ impl Engine {
 
     /// Serves the worker until no task waits, and says so.
     fn flush<G: Gate>(&mut self, script: &Script, gate: &G)
-        requires formed { WellFormed script.now }
+        requires formed { IsRunnable script.now }
         requires ready { IsReady script.now self.old }
         requires next { wanted script.now self.old.log.items ≡ Some WantsIdle }
         ensures ready { IsReady script.now self.new }
@@ -229,7 +229,7 @@ impl Engine {
 
     /// Starts shutdown: the waiting tasks that may not start any more are dropped.
     fn start_shutdown(&mut self, script: &Script)
-        requires formed { WellFormed script.now }
+        requires formed { IsRunnable script.now }
         requires ready { IsReady script.now self.old }
         requires next { wanted script.now self.old.log.items ≡ Some WantsShutdown }
         ensures ready { IsReady script.now self.new }
@@ -246,7 +246,7 @@ impl Engine {
 
     /// Serves the worker while a task blocks shutdown, and says when it is done.
     fn finish_shutdown<G: Gate>(&mut self, script: &Script, gate: &G)
-        requires formed { WellFormed script.now }
+        requires formed { IsRunnable script.now }
         requires ready { IsReady script.now self.old }
         requires next { wanted script.now self.old.log.items ≡ Some WantsDone }
         requires started { self.old.tracker.phase ≡ Phase.Started }
@@ -264,10 +264,10 @@ impl Engine {
 
     /// Does the action whose entries the script wants next.
     fn perform<G: Gate>(&mut self, script: &Script, gate: &G, action: Action)
-        requires formed { WellFormed script.now }
+        requires formed { IsRunnable script.now }
         requires ready { IsReady script.now self.old }
         requires next { IsNext script.now self.old.log.items (wants_of action) }
-        requires plain { is_form_action action ≡ true }
+        requires plain { is_built_action action ≡ true }
         ensures ready { IsReady script.now self.new }
         ensures done { done_count self.new.log.items ≡ done_count self.old.log.items + length (wants_of action) }
     {
@@ -294,7 +294,7 @@ pub fn run_script<G: Gate>(
     script: &Script,
     gate: &G,
 ) -> Result<Rows<Entry>, AllocError>
-    requires { WellFormed script.now }
+    requires { IsRunnable script.now }
     ensures legal { IfOk result (λ log. IsLegal script.now log.items) }
     ensures whole { IfOk result (λ log. IsWhole script.now log.items) }
     ensures short { IfOk result (λ log. length log.items < 2 ^ 32) }

@@ -4,11 +4,17 @@
 //! has left, the bytes that the sink and the notes hold, and the count of failures of each.
 #![tactic(auto)]
 
-mod command;
+mod built;
 mod engine;
 mod input;
+mod load;
+mod notes;
+mod run;
+mod words;
+mod written;
 
-pub use command::run_words;
+pub use notes::tell;
+pub use run::run_words;
 
 #[cfg(test)]
 mod tests;

@@ -92,7 +92,15 @@ fn run_of<R: Threads + Wait + Sync + Clock + AllocGlobal>(
     rt: &R,
     script: &str,
 ) -> Result<Outcome, AllocError> {
-    let bytes = script.as_bytes().to_vec(rt.alloc())?;
+    run_of_bytes(rt, script.as_bytes())
+}
+
+/// What a run of these bytes does.
+fn run_of_bytes<R: Threads + Wait + Sync + Clock + AllocGlobal>(
+    rt: &R,
+    bytes: &[u8],
+) -> Result<Outcome, AllocError> {
+    let bytes = bytes.to_vec(rt.alloc())?;
     run_on(
         rt,
         &["taskenv", "run"],
@@ -115,10 +123,90 @@ fn empty_script(rt: HostRuntime) -> Result<(), Fail> {
     Ok(())
 }
 
+const FIRST_JSON: &str =
+    "[[0,0,\"post\",0,0,0,\"ok\"],[1,1,\"take\",0,0,0],[2,1,\"end\",0,5],[3,0,\"idle\"]]\n";
+
 #[test]
-fn hello_is_bad(rt: HostRuntime) -> Result<(), Fail> {
-    let outcome = run_of(&rt, "hello")?;
-    assert_eq!(rt; outcome.told(), (3, "", "bad script\n"));
+fn first_run_in_json(rt: HostRuntime) -> Result<(), Fail> {
+    let bytes = FIRST_SCRIPT.as_bytes().to_vec(rt.alloc())?;
+    let words = ["taskenv", "run", "--json"];
+    let outcome = run_on(&rt, &words, &mut SureSource::new(bytes), &OpenGate)?;
+    assert_eq!(rt; outcome.told(), (0, FIRST_JSON, ""));
+    let nothing = run_on(
+        &rt,
+        &words,
+        &mut SureSource::new(Vec::new(rt.alloc())),
+        &OpenGate,
+    )?;
+    assert_eq!(rt; nothing.told(), (0, "[]\n", ""));
+    Ok(())
+}
+
+// The first bad line is told, with the least reason that it has.
+#[test]
+fn script_faults(rt: HostRuntime) -> Result<(), Fail> {
+    let rows = [
+        (
+            b"runner 0 parallel user_visible skip\ntask 0 add 1\npost 0 0 0\npost 0 0 0\n".as_slice(),
+            "bad script: line 4: reason 8 PostedTwice\n",
+        ),
+        (b"\x80\n", "bad script: line 1: reason 1 NotAscii\n"),
+        (b"hello", "bad script: line 1: reason 2 UnknownWord\n"),
+        (
+            b"shutdown\nshutdown\n",
+            "bad script: line 2: reason 12 ShutdownTwice\n",
+        ),
+        (b"post 0 0 0\n", "bad script: line 1: reason 7 Undeclared\n"),
+        (
+            b"runner 0 parallel user_vis\n",
+            "bad script: line 1: reason 2 UnknownWord\n",
+        ),
+        // a later line that is worse, and a line that is bad in a script that would not run either
+        (
+            b"flush now\nhello\n",
+            "bad script: line 1: reason 3 WordCount\n",
+        ),
+        (
+            b"tick 1\n\ntick 0\n",
+            "bad script: line 3: reason 5 OutOfRange\n",
+        ),
+    ];
+    for (script, note) in rows {
+        let outcome = run_of_bytes(&rt, script)?;
+        assert_eq!(rt; outcome.told(), (3, "", note));
+    }
+    Ok(())
+}
+
+// Scripts of the grammar that do not run today.
+#[test]
+fn scripts_not_built(rt: HostRuntime) -> Result<(), Fail> {
+    let rows = [
+        "tick 1\n",
+        "policy none\n",
+        "groups 4 2 1\n",
+        "groups 5 2 0\n",
+        "groups 4 3 0\n",
+        "runner 0 single:1 user_visible skip\n",
+        "queue 0 0 0\n",
+        "task 0 block may ; unblock\n",
+        "job 0 user_visible skip 1 1\n",
+        "runner 0 parallel user_visible skip\ntask 0\npost 0 0 1\n",
+    ];
+    for script in rows {
+        let outcome = run_of(&rt, script)?;
+        assert_eq!(rt;
+            outcome.told(),
+            (3, "", "bad script: not built\n"),
+            "at {script}"
+        );
+    }
+    // Another threshold is fine, and so is a runner whose tasks may block.
+    let outcome = run_of(
+        &rt,
+        "threshold 7\nrunner 0 parallel user_visible skip mayblock\n",
+    )?;
+    assert_eq!(rt; outcome.told(), (0, "", ""));
     Ok(())
 }
 
@@ -209,7 +297,10 @@ fn shutdown_forms(rt: HostRuntime) -> Result<(), Fail> {
     let rows = [
         // with nothing posted
         ("shutdown\n", (0, "0 0 shutdown\n1 0 done\n", "")),
-        ("shutdown\nflush\nshutdown\n", (3, "", "bad script\n")),
+        (
+            "shutdown\nflush\nshutdown\n",
+            (3, "", "bad script: line 9: reason 12 ShutdownTwice\n"),
+        ),
         // a flush after it has nothing to run
         (
             "post 1 1 0\nshutdown\nflush\n",
@@ -259,13 +350,31 @@ fn shutdown_forms(rt: HostRuntime) -> Result<(), Fail> {
 
 #[test]
 fn bad_words(rt: HostRuntime) -> Result<(), Fail> {
-    let rows: [&[&str]; 6] = [
+    let rows: [&[&str]; 24] = [
         &[],
         &["taskenv"],
         &["run"],
         &["taskenv", "check"],
         &["taskenv", "runs"],
+        &["taskenv", "Run"],
         &["taskenv", "run", "run"],
+        &["taskenv", "run", "--size", "3"],
+        &["taskenv", "--json"],
+        &["taskenv", "run", "--json", "--json"],
+        &["taskenv", "run", "--json=true"],
+        &["taskenv", "run", "--step"],
+        &["taskenv", "run", "--step", "0"],
+        &["taskenv", "run", "--step", "01"],
+        &["taskenv", "run", "--step", "+1"],
+        &["taskenv", "run", "--step", "1000000000001"],
+        &["taskenv", "run", "--step", "18446744073709551617"],
+        &["taskenv", "run", "--step=-1"],
+        &["taskenv", "run", "--step", "1", "--step", "1"],
+        &["taskenv", "--help"],
+        &["taskenv", "run", "--help"],
+        &["taskenv", "run", "-h"],
+        &["taskenv", "help"],
+        &["taskenv", "--version"],
     ];
     let mut source = SureSource::new(b"hello".to_vec(rt.alloc())?);
     for words in rows {
@@ -278,9 +387,31 @@ fn bad_words(rt: HostRuntime) -> Result<(), Fail> {
     Ok(())
 }
 
-/// What a run of the first script does where each side fails at its call of this number from 1; at 0 it does not.
+#[test]
+fn good_words(rt: HostRuntime) -> Result<(), Fail> {
+    let rows: [(&[&str], &str); 9] = [
+        (&["taskenv", "run"], FIRST_LOG),
+        (&["", "run"], FIRST_LOG),
+        (&["taskenv", "run", "--step", "10"], FIRST_LOG),
+        (&["taskenv", "run", "--step=10"], FIRST_LOG),
+        (&["taskenv", "--step", "1000000000000", "run"], FIRST_LOG),
+        (&["taskenv", "--", "run"], FIRST_LOG),
+        (&["taskenv", "run", "--json"], FIRST_JSON),
+        (&["taskenv", "--json", "run"], FIRST_JSON),
+        (&["taskenv", "--json", "--step", "1", "run"], FIRST_JSON),
+    ];
+    for (words, log) in rows {
+        let bytes = FIRST_SCRIPT.as_bytes().to_vec(rt.alloc())?;
+        let outcome = run_on(&rt, words, &mut SureSource::new(bytes), &OpenGate)?;
+        assert_eq!(rt; outcome.told(), (0, log, ""), "at {words:?}");
+    }
+    Ok(())
+}
+
+/// What these words do with the first script where each side fails at its call of this number from 1; at 0 it does not.
 fn run_failing<R: Threads + Wait + Sync + Clock + AllocGlobal>(
     rt: &R,
+    words: &[&str],
     at_source: u32,
     at_sink: u32,
     at_notes: u32,
@@ -289,7 +420,7 @@ fn run_failing<R: Threads + Wait + Sync + Clock + AllocGlobal>(
     let bytes = FIRST_SCRIPT.as_bytes().to_vec(alloc)?;
     run_into(
         rt,
-        &["taskenv", "run"],
+        words,
         &mut MemSource::new(bytes, vec![in alloc; at_source]?),
         sink(alloc, &[at_sink])?,
         sink(alloc, &[at_notes])?,
@@ -318,8 +449,20 @@ fn outside_faults(rt: HostRuntime) -> Result<(), Fail> {
         (0, 2, 1, (5, one, "")),
     ];
     for (at_source, at_sink, at_notes, told) in rows {
-        let outcome = run_failing(&rt, at_source, at_sink, at_notes)?;
+        let words = ["taskenv", "run"];
+        let outcome = run_failing(&rt, &words, at_source, at_sink, at_notes)?;
         assert_eq!(rt; outcome.told(), told, "at {at_source} {at_sink} {at_notes}");
+    }
+    Ok(())
+}
+
+// The JSON form is put in one piece, so the second call is past the last.
+#[test]
+fn write_faults_in_json(rt: HostRuntime) -> Result<(), Fail> {
+    let words = ["taskenv", "run", "--json"];
+    for (at_sink, told) in [(1, (5, "", "write fault\n")), (2, (0, FIRST_JSON, ""))] {
+        let outcome = run_failing(&rt, &words, 0, at_sink, 0)?;
+        assert_eq!(rt; outcome.told(), told, "at {at_sink}");
     }
     Ok(())
 }
@@ -347,12 +490,19 @@ fn size_limit(rt: HostRuntime) -> Result<(), Fail> {
     Ok(())
 }
 
-/// A script that posts so many tasks to one sequence, and then runs them.
-fn many_tasks(alloc: Global, count: u32) -> Result<String, AllocError> {
-    let mut script = String::from_str(alloc, "workers 1\nrunner 0 sequenced user_visible skip\n")?;
+/// A script that declares so many tasks.
+fn tasks_alone(alloc: Global, count: u32) -> Result<String, AllocError> {
+    let mut script = String::new(alloc);
     for task in 0..count {
         script.push_str(&format!(in alloc; "task {task} add 1\n")?)?;
     }
+    Ok(script)
+}
+
+/// A script that posts so many tasks to one sequence, and then runs them.
+fn many_tasks(alloc: Global, count: u32) -> Result<String, AllocError> {
+    let mut script = String::from_str(alloc, "workers 1\nrunner 0 sequenced user_visible skip\n")?;
+    script.push_str(&tasks_alone(alloc, count)?)?;
     for task in 0..count {
         script.push_str(&format!(in alloc; "post {task} 0 0\n")?)?;
     }
@@ -367,8 +517,16 @@ fn most_tasks(rt: HostRuntime) -> Result<(), Fail> {
     let (status, log, note) = outcome.told();
     assert_eq!(rt; (status, note), (0, ""));
     assert!(rt; log.ends_with("\n49151 1 end 16383 16384\n49152 0 idle\n"));
-    let more = run_of(&rt, &many_tasks(rt.alloc(), 16_385)?)?;
-    assert_eq!(rt; more.told(), (3, "", "bad script\n"));
+    Ok(())
+}
+
+#[test]
+fn one_task_too_many(rt: HostRuntime) -> Result<(), Fail> {
+    let more = run_of(&rt, &tasks_alone(rt.alloc(), 16_385)?)?;
+    assert_eq!(rt;
+        more.told(),
+        (3, "", "bad script: line 16385: reason 14 TooMany\n")
+    );
     Ok(())
 }
 

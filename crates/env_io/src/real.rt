@@ -1,6 +1,7 @@
 // The trusted edge: readers, writers and the clock of std.
-ghost use Rattle.std.specs.Prelude.{◌≡◌, ◌≤◌, ◌⊎◌, ℕ, None};
+ghost use Rattle.std.specs.Prelude.{◌≡◌, ◌≤◌, ◌⊎◌, ℕ, None, OnErr, OnOk};
 ghost use Rattle.std.specs.Time.{instant_nanos};
+ghost use Rattle.env_io.specs.Bytes.{Rose};
 ghost use Rattle.env_io.specs.Elapsed.{after_reading, micros_passed, not_started};
 
 use crate::{Clock, Failed, Sink, Source};
@@ -66,7 +67,8 @@ impl<R: Read> Source for StdSource<R> {
 
 /// Writes to a writer. Tests show that each of its errors is a failure, and so is a write that takes nothing of a piece.
 ///
-/// It tells the bytes that the writer holds, if the writer told them at first. Standard output tells none.
+/// It tells the bytes that the writer holds, if the writer told them at first. Standard output tells none. What a
+/// buffered writer keeps back goes out by `flush`.
 #[derive(Drop)]
 pub struct StdSink<W: Write> {
     writer: W,
@@ -99,6 +101,22 @@ impl<W: Write> StdSink<W> {
             writer,
             faults: 0,
         }
+    }
+
+    /// Hands on what the writer still keeps back, as a buffered one does.
+    ///
+    /// `Failed`: the writer's error. A part of what it kept back may have gone out.
+    pub fn flush(&mut self) -> Result<(), Failed>
+        ensures bytes { self.new.bytes ≡ self.old.bytes }
+        ensures failed { OnErr result (Rose self.old.faults self.new.faults) }
+        ensures steady { OnOk result (self.new.faults ≡ self.old.faults) }
+        ensures faults { self.old.faults ≤ self.new.faults }
+    {
+        if self.writer.flush().is_err() {
+            self.faults = self.faults.saturating_add(1);
+            return Err(Failed);
+        }
+        Ok(())
     }
 }
 

@@ -122,6 +122,7 @@ impl Write for Rough {
     }
 
     fn flush(&mut self) -> IoResult<()> {
+        self.next()?;
         Ok(())
     }
 }
@@ -152,6 +153,14 @@ fn std_sink_writes(rt: HostRuntime) {
     let mut rough = StdSink::new(Rough { calls: 0 });
     for wanted in [Ok(1), Err(Failed), Err(Failed), Ok(1)] {
         assert_eq!(rt; put(&mut rough, b"ab"), wanted);
+    }
+}
+
+#[test]
+fn std_sink_flushes(rt: HostRuntime) {
+    let mut sink = StdSink::new(Rough { calls: 0 });
+    for wanted in [Ok(()), Err(Failed), Ok(()), Ok(())] {
+        assert_eq!(rt; sink.flush(), wanted);
     }
 }
 

@@ -1,12 +1,15 @@
-//! The program: it gives `run_words` the words of its command line and the three standard streams, and ends with
-//! what it answers.
+//! The program: it gives `run_words` the words of its command line and the three standard streams, standard output
+//! through a buffer, and ends with what it answers.
 #![tactic(auto)]
 
-use env_app::run_words;
-use env_io::{OpenGate, RealClock, StdSink, StdSource};
+ghost use Rattle.std.specs.Prelude.{◌≡◌, ◌≢◌, ◌⊎◌};
+ghost use Rattle.env_io.specs.Bytes.{Rose};
+
+use env_app::{run_words, tell};
+use env_io::{OpenGate, RealClock, Sink, StdSink, StdSource};
 use std::alloc::AllocError;
 use std::env;
-use std::io::ErrorKind;
+use std::io::{BufWriter, ErrorKind, Write};
 use std::process::ExitCode;
 use std::rt::Env;
 use task_base::Fault;
@@ -27,20 +30,43 @@ fn words_of<R: Env + AllocGlobal>(rt: &R) -> Result<Vec<String>, AllocError> {
     }
 }
 
+/// Hands on what the output still keeps back of a run that succeeded, and answers the exit status: that of the run, or
+/// that of a write fault, whose note goes to the notes then.
+fn close<W: Write, N: Sink>(status: u8, output: &mut StdSink<W>, notes: &mut N) -> u8
+    ensures status { (result ≡ status) ⊎ ((status ≡ 0) × (result ≡ 5)) }
+    ensures failed { result ≢ status → Rose output.old.faults output.new.faults }
+    ensures kept { status ≢ 0 → (output.new ≡ output.old) × (notes.new ≡ notes.old) }
+{
+    if status == 0 && output.flush().is_err() {
+        let fault = Fault::WriteFault;
+        tell(notes, &fault);
+        return fault.status();
+    }
+    status
+}
+
 fn main(rt: HostRuntime) -> ExitCode {
-    let words = match words_of(&rt) {
-        Ok(words) => words,
-        Err(error) => return ExitCode::from(Fault::NoMemory(error).status()),
+    let no_memory = ExitCode::from(Fault::NoMemory(AllocError).status());
+    let Ok(words) = words_of(&rt) else {
+        return no_memory;
     };
+    let Ok(output) = BufWriter::new(rt.alloc(), rt.stdout()) else {
+        return no_memory;
+    };
+    let mut output = StdSink::new(output);
+    let mut notes = StdSink::new(rt.stderr());
     let status = run_words(
         &rt,
         rt.alloc(),
         &words,
         &mut StdSource::new(rt.stdin()),
-        &mut StdSink::new(rt.stdout()),
-        &mut StdSink::new(rt.stderr()),
+        &mut output,
+        &mut notes,
         &mut RealClock::new(&rt),
         &OpenGate,
     );
-    ExitCode::from(status)
+    ExitCode::from(close(status, &mut output, &mut notes))
 }
+
+#[cfg(test)]
+mod tests;

@@ -1,6 +1,6 @@
 use Rattle.std.proofs.Common.{◌∙◌, ◌+◌, length, get_or, ap, arith}
 use Rattle.task_base.specs.declared.script.Action.TheVariants.{Post}
-use Rattle.task_script.specs.Wants.{wants_of}
+use Rattle.env_app.specs.Wants.{wants_of}
 use Rattle.env_app.proofs.Room.{whole_at_end, next_action, wants_taken, wants_all}
 use Rattle.env_app.proofs.engine.run_script.Goals as goal
 

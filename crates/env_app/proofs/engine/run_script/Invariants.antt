@@ -1,6 +1,6 @@
 use Rattle.std.proofs.Common.{◌≡◌, length, take}
 use Rattle.std.specs.List.{flat_map}
-use Rattle.task_script.specs.Wants.{wants_of}
+use Rattle.env_app.specs.Wants.{wants_of}
 use Rattle.env_app.specs.Engine.{IsReady, done_count}
 use Rattle.env_app.proofs.engine.run_script.Given as goal
 

@@ -1,7 +1,6 @@
 use Rattle.std.proofs.Common.{◌≡◌, ◌+◌, ◌∙◌, length, replicate, ap, arith}
-use Rattle.task_script.specs.FormDraft.{shuts_down}
 use Rattle.env_app.proofs.Events.{opened}
-use Rattle.env_app.proofs.Room.{room_at_start, at_most_one}
+use Rattle.env_app.proofs.Room.{room_at_start}
 use Rattle.env_app.proofs.engine.Engine.open.Goals as goal
 
 pub returns-clause-ready : goal.returns-clause-ready
@@ -11,10 +10,9 @@ returns-clause-ready c =
     let runners : c.len.result ≡ length script.runners = c.len.ensures.count ∙ ap (λ p. length p.runners) c.script.view_is in
     let tasks : c.len-2.result ≡ length script.tasks = c.len-2.ensures.count ∙ ap (λ p. length p.tasks) c.script.view_is in
     let zeros : c.in_ok-cells.cells.items ≡ replicate (c.len.result + c.len-2.result) 0 = c.in_ok-cells.ensures.items_if_clones_equal (λ y e. e) in
-    let wants = c.requires.wants_count in
-    let once = at_most_one (shuts_down script.actions) in
+    let wants = c.requires.few_wants in
     record {
       stands = opened _ c.in_ok-log.ensures.empty c.in_ok-queue.ensures.items zeros (omega arith) c.new.ensures;
       room = room_at_start script _ c.in_ok-log.ensures.empty c.in_ok-queue.ensures.items c.in_ok-queue.ensures.len
-          (omega (arith, c.in_ok-log.ensures.room, wants, once, actions)) (omega (arith, c.in_ok-queue.ensures.exact, wants, once, actions));
+          (omega (arith, c.in_ok-log.ensures.room, wants, actions)) (omega (arith, c.in_ok-queue.ensures.exact, wants, actions));
     }

@@ -1,6 +1,6 @@
 use Rattle.std.proofs.Common.{ap, arith}
 use Rattle.std.specs.Prelude.{slice_get}
-use Rattle.task_script.specs.Wants.{wants_of}
+use Rattle.env_app.specs.Wants.{wants_of}
 use Rattle.env_app.proofs.Room.{wanted_next}
 use Rattle.env_app.proofs.engine.Engine.perform.Goals as goal
 

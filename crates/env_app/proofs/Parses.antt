@@ -1,0 +1,55 @@
+-- What clap's answers say of the command that the words are.
+use Rattle.std.proofs.Common.{◌≡◌, ℕ, true, List, [], ◌∷◌, codes, refl, sym, ap, ap₂, subst, ◌∙◌, inl, inr, Option, None}
+use Rattle.clap.specs.Walk.{Row, first_of, rows_of}
+use Rattle.clap.specs.Simple.{App, HasMatchesOf, is_simple, matches_of}
+use Rattle.clap.specs.Kinds.{Kinds, HasKind, IsAmong}
+use Rattle.clap.specs.Faults.{fault_of, is_simple_and_free}
+use Rattle.clap.specs.Matches.{found_of, first_value}
+use Rattle.clap.specs.Values.{kind_of}
+use Rattle.clap.specs.declared.error.Error.{Error}
+use Rattle.clap.specs.declared.error.kind.ErrorKind.{ErrorKind}
+use Rattle.clap.specs.declared.error.kind.ErrorKind.TheVariants.{OutOfMemory}
+use Rattle.clap.specs.declared.parser.matches.ArgMatches.{ArgMatches}
+use Rattle.clap.proofs.OnLiterals.{clap_on_literals}
+use Rattle.clap.proofs.WalkLemmas.{first_value-rows}
+use Rattle.env_app.specs.CommandLine.{taskenv, command_with, command_unless, command_of}
+
+-- the command is one of those of which clap says exactly what it makes of words
+simple : is_simple taskenv ≡ true
+unfolding clap_on_literals
+simple = refl
+
+simple_and_free : is_simple_and_free taskenv ≡ true
+unfolding clap_on_literals
+simple_and_free = refl
+
+refused_for : (k : ErrorKind) (kinds : Kinds) (rows : List Row) → IsAmong k kinds → command_unless kinds rows ≡ None
+refused_for k [] rows among = absurd among
+refused_for k (kind ∷ kinds) rows among = refl
+
+-- words that clap refuses, where memory is not wanting, are no command
+pub refused : (app : App) (words : List (List ℕ)) (e : Error) → app ≡ taskenv → (is_simple_and_free app ≡ true → HasKind (fault_of app words) e)
+    → (kind_of e ≡ OutOfMemory → ⊥) → None ≡ command_of words
+unfolding command_of
+refused app words e is fails found =
+    elim (fails (ap is_simple_and_free is ∙ simple_and_free)) [
+      | inl memory ↦ absurd (found memory)
+      | inr among ↦ sym (refused_for (kind_of e) (fault_of taskenv words) (matches_of taskenv words)
+          (subst (λ (a : App). IsAmong (kind_of e) (fault_of a words)) is among))
+    ]
+
+-- words that it takes are the command that its matches make
+pub taken : (app : App) (words : List (List ℕ)) (m : ArgMatches) (mode step json : Option (List ℕ)) → app ≡ taskenv
+    → (is_simple_and_free app ≡ true → fault_of app words ≡ []) → HasMatchesOf app words m
+    → mode ≡ first_value (found_of m) (codes "MODE") → step ≡ first_value (found_of m) (codes "step") → json ≡ first_value (found_of m) (codes "json")
+    → command_with mode step json ≡ command_of words
+unfolding command_of
+taken app words m mode step json is free matches mode_is step_is json_is =
+    let rows : rows_of (found_of m) ≡ matches_of taskenv words = (matches (ap is_simple is ∙ simple)).0 ∙ ap (λ (a : App). matches_of a words) is in
+    let none : fault_of taskenv words ≡ [] = ap (λ (a : App). fault_of a words) (sym is) ∙ free (ap is_simple_and_free is ∙ simple_and_free) in
+    let mode_in : mode ≡ first_of (codes "MODE") (rows_of (found_of m)) = mode_is ∙ first_value-rows (found_of m) (codes "MODE") in
+    let step_in : step ≡ first_of (codes "step") (rows_of (found_of m)) = step_is ∙ first_value-rows (found_of m) (codes "step") in
+    let json_in : json ≡ first_of (codes "json") (rows_of (found_of m)) = json_is ∙ first_value-rows (found_of m) (codes "json") in
+    ap (λ (o : Option (List ℕ)). command_with o step json) mode_in
+    ∙ ap₂ (λ (s j : Option (List ℕ)). command_with (first_of (codes "MODE") (rows_of (found_of m))) s j) step_in json_in
+    ∙ ap₂ command_unless (sym none) rows

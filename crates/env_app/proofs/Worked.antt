@@ -1,0 +1,2 @@
+-- What was worked out by hand.
+pub mod CommandLines

@@ -1,0 +1,96 @@
+ghost use Rattle.std.specs.Prelude.{◌≡◌, ◌≢◌, ◌⊎◌, ℕ, List, map, string_bytes, Some, None, Err, IfErr};
+ghost use Rattle.env_io.specs.Bytes.{Gains, Rose};
+ghost use Rattle.env_app.specs.CommandLine.{asks_json, command_of};
+ghost use Rattle.env_app.specs.Outcome.{ends, HasRun, WroteAll, WroteFront, TookMore, TookWithin, RunsTo, HasCause, IsFaultAt, note_of_status};
+
+use crate::engine::run_script;
+use crate::load::load;
+use crate::notes::tell;
+use crate::words::command_of;
+use crate::written::write;
+use env_io::{Clock, Gate, Sink, Source};
+use std::alloc::Global;
+use std::sync::Wait;
+use std::thread::Threads;
+use task_base::Fault;
+
+/// Does what the words ask for.
+fn run<S: Source, K: Sink, G: Gate>(
+    alloc: Global,
+    words: &[String],
+    source: &mut S,
+    sink: &mut K,
+    gate: &G,
+) -> Result<(), Fault>
+    ensures outcome { RunsTo (command_of (map string_bytes words.now))
+        (ends (S.left source.old) (S.left source.new) (S.faults source.old) (S.faults source.new))
+        (ends (K.holds sink.old) (K.holds sink.new) (K.faults sink.old) (K.faults sink.new)) result }
+    ensures sink_kept { IfErr result (λ fault. fault ≢ Fault.WriteFault → sink.new ≡ sink.old) }
+    ensures took_more { result ≡ Err Fault.TooLarge → TookMore (ends (S.left source.old) (S.left source.new) (S.faults source.old) (S.faults source.new)) }
+    ensures took_within { result ≢ Err Fault.TooLarge → TookWithin (ends (S.left source.old) (S.left source.new) (S.faults source.old) (S.faults source.new)) }
+    ensures source_kept { command_of (map string_bytes words.now) ≡ None → source.new ≡ source.old }
+    ensures source_steady { result ≢ Err Fault.ReadFault → S.faults source.new ≡ S.faults source.old }
+    ensures sink_steady { result ≢ Err Fault.WriteFault → K.faults sink.new ≡ K.faults sink.old }
+{
+    let command = match command_of(alloc, words) {
+        Ok(Some(command)) => command,
+        Ok(None) => return Err(Fault::BadWords),
+        Err(error) => return Err(Fault::NoMemory(error)),
+    };
+    let script = load(alloc, source)?;
+    let log = match run_script(alloc, &script, gate) {
+        Ok(log) => log,
+        Err(error) => return Err(Fault::NoMemory(error)),
+    };
+    write(alloc, sink, &log, command.json)
+}
+
+/// Does what the words ask for, and answers the exit status (this project's own rule).
+///
+/// The one command is `taskenv run [--step N] [--json]`, the program's name first: it reads a script from the source, to
+/// its end, runs it, and writes the run's log to the sink, as text or with `--json` as JSON. A status above 0 is that of a
+/// `Fault`, whose note goes to the notes. Want of memory comes before the first byte is written. The gate is called
+/// between each take of a task and the task's first step. This run has one thread: it starts none by the handle, and does
+/// not read the clock.
+pub fn run_words<R: Threads + Wait + Sync, S: Source, K: Sink, N: Sink, C: Clock, G: Gate>(
+    _rt: &R,
+    alloc: Global,
+    words: &[String],
+    source: &mut S,
+    sink: &mut K,
+    notes: &mut N,
+    clock: &mut C,
+    gate: &G,
+) -> u8
+    // The run theorem: the bytes that came are a script, and what was added to the sink is the text of one history that is
+    // legal and whole for it, or with `--json` its JSON form and a line feed.
+    ensures run_theorem { result ≡ 0 → (bytes : List ℕ) → S.left source.old ≡ Some bytes →
+        HasRun bytes (asks_json (command_of (map string_bytes words.now))) (WroteAll (K.holds sink.old) (K.holds sink.new)) }
+
+    // Each status has its cause.
+    ensures cause { HasCause (command_of (map string_bytes words.now))
+        (ends (S.left source.old) (S.left source.new) (S.faults source.old) (S.faults source.new))
+        (ends (K.holds sink.old) (K.holds sink.new) (K.faults sink.old) (K.faults sink.new)) result }
+
+    // Under any other status nothing is put to the sink, and words that are no command take nothing from the source.
+    ensures nothing_written { result ≢ 0 → result ≢ 5 → sink.new ≡ sink.old }
+    ensures nothing_taken { (result ≡ 2) ⊎ (command_of (map string_bytes words.now) ≡ None) → source.new ≡ source.old }
+
+    // The clock is as it was.
+    ensures clock { clock.new ≡ clock.old }
+
+    // The notes get the status's note, where they do not fail, and else a front of it. Under 3 that is the note of the
+    // fault that the bytes have as a script.
+    ensures note { (at : ℕ × ℕ) × IsFaultAt (S.left source.old) result at
+        × (Rose (N.faults notes.old) (N.faults notes.new) ⊎ Gains (N.holds notes.old) (note_of_status at result) (N.holds notes.new)) }
+    ensures note_front { (at : ℕ × ℕ) × IsFaultAt (S.left source.old) result at
+        × WroteFront (N.holds notes.old) (N.holds notes.new) (note_of_status at result) }
+{
+    match run(alloc, words, source, sink, gate) {
+        Ok(()) => 0,
+        Err(fault) => {
+            tell(notes, &fault);
+            fault.status()
+        }
+    }
+}
