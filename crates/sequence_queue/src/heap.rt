@@ -1,0 +1,197 @@
+ghost use Rattle.std.specs.Prelude.{◌≡◌, ◌<◌, ◌^◌, ◌&&◌, ℕ, false, nat_lt, slice_index_or, slice_set, replicate, None, Some, IfOk};
+ghost use Rattle.sequence_queue.specs.Heap.{before, CountsUp, Exchanged, IsAbove, IsBelow, IsChild, IsFirst, IsFirstBelow, IsHeap, IsLoosely, IsPaired, goes_before, rank_at, size};
+
+use crate::rank::Rank;
+use std::alloc::{AllocError, Global};
+
+/// A binary heap of all numbers below a bound, in which each number knows its place. The numbers that are not held
+/// have no rank, and stand behind those that have one.
+#[derive(Debug, Drop)]
+pub(crate) struct Heap {
+    /// The rank of each number that is held.
+    ranks: Vec<Option<Rank>>,
+    /// The number at each place.
+    order: Vec<usize>,
+    /// The place of each number.
+    places: Vec<usize>,
+}
+
+impl Heap {
+    /// A heap of this many numbers, none of which is held.
+    pub(crate) fn new(alloc: Global, numbers: usize) -> Result<Heap, AllocError>
+        requires { numbers < 2 ^ 62 }
+        ensures heap { IfOk result IsHeap }
+        ensures empty { IfOk result (λ heap. heap.ranks.items ≡ replicate numbers None) }
+    {
+        let ranks = vec![in alloc; None; numbers]?;
+        let order = numbers_below(alloc, numbers)?;
+        let places = numbers_below(alloc, numbers)?;
+        Ok(Heap {
+            ranks,
+            order,
+            places,
+        })
+    }
+
+    /// The rank of a number, where it is held.
+    pub(crate) fn rank(&self, number: usize) -> Option<Rank>
+        requires { number < size self.now }
+        ensures { result ≡ slice_index_or self.now.ranks.items number None }
+    {
+        self.ranks[number]
+    }
+
+    /// The number that goes before all others.
+    pub(crate) fn first(&self) -> Option<usize>
+        requires { IsHeap self.now }
+        ensures { IsFirst self.now result }
+    {
+        self.order.first().copied()
+    }
+
+    /// Gives a number another rank, or none.
+    pub(crate) fn set(&mut self, number: usize, rank: Option<Rank>)
+        requires heap { IsHeap self.old }
+        requires within { number < size self.old }
+        ensures heap { IsHeap self.new }
+        ensures ranks { self.new.ranks.items ≡ slice_set self.old.ranks.items number rank }
+    {
+        self.ranks[number] = rank;
+        let place = self.places[number];
+        self.settle(place);
+    }
+
+    // Moves the number at a place to where its rank belongs.
+    fn settle(&mut self, place: usize)
+        requires paired { IsPaired self.old }
+        requires loose { IsLoosely (rank_at self.old) (size self.old) place }
+        requires within { place < size self.old }
+        ensures heap { IsHeap self.new }
+        ensures ranks { self.new.ranks ≡ self.old.ranks }
+    {
+        if self.goes_up(place) {
+            self.rise(place);
+        } else {
+            self.sink(place);
+        }
+    }
+
+    // Moves the number at a place up, as long as it goes before the one above it.
+    fn rise(&mut self, place: usize)
+        requires paired { IsPaired self.old }
+        requires loose { IsLoosely (rank_at self.old) (size self.old) place }
+        requires high { IsAbove (rank_at self.old) (size self.old) place }
+        requires within { place < size self.old }
+        ensures heap { IsHeap self.new }
+        ensures ranks { self.new.ranks ≡ self.old.ranks }
+    {
+        if self.goes_up(place) {
+            let above = above(place);
+            self.exchange(place, above);
+            self.rise(above);
+        }
+    }
+
+    // Moves the number at a place down, as long as one below it goes before it.
+    fn sink(&mut self, place: usize)
+        requires paired { IsPaired self.old }
+        requires loose { IsLoosely (rank_at self.old) (size self.old) place }
+        requires low { IsBelow (rank_at self.old) place }
+        requires within { place < size self.old }
+        ensures heap { IsHeap self.new }
+        ensures ranks { self.new.ranks ≡ self.old.ranks }
+    {
+        let below = self.first_below(place);
+        if self.goes_before(below, place) {
+            self.exchange(place, below);
+            self.sink(below);
+        }
+    }
+
+    // Of the two places below this one, the one whose number goes before the other's.
+    fn first_below(&self, place: usize) -> usize
+        requires paired { IsPaired self.now }
+        requires within { place < size self.now }
+        ensures { IsFirstBelow self.now place result }
+    {
+        let left = 2 * place + 1;
+        let right = left + 1;
+        if self.goes_before(right, left) {
+            right
+        } else {
+            left
+        }
+    }
+
+    // Whether the number at a place goes before the one above it.
+    fn goes_up(&self, place: usize) -> bool
+        requires paired { IsPaired self.now }
+        requires within { place < size self.now }
+        ensures answer { (i : ℕ) → IsChild place i → result ≡ goes_before self.now place i }
+        ensures first { place ≡ 0 → result ≡ false }
+    {
+        place > 0 && self.goes_before(place, above(place))
+    }
+
+    // Whether there is a number at a place, and it goes before the one at another.
+    fn goes_before(&self, place: usize, other: usize) -> bool
+        requires paired { IsPaired self.now }
+        requires within { place < size self.now → other < size self.now }
+        ensures { result ≡ (nat_lt place (size self.now) && goes_before self.now place other) }
+    {
+        place < self.ranks.len() && before(self.rank_at(place), self.rank_at(other))
+    }
+
+    // The rank of the number at a place.
+    fn rank_at(&self, place: usize) -> Option<Rank>
+        requires paired { IsPaired self.now }
+        requires within { place < size self.now }
+        ensures { result ≡ rank_at self.now place }
+    {
+        self.ranks[self.order[place]]
+    }
+
+    // Exchanges the numbers at two places.
+    fn exchange(&mut self, place: usize, other: usize)
+        requires paired { IsPaired self.old }
+        requires within { (place < size self.old) × (other < size self.old) }
+        ensures paired { IsPaired self.new }
+        ensures ranks { self.new.ranks ≡ self.old.ranks }
+        ensures exchanged { Exchanged (rank_at self.old) (rank_at self.new) place other }
+    {
+        let (first, second) = (self.order[place], self.order[other]);
+        self.order.swap(place, other);
+        self.places.swap(first, second);
+    }
+}
+
+// The place above another.
+fn above(place: usize) -> usize
+    requires { 0 < place }
+    ensures child { IsChild place result }
+    ensures less { result < place }
+{
+    (place - 1) / 2
+}
+
+// Whether a rank goes before another one, or before none.
+fn before(rank: Option<Rank>, than: Option<Rank>) -> bool
+    ensures { result ≡ before rank than }
+{
+    match (rank, than) {
+        (Some(rank), Some(than)) => rank.is_below(&than),
+        (rank, _) => rank.is_some(),
+    }
+}
+
+// The numbers below a bound, in order.
+fn numbers_below(alloc: Global, bound: usize) -> Result<Vec<usize>, AllocError>
+    requires { bound < 2 ^ 62 }
+    ensures { IfOk result (λ numbers. CountsUp numbers.items bound) }
+{
+    let mut numbers = Vec::with_capacity(alloc, bound)?;
+    for number in 0..bound {
+        numbers.push(number)?;
+    }
+    Ok(numbers)
+}
