@@ -5,6 +5,7 @@
 //! The functions have empty bodies: each states laws of every legal history in its contract.
 #![tactic(auto)]
 
+mod chronicle;
 mod current;
 mod entries;
 mod fences;
@@ -23,6 +24,7 @@ mod starts;
 mod state;
 mod whole;
 
+pub use chronicle::Chronicle;
 pub use current::the_current_action_moves_on;
 pub use entries::entries_are_bounded;
 pub use fences::no_queue_passes_its_fence;

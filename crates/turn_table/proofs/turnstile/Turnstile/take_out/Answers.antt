@@ -1,0 +1,6 @@
+use Rattle.std.proofs.Common.{rules, Some, ap, sym, ◌∙◌, ◌∷◌}
+use Rattle.atomic_table.specs.Table.{rest}
+use Rattle.turn_table.proofs.turnstile.Turnstile.take_out.Goals as goal
+
+pub exchange-requires : goal.exchange-requires
+exchange-requires g c = let t = c.requires.full in (search rules, (Some t.0, t.1 ∙ ap (λ l. (0, Some t.0) ∷ rest l) (sym t.1)))
