@@ -1,4 +1,4 @@
-ghost use Rattle.std.specs.Prelude.{◌≡◌, ◌+◌, ◌-◌, ◌<◌, ◌≤◌, ◌↔◌, ◌++◌, ◌∷◌, [], length, map, replicate, true, All, IsSome, IsNone, IfOk, IfNone, OnSome};
+ghost use Rattle.std.specs.Prelude.{◌≡◌, ◌+◌, ◌-◌, ◌<◌, ◌≤◌, ◌↔◌, ◌++◌, ◌∷◌, [], length, map, replicate, true, is_some, All, IsSome, IsNone, IfOk, IfNone, OnSome};
 ghost use Rattle.task_base.specs.Keys.{key_below};
 ghost use Rattle.std.specs.List.{sum_by};
 ghost use Rattle.task_sequence.specs.Sequences.{fresh, sequence_at, with_sequence, first_of, given_of, behind_first, purged, forbidden_in};
@@ -85,6 +85,14 @@ impl Sequences {
     {
         let line = &self.lines[seq as usize];
         first_task(&self.nodes, &line.ends)
+    }
+
+    /// Whether the cell of a sequence is at home: no task of the sequence runs.
+    pub fn is_home(&self, seq: SeqId) -> bool
+        requires { seq < length self.now.sequences }
+        ensures { result ≡ is_some (sequence_at self.now seq).cell }
+    {
+        self.lines[seq as usize].cell.is_some()
     }
 
     /// Takes the first task out of a sequence, with the cell, which is out from then on; None where no task waits.

@@ -87,6 +87,7 @@ fn thousand_tasks_are_taken_and_purged_in_order(rt: HostRuntime) -> Result<(), F
     assert_eq!(rt; sequences.head(1), None);
     assert_eq!(rt; run_one(&mut sequences, 1), None);
     assert_eq!(rt; sequences.head(0), None);
+    assert!(rt; sequences.is_home(0));
     assert_eq!(rt; purge(&mut sequences, Phase::Done), 0);
     Ok(())
 }
