@@ -164,6 +164,41 @@ fn std_sink_flushes(rt: HostRuntime) {
     }
 }
 
+#[test]
+fn list_clock_repeats_its_last_reading(rt: HostRuntime) -> Result<(), Fail> {
+    let alloc = rt.alloc();
+    let mut clock = ListClock::new(vec![in alloc; 7, 3, 12]?);
+    for wanted in [7, 3, 12, 12, 12] {
+        assert_eq!(rt; now(&mut clock), wanted);
+    }
+    let mut empty = ListClock::new(Vec::new(alloc));
+    for _ in 0..3 {
+        assert_eq!(rt; now(&mut empty), 0);
+    }
+    Ok(())
+}
+
+#[test]
+fn step_clock_counts_by_its_step(rt: HostRuntime) {
+    let mut clock = StepClock::new(10);
+    for wanted in [10, 20, 30] {
+        assert_eq!(rt; now(&mut clock), wanted);
+    }
+    let mut still = StepClock::new(0);
+    for _ in 0..2 {
+        assert_eq!(rt; now(&mut still), 0);
+    }
+}
+
+#[test]
+fn step_clock_stays_at_the_last_value(rt: HostRuntime) {
+    let step = 1 << 63;
+    let mut clock = StepClock::new(step);
+    for wanted in [step, u64::MAX, u64::MAX] {
+        assert_eq!(rt; now(&mut clock), wanted);
+    }
+}
+
 // A clock of the system that reads these moments in turn, and fails where there is none.
 #[derive(Drop)]
 struct Moments {
