@@ -1,0 +1,318 @@
+-- What the pool chooses is the best source.
+use Rattle.list_laws.proofs.Elements.{slice_get_all}
+use Rattle.list_laws.proofs.Values.{some-injective}
+use Rattle.list_laws.specs.Lists.{Ranks, keep}
+use Rattle.pool_core.proofs.Accepted.{head_accepted, is_declared}
+use Rattle.pool_core.proofs.Following.{has_place, lane_fits}
+use Rattle.pool_core.proofs.Queues.{owns_own}
+use Rattle.pool_core.proofs.Room.{groups_have_room}
+use Rattle.pool_core.specs.Choice.{IsBestOf, IsOffer, IsOffered, better_of, is_open, priority_in}
+use Rattle.pool_core.specs.Pasts.{IsPoolScript}
+use Rattle.pool_core.specs.Queues.{belongs, lane_of, queue_of, rank_as, same}
+use Rattle.pool_core.specs.StandsFor.{StandsFor}
+use Rattle.pool_core.specs.State.{HasPlace, is_best_by, lane_by}
+use Rattle.pool_core.specs.declared.pool.Pool.{Pool}
+use Rattle.pool_laws.proofs.Choice.Best.{only_best}
+use Rattle.pool_laws.proofs.Choice.Candidates.{candidate_names, free_is_waiting, job_within, sequence_within, waiting_is_free, waiting_sequence}
+use Rattle.pool_laws.proofs.Choice.Least.{best_is_best, ranks_goes_before}
+use Rattle.pool_laws.specs.Choice.{IsBest, IsFree, source_waiting}
+use Rattle.sequence_queue.specs.Ranked.{IsMadeFor, rank_below}
+use Rattle.sequence_queue.specs.declared.rank.Rank.{Rank}
+use Rattle.std.proofs.Common.{Bool, List, None, Option, Some, ap, arith, cond, false, inl, inr, length, refl, subst, sym, true, ℕ, ◌+◌, ◌<◌, ◌∙◌, ◌≡◌, ◌≤◌}
+use Rattle.std.proofs.lemmas.Bool.{and_from, and_parts, eq-eqb, eqb-true, false≢true, not-true}
+use Rattle.std.proofs.lemmas.List.Elements.{All-contains_itself, All-weaker}
+use Rattle.std.proofs.lemmas.Option.{none-some}
+use Rattle.std.specs.Option.{IfSome, option_map, option_map_or}
+use Rattle.std.specs.Prelude.{Contains, not, option_and_then, slice_get, ◌&&◌, ◌==◌, ◌⊎◌}
+use Rattle.task_base.specs.Groups.{is_best_effort}
+use Rattle.task_base.specs.Plan.{Plan}
+use Rattle.task_base.specs.Policy.{is_held_back}
+use Rattle.task_base.specs.Runners.{seat_of, seat_of_kind, sequence_count}
+use Rattle.task_base.specs.declared.entry.Entry.{Entry}
+use Rattle.task_base.specs.declared.policy.Policy.{Policy}
+use Rattle.task_base.specs.declared.script.Runner.{Runner}
+use Rattle.task_base.specs.declared.source.TaskSource.{TaskSource}
+use Rattle.task_base.specs.declared.source.TaskSource.TheVariants.{Job, Sequence}
+use Rattle.task_model.specs.Capacity.{has_room}
+use Rattle.task_model.specs.Keys.{Ready}
+use Rattle.task_model.specs.Phase.{phase_of}
+use Rattle.task_model.specs.Policies.{is_held, policy_of}
+use Rattle.task_model.specs.Seats.{runs_sequence}
+use Rattle.task_model.specs.Sequences.{head_of}
+use Rattle.task_model.specs.Sources.{Candidate, IsTakeable, best_of, goes_before, is_takeable, sequence_candidate, waiting}
+use Rattle.task_traits.specs.Behaviour.{forbids}
+use Rattle.task_traits.specs.declared.phase.Phase.{Phase}
+use Rattle.task_traits.specs.declared.traits.Behaviour.{Behaviour}
+use Rattle.task_traits.specs.declared.traits.Behaviour.TheVariants.{BlockShutdown}
+use Rattle.task_traits.specs.declared.traits.Priority.{Priority}
+use Rattle.task_traits.specs.declared.traits.Priority.TheVariants.{BestEffort, UserBlocking, UserVisible}
+use Rattle.sequence_queue.specs.Ranked as queues
+use Rattle.task_base.specs.declared.policy.Policy.TheVariants as policies
+use Rattle.task_traits.specs.declared.phase.Phase.TheVariants as phases
+
+-- What would wait, while there are no jobs: sequences by their heads.
+
+-- what waits is a sequence of the script that does not run, by its head
+waits_by_head : (script : Plan) (past : List Entry) (source : TaskSource) (c : Candidate) → IsPoolScript script → source_waiting script past source ≡ Some c
+    → (s : ℕ) × (head : Ready) × (s < sequence_count script) × (runs_sequence script past s ≡ false) × (head_of script past s ≡ Some head)
+    × (sequence_candidate script s head ≡ c) × (source ≡ Sequence s)
+waits_by_head script past (Sequence s) c limits is =
+    let inside = sequence_within script past s c is in
+    let parts = waiting_sequence script past s c inside.1 in
+    (s, parts.0, inside.0, parts.1, parts.2, parts.3, refl)
+waits_by_head script past (Job j) c limits is = absurd (omega (arith, (job_within script past j c is).0, ap length limits.no_jobs))
+
+-- the seat of a single-thread runner is a worker's
+seat_above : (script : Plan) (runner seat : ℕ) → IsPoolScript script → seat_of script runner ≡ Some seat → 1 ≤ seat
+seat_above script runner seat limits is = by (slice_get script.runners runner) (slice_get_all _ script.runners runner limits.seats_fit) is
+  where
+    by : (o : Option Runner) → IfSome o (λ r. (n : ℕ) → seat_of_kind r.kind ≡ Some n → (1 ≤ n) × (n ≤ script.workers))
+        → option_and_then (λ r. seat_of_kind r.kind) o ≡ Some seat → 1 ≤ seat
+    by None fits none = absurd (none-some seat none)
+    by (Some r) fits is = (fits seat is).0
+
+-- Which queues are open.
+
+-- the policies that hold back the work of a queue hold back all of it, or none
+held_by_queue : (past : List Entry) (priority : Priority) (best : Bool) → same (is_best_effort priority) best ≡ true
+    → is_held past priority ≡ is_held past (priority_in best)
+held_by_queue past priority best is = by (phase_of past) (policy_of past) priority best is
+  where
+    by : (phase : Phase) (policy : Policy) (p : Priority) (b : Bool) → same (is_best_effort p) b ≡ true
+        → is_held_back phase policy p ≡ is_held_back phase policy (priority_in b)
+    by phases.Running policies.All p b is = refl
+    by phases.Running policies.Foreground BestEffort true is = refl
+    by phases.Running policies.Foreground BestEffort false is = absurd (false≢true is)
+    by phases.Running policies.Foreground UserVisible true is = absurd (false≢true is)
+    by phases.Running policies.Foreground UserVisible false is = refl
+    by phases.Running policies.Foreground UserBlocking true is = absurd (false≢true is)
+    by phases.Running policies.Foreground UserBlocking false is = refl
+    by phases.Running policies.Nothing p b is = refl
+    by phases.Started policy p b is = refl
+    by phases.Done policy p b is = refl
+
+-- there is room for all of it, or for none
+room_by_queue : (script : Plan) (past : List Entry) (priority : Priority) (best : Bool) → same (is_best_effort priority) best ≡ true
+    → has_room script past priority ≡ has_room script past (priority_in best)
+unfolding has_room
+room_by_queue script past BestEffort true is = refl
+room_by_queue script past BestEffort false is = absurd (false≢true is)
+room_by_queue script past UserVisible true is = absurd (false≢true is)
+room_by_queue script past UserVisible false is = refl
+room_by_queue script past UserBlocking true is = absurd (false≢true is)
+room_by_queue script past UserBlocking false is = refl
+
+-- a queue is open where the phase is not against block work, the policy does not hold its work back, and there is room
+open_is : (script : Plan) (past : List Entry) (pool : Pool) (best : Bool) → StandsFor script past pool
+    → is_open pool best ≡ ((not (forbids (phase_of past) BlockShutdown) && not (is_held past (priority_in best))) && has_room script past (priority_in best))
+open_is script past pool best stands = rw (stands.tracker, stands.runners)
+    (ap (λ room. (not (forbids (phase_of past) BlockShutdown) && not (is_held past (priority_in best))) && room)
+    (groups_have_room script past pool.groups (priority_in best) stands.script_fits stands.past_fits stands.groups))
+
+-- a phase that lets some work start lets block work start
+lets_block : (phase : Phase) (behaviour : Behaviour) → forbids phase behaviour ≡ false → forbids phase BlockShutdown ≡ false
+lets_block phases.Running behaviour allowed = refl
+lets_block phases.Started behaviour allowed = refl
+lets_block phases.Done behaviour allowed = absurd (false≢true (sym allowed))
+
+-- What the open queues of a seat hold, and what it may take.
+
+-- a source that a queue holds has a candidate of the queue
+held_is : (lane : ℕ) (best : Bool) (o : Option Candidate) (rank : Rank) → option_map rank_as (keep (belongs lane best) o) ≡ Some rank
+    → (c : Candidate) × (o ≡ Some c) × (belongs lane best c ≡ true) × (rank_as c ≡ rank)
+held_is lane best None rank is = absurd (none-some rank is)
+held_is lane best (Some c) rank is = by (belongs lane best c) refl is
+  where
+    by : (b : Bool) → belongs lane best c ≡ b → option_map rank_as (cond b (Some c) None) ≡ Some rank
+        → (d : Candidate) × (Some c ≡ Some d) × (belongs lane best d ≡ true) × (rank_as d ≡ rank)
+    by true own is = (c, refl, own, some-injective is)
+    by false own is = absurd (none-some rank is)
+
+-- the seat of a source of lane 0, or of a seat's lane, lets this seat take it
+seat_lets : (seat lane : ℕ) (o : Option ℕ) → ((only : ℕ) → o ≡ Some only → 1 ≤ only) → (lane ≡ 0) ⊎ (lane ≡ seat) → (lane_of o == lane) ≡ true
+    → option_map_or (λ only. only == seat) o true ≡ true
+seat_lets seat lane None above at is = refl
+seat_lets seat lane (Some only) above at is = elim at [
+  | inl shared ↦ absurd (omega (arith, eqb-true only lane is, shared, above only refl))
+  | inr own ↦ eq-eqb only seat (eqb-true only lane is ∙ own)
+]
+
+-- what a seat is offered it may take
+offered_is : (script : Plan) (past : List Entry) (pool : Pool) (seat : ℕ) (source : TaskSource) (rank : Rank) → StandsFor script past pool
+    → seat ≤ script.workers → IsOffer pool seat source rank → (c : Candidate) × IsTakeable script past seat c × (c.source ≡ source) × (rank_as c ≡ rank)
+offered_is script past pool seat source rank stands known (lane, best, at, offered) =
+    let there : lane < script.workers + 1 = lane_there at in
+    let held = held_is lane best (source_waiting script past source) rank (sym (stands.queues.ranks lane best source there offered.made) ∙ offered.held) in
+    let c = held.0 in
+    let named : c.source ≡ source = candidate_names script past source c held.1 in
+    let own : ((lane_of c.seat == lane) ≡ true) × (same (is_best_effort c.priority) best ≡ true) = and_parts _ _ held.2 in
+    let parts = and_parts _ _ (sym (open_is script past pool best stands) ∙ offered.opened) in
+    let free : is_held past c.priority ≡ false = held_by_queue past c.priority best own.1 ∙ not-true _ (and_parts _ _ parts.0).1 in (
+      c,
+      (
+        free_is_waiting script past c (record { candidate = ap (source_waiting script past) named ∙ held.1; not_held = free }),
+        and_from _ _ (room_by_queue script past c.priority best own.1 ∙ parts.1) (seat_lets seat lane c.seat (above c held.1) at own.0),
+      ),
+      named,
+      held.3,
+    )
+  where
+    lane_there : (lane ≡ 0) ⊎ (lane ≡ seat) → lane < script.workers + 1
+    lane_there (inl shared) = omega (arith, shared)
+    lane_there (inr own) = omega (arith, own, known)
+
+    above : (c : Candidate) → source_waiting script past source ≡ Some c → (only : ℕ) → c.seat ≡ Some only → 1 ≤ only
+    above c is only seated =
+        let waits = waits_by_head script past source c stands.script_fits is in
+        seat_above script waits.1.posted.home only stands.script_fits (ap (λ d. d.seat) waits.5 ∙ seated)
+
+-- what a seat may take it is offered
+takeable_is : (script : Plan) (past : List Entry) (pool : Pool) (seat : ℕ) (c : Candidate) → StandsFor script past pool → IsTakeable script past seat c
+    → IsOffer pool seat c.source (rank_as c)
+takeable_is script past pool seat c stands takeable =
+    let free : IsFree script past c = waiting_is_free script past c takeable.0 in
+    let waits = waits_by_head script past c.source c stands.script_fits free.candidate in
+    let s = waits.0 in
+    let head : Ready = waits.1 in
+    let accepted = head_accepted script past s head waits.4 in
+    let declared = is_declared script past head.posted stands.past_fits accepted.0 in
+    let tests : (has_room script past c.priority ≡ true) × (option_map_or (λ only. only == seat) c.seat true ≡ true) = and_parts _ _ takeable.1 in
+    let runner : HasPlace pool s head.posted.home =
+    subst (λ n. HasPlace pool n head.posted.home) accepted.1
+    (has_place script pool head.posted.home head.posted.task stands.script_fits stands.runners stands.lines.all stands.queues.roomy declared.0 declared.1) in
+    let lane : lane_of c.seat ≡ lane_by script head.posted.home = ap (λ d. lane_of d.seat) (sym waits.5) in
+    let best : is_best_effort c.priority ≡ is_best_by script head.posted.home = ap (λ d. is_best_effort d.priority) (sym waits.5) in
+    let made : IsMadeFor (queue_of pool.lanes (lane_of c.seat) (is_best_effort c.priority)) c.source =
+    rw (waits.6, lane, best) (rw stands.runners at runner.made) in (
+      lane_of c.seat,
+      is_best_effort c.priority,
+      at c.seat tests.1,
+      record {
+        opened = open_is script past pool (is_best_effort c.priority) stands ∙ and_from _ _ (and_from _ _
+            (ap not (lets_block (phase_of past) _ accepted.3))
+            (ap not (sym (held_by_queue past c.priority (is_best_effort c.priority) (own_queue c.priority)) ∙ free.not_held)))
+            (sym (room_by_queue script past c.priority (is_best_effort c.priority) (own_queue c.priority)) ∙ tests.0);
+        made = made;
+        held = stands.queues.ranks (lane_of c.seat) (is_best_effort c.priority) c.source
+            (rw lane (lane_fits script head.posted.home stands.script_fits)) made
+            ∙ rw (free.candidate, owns_own (lane_of c.seat) (is_best_effort c.priority)) refl;
+      },
+    )
+  where
+    own_queue : (priority : Priority) → same (is_best_effort priority) (is_best_effort priority) ≡ true
+    own_queue BestEffort = refl
+    own_queue UserVisible = refl
+    own_queue UserBlocking = refl
+
+    at : (o : Option ℕ) → option_map_or (λ only. only == seat) o true ≡ true → (lane_of o ≡ 0) ⊎ (lane_of o ≡ seat)
+    at None is = inl refl
+    at (Some only) is = inr (eqb-true only seat is)
+
+-- the best of what the open queues of a seat hold is the best source that it may take
+pub best_offer : (script : Plan) (past : List Entry) (pool : Pool) (seat : ℕ) (result : Option (TaskSource × Rank)) → StandsFor script past pool
+    → seat ≤ script.workers → IsBestOf (IsOffer pool seat) result → result ≡ option_map (λ c. (c.source, rank_as c)) (best_of script past seat)
+best_offer script past pool seat None stands known best = by (best_of script past seat) refl
+  where
+    by : (o : Option Candidate) → best_of script past seat ≡ o → ◌≡◌ {A = Option (TaskSource × Rank)} None (option_map (λ c. (c.source, rank_as c)) o)
+    by None is = refl
+    by (Some c) is = absurd (best c.source (rank_as c) (takeable_is script past pool seat c stands (best_is_best script past seat c is).takeable))
+best_offer script past pool seat (Some (source, rank)) stands known (offered, first) =
+    let found = offered_is script past pool seat source rank stands known offered in
+    let c = found.0 in
+    let best : IsBest script past seat c = record {
+      takeable = found.1;
+      none_before = All-weaker (Contains (waiting script past)) (λ d. is_takeable script past seat d ≡ true → goes_before d c ≡ false)
+          (λ d waits takeable. ap (rank_below (rank_as d)) found.3
+          ∙ first d.source (rank_as d) (takeable_is script past pool seat d stands (waits, takeable)))
+          (waiting script past) (All-contains_itself (waiting script past));
+    } in
+    rw (only_best script past seat c best, found.2, found.3) refl
+
+-- which is a sequence with its head, while there are no jobs
+pub best_is_sequence : (script : Plan) (past : List Entry) (seat : ℕ) (c : Candidate) → IsPoolScript script → best_of script past seat ≡ Some c
+    → (s : ℕ) × (head : Ready) × (s < sequence_count script) × (runs_sequence script past s ≡ false) × (head_of script past s ≡ Some head)
+    × (sequence_candidate script s head ≡ c)
+best_is_sequence script past seat c limits is =
+    let free : IsFree script past c = waiting_is_free script past c (best_is_best script past seat c is).takeable.0 in
+    let waits = waits_by_head script past c.source c limits free.candidate in
+    (waits.0, waits.1, waits.2, waits.3, waits.4, waits.5)
+
+-- The best of several queues.
+
+-- the best of an open queue
+pub best_in_queue : (pool : Pool) (lane : ℕ) (best : Bool) (result : Option (TaskSource × Rank)) → is_open pool best ≡ true
+    → queues.IsBest (queue_of pool.lanes lane best) result → IsBestOf (IsOffered pool lane best) result
+best_in_queue pool lane best None opened none = λ source rank offered. none-some rank (sym (none source offered.made) ∙ offered.held)
+best_in_queue pool lane best (Some (source, rank)) opened (made, held, first) =
+    (record { opened = opened; made = made; held = held }, (λ other r offered. first other r offered.made offered.held))
+
+-- `rank_below` ranks, as `goes_before` does
+ranks_below : Ranks rank_below
+ranks_below = record {
+  itself = λ a. ranks_goes_before.itself (candidate_with a);
+  one_way = λ a b. ranks_goes_before.one_way (candidate_with a) (candidate_with b);
+  through = λ a b c. ranks_goes_before.through (candidate_with a) (candidate_with b) (candidate_with c);
+}
+  where
+    candidate_with : Rank → Candidate
+    candidate_with a = record { source = Job 0; priority = a.priority; inside = a.inside; key = a.key; seat = None }
+
+-- the better of two bests is the best of both
+better_is_best : (P Q R : TaskSource → Rank → Type 0) (first second : Option (TaskSource × Rank))
+    → ((source : TaskSource) (rank : Rank) → R source rank → P source rank ⊎ Q source rank)
+    → ((source : TaskSource) (rank : Rank) → P source rank → R source rank) → ((source : TaskSource) (rank : Rank) → Q source rank → R source rank)
+    → IsBestOf P first → IsBestOf Q second → IsBestOf R (better_of first second)
+better_is_best P Q R None None parts left right one two =
+    λ other r of. elim (parts other r of) [ inl p ↦ one other r p | inr q ↦ two other r q ]
+better_is_best P Q R None (Some (source, rank)) parts left right one (offered, first) = (
+  right source rank offered,
+  (λ other r of. elim (parts other r of) [ inl p ↦ absurd (one other r p) | inr q ↦ first other r q ]),
+)
+better_is_best P Q R (Some (source, rank)) None parts left right (offered, first) two = (
+  left source rank offered,
+  (λ other r of. elim (parts other r of) [ inl p ↦ first other r p | inr q ↦ absurd (two other r q) ]),
+)
+better_is_best P Q R (Some (source, rank)) (Some (another, lesser)) parts left right (offered, first) (also, second) = by (rank_below lesser rank) refl
+  where
+    by : (b : Bool) → rank_below lesser rank ≡ b → IsBestOf R (cond b (Some (another, lesser)) (Some (source, rank)))
+    by true below = (
+      right another lesser also,
+      (λ other r of. elim (parts other r of) [
+        | inl p ↦ ranks_below.through r rank lesser (first other r p) (ranks_below.one_way lesser rank below)
+        | inr q ↦ second other r q
+      ]),
+    )
+    by false not_below = (
+      left source rank offered,
+      (λ other r of. elim (parts other r of) [
+        | inl p ↦ first other r p
+        | inr q ↦ ranks_below.through r lesser rank (second other r q) not_below
+      ]),
+    )
+
+-- the best that a seat is offered, of the bests of its four queues
+pub best_of_queues : (pool : Pool) (seat : ℕ) (a b c d : Option (TaskSource × Rank)) → IsBestOf (IsOffered pool 0 true) a
+    → IsBestOf (IsOffered pool seat true) b → IsBestOf (IsOffered pool 0 false) c → IsBestOf (IsOffered pool seat false) d
+    → IsBestOf (IsOffer pool seat) (better_of (better_of c d) (better_of a b))
+best_of_queues pool seat a b c d is_a is_b is_c is_d = better_is_best (either false) (either true) (IsOffer pool seat) (better_of c d) (better_of a b)
+    split (joined false) (joined true)
+    (better_is_best (IsOffered pool 0 false) (IsOffered pool seat false) (either false) c d (λ source rank of. of) (λ source rank. inl)
+    (λ source rank. inr) is_c is_d)
+    (better_is_best (IsOffered pool 0 true) (IsOffered pool seat true) (either true) a b (λ source rank of. of) (λ source rank. inl)
+    (λ source rank. inr) is_a is_b)
+  where
+    either : Bool → TaskSource → Rank → Type 0
+    either best source rank = IsOffered pool 0 best source rank ⊎ IsOffered pool seat best source rank
+
+    joined : (best : Bool) (source : TaskSource) (rank : Rank) → either best source rank → IsOffer pool seat source rank
+    joined best source rank (inl shared) = (0, best, inl refl, shared)
+    joined best source rank (inr own) = (seat, best, inr refl, own)
+
+    at : (lane : ℕ) (best : Bool) (source : TaskSource) (rank : Rank) → (lane ≡ 0) ⊎ (lane ≡ seat) → IsOffered pool lane best source rank
+        → either best source rank
+    at lane best source rank (inl shared) of = inl (subst (λ l. IsOffered pool l best source rank) shared of)
+    at lane best source rank (inr own) of = inr (subst (λ l. IsOffered pool l best source rank) own of)
+
+    split : (source : TaskSource) (rank : Rank) → IsOffer pool seat source rank → either false source rank ⊎ either true source rank
+    split source rank (lane, true, where_it_is, of) = inr (at lane true source rank where_it_is of)
+    split source rank (lane, false, where_it_is, of) = inl (at lane false source rank where_it_is of)

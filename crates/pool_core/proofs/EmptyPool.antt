@@ -1,0 +1,94 @@
+-- The pool of a history that has not begun.
+use Rattle.pool_core.proofs.Following.{hold_from}
+use Rattle.pool_core.proofs.GroupGrowth.{groups_at_start}
+use Rattle.pool_core.proofs.LineGrowth.{lines_at_start}
+use Rattle.pool_core.proofs.Lists.{replicated}
+use Rattle.pool_core.proofs.Pasts.{past_at_start}
+use Rattle.pool_core.proofs.Tables.{postings_at_start, seats_at_start}
+use Rattle.pool_core.proofs.Tracking.{tracked_at_start}
+use Rattle.pool_core.specs.Groups.{empty_groups}
+use Rattle.pool_core.specs.Pasts.{IsPoolScript}
+use Rattle.pool_core.specs.Queues.{AreRoomy, HoldWaiting, empty_lane, empty_lanes, empty_queue, job_room, no_lane, queue_in, queue_of, sequence_room}
+use Rattle.pool_core.specs.StandsFor.{StandsFor}
+use Rattle.pool_core.specs.State.{rank_by, runner_of}
+use Rattle.pool_core.specs.declared.pool.Pool.{Pool}
+use Rattle.pool_core.specs.declared.posting.Posting.{Posting}
+use Rattle.sequence_queue.specs.Ranked.{rank_of}
+use Rattle.std.proofs.Common.{Bool, List, None, Option, Some, [], ap, arith, false, length, refl, sym, true, ℕ, ◌+◌, ◌<◌, ◌∙◌, ◌≡◌}
+use Rattle.std.proofs.lemmas.List.{length-replicate}
+use Rattle.std.proofs.lemmas.List.FromFn.{get_or-map-range_with_len, length-map-range_with_len}
+use Rattle.std.specs.Prelude.{option_and_then, replicate}
+use Rattle.task_base.specs.Plan.{Plan}
+use Rattle.task_base.specs.Runners.{sequence_count}
+use Rattle.task_base.specs.declared.source.TaskSource.TheVariants.{Sequence}
+use Rattle.task_model.specs.Past.{fold_past}
+use Rattle.task_model.specs.Posts.{posts}
+use Rattle.task_model.specs.Time.{now_of}
+use Rattle.task_runners.specs.Table.{table_of}
+use Rattle.task_sequence.specs.Sequences.{Held, fresh, sequence_at}
+use Rattle.task_base.specs.declared.policy.Policy.TheVariants as policies
+use Rattle.task_traits.specs.declared.phase.Phase.TheVariants as phases
+
+-- each queue of the empty lanes is empty
+empty_queue_of : (script : Plan) (lane : ℕ) (best : Bool) → lane < script.workers + 1
+    → queue_of (empty_lanes script) lane best ≡ empty_queue (sequence_room script lane) (job_room script lane)
+empty_queue_of script lane best less =
+    ap (queue_in best) (get_or-map-range_with_len (empty_lane script) 0 (script.workers + 1) lane lane no_lane less (omega arith)) ∙ by best
+  where
+    by : (b : Bool) → queue_in b (empty_lane script lane) ≡ empty_queue (sequence_room script lane) (job_room script lane)
+    by true = refl
+    by false = refl
+
+empty_lanes_roomy : (script : Plan) → AreRoomy script (empty_lanes script)
+empty_lanes_roomy script = record {
+  all = length-map-range_with_len (empty_lane script) 0 (script.workers + 1);
+  sequences = λ lane best less. ap (λ q. q.sequences) (empty_queue_of script lane best less);
+  jobs = λ lane best less. ap (λ q. q.jobs) (empty_queue_of script lane best less);
+  ranks = λ lane best less. ap (λ q. length q.ranks) (empty_queue_of script lane best less)
+      ∙ length-replicate (sequence_room script lane + job_room script lane) None;
+}
+
+-- nothing waits
+hold_at_start : (script : Plan) → IsPoolScript script → HoldWaiting script [] (empty_lanes script)
+hold_at_start script limits = hold_from script [] held (empty_lanes script) postings limits (past_at_start script) (lines_at_start script)
+    (postings_at_start script) (empty_lanes_roomy script) (
+      (λ lane best s less made owned. nothing_held lane best s less),
+      (λ s there lane best less made owned. nothing_held lane best s less ∙ sym (no_rank s (runner_of script postings s))),
+    )
+  where
+    held : Held
+    held = record { sequences = replicate (sequence_count script) fresh; room = length script.tasks }
+
+    postings : List (Option Posting)
+    postings = replicate (length script.tasks) None
+
+    nothing_held : (lane : ℕ) (best : Bool) (s : ℕ) → lane < length (empty_lanes script) → rank_of (queue_of (empty_lanes script) lane best) (Sequence s) ≡ None
+    nothing_held lane best s less = ap (λ q. rank_of q (Sequence s)) (empty_queue_of script lane best (omega (arith, less, (empty_lanes_roomy script).all)))
+        ∙ replicated (sequence_room script lane + job_room script lane) s None
+
+    no_rank : (s : ℕ) (o : Option ℕ) → option_and_then (λ r. rank_by script r (sequence_at held s)) o ≡ None
+    no_rank s None = refl
+    no_rank s (Some r) = ap (rank_by script r) (replicated (sequence_count script) s fresh)
+
+-- a pool made of new parts stands for a history that has not begun
+pub stands_at_start : (script : Plan) (pool : Pool) → IsPoolScript script → pool.runners ≡ table_of script.runners script.background
+    → pool.sequences ≡ record { sequences = replicate (sequence_count script) fresh; room = length script.tasks } → pool.lanes ≡ empty_lanes script
+    → pool.groups ≡ empty_groups script → pool.delayed ≡ record { held = []; room = length script.tasks }
+    → pool.tracker ≡ record { phase = phases.Running; policy = policies.All; block_items = 0; skip_items = 0 }
+    → pool.postings.items ≡ replicate (length script.tasks) None → pool.seats.items ≡ replicate (script.workers + 1) None → pool.moment ≡ 0
+    → StandsFor script [] pool
+unfolding posts now_of fold_past
+stands_at_start script pool fits runners sequences lanes groups delayed tracker postings seats moment = record {
+  script_fits = fits;
+  past_fits = past_at_start script;
+  runners = runners;
+  lines = rw sequences (lines_at_start script);
+  queues = rw lanes (hold_at_start script fits);
+  groups = rw groups (groups_at_start script);
+  delayed = delayed;
+  tracker = tracker ∙ sym (tracked_at_start script fits);
+  postings = rw postings (postings_at_start script);
+  seats = rw seats (seats_at_start script);
+  moment = moment;
+  room = rw (delayed, sequences) (omega arith);
+}

@@ -1,0 +1,206 @@
+-- The two groups at each entry.
+use Rattle.list_laws.proofs.Values.{eqb-same}
+use Rattle.list_laws.specs.Lists.{holds_of}
+use Rattle.pool_core.proofs.GroupWorks.{group_kept, groups_moved, moment_of, not_same_task, other_kept, part, seat_there, task_works, with_seat, work_by, work_kept, work_of_task, works}
+use Rattle.pool_core.specs.Calls.{after_end, after_enter, after_leave, after_tick, next}
+use Rattle.pool_core.specs.Groups.{AreGroups, StandsForGroup, empty_group, empty_groups, group_in, in_background, opened_as, pool_work, ticked, with_group}
+use Rattle.pool_core.specs.Others.{is_quiet, posts_to_pool}
+use Rattle.pool_core.specs.Pasts.{IsPoolPast, IsPoolScript}
+use Rattle.pool_core.specs.declared.groups.Groups.{Groups}
+use Rattle.pool_laws.proofs.Room.Capacity.{scope_kept}
+use Rattle.pool_laws.proofs.Seats.Running.{running_here, running_same}
+use Rattle.pool_laws.specs.Room.{scopes as scopes_of}
+use Rattle.pool_laws.specs.Seats.{moves_main, moves_running, runs_pool_task}
+use Rattle.std.proofs.Common.{Bool, List, None, Option, Some, [], ap, eqb, false, refl, sym, true, ℕ, ◌++◌, ◌+◌, ◌∙◌, ◌∷◌, ◌≡◌, ◌≤◌}
+use Rattle.std.proofs.lemmas.Bool.{eqb-true, false≢true, ne_eqb, true≢false}
+use Rattle.std.proofs.lemmas.List.{get_or-replicate}
+use Rattle.std.proofs.lemmas.Option.{unwrap_or-slice_get}
+use Rattle.std.specs.Option.{option_map}
+use Rattle.std.specs.Prelude.{not, replicate, ◌||◌}
+use Rattle.task_base.specs.Groups.{Background, Foreground, Group}
+use Rattle.task_base.specs.Plan.{Plan}
+use Rattle.task_base.specs.declared.entry.Entry.{Entry}
+use Rattle.task_base.specs.declared.entry.Kind.{Kind}
+use Rattle.task_base.specs.declared.limits.TheConstants.{MOST_WORKERS}
+use Rattle.task_base.specs.declared.step.Scope.{Scope}
+use Rattle.task_model.proofs.Growth.{now_of_push, open_scope_push}
+use Rattle.task_model.specs.Capacity.{best_limit, limit, open_scope, priority_of}
+use Rattle.task_model.specs.Seats.{Running, running, running_after}
+use Rattle.task_model.specs.Time.{now_after, now_of}
+use Rattle.thread_group.specs.Group.{GroupWork, scoped, with_scope, work_at}
+use Rattle.task_base.specs.declared.entry.Kind.TheVariants as kinds
+use Rattle.task_model.specs.Capacity as capacities
+
+pub groups_at_start : (script : Plan) → AreGroups script [] (empty_groups script)
+unfolding now_of running
+groups_at_start script = record {
+  foreground = start Foreground script.foreground script.foreground_best refl refl;
+  background = start Background script.background script.background refl refl;
+}
+  where
+    start : (group : Group) (all best : ℕ) → all ≡ limit script group → best ≡ best_limit script group
+        → StandsForGroup script [] group (empty_group all best script.threshold)
+    start group all best all_is best_is = record {
+      limit_is = all_is;
+      best_limit_is = best_is;
+      threshold_is = refl;
+      moment_is = refl;
+      places = refl;
+      seats = λ seat less. unwrap_or-slice_get (replicate (MOST_WORKERS + 1) None) seat None ∙ get_or-replicate (MOST_WORKERS + 1) seat None None less;
+    }
+
+pub groups_at_take : (script : Plan) (past : List Entry) (groups : Groups) (seat task runner found : ℕ) → IsPoolScript script → AreGroups script past groups
+    → seat ≤ script.workers → running past seat ≡ None → open_scope past task ≡ None
+    → AreGroups script (next past seat (kinds.Take task runner found))
+    (with_seat script groups seat (priority_of script runner) (Some (record { priority = priority_of script runner; scope = None })))
+groups_at_take script past groups seat task runner found limits are known free closed =
+    let e : Entry = record { seat = seat; kind = kinds.Take task runner found } in
+    groups_moved script past (past ++ e ∷ []) groups seat (priority_of script runner) None (Some None) are (record {
+      now = now_of_push past e;
+      there = seat_there script seat limits known;
+      was = rw free refl;
+      is = work_of_task script (past ++ e ∷ []) seat (record { task = task; home = runner; found = found; is_main = false })
+          (running_here past e seat (eqb-same seat)) refl ∙ rw (scope_kept past e task refl, closed) refl;
+      others = λ other another. other_kept script past e other (ne_eqb seat other (λ same. another (sym same))) (λ w runs pool. refl);
+    })
+
+pub groups_at_end : (script : Plan) (past : List Entry) (groups : Groups) (seat left : ℕ) (w : Running) → IsPoolScript script → IsPoolPast script past
+    → AreGroups script past groups → running past seat ≡ Some w → w.is_main ≡ false
+    → AreGroups script (after_end past seat w.task left)
+    (with_seat script groups seat (priority_of script w.home) None)
+groups_at_end script past groups seat left w limits fits are runs pool =
+    let e : Entry = record { seat = seat; kind = kinds.End w.task left } in
+    groups_moved script past (past ++ e ∷ []) groups seat (priority_of script w.home) (Some (option_map opened_as (open_scope past w.task))) None are (record {
+      now = now_of_push past e;
+      there = seat_there script seat limits (fits.runs seat w runs pool).known;
+      was = work_of_task script past seat w runs pool;
+      is = rw (running_here past e seat (eqb-same seat)) refl;
+      others = λ other another. other_kept script past e other (ne_eqb seat other (λ same. another (sym same))) (λ v its main. refl);
+    })
+
+-- the seat's task opens or closes a scope
+scope_moved : (script : Plan) (past : List Entry) (groups : Groups) (e : Entry) (w : Running) (before after : Option capacities.OpenScope)
+    → IsPoolScript script → IsPoolPast script past → AreGroups script past groups → running past e.seat ≡ Some w → w.is_main ≡ false
+    → moves_running e.kind ≡ false → now_of (past ++ e ∷ []) ≡ now_of past → ((t : ℕ) → eqb w.task t ≡ false → scopes_of t e.kind ≡ false)
+    → open_scope past w.task ≡ before → open_scope (past ++ e ∷ []) w.task ≡ after
+    → AreGroups script (past ++ e ∷ []) (with_group groups (in_background script (priority_of script w.home))
+    (with_scope (group_in groups (in_background script (priority_of script w.home))) e.seat (option_map opened_as after)))
+scope_moved script past groups e w before after limits fits are runs pool still now apart was is = rw shape
+    (groups_moved script past (past ++ e ∷ []) groups e.seat (priority_of script w.home)
+    (Some (option_map opened_as before)) (Some (option_map opened_as after)) are
+    (record {
+      now = now;
+      there = seat_there script e.seat limits (fits.runs e.seat w runs pool).known;
+      was = work_of_task script past e.seat w runs pool ∙ rw was refl;
+      is = work_of_task script (past ++ e ∷ []) e.seat w (running_same past e e.seat still ∙ runs) pool ∙ rw is refl;
+      others = λ other another. work_kept script past (past ++ e ∷ []) other (running_same past e other still)
+          (λ v its main. scope_kept past e v.task (apart v.task (not_same_task script past e.seat other w v fits runs pool its main another)));
+    }))
+  where
+    shape : option_map (scoped (option_map opened_as after)) (work_at (group_in groups (in_background script (priority_of script w.home))) e.seat)
+        ≡ works (priority_of script w.home) (Some (option_map opened_as after))
+    shape = rw (task_works script past groups e.seat w limits fits are runs pool) refl
+
+pub groups_at_enter : (script : Plan) (past : List Entry) (groups : Groups) (seat : ℕ) (scope : Scope) (w : Running) → IsPoolScript script
+    → IsPoolPast script past → AreGroups script past groups → running past seat ≡ Some w → w.is_main ≡ false → open_scope past w.task ≡ None
+    → AreGroups script (after_enter past seat w.task scope)
+    (let group = group_in groups (in_background script (priority_of script w.home)) in
+    with_group groups (in_background script (priority_of script w.home)) (with_scope group seat (Some (record { scope = scope; since = group.moment }))))
+groups_at_enter script past groups seat scope w limits fits are runs pool closed =
+    let e : Entry = record { seat = seat; kind = kinds.Enter w.task scope } in
+    let group = group_in groups (in_background script (priority_of script w.home)) in
+    scope_moved script past groups e w None (Some (record { scope = scope; since = group.moment })) limits fits are runs pool refl (now_of_push past e)
+    (λ t other. other) closed
+    (open_scope_push past e w.task ∙ rw (eqb-same w.task, moment_of script past groups (in_background script (priority_of script w.home)) are) refl)
+
+pub groups_at_leave : (script : Plan) (past : List Entry) (groups : Groups) (seat : ℕ) (w : Running) (opened : capacities.OpenScope) → IsPoolScript script
+    → IsPoolPast script past → AreGroups script past groups → running past seat ≡ Some w → w.is_main ≡ false → open_scope past w.task ≡ Some opened
+    → AreGroups script (after_leave past seat w.task)
+    (with_group groups (in_background script (priority_of script w.home))
+    (with_scope (group_in groups (in_background script (priority_of script w.home))) seat None))
+groups_at_leave script past groups seat w opened limits fits are runs pool opens =
+    let e : Entry = record { seat = seat; kind = kinds.Leave w.task } in
+    scope_moved script past groups e w (Some opened) None limits fits are runs pool refl (now_of_push past e) (λ t other. other) opens
+    (open_scope_push past e w.task ∙ rw (eqb-same w.task) refl)
+
+pub groups_at_tick : (script : Plan) (past : List Entry) (groups : Groups) (seat moment : ℕ) → AreGroups script past groups
+    → AreGroups script (after_tick past seat moment) (ticked groups moment)
+groups_at_tick script past groups seat moment are =
+    record { foreground = by Foreground groups.foreground are.foreground; background = by Background groups.background are.background }
+  where
+    e : Entry
+    e = record { seat = seat; kind = kinds.Tick moment }
+
+    by : (group : Group) (work : GroupWork) → StandsForGroup script past group work
+        → StandsForGroup script (past ++ e ∷ []) group (record work { moment = moment })
+    by group work stands = record {
+      limit_is = stands.limit_is;
+      best_limit_is = stands.best_limit_is;
+      threshold_is = stands.threshold_is;
+      moment_is = sym (now_of_push past e);
+      places = stands.places;
+      seats = λ x less. stands.seats x less
+          ∙ ap (part script group) (sym (work_kept script past (past ++ e ∷ []) x (running_same past e x refl) (λ w runs pool. scope_kept past e w.task refl)));
+    }
+
+-- each group where each seat does what it did
+groups_same : (script : Plan) (past later : List Entry) (groups : Groups) → now_of later ≡ now_of past
+    → ((seat : ℕ) → pool_work script later seat ≡ pool_work script past seat) → AreGroups script past groups → AreGroups script later groups
+groups_same script past later groups now same are = record {
+  foreground = group_kept script past later Foreground groups.foreground are.foreground now (λ seat. ap (part script Foreground) (same seat));
+  background = group_kept script past later Background groups.background are.background now (λ seat. ap (part script Background) (same seat));
+}
+
+-- a kind that moves no scope and no moment
+record LeavesScopes (kind : Kind) : Type 0 where
+  scope : (t : ℕ) → scopes_of t kind ≡ false
+  now : (moment : ℕ) → now_after moment kind ≡ moment
+
+leaves_groups : (kind : Kind) → (is_quiet kind || posts_to_pool kind) ≡ true → (moves_running kind ≡ false) × LeavesScopes kind
+leaves_groups (kinds.Tick now) h = absurd (false≢true h)
+leaves_groups (kinds.Take task runner found) h = absurd (false≢true h)
+leaves_groups (kinds.End task left) h = absurd (false≢true h)
+leaves_groups (kinds.MainTake task queue found) h = absurd (false≢true h)
+leaves_groups (kinds.MainEnd task left) h = absurd (false≢true h)
+leaves_groups (kinds.Enter task scope) h = absurd (false≢true h)
+leaves_groups (kinds.Leave task) h = absurd (false≢true h)
+leaves_groups kind h = (refl, record { scope = λ t. refl; now = λ moment. refl })
+
+-- a post, and an entry that is not the groups'
+pub groups_kept : (script : Plan) (past : List Entry) (e : Entry) (groups : Groups) → (is_quiet e.kind || posts_to_pool e.kind) ≡ true
+    → AreGroups script past groups → AreGroups script (past ++ e ∷ []) groups
+groups_kept script past e groups still are =
+    let leaves = leaves_groups e.kind still in
+    groups_same script past (past ++ e ∷ []) groups (now_of_push past e ∙ leaves.1.now (now_of past))
+    (λ seat. work_kept script past (past ++ e ∷ []) seat (running_same past e seat leaves.0)
+    (λ w runs pool. scope_kept past e w.task (leaves.1.scope w.task))) are
+
+-- a main task is no work of the pool
+main_is_none : (script : Plan) (past : List Entry) (kind : Kind) (run : Option Running) → moves_main kind ≡ true
+    → work_by script past (running_after run kind) ≡ None
+main_is_none script past (kinds.MainTake task queue found) run main = refl
+main_is_none script past (kinds.MainEnd task left) run main = refl
+main_is_none script past kind run main = absurd (true≢false (sym main))
+
+no_pool_work : (script : Plan) (past : List Entry) (run : Option Running) → holds_of (λ w. not w.is_main) run ≡ false → work_by script past run ≡ None
+no_pool_work script past None none = refl
+no_pool_work script past (Some w) none = rw none refl
+
+leaves_scopes : (kind : Kind) → moves_main kind ≡ true → LeavesScopes kind
+leaves_scopes (kinds.MainTake task queue found) main = record { scope = λ t. refl; now = λ moment. refl }
+leaves_scopes (kinds.MainEnd task left) main = record { scope = λ t. refl; now = λ moment. refl }
+leaves_scopes kind main = absurd (true≢false (sym main))
+
+pub groups_at_main : (script : Plan) (past : List Entry) (e : Entry) (groups : Groups) → moves_main e.kind ≡ true → runs_pool_task past e.seat ≡ false
+    → AreGroups script past groups → AreGroups script (past ++ e ∷ []) groups
+groups_at_main script past e groups main apart are =
+    groups_same script past (past ++ e ∷ []) groups (now_of_push past e ∙ leaves.now (now_of past)) (λ seat. by seat (eqb e.seat seat) refl) are
+  where
+    leaves : LeavesScopes e.kind
+    leaves = leaves_scopes e.kind main
+
+    by : (seat : ℕ) (b : Bool) → eqb e.seat seat ≡ b → pool_work script (past ++ e ∷ []) seat ≡ pool_work script past seat
+    by seat true is = ap (work_by script (past ++ e ∷ [])) (running_here past e seat is)
+        ∙ main_is_none script (past ++ e ∷ []) e.kind (running past e.seat) main ∙ sym (no_pool_work script past (running past e.seat) apart)
+        ∙ ap (λ x. pool_work script past x) (eqb-true e.seat seat is)
+    by seat false is = other_kept script past e seat is (λ w runs pool. leaves.scope w.task)

@@ -1,0 +1,108 @@
+-- The pool at an entry that leaves the tasks where they are.
+use Rattle.pool_core.proofs.Delays.{no_post, unripe_kept}
+use Rattle.pool_core.proofs.LineGrowth.{lines_kept}
+use Rattle.pool_core.proofs.Tables.{postings_kept, seats_kept}
+use Rattle.pool_core.specs.Groups.{AreGroups}
+use Rattle.pool_core.specs.Lines.{AreLines}
+use Rattle.pool_core.specs.Pasts.{IsPoolPast, IsPoolScript}
+use Rattle.pool_core.specs.Queues.{HoldWaiting}
+use Rattle.pool_core.specs.StandsFor.{StandsFor}
+use Rattle.pool_core.specs.Tables.{AreSeats, tracked}
+use Rattle.pool_core.specs.declared.groups.Groups.{Groups}
+use Rattle.pool_core.specs.declared.lanes.Lane.{Lane}
+use Rattle.pool_core.specs.declared.pool.Pool.{Pool}
+use Rattle.pool_laws.proofs.Choice.Waiting.{sequence_waiting_same}
+use Rattle.pool_laws.proofs.Keys.Arrivals.{arrivals_same}
+use Rattle.pool_laws.proofs.Keys.Posts.{posts_same}
+use Rattle.pool_laws.specs.Choice.{moves_sequence_waiting, source_waiting}
+use Rattle.pool_laws.specs.Keys.{moves_ready}
+use Rattle.pool_laws.specs.Seats.{moves_running}
+use Rattle.std.proofs.Common.{List, None, [], ap, arith, false, length, refl, sym, true, ℕ, ◌++◌, ◌∙◌, ◌∷◌, ◌≡◌}
+use Rattle.std.proofs.lemmas.Bool.{le-ltb, true≢false}
+use Rattle.task_base.specs.Plan.{Plan}
+use Rattle.task_base.specs.declared.entry.Entry.{Entry}
+use Rattle.task_base.specs.declared.entry.Kind.{Kind}
+use Rattle.task_base.specs.declared.source.TaskSource.{TaskSource}
+use Rattle.task_base.specs.declared.source.TaskSource.TheVariants.{Job, Sequence}
+use Rattle.task_model.proofs.Growth.{now_of_push}
+use Rattle.task_model.specs.Keys.{arrivals}
+use Rattle.task_model.specs.Phase.{phase_after}
+use Rattle.task_model.specs.Time.{now_after, now_of}
+use Rattle.task_tracker.specs.Tracked.{Tracked}
+use Rattle.task_traits.specs.declared.phase.Phase.{Phase}
+use Rattle.task_base.specs.declared.entry.Kind.TheVariants as kinds
+
+-- what the queues hold stays where each source waits as before
+pub hold_same : (script : Plan) (past later : List Entry) (lanes : List Lane)
+    → ((source : TaskSource) → source_waiting script later source ≡ source_waiting script past source) → HoldWaiting script past lanes
+    → HoldWaiting script later lanes
+hold_same script past later lanes same hold = record {
+  roomy = hold.roomy;
+  ranks = λ lane best source there made. rw (same source) (hold.ranks lane best source there made);
+}
+
+-- no sequence begins or ceases to wait, and there are no jobs
+hold_kept : (script : Plan) (past : List Entry) (e : Entry) (lanes : List Lane) → IsPoolScript script → moves_sequence_waiting e.kind ≡ false
+    → HoldWaiting script past lanes → HoldWaiting script (past ++ e ∷ []) lanes
+hold_kept script past e lanes limits still hold = hold_same script past (past ++ e ∷ []) lanes same hold
+  where
+    no_job : (any : List Entry) (j : ℕ) → source_waiting script any (Job j) ≡ None
+    no_job any j = rw (le-ltb j (length script.jobs) (omega (arith, ap length limits.no_jobs))) refl
+
+    same : (source : TaskSource) → source_waiting script (past ++ e ∷ []) source ≡ source_waiting script past source
+    same (Sequence s) = rw (sequence_waiting_same script past e s still) refl
+    same (Job j) = no_job (past ++ e ∷ []) j ∙ sym (no_job past j)
+
+-- a kind that gives no task a key, and is no tick
+pub record LeavesTasks (kind : Kind) : Type 0 where
+  pub ready : moves_ready kind ≡ false
+  pub now : (moment : ℕ) → now_after moment kind ≡ moment
+
+-- the pool at such an entry, with what the entry may change
+pub stands_with : (script : Plan) (past : List Entry) (pool : Pool) (e : Entry) (groups : Groups) (tracker : Tracked) → StandsFor script past pool
+    → LeavesTasks e.kind → IsPoolPast script (past ++ e ∷ []) → AreLines script (past ++ e ∷ []) (arrivals past) pool.sequences
+    → HoldWaiting script (past ++ e ∷ []) pool.lanes → AreGroups script (past ++ e ∷ []) groups → tracker ≡ tracked script (past ++ e ∷ [])
+    → AreSeats script (past ++ e ∷ []) pool.seats.items
+    → StandsFor script (past ++ e ∷ []) (record pool { groups = groups; tracker = tracker })
+stands_with script past pool e groups tracker stands leaves fits lines hold are is seats = record {
+  script_fits = stands.script_fits;
+  past_fits = fits;
+  runners = stands.runners;
+  lines = rw (arrivals_same past e leaves.ready) lines;
+  queues = hold;
+  groups = are;
+  delayed = rw (unripe_kept past e leaves.ready) stands.delayed;
+  tracker = is;
+  postings = postings_kept script past e pool.postings.items (no_post e.kind leaves.ready) stands.postings;
+  seats = seats;
+  moment = stands.moment ∙ sym (leaves.now (now_of past)) ∙ sym (now_of_push past e);
+  room = rw (posts_same past e (no_post e.kind leaves.ready)) stands.room;
+}
+
+-- a kind that also leaves what runs, and the phase
+record LeavesAll (kind : Kind) : Type 0 where
+  tasks : LeavesTasks kind
+  runs : moves_running kind ≡ false
+  phase : (now : Phase) → phase_after now kind ≡ now
+
+-- and where it changes nothing by which a sequence waits
+pub stands_kept : (script : Plan) (past : List Entry) (pool : Pool) (e : Entry) (groups : Groups) (tracker : Tracked) → StandsFor script past pool
+    → moves_sequence_waiting e.kind ≡ false → IsPoolPast script (past ++ e ∷ []) → AreGroups script (past ++ e ∷ []) groups
+    → tracker ≡ tracked script (past ++ e ∷ []) → StandsFor script (past ++ e ∷ []) (record pool { groups = groups; tracker = tracker })
+stands_kept script past pool e groups tracker stands still fits are is =
+    let leaves = leaves_all e.kind still in
+    stands_with script past pool e groups tracker stands leaves.tasks fits
+    (lines_kept script past e (arrivals past) pool.sequences leaves.runs leaves.phase stands.lines)
+    (hold_kept script past e pool.lanes stands.script_fits still stands.queues) are is
+    (seats_kept script past e pool.seats.items leaves.runs stands.seats)
+  where
+    leaves_all : (kind : Kind) → moves_sequence_waiting kind ≡ false → LeavesAll kind
+    leaves_all (kinds.Post task runner delay true) h = absurd (true≢false h)
+    leaves_all (kinds.Tick moment) h = absurd (true≢false h)
+    leaves_all (kinds.Take task runner found) h = absurd (true≢false h)
+    leaves_all (kinds.End task left) h = absurd (true≢false h)
+    leaves_all (kinds.MainTake task queue found) h = absurd (true≢false h)
+    leaves_all (kinds.MainEnd task left) h = absurd (true≢false h)
+    leaves_all kinds.Shutdown h = absurd (true≢false h)
+    leaves_all kinds.Done h = absurd (true≢false h)
+    leaves_all kind h = record { tasks = record { ready = refl; now = λ moment. refl }; runs = refl; phase = λ now. refl }

@@ -1,0 +1,64 @@
+-- Entries of the main queues, of the driver, and of jobs that nobody enters change nothing of the pool.
+use Rattle.pool_core.proofs.GroupGrowth.{groups_at_main, groups_kept}
+use Rattle.pool_core.proofs.Kept.{LeavesTasks, hold_same, stands_kept, stands_with}
+use Rattle.pool_core.proofs.LineGrowth.{lines_at_main}
+use Rattle.pool_core.proofs.Pasts.{past_at_main, past_kept}
+use Rattle.pool_core.proofs.Tables.{seats_at_main}
+use Rattle.pool_core.proofs.Tracking.{tracked_kept}
+use Rattle.pool_core.specs.Others.{is_quiet, is_still, keeps_counts, posts_to_pool}
+use Rattle.pool_core.specs.StandsFor.{StandsFor}
+use Rattle.pool_core.specs.declared.pool.Pool.{Pool}
+use Rattle.pool_laws.proofs.Choice.Candidates.{source_at_main}
+use Rattle.pool_laws.specs.Choice.{moves_sequence_waiting}
+use Rattle.pool_laws.specs.Seats.{moves_main, runs_pool_task}
+use Rattle.std.proofs.Common.{List, [], false, refl, sym, true, ◌++◌, ◌∙◌, ◌∷◌, ◌≡◌}
+use Rattle.std.proofs.lemmas.Bool.{or_left, true≢false}
+use Rattle.std.specs.Prelude.{◌||◌}
+use Rattle.task_base.specs.Plan.{Plan}
+use Rattle.task_base.specs.declared.entry.Entry.{Entry}
+use Rattle.task_base.specs.declared.entry.Kind.{Kind}
+use Rattle.task_model.specs.Keys.{arrivals}
+use Rattle.task_base.specs.declared.entry.Kind.TheVariants as kinds
+
+-- one that is not the driver's at which it takes or ends a main task
+pub stands_at_still : (script : Plan) (past : List Entry) (e : Entry) (pool : Pool) → is_still e.kind ≡ true → StandsFor script past pool
+    → StandsFor script (past ++ e ∷ []) pool
+stands_at_still script past e pool still stands = stands_kept script past pool e pool.groups pool.tracker stands (no_sequences e.kind still)
+    (past_kept script past e (quiet e.kind still) stands.past_fits)
+    (groups_kept script past e pool.groups (or_left (is_quiet e.kind) (posts_to_pool e.kind) (quiet e.kind still)) stands.groups)
+    (stands.tracker ∙ sym (tracked_kept script past e stands.script_fits (or_left (is_still e.kind) (keeps_counts e.kind) still)))
+  where
+    no_sequences : (kind : Kind) → is_still kind ≡ true → moves_sequence_waiting kind ≡ false
+    no_sequences (kinds.Post task runner delay ok) h = absurd (true≢false (sym h))
+    no_sequences (kinds.Tick moment) h = absurd (true≢false (sym h))
+    no_sequences (kinds.Take task runner found) h = absurd (true≢false (sym h))
+    no_sequences (kinds.End task left) h = absurd (true≢false (sym h))
+    no_sequences (kinds.MainTake task queue found) h = absurd (true≢false (sym h))
+    no_sequences (kinds.MainEnd task left) h = absurd (true≢false (sym h))
+    no_sequences kinds.Shutdown h = absurd (true≢false (sym h))
+    no_sequences kinds.Done h = absurd (true≢false (sym h))
+    no_sequences kind h = refl
+
+    quiet : (kind : Kind) → is_still kind ≡ true → is_quiet kind ≡ true
+    quiet (kinds.Policy policy) h = refl
+    quiet kinds.Shutdown h = refl
+    quiet kinds.Done h = refl
+    quiet kind h = h
+
+-- one at which it does, while its seat runs no task of the pool
+pub stands_at_main : (script : Plan) (past : List Entry) (e : Entry) (pool : Pool) → moves_main e.kind ≡ true → runs_pool_task past e.seat ≡ false
+    → StandsFor script past pool → StandsFor script (past ++ e ∷ []) pool
+stands_at_main script past e pool main apart stands =
+    let leaves = leaves_tasks e.kind main in
+    stands_with script past pool e pool.groups pool.tracker stands leaves.0
+    (past_at_main script past e main stands.past_fits)
+    (lines_at_main script past e (arrivals past) pool.sequences main apart stands.lines)
+    (hold_same script past (past ++ e ∷ []) pool.lanes (λ source. source_at_main script past e source main apart) stands.queues)
+    (groups_at_main script past e pool.groups main apart stands.groups)
+    (stands.tracker ∙ sym (tracked_kept script past e stands.script_fits leaves.1))
+    (seats_at_main script past e pool.seats.items main apart stands.seats)
+  where
+    leaves_tasks : (kind : Kind) → moves_main kind ≡ true → LeavesTasks kind × ((is_still kind || keeps_counts kind) ≡ true)
+    leaves_tasks (kinds.MainTake task queue found) h = (record { ready = refl; now = λ moment. refl }, refl)
+    leaves_tasks (kinds.MainEnd task left) h = (record { ready = refl; now = λ moment. refl }, refl)
+    leaves_tasks kind h = absurd (true≢false (sym h))

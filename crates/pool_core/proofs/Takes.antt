@@ -1,0 +1,228 @@
+-- A take keeps what the pool stands for.
+use Rattle.list_laws.proofs.Values.{some-injective}
+use Rattle.pool_core.proofs.Accepted.{head_accepted, is_declared}
+use Rattle.pool_core.proofs.Choosing.{best_is_sequence, best_offer}
+use Rattle.pool_core.proofs.Delays.{unripe_kept}
+use Rattle.pool_core.proofs.Following.{follow_in, has_place, hold_refreshed, runner_is}
+use Rattle.pool_core.proofs.GroupGrowth.{groups_at_take}
+use Rattle.pool_core.proofs.GroupWorks.{with_seat}
+use Rattle.pool_core.proofs.LineGrowth.{lines_at_take}
+use Rattle.pool_core.proofs.Lines.{line_gives}
+use Rattle.pool_core.proofs.Lists.{same_inside}
+use Rattle.pool_core.proofs.Pasts.{past_at_take}
+use Rattle.pool_core.proofs.Queues.{AllFollow, other_sequence}
+use Rattle.pool_core.proofs.Tables.{postings_kept, seats_at_take}
+use Rattle.pool_core.proofs.Tracking.{tracked_at_take}
+use Rattle.pool_core.specs.Calls.{CanTake, IsChosen, next}
+use Rattle.pool_core.specs.Choice.{IsBestOf, IsOffer}
+use Rattle.pool_core.specs.Lines.{AreLines}
+use Rattle.pool_core.specs.Pasts.{IsDeclared, IsPoolPast}
+use Rattle.pool_core.specs.Queues.{rank_as}
+use Rattle.pool_core.specs.StandsFor.{StandsFor}
+use Rattle.pool_core.specs.State.{HasPlace, refreshed, runner_of}
+use Rattle.pool_core.specs.Tables.{ArePostings, posting_of}
+use Rattle.pool_core.specs.declared.groups.Groups.{Groups}
+use Rattle.pool_core.specs.declared.pool.Pool.{Pool}
+use Rattle.pool_core.specs.declared.posting.Posting.{Posting}
+use Rattle.pool_laws.proofs.Keys.Posts.{posts_same}
+use Rattle.sequence_queue.specs.Ranked.{number_in}
+use Rattle.sequence_queue.specs.declared.rank.Rank.{Rank}
+use Rattle.std.proofs.Common.{List, None, Option, Some, [], ap, arith, refl, subst, sym, ℕ, ◌++◌, ◌+◌, ◌∙◌, ◌∷◌, ◌≡◌}
+use Rattle.std.proofs.lemmas.List.{length-set}
+use Rattle.std.proofs.lemmas.Option.{none-some}
+use Rattle.std.specs.Option.{option_map, option_map_or}
+use Rattle.std.specs.Prelude.{Contains, slice_get}
+use Rattle.std.specs.Vec.{with_item}
+use Rattle.task_base.specs.Plan.{Plan}
+use Rattle.task_base.specs.Runners.{sequence_of}
+use Rattle.task_base.specs.declared.entry.Entry.{Entry}
+use Rattle.task_base.specs.declared.script.Runner.{Runner}
+use Rattle.task_base.specs.declared.source.TaskSource.{TaskSource}
+use Rattle.task_base.specs.declared.source.TaskSource.TheVariants.{Sequence}
+use Rattle.task_model.proofs.Growth.{now_of_push}
+use Rattle.task_model.specs.Capacity.{priority_of}
+use Rattle.task_model.specs.Cells.{cell_of}
+use Rattle.task_model.specs.Keys.{arrivals}
+use Rattle.task_model.specs.Posts.{posts}
+use Rattle.task_model.specs.Refusal.{effective_at}
+use Rattle.task_model.specs.Sources.{Candidate, best_of}
+use Rattle.task_runners.specs.Table.{table_of}
+use Rattle.task_sequence.specs.Sequences.{Held, behind_first, given_of, sequence_at, with_sequence}
+use Rattle.task_tracker.specs.Tracked.{skip_share}
+use Rattle.task_traits.specs.declared.traits.Priority.TheVariants.{BestEffort}
+use Rattle.task_traits.specs.declared.traits.Traits.{Traits}
+use Rattle.task_base.specs.declared.entry.Kind.TheVariants as kinds
+
+-- What is chosen.
+
+-- what a candidate is chosen as
+abbrev chosen_as : Candidate → TaskSource × Rank
+chosen_as c = (c.source, rank_as c)
+
+sequence-injective : {a b : ℕ} → Sequence a ≡ Sequence b → a ≡ b
+sequence-injective is = ap (number_in 0) is
+
+-- what the pool chooses for a seat is a sequence
+pub chosen_is : (script : Plan) (past : List Entry) (pool : Pool) (seat s : ℕ) (rank : Rank) → CanTake script past pool seat
+    → IsBestOf (IsOffer pool seat) (Some (Sequence s, rank)) → IsChosen script past pool seat s
+chosen_is script past pool seat s rank can best =
+    by (best_of script past seat) refl (best_offer script past pool seat (Some (Sequence s, rank)) can.stands can.known best)
+  where
+    by : (o : Option Candidate) → best_of script past seat ≡ o → ◌≡◌ {A = Option (TaskSource × Rank)} (Some (Sequence s, rank)) (option_map chosen_as o)
+        → IsChosen script past pool seat s
+    by None is none = absurd (none-some (Sequence s, rank) (sym none))
+    by (Some c) is some =
+        let known = best_is_sequence script past seat c can.stands.script_fits is in
+        let same : known.0 ≡ s = sequence-injective (ap (λ c. c.source) known.5 ∙ ap (λ p. p.0) (sym (some-injective some))) in
+        subst (λ n. IsChosen script past pool seat n) same (record {
+          can = can;
+          there = known.2;
+          idle = known.3;
+          head = known.1;
+          is_head = known.4;
+          is_best = is ∙ ap (λ c. Some c) (sym known.5);
+        })
+
+-- also by its parts
+pub chosen_from : {script : Plan} {past : List Entry} {pool : Pool} {seat s : ℕ} {rank : Rank} {result : Option (TaskSource × Rank)} {source : TaskSource}
+    → CanTake script past pool seat → IsBestOf (IsOffer pool seat) result → ◌≡◌ {A = Option (TaskSource × Rank)} result (Some (source, rank))
+    → source ≡ Sequence s → IsChosen script past pool seat s
+chosen_from {script = script} {past = past} {pool = pool} {seat = seat} {s = s} {rank = rank} can best is named = chosen_is script past pool seat s rank can
+    (subst (λ n. IsBestOf (IsOffer pool seat) (Some (n, rank))) named (subst (IsBestOf (IsOffer pool seat)) is best))
+
+-- where it chooses nothing, the seat may take nothing
+pub nothing_chosen : (script : Plan) (past : List Entry) (pool : Pool) (seat : ℕ) → CanTake script past pool seat
+    → IsBestOf (IsOffer pool seat) None → best_of script past seat ≡ None
+nothing_chosen script past pool seat can best = by (best_of script past seat) (best_offer script past pool seat None can.stands can.known best)
+  where
+    by : (o : Option Candidate) → None ≡ option_map chosen_as o → o ≡ None
+    by None is = refl
+    by (Some c) is = absurd (none-some (chosen_as c) is)
+
+-- What is taken.
+
+-- the sequences without the first task of one, whose cell is out
+abbrev pub taken_out : Held → ℕ → Held
+taken_out held s = record { sequences = with_sequence held s (record { tasks = behind_first (sequence_at held s).tasks; cell = None }); room = held.room + 1 }
+
+-- the groups with work that a seat has started on
+abbrev pub working : Plan → Groups → ℕ → ℕ → Groups
+working script groups seat runner =
+    with_seat script groups seat (priority_of script runner) (Some (record { priority = priority_of script runner; scope = None }))
+
+-- the head that is taken was accepted to a declared runner
+pub taken_accepted : {script : Plan} {past : List Entry} {pool : Pool} {seat s : ℕ} (chosen : IsChosen script past pool seat s)
+    → Contains (posts past) chosen.head.posted × IsDeclared script chosen.head.posted
+    × (sequence_of script chosen.head.posted.home chosen.head.posted.task ≡ s)
+taken_accepted {script = script} {past = past} {s = s} chosen =
+    let accepted = head_accepted script past s chosen.head chosen.is_head in
+    (accepted.0, is_declared script past chosen.head.posted chosen.can.stands.past_fits accepted.0, accepted.1)
+
+-- it stands first, and the cell is at home
+pub taken_given : {script : Plan} {past : List Entry} {pool : Pool} {seat s : ℕ} (chosen : IsChosen script past pool seat s)
+    → given_of (sequence_at pool.sequences s).tasks (sequence_at pool.sequences s).cell ≡ Some (chosen.head.posted.task, cell_of script past s)
+taken_given {script = script} {past = past} {pool = pool} {s = s} chosen =
+    line_gives script past pool.sequences s chosen.head chosen.can.stands.past_fits chosen.can.stands.lines chosen.there chosen.is_head chosen.idle
+
+-- how it was posted
+pub taken_posting : {script : Plan} {past : List Entry} {pool : Pool} {seat s : ℕ} (chosen : IsChosen script past pool seat s)
+    → slice_get pool.postings.items chosen.head.posted.task ≡ Some (Some (posting_of script chosen.head.posted))
+taken_posting chosen = chosen.can.stands.postings.known chosen.head.posted (taken_accepted chosen).0
+
+-- so this is what is given, and what is read of the task
+pub taken_is : {script : Plan} {past : List Entry} {pool : Pool} {seat s : ℕ} {taken : ℕ × ℕ} (chosen : IsChosen script past pool seat s)
+    → given_of (sequence_at pool.sequences s).tasks (sequence_at pool.sequences s).cell ≡ Some taken
+    → taken ≡ (chosen.head.posted.task, cell_of script past s)
+taken_is chosen gives = some-injective (sym gives ∙ taken_given chosen)
+
+pub taken_posting_is : {script : Plan} {past : List Entry} {pool : Pool} {seat s : ℕ} {taken : ℕ × ℕ} {posting : Posting} (chosen : IsChosen script past pool seat s)
+    → given_of (sequence_at pool.sequences s).tasks (sequence_at pool.sequences s).cell ≡ Some taken
+    → slice_get pool.postings.items taken.0 ≡ Some (Some posting) → posting ≡ posting_of script chosen.head.posted
+taken_posting_is {pool = pool} {posting = posting} chosen gives read =
+    same_inside (subst (λ t. slice_get pool.postings.items t ≡ Some (Some posting)) (ap (λ t. t.0) (taken_is chosen gives)) read) (taken_posting chosen)
+
+-- its sequence has a place, also while its cell is out
+pub taken_place : {script : Plan} {past : List Entry} {pool : Pool} {seat s : ℕ} (chosen : IsChosen script past pool seat s)
+    → HasPlace (record pool { sequences = taken_out pool.sequences s }) s chosen.head.posted.home
+taken_place {script = script} {pool = pool} {s = s} chosen =
+    let accepted = taken_accepted chosen in
+    let stands = chosen.can.stands in
+    subst (λ n. HasPlace (record pool { sequences = taken_out pool.sequences s }) n chosen.head.posted.home) accepted.2
+    (has_place script _ chosen.head.posted.home chosen.head.posted.task stands.script_fits stands.runners
+    (length-set pool.sequences.sequences s _ ∙ stands.lines.all) stands.queues.roomy accepted.1.0 accepted.1.1)
+
+-- the priority of a runner's work by what the table of runners says
+pub priority_as : (script : Plan) (pool : Pool) (runner : ℕ) (traits : Traits) → pool.runners ≡ table_of script.runners script.background
+    → option_map (λ r. r.traits) (slice_get pool.runners.runners runner) ≡ Some traits → traits.priority ≡ priority_of script runner
+priority_as script pool runner traits runners is =
+    by (slice_get script.runners runner) (subst (λ table. option_map (λ r. r.traits) (slice_get table.runners runner) ≡ Some traits) runners is)
+  where
+    by : (o : Option Runner) → option_map (λ r. r.traits) o ≡ Some traits → traits.priority ≡ option_map_or (λ r. r.traits.priority) o BestEffort
+    by None none = absurd (none-some traits none)
+    by (Some r) some = ap (λ t. t.priority) (sym (some-injective some))
+
+pub stands_at_take : (script : Plan) (past : List Entry) (pool : Pool) (seat s : ℕ) (chosen : IsChosen script past pool seat s)
+    → StandsFor script (next past seat (kinds.Take chosen.head.posted.task chosen.head.posted.home (cell_of script past s)))
+    (record (refreshed (record pool { sequences = taken_out pool.sequences s }) s chosen.head.posted.home) {
+      groups = working script pool.groups seat chosen.head.posted.home;
+      tracker = record pool.tracker {
+        skip_items = pool.tracker.skip_items + skip_share (effective_at script chosen.head.posted.home chosen.head.posted.delay);
+      };
+      seats = with_item pool.seats seat (Some chosen.head.posted.task);
+    })
+stands_at_take script past pool seat s chosen = rw stands.runners (record {
+  script_fits = stands.script_fits;
+  past_fits = fits;
+  runners = refl;
+  lines = lines;
+  queues = hold_refreshed script later pool.sequences (taken_out pool.sequences s) pool.lanes pool.postings.items s runner stands.script_fits fits lines known
+      stands.queues.roomy runs old
+      (λ other another. other_sequence pool.sequences s other _ another);
+  groups = groups_at_take script past pool.groups seat task runner found stands.script_fits stands.groups can.known can.free
+      (stands.past_fits.scopes_of_taken task (head_accepted script past s chosen.head chosen.is_head).2);
+  delayed = rw (unripe_kept past e refl) stands.delayed;
+  tracker = rw (tracked_at_take script past seat s found chosen.head stands.past_fits chosen.is_head, stands.tracker) refl;
+  postings = known;
+  seats = seats_at_take script past seat task runner found pool.seats.items stands.seats can.known;
+  moment = rw (now_of_push past e) stands.moment;
+  room = rw (posts_same past e refl) (omega (arith, stands.room));
+})
+  where
+    can : CanTake script past pool seat
+    can = chosen.can
+
+    stands : StandsFor script past pool
+    stands = can.stands
+
+    task : ℕ
+    task = chosen.head.posted.task
+
+    runner : ℕ
+    runner = chosen.head.posted.home
+
+    found : ℕ
+    found = cell_of script past s
+
+    e : Entry
+    e = record { seat = seat; kind = kinds.Take task runner found }
+
+    later : List Entry
+    later = past ++ e ∷ []
+
+    fits : IsPoolPast script later
+    fits = past_at_take script past seat s found chosen.head stands.past_fits can.worker can.known chosen.is_head chosen.idle
+
+    lines : AreLines script later (arrivals later) (taken_out pool.sequences s)
+    lines = lines_at_take script past pool.sequences seat s found chosen.head stands.past_fits stands.lines can.known can.free chosen.there chosen.is_head
+
+    known : ArePostings script later pool.postings.items
+    known = postings_kept script past e pool.postings.items refl stands.postings
+
+    old : AllFollow script pool.postings.items pool.sequences pool.lanes
+    old = follow_in script past pool stands
+
+    runs : runner_of script pool.postings.items s ≡ Some runner
+    runs =
+        let accepted = taken_accepted chosen in
+        subst (λ n. runner_of script pool.postings.items n ≡ Some runner) accepted.2
+        (runner_is script pool.postings.items task (posting_of script chosen.head.posted) accepted.1.0 (taken_posting chosen))

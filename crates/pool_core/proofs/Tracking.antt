@@ -1,0 +1,206 @@
+-- The phase, the policy and what shutdown waits for, as the past grows.
+use Rattle.list_laws.proofs.Counts.{count_le}
+use Rattle.list_laws.proofs.Filters.{filter_never}
+use Rattle.pool_core.proofs.Accepted.{head_accepted, new_is_not_taken, one_post, posts_fit}
+use Rattle.pool_core.specs.Calls.{after_done, after_end, after_policy, after_post, after_shutdown, next}
+use Rattle.pool_core.specs.Others.{is_still, keeps_counts}
+use Rattle.pool_core.specs.Pasts.{IsPoolPast, IsPoolScript}
+use Rattle.pool_core.specs.Tables.{tracked}
+use Rattle.pool_laws.proofs.Shutdown.Blockers.{block_part_at_end, block_part_at_post, block_part_same, skip_part_at_end, skip_part_at_post, skip_part_at_take, skip_part_same}
+use Rattle.pool_laws.proofs.Shutdown.Tasks.{open_blocks_same}
+use Rattle.pool_laws.specs.Room.{share}
+use Rattle.pool_laws.specs.Shutdown.{moves_open_blocks, moves_skip_part}
+use Rattle.shutdown_phase.specs.declared.phase_count.TheConstants.{MAX_BLOCKERS}
+use Rattle.std.proofs.Common.{Bool, List, None, Some, [], ap, arith, false, length, refl, sym, true, ℕ, ◌++◌, ◌+◌, ◌-◌, ◌<◌, ◌∙◌, ◌∷◌, ◌≡◌, ◌≤◌}
+use Rattle.std.proofs.lemmas.Bool.{false≢true}
+use Rattle.std.specs.Prelude.{◌||◌}
+use Rattle.task_base.specs.Plan.{Plan}
+use Rattle.task_base.specs.declared.entry.Entry.{Entry}
+use Rattle.task_base.specs.declared.entry.Kind.{Kind}
+use Rattle.task_base.specs.declared.policy.Policy.{Policy}
+use Rattle.task_model.proofs.Growth.{phase_of_push, policy_of_push}
+use Rattle.task_model.specs.Blockers.{block_part, blockers_of, is_block, is_in_skip_job, is_open_block, is_running_skip, is_skip, open_jobs, seats_in_skip_jobs, skip_part}
+use Rattle.task_model.specs.Keys.{Ready}
+use Rattle.task_model.specs.Past.{fold_past}
+use Rattle.task_model.specs.Phase.{phase_after, phase_of}
+use Rattle.task_model.specs.Policies.{policy_after, policy_of}
+use Rattle.task_model.specs.Posts.{Posted, is_ended, is_taken, post_of, posts}
+use Rattle.task_model.specs.Refusal.{effective_at}
+use Rattle.task_model.specs.Seats.{Running, all_seats, holding, running}
+use Rattle.task_model.specs.Sequences.{head_of}
+use Rattle.task_tracker.specs.Tracked.{block_share, blocker_count, skip_share}
+use Rattle.task_traits.specs.declared.phase.Phase.{Phase}
+use Rattle.task_traits.specs.declared.traits.Behaviour.{Behaviour}
+use Rattle.task_traits.specs.declared.traits.Behaviour.TheVariants.{BlockShutdown, ContinueOnShutdown, SkipOnShutdown}
+use Rattle.task_base.specs.declared.entry.Kind.TheVariants as kinds
+use Rattle.task_base.specs.declared.policy.Policy.TheVariants as policies
+use Rattle.task_traits.specs.declared.phase.Phase.TheVariants as phases
+
+-- what is tracked, part by part
+tracked_is : (script : Plan) (past : List Entry) (phase : Phase) (policy : Policy) (blocks skips : ℕ) → phase_of past ≡ phase → policy_of past ≡ policy
+    → block_part script past ≡ blocks → skip_part script past ≡ skips
+    → tracked script past ≡ record { phase = phase; policy = policy; block_items = blocks; skip_items = skips }
+tracked_is script past phase policy blocks skips phase_is policy_is blocks_are skips_are = rw (phase_is, policy_is, blocks_are, skips_are) refl
+
+-- a task counts for as much in the tracker as by the rules
+block_share_is : (b : Behaviour) → share (is_block b) ≡ block_share b
+block_share_is ContinueOnShutdown = refl
+block_share_is SkipOnShutdown = refl
+block_share_is BlockShutdown = refl
+
+skip_share_is : (b : Behaviour) → share (is_skip b) ≡ skip_share b
+skip_share_is ContinueOnShutdown = refl
+skip_share_is SkipOnShutdown = refl
+skip_share_is BlockShutdown = refl
+
+-- a pool script has no jobs, and nobody is inside one
+no_open_jobs : (script : Plan) (past : List Entry) → IsPoolScript script → open_jobs script past ≡ 0
+no_open_jobs script past fits = rw fits.no_jobs refl
+
+no_skip_seats : (script : Plan) (past : List Entry) → ((seat : ℕ) → holding past seat ≡ None) → seats_in_skip_jobs script past ≡ 0
+no_skip_seats script past none = ap length (filter_never (is_in_skip_job script past) (all_seats script) (λ seat. rw (none seat) refl))
+
+pub tracked_at_start : (script : Plan) → IsPoolScript script
+    → tracked script [] ≡ record { phase = phases.Running; policy = policies.All; block_items = 0; skip_items = 0 }
+unfolding phase_of policy_of block_part skip_part posts fold_past holding
+tracked_at_start script fits = rw (no_open_jobs script [] fits, no_skip_seats script [] (λ seat. refl)) refl
+
+pub tracked_at_post : (script : Plan) (past : List Entry) (seat task runner delay : ℕ) → IsPoolPast script past → post_of past task ≡ None
+    → tracked script (after_post past seat task runner delay true)
+    ≡ record (tracked script past) { block_items = block_part script past + block_share (effective_at script runner delay) }
+tracked_at_post script past seat task runner delay fits new =
+    let e : Entry = record { seat = seat; kind = kinds.Post task runner delay true } in
+    let none : (is_taken past task ≡ false) × (is_ended past task ≡ false) = new_is_not_taken script past task fits new in
+    tracked_is script (past ++ e ∷ []) (phase_of past) (policy_of past) _ (skip_part script past) (phase_of_push past e) (policy_of_push past e)
+    (block_part_at_post script past e task runner delay refl none.1 ∙ rw (block_share_is (effective_at script runner delay)) refl)
+    (skip_part_at_post script past e task runner delay refl none.0)
+
+pub tracked_at_refusal : (script : Plan) (past : List Entry) (seat task runner delay : ℕ)
+    → tracked script (after_post past seat task runner delay false) ≡ tracked script past
+tracked_at_refusal script past seat task runner delay =
+    let e : Entry = record { seat = seat; kind = kinds.Post task runner delay false } in
+    rw (phase_of_push past e, policy_of_push past e, block_part_same script past e refl, skip_part_same script past e refl) refl
+
+-- what was not taken has not ended
+unended : (ended taken : Bool) → (ended ≡ true → taken ≡ true) → taken ≡ false → ended ≡ false
+unended true taken only none = absurd (false≢true (sym none ∙ only refl))
+unended false taken only none = refl
+
+pub tracked_at_take : (script : Plan) (past : List Entry) (seat s found : ℕ) (head : Ready) → IsPoolPast script past → head_of script past s ≡ Some head
+    → tracked script (next past seat (kinds.Take head.posted.task head.posted.home found))
+    ≡ record (tracked script past) { skip_items = skip_part script past + skip_share (effective_at script head.posted.home head.posted.delay) }
+tracked_at_take script past seat s found head fits is_head =
+    let e : Entry = record { seat = seat; kind = kinds.Take head.posted.task head.posted.home found } in
+    let accepted = head_accepted script past s head is_head in
+    tracked_is script (past ++ e ∷ []) (phase_of past) (policy_of past) (block_part script past) _ (phase_of_push past e) (policy_of_push past e)
+    (block_part_same script past e refl)
+    (skip_part_at_take script past e head.posted head.posted.task head.posted.home found refl fits.in_order
+    (one_post past head.posted fits.in_order accepted.0) accepted.2
+    (unended (is_ended past head.posted.task) (is_taken past head.posted.task) (fits.ended_was_taken head.posted.task) accepted.2)
+    ∙ rw (skip_share_is (effective_at script head.posted.home head.posted.delay)) refl)
+
+-- the end of a task that was posted in this way
+block_at_end : (script : Plan) (past : List Entry) (seat left : ℕ) (w : Running) (p : Posted) → IsPoolPast script past → running past seat ≡ Some w
+    → w.is_main ≡ false → post_of past w.task ≡ Some p
+    → block_part script past ≡ block_part script (after_end past seat w.task left) + block_share (effective_at script p.home p.delay)
+block_at_end script past seat left w p fits runs pool posted =
+    block_part_at_end script past (record { seat = seat; kind = kinds.End w.task left }) p w.task left refl fits.in_order posted
+    (fits.runs seat w runs pool).not_ended ∙ rw (block_share_is (effective_at script p.home p.delay)) refl
+
+skip_at_end : (script : Plan) (past : List Entry) (seat left : ℕ) (w : Running) (p : Posted) → IsPoolPast script past → running past seat ≡ Some w
+    → w.is_main ≡ false → post_of past w.task ≡ Some p
+    → skip_part script past ≡ skip_part script (after_end past seat w.task left) + skip_share (effective_at script p.home p.delay)
+skip_at_end script past seat left w p fits runs pool posted =
+    skip_part_at_end script past (record { seat = seat; kind = kinds.End w.task left }) p w.task left refl fits.in_order posted
+    (fits.runs seat w runs pool).taken (fits.runs seat w runs pool).not_ended ∙ rw (skip_share_is (effective_at script p.home p.delay)) refl
+
+-- what it counts for, and what is left
+pub counts_at_end : (script : Plan) (past : List Entry) (seat : ℕ) (w : Running) (p : Posted) → IsPoolPast script past → running past seat ≡ Some w
+    → w.is_main ≡ false → post_of past w.task ≡ Some p
+    → (block_share (effective_at script p.home p.delay) ≤ block_part script past) × (skip_share (effective_at script p.home p.delay) ≤ skip_part script past)
+counts_at_end script past seat w p fits runs pool posted = (
+  omega (arith, block_at_end script past seat 0 w p fits runs pool posted),
+  omega (arith, skip_at_end script past seat 0 w p fits runs pool posted),
+)
+
+pub tracked_at_end : (script : Plan) (past : List Entry) (seat left : ℕ) (w : Running) (p : Posted) → IsPoolPast script past → running past seat ≡ Some w
+    → w.is_main ≡ false → post_of past w.task ≡ Some p
+    → tracked script (after_end past seat w.task left) ≡ record (tracked script past) {
+      block_items = block_part script past - block_share (effective_at script p.home p.delay);
+      skip_items = skip_part script past - skip_share (effective_at script p.home p.delay);
+    }
+tracked_at_end script past seat left w p fits runs pool posted =
+    let e : Entry = record { seat = seat; kind = kinds.End w.task left } in
+    tracked_is script (past ++ e ∷ []) (phase_of past) (policy_of past) _ _ (phase_of_push past e) (policy_of_push past e)
+    (omega (arith, block_at_end script past seat left w p fits runs pool posted)) (omega (arith, skip_at_end script past seat left w p fits runs pool posted))
+
+pub tracked_at_policy : (script : Plan) (past : List Entry) (seat : ℕ) (policy : Policy)
+    → tracked script (after_policy past seat policy) ≡ record (tracked script past) { policy = policy }
+tracked_at_policy script past seat policy =
+    let e : Entry = record { seat = seat; kind = kinds.Policy policy } in
+    rw (phase_of_push past e, policy_of_push past e, block_part_same script past e refl, skip_part_same script past e refl) refl
+
+pub tracked_at_shutdown : (script : Plan) (past : List Entry) (seat : ℕ) → phase_of past ≡ phases.Running
+    → tracked script (after_shutdown past seat) ≡ record (tracked script past) { phase = phases.Started }
+tracked_at_shutdown script past seat running =
+    let e : Entry = record { seat = seat; kind = kinds.Shutdown } in
+    rw (phase_of_push past e, policy_of_push past e, block_part_same script past e refl, skip_part_same script past e refl, running) refl
+
+pub tracked_at_done : (script : Plan) (past : List Entry) (seat : ℕ)
+    → tracked script (after_done past seat) ≡ record (tracked script past) { phase = phases.Done }
+tracked_at_done script past seat =
+    let e : Entry = record { seat = seat; kind = kinds.Done } in
+    rw (phase_of_push past e, policy_of_push past e, block_part_same script past e refl, skip_part_same script past e refl) refl
+
+-- an entry that moves none of the counts of tasks, neither the phase nor the policy
+record LeavesCounts (kind : Kind) : Type 0 where
+  blocks : moves_open_blocks kind ≡ false
+  skips : moves_skip_part kind ≡ false
+  phase : (now : Phase) → phase_after now kind ≡ now
+  policy : (now : Policy) → policy_after now kind ≡ now
+
+leaves_counts : (kind : Kind) → (is_still kind || keeps_counts kind) ≡ true → LeavesCounts kind
+leaves_counts (kinds.Post task runner delay ok) h = absurd (false≢true h)
+leaves_counts (kinds.Take task runner found) h = absurd (false≢true h)
+leaves_counts (kinds.End task left) h = absurd (false≢true h)
+leaves_counts (kinds.Policy policy) h = absurd (false≢true h)
+leaves_counts (kinds.JobTake job id item) h = absurd (false≢true h)
+leaves_counts (kinds.JobStep job id item value next) h = absurd (false≢true h)
+leaves_counts kinds.Shutdown h = absurd (false≢true h)
+leaves_counts kinds.Done h = absurd (false≢true h)
+leaves_counts kind h = record { blocks = refl; skips = refl; phase = λ now. refl; policy = λ now. refl }
+
+-- a tick, a scope, and what is not the pool's: none is of a job, since there are none
+pub tracked_kept : (script : Plan) (past : List Entry) (e : Entry) → IsPoolScript script → (is_still e.kind || keeps_counts e.kind) ≡ true
+    → tracked script (past ++ e ∷ []) ≡ tracked script past
+unfolding block_part
+tracked_kept script past e limits still =
+    let leaves = leaves_counts e.kind still in
+    rw (
+      phase_of_push past e,
+      leaves.phase (phase_of past),
+      policy_of_push past e,
+      leaves.policy (policy_of past),
+      open_blocks_same script past e leaves.blocks,
+      no_open_jobs script (past ++ e ∷ []) limits,
+      no_open_jobs script past limits,
+      skip_part_same script past e leaves.skips,
+    ) refl
+
+-- what is counted, and that it is little
+pub counted_is : (script : Plan) (past : List Entry) → blocker_count (tracked script past) ≡ blockers_of script past
+unfolding blockers_of
+counted_is script past = refl
+
+pub few_blockers : (script : Plan) (past : List Entry) → IsPoolScript script → IsPoolPast script past
+    → blocker_count (tracked script past) < MAX_BLOCKERS
+unfolding block_part skip_part
+few_blockers script past limits fits = omega (
+  arith,
+  no_open_jobs script past limits,
+  no_skip_seats script past fits.no_items,
+  count_le (is_open_block script past) (posts past),
+  count_le (is_running_skip script past) (posts past),
+  posts_fit script past fits,
+  limits.tasks_fit,
+)

@@ -1,0 +1,6 @@
+use Rattle.pool_core.proofs.Choosing.{best_in_queue}
+use Rattle.std.proofs.Common.{sym, ◌∙◌}
+use Rattle.pool_core.proofs.pool.Pool.offer.Goals as goal
+
+pub returns-then-is_open : goal.returns-then-is_open
+returns-then-is_open c = best_in_queue c.args.self.now c.args.lane c.args.best_effort c.best.result (sym c.is_open.ensures ∙ c.if-is_open.true) c.best.ensures

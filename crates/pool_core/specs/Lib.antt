@@ -1,0 +1,14 @@
+pub mod Pasts
+pub mod Lines
+pub mod Queues
+pub mod Groups
+pub mod Tables
+pub mod StandsFor
+pub mod State
+pub mod Choice
+pub mod Calls
+pub mod Others
+pub mod Played
+pub mod Ripens
+pub mod Idling
+pub mod Refreshes

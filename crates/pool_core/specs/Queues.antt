@@ -1,0 +1,101 @@
+-- What the queues of sources stand for.
+use Rattle.std.specs.Prelude.{◌≡◌, ℕ, ◌+◌, ◌<◌, ◌==◌, Bool, true, false, not, ◌&&◌, if◌then◌else◌, List, [], map, replicate, length, Option, None, unwrap_or, slice_index_or, slice_set}
+use Rattle.std.specs.List.{list_any, range_with_len}
+use Rattle.std.specs.Option.{option_map}
+use Rattle.task_base.specs.Plan.{Plan}
+use Rattle.task_base.specs.Groups.{is_best_effort}
+use Rattle.task_base.specs.Runners.{sequence_count, seat_of_kind}
+use Rattle.task_base.specs.declared.entry.Entry.{Entry}
+use Rattle.task_base.specs.declared.source.TaskSource.{TaskSource}
+use Rattle.list_laws.specs.Lists.{keep, holds_of}
+use Rattle.task_model.specs.Sources.{Candidate}
+use Rattle.pool_laws.specs.Choice.{source_waiting}
+use Rattle.sequence_queue.specs.Ranked.{Ranked, IsMadeFor, rank_of, with_rank}
+use Rattle.sequence_queue.specs.declared.rank.Rank.{Rank}
+use Rattle.pool_core.specs.declared.lanes.Lane.{Lane}
+
+-- the queue of a lane for best-effort sources, or for the others
+abbrev pub queue_in : Bool → Lane → Ranked
+queue_in true lane = lane.best_effort
+queue_in false lane = lane.others
+
+-- the lane with another queue
+abbrev pub with_queue : Bool → Ranked → Lane → Lane
+with_queue true queue lane = record lane { best_effort = queue }
+with_queue false queue lane = record lane { others = queue }
+
+-- a queue that was made for no source
+abbrev pub no_queue : Ranked
+no_queue = record { sequences = 0; jobs = 0; ranks = [] }
+
+-- a lane that was made for no source
+abbrev pub no_lane : Lane
+no_lane = record { best_effort = no_queue; others = no_queue }
+
+-- the queue of a lane's number: lane 0 has the sources that any seat may take, and each other one those of its seat alone
+abbrev pub queue_of : List Lane → ℕ → Bool → Ranked
+queue_of lanes lane best = queue_in best (slice_index_or lanes lane no_lane)
+
+-- the lanes with another rank for a source in one queue, or with none
+abbrev pub with_source : List Lane → ℕ → Bool → TaskSource → Option Rank → List Lane
+with_source lanes lane best source rank =
+    slice_set lanes lane (with_queue best (with_rank (queue_of lanes lane best) source rank) (slice_index_or lanes lane no_lane))
+
+-- a single-thread runner states the seat
+abbrev pub is_stated : Plan → ℕ → Bool
+is_stated script seat = list_any (λ r. holds_of (λ only. only == seat) (seat_of_kind r.kind)) script.runners
+
+-- for how many sequences the queues of a lane are made: any may be in lane 0, those of runners in the lane of a seat that a
+-- runner states, and none in each other one
+abbrev pub sequence_room : Plan → ℕ → ℕ
+sequence_room script lane = if lane == 0 then sequence_count script else (if is_stated script lane then length script.runners else 0)
+
+-- for how many jobs they are made
+abbrev pub job_room : Plan → ℕ → ℕ
+job_room script lane = if lane == 0 then length script.jobs else 0
+
+-- an empty queue for so many sources
+abbrev pub empty_queue : ℕ → ℕ → Ranked
+empty_queue sequences jobs = record { sequences = sequences; jobs = jobs; ranks = replicate (sequences + jobs) None }
+
+-- an empty lane of this number
+abbrev pub empty_lane : Plan → ℕ → Lane
+empty_lane script lane = record {
+  best_effort = empty_queue (sequence_room script lane) (job_room script lane);
+  others = empty_queue (sequence_room script lane) (job_room script lane);
+}
+
+-- a lane for all seats, and one for each worker
+abbrev pub empty_lanes : Plan → List Lane
+empty_lanes script = map (empty_lane script) (range_with_len 0 (script.workers + 1))
+
+-- the lane of what only this seat may take, or of what any seat may take
+abbrev pub lane_of : Option ℕ → ℕ
+lane_of seat = unwrap_or seat 0
+
+-- both hold, or neither does
+abbrev pub same : Bool → Bool → Bool
+same true b = b
+same false b = not b
+
+-- the source belongs to this queue
+abbrev pub belongs : ℕ → Bool → Candidate → Bool
+belongs lane best c = lane_of c.seat == lane && same (is_best_effort c.priority) best
+
+-- the rank of a source
+abbrev pub rank_as : Candidate → Rank
+rank_as c = record { priority = c.priority; inside = c.inside; key = c.key }
+
+-- there is a lane for each seat, made for the sources that may be in it
+pub record AreRoomy (script : Plan) (lanes : List Lane) : Type 0 where
+  pub all : length lanes ≡ script.workers + 1
+  pub sequences : (lane : ℕ) (best : Bool) → lane < script.workers + 1 → (queue_of lanes lane best).sequences ≡ sequence_room script lane
+  pub jobs : (lane : ℕ) (best : Bool) → lane < script.workers + 1 → (queue_of lanes lane best).jobs ≡ job_room script lane
+  pub ranks : (lane : ℕ) (best : Bool) → lane < script.workers + 1
+      → length (queue_of lanes lane best).ranks ≡ sequence_room script lane + job_room script lane
+
+-- each queue holds, with their ranks, exactly the sources that belong to it and would wait under the policy `all`
+pub record HoldWaiting (script : Plan) (past : List Entry) (lanes : List Lane) : Type 0 where
+  pub roomy : AreRoomy script lanes
+  pub ranks : (lane : ℕ) (best : Bool) (source : TaskSource) → lane < script.workers + 1 → IsMadeFor (queue_of lanes lane best) source
+      → rank_of (queue_of lanes lane best) source ≡ option_map rank_as (keep (belongs lane best) (source_waiting script past source))

@@ -1,0 +1,39 @@
+-- What the pool stands for.
+use Rattle.std.specs.Prelude.{◌≡◌, ◌+◌, ◌≤◌, List, map, length}
+use Rattle.task_base.specs.Plan.{Plan}
+use Rattle.task_base.specs.declared.entry.Entry.{Entry}
+use Rattle.task_model.specs.Time.{now_of}
+use Rattle.task_model.specs.Posts.{posts}
+use Rattle.task_model.specs.Keys.{arrivals}
+use Rattle.task_runners.specs.Table.{table_of}
+use Rattle.pool_core.specs.Pasts.{IsPoolScript, IsPoolPast}
+use Rattle.pool_core.specs.Lines.{AreLines}
+use Rattle.pool_core.specs.Queues.{HoldWaiting}
+use Rattle.pool_core.specs.Groups.{AreGroups}
+use Rattle.pool_core.specs.Tables.{unripe, ripening_of, tracked, ArePostings, AreSeats}
+use Rattle.pool_core.specs.declared.pool.Pool.{Pool}
+
+-- the pool stands for the past of a script, part by part
+pub record StandsFor (script : Plan) (past : List Entry) (pool : Pool) : Type 0 where
+  pub script_fits : IsPoolScript script
+  pub past_fits : IsPoolPast script past
+  -- the runners that the script declares
+  pub runners : pool.runners ≡ table_of script.runners script.background
+  -- the tasks that have keys, have not been taken, and may start, sequence by sequence; the cells, at home or out
+  pub lines : AreLines script past (arrivals past) pool.sequences
+  -- the sources that would wait under the policy `all`, with their ranks
+  pub queues : HoldWaiting script past pool.lanes
+  -- what each seat runs of the groups' work, with its scope
+  pub groups : AreGroups script past pool.groups
+  -- the delayed tasks that are not ripe
+  pub delayed : pool.delayed ≡ record { held = map ripening_of (unripe past); room = length script.tasks }
+  -- the phase, the policy and the counts of what shutdown waits for
+  pub tracker : pool.tracker ≡ tracked script past
+  -- how each accepted task was posted
+  pub postings : ArePostings script past pool.postings.items
+  -- the task that each seat runs
+  pub seats : AreSeats script past pool.seats.items
+  -- the moment of the last tick
+  pub moment : pool.moment ≡ now_of past
+  -- room for each task that has no key yet
+  pub room : length script.tasks + length pool.delayed.held ≤ pool.sequences.room + length (posts past)

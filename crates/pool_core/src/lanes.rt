@@ -1,0 +1,127 @@
+ghost use Rattle.std.specs.Prelude.{◌≡◌, ◌+◌, ◌<◌, ◌^◌, length, IfOk};
+ghost use Rattle.sequence_queue.specs.Ranked.{IsBest, IsMadeFor, with_rank};
+ghost use Rattle.pool_core.specs.Queues.{queue_of, with_source, empty_lane, empty_lanes, sequence_room, job_room};
+
+use sequence_queue::{Rank, SourceQueue};
+use std::alloc::{AllocError, Global};
+use std::marker::Model;
+use task_base::{RunnerKind, Script, SeatNo, TaskSource};
+
+/// The sources that the same seats may take: the best-effort ones, and the others.
+#[derive(Debug, Drop)]
+pub struct Lane {
+    pub best_effort: SourceQueue,
+    pub others: SourceQueue,
+}
+
+/// The sources that wait, by the seats that may take them: lane 0 has those that any seat may take, and each other one
+/// those of the single-thread runners that state its seat.
+#[derive(Debug, Drop)]
+pub struct Lanes {
+    lanes: Vec<Lane>,
+}
+
+impl Model for Lanes {
+    ghost use Rattle.std.specs.Prelude.{List};
+    ghost use Rattle.pool_core.specs.declared.lanes.Lane.{Lane};
+
+    ghost Value = { List Lane };
+
+    ghost view = { λ l. l.lanes.items };
+}
+
+impl Lanes {
+    /// Empty lanes with room for the sources of a script. The error is want of memory.
+    pub fn new(alloc: Global, script: &Script) -> Result<Lanes, AllocError>
+        requires fit { length script.now.runners + length script.now.tasks < 2 ^ 31 }
+        requires few_jobs { length script.now.jobs < 2 ^ 31 }
+        requires few_seats { script.now.workers < 2 ^ 31 }
+        ensures { IfOk result (λ lanes. lanes ≡ empty_lanes script.now) }
+    {
+        let mut lanes = Vec::with_capacity(alloc, script.workers as usize + 1)?;
+        for seat in 0..=script.workers {
+            lanes.push(Lane::new(alloc, script, seat)?)?;
+        }
+        Ok(Lanes { lanes })
+    }
+
+    /// Holds a source of a lane with this rank, or doesn't hold it, whatever was before.
+    pub fn put(&mut self, lane: SeatNo, best_effort: bool, source: TaskSource, rank: Option<Rank>)
+        requires there { lane < length self.old }
+        requires made { IsMadeFor (queue_of self.old lane best_effort) source }
+        ensures { self.new ≡ with_source self.old lane best_effort source rank }
+    {
+        let lane = &mut self.lanes[lane as usize];
+        if best_effort {
+            put_in(&mut lane.best_effort, source, rank);
+        } else {
+            put_in(&mut lane.others, source, rank);
+        }
+    }
+
+    /// The best source of a lane, with its rank.
+    pub fn best(&self, lane: SeatNo, best_effort: bool) -> Option<(TaskSource, Rank)>
+        requires { lane < length self.now }
+        ensures { IsBest (queue_of self.now lane best_effort) result }
+    {
+        let lane = &self.lanes[lane as usize];
+        if best_effort {
+            lane.best_effort.best()
+        } else {
+            lane.others.best()
+        }
+    }
+}
+
+impl Lane {
+    fn new(alloc: Global, script: &Script, seat: SeatNo) -> Result<Lane, AllocError>
+        requires fit { length script.now.runners + length script.now.tasks < 2 ^ 31 }
+        requires few_jobs { length script.now.jobs < 2 ^ 31 }
+        ensures { IfOk result (λ lane. lane ≡ empty_lane script.now seat) }
+    {
+        let (sequences, jobs) = room(script, seat);
+        Ok(Lane {
+            best_effort: SourceQueue::new(alloc, sequences, jobs)?,
+            others: SourceQueue::new(alloc, sequences, jobs)?,
+        })
+    }
+}
+
+// How many sequences and jobs a lane is made for.
+fn room(script: &Script, seat: SeatNo) -> (u32, u32)
+    requires fit { length script.now.runners + length script.now.tasks < 2 ^ 31 }
+    requires few_jobs { length script.now.jobs < 2 ^ 31 }
+    ensures sequences { result.0 ≡ sequence_room script.now seat }
+    ensures jobs { result.1 ≡ job_room script.now seat }
+{
+    let runners = script.runners.len() as u32;
+    if seat == 0 {
+        return (
+            runners + script.tasks.len() as u32,
+            script.jobs.len() as u32,
+        );
+    }
+    let is_stated = script
+        .runners
+        .as_slice()
+        .iter()
+        .any(|runner| runner.kind == RunnerKind::Single(seat));
+    (if is_stated { runners } else { 0 }, 0)
+}
+
+// Holds a source with this rank, or doesn't hold it, whatever was before.
+fn put_in(queue: &mut SourceQueue, source: TaskSource, rank: Option<Rank>)
+    requires { IsMadeFor queue.old source }
+    ensures { queue.new ≡ with_rank queue.old source rank }
+{
+    match rank {
+        Some(rank) => {
+            if !queue.rekey(source, rank) {
+                queue.insert(source, rank);
+            }
+        }
+        None => {
+            queue.remove(source);
+        }
+    }
+}

@@ -1,0 +1,324 @@
+ghost use Rattle.std.specs.Prelude.{◌≡◌, ℕ, ◌+◌, ◌<◌, ◌≤◌, ◌↔◌, not, List, [], length, slice_get, Some, None, IsOk, IfOk, IfErr, OnErr, OnOk, false};
+ghost use Rattle.task_base.specs.Plan.{Plan};
+ghost use Rattle.task_base.specs.declared.entry.Entry.{Entry};
+ghost use Rattle.task_model.specs.Blockers.{blockers_of};
+ghost use Rattle.task_model.specs.Capacity.{OpenScope, priority_of};
+ghost use Rattle.task_model.specs.Refusal.{is_refused};
+ghost use Rattle.task_model.specs.Seats.{Running};
+ghost use Rattle.pool_core.specs.Calls.{CanPost, CanTick, CanTake, IsChosen, RunsClosed, RunsOpen, IsInPhase, TakeAnswers, running_tasks, is_any_ready, after_post, after_tick, after_take, after_end, after_enter, after_leave, after_policy, after_shutdown, after_done};
+ghost use Rattle.pool_core.specs.Pasts.{IsPoolScript, pool_running};
+ghost use Rattle.std.specs.Option.{option_map};
+ghost use Rattle.task_model.specs.Time.{now_of};
+ghost use Rattle.pool_core.specs.Ripens.{IsInTick};
+ghost use Rattle.pool_core.specs.StandsFor.{StandsFor};
+ghost use Rattle.pool_core.specs.Groups.{in_background};
+ghost use Rattle.pool_core.specs.State.{CanArrive, CanRipen, arrived, ripened};
+ghost use Rattle.pool_core.specs.declared.posting.Posting.{Posting};
+
+mod sources;
+
+use crate::groups::Groups;
+use crate::lanes::Lanes;
+use crate::pool_take::PoolTake;
+use crate::posting::Posting;
+use delayed_manager::{Delayed, Ripening};
+use sequence_queue::Rank;
+use shutdown_phase::StillBlocked;
+use std::alloc::{AllocError, Global};
+use task_base::{
+    Behaviour, Cell, Key, NotYet, Phase, Place, Policy, Priority, RunnerId, Scope, Script, SeatNo,
+    SeqId, TaskId, TaskSource,
+};
+use task_runners::RunnerTable;
+use task_sequence::Sequences;
+use task_tracker::Tracker;
+use task_traits::{effective, forbids};
+
+/// The pool of threads (Chromium's `thread_pool/thread_pool_impl.h`): which work may start now, by priority, order,
+/// limits, policy, blocking scopes, time and phase. The seats that take its work are numbers, from 1; moments are in
+/// microseconds. It knows of no thread, and runs nothing itself.
+///
+/// A call stands for the entry of its kind in the history. All memory is taken by `new`. A post, a take, an end, a scope
+/// and a policy take time logarithmic in the number of runners and tasks at most; a tick besides for each task that
+/// ripens; `idle` looks at each seat once, and `start_shutdown` at each runner and task.
+#[derive(Drop)]
+pub struct Pool {
+    runners: RunnerTable,
+    sequences: Sequences,
+    lanes: Lanes,
+    groups: Groups,
+    delayed: Delayed,
+    tracker: Tracker,
+    /// How each task was posted.
+    postings: Vec<Option<Posting>>,
+    /// The task that each seat runs.
+    seats: Vec<Option<TaskId>>,
+    /// The moment of the last tick.
+    moment: u64,
+}
+
+impl Pool {
+    /// The pool of a script at the start of its history. The error is want of memory.
+    pub fn new(alloc: Global, script: &Script) -> Result<Pool, AllocError>
+        requires { IsPoolScript script.now }
+        ensures { IfOk result (λ pool. StandsFor script.now [] pool) }
+    {
+        let tasks = script.tasks.len() as u32;
+        let sequences = script.runners.len() as u32 + tasks;
+        Ok(Pool {
+            runners: RunnerTable::new(alloc, script)?,
+            sequences: Sequences::new(alloc, sequences, tasks)?,
+            lanes: Lanes::new(alloc, script)?,
+            groups: Groups::new(script),
+            delayed: Delayed::new(alloc, tasks)?,
+            tracker: Tracker::new(),
+            postings: vec![in alloc; None; tasks as usize]?,
+            seats: vec![in alloc; None; script.workers as usize + 1]?,
+            moment: 0,
+        })
+    }
+
+    /// Posts a task to a runner, with a delay, and answers whether it was accepted.
+    pub fn post(&mut self, place: Place, task: TaskId, runner: RunnerId, delay: u64) -> bool
+        requires { (script : Plan) × (past : List Entry) × CanPost script past self.old place task runner delay }
+        ensures reply { (script : Plan) (past : List Entry) → CanPost script past self.old place task runner delay
+            → result ≡ not (is_refused script past runner delay) }
+        ensures stands { (script : Plan) (past : List Entry) (seat : ℕ) → CanPost script past self.old place task runner delay
+            → StandsFor script (after_post past seat task runner delay result) self.new }
+    {
+        let posting = Posting {
+            runner,
+            effective: effective(self.runners.traits_of(runner).behaviour, delay > 0),
+        };
+        if !self.tracker.accept(posting.effective) {
+            return false;
+        }
+        self.postings[task as usize] = Some(posting);
+        if delay > 0 {
+            self.delayed.add(self.moment + delay, place, task);
+        } else {
+            let key = Key {
+                place,
+                ripe: 0,
+                post: place,
+            };
+            self.arrive(task, posting, key);
+        }
+        true
+    }
+
+    /// The clock has been read. Tasks that have become ripe may be taken from now on.
+    pub fn tick(&mut self, place: Place, moment: u64)
+        requires { (script : Plan) × (past : List Entry) × CanTick script past self.old place moment }
+        ensures { (script : Plan) (past : List Entry) (seat : ℕ) → CanTick script past self.old place moment
+            → StandsFor script (after_tick past seat moment) self.new }
+    {
+        self.moment = moment;
+        self.groups.tick(moment);
+        self.ripen_all(place, moment);
+    }
+
+    /// Takes the head of the best source for a worker, unless the worker may take nothing.
+    pub fn take(&mut self, seat: SeatNo) -> PoolTake
+        requires { (script : Plan) × (past : List Entry) × CanTake script past self.old seat }
+        ensures answer { (script : Plan) (past : List Entry) → CanTake script past self.old seat → TakeAnswers script past seat result }
+        ensures stands { (script : Plan) (past : List Entry) → CanTake script past self.old seat → StandsFor script (after_take past seat result) self.new }
+    {
+        match self.best(seat) {
+            Some((TaskSource::Sequence(seq), _)) => self.start(seat, seq),
+            Some((TaskSource::Job(_), _)) => unreachable!(),
+            None => PoolTake::Nothing,
+        }
+    }
+
+    /// A worker has ended its task, and brings the cell of its sequence home.
+    pub fn end(&mut self, seat: SeatNo, cell: Cell)
+        requires { (script : Plan) × (past : List Entry) × (w : Running) × RunsClosed script past self.old seat w }
+        ensures { (script : Plan) (past : List Entry) (w : Running) → RunsClosed script past self.old seat w
+            → StandsFor script (after_end past seat w.task cell) self.new }
+    {
+        let task = self.task_at(seat);
+        let posting = self.posting(task);
+        let background = self.in_background(posting.runner);
+        self.groups.ended(background, seat);
+        self.tracker.ended(posting.effective);
+        self.seats[seat as usize] = None;
+        let seq = self.runners.seq_of(posting.runner, task);
+        self.sequences.put_back(seq, cell);
+        self.refresh(seq, posting.runner);
+    }
+
+    /// A worker's task has opened a blocking scope.
+    pub fn enter(&mut self, seat: SeatNo, scope: Scope)
+        requires { (script : Plan) × (past : List Entry) × (w : Running) × RunsClosed script past self.old seat w }
+        ensures { (script : Plan) (past : List Entry) (w : Running) → RunsClosed script past self.old seat w
+            → StandsFor script (after_enter past seat w.task scope) self.new }
+    {
+        let runner = self.posting(self.task_at(seat)).runner;
+        let background = self.in_background(runner);
+        self.groups.enter_scope(background, seat, scope);
+    }
+
+    /// A worker's task has closed its blocking scope.
+    pub fn leave(&mut self, seat: SeatNo)
+        requires { (script : Plan) × (past : List Entry) × (w : Running) × (opened : OpenScope) × RunsOpen script past self.old seat w opened }
+        ensures { (script : Plan) (past : List Entry) (w : Running) (opened : OpenScope) → RunsOpen script past self.old seat w opened
+            → StandsFor script (after_leave past seat w.task) self.new }
+    {
+        let runner = self.posting(self.task_at(seat)).runner;
+        let background = self.in_background(runner);
+        self.groups.leave_scope(background, seat);
+    }
+
+    /// Puts another policy in force, which has an effect until shutdown starts.
+    pub fn policy(&mut self, policy: Policy)
+        ensures { (script : Plan) (past : List Entry) (seat : ℕ) → StandsFor script past self.old → StandsFor script (after_policy past seat policy) self.new }
+    {
+        self.tracker.set_policy(policy);
+    }
+
+    /// Whether no worker runs a task, and none may take one. The error says how many run, and whether one may take more.
+    pub fn idle(&self) -> Result<(), NotYet>
+        requires { (script : Plan) × (past : List Entry) × StandsFor script past self.now }
+        ensures ok { (script : Plan) (past : List Entry) → StandsFor script past self.now
+            → IsOk result ↔ ((running_tasks script past ≡ 0) × (is_any_ready script past ≡ false)) }
+        ensures not_yet { (script : Plan) (past : List Entry) → StandsFor script past self.now
+            → IfErr result (λ not_yet. (not_yet.running ≡ running_tasks script past) × (not_yet.ready ≡ is_any_ready script past)) }
+    {
+        let mut not_yet = NotYet {
+            running: 0,
+            ready: false,
+        };
+        for seat in 1..self.seats.len() {
+            not_yet.running += u32::from(self.seats[seat].is_some());
+            not_yet.ready |= self.best(seat as SeatNo).is_some();
+        }
+        if not_yet.running > 0 || not_yet.ready {
+            return Err(not_yet);
+        }
+        Ok(())
+    }
+
+    /// The moment of the last tick, in microseconds.
+    pub fn moment(&self) -> u64
+        ensures { (script : Plan) (past : List Entry) → StandsFor script past self.now → result ≡ now_of past }
+    {
+        self.moment
+    }
+
+    /// The task of the pool that a seat runs, if it runs one.
+    pub fn task_of(&self, seat: SeatNo) -> Option<TaskId>
+        ensures { (script : Plan) (past : List Entry) → StandsFor script past self.now → seat ≤ script.workers
+            → result ≡ option_map (λ w. w.task) (pool_running past seat) }
+    {
+        *self.seats.get(seat as usize)?
+    }
+
+    /// Starts shutdown: from now on only block work is accepted and may start, and the policy has no effect.
+    pub fn start_shutdown(&mut self)
+        requires { (script : Plan) × (past : List Entry) × IsInPhase script past self.old Phase.Running }
+        ensures { (script : Plan) (past : List Entry) (seat : ℕ) → IsInPhase script past self.old Phase.Running
+            → StandsFor script (after_shutdown past seat) self.new }
+    {
+        self.tracker.start_shutdown();
+        self.sequences.purge(Phase::Started);
+        self.refresh_all();
+    }
+
+    /// Ends shutdown, unless something still blocks it.
+    pub fn try_done(&mut self) -> Result<(), StillBlocked>
+        requires { (script : Plan) × (past : List Entry) × IsInPhase script past self.old Phase.Started }
+        ensures ok { (script : Plan) (past : List Entry) → IsInPhase script past self.old Phase.Started → IsOk result ↔ (blockers_of script past ≡ 0) }
+        ensures blocked { (script : Plan) (past : List Entry) → IsInPhase script past self.old Phase.Started
+            → IfErr result (λ blocked. blocked.count ≡ blockers_of script past) }
+        ensures done { (script : Plan) (past : List Entry) (seat : ℕ) → IsInPhase script past self.old Phase.Started
+            → OnOk result (StandsFor script (after_done past seat) self.new) }
+        ensures unchanged { OnErr result (self.new ≡ self.old) }
+    {
+        self.tracker.try_done()
+    }
+
+    // Takes the head of a sequence for a seat.
+    fn start(&mut self, seat: SeatNo, seq: SeqId) -> PoolTake
+        requires { (script : Plan) × (past : List Entry) × IsChosen script past self.old seat seq }
+        ensures answer { (script : Plan) (past : List Entry) → IsChosen script past self.old seat seq → TakeAnswers script past seat result }
+        ensures stands { (script : Plan) (past : List Entry) → IsChosen script past self.old seat seq
+            → StandsFor script (after_take past seat result) self.new }
+    {
+        let (task, cell) = self.sequences.take_out(seq).unwrap();
+        let posting = self.posting(task);
+        self.refresh(seq, posting.runner);
+        let priority = self.runners.traits_of(posting.runner).priority;
+        self.groups
+            .started(self.runners.background(priority), seat, priority);
+        self.tracker.started(posting.effective);
+        self.seats[seat as usize] = Some(task);
+        PoolTake::Task {
+            task,
+            runner: posting.runner,
+            cell,
+        }
+    }
+
+    // Puts each delayed task that is ripe at a tick of this moment at the end of its sequence, if it may still start.
+    fn ripen_all(&mut self, place: Place, moment: u64)
+        requires { (script : Plan) × (past : List Entry) × IsInTick script past self.old place moment }
+        ensures { (script : Plan) (past : List Entry) (seat : ℕ) → IsInTick script past self.old place moment
+            → StandsFor script (after_tick past seat moment) self.new }
+    {
+        while let Some(ripe) = self.delayed.ripen(moment) {
+            self.ripen(place, ripe);
+        }
+    }
+
+    // Puts a delayed task at the end of its sequence at the tick that makes it ripe, if it may still start.
+    fn ripen(&mut self, place: Place, ripe: Ripening)
+        requires { (posting : Posting) × CanRipen self.old place ripe posting }
+        ensures { (posting : Posting) → CanRipen self.old place ripe posting → self.new ≡ ripened self.old place ripe posting }
+    {
+        let posting = self.posting(ripe.task);
+        if !forbids(self.tracker.phase(), posting.effective) {
+            let key = Key {
+                place,
+                ripe: ripe.ripe,
+                post: ripe.post,
+            };
+            self.arrive(ripe.task, posting, key);
+        }
+    }
+
+    // Puts a task at the end of its sequence.
+    fn arrive(&mut self, task: TaskId, posting: Posting, key: Key)
+        requires { CanArrive self.old task posting key }
+        ensures { self.new ≡ arrived self.old task posting key }
+    {
+        let seq = self.runners.seq_of(posting.runner, task);
+        self.sequences.push(seq, task, key, posting.effective);
+        self.refresh(seq, posting.runner);
+    }
+
+    // The task that a seat runs.
+    fn task_at(&self, seat: SeatNo) -> TaskId
+        requires { (task : ℕ) × (slice_get self.now.seats.items seat ≡ Some (Some task)) }
+        ensures { slice_get self.now.seats.items seat ≡ Some (Some result) }
+    {
+        self.seats[seat as usize].unwrap()
+    }
+
+    // How a task was posted.
+    fn posting(&self, task: TaskId) -> Posting
+        requires { (posting : Posting) × (slice_get self.now.postings.items task ≡ Some (Some posting)) }
+        ensures { slice_get self.now.postings.items task ≡ Some (Some result) }
+    {
+        self.postings[task as usize].unwrap()
+    }
+
+    // Whether the background group does a runner's work.
+    fn in_background(&self, runner: RunnerId) -> bool
+        requires { runner < length self.now.runners.runners }
+        ensures { result ≡ in_background self.now.runners (priority_of self.now.runners runner) }
+    {
+        self.runners
+            .background(self.runners.traits_of(runner).priority)
+    }
+}

@@ -1,0 +1,108 @@
+ghost use Rattle.std.specs.Prelude.{◌≡◌, ◌<◌, length};
+ghost use Rattle.task_sequence.specs.Sequences.{sequence_at};
+ghost use Rattle.pool_core.specs.Choice.{IsBestOf, IsOffer, IsOffered, better_of, is_open};
+ghost use Rattle.pool_core.specs.Refreshes.{HavePlaces, refreshed_below};
+ghost use Rattle.pool_core.specs.State.{HasPlace, refreshed, rank_of_head};
+
+use crate::pool::Pool;
+use sequence_queue::Rank;
+use task_base::{Behaviour, Priority, RunnerId, SeatNo, SeqId, TaskId, TaskSource};
+
+// The sources that wait: which one a seat takes, and the place of each sequence among them.
+impl Pool {
+    // The best source that a seat may take, with its rank.
+    pub(super) fn best(&self, seat: SeatNo) -> Option<(TaskSource, Rank)>
+        requires { seat < length self.now.lanes }
+        ensures { IsBestOf (IsOffer self.now seat) result }
+    {
+        let best_effort = better(self.offer(0, true), self.offer(seat, true));
+        let others = better(self.offer(0, false), self.offer(seat, false));
+        better(others, best_effort)
+    }
+
+    // The best source of one queue, unless its work may not start.
+    fn offer(&self, lane: SeatNo, best_effort: bool) -> Option<(TaskSource, Rank)>
+        requires { lane < length self.now.lanes }
+        ensures { IsBestOf (IsOffered self.now lane best_effort) result }
+    {
+        if self.is_open(best_effort) {
+            self.lanes.best(lane, best_effort)
+        } else {
+            None
+        }
+    }
+
+    // Whether work of the queues for best-effort sources, or of the others, may start now. No phase that has work is
+    // against block work, and all work of such queues is of one group and held back by the same policies.
+    fn is_open(&self, best_effort: bool) -> bool
+        ensures { result ≡ is_open self.now best_effort }
+    {
+        let priority = if best_effort {
+            Priority::BestEffort
+        } else {
+            Priority::UserVisible
+        };
+        let background = self.runners.background(priority);
+        self.tracker.may_run(priority, Behaviour::BlockShutdown)
+            && self.groups.has_room(background, priority)
+    }
+
+    // Gives a sequence its place among the sources that wait, by its list and its cell.
+    pub(super) fn refresh(&mut self, seq: SeqId, runner: RunnerId)
+        requires { HasPlace self.old seq runner }
+        ensures { self.new ≡ refreshed self.old seq runner }
+    {
+        let priority = self.runners.traits_of(runner).priority;
+        let lane = self.runners.seat_of(runner).unwrap_or(0);
+        let rank = self.rank(seq, priority);
+        self.lanes.put(
+            lane,
+            priority == Priority::BestEffort,
+            TaskSource::Sequence(seq),
+            rank,
+        );
+    }
+
+    // Gives the sequence of each task that was posted its place among the sources that wait.
+    pub(super) fn refresh_all(&mut self)
+        requires { HavePlaces self.old }
+        ensures { self.new ≡ refreshed_below self.old (length self.old.postings.items) }
+    {
+        for task in 0..self.postings.len() {
+            if let Some(posting) = self.postings[task] {
+                let seq = self.runners.seq_of(posting.runner, task as TaskId);
+                self.refresh(seq, posting.runner);
+            }
+        }
+    }
+
+    // The rank of a sequence, where it doesn't run and has a head.
+    fn rank(&self, seq: SeqId, priority: Priority) -> Option<Rank>
+        requires { seq < length self.now.sequences.sequences }
+        ensures { result ≡ rank_of_head priority (sequence_at self.now.sequences seq) }
+    {
+        if !self.sequences.is_home(seq) {
+            return None;
+        }
+        let (_, key) = self.sequences.head(seq)?;
+        Some(Rank {
+            priority,
+            inside: 0,
+            key,
+        })
+    }
+}
+
+// The one whose rank goes before the other's; the first where neither does.
+fn better(
+    first: Option<(TaskSource, Rank)>,
+    second: Option<(TaskSource, Rank)>,
+) -> Option<(TaskSource, Rank)>
+    ensures { result ≡ better_of first second }
+{
+    match (first, second) {
+        (Some(one), Some(other)) => Some(if other.1.is_below(&one.1) { other } else { one }),
+        (None, other) => other,
+        (one, None) => one,
+    }
+}

@@ -1,0 +1,5 @@
+mod limits;
+mod mix;
+mod order;
+mod played;
+mod shutdown;
