@@ -1,0 +1,10 @@
+pub mod Plans
+pub mod Shutdown
+pub mod Scopes
+pub mod Wanted
+pub mod Bodies
+pub mod Driver
+pub mod Entries
+pub mod Taking
+pub mod Tested
+pub mod Acts

@@ -1,0 +1,177 @@
+-- What a script of the pool alone gives in a legal history: what its actions and steps are, who runs, and that nobody is inside a job.
+use Rattle.env_core.specs.Built.{IsPoolPlan, is_pool_action, posts_to_main}
+use Rattle.hist_model.proofs.Laws.Choice.{found}
+use Rattle.hist_model.proofs.Laws.Consistent.{legal_is_consistent}
+use Rattle.hist_model.proofs.Laws.EntriesJobs.{claimed_within}
+use Rattle.hist_model.proofs.Laws.HoldsApart.{legal_holds_apart}
+use Rattle.hist_model.proofs.Laws.OneThing.{legal_does_one_thing}
+use Rattle.hist_model.specs.Allowed.{by_task, enters}
+use Rattle.hist_model.specs.Laws.Consistent.{RunsAs, is_pump}
+use Rattle.hist_model.specs.Legal.{IsLegal}
+use Rattle.hist_model.specs.Script.{Current, behind_action, current, current_from, wants}
+use Rattle.hist_model.specs.Views.{own_entries}
+use Rattle.list_laws.proofs.Elements.{AllByRecursion-filter, slice_get_all}
+use Rattle.list_laws.proofs.Options.{AllByRecursion-not_any}
+use Rattle.list_laws.proofs.Places.{none_from_count}
+use Rattle.list_laws.proofs.Ranges.{range_any_at}
+use Rattle.list_laws.specs.Lists.{holds_of}
+use Rattle.pool_core.specs.Calls.{running_tasks}
+use Rattle.pool_laws.specs.Seats.{runs_pool_task}
+use Rattle.script_model.specs.Laws.Sound.{AreDeclarationsSound, IsStepSound, IsStepWithin}
+use Rattle.std.proofs.Common.{Bool, List, None, Option, Some, [], ap, arith, eqb, false, refl, subst, sym, true, ℕ, ◌∙◌, ◌∷◌, ◌≡◌}
+use Rattle.std.proofs.lemmas.Bool.{and_parts, eqb-true, true≢false}
+use Rattle.std.proofs.lemmas.Option.{none-some, same_Some}
+use Rattle.std.specs.List.{AllByRecursion, list_any}
+use Rattle.std.specs.Option.{IfSome, option_map_or}
+use Rattle.std.specs.Prelude.{filter, slice_get, ◌&&◌}
+use Rattle.task_base.specs.Plan.{Plan}
+use Rattle.task_base.specs.Steps.{is_act}
+use Rattle.task_base.specs.declared.entry.Entry.{Entry}
+use Rattle.task_base.specs.declared.entry.Kind.{Kind}
+use Rattle.task_base.specs.declared.script.Action.{Action}
+use Rattle.task_base.specs.declared.step.Step.{Step}
+use Rattle.task_model.specs.Jobs.{items_of}
+use Rattle.task_model.specs.Seats.{Holding, Running, acts_done, holding, is_free, next_act, running, steps_of, worker_seats}
+use Rattle.task_base.specs.declared.entry.Kind.TheVariants as kinds
+use Rattle.task_base.specs.declared.script.Action.TheVariants as actions
+use Rattle.task_base.specs.declared.step.Step.TheVariants as steps
+
+-- The actions of the driver.
+
+current_from_is : (P : Action → Type 0) (xs : List Action) (own : List Entry) (c : Current) → AllByRecursion P xs → current_from xs own ≡ Some c → P c.action
+current_from_is P [] own c all is = absurd (none-some c is)
+current_from_is P (x ∷ xs) own c all is = at (behind_action x own) (λ left. current_from_is P xs left c all.1) is
+  where
+    at : (o : Option (List Entry)) → ((left : List Entry) → current_from xs left ≡ Some c → P c.action)
+        → option_map_or (λ left. current_from xs left) o (Some (record { action = x; made = own })) ≡ Some c → P c.action
+    at None next k = subst P (ap (λ (y : Current). y.action) (same_Some _ c k)) all.0
+    at (Some left) next k = next left k
+
+-- what holds of each action of the script holds of the one that the driver is at
+pub action_is : (P : Action → Type 0) (script : Plan) (own : List Entry) (c : Current) → AllByRecursion P script.actions → current script own ≡ Some c
+    → P c.action
+unfolding current
+action_is P script own c all is = current_from_is P script.actions own c all is
+
+-- an action that wants a post is that post
+pub wants_post : (own : List Entry) (action : Action) (made : List Entry) (task runner delay : ℕ) (ok : Bool)
+    → wants own action made (kinds.Post task runner delay ok) ≡ true → action ≡ actions.Post task runner delay
+wants_post own (actions.Post t r d) made task runner delay ok h =
+    let outer = and_parts (eqb task t && eqb runner r) (eqb delay d) h in
+    let inner = and_parts (eqb task t) (eqb runner r) outer.0 in
+    rw (eqb-true task t inner.0, eqb-true runner r inner.1, eqb-true delay d outer.1) refl
+wants_post own action made task runner delay ok h = absurd cc
+
+-- The steps of a task.
+
+-- a seat enters the next act step of the task that it runs
+pub record EntersStep (script : Plan) (past : List Entry) (seat : ℕ) (kind : Kind) : Type 0 where
+  pub now : Running
+  pub runs : running past seat ≡ Some now
+  pub step : Step
+  pub is_next : slice_get (filter is_act (steps_of script now.task)) (acts_done past seat) ≡ Some step
+  pub enters : enters now.task step kind ≡ true
+
+-- the next act step is one of the task that the seat runs
+pub next_is_of : (script : Plan) (past : List Entry) (seat : ℕ) (w : Running) (step : Step) → running past seat ≡ Some w
+    → next_act script past seat ≡ Some step → slice_get (filter is_act (steps_of script w.task)) (acts_done past seat) ≡ Some step
+next_is_of script past seat w step runs next = sym here ∙ next
+  where
+    here : next_act script past seat ≡ slice_get (filter is_act (steps_of script w.task)) (acts_done past seat)
+    here = rw runs refl
+
+pub entered_by : (script : Plan) (past : List Entry) (seat : ℕ) (kind : Kind) → by_task script past seat kind ≡ true → EntersStep script past seat kind
+unfolding by_task
+entered_by script past seat kind h =
+    let w = found (λ (w : Running). holds_of (λ step. enters w.task step kind) (next_act script past seat)) (running past seat) h in
+    let s = found (λ step. enters w.value.task step kind) (next_act script past seat) w.passes in
+    record {
+      now = w.value;
+      runs = w.is;
+      step = s.value;
+      is_next = next_is_of script past seat w.value s.value w.is s.is;
+      enters = s.passes;
+    }
+
+pub by_next : (script : Plan) (past : List Entry) (seat : ℕ) (kind : Kind) (w : Running) (step : Step) → running past seat ≡ Some w
+    → next_act script past seat ≡ Some step → enters w.task step kind ≡ true → by_task script past seat kind ≡ true
+unfolding by_task
+by_next script past seat kind w step runs next same = rw (next, runs) same
+
+-- a step that enters a post is that post
+pub enters_post : (t : ℕ) (step : Step) (task runner delay : ℕ) (ok : Bool) → enters t step (kinds.Post task runner delay ok) ≡ true
+    → step ≡ steps.Post task runner delay
+enters_post t (steps.Post u r d) task runner delay ok h =
+    let outer = and_parts (eqb task u && eqb runner r) (eqb delay d) h in
+    let inner = and_parts (eqb task u) (eqb runner r) outer.0 in
+    rw (eqb-true task u inner.0, eqb-true runner r inner.1, eqb-true delay d outer.1) refl
+enters_post t step task runner delay ok h = absurd cc
+
+-- what holds of each step holds of each act step
+pub act_is : (P : Step → Type 0) (xs : List Step) (n : ℕ) (step : Step) → AllByRecursion P xs → slice_get (filter is_act xs) n ≡ Some step → P step
+act_is P xs n step all is = subst (λ o. IfSome o P) is (slice_get_all P (filter is_act xs) n (AllByRecursion-filter P is_act xs all))
+
+-- the steps of a task are within their ranges, and sound
+pub steps_are : (script : Plan) (t : ℕ) → AreDeclarationsSound script
+    → AllByRecursion IsStepWithin (steps_of script t) × AllByRecursion (IsStepSound script t) (steps_of script t)
+steps_are script t sound = at (slice_get script.tasks t) refl
+  where
+    at : (o : Option (List Step)) → slice_get script.tasks t ≡ o → AllByRecursion IsStepWithin (option_map_or (λ steps. steps) o [])
+        × AllByRecursion (IsStepSound script t) (option_map_or (λ steps. steps) o [])
+    at None is = (tt, tt)
+    at (Some xs) is = let s = sound.tasks_sound t xs is in (s.steps_within, s.steps_sound)
+
+-- no act step of a task posts to a main queue
+pub not_main : (script : Plan) (t n : ℕ) (step : Step) → IsPoolPlan script → slice_get (filter is_act (steps_of script t)) n ≡ Some step
+    → posts_to_main step ≡ false
+not_main script t n step plan is = act_is (λ s. posts_to_main s ≡ false) (steps_of script t) n step
+    (at (slice_get script.tasks t) (slice_get_all _ script.tasks t plan.no_main_steps)) is
+  where
+    at : (o : Option (List Step)) → IfSome o (λ xs. list_any posts_to_main xs ≡ false)
+        → AllByRecursion (λ s. posts_to_main s ≡ false) (option_map_or (λ steps. steps) o [])
+    at None none = tt
+    at (Some xs) none = AllByRecursion-not_any posts_to_main xs none
+
+-- Who runs and holds what.
+
+-- the driver runs nothing: it would be at a pump
+pub driver_runs_nothing : (script : Plan) (past : List Entry) → IsPoolPlan script → IsLegal script past → running past 0 ≡ None
+driver_runs_nothing script past plan legal = at (running past 0) refl
+  where
+    no_pump : (action : Action) → is_pool_action action ≡ true → is_pump action ≡ true → ⊥
+    no_pump (actions.Pump n) pool pump = absurd cc
+    no_pump action pool pump = absurd cc
+
+    at : (o : Option Running) → running past 0 ≡ o → o ≡ None
+    at None is = refl
+    at (Some w) is = let (c, now, pump) = (legal_does_one_thing script past legal).pumps w is in
+        absurd (no_pump c.action (action_is (λ action. is_pool_action action ≡ true) script (own_entries 0 past) c plan.pool_actions now) pump)
+
+-- nobody holds an item: there is none
+pub holds_nothing : (script : Plan) (past : List Entry) (seat : ℕ) → IsPoolPlan script → IsLegal script past → holding past seat ≡ None
+holds_nothing script past seat plan legal = at (holding past seat) refl
+  where
+    at : (o : Option Holding) → holding past seat ≡ o → o ≡ None
+    at None is = refl
+    at (Some h) is =
+        let no_items : items_of script h.job ≡ 0 = rw (plan.no_jobs) refl in
+        absurd (omega (arith, (legal_holds_apart script past legal).is_claimed seat h is, claimed_within script past h.job legal, no_items))
+
+-- where no worker runs a task of the pool, no seat runs anything
+runs_nothing : (script : Plan) (past : List Entry) (seat : ℕ) → IsPoolPlan script → IsLegal script past → running_tasks script past ≡ 0
+    → running past seat ≡ None
+runs_nothing script past seat plan legal none = at (running past seat) refl
+  where
+    by : (w : Running) (main : Bool) → running past seat ≡ Some w → w.is_main ≡ main → RunsAs script past seat w main → ⊥
+    by w true is main r = none-some w (sym (driver_runs_nothing script past plan legal) ∙ subst (λ s. running past s ≡ Some w) r.driver is)
+    by w false is pool r = true≢false (sym (range_any_at (runs_pool_task past) 1 script.workers seat (rw (is, pool) refl) r.worker (omega (arith, r.known)))
+        ∙ none_from_count (runs_pool_task past) (worker_seats script) none)
+
+    at : (o : Option Running) → running past seat ≡ o → o ≡ None
+    at None is = refl
+    at (Some w) is = absurd (by w w.is_main is refl ((legal_is_consistent script past legal).runs seat w is))
+
+-- then each seat is free
+pub free_where_none_runs : (script : Plan) (past : List Entry) (seat : ℕ) → IsPoolPlan script → IsLegal script past → running_tasks script past ≡ 0
+    → is_free past seat ≡ true
+free_where_none_runs script past seat plan legal none = rw (runs_nothing script past seat plan legal none, holds_nothing script past seat plan legal) refl

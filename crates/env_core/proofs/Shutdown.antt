@@ -1,0 +1,237 @@
+-- How far shutdown has come, by the driver's place in a script of the pool alone, which starts shutdown at most once.
+use Rattle.env_core.proofs.Plans.{driver_runs_nothing, entered_by, holds_nothing}
+use Rattle.env_core.specs.Built.{IsPoolPlan}
+use Rattle.hist_model.proofs.Laws.Agenda.{agenda_push, current_is_first}
+use Rattle.hist_model.proofs.Laws.Choice.{Found}
+use Rattle.hist_model.proofs.Laws.Legal.{legal_induction}
+use Rattle.hist_model.proofs.Laws.OneThing.{job_step_holds, wanted_by}
+use Rattle.hist_model.proofs.Laws.Own.{own_entries_push}
+use Rattle.hist_model.proofs.Laws.Takes.{by_driver, end_is, job_take_is, main_end_is, take_is}
+use Rattle.hist_model.specs.Allowed.{IsAllowed, by_script, by_task, may_come}
+use Rattle.hist_model.specs.Laws.Agenda.{agenda, agenda_from, completes, first_of, next_agenda}
+use Rattle.hist_model.specs.Legal.{IsLegal}
+use Rattle.hist_model.specs.Script.{Current, behind_action, current, wants}
+use Rattle.hist_model.specs.Views.{own_entries}
+use Rattle.list_laws.proofs.Counts.{count-cons}
+use Rattle.list_laws.proofs.Places.{count_none, none_from_count}
+use Rattle.list_laws.specs.Lists.{count}
+use Rattle.script_model.specs.Draft.{is_shutdown}
+use Rattle.std.proofs.Common.{Bool, List, None, Option, Some, [], ap, arith, cond, eqb, false, leb, refl, subst, suc, sym, true, zero, ℕ, ⊎_elim, ◌++◌, ◌∙◌, ◌∷◌, ◌≡◌, ◌≤◌}
+use Rattle.std.proofs.lemmas.Bool.{and_parts, eqb-false, eqb-true, or_cases, true≢false}
+use Rattle.std.proofs.lemmas.Option.{none-some, same_Some}
+use Rattle.std.specs.List.{list_any}
+use Rattle.std.specs.Option.{option_map_or}
+use Rattle.std.specs.Prelude.{◌||◌}
+use Rattle.task_base.specs.Plan.{Plan}
+use Rattle.task_base.specs.declared.entry.Entry.{Entry}
+use Rattle.task_base.specs.declared.entry.Kind.{Kind}
+use Rattle.task_base.specs.declared.script.Action.{Action}
+use Rattle.task_model.proofs.Growth.{phase_of_push}
+use Rattle.task_model.specs.Phase.{phase_after, phase_of}
+use Rattle.task_model.specs.Seats.{Running, running}
+use Rattle.task_traits.specs.declared.phase.Phase.{Phase}
+use Rattle.task_base.specs.declared.entry.Kind.TheVariants as kinds
+use Rattle.task_base.specs.declared.script.Action.TheVariants as actions
+use Rattle.task_traits.specs.declared.phase.Phase.TheVariants as phases
+
+-- Each entry of the driver is by the script.
+
+-- the driver takes nothing as a worker, runs nothing and holds nothing
+pub driver_by_script : (script : Plan) (past : List Entry) (seat : ℕ) (kind : Kind) → IsPoolPlan script → IsLegal script past → seat ≡ 0
+    → may_come script past seat kind ≡ true → by_script script past seat kind ≡ true
+unfolding may_come
+driver_by_script script past seat kind plan legal driver may = by kind may
+  where
+    runs : (w : Running) → running past seat ≡ Some w → ⊥
+    runs w is = none-some w (sym (driver_runs_nothing script past plan legal) ∙ ap (running past) (sym driver) ∙ is)
+
+    worker : 1 ≤ seat → ⊥
+    worker low = omega (arith, low, driver)
+
+    by_the_task : (k : Kind) → by_task script past seat k ≡ true → ⊥
+    by_the_task k h = let s = entered_by script past seat k h in runs s.now s.runs
+
+    either : (k : Kind) → (by_script script past seat k || by_task script past seat k) ≡ true → by_script script past seat k ≡ true
+    either k h = ⊎_elim (λ wanted. wanted) (λ task. absurd (by_the_task k task)) (or_cases _ _ h)
+
+    by : (k : Kind) → may_come script past seat k ≡ true → by_script script past seat k ≡ true
+    by (kinds.Post task runner delay ok) h = either (kinds.Post task runner delay ok) (and_parts _ _ h).0
+    by (kinds.Main task queue delay ok) h = either (kinds.Main task queue delay ok) (and_parts _ _ h).0
+    by (kinds.Tick now) h = (and_parts _ _ (and_parts _ _ h).0).0
+    by (kinds.Take task runner found) h = absurd (worker (take_is script past seat task runner found h).worker)
+    by (kinds.End task left) h = let w = end_is script past seat task left h in absurd (runs w.0 w.1)
+    by (kinds.Enter task scope) h = absurd (by_the_task (kinds.Enter task scope) h)
+    by (kinds.Leave task) h = absurd (by_the_task (kinds.Leave task) h)
+    by (kinds.MainTake task queue found) h = (and_parts _ _ (and_parts _ _ h).0).0
+    by (kinds.MainEnd task left) h = let w = main_end_is script past seat task left h in absurd (runs w.0 w.1)
+    by kinds.MainNone h = (and_parts _ _ h).0
+    by (kinds.JobPost job ok) h = (and_parts _ _ h).0
+    by (kinds.JobTake job id item) h = ⊎_elim (λ k. absurd (worker k.0.worker)) (λ k. k.0) (job_take_is script past seat job id item h)
+    by (kinds.JobStep job id item value next) h =
+        let held = job_step_holds script past seat job id item value next h in
+        absurd (none-some held.0 (sym (holds_nothing script past seat plan legal) ∙ held.1))
+    by (kinds.Cancelled job) h = (and_parts _ _ (and_parts _ _ h).0).0
+    by (kinds.Joined job reply) h = (and_parts _ _ (and_parts _ _ h).0).0
+    by kinds.Idle h = (and_parts _ _ (and_parts _ _ h).0).0
+    by kinds.Done h = (and_parts _ _ (and_parts _ _ h).0).0
+    by k h = h
+
+-- The phase at each place of the driver.
+
+-- the phase before these actions: shutdown is at most once among them, and where it is, it was not started
+record IsBefore (phase : Phase) (xs : List Action) : Type 0 where
+  once : count is_shutdown xs ≤ 1
+  running : list_any is_shutdown xs ≡ true → phase ≡ phases.Running
+
+-- the phase while a shutdown has made these entries
+abbrev phase_at : List Entry → Phase
+phase_at [] = phases.Running
+phase_at (e ∷ made) = phases.Started
+
+-- the phase where the driver is at the first of these actions, which has made these entries
+abbrev IsAtPhase : Phase → List Action → List Entry → Type 0
+IsAtPhase phase [] made = Unit {0}
+IsAtPhase phase (actions.Shutdown ∷ rest) made = (list_any is_shutdown rest ≡ false) × (phase ≡ phase_at made)
+IsAtPhase phase (x ∷ rest) made = IsBefore phase rest
+
+before_rest : (phase : Phase) (x : Action) (xs : List Action) → IsBefore phase (x ∷ xs) → IsBefore phase xs
+before_rest phase x xs b = record { once = omega (arith, b.once, count-cons is_shutdown x xs); running = λ h. b.running (some (is_shutdown x) h) }
+  where
+    some : (a : Bool) {b : Bool} → b ≡ true → (a || b) ≡ true
+    some true h = refl
+    some false h = h
+
+before_first : (phase : Phase) (x : Action) (xs : List Action) → IsBefore phase (x ∷ xs) → IsAtPhase phase (x ∷ xs) []
+before_first phase actions.Shutdown xs b = (none_from_count is_shutdown xs (omega (arith, b.once)), b.running refl)
+before_first phase x xs b = before_rest phase x xs b
+
+-- an action that wants no entry leaves none
+behind_nothing : (x : Action) (left : List Entry) → behind_action x [] ≡ Some left → [] ≡ left
+behind_nothing (actions.Tick zero) left h = same_Some [] left h
+behind_nothing (actions.Tick (suc n)) left h = absurd cc
+behind_nothing x left h = absurd cc
+
+begins : (phase : Phase) (xs : List Action) → IsBefore phase xs → IsAtPhase phase (agenda_from xs []).actions (agenda_from xs []).made
+begins phase [] b = tt
+begins phase (x ∷ xs) b = at (behind_action x []) refl (begins phase xs (before_rest phase x xs b))
+  where
+    at : (o : Option (List Entry)) → behind_action x [] ≡ o → IsAtPhase phase (agenda_from xs []).actions (agenda_from xs []).made
+        → IsAtPhase phase (option_map_or (λ left. agenda_from xs left) o (record { actions = x ∷ xs; made = [] })).actions
+        (option_map_or (λ left. agenda_from xs left) o (record { actions = x ∷ xs; made = [] })).made
+    at None is rest = before_first phase x xs b
+    at (Some left) is rest = subst (λ l. IsAtPhase phase (agenda_from xs l).actions (agenda_from xs l).made) (behind_nothing x left is) rest
+
+-- an entry that the first action wants moves the driver and the phase
+moves : (own : List Entry) (phase : Phase) (x : Action) (rest : List Action) (made : List Entry) (seat : ℕ) (kind : Kind) → wants own x made kind ≡ true
+    → IsAtPhase phase (x ∷ rest) made
+    → IsAtPhase (phase_after phase kind) (next_agenda (x ∷ rest) made (record { seat = seat; kind = kind })).actions
+    (next_agenda (x ∷ rest) made (record { seat = seat; kind = kind })).made
+moves own phase actions.Shutdown rest [] seat kinds.Shutdown w at = (at.0, rw (at.1) refl)
+moves own phase actions.Shutdown rest (y ∷ made) seat kinds.Shutdown w at = absurd (omega (arith, eqb-true _ _ w))
+moves own phase actions.Shutdown rest [] seat kinds.Done w at = absurd cc
+moves own phase actions.Shutdown rest (y ∷ []) seat kinds.Done w at =
+    begins phases.Done rest (record { once = rw (count_none is_shutdown rest at.0) (omega arith); running = λ h. absurd (true≢false (sym h ∙ at.0)) })
+moves own phase actions.Shutdown rest (y ∷ z ∷ made) seat kinds.Done w at = absurd (omega (arith, eqb-true _ _ w))
+moves own phase actions.Shutdown rest made seat kind w at = absurd cc
+moves own phase x rest made seat kinds.Shutdown w at = absurd cc
+moves own phase x rest made seat kinds.Done w at = absurd cc
+moves own phase x rest made seat kind w at = by (completes x made kind)
+  where
+    e : Entry
+    e = record { seat = seat; kind = kind }
+
+    by : (b : Bool) → IsAtPhase phase (cond b (agenda_from rest []) (record { actions = x ∷ rest; made = made ++ e ∷ [] })).actions
+        (cond b (agenda_from rest []) (record { actions = x ∷ rest; made = made ++ e ∷ [] })).made
+    by true = begins phase rest at
+    by false = at
+
+-- the phase fits the place of the driver
+abbrev IsInStep : Plan → List Entry → Type 0
+IsInStep script past = IsAtPhase (phase_of past) (agenda script (own_entries 0 past)).actions (agenda script (own_entries 0 past)).made
+
+-- an entry that the driver's place wants
+wanted_moves : (own : List Entry) (phase : Phase) (xs : List Action) (made : List Entry) (c : Current) (e : Entry) → first_of xs made ≡ Some c
+    → wants own c.action c.made e.kind ≡ true → IsAtPhase phase xs made
+    → IsAtPhase (phase_after phase e.kind) (next_agenda xs made e).actions (next_agenda xs made e).made
+wanted_moves own phase [] made c e is w at = absurd (none-some c is)
+wanted_moves own phase (x ∷ rest) made c e is w at =
+    moves own phase x rest made e.seat e.kind (ap (λ (y : Current). wants own y.action y.made e.kind) (same_Some _ c is) ∙ w) at
+
+-- an entry of a worker neither starts nor ends shutdown
+same_phase : (script : Plan) (past : List Entry) (seat : ℕ) (kind : Kind) (phase : Phase) → eqb seat 0 ≡ false → may_come script past seat kind ≡ true
+    → phase_after phase kind ≡ phase
+unfolding may_come
+same_phase script past seat kinds.Shutdown phase other h = absurd (eqb-false seat 0 other (by_driver script past seat kinds.Shutdown h))
+same_phase script past seat kinds.Done phase other h =
+    absurd (eqb-false seat 0 other (by_driver script past seat kinds.Done (and_parts _ _ (and_parts _ _ h).0).0))
+same_phase script past seat kind phase other h = refl
+
+in_step_at_start : (script : Plan) → IsPoolPlan script → IsInStep script []
+unfolding agenda phase_of
+in_step_at_start script plan = begins phases.Running script.actions (record { once = plan.sound.once.one_shutdown; running = λ h. refl })
+
+-- so it does in every legal history
+in_step : (script : Plan) (past : List Entry) → IsPoolPlan script → IsLegal script past → IsInStep script past
+in_step script past plan legal = legal_induction script (IsInStep script) (in_step_at_start script plan) next past legal
+  where
+    next : (before : List Entry) (e : Entry) → IsLegal script before → IsAllowed script before e → IsInStep script before → IsInStep script (before ++ e ∷ [])
+    next before e before_legal allowed now = rw (phase_of_push before e, own_entries_push before e 0) (by (eqb e.seat 0) refl)
+      where
+        own : List Entry
+        own = own_entries 0 before
+
+        may : may_come script before e.seat e.kind ≡ true
+        may = (and_parts (leb e.seat script.workers) (may_come script before e.seat e.kind) allowed).1
+
+        by : (b : Bool) → eqb e.seat 0 ≡ b
+            → IsAtPhase (phase_after (phase_of before) e.kind) (agenda script (cond b (own ++ e ∷ []) own)).actions
+            (agenda script (cond b (own ++ e ∷ []) own)).made
+        by true driver =
+            let c = wanted_by script before e.seat e.kind (driver_by_script script before e.seat e.kind plan before_legal (eqb-true e.seat 0 driver) may) in
+            rw (agenda_push script own e)
+            (wanted_moves own (phase_of before) (agenda script own).actions (agenda script own).made c.value e
+            (sym (current_is_first script own) ∙ c.is) c.passes now)
+        by false other = rw (same_phase script before e.seat e.kind (phase_of before) other may) now
+
+-- the driver is at this kind of entry of its script
+abbrev IsDue : Plan → List Entry → Kind → Type 0
+IsDue script past kind = Found Current (λ c. wants (own_entries 0 past) c.action c.made kind) (current script (own_entries 0 past))
+
+-- what the place of the driver says of the phase, where the first action wants this
+phase_by : (own : List Entry) (phase now : Phase) (kind : Kind)
+    → ((x : Action) (rest : List Action) (made : List Entry) → wants own x made kind ≡ true → IsAtPhase phase (x ∷ rest) made → phase ≡ now)
+    → (xs : List Action) (made : List Entry) (c : Current) → first_of xs made ≡ Some c → wants own c.action c.made kind ≡ true
+    → IsAtPhase phase xs made → phase ≡ now
+phase_by own phase now kind says [] made c is w at = absurd (none-some c is)
+phase_by own phase now kind says (x ∷ rest) made c is w at =
+    says x rest made (ap (λ (y : Current). wants own y.action y.made kind) (same_Some _ c is) ∙ w) at
+
+-- where shutdown is to be started, it was not
+pub at_start : (script : Plan) (past : List Entry) → IsPoolPlan script → IsLegal script past → IsDue script past kinds.Shutdown
+    → phase_of past ≡ phases.Running
+at_start script past plan legal due = phase_by own (phase_of past) phases.Running kinds.Shutdown (says (phase_of past)) (agenda script own).actions
+    (agenda script own).made due.value (sym (current_is_first script own) ∙ due.is) due.passes (in_step script past plan legal)
+  where
+    own : List Entry
+    own = own_entries 0 past
+
+    says : (phase : Phase) (x : Action) (rest : List Action) (made : List Entry) → wants own x made kinds.Shutdown ≡ true → IsAtPhase phase (x ∷ rest) made
+        → phase ≡ phases.Running
+    says phase actions.Shutdown rest [] w at = at.1
+    says phase actions.Shutdown rest (y ∷ made) w at = absurd (omega (arith, eqb-true _ _ w))
+    says phase x rest made w at = absurd cc
+
+-- where it is to be done, it was started
+pub at_done : (script : Plan) (past : List Entry) → IsPoolPlan script → IsLegal script past → IsDue script past kinds.Done
+    → phase_of past ≡ phases.Started
+at_done script past plan legal due = phase_by own (phase_of past) phases.Started kinds.Done (says (phase_of past)) (agenda script own).actions
+    (agenda script own).made due.value (sym (current_is_first script own) ∙ due.is) due.passes (in_step script past plan legal)
+  where
+    own : List Entry
+    own = own_entries 0 past
+
+    says : (phase : Phase) (x : Action) (rest : List Action) (made : List Entry) → wants own x made kinds.Done ≡ true → IsAtPhase phase (x ∷ rest) made
+        → phase ≡ phases.Started
+    says phase actions.Shutdown rest [] w at = absurd cc
+    says phase actions.Shutdown rest (y ∷ made) w at = at.1
+    says phase x rest made w at = absurd cc

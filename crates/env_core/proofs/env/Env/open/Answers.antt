@@ -1,0 +1,37 @@
+use Rattle.env_core.proofs.Bodies.{bodies_at_start}
+use Rattle.env_core.proofs.Driver.{driver_at_start}
+use Rattle.env_core.specs.Built.{IsPoolPlan}
+use Rattle.env_core.specs.Calls.{AreFresh}
+use Rattle.env_core.specs.Holds.{Holds}
+use Rattle.hist_model.proofs.Laws.Legal.{nothing_is_legal}
+use Rattle.pool_core.specs.StandsFor.{StandsFor}
+use Rattle.pool_core.specs.declared.pool.Pool.{Pool}
+use Rattle.script_model.proofs.Laws.Canonical.{sound_is_valid}
+use Rattle.script_model.specs.Bound.{events_bound_of}
+use Rattle.std.proofs.Common.{List, Option, Some, [], arith, map, ◌∙◌, ◌≡◌, ◌≤◌}
+use Rattle.task_base.specs.Plan.{Plan}
+use Rattle.task_base.specs.Rows.{Listed}
+use Rattle.task_base.specs.declared.entry.Entry.{Entry}
+use Rattle.task_base.specs.declared.step.Step.{Step}
+use Rattle.env_core.proofs.env.Env.open.Goals as goal
+
+-- everything holds at the start, with a body for each task and room for each entry
+holds_at_start : {X : Type 0} (bodies : List X) (drawer : List (Option X)) (whole rest : X → List Step) (script : Plan) (log : Listed Entry) (pool : Pool)
+    → IsPoolPlan script → AreFresh bodies whole rest script → drawer ≡ map Some bodies → log.items ≡ [] → events_bound_of script ≤ log.spare
+    → StandsFor script [] pool → Holds drawer whole rest script log pool 0 0
+holds_at_start bodies drawer whole rest script log pool plan fresh held empty room stands = record {
+  plan = plan;
+  legal = rw empty (nothing_is_legal script);
+  stands = rw empty stands;
+  drawer = rw (empty, held) (bodies_at_start bodies whole rest script fresh);
+  driver = rw empty (driver_at_start script plan);
+  room = omega (arith, room);
+}
+
+pub events_bound-requires : goal.events_bound-requires
+events_bound-requires g c = sound_is_valid c.args.script c.requires.plan.sound
+
+pub invariant_of-result : goal.invariant_of-result
+invariant_of-result g c = holds_at_start c.args.bodies.items c.in_ok-bodies.bodies.items (λ body. g.B.TaskBody.whole body.value)
+    (λ body. g.B.TaskBody.rest body.value) c.args.script c.reserve.new.self c.in_ok-pool.pool c.requires.plan c.requires.bodies c.in_ok-bodies.ensures
+    (c.in_ok-reserve.ensures.items ∙ c.new-log.ensures.items) (omega (arith, c.events_bound.ensures, c.in_ok-reserve.ensures.room)) c.in_ok-pool.ensures

@@ -1,0 +1,6 @@
+pub mod Built
+pub mod Views
+pub mod Agenda
+pub mod Drawer
+pub mod Holds
+pub mod Calls

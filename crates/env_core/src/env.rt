@@ -1,0 +1,321 @@
+ghost use Rattle.std.specs.Prelude.{◌≡◌, ℕ, ◌≤◌, ◌<◌, ◌↔◌, List, [], map, length, slice_get, not, Bool, true, false, IsOk, IfOk, IfErr, OnOk, OnErr, Some};
+ghost use Rattle.env_core.specs.Built.{IsPoolPlan};
+ghost use Rattle.env_core.specs.Calls.{IsWantedNext, IsFreeWorker, IsNextAct, CanEnd, HasTaken, HasNothing, IsOver, EntersAct, lets_in};
+ghost use Rattle.env_core.specs.Drawer.{kept_if};
+ghost use Rattle.env_core.specs.Views.{Enters};
+ghost use Rattle.hist_model.specs.Moments.{moment_behind};
+ghost use Rattle.pool_core.specs.Calls.{running_tasks, is_any_ready};
+ghost use Rattle.task_model.specs.Blockers.{blockers_of};
+ghost use Rattle.task_model.specs.Refusal.{is_refused};
+ghost use Rattle.task_model.specs.Seats.{steps_of};
+ghost use Rattle.task_model.specs.Time.{now_of};
+
+use crate::agenda::Agenda;
+use hist_model::Chronicle;
+use pool_core::{Pool, PoolTake};
+use shutdown_phase::StillBlocked;
+use std::alloc::{AllocError, Global};
+use std::marker::Model;
+use task_base::{
+    Entry, Kind, LAST_MOMENT, NotYet, Policy, Rows, RunnerId, Scope, Script, SeatNo, TaskId,
+};
+use task_body::{Act, Assignment, Taken, TaskBody};
+use task_script::events_bound;
+
+/// The environment of one run (Chromium's `base/task` as a browser holds it): the script, the bodies of the tasks, the
+/// pool, and the history.
+///
+/// Each call is one event: it adds one entry to the history, or none. All memory is taken by `open`. A seat is 0 for
+/// the driver, which performs the script, and 1 and above for the workers.
+#[derive(Drop)]
+pub struct Env<B: TaskBody> {
+    script: Script,
+    pool: Pool,
+    /// The bodies of the tasks that may still be taken.
+    bodies: Vec<Option<Box<B>>>,
+    log: Rows<Entry>,
+    /// How far the driver has come.
+    agenda: Agenda,
+}
+
+impl<B: TaskBody> Model for Env<B> {
+    ghost use Rattle.env_core.specs.Views.{EnvView};
+    ghost use Rattle.env_core.specs.Holds.{Holds};
+
+    ghost Value = { EnvView };
+
+    ghost view = { λ e. record { script = e.script; history = e.log.items } };
+
+    ghost invariant = { λ e. Holds e.bodies.items (λ body. B.whole body.value) (λ body. B.rest body.value) e.script e.log e.pool e.agenda.place e.agenda.made };
+}
+
+impl<B: TaskBody> Chronicle for Env<B> {
+    ghost history = { λ e. e.history };
+
+    ghost basis = { λ e. e.script };
+}
+
+impl<B: TaskBody> Env<B> {
+    ghost use Rattle.env_core.specs.Calls.{AreFresh, TakeGives, IsIdle};
+
+    /// The environment of a script of the pool alone, at the start of its history, with a body for each task: body i is
+    /// that of task i, and none of its steps is done. The error is want of memory, and nothing is left made.
+    pub fn open(alloc: Global, script: Script, bodies: Vec<Box<B>>) -> Result<Env<B>, AllocError>
+        requires plan { IsPoolPlan script }
+        requires bodies { AreFresh bodies.items (λ body. B.whole body.value) (λ body. B.rest body.value) script }
+        ensures script { IfOk result (λ env. env.script ≡ script) }
+        ensures empty { IfOk result (λ env. env.history ≡ []) }
+    {
+        let pool = Pool::new(alloc, &script)?;
+        let bodies = drawer(alloc, bodies)?;
+        let mut log = Rows::new(alloc);
+        log.reserve(events_bound(&script) as usize)?;
+        Ok(Env {
+            script,
+            pool,
+            bodies,
+            log,
+            agenda: Agenda { place: 0, made: 0 },
+        })
+    }
+
+    /// The driver posts a task to a runner, with a delay in microseconds. A refused post drops the task's body.
+    pub fn post(&mut self, seat: SeatNo, task: TaskId, runner: RunnerId, delay: u64) -> bool
+        requires { (ok : Bool) → IsWantedNext self.old seat (Kind.Post task runner delay ok) }
+        ensures reply { result ≡ not (is_refused self.old.script self.old.history runner delay) }
+        ensures enters { Enters self.old self.new seat (Kind.Post task runner delay result) }
+    {
+        let ok = self.pool.post(self.log.len() as u32, task, runner, delay);
+        keep_if(ok, &mut self.bodies, task);
+        self.agenda.entered(&self.script);
+        self.log.push_spare(Entry {
+            seat,
+            kind: Kind::Post {
+                task,
+                runner,
+                delay,
+                ok,
+            },
+        });
+        ok
+    }
+
+    /// The driver has read the clock, in microseconds. Answers the moment that is entered.
+    pub fn tick(&mut self, seat: SeatNo, reading: u64) -> u64
+        requires { (now : ℕ) → IsWantedNext self.old seat (Kind.Tick now) }
+        ensures moment { result ≡ moment_behind (now_of self.old.history) reading }
+        ensures enters { Enters self.old self.new seat (Kind.Tick result) }
+    {
+        let now = reading.max(self.pool.moment()).min(LAST_MOMENT);
+        self.pool.tick(self.log.len() as u32, now);
+        self.agenda.entered(&self.script);
+        self.log.push_spare(Entry {
+            seat,
+            kind: Kind::Tick { now },
+        });
+        now
+    }
+
+    /// The driver puts another policy in force.
+    pub fn policy(&mut self, seat: SeatNo, policy: Policy)
+        requires { IsWantedNext self.old seat (Kind.Policy policy) }
+        ensures { Enters self.old self.new seat (Kind.Policy policy) }
+    {
+        self.pool.policy(policy);
+        self.agenda.entered(&self.script);
+        self.log.push_spare(Entry {
+            seat,
+            kind: Kind::Policy { policy },
+        });
+    }
+
+    /// A worker asks for work. A body leaves the drawer as its task is taken.
+    pub fn take(&mut self, seat: SeatNo) -> Taken<B>
+        requires { IsFreeWorker self.old seat }
+        ensures { TakeGives self.old self.new seat result }
+    {
+        if self.agenda.is_finished(&self.script) {
+            return Taken::Over;
+        }
+        match self.pool.take(seat) {
+            PoolTake::Nothing => Taken::Nothing,
+            PoolTake::Task { task, runner, cell } => {
+                let body = self.bodies[task as usize].take().unwrap();
+                self.log.push_spare(Entry {
+                    seat,
+                    kind: Kind::Take {
+                        task,
+                        runner,
+                        found: cell.value(),
+                    },
+                });
+                Taken::Task(Assignment::new(task, runner, cell, body))
+            }
+        }
+    }
+
+    /// A task does its next act step. False where that is a post that is refused, which drops the body of the task that
+    /// was to be posted.
+    pub fn act(&mut self, seat: SeatNo, act: Act) -> bool
+        requires { IsNextAct self.old seat act }
+        ensures reply { result ≡ lets_in self.old act }
+        ensures enters { EntersAct self.old self.new seat act result }
+    {
+        match act {
+            Act::Post {
+                task,
+                runner,
+                delay,
+            } => self.post_by_task(seat, task, runner, delay),
+            Act::Enter(scope) => self.enter(seat, scope),
+            Act::Leave => self.leave(seat),
+            Act::Main { .. } | Act::Did(_) | Act::Finished => {
+                // No task of such a script posts to a main queue.
+                let _ = &self.script;
+                unreachable!()
+            }
+        }
+    }
+
+    /// A worker has ended its task: the cell goes home with what the task left, and the body is dropped.
+    pub fn end(&mut self, seat: SeatNo, work: Assignment<B>)
+        requires { CanEnd self.old seat work }
+        ensures { Enters self.old self.new seat (Kind.End work.task work.value) }
+    {
+        let task = work.task();
+        let (cell, _) = work.split_up();
+        let left = cell.value();
+        self.pool.end(seat, cell);
+        self.log.push_spare(Entry {
+            seat,
+            kind: Kind::End { task, left },
+        });
+    }
+
+    /// The driver waits for the pool: it goes on where no worker runs a task and none may take one. The error says how
+    /// many run, and whether one may take more.
+    pub fn try_idle(&mut self, seat: SeatNo) -> Result<(), NotYet>
+        requires { IsWantedNext self.old seat Kind.Idle }
+        ensures ok { IsOk result ↔ IsIdle self.old }
+        ensures not_yet { IfErr result (λ not_yet. (not_yet.running ≡ running_tasks self.old.script self.old.history)
+            × (not_yet.ready ≡ is_any_ready self.old.script self.old.history)) }
+        ensures enters { OnOk result (Enters self.old self.new seat Kind.Idle) }
+        ensures unchanged { OnErr result (self.new ≡ self.old) }
+    {
+        self.pool.idle()?;
+        self.agenda.entered(&self.script);
+        self.log.push_spare(Entry {
+            seat,
+            kind: Kind::Idle,
+        });
+        Ok(())
+    }
+
+    /// The driver starts shutdown: from now on only block work is accepted and may start.
+    pub fn start_shutdown(&mut self, seat: SeatNo)
+        requires { IsWantedNext self.old seat Kind.Shutdown }
+        ensures { Enters self.old self.new seat Kind.Shutdown }
+    {
+        self.pool.start_shutdown();
+        self.agenda.entered(&self.script);
+        self.log.push_spare(Entry {
+            seat,
+            kind: Kind::Shutdown,
+        });
+    }
+
+    /// The driver ends shutdown, unless something still blocks it.
+    pub fn try_done(&mut self, seat: SeatNo) -> Result<(), StillBlocked>
+        requires { IsWantedNext self.old seat Kind.Done }
+        ensures ok { IsOk result ↔ (blockers_of self.old.script self.old.history ≡ 0) }
+        ensures blocked { IfErr result (λ blocked. blocked.count ≡ blockers_of self.old.script self.old.history) }
+        ensures enters { OnOk result (Enters self.old self.new seat Kind.Done) }
+        ensures unchanged { OnErr result (self.new ≡ self.old) }
+    {
+        self.pool.try_done()?;
+        self.agenda.entered(&self.script);
+        self.log.push_spare(Entry {
+            seat,
+            kind: Kind::Done,
+        });
+        Ok(())
+    }
+
+    /// The history. What bodies are left are dropped.
+    pub fn into_log(self) -> Rows<Entry>
+        ensures { result.items ≡ self.history }
+    {
+        self.log
+    }
+
+    fn post_by_task(&mut self, seat: SeatNo, task: TaskId, runner: RunnerId, delay: u64) -> bool
+        requires { IsNextAct self.old seat (Act.Post task runner delay) }
+        ensures reply { result ≡ not (is_refused self.old.script self.old.history runner delay) }
+        ensures enters { Enters self.old self.new seat (Kind.Post task runner delay result) }
+    {
+        let ok = self.pool.post(self.log.len() as u32, task, runner, delay);
+        keep_if(ok, &mut self.bodies, task);
+        self.log.push_spare(Entry {
+            seat,
+            kind: Kind::Post {
+                task,
+                runner,
+                delay,
+                ok,
+            },
+        });
+        ok
+    }
+
+    fn enter(&mut self, seat: SeatNo, scope: Scope) -> bool
+        requires { IsNextAct self.old seat (Act.Enter scope) }
+        ensures reply { result ≡ true }
+        ensures enters { EntersAct self.old self.new seat (Act.Enter scope) result }
+    {
+        let task = self.pool.task_of(seat).unwrap();
+        self.pool.enter(seat, scope);
+        self.log.push_spare(Entry {
+            seat,
+            kind: Kind::Enter { task, scope },
+        });
+        true
+    }
+
+    fn leave(&mut self, seat: SeatNo) -> bool
+        requires { IsNextAct self.old seat Act.Leave }
+        ensures reply { result ≡ true }
+        ensures enters { EntersAct self.old self.new seat Act.Leave result }
+    {
+        let task = self.pool.task_of(seat).unwrap();
+        self.pool.leave(seat);
+        self.log.push_spare(Entry {
+            seat,
+            kind: Kind::Leave { task },
+        });
+        true
+    }
+}
+
+// The bodies in a drawer, each in the place of its task. The error is want of memory.
+fn drawer<B: TaskBody>(
+    alloc: Global,
+    bodies: Vec<Box<B>>,
+) -> Result<Vec<Option<Box<B>>>, AllocError>
+    ensures { IfOk result (λ drawer. drawer.items ≡ map Some bodies.items) }
+{
+    let mut drawer = Vec::with_capacity(alloc, bodies.len())?;
+    for body in bodies {
+        drawer.push(Some(body))?;
+    }
+    Ok(drawer)
+}
+
+// Drops the body of a task whose post was refused.
+fn keep_if<B: TaskBody>(ok: bool, bodies: &mut Vec<Option<Box<B>>>, task: TaskId)
+    requires { task < length bodies.old.items }
+    ensures { bodies.new.items ≡ kept_if ok bodies.old.items task }
+{
+    if !ok {
+        bodies[task as usize] = None;
+    }
+}

@@ -1,0 +1,11 @@
+//! One thread's environment: the object that a browser would hold. It owns the bodies of the tasks, the pool and the
+//! history. Contracts see it as the script that is run and the entries so far, which are legal at each moment.
+#![tactic(auto)]
+
+mod agenda;
+mod env;
+
+pub use env::Env;
+
+#[cfg(test)]
+mod tests;
