@@ -79,7 +79,7 @@ completes_is actions.Shutdown made kind pool waits = refl
 completes_is x made kind pool waits = absurd cc
 
 -- the actions from a place on, and the first of them
-place_at : {A : Type 0} (xs : List A) (place : ℕ) (x : A) (rest : List A) → x ∷ rest ≡ drop place xs
+pub place_at : {A : Type 0} (xs : List A) (place : ℕ) (x : A) (rest : List A) → x ∷ rest ≡ drop place xs
     → (slice_get xs place ≡ Some x) × (drop (suc place) xs ≡ rest) × (place < length xs)
 place_at [] zero x rest h = absurd cc
 place_at [] (suc place) x rest h = absurd cc

@@ -8,3 +8,4 @@ pub mod Entries
 pub mod Taking
 pub mod Tested
 pub mod Acts
+pub mod TestedCalls

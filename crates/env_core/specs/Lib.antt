@@ -4,3 +4,4 @@ pub mod Agenda
 pub mod Drawer
 pub mod Holds
 pub mod Calls
+pub mod Played

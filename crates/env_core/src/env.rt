@@ -6,8 +6,10 @@ ghost use Rattle.env_core.specs.Views.{Enters};
 ghost use Rattle.hist_model.specs.Moments.{moment_behind};
 ghost use Rattle.pool_core.specs.Calls.{running_tasks, is_any_ready};
 ghost use Rattle.task_model.specs.Blockers.{blockers_of};
+ghost use Rattle.task_model.specs.Phase.{phase_of};
 ghost use Rattle.task_model.specs.Refusal.{is_refused};
 ghost use Rattle.task_model.specs.Seats.{steps_of};
+ghost use Rattle.task_traits.specs.declared.phase.Phase.TheVariants as phases;
 ghost use Rattle.task_model.specs.Time.{now_of};
 
 use crate::agenda::Agenda;
@@ -214,7 +216,8 @@ impl<B: TaskBody> Env<B> {
     /// The driver starts shutdown: from now on only block work is accepted and may start.
     pub fn start_shutdown(&mut self, seat: SeatNo)
         requires { IsWantedNext self.old seat Kind.Shutdown }
-        ensures { Enters self.old self.new seat Kind.Shutdown }
+        ensures enters { Enters self.old self.new seat Kind.Shutdown }
+        ensures started { phase_of self.new.history ≡ phases.Started }
     {
         self.pool.start_shutdown();
         self.agenda.entered(&self.script);

@@ -1,5 +1,11 @@
 ghost use Rattle.std.specs.Prelude.{◌≡◌, [], ◌∷◌, IfOk, false};
 
+mod bodies;
+mod entries;
+mod lives;
+mod played;
+mod scopes;
+
 use super::*;
 use std::alloc::{AllocError, Global};
 use std::test::Fail;

@@ -3,7 +3,8 @@ use Rattle.env_core.proofs.Entries.{driver_at, enters_is, few_of_action, has_roo
 use Rattle.env_core.proofs.Wanted.{shutdown_allowed, starts_while_running}
 use Rattle.env_core.specs.Calls.{IsWantedNext}
 use Rattle.hist_model.specs.Allowed.{IsAllowed}
-use Rattle.std.proofs.Common.{refl}
+use Rattle.std.proofs.Common.{refl, ◌∙◌}
+use Rattle.task_model.proofs.Growth.{phase_of_push}
 use Rattle.task_base.specs.declared.entry.Entry.{Entry}
 use Rattle.task_base.specs.declared.entry.Kind.TheVariants as kinds
 use Rattle.env_core.proofs.env.Env.start_shutdown.Goals as goal
@@ -42,7 +43,13 @@ invariant_of-self g c =
     (bodies_kept c.self.inside.bodies.items _ _ c.self.inside.script c.self.inside.log.items e (λ t. refl) c.self.invariant.drawer)
     (driver_at c.args.seat kinds.Shutdown c.entered.new.self c.self.invariant wanted c.entered.ensures)
 
-pub returns : goal.returns
-returns g c = rw (← c.self.view_is) (enters_is c.args.seat kinds.Shutdown c.push_spare.new.self c.self.invariant
+pub returns-clause-enters : goal.returns-clause-enters
+returns-clause-enters g c = rw (← c.self.view_is) (enters_is c.args.seat kinds.Shutdown c.push_spare.new.self c.self.invariant
     (shutdown_allowed (record { script = c.self.inside.script; history = c.self.inside.log.items }) c.args.seat (rw c.self.view_is c.requires))
     c.push_spare.ensures.items)
+
+pub returns-clause-started : goal.returns-clause-started
+returns-clause-started g c =
+    let running = starts_while_running c.self.inside.script c.self.inside.log.items c.args.seat c.self.invariant.plan c.self.invariant.legal
+    (shutdown_allowed (record { script = c.self.inside.script; history = c.self.inside.log.items }) c.args.seat (rw c.self.view_is c.requires)) in
+    rw c.push_spare.ensures.items (phase_of_push c.self.inside.log.items (record { seat = c.args.seat; kind = kinds.Shutdown }) ∙ rw running refl)

@@ -1,0 +1,60 @@
+//! Entries of a history, each in one word.
+use task_base::{Entry, Kind, RunnerId, Scope, SeatNo, TaskId};
+
+/// A post, and whether it is accepted.
+pub fn post(seat: SeatNo, task: TaskId, runner: RunnerId, delay: u64, ok: bool) -> Entry {
+    let kind = Kind::Post {
+        task,
+        runner,
+        delay,
+        ok,
+    };
+    Entry { seat, kind }
+}
+
+/// A reading of the clock by the driver.
+pub fn tick(now: u64) -> Entry {
+    Entry {
+        seat: 0,
+        kind: Kind::Tick { now },
+    }
+}
+
+/// A take, with what it finds.
+pub fn take(seat: SeatNo, task: TaskId, runner: RunnerId, found: u64) -> Entry {
+    let kind = Kind::Take {
+        task,
+        runner,
+        found,
+    };
+    Entry { seat, kind }
+}
+
+/// The opening of a blocking scope.
+pub fn block(seat: SeatNo, task: TaskId, scope: Scope) -> Entry {
+    Entry {
+        seat,
+        kind: Kind::Enter { task, scope },
+    }
+}
+
+/// The end of a blocking scope.
+pub fn unblock(seat: SeatNo, task: TaskId) -> Entry {
+    Entry {
+        seat,
+        kind: Kind::Leave { task },
+    }
+}
+
+/// The end of a task, with what it leaves.
+pub fn end(seat: SeatNo, task: TaskId, left: u64) -> Entry {
+    Entry {
+        seat,
+        kind: Kind::End { task, left },
+    }
+}
+
+/// An entry of the driver alone.
+pub fn driver(kind: Kind) -> Entry {
+    Entry { seat: 0, kind }
+}

@@ -1,0 +1,314 @@
+//! An environment with what a test knows of its history, so that a test is a list of calls.
+ghost use Rattle.std.specs.Prelude.{◌≡◌, ◌≤◌, slice_get, slice_set, Some, None, true, false};
+ghost use Rattle.env_core.specs.Built.{IsPoolPlan};
+ghost use Rattle.env_core.specs.Calls.{AreFresh, EntersAct, IsNextAct};
+ghost use Rattle.env_core.specs.Played.{makes_entry};
+ghost use Rattle.task_body.specs.Kinds.{view_of};
+
+use crate::agenda::Agenda;
+use crate::env::Env;
+use crate::tests::bodies::Counted;
+use shutdown_phase::StillBlocked;
+use std::alloc::{AllocError, Global};
+use std::marker::Model;
+use std::process::Abort;
+use task_base::{Action, Entry, NotYet, Rows, Script, SeatNo, TaskId};
+use task_body::{Act, Assignment, Body, Taken};
+
+/// A call of the environment, and its answer. The calls of the driver are those that its script names.
+#[derive(Clone, Copy, Debug)]
+pub enum Call {
+    /// The task, and whether its post is accepted.
+    Post(TaskId, bool),
+    /// The reading of the clock, and the moment that is entered.
+    Tick(u64, u64),
+    Policy,
+    /// The seat, and the task that it takes.
+    Take(SeatNo, Option<TaskId>),
+    /// The seat, for which there will be nothing any more.
+    Over(SeatNo),
+    /// The seat, what the step of its task's body answers, and whether that is let in.
+    Step(SeatNo, Act, bool),
+    /// The seat, whose task has no step left.
+    End(SeatNo),
+    /// How many run, and whether a seat may take more; idle where neither.
+    Idle(u32, bool),
+    Shutdown,
+    /// How much blocks the end of shutdown; it ends where nothing does.
+    Done(u32),
+}
+
+/// An environment, and what a test knows of its history.
+pub struct Played {
+    env: Env<Body<Counted>>,
+    // The script that is run.
+    script: Script,
+    // How far the driver has come.
+    agenda: Agenda,
+    // The assignment of each seat.
+    seats: Vec<Option<Assignment<Body<Counted>>>>,
+}
+
+impl Model for Played {
+    ghost use Rattle.env_core.specs.Played.{IsPlayed};
+    ghost use Rattle.env_core.specs.Views.{EnvView};
+
+    ghost Value = { EnvView };
+
+    ghost view = { λ p. p.env };
+
+    ghost invariant = { λ p. IsPlayed p.env p.script p.agenda p.seats.items };
+}
+
+impl Played {
+    /// The environment of a script of two workers, with these bodies.
+    pub fn open(
+        alloc: Global,
+        script: Script,
+        bodies: Vec<Box<Body<Counted>>>,
+    ) -> Result<Played, AllocError>
+        requires plan { IsPoolPlan script }
+        requires two { script.workers ≡ 2 }
+        requires bodies { AreFresh bodies.items (λ body. (view_of body.value).whole) (λ body. (view_of body.value).rest) script }
+    {
+        let copied = script.copy(alloc)?;
+        let env = Env::open(alloc, copied, bodies)?;
+        let mut seats = Vec::with_capacity(alloc, 3)?;
+        seats.push_reserved(None);
+        seats.push_reserved(None);
+        seats.push_reserved(None);
+        Ok(Played {
+            env,
+            script,
+            agenda: Agenda { place: 0, made: 0 },
+            seats,
+        })
+    }
+
+    /// Makes these calls, and compares their answers.
+    pub fn play(&mut self, rt: &impl Abort, calls: &[Call]) {
+        for (at, call) in calls.iter().enumerate() {
+            self.call(rt, at, *call);
+        }
+    }
+
+    fn call(&mut self, rt: &impl Abort, at: usize, call: Call) {
+        match call {
+            Call::Post(task, accepted) => {
+                assert_eq!(rt; self.post(rt), (task, accepted), "call {at}");
+            }
+            Call::Tick(reading, moment) => {
+                assert_eq!(rt; self.tick(rt, reading), moment, "call {at}");
+            }
+            Call::Policy => self.policy(rt),
+            Call::Take(seat, task) => {
+                assert_eq!(rt; self.take(rt, seat), Some(task), "call {at}");
+            }
+            Call::Over(seat) => {
+                assert_eq!(rt; self.take(rt, seat), None, "call {at}");
+            }
+            Call::Step(seat, act, let_in) => {
+                assert_eq!(rt; self.step(rt, seat), (act, let_in), "call {at}");
+            }
+            Call::End(seat) => self.end(rt, seat),
+            Call::Idle(running, ready) => {
+                let idle = if running > 0 || ready {
+                    Err(NotYet { running, ready })
+                } else {
+                    Ok(())
+                };
+                assert_eq!(rt; self.try_idle(rt), idle, "call {at}");
+            }
+            Call::Shutdown => self.start_shutdown(rt),
+            Call::Done(count) => {
+                let done = if count > 0 {
+                    Err(StillBlocked { count })
+                } else {
+                    Ok(())
+                };
+                assert_eq!(rt; self.try_done(rt), done, "call {at}");
+            }
+        }
+    }
+
+    /// The driver posts the next task, and says which and whether it was accepted.
+    pub fn post(&mut self, rt: &impl Abort) -> (TaskId, bool) {
+        let Action::Post {
+            task,
+            runner,
+            delay,
+        } = action_at(rt, &self.script, self.agenda)
+        else {
+            panic!(rt; "the script wants no post")
+        };
+        let accepted = self.env.post(0, task, runner, delay);
+        self.agenda.entered(&self.script);
+        (task, accepted)
+    }
+
+    /// The driver reads the clock.
+    pub fn tick(&mut self, rt: &impl Abort, reading: u64) -> u64 {
+        let Action::Tick { .. } = action_at(rt, &self.script, self.agenda) else {
+            panic!(rt; "the script wants no tick")
+        };
+        let moment = self.env.tick(0, reading);
+        self.agenda.entered(&self.script);
+        moment
+    }
+
+    /// The driver puts the next policy in force.
+    pub fn policy(&mut self, rt: &impl Abort) {
+        let Action::Policy { policy } = action_at(rt, &self.script, self.agenda) else {
+            panic!(rt; "the script wants no policy")
+        };
+        self.env.policy(0, policy);
+        self.agenda.entered(&self.script);
+    }
+
+    /// A seat that has no assignment takes one: its task, or none; nothing where there will be none any more.
+    pub fn take(&mut self, rt: &impl Abort, seat: SeatNo) -> Option<Option<TaskId>> {
+        assert_free(rt, &self.seats, seat);
+        match self.env.take(seat) {
+            Taken::Task(work) => {
+                let task = work.task();
+                put(rt, &mut self.seats, seat, work);
+                Some(Some(task))
+            }
+            Taken::Nothing => Some(None),
+            Taken::Over => None,
+        }
+    }
+
+    /// One step of a seat's task, which is entered if it is an act: what the body answers, and whether it is let in.
+    pub fn step(&mut self, rt: &impl Abort, seat: SeatNo) -> (Act, bool) {
+        let mut work = lift(rt, &mut self.seats, seat);
+        let act = work.step();
+        let let_in = enter(&mut self.env, seat, act);
+        put(rt, &mut self.seats, seat, work);
+        (act, let_in)
+    }
+
+    /// A seat ends its task, which has no step left.
+    pub fn end(&mut self, rt: &impl Abort, seat: SeatNo) {
+        let mut work = lift(rt, &mut self.seats, seat);
+        let Act::Finished = work.step() else {
+            panic!(rt; "seat {seat} has more steps")
+        };
+        self.env.end(seat, work);
+    }
+
+    /// The driver goes on where the pool is idle.
+    pub fn try_idle(&mut self, rt: &impl Abort) -> Result<(), NotYet> {
+        let Action::Flush = action_at(rt, &self.script, self.agenda) else {
+            panic!(rt; "the script does not wait")
+        };
+        self.env.try_idle(0)?;
+        self.agenda.entered(&self.script);
+        Ok(())
+    }
+
+    /// The driver starts shutdown.
+    pub fn start_shutdown(&mut self, rt: &impl Abort) {
+        let Action::Shutdown = action_at(rt, &self.script, self.agenda) else {
+            panic!(rt; "the script wants no shutdown")
+        };
+        assert!(rt; self.agenda.made == 0);
+        self.env.start_shutdown(0);
+        self.agenda.entered(&self.script);
+    }
+
+    /// The driver ends shutdown, unless something still blocks it.
+    pub fn try_done(&mut self, rt: &impl Abort) -> Result<(), StillBlocked> {
+        let Action::Shutdown = action_at(rt, &self.script, self.agenda) else {
+            panic!(rt; "the script wants no end of shutdown")
+        };
+        assert!(rt; self.agenda.made == 1);
+        self.env.try_done(0)?;
+        self.agenda.entered(&self.script);
+        Ok(())
+    }
+
+    /// The history. No seat has an assignment, and what bodies are left are dropped.
+    pub fn into_log(self, rt: &impl Abort) -> Rows<Entry> {
+        let Played {
+            env,
+            script: _,
+            agenda: _,
+            mut seats,
+        } = self;
+        while let Some(slot) = seats.pop() {
+            match slot {
+                None => {}
+                Some(_work) => panic!(rt; "a task is under way"),
+            }
+        }
+        seats.destroy_empty();
+        env.into_log()
+    }
+}
+
+// The action that the driver is at.
+fn action_at(rt: &impl Abort, script: &Script, agenda: Agenda) -> Action
+    ensures { slice_get script.now.actions agenda.place ≡ Some result }
+{
+    let Some(action) = script.actions.at(agenda.place) else {
+        panic!(rt; "the script is finished")
+    };
+    *action
+}
+
+// Enters an act, if it is one that makes an entry, and says whether it is let in.
+fn enter(env: &mut Env<Body<Counted>>, seat: SeatNo, act: Act) -> bool
+    requires { makes_entry act ≡ true → IsNextAct env.old seat act }
+    ensures entered { makes_entry act ≡ true → EntersAct env.old env.new seat act result }
+    ensures kept { makes_entry act ≡ false → env.new ≡ env.old }
+{
+    match act {
+        Act::Did(_) | Act::Finished => true,
+        Act::Post { .. } | Act::Main { .. } | Act::Enter(_) | Act::Leave => env.act(seat, act),
+    }
+}
+
+// The seat is that of a worker, and has no assignment.
+fn assert_free(rt: &impl Abort, seats: &Vec<Option<Assignment<Body<Counted>>>>, seat: SeatNo)
+    ensures worker { 1 ≤ seat }
+    ensures free { slice_get seats.now.items seat ≡ Some None }
+{
+    assert!(rt; seat >= 1);
+    assert!(rt; (seat as usize) < seats.len());
+    assert!(rt; seats[seat as usize].is_none());
+}
+
+// Takes the assignment of a seat out of the table.
+fn lift(
+    rt: &impl Abort,
+    seats: &mut Vec<Option<Assignment<Body<Counted>>>>,
+    seat: SeatNo,
+) -> Assignment<Body<Counted>>
+    ensures worker { 1 ≤ seat }
+    ensures here { slice_get seats.old.items seat ≡ Some (Some result) }
+    ensures taken { seats.new.items ≡ slice_set seats.old.items seat None }
+{
+    assert!(rt; seat >= 1);
+    assert!(rt; (seat as usize) < seats.len());
+    match seats[seat as usize].take() {
+        Some(work) => work,
+        None => panic!(rt; "seat {seat} runs nothing"),
+    }
+}
+
+// Puts the assignment of a seat that has none into the table.
+fn put(
+    rt: &impl Abort,
+    seats: &mut Vec<Option<Assignment<Body<Counted>>>>,
+    seat: SeatNo,
+    work: Assignment<Body<Counted>>,
+)
+    ensures { seats.new.items ≡ slice_set seats.old.items seat (Some work) }
+{
+    assert!(rt; (seat as usize) < seats.len());
+    match seats[seat as usize].replace(work) {
+        None => {}
+        Some(_work) => panic!(rt; "seat {seat} has an assignment"),
+    }
+}
