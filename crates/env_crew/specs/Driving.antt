@@ -1,0 +1,38 @@
+-- What the driver does at its desk, and what becomes of the desks that it serves while it waits.
+use Rattle.std.specs.Prelude.{◌≡◌, ℕ, ◌+◌, List, length, slice_get, Option, Some}
+use Rattle.task_base.specs.declared.script.Action.{Action}
+use Rattle.task_base.specs.declared.entry.Entry.{Entry}
+use Rattle.task_base.specs.declared.entry.Kind.{Kind}
+use Rattle.hist_model.specs.Moments.{moments_of, ticks_of}
+use Rattle.hist_model.specs.Laws.Agenda.{agenda, agenda_from}
+use Rattle.env_io.specs.Readings.{BeginsWith}
+use Rattle.env_core.specs.Calls.{IsWantedNext}
+use Rattle.env_crew.specs.Desk.{DeskView, IsLater, as_seen, mine}
+use Rattle.env_crew.specs.Serving.{IsFree}
+
+-- the desk is the driver's, and the script wants an entry of this kind of it next
+abbrev pub IsWanted : DeskView → Kind → Type 0
+IsWanted d kind = IsWantedNext (as_seen d) d.seat kind
+
+-- these actions are left to the driver, and the first of them has made these entries
+unfoldable pub IsAt : DeskView → List Action → List Entry → Type 0
+IsAt d actions made = agenda d.script (mine d) ≡ agenda_from actions made
+
+-- the ticks are the moments of as many first readings, where those are told
+abbrev pub HasMomentsOf : (ℕ → Option ℕ) → List Entry → Type 0
+HasMomentsOf told log = (readings : List ℕ) → BeginsWith told readings → length readings ≡ length (ticks_of log) → ticks_of log ≡ moments_of readings
+
+-- of a clock that told these readings at the start: the ticks among the driver's entries are their moments, and what it tells
+-- now comes behind those
+pub record KeepsTime (told now : ℕ → Option ℕ) (log : List Entry) : Type 0 where
+  pub moments : HasMomentsOf told log
+  pub behind : (k : ℕ) → now k ≡ told (length (ticks_of log) + k)
+
+-- each of the desks is a worker's that runs nothing
+abbrev pub AllFree : {D : Type 0} → (D → DeskView) → List D → Type 0
+AllFree {D} desk desks = (i : ℕ) (d : D) → slice_get desks i ≡ Some d → IsFree (desk d)
+
+-- the same desks in the same order, now or later
+pub record SameDesks {D : Type 0} (desk : D → DeskView) (old new : List D) : Type 0 where
+  pub as_many : length new ≡ length old
+  pub each : (i : ℕ) (a b : D) → slice_get old i ≡ Some a → slice_get new i ≡ Some b → IsLater (desk a) (desk b)

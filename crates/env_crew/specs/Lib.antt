@@ -1,0 +1,4 @@
+pub mod Desk
+pub mod Calls
+pub mod Serving
+pub mod Driving

@@ -1,0 +1,16 @@
+//! Workers and the driver, as functions over a desk: one seat of an environment that many threads share. Each call of a
+//! desk takes the turn, makes at most one entry, and gives the turn back. What is proved here holds of every kind of desk.
+#![tactic(auto)]
+
+mod assigned;
+mod desk;
+mod driver;
+mod worker;
+
+pub use assigned::Assigned;
+pub use desk::{Desk, Given};
+pub use driver::drive;
+pub use worker::{Served, serve, work};
+
+#[cfg(test)]
+mod tests;

@@ -1,0 +1,69 @@
+ghost use Rattle.std.specs.Prelude.{◌≡◌, ◌<◌, true};
+ghost use Rattle.hist_model.specs.Script.{is_finished};
+ghost use Rattle.env_crew.specs.Desk.{IsLater};
+ghost use Rattle.env_crew.specs.Serving.{HasServed, IsFree};
+
+use crate::assigned::Assigned;
+use crate::desk::{Desk, Given};
+use crossbeam_utils::Backoff;
+use env_io::Gate;
+use std::sync::Wait;
+use task_body::Act;
+
+/// What a worker did when it was served once.
+#[derive(Clone, Copy, Debug, PartialEq, Eq)]
+pub enum Served {
+    /// It took a task and did all of its work.
+    Worked,
+    /// There was nothing that it might take.
+    Nothing,
+    /// There was nothing, and there will be nothing any more.
+    Over,
+}
+
+/// Has a worker take a task and do all of its work: one round of the loop of `worker_thread.h`. The gate is passed
+/// between the take and the first step. It may wait at each of its calls, for the turn alone.
+pub fn serve<D: Desk, G: Gate, R: Wait>(rt: &R, desk: &mut D, gate: &G) -> Served
+    requires free { IsFree (D.desk desk.old) }
+    ensures free { IsFree (D.desk desk.new) }
+    ensures later { IsLater (D.desk desk.old) (D.desk desk.new) }
+    ensures turned { (D.desk desk.old).turns < (D.desk desk.new).turns }
+    ensures served { HasServed (D.desk desk.old) (D.desk desk.new) result }
+{
+    let mut work = match desk.take(rt) {
+        Given::Task(work) => work,
+        Given::Nothing => return Served::Nothing,
+        Given::Over => return Served::Over,
+    };
+    gate.before(desk.number(), work.task());
+    loop {
+        match work.step() {
+            Act::Did(_) => {}
+            Act::Finished => break,
+            act => {
+                desk.act(rt, act);
+            }
+        }
+    }
+    desk.end(rt, work);
+    Served::Worked
+}
+
+/// What a worker's thread does (`WorkerThread::RunWorker` of `worker_thread.h`): it serves until there will be nothing
+/// any more. Where there is nothing for now it waits a little, longer each time.
+pub fn work<D: Desk, G: Gate, R: Wait>(rt: &R, desk: &mut D, gate: &G)
+    requires free { IsFree (D.desk desk.old) }
+    ensures free { IsFree (D.desk desk.new) }
+    ensures later { IsLater (D.desk desk.old) (D.desk desk.new) }
+    ensures finished { is_finished (D.desk desk.new).script (D.desk desk.new).seen ≡ true }
+{
+    let backoff = Backoff::new();
+    for _ in rt.forever() {
+        match serve(rt, desk, gate) {
+            Served::Worked => backoff.reset(),
+            Served::Nothing => backoff.snooze(),
+            Served::Over => return,
+        }
+    }
+    unreachable!()
+}
