@@ -27,12 +27,12 @@ apart s zero three five (inr (inr h)) = absurd (five h)
 abbrev ended : Fault → Result (Unit {0}) Fault
 ended fault = Err fault
 
-pub cause_of_fault : (command : Option Command) (source sink : Ends) (fault : Fault) → RunsTo command source sink (Err fault)
+pub cause_of_fault : (command : Option Command) (told : ℕ → Option ℕ) (source sink : Ends) (fault : Fault) → RunsTo command told source sink (Err fault)
     → (ended fault ≢ ended ReadFault → IsSteady source) → (ended fault ≢ ended WriteFault → IsSteady sink)
     → (ended fault ≡ ended TooLarge → TookMore source) → (ended fault ≢ ended TooLarge → TookWithin source)
-    → HasCause command source sink (status_of fault)
-cause_of_fault command source sink (NotLegal line) never source_steady sink_steady more within = absurd never
-cause_of_fault command source sink BadWords runs source_steady sink_steady more within = record {
+    → HasCause command told source sink (status_of fault)
+cause_of_fault command told source sink (NotLegal line) never source_steady sink_steady more within = absurd never
+cause_of_fault command told source sink BadWords runs source_steady sink_steady more within = record {
   known = (omega arith, λ e. absurd (omega arith));
   bad_words = λ e. runs;
   no_command = λ none. inl refl;
@@ -50,7 +50,7 @@ cause_of_fault command source sink BadWords runs source_steady sink_steady more 
   large = λ there. absurd (some_not_none command there runs);
   good_input = λ there. absurd (some_not_none command there runs);
 }
-cause_of_fault command source sink (BadScript line reason) runs source_steady sink_steady more within = record {
+cause_of_fault command told source sink (BadScript line reason) runs source_steady sink_steady more within = record {
   known = (omega arith, λ e. absurd (omega arith));
   bad_words = λ e. absurd (omega arith);
   no_command = λ none. absurd (some_not_none command runs.0 none);
@@ -71,7 +71,7 @@ cause_of_fault command source sink (BadScript line reason) runs source_steady si
       let good = built_fault bytes script reads built in
       absurd cc;
 }
-cause_of_fault command source sink ReadFault runs source_steady sink_steady more within = record {
+cause_of_fault command told source sink ReadFault runs source_steady sink_steady more within = record {
   known = (omega arith, λ e. absurd (omega arith));
   bad_words = λ e. absurd (omega arith);
   no_command = λ none. absurd (some_not_none command runs.0 none);
@@ -89,7 +89,7 @@ cause_of_fault command source sink ReadFault runs source_steady sink_steady more
   large = λ there bytes told many. inl refl;
   good_input = λ there bytes told script few reads built calm quiet. absurd (calm runs.1);
 }
-cause_of_fault command source sink WriteFault runs source_steady sink_steady more within = record {
+cause_of_fault command told source sink WriteFault runs source_steady sink_steady more within = record {
   known = (omega arith, λ e. absurd (omega arith));
   bad_words = λ e. absurd (omega arith);
   no_command = λ none. absurd (some_not_none command runs.0 none);
@@ -107,7 +107,7 @@ cause_of_fault command source sink WriteFault runs source_steady sink_steady mor
   large = λ there bytes told many. let few = (runs.3 bytes told).0 in absurd (omega arith);
   good_input = λ there bytes told script few reads built calm quiet. absurd (quiet runs.2);
 }
-cause_of_fault command source sink (NoMemory error) runs source_steady sink_steady more within = record {
+cause_of_fault command told source sink (NoMemory error) runs source_steady sink_steady more within = record {
   known = (omega arith, λ e. absurd (omega arith));
   bad_words = λ e. absurd (omega arith);
   no_command = λ none. inr refl;
@@ -125,7 +125,7 @@ cause_of_fault command source sink (NoMemory error) runs source_steady sink_stea
   large = λ there bytes told many. inr (inl refl);
   good_input = λ there bytes told script few reads built calm quiet. inr refl;
 }
-cause_of_fault command source sink TooLarge runs source_steady sink_steady more within = record {
+cause_of_fault command told source sink TooLarge runs source_steady sink_steady more within = record {
   known = (omega arith, λ e. absurd (omega arith));
   bad_words = λ e. absurd (omega arith);
   no_command = λ none. absurd (some_not_none command runs.0 none);

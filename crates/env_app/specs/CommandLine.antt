@@ -81,3 +81,8 @@ command_of words = command_unless (fault_of taskenv words) (matches_of taskenv w
 abbrev pub asks_json : Option Command → Bool
 asks_json None = false
 asks_json (Some command) = command.json
+
+-- the command asks for readings this far apart
+abbrev pub asks_step : Option Command → Option ℕ
+asks_step None = None
+asks_step (Some command) = command.step

@@ -1,5 +1,4 @@
-pub mod Wants
 pub mod Built
-pub mod Engine
 pub mod CommandLine
+pub mod Turns
 pub mod Outcome

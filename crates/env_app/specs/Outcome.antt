@@ -13,21 +13,25 @@ use Rattle.script_model.specs.Grammar.{Reads, script_read}
 use Rattle.log_model.specs.LogText.{log_json, log_text}
 use Rattle.hist_model.specs.Legal.{IsLegal}
 use Rattle.hist_model.specs.Script.{IsWhole}
-use Rattle.env_app.specs.Built.{is_built, IsRunnable}
+use Rattle.env_core.specs.Built.{IsPoolPlan}
+use Rattle.env_app.specs.Built.{is_built}
 use Rattle.env_app.specs.declared.words.Command.{Command}
-use Rattle.env_app.specs.CommandLine.{asks_json}
+use Rattle.env_app.specs.CommandLine.{asks_json, asks_step}
+use Rattle.env_app.specs.Turns.{HasMomentsOf, readings_of}
 
 -- what a run writes of its log: its text, or its JSON form and a line feed
 abbrev pub output_of : Bool → List Entry → List ℕ
 output_of json log = if json then log_json log ++ codes "\n" else log_text log
 
--- the bytes are a script, and this holds of what a run writes of one legal, whole history of it
-pub record HasRun (bytes : List ℕ) (json : Bool) (Written : List ℕ → Type 0) : Type 0 where
+-- the bytes are a script, and this holds of what a run writes of one legal, whole history of it, whose ticks are the moments of
+-- these readings
+pub record HasRun (bytes : List ℕ) (json : Bool) (told : ℕ → Option ℕ) (Written : List ℕ → Type 0) : Type 0 where
   pub script : Plan
   pub log : List Entry
   pub reads : Reads bytes script
   pub legal : IsLegal script log
   pub whole : IsWhole script log
+  pub moments : HasMomentsOf told log
   pub written : Written (output_of json log)
 
 -- the fault of a script that was read, or of its first bad line: that one's number and reason, or line 0 and its own reason
@@ -88,7 +92,7 @@ IsSteady side = side.faults_after ≡ side.faults_before
 
 -- what the answer of reading a script says
 abbrev pub LoadsScript : Ends → Result Plan Fault → Type 0
-LoadsScript source (Ok script) = IsReadToEnd source × IsRunnable script
+LoadsScript source (Ok script) = IsReadToEnd source × IsPoolPlan script
     × OfBytes source (λ bytes. IsWithin bytes × Reads bytes script × (script_fault bytes ≡ None))
 LoadsScript source (Err (BadScript line reason)) = IsReadToEnd source × OfBytes source (λ bytes. IsWithin bytes × (script_fault bytes ≡ Some (line, reason)))
 LoadsScript source (Err ReadFault) = Failed source
@@ -99,24 +103,25 @@ LoadsScript source (Err BadWords) = ⊥
 LoadsScript source (Err WriteFault) = ⊥
 
 -- the bytes are a script that runs today, and this much of what the command writes of its history was written
-abbrev pub Wrote : Option Command → (Option (List ℕ) → Option (List ℕ) → List ℕ → Type 0) → Ends → Ends → Type 0
-Wrote command How source sink =
-    OfBytes source (λ bytes. IsWithin bytes × HasRun bytes (asks_json command) (How sink.before sink.after) × (script_fault bytes ≡ None))
+abbrev pub Wrote : Option Command → (ℕ → Option ℕ) → (Option (List ℕ) → Option (List ℕ) → List ℕ → Type 0) → Ends → Ends → Type 0
+Wrote command told How source sink = OfBytes source (λ bytes. IsWithin bytes
+    × HasRun bytes (asks_json command) (readings_of (asks_step command) told) (How sink.before sink.after) × (script_fault bytes ≡ None))
 
--- what the answer of a run says: its words are a command or none, and its source and its sink were left so
-abbrev pub RunsTo : Option Command → Ends → Ends → Result (Unit {0}) Fault → Type 0
-RunsTo command source sink (Ok done) = IsSome command × IsReadToEnd source × Wrote command WroteAll source sink
-RunsTo command source sink (Err BadWords) = command ≡ None
-RunsTo command source sink (Err WriteFault) = IsSome command × IsReadToEnd source × Failed sink × Wrote command WroteFront source sink
-RunsTo command source sink (Err (BadScript line reason)) = IsSome command × IsReadToEnd source
+-- what the answer of a run says: its words are a command or none, its clock told these readings, and its source and its sink
+-- were left so
+abbrev pub RunsTo : Option Command → (ℕ → Option ℕ) → Ends → Ends → Result (Unit {0}) Fault → Type 0
+RunsTo command told source sink (Ok done) = IsSome command × IsReadToEnd source × Wrote command told WroteAll source sink
+RunsTo command told source sink (Err BadWords) = command ≡ None
+RunsTo command told source sink (Err WriteFault) = IsSome command × IsReadToEnd source × Failed sink × Wrote command told WroteFront source sink
+RunsTo command told source sink (Err (BadScript line reason)) = IsSome command × IsReadToEnd source
     × OfBytes source (λ bytes. IsWithin bytes × (script_fault bytes ≡ Some (line, reason)))
-RunsTo command source sink (Err ReadFault) = IsSome command × Failed source
-RunsTo command source sink (Err TooLarge) = IsSome command × OfBytes source (λ bytes. MOST_BYTES < length bytes)
-RunsTo command source sink (Err (NoMemory error)) = Unit {0}
-RunsTo command source sink (Err (NotLegal line)) = ⊥
+RunsTo command told source sink (Err ReadFault) = IsSome command × Failed source
+RunsTo command told source sink (Err TooLarge) = IsSome command × OfBytes source (λ bytes. MOST_BYTES < length bytes)
+RunsTo command told source sink (Err (NoMemory error)) = Unit {0}
+RunsTo command told source sink (Err (NotLegal line)) = ⊥
 
 -- each status has its cause
-pub record HasCause (command : Option Command) (source sink : Ends) (status : ℕ) : Type 0 where
+pub record HasCause (command : Option Command) (told : ℕ → Option ℕ) (source sink : Ends) (status : ℕ) : Type 0 where
   -- 1 is never answered, and nothing above 7
   pub known : (status ≤ 7) × (status ≢ 1)
   -- 2 comes only where the words are no command
@@ -126,7 +131,7 @@ pub record HasCause (command : Option Command) (source sink : Ends) (status : �
   -- under 0, 3 and 5 the source was read to its end
   pub read_to_end : (status ≡ 0) ⊎ (status ≡ 3) ⊎ (status ≡ 5) → IsReadToEnd source
   -- under 0 the whole of what the command writes of the run's history was written
-  pub done : status ≡ 0 → Wrote command WroteAll source sink
+  pub done : status ≡ 0 → Wrote command told WroteAll source sink
   -- 3 comes only where the bytes, within the limit, have a fault as a script: the grammar gives none, or one that does not
   -- run today
   pub bad_script : status ≡ 3 → OfBytes source (λ bytes. IsWithin bytes × IsSome (script_fault bytes))
@@ -135,7 +140,7 @@ pub record HasCause (command : Option Command) (source sink : Ends) (status : �
   -- 4 comes only where the source failed
   pub read_fault : status ≡ 4 → Failed source
   -- 5 comes only where the sink failed, and a front of what the command writes was written
-  pub write_fault : status ≡ 5 → Failed sink × Wrote command WroteFront source sink
+  pub write_fault : status ≡ 5 → Failed sink × Wrote command told WroteFront source sink
   -- under every status but 4 the source did not fail once, and under every one but 5 the sink did not
   pub source_steady : status ≢ 4 → IsSteady source
   pub sink_steady : status ≢ 5 → IsSteady sink

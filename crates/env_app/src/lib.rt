@@ -4,12 +4,14 @@
 //! has left, the bytes that the sink and the notes hold, and the count of failures of each.
 #![tactic(auto)]
 
+mod bodies;
 mod built;
-mod engine;
+mod drive;
 mod input;
 mod load;
 mod notes;
 mod run;
+mod serve;
 mod words;
 mod written;
 

@@ -22,7 +22,7 @@ pub enum Mode {
 pub struct Command {
     /// What to do.
     pub mode: Mode,
-    /// How many microseconds each reading of the clock is behind the one before it. Nothing reads the clock yet.
+    /// How many microseconds each reading is behind the one before it, in place of what the clock reads.
     pub step: Option<u64>,
     /// Whether the log is written as JSON, and not as text.
     pub json: bool,
