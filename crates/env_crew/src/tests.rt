@@ -4,7 +4,7 @@ ghost use Rattle.hist_model.specs.Legal.{IsLegal};
 
 use super::*;
 use env_core::Env;
-use env_io::{OpenGate, StepClock};
+use env_io::{HoldGate, OpenGate, StepClock};
 use shutdown_phase::StillBlocked;
 use std::alloc::{AllocError, Global};
 use std::marker::Model;
@@ -237,7 +237,10 @@ fn worker_serves_a_task(rt: HostRuntime) -> Result<(), Fail> {
     let mut env = Env::open(rt.alloc(), script, vec![in rt.alloc(); body]?)?;
     assert!(rt; env.post(0, 0, 0, 0));
     let mut worker = seated(env, 1);
-    assert_eq!(rt; serve(&rt, &mut worker, &OpenGate), Served::Worked);
+    // The gate tells that the task passed it, since no other one does.
+    let gate = HoldGate::new(0, 1, 0);
+    assert_eq!(rt; serve(&rt, &mut worker, &gate), Served::Worked);
+    assert!(rt; gate.failed());
     let entries = [
         (
             0,

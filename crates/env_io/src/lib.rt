@@ -17,7 +17,7 @@ mod source;
 
 pub use clock::{Clock, ListClock, StepClock};
 pub use failed::Failed;
-pub use gate::{Gate, OpenGate};
+pub use gate::{Gate, HoldGate, OpenGate};
 pub use real::{RealClock, StdSink, StdSource};
 pub use sink::{CountSink, MemSink, Sink, put_all};
 pub use source::{MemSource, Source, SureSource};

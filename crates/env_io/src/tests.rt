@@ -19,8 +19,8 @@ fn now<C: Clock>(clock: &mut C) -> u64 {
     clock.now()
 }
 
-fn before<G: Gate>(gate: &G) {
-    gate.before(1, 2)
+fn before<G: Gate>(gate: &G, task: u32) {
+    gate.before(1, task)
 }
 
 #[test]
@@ -88,7 +88,31 @@ fn count_sink_counts(rt: HostRuntime) {
 
 #[test]
 fn open_gate_returns(_rt: HostRuntime) {
-    before(&OpenGate)
+    before(&OpenGate, 2)
+}
+
+#[test]
+fn hold_gate_fails_where_the_other_task_never_passed(rt: HostRuntime) {
+    let gate = HoldGate::new(0, 1, 1_000);
+    assert!(rt; !gate.failed());
+    before(&gate, 2);
+    assert!(rt; !gate.failed());
+    before(&gate, 0);
+    assert!(rt; gate.failed());
+    before(&gate, 1);
+    assert!(rt; gate.failed());
+}
+
+#[test]
+fn hold_gate_lets_go_once_the_other_task_passed(rt: HostRuntime) {
+    let gate = HoldGate::new(0, 1, 1_000);
+    before(&gate, 1);
+    before(&gate, 0);
+    assert!(rt; !gate.failed());
+    let blind = HoldGate::new(0, 1, 0);
+    before(&blind, 1);
+    before(&blind, 0);
+    assert!(rt; blind.failed());
 }
 
 // Calls of the outside, of which the second fails, and the third takes or gives nothing.
