@@ -134,7 +134,7 @@ module _ {V : Type 0} (history : V → List Entry) (basis_of : V → Plan) (basi
         tt,
         after s h here h.front found new (word s h here) h.shutdown (λ j w x. x)
             (retold s h here h.front new k k.told k.begins (me.0.loads + 1) found refl),
-        (record { none = λ _. (untold me.0.told refl, refl); same = λ ne. absurd (ne is); begins = λ ne. absurd (ne is); stands = λ ne. absurd (ne is) }, refl),
+        (record { none = λ _. (untold me.0.told refl, refl); same = λ ne. absurd (ne is); begins = λ ne. absurd (ne is); stands = λ ne. absurd (ne is); own = λ ne. absurd (ne is) }, refl),
       )
         where
           new : View
@@ -157,6 +157,7 @@ module _ {V : Type 0} (history : V → List Entry) (basis_of : V → Plan) (basi
             same = λ _. refl;
             begins = λ _. k.begins;
             stands = λ _. subst (λ p. IsShutdownAt h.log (p - 1)) (sym (word s h here)) (h.shutdown set_already);
+            own = λ _. k.own;
           },
           refl,
         ),

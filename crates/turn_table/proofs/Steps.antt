@@ -1,10 +1,12 @@
 -- Making, drawing a number and looking keep what holds of the turn.
-use Rattle.std.proofs.Common.{◌≡◌, ℕ, zero, suc, ◌+◌, ◌*◌, ◌/◌, ◌%◌, ◌^◌, ◌<◌, ◌≤◌, Bool, true, false, List, [], ◌∷◌, length, set, get_or, refl, sym, ap, subst, ◌∙◌, append-nil, eq-zero-or-pos, ⊎_elim, arith, Option, Some}
+use Rattle.std.proofs.Common.{◌≡◌, ℕ, zero, suc, ◌+◌, ◌*◌, ◌/◌, ◌%◌, ◌^◌, ◌<◌, ◌≤◌, Bool, true, false, List, [], ◌∷◌, ◌++◌, eqb, length, set, get_or, refl, sym, ap, subst, ◌∙◌, append-nil, eq-zero-or-pos, ⊎_elim, arith, Option, Some}
 use mathlib.Core.Option.{some, some-injective, some-ne-none}
 use lib.ListN.{get_elem?}
 use Rattle.atomic_table.specs.Table.{Me, keeps, stepped, Allows, opening}
 use Rattle.task_base.specs.Plan.{Plan}
 use Rattle.task_base.specs.declared.entry.Entry.{Entry}
+use Rattle.std.proofs.lemmas.List.Elements.{filter-append}
+use Rattle.hist_model.specs.Views.{own_entries}
 use Rattle.hist_model.proofs.Laws.Legal.{nothing_is_legal}
 use Rattle.turn_table.specs.Places.{not_given, at}
 use Rattle.turn_table.specs.Turn.{held_bit, SeatFits, TurnHolds}
@@ -17,6 +19,11 @@ use Rattle.turn_table.proofs.Others.{after_draw}
 first_not_made : (n : ℕ) → 1 ≤ n → first_place n ≡ not_given
 first_not_made zero le = absurd (omega (arith, le))
 first_not_made (suc n) le = refl
+
+-- the front of nothing is nothing
+no_front : (xs ys : List Entry) → xs ++ ys ≡ [] → xs ≡ []
+no_front [] ys is = refl
+no_front (x ∷ xs) ys is = absurd cc
 
 -- a number plus one does not wrap
 pub no_wrap : (n : ℕ) → n < 4294967296 → (n + 1) % 2 ^ 64 ≡ n + 1
@@ -68,7 +75,7 @@ module _ {V : Type 0} (history : V → List Entry) (basis_of : V → Plan) where
     -- seat 0 draws a number
     pub draws : me.0.number ≡ 0 → me.0.made < 4294967295
         → Allows (TurnHolds history basis_of basis) slots id me 1 (λ n. (n + 1) % 2 ^ 64) (drew me)
-    draws first room s h wide here small = (with_draw me.0, keeps, tt, after, (word ∙ sym (mine.made_is first), subst (λ n. 0 < n) (sym word) some, refl))
+    draws first room s h wide here small = (with_draw me.0, keeps, tt, after, (word ∙ sym (mine.made_is first), subst (λ n. 0 < n) (sym word) some, refl, unseen))
       where
         mine : SeatFits basis h.log h.made h.front h.held h.holder h.place id me.0
         mine = h.seats id me.0 here live
@@ -85,6 +92,12 @@ module _ {V : Type 0} (history : V → List Entry) (basis_of : V → Plan) where
             let given : h.place 0 ≡ at id = ap h.place (sym first) ∙ mine.placed in
             let not : h.place 0 ≡ not_given = h.not_made 0 (omega (arith, none)) in
             absurd cc) (λ (some : 0 < h.made). some) (eq-zero-or-pos h.made)
+
+        -- the next number is given to no seat, so no entry has it
+        unseen : own_entries me.0.made me.0.seen ≡ []
+        unseen = no_front (own_entries me.0.made me.0.seen) (own_entries me.0.made mine.begins.0)
+            (sym (filter-append (λ e. eqb e.seat me.0.made) me.0.seen mine.begins.0) ∙ ap (own_entries me.0.made) (sym mine.begins.1)
+            ∙ h.unused me.0.made (h.not_made me.0.made (omega (arith, mine.made_is first))))
 
         after : TurnHolds history basis_of basis (stepped s 1 ((get_or s.words 1 0 + 1) % 2 ^ 64) id me.1 (with_draw me.0) keeps)
         after = record {
@@ -124,7 +137,7 @@ module _ {V : Type 0} (history : V → List Entry) (basis_of : V → Plan) where
 
     -- a seat looks
     pub looks : Allows (TurnHolds history basis_of basis) slots id me 0 (λ n. n) (looked me)
-    looks s h wide here small = (new, keeps, tt, after, (record { same = refl; begins = mine.begins; counted = counted h.held word }, refl))
+    looks s h wide here small = (new, keeps, tt, after, (record { same = refl; begins = mine.begins; counted = counted h.held word; own = mine.own }, refl))
       where
         mine : SeatFits basis h.log h.made h.front h.held h.holder h.place id me.0
         mine = h.seats id me.0 here live

@@ -14,6 +14,7 @@ pub record Looked (old : View) (found : ℕ) (new : View) : Type 0 where
   pub same : new ≡ record old { seen = new.seen; loads = old.loads + 1; last = found }
   pub begins : IsPrefix old.seen new.seen
   pub counted : length new.seen ≡ found / 2
+  pub own : own_entries old.number new.seen ≡ old.mine
 
 -- a load of the third word: where it is 0 the seat is not told, and nothing is seen; else a shutdown stands at the place before it, which is seen
 pub record FrontRead (old : View) (found : ℕ) (new : View) : Type 0 where
@@ -21,11 +22,12 @@ pub record FrontRead (old : View) (found : ℕ) (new : View) : Type 0 where
   pub same : found ≢ 0 → new ≡ record old { seen = new.seen; loads = old.loads + 1; last = found; told = true }
   pub begins : found ≢ 0 → IsPrefix old.seen new.seen
   pub stands : found ≢ 0 → IsShutdownAt new.seen (found - 1)
+  pub own : found ≢ 0 → own_entries old.number new.seen ≡ old.mine
 
 module _ {V : Type 0} where
-  -- a number is drawn: the word was the number of seats that were made, seat 0 among them
+  -- a number is drawn: the word was the number of seats that were made, seat 0 among them, and no entry that was seen has it
   abbrev pub drew : Me (Option V) View → ℕ → Me (Option V) View → Type 0
-  drew m found n = (found ≡ m.0.made) × (0 < found) × (n ≡ (with_draw m.0, m.1))
+  drew m found n = (found ≡ m.0.made) × (0 < found) × (n ≡ (with_draw m.0, m.1)) × (own_entries m.0.made m.0.seen ≡ [])
 
   abbrev pub looked : Me (Option V) View → ℕ → Me (Option V) View → Type 0
   looked m found n = Looked m.0 found n.0 × (n.1 ≡ m.1)

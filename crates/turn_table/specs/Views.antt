@@ -101,10 +101,14 @@ seat_view table v = record {
 abbrev pub KnowsItsOwn : View → Type 0
 KnowsItsOwn v = has_shutdown v.mine ≡ true → v.told ≡ true
 
+-- the seat's own entries are those of its number in what it has seen
+abbrev pub SeesItsOwn : View → Type 0
+SeesItsOwn v = own_entries v.number v.seen ≡ v.mine
+
 -- the view of the seat that holds the turn: what it has seen is legal, and its own entries are those of its number
 pub record IsHeld (v : View) : Type 0 where
   pub holds : v.holds ≡ true
   pub kept : v.kept ≡ []
-  pub own : own_entries v.number v.seen ≡ v.mine
+  pub own : SeesItsOwn v
   pub legal : IsLegal v.basis v.seen
   pub told : KnowsItsOwn v

@@ -1,4 +1,5 @@
 ghost use Rattle.std.specs.Prelude.{◌≡◌};
+ghost use Rattle.hist_model.specs.Views.{own_entries};
 
 use crate::view::View;
 use std::marker::Model;
@@ -21,19 +22,20 @@ pub struct Seat<V> {
 impl<V> Model for Seat<V> {
     ghost use Rattle.std.specs.Prelude.{◌≡◌, false, []};
     ghost use Rattle.turn_table.specs.Seats.{SeatView};
-    ghost use Rattle.turn_table.specs.Views.{seat_view, KnowsItsOwn};
+    ghost use Rattle.turn_table.specs.Views.{seat_view, KnowsItsOwn, SeesItsOwn};
 
     ghost Value = { SeatView };
 
     ghost view = { λ s. seat_view s.token.table_id s.token.me.0 };
 
-    ghost invariant = { λ s. (s.token.me.1 ≡ []) × (s.token.me.0.number ≡ s.number) × (s.token.me.0.holds ≡ false) × (s.token.me.0.kept ≡ []) × KnowsItsOwn s.token.me.0 };
+    ghost invariant = { λ s. (s.token.me.1 ≡ []) × (s.token.me.0.number ≡ s.number) × (s.token.me.0.holds ≡ false) × (s.token.me.0.kept ≡ []) × KnowsItsOwn s.token.me.0 × SeesItsOwn s.token.me.0 };
 }
 
 impl<V> Seat<V> {
     /// The number of the seat, which its entries have.
     pub fn number(&self) -> SeatNo
-        ensures { result ≡ self.now.number }
+        ensures number { result ≡ self.now.number }
+        ensures own { own_entries self.now.number self.now.seen ≡ self.now.mine }
     {
         self.number
     }

@@ -41,6 +41,7 @@ impl<V: Chronicle> Turnstile<V> {
     pub fn new(alloc: Global, value: V) -> Result<(Turnstile<V>, Seat<V>), (V, AllocError)>
         requires empty { V.history value ≡ [] }
         ensures basis { IfOk result (λ made. made.0.basis ≡ V.basis value) }
+        ensures stands { IfOk result (λ made. made.0.stands ≡ true) }
         ensures seat { IfOk result (λ made. made.1 ≡ record { of = made.0; number = 0; seen = []; mine = []; made = 1; loads = 0; last = 0; turns = 0; told = false }) }
         ensures handed_back { IfErr result (λ refused. refused.0 ≡ value) }
     {
