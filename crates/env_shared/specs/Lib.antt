@@ -1,0 +1,2 @@
+pub mod Sits
+pub mod Samples

@@ -1,0 +1,99 @@
+ghost use Rattle.std.specs.Prelude.{◌≡◌, ◌<◌, ◌≤◌, ◌+◌, ◌^◌, [], length, true, false, IfOk};
+ghost use Rattle.std.specs.List.{AllByRecursion};
+ghost use Rattle.env_core.specs.Built.{IsPoolPlan};
+ghost use Rattle.env_core.specs.Calls.{AreFresh};
+ghost use Rattle.hist_model.specs.Legal.{IsLegal};
+ghost use Rattle.turn_table.specs.Seats.{Rising, Tells, closed};
+ghost use Rattle.env_shared.specs.Sits.{Seated};
+
+use crate::desk::SharedDesk;
+use env_core::Env;
+use std::alloc::{AllocError, Global};
+use std::marker::Model;
+use task_base::{Rows, Script};
+use task_body::TaskBody;
+use turn_table::{Seat, Turnstile};
+
+/// A seat of an environment that is shared.
+pub type EnvSeat<B> = Seat<Env<B>>;
+
+/// An environment that many threads share (this project's own rule; a browser's threads share Chromium's
+/// `base/task/thread_pool` through its locks). Threads borrow it in a scope, or hold it by an `Arc`.
+///
+/// Contracts see which turnstile it stands under, with the script that it was opened with.
+#[derive(Drop)]
+pub struct Shared<B: TaskBody> {
+    pub(crate) turnstile: Turnstile<Env<B>>,
+}
+
+impl<B: TaskBody> Model for Shared<B> {
+    ghost use Rattle.std.specs.Prelude.{◌≡◌, true};
+    ghost use Rattle.env_core.specs.Built.{IsPoolPlan};
+    ghost use Rattle.turn_table.specs.Seats.{TurnKey};
+
+    ghost Value = { TurnKey };
+
+    ghost view = { λ s. s.turnstile };
+
+    ghost invariant = { λ s. IsPoolPlan s.turnstile.basis × (s.turnstile.stands ≡ true) };
+}
+
+impl<B: TaskBody> Shared<B> {
+    /// Opens the environment of a script of the pool alone, with a body for each task, and gives the driver's seat. The
+    /// error is want of memory, and nothing was entered.
+    pub fn open(
+        alloc: Global,
+        script: Script,
+        bodies: Vec<Box<B>>,
+    ) -> Result<(Shared<B>, EnvSeat<B>), AllocError>
+        requires plan { IsPoolPlan script }
+        requires bodies { AreFresh bodies.items (λ body. B.whole body.value) (λ body. B.rest body.value) script }
+        ensures script { IfOk result (λ made. made.0.basis ≡ script) }
+        ensures stands { IfOk result (λ made. made.0.stands ≡ true) }
+        ensures seat { IfOk result (λ made. made.1 ≡ record { of = made.0; number = 0; seen = []; mine = []; made = 1; loads = 0; last = 0; turns = 0; told = false }) }
+    {
+        let env = Env::open(alloc, script, bodies)?;
+        match Turnstile::new(alloc, env) {
+            Ok((turnstile, seat)) => Ok((Shared { turnstile }, seat)),
+            Err((_env, error)) => Err(error),
+        }
+    }
+
+    /// Gives the next worker's number to a second seat, which sees what the driver's sees and has no entries.
+    pub fn split(&self, seat: EnvSeat<B>) -> (EnvSeat<B>, EnvSeat<B>)
+        requires of { seat.of ≡ self.now }
+        requires first { seat.number ≡ 0 }
+        requires worker { seat.made ≤ self.now.basis.workers }
+        ensures first { result.0 ≡ record seat { made = seat.made + 1 } }
+        ensures second { result.1 ≡ record { of = seat.of; number = seat.made; seen = seat.seen; mine = []; made = 0; loads = 0; last = 0; turns = 0; told = seat.told } }
+    {
+        self.turnstile.split(seat)
+    }
+
+    /// Puts a seat at a desk, from which it takes the turn.
+    pub fn desk(&self, seat: EnvSeat<B>) -> SharedDesk<'_, B>
+        requires of { seat.of ≡ self.now }
+        requires known { seat.number ≤ self.now.basis.workers }
+        ensures seat { result ≡ seat }
+        ensures seated { Seated result }
+    {
+        SharedDesk::new(self, seat)
+    }
+
+    /// Closes it once all seats came back, and gives the environment that stood under the turn. The seat that comes
+    /// back with it is of no shared environment any more: it says what the driver's seat knew.
+    pub fn close(self, first: EnvSeat<B>, rest: Rows<EnvSeat<B>>) -> (Env<B>, EnvSeat<B>)
+        requires of { first.of ≡ self }
+        requires first { first.number ≡ 0 }
+        requires rest { Rising self 1 rest.items }
+        requires all { first.made ≡ length rest.items + 1 }
+        ensures script { result.0.script ≡ self.basis }
+        ensures legal { IsLegal self.basis result.0.history }
+        ensures bound { length result.0.history < 2 ^ 32 }
+        ensures first { Tells result.0.history first }
+        ensures rest { AllByRecursion (Tells result.0.history) rest.items }
+        ensures seat { result.1 ≡ record first { of = closed self } }
+    {
+        self.turnstile.close(first, rest)
+    }
+}
