@@ -2,11 +2,7 @@ pub mod Steps
 pub mod Parses
 pub mod PoolPlans
 pub mod Fresh
-pub mod Driver
-pub mod Work
-pub mod Blocked
-pub mod Rounds
-pub mod Time
+pub mod Seats
 pub mod Outcomes
 pub mod Causes
 pub mod Worked

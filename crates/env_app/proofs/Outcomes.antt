@@ -14,8 +14,8 @@ use Rattle.hist_model.specs.Script.{IsWhole}
 use Rattle.script_model.specs.Grammar.{Reads, first_fault, script_read}
 use Rattle.env_app.specs.Built.{is_built}
 use Rattle.env_app.specs.declared.words.Command.{Command}
-use Rattle.env_app.specs.Outcome.{Ends, Failed, LoadsScript, Wrote, WroteAll, WroteFront, RunsTo, IsFaultAt, fault_in, note_line, note_of_status, output_of, script_fault}
-use Rattle.env_app.specs.Turns.{HasMomentsOf, readings_of}
+use Rattle.env_app.specs.Outcome.{Ends, Failed, LoadsScript, Wrote, WroteAll, WroteFront, RunsTo, IsFaultAt, fault_in, note_line, note_of_status, output_of, script_fault, readings_of}
+use Rattle.env_crew.specs.Driving.{HasMomentsOf}
 use Rattle.env_io.specs.Bytes.{Gives, Gains}
 use Rattle.env_io.proofs.Bytes.{Gives-trans}
 

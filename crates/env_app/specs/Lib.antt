@@ -1,4 +1,4 @@
 pub mod Built
 pub mod CommandLine
-pub mod Turns
+pub mod Crew
 pub mod Outcome

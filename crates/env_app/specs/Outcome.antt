@@ -8,20 +8,26 @@ use Rattle.task_base.specs.declared.entry.Entry.{Entry}
 use Rattle.task_base.specs.declared.fault.Fault.{Fault}
 use Rattle.task_base.specs.declared.fault.Fault.TheVariants.{NotLegal, BadWords, BadScript, ReadFault, WriteFault, NoMemory, TooLarge}
 use Rattle.env_io.specs.Bytes.{Gives, Gains, Rose}
+use Rattle.env_io.specs.Readings.{no_step, step_readings}
 use Rattle.task_base.specs.declared.fault.TheConstants.{NOT_BUILT}
 use Rattle.script_model.specs.Grammar.{Reads, script_read}
 use Rattle.log_model.specs.LogText.{log_json, log_text}
 use Rattle.hist_model.specs.Legal.{IsLegal}
 use Rattle.hist_model.specs.Script.{IsWhole}
 use Rattle.env_core.specs.Built.{IsPoolPlan}
+use Rattle.env_crew.specs.Driving.{HasMomentsOf}
 use Rattle.env_app.specs.Built.{is_built}
 use Rattle.env_app.specs.declared.words.Command.{Command}
 use Rattle.env_app.specs.CommandLine.{asks_json, asks_step}
-use Rattle.env_app.specs.Turns.{HasMomentsOf, readings_of}
 
 -- what a run writes of its log: its text, or its JSON form and a line feed
 abbrev pub output_of : Bool → List Entry → List ℕ
 output_of json log = if json then log_json log ++ codes "\n" else log_text log
+
+-- the readings of a run: those of a step, where there is one, and else what the clock tells
+abbrev pub readings_of : Option ℕ → (ℕ → Option ℕ) → ℕ → Option ℕ
+readings_of None told = told
+readings_of (Some step) told = step_readings (no_step step)
 
 -- the bytes are a script, and this holds of what a run writes of one legal, whole history of it, whose ticks are the moments of
 -- these readings

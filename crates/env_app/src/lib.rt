@@ -6,15 +6,16 @@
 
 mod bodies;
 mod built;
-mod drive;
+mod crew;
 mod input;
 mod load;
 mod notes;
 mod run;
-mod serve;
 mod words;
+mod workers;
 mod written;
 
+pub use crew::run_crew;
 pub use notes::tell;
 pub use run::run_words;
 

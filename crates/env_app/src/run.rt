@@ -5,11 +5,11 @@ ghost use Rattle.hist_model.specs.Script.{IsWhole};
 ghost use Rattle.env_core.specs.Built.{IsPoolPlan};
 ghost use Rattle.env_io.specs.Bytes.{Gains, Rose};
 ghost use Rattle.env_app.specs.CommandLine.{asks_json, asks_step, command_of};
-ghost use Rattle.env_app.specs.Turns.{HasMomentsOf, readings_of};
-ghost use Rattle.env_app.specs.Outcome.{ends, HasRun, WroteAll, WroteFront, TookMore, TookWithin, RunsTo, HasCause, IsFaultAt, note_of_status};
+ghost use Rattle.env_crew.specs.Driving.{HasMomentsOf};
+ghost use Rattle.env_app.specs.Outcome.{ends, HasRun, WroteAll, WroteFront, TookMore, TookWithin, RunsTo, HasCause, IsFaultAt, note_of_status, readings_of};
 
 use crate::bodies::bodies_of;
-use crate::drive::run_script;
+use crate::crew::run_crew;
 use crate::load::load;
 use crate::notes::tell;
 use crate::words::command_of;
@@ -22,7 +22,8 @@ use task_base::{Entry, Fault, Rows, Script};
 
 /// The log of a script's run, by readings a step apart where there is one, and else by the clock. The error is want of
 /// memory, and comes before the first entry.
-fn log_of_run<C: Clock, G: Gate>(
+fn log_of_run<R: Threads + Wait + Sync, C: Clock, G: Gate>(
+    rt: &R,
     alloc: Global,
     script: &Script,
     step: Option<u64>,
@@ -35,18 +36,18 @@ fn log_of_run<C: Clock, G: Gate>(
     ensures bounded { IfOk result (λ log. length log.items ≤ MOST_EVENTS) }
     ensures moments { IfOk result (λ log. HasMomentsOf (readings_of step (C.readings clock.old)) log.items) }
     ensures unread { step ≢ None → clock.new ≡ clock.old }
-    ensures refused { OnErr result (clock.new ≡ clock.old) }
 {
     let bodies = bodies_of(alloc, script)?;
     let env = match step {
-        Some(step) => run_script(alloc, script, bodies, &mut StepClock::new(step), gate)?,
-        None => run_script(alloc, script, bodies, clock, gate)?,
+        Some(step) => run_crew(rt, alloc, script, bodies, &mut StepClock::new(step), gate)?,
+        None => run_crew(rt, alloc, script, bodies, clock, gate)?,
     };
     Ok(env.into_log())
 }
 
 /// Does what the words ask for.
-fn run<S: Source, K: Sink, C: Clock, G: Gate>(
+fn run<R: Threads + Wait + Sync, S: Source, K: Sink, C: Clock, G: Gate>(
+    rt: &R,
     alloc: Global,
     words: &[String],
     source: &mut S,
@@ -72,7 +73,7 @@ fn run<S: Source, K: Sink, C: Clock, G: Gate>(
         Err(error) => return Err(Fault::NoMemory(error)),
     };
     let script = load(alloc, source)?;
-    let log = match log_of_run(alloc, &script, command.step, clock, gate) {
+    let log = match log_of_run(rt, alloc, &script, command.step, clock, gate) {
         Ok(log) => log,
         Err(error) => return Err(Fault::NoMemory(error)),
     };
@@ -85,9 +86,13 @@ fn run<S: Source, K: Sink, C: Clock, G: Gate>(
 /// its end, runs it, and writes the run's log to the sink, as text or with `--json` as JSON. A status above 0 is that of a
 /// `Fault`, whose note goes to the notes. Want of memory comes before the first byte is written. The gate is called
 /// between each take of a task and the task's first step. The clock is read once for each tick, or with `--step` not at
-/// all: its readings are then N, 2N, 3N and so on, in microseconds. This run has one thread: it starts none by the handle.
+/// all: its readings are then N, 2N, 3N and so on, in microseconds.
+///
+/// The driver is the caller's thread, and each worker has a thread of its own, as far as the system gives them: what a
+/// worker without one would do, the caller does while it waits. It may wait for the threads for ever; nothing is promised
+/// of time.
 pub fn run_words<R: Threads + Wait + Sync, S: Source, K: Sink, N: Sink, C: Clock, G: Gate>(
-    _rt: &R,
+    rt: &R,
     alloc: Global,
     words: &[String],
     source: &mut S,
@@ -123,7 +128,7 @@ pub fn run_words<R: Threads + Wait + Sync, S: Source, K: Sink, N: Sink, C: Clock
     ensures note_front { (at : ℕ × ℕ) × IsFaultAt (S.left source.old) result at
         × WroteFront (N.holds notes.old) (N.holds notes.new) (note_of_status at result) }
 {
-    match run(alloc, words, source, sink, clock, gate) {
+    match run(rt, alloc, words, source, sink, clock, gate) {
         Ok(()) => 0,
         Err(fault) => {
             tell(notes, &fault);

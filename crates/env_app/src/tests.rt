@@ -1,13 +1,17 @@
+mod alone;
 mod faults;
 mod gates;
 mod outside;
 mod pool;
+mod threads;
 mod ticks;
 mod words;
 
 use super::run_words;
+use alone::log_alone;
 use env_io::{Gate, MemSink, OpenGate, RealClock, Source, SureSource};
 use std::alloc::{AllocError, Global};
+use std::process::Abort;
 use std::rt::Clock;
 use std::str;
 use std::sync::Wait;
@@ -137,6 +141,21 @@ fn run_with<R: Threads + Wait + Sync + Clock + AllocGlobal>(
 ) -> Result<Outcome, AllocError> {
     let bytes = bytes.to_vec(rt.alloc())?;
     run_on(rt, words, &mut SureSource::new(bytes), &OpenGate)
+}
+
+/// Runs a script often on threads, by readings that are 10 apart, and once where the workers have none. It has this one
+/// log.
+fn assert_log<R: Threads + Wait + Sync + Clock + AllocGlobal + Abort>(
+    rt: &R,
+    script: &str,
+    log: &str,
+) -> Result<(), Fail> {
+    for turn in 0..50 {
+        let outcome = run_with(rt, &["taskenv", "run", "--step", "10"], script.as_bytes())?;
+        assert_eq!(rt; outcome.told(), (0, log, ""), "run {turn} of {script}");
+    }
+    assert_eq!(rt; text(&log_alone(rt, script, 10)?), log, "{script}");
+    Ok(())
 }
 
 #[test]

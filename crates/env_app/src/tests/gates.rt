@@ -3,7 +3,7 @@ ghost use Rattle.std.specs.Prelude.{◌≡◌, IfOk};
 ghost use Rattle.env_core.specs.Calls.{AreFresh};
 
 use super::{FIRST_SCRIPT, run_on};
-use crate::drive::run_script;
+use crate::crew::run_crew;
 use crate::load::load;
 use env_io::{Gate, ListClock, SureSource};
 use std::alloc::{AllocError, Global};
@@ -41,7 +41,7 @@ fn gate_is_passed_once_a_task_in_the_order_of_the_takes(rt: HostRuntime) -> Resu
         runner 1 parallel user_visible skip\n\
         runner 2 parallel user_blocking skip\n\
         task 0 add 1\ntask 1 add 1\ntask 2 add 1\n\
-        post 0 0 0\npost 1 1 0\npost 2 2 0\nflush\n";
+        policy none\npost 0 0 0\npost 1 1 0\npost 2 2 0\npolicy all\nflush\n";
     let mut source = SureSource::new(script.to_vec(rt.alloc())?);
     let outcome = run_on(&rt, &["taskenv", "run"], &mut source, &gate)?;
     assert_eq!(rt; outcome.status, 0);
@@ -136,7 +136,7 @@ fn gate_is_passed_before_the_first_step(rt: HostRuntime) -> Result<(), Fail> {
         seen: AtomicU64::new(0),
     };
     let mut clock = ListClock::new(Vec::new(alloc));
-    let env = run_script(alloc, &script, bodies, &mut clock, &gate)?;
+    let env = run_crew(&rt, alloc, &script, bodies, &mut clock, &gate)?;
     assert_eq!(rt; env.into_log().len(), 4);
     assert_eq!(rt; gate.seen.load(Ordering::SeqCst), 1);
     assert_eq!(rt; steps.load(Ordering::SeqCst), 2);

@@ -1,5 +1,5 @@
 //! Runs of scripts of the pool, whose logs were worked out by hand.
-use super::{run_of, run_with};
+use super::{assert_log, log_alone, run_of, text};
 use std::alloc::{AllocError, Global};
 use std::test::Fail;
 
@@ -11,11 +11,9 @@ fn state_moves_along(rt: HostRuntime) -> Result<(), Fail> {
         "{SEQUENCED}task 0 add 5\ntask 1 mul 3\n\
         policy none\npost 0 0 0\npost 1 0 0\npolicy all\nflush\n"
     )?;
-    let outcome = run_of(&rt, &script)?;
     let log = "0 0 policy none\n1 0 post 0 0 0 ok\n2 0 post 1 0 0 ok\n3 0 policy all\n\
         4 1 take 0 0 0\n5 1 end 0 5\n6 1 take 1 0 5\n7 1 end 1 15\n8 0 idle\n";
-    assert_eq!(rt; outcome.told(), (0, log, ""));
-    Ok(())
+    assert_log(&rt, &script, log)
 }
 
 /// Three tasks of rising priority, under a policy that holds all work back until they are posted.
@@ -38,24 +36,20 @@ fn priority_before_posting_order(rt: HostRuntime) -> Result<(), Fail> {
     for (policy, rest) in rows {
         let script = format!(in rt.alloc(); "{RISING_PRIORITIES}policy {policy}\nflush\n")?;
         let log = format!(in rt.alloc(); "{posted}4 0 policy {policy}\n{better}{rest}")?;
-        let outcome = run_of(&rt, &script)?;
-        assert_eq!(rt; outcome.told(), (0, log.as_str(), ""), "at {policy}");
+        assert_log(&rt, &script, log.as_str())?;
     }
     Ok(())
 }
 
 #[test]
 fn ties_by_post_place(rt: HostRuntime) -> Result<(), Fail> {
-    let outcome = run_of(
-        &rt,
+    let script =
         "workers 1\nrunner 0 sequenced user_visible skip\nrunner 1 sequenced user_visible skip\n\
         task 0 add 1\ntask 1 add 1\n\
-        policy none\npost 0 1 0\npost 1 0 0\npolicy all\nflush\n",
-    )?;
+        policy none\npost 0 1 0\npost 1 0 0\npolicy all\nflush\n";
     let log = "0 0 policy none\n1 0 post 0 1 0 ok\n2 0 post 1 0 0 ok\n3 0 policy all\n\
         4 1 take 0 1 0\n5 1 end 0 1\n6 1 take 1 0 0\n7 1 end 1 1\n8 0 idle\n";
-    assert_eq!(rt; outcome.told(), (0, log, ""));
-    Ok(())
+    assert_log(&rt, script, log)
 }
 
 #[test]
@@ -64,118 +58,100 @@ fn ripening_order(rt: HostRuntime) -> Result<(), Fail> {
         "{SEQUENCED}task 0 add 1\ntask 1 mul 2\ntask 2 set 7\n\
         policy none\npost 0 0 5\npost 1 0 3\npost 2 0 0\ntick 1\npolicy all\nflush\n"
     )?;
-    let outcome = run_with(&rt, &["taskenv", "run", "--step", "10"], script.as_bytes())?;
     let log = "0 0 policy none\n1 0 post 0 0 5 ok\n2 0 post 1 0 3 ok\n3 0 post 2 0 0 ok\n\
         4 0 tick 10\n5 0 policy all\n6 1 take 2 0 0\n7 1 end 2 7\n8 1 take 1 0 7\n9 1 end 1 14\n\
         10 1 take 0 0 14\n11 1 end 0 15\n12 0 idle\n";
-    assert_eq!(rt; outcome.told(), (0, log, ""));
-    Ok(())
+    assert_log(&rt, &script, log)
 }
 
 #[test]
 fn shutdown_skips_and_blocks(rt: HostRuntime) -> Result<(), Fail> {
-    let outcome = run_of(
-        &rt,
+    let script =
         "workers 1\nrunner 0 parallel user_visible skip\nrunner 1 parallel user_visible block\n\
         task 0 add 1\ntask 1 add 2\ntask 2 add 3\n\
-        policy none\npost 0 0 0\npost 1 1 0\nshutdown\npost 2 1 0\n",
-    )?;
+        policy none\npost 0 0 0\npost 1 1 0\nshutdown\npost 2 1 0\n";
     let log = "0 0 policy none\n1 0 post 0 0 0 ok\n2 0 post 1 1 0 ok\n3 0 shutdown\n\
         4 1 take 1 1 0\n5 1 end 1 2\n6 0 done\n7 0 post 2 1 0 no\n";
-    assert_eq!(rt; outcome.told(), (0, log, ""));
-    Ok(())
+    assert_log(&rt, script, log)
 }
 
 #[test]
 fn block_task_posts_during_shutdown(rt: HostRuntime) -> Result<(), Fail> {
-    let outcome = run_of(
-        &rt,
+    let script =
         "workers 1\nrunner 0 parallel user_visible block\ntask 0 add 1\ntask 1 add 2 ; post 0 0 0\n\
-        policy none\npost 1 0 0\nshutdown\n",
-    )?;
+        policy none\npost 1 0 0\nshutdown\n";
     let log = "0 0 policy none\n1 0 post 1 0 0 ok\n2 0 shutdown\n3 1 take 1 0 0\n\
         4 1 post 0 0 0 ok\n5 1 end 1 2\n6 1 take 0 0 0\n7 1 end 0 1\n8 0 done\n";
-    assert_eq!(rt; outcome.told(), (0, log, ""));
-    Ok(())
+    assert_log(&rt, script, log)
 }
 
 // A skip task that a block task posts during shutdown is refused, and the block task goes on.
 #[test]
 fn refused_post_of_a_task(rt: HostRuntime) -> Result<(), Fail> {
-    let outcome = run_of(
-        &rt,
+    let script =
         "workers 1\nrunner 0 parallel user_visible block\nrunner 1 parallel user_visible skip\n\
         task 0 add 1\ntask 1 post 0 1 0 ; add 2\n\
-        policy none\npost 1 0 0\nshutdown\n",
-    )?;
+        policy none\npost 1 0 0\nshutdown\n";
     let log = "0 0 policy none\n1 0 post 1 0 0 ok\n2 0 shutdown\n3 1 take 1 0 0\n\
         4 1 post 0 1 0 no\n5 1 end 1 2\n6 0 done\n";
-    assert_eq!(rt; outcome.told(), (0, log, ""));
-    Ok(())
+    assert_log(&rt, script, log)
 }
 
 #[test]
 fn delayed_work_does_not_block(rt: HostRuntime) -> Result<(), Fail> {
-    let outcome = run_with(
-        &rt,
-        &["taskenv", "run", "--step", "10"],
-        b"workers 1\nrunner 0 parallel user_visible block\ntask 0 add 1\n\
-        post 0 0 5\nshutdown\ntick 1\n",
-    )?;
+    let script = "workers 1\nrunner 0 parallel user_visible block\ntask 0 add 1\n\
+        post 0 0 5\nshutdown\ntick 1\n";
     let log = "0 0 post 0 0 5 ok\n1 0 shutdown\n2 0 done\n3 0 tick 10\n";
-    assert_eq!(rt; outcome.told(), (0, log, ""));
-    Ok(())
+    assert_log(&rt, script, log)
 }
 
 #[test]
 fn single_thread_runner(rt: HostRuntime) -> Result<(), Fail> {
-    let outcome = run_of(
-        &rt,
-        "workers 2\nrunner 0 single:2 user_visible skip\ntask 0 add 1\npost 0 0 0\nflush\n",
-    )?;
+    let script =
+        "workers 2\nrunner 0 single:2 user_visible skip\ntask 0 add 1\npost 0 0 0\nflush\n";
     let log = "0 0 post 0 0 0 ok\n1 2 take 0 0 0\n2 2 end 0 1\n3 0 idle\n";
-    assert_eq!(rt; outcome.told(), (0, log, ""));
-    Ok(())
+    assert_log(&rt, script, log)
 }
 
-// Best-effort work in a group of its own, under scopes of both kinds. Each worker is served once, then each again.
+// Best-effort work in a group of its own, under scopes of both kinds. On threads the two workers share the tasks as they
+// come; where they have none, the caller serves the second worker first, and then each again.
 #[test]
 fn groups_and_scopes(rt: HostRuntime) -> Result<(), Fail> {
-    let outcome = run_of(
-        &rt,
-        "workers 2\ngroups 1 1 1\nthreshold 5\n\
+    let script = "workers 2\ngroups 1 1 1\nthreshold 5\n\
         runner 0 parallel best_effort skip mayblock\nrunner 1 sequenced user_visible skip mayblock\n\
         task 0 block will ; add 1 ; unblock\ntask 1 add 2 ; block may ; unblock ; mul 3\ntask 2 add 1\n\
-        post 0 0 0\npost 1 1 0\npost 2 1 0\nflush\n",
-    )?;
-    let log = "0 0 post 0 0 0 ok\n1 0 post 1 1 0 ok\n2 0 post 2 1 0 ok\n\
-        3 1 take 1 1 0\n4 1 block 1 may\n5 1 unblock 1\n6 1 end 1 6\n\
-        7 2 take 2 1 6\n8 2 end 2 7\n9 1 take 0 0 0\n10 1 block 0 will\n11 1 unblock 0\n12 1 end 0 1\n\
+        post 0 0 0\npost 1 1 0\npost 2 1 0\nflush\n";
+    for turn in 0..50 {
+        let outcome = run_of(&rt, script)?;
+        let (status, log, note) = outcome.told();
+        assert_eq!(rt; (status, note), (0, ""), "run {turn}");
+        assert!(rt; log.ends_with("\n13 0 idle\n"), "run {turn}");
+    }
+    let alone = "0 0 post 0 0 0 ok\n1 0 post 1 1 0 ok\n2 0 post 2 1 0 ok\n\
+        3 2 take 1 1 0\n4 2 block 1 may\n5 2 unblock 1\n6 2 end 1 6\n\
+        7 1 take 2 1 6\n8 1 end 2 7\n9 2 take 0 0 0\n10 2 block 0 will\n11 2 unblock 0\n12 2 end 0 1\n\
         13 0 idle\n";
-    assert_eq!(rt; outcome.told(), (0, log, ""));
+    assert_eq!(rt; text(&log_alone(&rt, script, 10)?), alone);
     Ok(())
 }
 
 // No step leaves what was found; sums and products are of 64 bits.
 #[test]
 fn steps(rt: HostRuntime) -> Result<(), Fail> {
-    let outcome = run_of(
-        &rt,
-        "workers 1\nrunner 0 sequenced user_visible skip\n\
+    let script = "workers 1\nrunner 0 sequenced user_visible skip\n\
         task 0 set 18446744073709551615 ; add 2\n\
         task 1\n\
         task 2 set 9223372036854775808 ; mul 2\n\
         task 3 add 3 ; mul 5 ; add 18446744073709551615\n\
-        post 0 0 0\npost 1 0 0\npost 2 0 0\npost 3 0 0\nflush\n",
-    )?;
-    let log = "0 0 post 0 0 0 ok\n1 0 post 1 0 0 ok\n2 0 post 2 0 0 ok\n3 0 post 3 0 0 ok\n\
-        4 1 take 0 0 0\n5 1 end 0 1\n6 1 take 1 0 1\n7 1 end 1 1\n\
-        8 1 take 2 0 1\n9 1 end 2 0\n10 1 take 3 0 0\n11 1 end 3 14\n12 0 idle\n";
-    assert_eq!(rt; outcome.told(), (0, log, ""));
-    Ok(())
+        policy none\npost 0 0 0\npost 1 0 0\npost 2 0 0\npost 3 0 0\npolicy all\nflush\n";
+    let log = "0 0 policy none\n1 0 post 0 0 0 ok\n2 0 post 1 0 0 ok\n3 0 post 2 0 0 ok\n\
+        4 0 post 3 0 0 ok\n5 0 policy all\n6 1 take 0 0 0\n7 1 end 0 1\n8 1 take 1 0 1\n9 1 end 1 1\n\
+        10 1 take 2 0 1\n11 1 end 2 0\n12 1 take 3 0 0\n13 1 end 3 14\n14 0 idle\n";
+    assert_log(&rt, script, log)
 }
 
-const BEHAVIOURS: &str = "runner 0 parallel best_effort continue\n\
+/// A runner of each behaviour, and a task for each.
+const BEHAVIOURS: &str = "workers 1\nrunner 0 parallel best_effort continue\n\
     runner 1 parallel user_visible skip\nrunner 2 parallel user_blocking block\n\
     task 0 add 1\ntask 1 add 1\ntask 2 add 1\n";
 
@@ -183,55 +159,42 @@ const BEHAVIOURS: &str = "runner 0 parallel best_effort continue\n\
 fn shutdown_forms(rt: HostRuntime) -> Result<(), Fail> {
     let rows = [
         // with nothing posted
-        ("shutdown\n", (0, "0 0 shutdown\n1 0 done\n", "")),
-        (
-            "shutdown\nflush\nshutdown\n",
-            (3, "", "bad script: line 9: reason 12 ShutdownTwice\n"),
-        ),
+        ("shutdown\n", "0 0 shutdown\n1 0 done\n"),
         // a flush after it has nothing to run
         (
-            "post 1 1 0\nshutdown\nflush\n",
-            (
-                0,
-                "0 0 post 1 1 0 ok\n1 0 shutdown\n2 0 done\n3 0 idle\n",
-                "",
-            ),
+            "policy none\npost 1 1 0\nshutdown\nflush\n",
+            "0 0 policy none\n1 0 post 1 1 0 ok\n2 0 shutdown\n3 0 done\n4 0 idle\n",
         ),
         // a flush before it leaves nothing to wait for
         (
             "post 2 2 0\nflush\nshutdown\n",
-            (
-                0,
-                "0 0 post 2 2 0 ok\n1 1 take 2 2 0\n2 1 end 2 1\n3 0 idle\n4 0 shutdown\n5 0 done\n",
-                "",
-            ),
+            "0 0 post 2 2 0 ok\n1 1 take 2 2 0\n2 1 end 2 1\n3 0 idle\n4 0 shutdown\n5 0 done\n",
         ),
         // posts of each behaviour before it
         (
-            "post 0 0 0\npost 1 1 0\npost 2 2 0\nshutdown\n",
-            (
-                0,
-                "0 0 post 0 0 0 ok\n1 0 post 1 1 0 ok\n2 0 post 2 2 0 ok\n3 0 shutdown\n\
-                4 1 take 2 2 0\n5 1 end 2 1\n6 0 done\n",
-                "",
-            ),
+            "policy none\npost 0 0 0\npost 1 1 0\npost 2 2 0\nshutdown\n",
+            "0 0 policy none\n1 0 post 0 0 0 ok\n2 0 post 1 1 0 ok\n3 0 post 2 2 0 ok\n4 0 shutdown\n\
+            5 1 take 2 2 0\n6 1 end 2 1\n7 0 done\n",
         ),
         // and after it
         (
             "shutdown\npost 0 0 0\npost 1 1 0\npost 2 2 0\nflush\n",
-            (
-                0,
-                "0 0 shutdown\n1 0 done\n2 0 post 0 0 0 no\n3 0 post 1 1 0 no\n4 0 post 2 2 0 no\n\
-                5 0 idle\n",
-                "",
-            ),
+            "0 0 shutdown\n1 0 done\n2 0 post 0 0 0 no\n3 0 post 1 1 0 no\n4 0 post 2 2 0 no\n\
+            5 0 idle\n",
         ),
     ];
-    for (actions, told) in rows {
+    for (actions, log) in rows {
         let script = format!(in rt.alloc(); "{BEHAVIOURS}{actions}")?;
-        let outcome = run_of(&rt, &script)?;
-        assert_eq!(rt; outcome.told(), told, "at {actions}");
+        assert_log(&rt, &script, log)?;
     }
+    Ok(())
+}
+
+#[test]
+fn shutdown_comes_once(rt: HostRuntime) -> Result<(), Fail> {
+    let outcome = run_of(&rt, "shutdown\nflush\nshutdown\n")?;
+    let note = "bad script: line 3: reason 12 ShutdownTwice\n";
+    assert_eq!(rt; outcome.told(), (3, "", note));
     Ok(())
 }
 

@@ -1,0 +1,149 @@
+//! The run of a script on threads: one for each worker, and the caller's for the driver.
+ghost use Rattle.std.specs.Prelude.{◌≡◌, ◌≤◌, [], length, true, IfOk};
+ghost use Rattle.task_base.specs.declared.limits.TheConstants.{MOST_EVENTS};
+ghost use Rattle.hist_model.specs.Legal.{IsLegal};
+ghost use Rattle.hist_model.specs.Script.{IsWhole};
+ghost use Rattle.env_core.specs.Built.{IsPoolPlan};
+ghost use Rattle.env_core.specs.Calls.{AreFresh};
+ghost use Rattle.env_crew.specs.Driving.{HasMomentsOf};
+ghost use Rattle.env_app.specs.Crew.{AreBack, ArePromised, AreSpare, IsDriver, refused};
+
+use crate::workers::{Start, join_all, split_all, start_all, with_room};
+use env_core::Env;
+use env_crew::drive;
+use env_io::{Clock, Gate};
+use env_shared::{EnvSeat, Shared, SharedDesk};
+use std::alloc::{AllocError, Global};
+use std::sync::Wait;
+use std::sync::atomic::AtomicU32;
+use std::thread;
+use std::thread::{Scope, Threads};
+use task_base::{Rows, Script};
+use task_body::TaskBody;
+
+/// Performs the script at the driver's desk, and waits for the workers. Those that have no thread are served meanwhile.
+pub fn perform<'a, R: Threads + Wait, B: TaskBody, C: Clock, G: Gate>(
+    rt: &R,
+    shared: &'a Shared<B>,
+    script: &Script,
+    first: EnvSeat<B>,
+    starts: Rows<Start<B>>,
+    mut spare: Rows<SharedDesk<'a, B>>,
+    rest: Rows<EnvSeat<B>>,
+    clock: &mut C,
+    gate: &G,
+) -> (EnvSeat<B>, Rows<EnvSeat<B>>)
+    requires plan { IsPoolPlan script.now }
+    requires script { shared.now.basis ≡ script.now }
+    requires stands { shared.now.stands ≡ true }
+    requires first { IsDriver shared.now script.now.workers first }
+    requires all { length starts.items ≡ script.now.workers }
+    requires promised { ArePromised (λ handle. handle.promise.0.value) shared.now script.now.workers starts.items }
+    requires spare { AreSpare shared.now (refused script.now.workers starts.items) spare.items }
+    requires none { rest.items ≡ [] }
+    requires room { script.now.workers ≤ rest.spare }
+    ensures back { AreBack shared.now script.now.workers result.0 result.1.items }
+    ensures moments { HasMomentsOf (C.readings clock.old) result.0.mine }
+{
+    let mut desk = shared.desk(first);
+    drive(rt, &mut desk, &mut spare, script, clock, gate);
+    let first = desk.into_seat();
+    (first, join_all(rt, shared, starts, spare, rest))
+}
+
+/// Starts the workers, performs the script, and waits for them. The error is want of memory, and comes before the first
+/// start.
+fn attend_all<'s, E, R: Threads + Wait + Sync, B: TaskBody + Send, C: Clock, G: Gate>(
+    rt: &'s R,
+    alloc: Global,
+    scope: &Scope<'s, E>,
+    shared: &'s Shared<B>,
+    word: &'s AtomicU32,
+    script: &Script,
+    first: EnvSeat<B>,
+    clock: &mut C,
+    gate: &'s G,
+) -> Result<(EnvSeat<B>, Rows<EnvSeat<B>>), AllocError>
+    requires plan { IsPoolPlan script.now }
+    requires script { shared.now.basis ≡ script.now }
+    requires stands { shared.now.stands ≡ true }
+    requires first { IsDriver shared.now 0 first }
+    ensures back { IfOk result (λ back. AreBack shared.now script.now.workers back.0 back.1.items) }
+    ensures moments { IfOk result (λ back. HasMomentsOf (C.readings clock.old) back.0.mine) }
+{
+    let count = script.workers;
+    let mut seats = with_room(alloc, count as usize)?;
+    let mut starts = with_room(alloc, count as usize)?;
+    let mut spare = with_room(alloc, count as usize)?;
+    let rest = with_room(alloc, count as usize)?;
+    let first = split_all(shared, first, &mut seats, count);
+    start_all(
+        rt,
+        scope,
+        shared,
+        word,
+        gate,
+        seats,
+        &mut starts,
+        &mut spare,
+    );
+    Ok(perform(rt, shared, script, first, starts, spare, rest, clock, gate))
+}
+
+/// All that needs the scope.
+fn in_scope<R: Threads + Wait + Sync, B: TaskBody + Send, C: Clock, G: Gate>(
+    rt: &R,
+    alloc: Global,
+    shared: &Shared<B>,
+    word: &AtomicU32,
+    script: &Script,
+    first: EnvSeat<B>,
+    clock: &mut C,
+    gate: &G,
+) -> Result<(EnvSeat<B>, Rows<EnvSeat<B>>), AllocError>
+    requires plan { IsPoolPlan script.now }
+    requires script { shared.now.basis ≡ script.now }
+    requires stands { shared.now.stands ≡ true }
+    requires first { IsDriver shared.now 0 first }
+    ensures back { IfOk result (λ back. AreBack shared.now script.now.workers back.0 back.1.items) }
+    ensures moments { IfOk result (λ back. HasMomentsOf (C.readings clock.old) back.0.mine) }
+{
+    thread::scope(
+        thread::scope_env(),
+        rt,
+        |scope| -> Result<(EnvSeat<B>, Rows<EnvSeat<B>>), AllocError>
+            requires plan { IsPoolPlan script.now }
+            requires script { shared.now.basis ≡ script.now }
+            requires stands { shared.now.stands ≡ true }
+            requires first { IsDriver shared.now 0 first }
+            ensures back { IfOk result (λ back. AreBack shared.entry.now script.entry.now.workers back.0 back.1.items) }
+            ensures moments { IfOk result (λ back. HasMomentsOf (C.readings clock.entry.now) back.0.mine) }
+        { attend_all(rt, alloc, scope, shared, word, script, first, clock, gate) },
+    )
+}
+
+/// Runs a script on threads, and gives the environment at the end of the run. Each worker has a thread, which serves
+/// until there will be nothing any more; the caller's thread performs the script. The work of a worker whose thread
+/// can't be started is done by the caller while an action of the script waits. The error is want of memory, and comes
+/// before the first entry.
+pub fn run_crew<R: Threads + Wait + Sync, B: TaskBody + Send, C: Clock, G: Gate>(
+    rt: &R,
+    alloc: Global,
+    script: &Script,
+    bodies: Vec<Box<B>>,
+    clock: &mut C,
+    gate: &G,
+) -> Result<Env<B>, AllocError>
+    requires plan { IsPoolPlan script.now }
+    requires bodies { AreFresh bodies.items (λ body. B.whole body.value) (λ body. B.rest body.value) script.now }
+    ensures script { IfOk result (λ env. env.script ≡ script.now) }
+    ensures legal { IfOk result (λ env. IsLegal script.now env.history) }
+    ensures whole { IfOk result (λ env. IsWhole script.now env.history) }
+    ensures bounded { IfOk result (λ env. length env.history ≤ MOST_EVENTS) }
+    ensures moments { IfOk result (λ env. HasMomentsOf (C.readings clock.old) env.history) }
+{
+    let (shared, first) = Shared::open(alloc, script.copy(alloc)?, bodies)?;
+    let word = AtomicU32::new(0);
+    let (first, rest) = in_scope(rt, alloc, &shared, &word, script, first, clock, gate)?;
+    Ok(shared.close(first, rest).0)
+}
