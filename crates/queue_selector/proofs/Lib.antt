@@ -1,0 +1,5 @@
+pub mod Scan
+pub mod Choice
+pub mod Chosen
+pub mod Staged
+pub mod Waiting

@@ -1,0 +1,139 @@
+use super::*;
+use std::alloc::AllocError;
+use std::test::Fail;
+use task_base::Lane;
+
+#[test]
+fn empty_lanes(rt: HostRuntime) -> Result<(), Fail> {
+    let mut queue = WorkQueue::new(rt.alloc(), 1)?;
+    assert_eq!(rt; queue.front(Lane::Immediate), None);
+    assert_eq!(rt; queue.front(Lane::Delayed), None);
+    assert_eq!(rt; queue.pop(Lane::Immediate), None);
+    assert_eq!(rt; queue.pop(Lane::Delayed), None);
+    queue.push(Lane::Delayed, 7, 5);
+    assert_eq!(rt; queue.front(Lane::Immediate), None);
+    assert_eq!(rt; queue.pop(Lane::Immediate), None);
+    assert_eq!(rt; queue.pop(Lane::Delayed), Some(queued(7, 5)));
+    assert_eq!(rt; queue.front(Lane::Delayed), None);
+    assert!(rt;
+        WorkQueue::new(rt.alloc(), 0)?
+            .front(Lane::Immediate)
+            .is_none()
+    );
+    Ok(())
+}
+
+/// Tasks in the incoming queue wait behind those of the work queue, and all go at a clear.
+#[test]
+fn first_in_first_out(rt: HostRuntime) -> Result<(), Fail> {
+    let mut queue = WorkQueue::new(rt.alloc(), 4)?;
+    queue.push(Lane::Immediate, 1, 10);
+    queue.push(Lane::Immediate, 2, 20);
+    queue.push(Lane::Delayed, 3, 30);
+    queue.push(Lane::Immediate, 4, 40);
+    assert_eq!(rt; queue.pop(Lane::Immediate), Some(queued(1, 10)));
+    queue.push(Lane::Immediate, 5, 50);
+    assert_eq!(rt; queue.pop(Lane::Immediate), Some(queued(2, 20)));
+    assert_eq!(rt; queue.front(Lane::Immediate), Some(queued(4, 40)));
+    assert_eq!(rt; queue.front(Lane::Delayed), Some(queued(3, 30)));
+    queue.clear();
+    assert_eq!(rt; queue.front(Lane::Immediate), None);
+    assert_eq!(rt; queue.front(Lane::Delayed), None);
+    queue.push(Lane::Immediate, 6, 60);
+    assert_eq!(rt; queue.pop(Lane::Immediate), Some(queued(6, 60)));
+    assert_eq!(rt; queue.pop(Lane::Immediate), None);
+    Ok(())
+}
+
+/// A thousand pushes and pops in turn beside plain lists, with one clear among them, and then pops until none is left.
+/// At first most tasks are immediate, and in the second half most are delayed.
+#[test]
+fn lanes_beside_plain_lists(rt: HostRuntime) -> Result<(), Fail> {
+    let mut queue = WorkQueue::new(rt.alloc(), 1000)?;
+    let mut plain = Plain {
+        immediate: Vec::new(rt.alloc()),
+        delayed: Vec::new(rt.alloc()),
+    };
+    for number in 0..1000 {
+        let lane = lane_to_push(number);
+        queue.push(lane, number / 2, u64::from(number));
+        plain.push(lane, queued(number / 2, u64::from(number)))?;
+        assert!(rt; agrees(&queue, &plain), "pushed {number}");
+        if number == 300 {
+            queue.clear();
+            plain.clear();
+        }
+        let lane = lane_to_pop(number);
+        assert_eq!(rt; queue.pop(lane), plain.pop(lane), "popped at {number}");
+        assert!(rt; agrees(&queue, &plain), "popped at {number}");
+    }
+    for turn in 0..1000 {
+        let lane = lane_to_pop(turn);
+        assert_eq!(rt; queue.pop(lane), plain.pop(lane), "popped in turn {turn}");
+    }
+    assert!(rt; plain.immediate.is_empty() && plain.delayed.is_empty());
+    assert!(rt; agrees(&queue, &plain));
+    Ok(())
+}
+
+/// The tasks of both lanes as plain lists.
+#[derive(Drop)]
+struct Plain {
+    immediate: Vec<Queued>,
+    delayed: Vec<Queued>,
+}
+
+impl Plain {
+    fn push(&mut self, lane: Lane, queued: Queued) -> Result<(), AllocError> {
+        match lane {
+            Lane::Immediate => self.immediate.push(queued)?,
+            Lane::Delayed => self.delayed.push(queued)?,
+        }
+        Ok(())
+    }
+
+    fn pop(&mut self, lane: Lane) -> Option<Queued> {
+        match lane {
+            Lane::Immediate => take_first(&mut self.immediate),
+            Lane::Delayed => take_first(&mut self.delayed),
+        }
+    }
+
+    fn clear(&mut self) {
+        self.immediate.clear();
+        self.delayed.clear();
+    }
+}
+
+fn take_first(plain: &mut Vec<Queued>) -> Option<Queued> {
+    if plain.is_empty() {
+        return None;
+    }
+    Some(plain.remove(0))
+}
+
+/// Whether the first tasks are those of the plain lists.
+fn agrees(queue: &WorkQueue, plain: &Plain) -> bool {
+    queue.front(Lane::Immediate) == plain.immediate.first().copied()
+        && queue.front(Lane::Delayed) == plain.delayed.first().copied()
+}
+
+fn queued(task: u32, order: u64) -> Queued {
+    Queued { task, order }
+}
+
+fn lane_to_push(number: u32) -> Lane {
+    if (number % 5 < 3) == (number < 500) {
+        Lane::Immediate
+    } else {
+        Lane::Delayed
+    }
+}
+
+fn lane_to_pop(number: u32) -> Lane {
+    if number % 2 == 0 {
+        Lane::Immediate
+    } else {
+        Lane::Delayed
+    }
+}
