@@ -7,6 +7,7 @@ use task_body::ScriptBody;
 
 mod crowd;
 mod fronts;
+mod gates;
 mod scripts;
 mod served;
 mod turns;

@@ -70,7 +70,7 @@ fn end_one<D: Desk, R: Wait + Abort>(rt: &R, desk: &mut D, work: D::Work)
 
 /// Opens the script of three desks, with the driver's seat.
 #[tactic(auto, using(crate::proofs::Crossing::crossing_bodies))]
-fn opened(alloc: Global) -> Result<(Shared<ScriptBody>, EnvSeat<ScriptBody>), AllocError>
+pub fn opened(alloc: Global) -> Result<(Shared<ScriptBody>, EnvSeat<ScriptBody>), AllocError>
     ensures script { IfOk result (λ made. made.0.basis ≡ crossing_plan) }
     ensures seat { IfOk result (λ made. made.1 ≡ driver_seat made.0 1) }
 {
