@@ -14,7 +14,7 @@ use Rattle.hist_model.specs.Laws.Agenda.{agenda, first_of}
 use Rattle.hist_model.specs.Script.{current, is_wanted, wants}
 use Rattle.hist_model.specs.Views.{own_entries}
 use Rattle.list_laws.proofs.Values.{eqb-same, some-injective}
-use Rattle.pool_core.proofs.Lists.{slice_get-set_same, slice_get-set_other}
+use Rattle.list_laws.proofs.Places.{slice_get-set_same, slice_get-set_other}
 use Rattle.pool_laws.proofs.Room.Capacity.{free_parts}
 use Rattle.std.proofs.Common.{◌≡◌, ℕ, ◌+◌, ◌<◌, ◌≤◌, ◌^◌, Bool, true, false, eqb, List, [], ◌∷◌, ◌++◌}
 use Rattle.std.proofs.Common.{length, drop, take, Option, Some, None, zero, suc, refl, sym, ap, ◌∙◌, subst, arith, add-one}

@@ -3,7 +3,7 @@ use Rattle.std.proofs.Common.{◌≡◌, ℕ, ◌≤◌, Bool, true, false, cond
 use Rattle.std.specs.Prelude.{filter, find, is_some, Contains}
 use Rattle.std.specs.List.{AllByRecursion}
 use Rattle.std.proofs.lemmas.Bool.{both_ways, true≢false}
-use Rattle.std.proofs.lemmas.List.Elements.{All-from_recursion, All-contains}
+use Rattle.std.proofs.lemmas.List.Elements.{All-from_recursion, All-contains, Contains-append_right}
 use Rattle.std.proofs.lemmas.Option.{none-some, same_Some}
 use Rattle.list_laws.specs.Lists.{count}
 
@@ -47,3 +47,12 @@ contained_counts p xs x among passes = one_at_least (count p xs) (λ none.
 -- so is one that is found
 pub found_counts : {A : Type 0} (p : A → Bool) (xs : List A) → is_some (find p xs) ≡ true → 1 ≤ count p xs
 found_counts p xs h = one_at_least (count p xs) (λ none. true≢false (sym h ∙ ap is_some (none_found p xs none)))
+
+-- what is found in a list is in it
+pub find_contains : {A : Type 0} (test : A → Bool) (xs : List A) (x : A) → find test xs ≡ Some x → Contains xs x
+find_contains test [] x is = absurd (none-some x is)
+find_contains {A = A} test (y ∷ ys) x is = by (test y) is (find_contains test ys x)
+  where
+    by : (b : Bool) → cond b (Some y) (find test ys) ≡ Some x → (find test ys ≡ Some x → Contains ys x) → Contains (y ∷ ys) x
+    by true here rest = (0, omega arith, same_Some y x here)
+    by false there rest = Contains-append_right (y ∷ []) ys x (rest there)

@@ -13,3 +13,4 @@ pub mod Options
 pub mod Places
 pub mod Pigeons
 pub mod Made
+pub mod Rises

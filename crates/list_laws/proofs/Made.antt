@@ -1,6 +1,6 @@
 -- What is in a filtered list, in what is made of a list, and in a row of numbers.
-use Rattle.std.proofs.Common.{false, ◌≡◌, ℕ, ◌+◌, ◌-◌, ◌<◌, Bool, true, List, [], ◌∷◌, ◌++◌, length, refl, sym, ap, ◌∙◌, Option, Some, None, arith}
-use Rattle.std.specs.Prelude.{filter, Contains, not, ◌&&◌}
+use Rattle.std.proofs.Common.{false, ◌≡◌, ℕ, ◌+◌, ◌-◌, ◌<◌, Bool, true, List, [], ◌∷◌, ◌++◌, length, refl, sym, ap, ◌∙◌, Option, Some, None, arith, inl, inr, suc, zero}
+use Rattle.std.specs.Prelude.{filter, Contains, not, ◌&&◌, ◌⊎◌}
 use Rattle.std.specs.Option.{IfSome}
 use Rattle.std.specs.List.{filter_map, cons_option, range_with_len}
 use Rattle.std.proofs.lemmas.List.Elements.{All-from_recursion, recursion_from_All, All-contains, All-contains_itself, All-filter, filter_passes, filter_map-append}
@@ -12,6 +12,14 @@ use Rattle.list_laws.proofs.Finds.{contained_counts}
 use Rattle.list_laws.proofs.Elements.{AllByRecursion-made, AllByRecursion-filter_map, AllByRecursion-map, unfiltered}
 use Rattle.list_laws.proofs.Filters.{filter-filter, filter_congr, filter_map_congr_in}
 use Rattle.list_laws.proofs.Ranges.{AllByRecursion-range, range_split}
+
+-- an element of a list is its first, or one of the rest
+pub contains_cases : {A : Type 0} (y : A) (ys : List A) (x : A) → Contains (y ∷ ys) x → (y ≡ x) ⊎ Contains ys x
+contains_cases y ys x (zero, there, is) = inl is
+contains_cases y ys x (suc k, there, is) = inr (k, omega (arith, there), is)
+
+pub none_contained : {A : Type 0} (x : A) → Contains [] x → ⊥
+none_contained x among = omega (arith, among.1)
 
 -- what is in a filtered list is in the list, and passes
 pub filter_contains : {A : Type 0} (p : A → Bool) (xs : List A) (x : A) → Contains (filter p xs) x → Contains xs x × (p x ≡ true)

@@ -1,9 +1,10 @@
 -- Elements of joined lists by their index, one more element at the end, and tests that no element passes.
-use Rattle.std.proofs.Common.{◌≡◌, ℕ, zero, suc, ◌+◌, ◌<◌, ◌≤◌, Bool, true, false, cond, List, [], ◌∷◌, ◌++◌, length, refl, ◌∙◌, ◌⊎◌, inl, inr, Some, arith}
-use Rattle.std.specs.Prelude.{slice_get}
+use Rattle.std.proofs.lemmas.List.{get_or-set_same, length-set}
+use Rattle.std.proofs.Common.{◌≡◌, ℕ, zero, suc, ◌+◌, ◌<◌, ◌≤◌, Bool, true, false, cond, List, [], ◌∷◌, ◌++◌, length, refl, ◌∙◌, ◌⊎◌, inl, inr, Some, arith, replicate, ap}
+use Rattle.std.specs.Prelude.{slice_get, slice_set}
 use Rattle.std.specs.List.{list_any, AllByRecursion}
 use Rattle.std.proofs.lemmas.Bool.{cases_Bool, cond-true, cond-false, or_parts, or_from}
-use Rattle.std.proofs.lemmas.Option.{slice_get_within}
+use Rattle.std.proofs.lemmas.Option.{slice_get_within, slice_get-get_or}
 use Rattle.list_laws.proofs.Elements.{slice_get-front, AllByRecursion-append}
 use Rattle.list_laws.specs.Lists.{count}
 use Rattle.list_laws.proofs.Counts.{count-append, count-cons}
@@ -73,3 +74,19 @@ count_once-push p xs x once fresh = elim (cases_Bool (p x)) [
   | inl is ↦ omega (arith, count-push p xs x, cond-true {A = ℕ} (p x) 1 0 is, count_none p xs (fresh is))
   | inr is ↦ omega (arith, count-push p xs x, cond-false {A = ℕ} (p x) 1 0 is, once)
 ]
+
+-- a list of one value, and a list with another value at a place
+pub slice_get-replicate : {A : Type 0} (n i : ℕ) (x : A) → i < n → slice_get (replicate n x) i ≡ Some x
+slice_get-replicate zero i x less = absurd (omega (arith, less))
+slice_get-replicate (suc n) zero x less = refl
+slice_get-replicate (suc n) (suc i) x less = slice_get-replicate n i x (omega (arith, less))
+
+pub slice_get-set_same : {A : Type 0} (xs : List A) (i : ℕ) (x : A) → i < length xs → slice_get (slice_set xs i x) i ≡ Some x
+slice_get-set_same xs i x within = slice_get-get_or (slice_set xs i x) i x (rw (length-set xs i x) within) ∙ ap Some (get_or-set_same xs i x x within)
+
+pub slice_get-set_other : {A : Type 0} (xs : List A) (i j : ℕ) (x : A) → (i ≡ j → ⊥) → slice_get (slice_set xs i x) j ≡ slice_get xs j
+slice_get-set_other [] i j x other = refl
+slice_get-set_other (y ∷ ys) zero zero x other = absurd (other refl)
+slice_get-set_other (y ∷ ys) zero (suc j) x other = refl
+slice_get-set_other (y ∷ ys) (suc i) zero x other = refl
+slice_get-set_other (y ∷ ys) (suc i) (suc j) x other = slice_get-set_other ys i j x (λ is. other (ap suc is))

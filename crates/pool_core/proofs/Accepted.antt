@@ -1,54 +1,29 @@
 -- What a past of the pool says of the tasks that were accepted.
 use Rattle.hist_model.proofs.Laws.Choice.{head_is}
-use Rattle.list_laws.proofs.Counts.{count_step}
-use Rattle.list_laws.proofs.Elements.{AllByRecursion-append, AllByRecursion-both, AllByRecursion-contains, AllByRecursion-map}
-use Rattle.list_laws.proofs.Filters.{filter_none}
-use Rattle.list_laws.proofs.Finds.{find_passes}
+use Rattle.list_laws.proofs.Elements.{AllByRecursion-append, AllByRecursion-contains, AllByRecursion-map}
+use Rattle.list_laws.proofs.Finds.{find_contains, find_passes}
 use Rattle.list_laws.proofs.Pigeons.{pigeons_fit}
 use Rattle.list_laws.proofs.Ranges.{range_any_at}
 use Rattle.list_laws.proofs.Values.{eqb-same}
-use Rattle.list_laws.specs.Lists.{count, holds_of}
-use Rattle.pool_core.proofs.Lists.{find_contains}
+use Rattle.list_laws.specs.Lists.{holds_of}
 use Rattle.pool_core.specs.Pasts.{IsDeclared, IsPoolPast}
-use Rattle.pool_laws.proofs.Keys.Posts.{posts_in_order}
-use Rattle.std.proofs.Common.{Bool, List, None, Option, Some, [], ap, arith, false, length, length-append, refl, sym, true, ℕ, ◌++◌, ◌<◌, ◌∙◌, ◌∷◌, ◌≡◌, ◌≤◌}
+use Rattle.pool_laws.proofs.Keys.Posts.{posts_in_order, in_order_counts, in_order_found}
+use Rattle.std.proofs.Common.{Bool, List, None, Option, Some, ap, arith, false, length, length-append, refl, sym, true, ℕ, ◌++◌, ◌<◌, ◌∙◌, ◌≡◌, ◌≤◌}
 use Rattle.std.proofs.lemmas.Bool.{and_parts, both_ways, eqb-false, eqb-true, false_from_ne_true, ne_eqb, not-true}
 use Rattle.std.proofs.lemmas.List.FromFn.{length-range_with_len}
 use Rattle.std.proofs.lemmas.Option.{none-some}
 use Rattle.std.specs.List.{AllByRecursion, range_with_len}
-use Rattle.std.specs.Prelude.{Contains, find, not, ◌==◌}
+use Rattle.std.specs.Prelude.{Contains, not, ◌==◌}
 use Rattle.task_base.specs.Plan.{Plan}
 use Rattle.task_base.specs.Runners.{sequence_of}
 use Rattle.task_base.specs.declared.entry.Entry.{Entry}
 use Rattle.task_model.proofs.Growth.{posts_push}
 use Rattle.task_model.specs.Keys.{Ready}
-use Rattle.task_model.specs.Posts.{Before, InOrder, Posted, is_ended, is_taken, post_of, posted_by, posts}
+use Rattle.task_model.specs.Posts.{InOrder, Posted, is_ended, is_taken, post_of, posted_by, posts}
 use Rattle.task_model.specs.Refusal.{is_forbidden}
 use Rattle.task_model.specs.Seats.{Running, running, runs_of}
 use Rattle.task_model.specs.Sequences.{head_of}
 use Rattle.task_base.specs.declared.entry.Kind.TheVariants as kinds
-
--- each of some posts in order is found by its task
-in_order_found : (ps : List Posted) → InOrder ps → AllByRecursion (λ p. find (λ q. q.task == p.task) ps ≡ Some p) ps
-in_order_found [] order = tt
-in_order_found (x ∷ xs) order = (
-  rw (eqb-same x.task) refl,
-  AllByRecursion-map _ (λ p. find (λ q. q.task == p.task) (x ∷ xs) ≡ Some p) xs (λ p h. rw (ne_eqb x.task p.task h.0.another) h.1)
-      (AllByRecursion-both (Before x) _ xs order.0 (in_order_found xs order.1)),
-)
-
--- of posts in order at most one is of a task
-in_order_counts : (t : ℕ) (ps : List Posted) → InOrder ps → count (λ p. p.task == t) ps ≤ 1
-in_order_counts t [] order = omega arith
-in_order_counts t (x ∷ xs) order = by (x.task == t) refl (in_order_counts t xs order.1)
-  where
-    none_else : (x.task == t) ≡ true → count (λ p. p.task == t) xs ≡ 0
-    none_else here = ap length (filter_none (λ p. p.task == t) xs (AllByRecursion-map (Before x) (λ p. (p.task == t) ≡ false) xs
-        (λ p before. ne_eqb p.task t (λ same. before.another (eqb-true x.task t here ∙ sym same))) order.0))
-
-    by : (b : Bool) → (x.task == t) ≡ b → count (λ p. p.task == t) xs ≤ 1 → count (λ p. p.task == t) (x ∷ xs) ≤ 1
-    by true here rest = omega (arith, count_step (λ p. p.task == t) x xs true here, none_else here)
-    by false other rest = omega (arith, count_step (λ p. p.task == t) x xs false other, rest)
 
 -- there are no more posts in order than tasks that they may be of
 tasks_fit : (n : ℕ) (ps : List Posted) → InOrder ps → AllByRecursion (λ p. p.task < n) ps → length ps ≤ n

@@ -1,18 +1,18 @@
 -- The delayed tasks that are not ripe, as the past grows.
+use Rattle.list_laws.proofs.Rises.{map-insert_by, sort_by-filter, sort_by-push}
 use Rattle.list_laws.proofs.Counts.{count_le}
 use Rattle.list_laws.proofs.Elements.{AllByRecursion-filter, AllByRecursion-map, AllByRecursion-mapped}
 use Rattle.list_laws.proofs.Filters.{filter-filter, filter_congr}
 use Rattle.list_laws.proofs.Options.{option_or-none}
-use Rattle.list_laws.proofs.Sorts.{AllByRecursion-sort_by, differ-filter, differ-push, length-sort_by}
+use Rattle.list_laws.proofs.Sorts.{AllByRecursion-sort_by, differ-filter, length-sort_by}
 use Rattle.list_laws.specs.Sorts.{Differ, insert_by, sort_by}
-use Rattle.pool_core.proofs.Lists.{map-insert_by, same_members-push, sort_by-filter, sort_same}
 use Rattle.pool_core.specs.Calls.{after_post, after_tick}
 use Rattle.pool_core.specs.Tables.{is_unripe, ripening_of, unripe}
 use Rattle.pool_laws.proofs.Keys.Arrivals.{one_ripens_first, posts_differ, ranks_ripens}
 use Rattle.pool_laws.proofs.Keys.Posts.{posts_same}
 use Rattle.pool_laws.proofs.Keys.Ready.{posts_within, tick_from_push}
 use Rattle.pool_laws.specs.Keys.{NoTickAhead, moves_posts, moves_ready, tick_by}
-use Rattle.std.proofs.Common.{Bool, List, None, Option, Some, [], ap, arith, cond, false, inl, inr, length, map, refl, sym, true, ℕ, ◌++◌, ◌+◌, ◌<◌, ◌∙◌, ◌∷◌, ◌≡◌, ◌≢◌, ◌≤◌}
+use Rattle.std.proofs.Common.{Bool, List, None, Option, Some, [], ap, arith, cond, false, length, map, refl, sym, true, ℕ, ◌++◌, ◌+◌, ◌<◌, ◌∙◌, ◌∷◌, ◌≡◌, ◌≢◌, ◌≤◌}
 use Rattle.std.proofs.lemmas.Bool.{ltb-true, true≢false}
 use Rattle.std.proofs.lemmas.List.{append-nil}
 use Rattle.std.proofs.lemmas.List.Elements.{All-from_recursion, filter-append}
@@ -82,13 +82,7 @@ pub unripe_at_delayed_post : (past : List Entry) (seat task runner delay : ℕ) 
     ≡ insert_by ripenings.ripens_before (record { ripe = now_of past + delay; post = length past; task = task }) (map ripening_of (unripe past))
 unripe_at_delayed_post past seat task runner delay later ahead =
     ap (λ xs. map ripening_of (sort_by ripens_before xs)) (unripe_behind_post past seat task runner delay ∙ ap (λ b. known ++ cond b (new ∷ []) []) is)
-    ∙ ap (map ripening_of) (sort_same ripens_before ranks_ripens (known ++ new ∷ []) (new ∷ known)
-    (differ-push ripens_before known new (unripe_differ past) behind) (
-      AllByRecursion-map (λ p. (ripens_before p new ≡ true) ⊎ (ripens_before new p ≡ true))
-          (λ p. (ripens_before new p ≡ true) ⊎ (ripens_before p new ≡ true)) known turned behind,
-      unripe_differ past,
-    )
-    (same_members-push known new))
+    ∙ ap (map ripening_of) (sort_by-push ripens_before ranks_ripens known new (unripe_differ past) behind)
     ∙ map-insert_by ripens_before ripenings.ripens_before ripening_of new (unripe past) (λ p q. refl)
   where
     e : Entry
@@ -109,10 +103,6 @@ unripe_at_delayed_post past seat task runner delay later ahead =
 
     is : is_unripe (past ++ e ∷ []) new ≡ true
     is = ap (λ b. b && is_none (tick_from (past ++ e ∷ []) (now_of past + delay))) later ∙ ap is_none none
-
-    turned : (p : Posted) → (ripens_before p new ≡ true) ⊎ (ripens_before new p ≡ true) → (ripens_before new p ≡ true) ⊎ (ripens_before p new ≡ true)
-    turned p (inl h) = inr h
-    turned p (inr h) = inl h
 
     behind : AllByRecursion (λ p. (ripens_before p new ≡ true) ⊎ (ripens_before new p ≡ true)) known
     behind = AllByRecursion-filter (λ p. (ripens_before p new ≡ true) ⊎ (ripens_before new p ≡ true)) (is_unripe past) (posts past)

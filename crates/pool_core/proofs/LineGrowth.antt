@@ -1,4 +1,5 @@
 -- The lists of the sequences, and their cells, at each entry.
+use Rattle.list_laws.proofs.Rises.{found_dropped}
 use Rattle.list_laws.proofs.Elements.{AllByRecursion-map}
 use Rattle.list_laws.proofs.Filters.{filter-filter, filter-map, filter_congr, filter_congr_in, filter_never, filter_none}
 use Rattle.list_laws.proofs.Finds.{contained_counts}
@@ -6,7 +7,7 @@ use Rattle.list_laws.proofs.Tests.{list_any_never}
 use Rattle.list_laws.proofs.Values.{eqb-same}
 use Rattle.pool_core.proofs.Accepted.{head_accepted, others_run_others}
 use Rattle.pool_core.proofs.Lines.{behind_first-map, lines_with, one_arrival, running_there, runs_of_it}
-use Rattle.pool_core.proofs.Lists.{found_dropped, or_none}
+use Rattle.pool_core.proofs.Lists.{or_none}
 use Rattle.pool_core.proofs.TakenKeys.{HasKey, arrivals_posted, head_key}
 use Rattle.pool_core.specs.Calls.{after_done, after_end, after_shutdown, next}
 use Rattle.pool_core.specs.Lines.{AreLines, line_in, waiting_of}

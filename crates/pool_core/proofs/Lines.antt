@@ -1,10 +1,10 @@
 -- What the lists of the sequences, and their cells, say of heads, of takes and of tasks that run; one more arrival.
+use Rattle.list_laws.proofs.Rises.{rises_last}
 use Rattle.list_laws.proofs.Elements.{AllByRecursion-filter, AllByRecursion-map, AllByRecursion-mapped}
 use Rattle.list_laws.proofs.Values.{eqb-same, some-injective}
 use Rattle.list_laws.specs.Lists.{holds_of}
 use Rattle.list_laws.specs.Sorts.{Rises}
 use Rattle.pool_core.proofs.Accepted.{is_declared, one_post, runs_accepted}
-use Rattle.pool_core.proofs.Lists.{rises_last}
 use Rattle.pool_core.proofs.TakenKeys.{HasKey, arrivals_posted}
 use Rattle.pool_core.specs.Lines.{AreLines, line_in, waiting_of}
 use Rattle.pool_core.specs.Pasts.{IsPoolPast}

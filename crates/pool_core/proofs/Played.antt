@@ -1,6 +1,6 @@
 -- What each call does to what the tables of the tests say of the past.
+use Rattle.list_laws.proofs.Places.{slice_get-replicate, slice_get-set_same, slice_get-set_other}
 use Rattle.list_laws.proofs.Values.{eqb-same, some-injective}
-use Rattle.pool_core.proofs.Lists.{slice_get-replicate, slice_get-set_same, slice_get-set_other}
 use Rattle.pool_core.specs.Calls.{CanPost, CanTick, CanTake, RunsClosed, RunsOpen, IsInPhase, next, after_post, after_tick, after_take, after_end, after_enter, after_leave, after_policy, after_shutdown, after_done}
 use Rattle.pool_core.specs.Played.{Tells, TellsPosted, TellsBlocked, TellsRun, IsPlayed, IsSeated}
 use Rattle.pool_core.specs.StandsFor.{StandsFor}

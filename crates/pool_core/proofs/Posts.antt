@@ -1,4 +1,6 @@
 -- A post keeps what the pool stands for.
+use Rattle.list_laws.proofs.Places.{slice_get-set_same}
+use Rattle.list_laws.proofs.Rises.{length-insert_by}
 use Rattle.delayed_manager.specs.Delayed.{ripens_before, with_held}
 use Rattle.list_laws.proofs.Values.{some-injective}
 use Rattle.list_laws.specs.Sorts.{Rises, insert_by}
@@ -9,7 +11,6 @@ use Rattle.pool_core.proofs.GroupGrowth.{groups_kept}
 use Rattle.pool_core.proofs.Kept.{stands_kept}
 use Rattle.pool_core.proofs.LineGrowth.{lines_kept}
 use Rattle.pool_core.proofs.Lines.{line_below, lines_at_arrival, sequence_there}
-use Rattle.pool_core.proofs.Lists.{length-insert_by, slice_get-set_same}
 use Rattle.pool_core.proofs.Pasts.{past_at_post}
 use Rattle.pool_core.proofs.Queues.{AllFollow, other_sequence}
 use Rattle.pool_core.proofs.Tables.{postings_at_post, seats_kept}

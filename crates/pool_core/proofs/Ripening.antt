@@ -1,4 +1,5 @@
 -- One delayed task ripens in the course of a tick: it goes to the end of its sequence, if it may start.
+use Rattle.list_laws.proofs.Rises.{rises_front}
 use Rattle.delayed_manager.specs.Delayed.{Waiting, with_held}
 use Rattle.list_laws.proofs.Elements.{AllByRecursion-append, AllByRecursion-at, AllByRecursion-both, AllByRecursion-contains_itself, AllByRecursion-filter}
 use Rattle.list_laws.proofs.Filters.{filter_all, filter_passes}
@@ -8,7 +9,6 @@ use Rattle.pool_core.proofs.Accepted.{is_declared, posts_fit}
 use Rattle.pool_core.proofs.Delays.{ripe_at_tick}
 use Rattle.pool_core.proofs.Following.{has_place, runner_is}
 use Rattle.pool_core.proofs.Lines.{line_below, lines_at_arrival, lines_at_barred, sequence_there}
-use Rattle.pool_core.proofs.Lists.{rises_front}
 use Rattle.pool_core.proofs.Queues.{AllFollow, all_refreshed, other_sequence, roomy_refreshed}
 use Rattle.pool_core.specs.Calls.{after_tick}
 use Rattle.pool_core.specs.Lines.{AreLines, waiting_of}

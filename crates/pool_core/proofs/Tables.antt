@@ -1,7 +1,7 @@
 -- The tables of tasks and seats as the past grows.
+use Rattle.list_laws.proofs.Places.{slice_get-replicate, slice_get-set_other, slice_get-set_same}
 use Rattle.list_laws.specs.Lists.{holds_of, keep}
 use Rattle.pool_core.proofs.Accepted.{one_post}
-use Rattle.pool_core.proofs.Lists.{slice_get-replicate, slice_get-set_other, slice_get-set_same}
 use Rattle.pool_core.specs.Calls.{after_end, after_post, next}
 use Rattle.pool_core.specs.Pasts.{IsPoolPast, pool_running}
 use Rattle.pool_core.specs.Tables.{ArePostings, AreSeats, posting_of}

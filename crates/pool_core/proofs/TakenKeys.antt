@@ -1,8 +1,8 @@
 -- A task that was taken has a key, as the past grows.
+use Rattle.list_laws.proofs.Finds.{find_contains}
 use Rattle.list_laws.proofs.Elements.{AllByRecursion-contains, AllByRecursion-contains_itself, AllByRecursion-through}
 use Rattle.list_laws.proofs.Values.{some-injective}
 use Rattle.list_laws.specs.Sorts.{SameMembers}
-use Rattle.pool_core.proofs.Lists.{find_contains}
 use Rattle.pool_core.specs.Calls.{after_post, next}
 use Rattle.pool_core.specs.Pasts.{TakenHaveKeys}
 use Rattle.pool_laws.proofs.Keys.Arrivals.{head_is_first_arrival}

@@ -1,10 +1,14 @@
 -- What one more entry does to the accepted tasks: only an accepted post changes them, the post of a task stays, and the
 -- posts stay in order and of tasks of their own, as long as no task is posted twice.
-use Rattle.std.proofs.Common.{◌≡◌, ℕ, Bool, true, false, cond, eqb, List, [], ◌∷◌, ◌++◌, length, refl, sym, Some, None}
+use Rattle.list_laws.specs.Lists.{count}
+use Rattle.list_laws.proofs.Values.{eqb-same}
+use Rattle.list_laws.proofs.Filters.{filter_none}
+use Rattle.list_laws.proofs.Counts.{count_step}
+use Rattle.std.proofs.Common.{◌≡◌, ℕ, Bool, true, false, cond, eqb, List, [], ◌∷◌, ◌++◌, length, refl, sym, Some, None, ap, arith, ◌∙◌, ◌≤◌}
 use Rattle.std.specs.Prelude.{find, nat_lt, ◌==◌}
 use Rattle.std.specs.Option.{option_or}
 use Rattle.std.specs.List.{AllByRecursion}
-use Rattle.std.proofs.lemmas.Bool.{true≢false, ltb-true, eqb-false}
+use Rattle.std.proofs.lemmas.Bool.{true≢false, ltb-true, eqb-false, ne_eqb, eqb-true}
 use Rattle.std.proofs.lemmas.Option.{none-some}
 use Rattle.std.proofs.lemmas.List.{append-nil}
 use Rattle.std.proofs.lemmas.List.Folds.{find-append}
@@ -79,3 +83,25 @@ main_posts_in_order past e task queue delay is none order =
     rw (main_posts_push past e, is)
     (in_order_push (main_posts past) (post_behind past task queue delay) order
     (all_before past (main_posts past) task queue delay (main_posts_within past) none))
+
+-- each of some posts in order is found by its task
+pub in_order_found : (ps : List Posted) → InOrder ps → AllByRecursion (λ p. find (λ q. q.task == p.task) ps ≡ Some p) ps
+in_order_found [] order = tt
+in_order_found (x ∷ xs) order = (
+  rw (eqb-same x.task) refl,
+  AllByRecursion-map _ (λ p. find (λ q. q.task == p.task) (x ∷ xs) ≡ Some p) xs (λ p h. rw (ne_eqb x.task p.task h.0.another) h.1)
+      (AllByRecursion-both (Before x) _ xs order.0 (in_order_found xs order.1)),
+)
+
+-- of posts in order at most one is of a task
+pub in_order_counts : (t : ℕ) (ps : List Posted) → InOrder ps → count (λ p. p.task == t) ps ≤ 1
+in_order_counts t [] order = omega arith
+in_order_counts t (x ∷ xs) order = by (x.task == t) refl (in_order_counts t xs order.1)
+  where
+    none_else : (x.task == t) ≡ true → count (λ p. p.task == t) xs ≡ 0
+    none_else here = ap length (filter_none (λ p. p.task == t) xs (AllByRecursion-map (Before x) (λ p. (p.task == t) ≡ false) xs
+        (λ p before. ne_eqb p.task t (λ same. before.another (eqb-true x.task t here ∙ sym same))) order.0))
+
+    by : (b : Bool) → (x.task == t) ≡ b → count (λ p. p.task == t) xs ≤ 1 → count (λ p. p.task == t) (x ∷ xs) ≤ 1
+    by true here rest = omega (arith, count_step (λ p. p.task == t) x xs true here, none_else here)
+    by false other rest = omega (arith, count_step (λ p. p.task == t) x xs false other, rest)
