@@ -1,5 +1,7 @@
-pub mod Scan
+pub mod Again
 pub mod Choice
-pub mod Chosen
-pub mod Staged
-pub mod Waiting
+pub mod Held
+pub mod Lesser
+pub mod Moves
+pub mod Parts
+pub mod Sorting

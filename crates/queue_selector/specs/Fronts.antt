@@ -1,7 +1,7 @@
 -- Which of several open fronts runs first.
-use Rattle.std.specs.Prelude.{ℕ, ◌==◌, nat_lt, nat_le, Bool, true, false, ◌&&◌, if◌then◌else◌, List, length, filter, Option, Some, None}
+use Rattle.std.specs.Prelude.{ℕ, ◌==◌, nat_lt, nat_le, Bool, true, false, ◌&&◌, if◌then◌else◌, List, length, filter, Option}
 use Rattle.std.specs.Option.{option_map}
-use Rattle.list_laws.specs.Lists.{then_by, least, holds_of}
+use Rattle.list_laws.specs.Lists.{least, holds_of}
 use Rattle.task_base.specs.declared.script.Lane.{Lane}
 use Rattle.task_base.specs.declared.script.Lane.TheVariants.{Immediate, Delayed}
 use Rattle.queue_selector.specs.declared.front.Front.{Front}
@@ -41,19 +41,3 @@ is_starved fronts streak = nat_le MOST_DELAYED streak && nat_lt 0 (length (immed
 -- immediate ones among them, the one of least order (as Chromium's `task_queue_selector.cc` has it)
 abbrev pub choice_among : List Front → ℕ → Option Front
 choice_among fronts streak = least order_below (if is_starved fronts streak then immediate_of_least_class fronts else of_least_class fronts)
-
--- the place of a lane among the two: they are alike until the streak is long, and from then on the immediate one goes
--- first
-abbrev pub turn : ℕ → Lane → ℕ
-turn streak Immediate = 0
-turn streak Delayed = if nat_le MOST_DELAYED streak then 1 else 0
-
--- the first runs before the second: by the class, then by the lane's turn, then by the order
-abbrev pub goes_before : ℕ → Front → Front → Bool
-goes_before streak = then_by (λ f. f.class) (then_by (λ f. turn streak f.lane) order_below)
-
--- the one of two fronts that runs first
-abbrev pub sooner : ℕ → Option Front → Option Front → Option Front
-sooner streak None other = other
-sooner streak (Some first) None = Some first
-sooner streak (Some first) (Some other) = Some (if goes_before streak other first then other else first)

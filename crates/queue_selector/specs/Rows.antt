@@ -1,6 +1,5 @@
 -- What the rows of queues say of their open fronts.
-use Rattle.std.specs.Prelude.{ℕ, ◌+◌, ◌==◌, Bool, ◌&&◌, List, [], ◌∷◌, ◌++◌, Option, None, is_some}
-use Rattle.std.specs.List.{list_any}
+use Rattle.std.specs.Prelude.{ℕ, ◌+◌, List, [], ◌∷◌, ◌++◌, Option, None}
 use Rattle.std.specs.Option.{option_map, option_to_list}
 use Rattle.task_base.specs.declared.script.Lane.{Lane}
 use Rattle.task_base.specs.declared.script.Lane.TheVariants.{Immediate, Delayed}
@@ -33,7 +32,3 @@ row_fronts queue row = option_to_list (open_front queue Immediate row) ++ option
 abbrev pub fronts_from : ℕ → List Row → List Front
 fronts_from queue [] = []
 fronts_from queue (row ∷ rows) = row_fronts queue row ++ fronts_from (queue + 1) rows
-
--- an immediate front of the class is open
-abbrev pub immediate_waits : List Row → ℕ → Bool
-immediate_waits rows class = list_any (λ row. row.class == class && is_some row.immediate) rows

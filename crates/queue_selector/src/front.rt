@@ -1,5 +1,5 @@
 ghost use Rattle.std.specs.Prelude.{◌≡◌};
-ghost use Rattle.queue_selector.specs.Fronts.{goes_before, sooner, turn};
+ghost use Rattle.queue_selector.specs.Sorted.{sooner_of};
 
 use task_base::{Lane, QueueId};
 
@@ -9,7 +9,7 @@ pub const MOST_DELAYED: u32 = 3;
 
 /// The first task of one lane of a main queue, which may run.
 #[derive(Clone, Copy, Debug)]
-pub(crate) struct Front {
+pub struct Front {
     /// The class of its queue.
     pub class: u8,
     /// Its lane.
@@ -20,30 +20,15 @@ pub(crate) struct Front {
     pub queue: QueueId,
 }
 
-impl Front {
-    /// Whether it runs before another one.
-    fn goes_before(&self, other: &Front, streak: u32) -> bool
-        ensures { result ≡ goes_before streak self.now other.now }
-    {
-        let key = (self.class, turn(self.lane, streak), self.order);
-        key < (other.class, turn(other.lane, streak), other.order)
-    }
-}
-
-/// The one of two fronts that runs first.
-pub(crate) fn sooner(streak: u32, first: Option<Front>, other: Option<Front>) -> Option<Front>
-    ensures { result ≡ sooner streak first other }
+/// Which of the first fronts of the two lanes of a class runs first: the one of the lesser order, or the immediate one
+/// once the streak is long.
+pub(crate) fn sooner(streak: u32, immediate: Option<Front>, delayed: Option<Front>) -> Option<Front>
+    ensures { result ≡ sooner_of streak immediate delayed }
 {
-    match (first, other) {
-        (Some(first), Some(other)) if other.goes_before(&first, streak) => Some(other),
-        (None, other) => other,
-        (first, _) => first,
+    match (immediate, delayed) {
+        (Some(immediate), Some(delayed))
+            if streak < MOST_DELAYED && delayed.order < immediate.order => { Some(delayed) }
+        (None, delayed) => delayed,
+        (immediate, _) => immediate,
     }
-}
-
-/// The place of a lane among the two.
-fn turn(lane: Lane, streak: u32) -> u8
-    ensures { result ≡ turn streak lane }
-{
-    u8::from(lane == Lane::Delayed && streak >= MOST_DELAYED)
 }

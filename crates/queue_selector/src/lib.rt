@@ -3,6 +3,7 @@
 #![tactic(auto)]
 
 mod front;
+mod front_set;
 mod row;
 mod selector;
 

@@ -1,8 +1,7 @@
 ghost use Rattle.std.specs.Prelude.{◌≡◌};
-ghost use Rattle.queue_selector.specs.Rows.{open_front, order_in, with_order};
+ghost use Rattle.queue_selector.specs.Rows.{order_in, with_order};
 
-use crate::front::Front;
-use task_base::{Lane, QueueId};
+use task_base::Lane;
 
 /// What is known of one main queue: its class, and the fronts that may run.
 #[derive(Clone, Copy, Debug)]
@@ -39,19 +38,13 @@ impl Row {
         }
     }
 
-    /// The open front of one lane of this queue.
-    pub(crate) fn front(&self, queue: QueueId, lane: Lane) -> Option<Front>
-        ensures { result ≡ open_front queue lane self.now }
+    /// The order of the open front of one lane.
+    pub(crate) fn order(&self, lane: Lane) -> Option<u64>
+        ensures { result ≡ order_in lane self.now }
     {
-        let order = match lane {
-            Lane::Immediate => self.immediate?,
-            Lane::Delayed => self.delayed?,
-        };
-        Some(Front {
-            class: self.class,
-            lane,
-            order,
-            queue,
-        })
+        match lane {
+            Lane::Immediate => self.immediate,
+            Lane::Delayed => self.delayed,
+        }
     }
 }

@@ -1,7 +1,7 @@
 use Rattle.std.proofs.Common.{◌≡◌, ◌<◌, Some, ap, subst, sym, ◌∙◌, arith}
 use Rattle.queue_selector.specs.declared.front.TheConstants.{MOST_DELAYED}
 use Rattle.queue_selector.specs.Selecting.{Selecting, choice}
-use Rattle.queue_selector.proofs.Chosen.{short}
+use Rattle.queue_selector.proofs.Choice.{short}
 use Rattle.queue_selector.proofs.selector.Selector.streak_after.Goals as goal
 
 pub overflow_add-result : goal.overflow_add-result
