@@ -1,0 +1,11 @@
+pub mod Postings
+pub mod Rooms
+pub mod Pasts
+pub mod State
+pub mod Lending
+pub mod Queues
+pub mod StandsFor
+pub mod Calls
+pub mod Ripening
+pub mod Others
+pub mod Played

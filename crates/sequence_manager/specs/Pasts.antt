@@ -1,0 +1,52 @@
+-- What the main queues need to know of a script and of a past.
+use Rattle.std.specs.Prelude.{◌≡◌, ℕ, ◌<◌, ◌≤◌, ◌^◌, true, List, length, Option, Some, Contains}
+use Rattle.std.specs.List.{AllByRecursion}
+use Rattle.task_base.specs.Plan.{Plan}
+use Rattle.task_base.specs.declared.entry.Entry.{Entry}
+use Rattle.task_base.specs.declared.limits.TheConstants.{MOST_QUEUES, LAST_MOMENT}
+use Rattle.task_base.specs.declared.script.MainQueue.{MainQueue}
+use Rattle.list_laws.specs.Lists.{keep}
+use Rattle.list_laws.specs.Sorts.{SameMembers}
+use Rattle.queue_fence.specs.declared.voters.TheConstants.{MOST_VOTERS}
+use Rattle.queue_selector.specs.declared.selector.TheConstants.{LAST_CLASS}
+use Rattle.task_model.specs.Posts.{Posted, IsDelayed, main_posts, main_post_of, is_main_taken, InOrder}
+use Rattle.task_model.specs.Time.{now_of}
+use Rattle.task_model.specs.Orders.{main_arrivals, ordered}
+use Rattle.task_model.specs.Seats.{Running, running}
+use Rattle.pool_laws.specs.Keys.{NoTickAhead}
+use Rattle.sequence_manager.specs.Postings.{main_postings}
+
+-- its class and its voters are in their ranges
+pub record IsQueueWithin (queue : MainQueue) : Type 0 where
+  pub class_fits : queue.class ≤ LAST_CLASS
+  pub voters_fit : queue.voters ≤ MOST_VOTERS
+
+-- within the limits of scripts; what is posted to a main queue is posted to one that is declared
+pub record IsMainScript (script : Plan) : Type 0 where
+  pub queues_fit : length script.queues ≤ MOST_QUEUES
+  pub queues_within : AllByRecursion IsQueueWithin script.queues
+  pub postings_fit : length (main_postings script) < 2 ^ 31
+  pub homes_there : AllByRecursion (λ p. p.queue < length script.queues) (main_postings script)
+
+-- the script posts the task to the queue
+abbrev pub IsPostedTo : Plan → ℕ → ℕ → Type 0
+IsPostedTo script task queue = Contains (main_postings script) (record { task = task; queue = queue })
+
+-- the task is an immediate one, or its moment has come
+abbrev pub IsDue : List Entry → Posted → Type 0
+IsDue past p = IsDelayed p → p.ripe ≤ now_of past
+
+-- each accepted main task is one that the script posts to this queue, and was posted once; a main task that was taken was
+-- accepted, and was due; orders come as ticks reach ripe moments
+pub record IsMainPast (script : Plan) (past : List Entry) : Type 0 where
+  pub in_order : InOrder (main_posts past)
+  pub posted : AllByRecursion (λ p. IsPostedTo script p.task p.home) (main_posts past)
+  pub taken_was_accepted : (t : ℕ) → is_main_taken past t ≡ true → (p : Posted) × (main_post_of past t ≡ Some p)
+  pub taken_was_due : (p : Posted) → Contains (main_posts past) p → is_main_taken past p.task ≡ true → IsDue past p
+  pub moment_fits : now_of past ≤ LAST_MOMENT
+  pub no_tick_ahead : NoTickAhead past
+  pub arrivals_are_ordered : SameMembers (main_arrivals past) (ordered past)
+
+-- the main task that the driver runs
+abbrev pub main_running : List Entry → Option Running
+main_running past = keep (λ w. w.is_main) (running past 0)
