@@ -1,6 +1,6 @@
 pub mod Steps
 pub mod Parses
-pub mod PoolPlans
+pub mod Plans
 pub mod Fresh
 pub mod Seats
 pub mod Outcomes

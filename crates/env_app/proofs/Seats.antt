@@ -26,6 +26,7 @@ use Rattle.turn_table.specs.Seats.{TurnKey, SeatView, Rising, Tells}
 use Rattle.env_crew.specs.Driving.{AllFree, HasMomentsOf, SameDesks}
 use Rattle.env_crew.specs.Serving.{IsFree}
 use Rattle.env_shared.specs.Sits.{Seated, desk_of}
+use Rattle.env_shared.proofs.Sits.{same_environment}
 use Rattle.env_app.specs.Crew.{IsWorker, AreWorkers, refused, ArePromised, IsSpare, AreSpare, AreBack}
 
 -- Numbers of refused starts.
@@ -89,15 +90,11 @@ sits_spare key n d w seated some known = record {
   };
 }
 
--- the shared environment of a seat at a desk is the one with this table and this script
-pub of_key : (key : TurnKey) (s : SeatView) → s.of.table ≡ key.table → s.of.basis ≡ key.basis → key.stands ≡ true → Seated s → s.of ≡ key
-of_key key s table script stands seated = rw (← table, ← script, ← (seated.stands ∙ sym stands)) refl
-
 -- and the seat that leaves a free desk is the worker's
 pub leaves_free : (key : TurnKey) (n : ℕ) (s : SeatView) → s.of.table ≡ key.table → s.of.basis ≡ key.basis → key.stands ≡ true → s.number ≡ n → IsFree (desk_of s)
     → Seated s → IsWorker key n s
 leaves_free key n s table script stands number free seated = record {
-  of_is = of_key key s table script stands seated;
+  of_is = same_environment key s table script stands seated;
   number_is = number;
   free = rw (← number, ← seated.own) free.free;
 }

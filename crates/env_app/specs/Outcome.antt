@@ -14,7 +14,7 @@ use Rattle.script_model.specs.Grammar.{Reads, script_read}
 use Rattle.log_model.specs.LogText.{log_json, log_text}
 use Rattle.hist_model.specs.Legal.{IsLegal}
 use Rattle.hist_model.specs.Script.{IsWhole}
-use Rattle.env_core.specs.Built.{IsPoolPlan}
+use Rattle.env_core.specs.Built.{IsBuilt}
 use Rattle.env_crew.specs.Driving.{HasMomentsOf}
 use Rattle.env_app.specs.Built.{is_built}
 use Rattle.env_app.specs.declared.words.Command.{Command}
@@ -98,7 +98,7 @@ IsSteady side = side.faults_after ≡ side.faults_before
 
 -- what the answer of reading a script says
 abbrev pub LoadsScript : Ends → Result Plan Fault → Type 0
-LoadsScript source (Ok script) = IsReadToEnd source × IsPoolPlan script
+LoadsScript source (Ok script) = IsReadToEnd source × IsBuilt script
     × OfBytes source (λ bytes. IsWithin bytes × Reads bytes script × (script_fault bytes ≡ None))
 LoadsScript source (Err (BadScript line reason)) = IsReadToEnd source × OfBytes source (λ bytes. IsWithin bytes × (script_fault bytes ≡ Some (line, reason)))
 LoadsScript source (Err ReadFault) = Failed source

@@ -1,31 +1,36 @@
 -- The driver's place in its script, as the history grows.
-use Rattle.env_core.specs.Agenda.{entries_of, moved_on}
-use Rattle.env_core.specs.Built.{IsPoolPlan, is_pool_action}
+use Rattle.env_core.specs.Agenda.{counted, entries_of, moved_on, passed, passed_on}
+use Rattle.env_core.specs.Built.{IsBuilt}
 use Rattle.env_core.specs.Holds.{IsAt}
 use Rattle.hist_model.specs.Allowed.{by_script}
 use Rattle.env_core.specs.declared.agenda.Agenda.{Agenda}
 use Rattle.hist_model.specs.Laws.Agenda.{agenda, agenda_from, completes, first_of, next_agenda}
 use Rattle.hist_model.specs.Laws.Agenda as laws
-use Rattle.hist_model.specs.Laws.Consistent.{RunsAs, is_pump}
+use Rattle.hist_model.specs.Laws.Consistent.{is_pump}
 use Rattle.hist_model.specs.Legal.{IsLegal}
-use Rattle.hist_model.specs.Script.{Current, behind, behind_action, current, current_from, is_finished, is_wanted, wants}
+use Rattle.hist_model.specs.Script.{Current, behind, behind_action, behind_join, behind_pump, current, is_finished, is_joined, is_main_end, is_main_none, wants}
 use Rattle.hist_model.specs.Views.{own_entries}
 use Rattle.hist_model.proofs.Laws.Agenda.{agenda_push, current_is_first}
 use Rattle.hist_model.proofs.Laws.Entries.{entries_within_limit}
 use Rattle.hist_model.proofs.Laws.LegalPast.{legal_past}
+use Rattle.hist_model.proofs.Laws.OneThing.{wanted_by}
 use Rattle.hist_model.proofs.Laws.Own.{own_entries_push}
+use Rattle.hist_model.proofs.Laws.Takes.{by_driver}
 use Rattle.list_laws.proofs.Counts.{count_le}
-use Rattle.list_laws.specs.Lists.{holds_of}
+use Rattle.list_laws.proofs.Places.{count-push}
+use Rattle.list_laws.specs.Lists.{count}
 use Rattle.script_model.specs.Laws.Sound.{IsActionSound}
-use Rattle.std.proofs.Common.{Bool, List, None, Option, Some, [], add-one, cond, drop, eqb, false, length, length-append, true, zero, suc, ℕ, ◌+◌, ◌++◌, ◌<◌, ◌^◌, ◌∙◌, ◌∷◌, ◌≡◌, ◌≤◌, refl, sym, ap, subst, arith}
-use Rattle.std.proofs.lemmas.Bool.{and_parts}
+use Rattle.std.proofs.Common.{Bool, List, None, Option, Some, [], add-one, cond, drop, eqb, false, leb, length, length-append, true, zero, suc, ℕ}
+use Rattle.std.proofs.Common.{◌+◌, ◌-◌, ◌++◌, ◌<◌, ◌^◌, ◌∙◌, ◌∷◌, ◌≡◌, ◌≤◌, refl, sym, ap, subst, arith}
+use Rattle.std.proofs.lemmas.Bool.{eq-eqb, eqb-true}
 use Rattle.std.proofs.lemmas.Option.{none-some, same_Some}
 use Rattle.std.specs.List.{AllByRecursion}
 use Rattle.std.specs.Option.{option_map_or}
-use Rattle.std.specs.Prelude.{◌==◌, is_none, slice_get}
+use Rattle.std.specs.Prelude.{◌==◌, ◌&&◌, ◌||◌, filter, is_none, slice_get}
 use Rattle.task_base.specs.Plan.{Plan}
 use Rattle.task_base.specs.declared.entry.Entry.{Entry}
 use Rattle.task_base.specs.declared.entry.Kind.{Kind}
+use Rattle.task_base.specs.declared.entry.Kind.TheVariants as kinds
 use Rattle.task_base.specs.declared.script.Action.{Action}
 use Rattle.task_base.specs.declared.script.Action.TheVariants as actions
 use Rattle.task_model.specs.Seats.{Running, running}
@@ -40,11 +45,22 @@ fresh_agenda : (script : Plan) (xs : List Action) → AllByRecursion (IsActionSo
 fresh_agenda script [] sound = refl
 fresh_agenda script (x ∷ xs) sound = rw (nothing_made script x sound.0) refl
 
-pub driver_at_start : (script : Plan) → IsPoolPlan script → IsAt script [] 0 0
+-- where nothing is made, nothing counts
+nothing_counts : (xs : List Action) → counted xs [] ≡ 0
+nothing_counts [] = refl
+nothing_counts (actions.Pump n ∷ xs) = refl
+nothing_counts (x ∷ xs) = refl
+
+-- at the start the driver is at the first action
+pub driver_at_start : (script : Plan) → IsBuilt script → IsAt script [] 0 0
 unfolding agenda
 driver_at_start script plan =
     let fresh = fresh_agenda script script.actions plan.sound.actions.each_sound in
-    record { within = omega arith; actions_are = ap (λ a. a.actions) fresh; made_is = ap (λ a. length a.made) fresh }
+    record {
+      within = omega arith;
+      actions_are = ap (λ a. a.actions) fresh;
+      made_is = ap (λ a. counted a.actions a.made) fresh ∙ nothing_counts script.actions;
+    }
 
 -- an entry of a worker
 pub driver_waits : (script : Plan) (past : List Entry) (e : Entry) (place made : ℕ) → (e.seat == 0) ≡ false → IsAt script past place made
@@ -63,20 +79,46 @@ first_waits (y ∷ ys) own x rest h = by (behind_action y own) refl (first_waits
     taken o = option_map_or (λ left. agenda_from ys left) o (record { actions = y ∷ ys; made = own })
 
     by : (o : Option (List Entry)) → behind_action y own ≡ o
-        → ((left : List Entry) (z : Action) (more : List Action) → (agenda_from ys left).actions ≡ z ∷ more → behind_action z (agenda_from ys left).made ≡ None)
+        → ((left : List Entry) (z : Action) (more : List Action) → (agenda_from ys left).actions ≡ z ∷ more → behind_action z
+        (agenda_from ys left).made ≡ None)
         → (taken o).actions ≡ x ∷ rest → behind_action x (taken o).made ≡ None
     by None is next k = let same : y ≡ x = cc in rw (← same) is
     by (Some left) is next k = next left x rest k
 
--- one more entry completes an action of the pool where it is the last of those that the action makes
-completes_is : (x : Action) (made : List Entry) (kind : Kind) → is_pool_action x ≡ true → behind_action x made ≡ None
-    → completes x made kind ≡ eqb (length made + 1) (entries_of x)
-completes_is (actions.Post task runner delay) [] kind pool waits = refl
-completes_is (actions.Tick count) made kind pool waits = refl
-completes_is (actions.Policy policy) [] kind pool waits = refl
-completes_is actions.Flush [] kind pool waits = refl
-completes_is actions.Shutdown made kind pool waits = refl
-completes_is x made kind pool waits = absurd cc
+-- a pump that is not complete has ended fewer main tasks than it is to end
+pump_waits : (n : ℕ) (made : List Entry) → 1 ≤ n → behind_pump n made ≡ None → count (λ e. is_main_end e.kind) made < n
+pump_waits n [] some waits = omega (arith, some)
+pump_waits n (e ∷ made) some waits = by (is_main_none e.kind) (is_main_end e.kind) waits (pump_waits n made some) (pump_waits (n - 1) made)
+  where
+    by : (none ends : Bool) → cond (none || (ends && leb n 1)) (Some made) (behind_pump (cond ends (n - 1) n) made) ≡ None
+        → (behind_pump n made ≡ None → count (λ x. is_main_end x.kind) made < n)
+        → (1 ≤ n - 1 → behind_pump (n - 1) made ≡ None → count (λ x. is_main_end x.kind) made < n - 1)
+        → length (cond ends (e ∷ filter (λ x. is_main_end x.kind) made) (filter (λ x. is_main_end x.kind) made)) < n
+    by true ends k same less = absurd cc
+    by false false k same less = same k
+    by false true k same less = last (leb n 1) refl k
+      where
+        last : (b : Bool) → leb n 1 ≡ b → cond b (Some made) (behind_pump (n - 1) made) ≡ None
+            → suc (count (λ x. is_main_end x.kind) made) < n
+        last true is l = absurd cc
+        last false is l = let more : 2 ≤ n = grind (arith, is) in omega (arith, more, less (omega (arith, more)) l)
+
+-- whether the driver makes such an entry inside a pump by the script
+abbrev pub is_of_pump : Kind → Bool
+is_of_pump (kinds.MainTake task queue value) = true
+is_of_pump kinds.MainNone = true
+is_of_pump kind = false
+
+-- one more entry that a sound action other than a pump makes completes it where it is the last of those that it makes
+completes_is : (script : Plan) (x : Action) (made : List Entry) (kind : Kind) → script.jobs ≡ [] → IsActionSound script x → is_pump x ≡ false
+    → behind_action x made ≡ None → completes x made kind ≡ eqb (length made + 1) (entries_of x)
+completes_is script (actions.Pump n) made kind no_jobs sound other waits = absurd cc
+completes_is script (actions.Tick n) made kind no_jobs sound other waits = refl
+completes_is script (actions.Join job) made kind no_jobs sound other waits = absurd (omega (arith, sound, ap (λ xs. length xs) no_jobs))
+completes_is script (actions.Cancel job) made kind no_jobs sound other waits = refl
+completes_is script actions.Shutdown made kind no_jobs sound other waits = refl
+completes_is script x [] kind no_jobs sound other waits = refl
+completes_is script x (e ∷ made) kind no_jobs sound other waits = absurd cc
 
 -- the actions from a place on, and the first of them
 pub place_at : {A : Type 0} (xs : List A) (place : ℕ) (x : A) (rest : List A) → x ∷ rest ≡ drop place xs
@@ -96,44 +138,175 @@ all_from P (x ∷ xs) (suc place) all = all_from P xs place all.1
 record StandsAt (script : Plan) (a : laws.Agenda) (b : Agenda) : Type 0 where
   within : b.place ≤ length script.actions
   actions_are : a.actions ≡ drop b.place script.actions
-  made_is : length a.made ≡ b.made
+  made_is : counted a.actions a.made ≡ b.made
 
--- one more entry that the current action wants moves the agenda on
-agenda_moves : (script : Plan) (own : List Entry) (e : Entry) (xs : List Action) (made : List Entry) (b : Agenda) → IsPoolPlan script
-    → StandsAt script (record { actions = xs; made = made }) b → ((x : Action) (rest : List Action) → xs ≡ x ∷ rest → behind_action x made ≡ None)
-    → holds_of (λ c. wants own c.action c.made e.kind) (first_of xs made) ≡ true
-    → StandsAt script (next_agenda xs made e) (moved_on script.actions b)
-agenda_moves script own e [] made b plan s waits h = absurd cc
-agenda_moves script own e (x ∷ xs) made b plan s waits h =
-    let (is, behind, within) = place_at script.actions b.place x xs s.actions_are in
-    let pool = (subst (AllByRecursion (λ y. is_pool_action y ≡ true)) (sym s.actions_are) (all_from _ script.actions b.place plan.pool_actions)).0 in
-    let sound = (subst (AllByRecursion (IsActionSound script)) (sym s.actions_are) (all_from _ script.actions b.place plan.sound.actions.each_sound)).1 in
-    let fresh = fresh_agenda script xs sound in
-    rw (is, completes_is x made e.kind pool (waits x xs refl), s.made_is) (by (eqb (b.made + 1) (entries_of x)) fresh behind within)
+-- the place of an agenda behind one more entry of its first action
+abbrev next_place : Agenda → Action → List Action → List Entry → Entry → Agenda
+next_place b x rest made e =
+    cond (completes x made e.kind) (passed b) (record { place = b.place; made = counted (x ∷ rest) (made ++ e ∷ []) })
+
+-- one more entry of the first action moves the agenda and its place alike
+agenda_next : (script : Plan) (e : Entry) (x : Action) (rest : List Action) (made : List Entry) (b : Agenda) → IsBuilt script
+    → StandsAt script (record { actions = x ∷ rest; made = made }) b
+    → StandsAt script (next_agenda (x ∷ rest) made e) (next_place b x rest made e) × (slice_get script.actions b.place ≡ Some x) × IsActionSound script x
+agenda_next script e x rest made b plan s =
+    let (is, behind, within) = place_at script.actions b.place x rest s.actions_are in
+    let sound = subst (AllByRecursion (IsActionSound script)) (sym s.actions_are) (all_from _ script.actions b.place plan.sound.actions.each_sound) in
+    (by (completes x made e.kind) (fresh_agenda script rest sound.1) behind within, is, sound.0)
   where
-    by : (c : Bool) → agenda_from xs [] ≡ record { actions = xs; made = [] } → drop (suc b.place) script.actions ≡ xs → b.place < length script.actions
-        → StandsAt script (cond c (agenda_from xs []) (record { actions = x ∷ xs; made = made ++ e ∷ [] }))
-        (cond c (record { place = b.place + 1; made = 0 }) (record b { made = b.made + 1 }))
+    by : (c : Bool) → agenda_from rest [] ≡ record { actions = rest; made = [] } → drop (suc b.place) script.actions ≡ rest → b.place < length script.actions
+        → StandsAt script (cond c (agenda_from rest []) (record { actions = x ∷ rest; made = made ++ e ∷ [] }))
+        (cond c (passed b) (record { place = b.place; made = counted (x ∷ rest) (made ++ e ∷ []) }))
     by true fresh behind within = record {
       within = omega (arith, within);
       actions_are = rw (fresh, add-one) (sym behind);
-      made_is = ap (λ a. length a.made) fresh;
+      made_is = ap (λ a. counted a.actions a.made) fresh ∙ nothing_counts rest;
     }
-    by false fresh behind within = record { within = s.within; actions_are = s.actions_are; made_is = omega (arith, length-append made (e ∷ []), s.made_is) }
+    by false fresh behind within = record { within = s.within; actions_are = s.actions_are; made_is = refl }
 
-pub driver_moves : (script : Plan) (past : List Entry) (e : Entry) (a : Agenda) → IsPoolPlan script → by_script script past e.seat e.kind ≡ true
-    → IsAt script past a.place a.made → IsAt script (past ++ e ∷ []) (moved_on script.actions a).place (moved_on script.actions a).made
-unfolding by_script is_wanted agenda
-driver_moves script past e a plan by at =
+-- what an entry makes of a place
+abbrev Moves : Plan → Agenda → Agenda → Action → List Action → List Entry → Entry → Type 0
+Moves script b later x rest made e = IsActionSound script x → slice_get script.actions b.place ≡ Some x → behind_action x made ≡ None
+    → counted (x ∷ rest) made ≡ b.made → next_place b x rest made e ≡ later
+
+-- of an action other than a pump all entries count
+pub all_count : (x : Action) (rest : List Action) (made : List Entry) → is_pump x ≡ false → counted (x ∷ rest) made ≡ length made
+all_count (actions.Pump n) rest made other = absurd cc
+all_count x rest made other = refl
+
+-- an entry of an action other than a pump
+moves_other : (script : Plan) (b : Agenda) (x : Action) (rest : List Action) (made : List Entry) (e : Entry) → IsBuilt script → is_pump x ≡ false
+    → Moves script b (moved_on script.actions b) x rest made e
+moves_other script b x rest made e plan other sound is waits counts =
+    let so_far : b.made ≡ length made = sym counts ∙ all_count x rest made other in
+    rw (is, completes_is script x made e.kind plan.no_jobs sound other waits, all_more, so_far) (by (eqb (length made + 1) (entries_of x)))
+  where
+    all_more : counted (x ∷ rest) (made ++ e ∷ []) ≡ length made + 1
+    all_more = all_count x rest (made ++ e ∷ []) other ∙ length-append made (e ∷ [])
+
+    by : (c : Bool) → cond c (passed b) (record { place = b.place; made = length made + 1 }) ≡ cond c (passed b) (record b { made = length made + 1 })
+    by true = refl
+    by false = refl
+
+-- the entries of a pump: most leave the place, the end of a main task counts, and where there is none the pump is complete
+pump_stays : (script : Plan) (b : Agenda) (x : Action) (rest : List Action) (made : List Entry) (e : Entry) → is_pump x ≡ true
+    → is_main_none e.kind ≡ false → is_main_end e.kind ≡ false → Moves script b b x rest made e
+pump_stays script b (actions.Pump n) rest made e pump none ends sound is waits counts =
+    let more : count (λ (y : Entry). is_main_end y.kind) (made ++ e ∷ []) ≡ b.made = count-push (λ (y : Entry). is_main_end y.kind) made e
+    ∙ ap (λ k. count (λ (y : Entry). is_main_end y.kind) made + cond k 1 0) ends ∙ omega (arith, counts) in
+    rw (none, ends, more) refl
+pump_stays script b x rest made e pump none ends sound is waits counts = absurd cc
+
+-- the end of a main task counts for its pump
+pump_ends : (script : Plan) (b : Agenda) (x : Action) (rest : List Action) (made : List Entry) (e : Entry) → is_pump x ≡ true
+    → is_main_none e.kind ≡ false → is_main_end e.kind ≡ true → Moves script b (moved_on script.actions b) x rest made e
+pump_ends script b (actions.Pump n) rest made e pump none ends sound is waits counts =
+    let more : count (λ (y : Entry). is_main_end y.kind) (made ++ e ∷ []) ≡ b.made + 1 = count-push (λ (y : Entry). is_main_end y.kind) made e
+    ∙ ap (λ k. count (λ (y : Entry). is_main_end y.kind) made + cond k 1 0) ends ∙ omega (arith, counts) in
+    let last : leb n (b.made + 1) ≡ eqb (b.made + 1) n = grind (arith, pump_waits n made sound.0 waits, counts) in
+    rw (is, none, ends, more, counts, last) (by (eqb (b.made + 1) n))
+  where
+    by : (c : Bool) → cond c (passed b) (record { place = b.place; made = b.made + 1 }) ≡ cond c (passed b) (record b { made = b.made + 1 })
+    by true = refl
+    by false = refl
+pump_ends script b x rest made e pump none ends sound is waits counts = absurd cc
+
+-- where no main task is found the pump is complete
+pump_passes : (script : Plan) (b : Agenda) (x : Action) (rest : List Action) (made : List Entry) (e : Entry) → is_pump x ≡ true
+    → is_main_none e.kind ≡ true → Moves script b (passed_on script.actions b) x rest made e
+pump_passes script b (actions.Pump n) rest made e pump none sound is waits counts = rw (is, none) refl
+pump_passes script b x rest made e pump none sound is waits counts = absurd cc
+
+-- an entry of the driver moves its place as it does that of its action
+driver_to : (script : Plan) (past : List Entry) (e : Entry) (b later : Agenda) (c : Current) → IsBuilt script → (e.seat == 0) ≡ true
+    → IsAt script past b.place b.made → current script (own_entries 0 past) ≡ Some c
+    → ((rest : List Action) (made : List Entry) → Moves script b later c.action rest made e) → IsAt script (past ++ e ∷ []) later.place later.made
+unfolding agenda
+driver_to script past e b later c plan driver at now moves =
     let own = own_entries 0 past in
-    let parts = and_parts (eqb e.seat 0) (is_wanted script own e.kind) by in
-    let now = agenda script own in
-    let moved : StandsAt script (next_agenda now.actions now.made e) (moved_on script.actions a) =
-    agenda_moves script own e now.actions now.made a plan (record { within = at.within; actions_are = at.actions_are; made_is = at.made_is })
-    (first_waits script.actions own) (ap (holds_of (λ c. wants own c.action c.made e.kind)) (sym (current_is_first script own)) ∙ parts.1) in
-    let same : agenda script (own_entries 0 (past ++ e ∷ [])) ≡ next_agenda now.actions now.made e = rw (own_entries_push past e 0, parts.0)
+    let a = agenda script own in
+    let moved = to_from a.actions a.made (sym (current_is_first script own) ∙ now)
+    (record { within = at.within; actions_are = at.actions_are; made_is = at.made_is }) (first_waits script.actions own) in
+    let same : agenda script (own_entries 0 (past ++ e ∷ [])) ≡ next_agenda a.actions a.made e = rw (own_entries_push past e 0, driver)
     (agenda_push script own e) in
     record { within = moved.within; actions_are = rw same moved.actions_are; made_is = rw same moved.made_is }
+  where
+    to_from : (xs : List Action) (made : List Entry) → first_of xs made ≡ Some c → StandsAt script (record { actions = xs; made = made }) b
+        → ((x : Action) (rest : List Action) → xs ≡ x ∷ rest → behind_action x made ≡ None) → StandsAt script (next_agenda xs made e) later
+    to_from [] made is s waits = absurd (none-some c is)
+    to_from (x ∷ rest) made is s waits =
+        let next = agenda_next script e x rest made b plan s in
+        let moves_x = subst (λ y. Moves script b later y rest made e) (sym (ap (λ (d : Current). d.action) (same_Some _ c is))) (moves rest made) in
+        subst (StandsAt script (next_agenda (x ∷ rest) made e)) (moves_x next.2 next.1 (waits x rest refl) s.made_is) next.0
+
+-- an action that wants an entry that no pump makes is none
+no_pump : (own : List Entry) (x : Action) (made : List Entry) (kind : Kind) → wants own x made kind ≡ true → is_of_pump kind ≡ false → is_pump x ≡ false
+no_pump own (actions.Pump n) made (kinds.MainTake task queue value) w h = absurd cc
+no_pump own (actions.Pump n) made kinds.MainNone w h = absurd cc
+no_pump own (actions.Pump n) made kind w h = absurd cc
+no_pump own x made kind w h = refl
+
+-- an entry by the script
+pub driver_moves : (script : Plan) (past : List Entry) (e : Entry) (a : Agenda) → IsBuilt script → by_script script past e.seat e.kind ≡ true
+    → is_of_pump e.kind ≡ false → IsAt script past a.place a.made
+    → IsAt script (past ++ e ∷ []) (moved_on script.actions a).place (moved_on script.actions a).made
+driver_moves script past e a plan by other at =
+    let c = wanted_by script past e.seat e.kind by in
+    driver_to script past e a (moved_on script.actions a) c.value plan (eq-eqb e.seat 0 (by_driver script past e.seat e.kind by)) at c.is
+    (λ rest made. moves_other script a c.value.action rest made e plan (no_pump (own_entries 0 past) c.value.action c.value.made e.kind c.passes other))
+
+-- inside a pump the driver takes a main task, or finds none
+wants_main_take : (own : List Entry) (x : Action) (made : List Entry) (kind : Kind) → wants own x made kind ≡ true → is_of_pump kind ≡ true → is_pump x ≡ true
+wants_main_take own (actions.Pump n) made kind w h = refl
+wants_main_take own x made (kinds.MainTake task queue value) w h = absurd cc
+wants_main_take own x made kinds.MainNone w h = absurd cc
+wants_main_take own x made kind w h = absurd cc
+
+-- the take of a main task leaves the driver's place
+pub driver_takes : (script : Plan) (past : List Entry) (e : Entry) (place made : ℕ) → IsBuilt script → by_script script past e.seat e.kind ≡ true
+    → is_of_pump e.kind ≡ true → is_main_none e.kind ≡ false → is_main_end e.kind ≡ false → IsAt script past place made
+    → IsAt script (past ++ e ∷ []) place made
+driver_takes script past e place made plan by pumps none ends at =
+    let c = wanted_by script past e.seat e.kind by in
+    let b : Agenda = record { place = place; made = made } in
+    driver_to script past e b b c.value plan (eq-eqb e.seat 0 (by_driver script past e.seat e.kind by)) at c.is
+    (λ rest front. pump_stays script b c.value.action rest front e
+    (wants_main_take (own_entries 0 past) c.value.action c.value.made e.kind c.passes pumps) none ends)
+
+-- where no main task is found the driver passes on to the next action
+pub driver_passes : (script : Plan) (past : List Entry) (seat : ℕ) (a : Agenda) → IsBuilt script → by_script script past seat kinds.MainNone ≡ true
+    → IsAt script past a.place a.made
+    → IsAt script (past ++ (record { seat = seat; kind = kinds.MainNone }) ∷ []) (passed_on script.actions a).place (passed_on script.actions a).made
+driver_passes script past seat a plan by at =
+    let c = wanted_by script past seat kinds.MainNone by in
+    let e : Entry = record { seat = seat; kind = kinds.MainNone } in
+    driver_to script past e a (passed_on script.actions a) c.value plan (eq-eqb seat 0 (by_driver script past seat kinds.MainNone by)) at c.is
+    (λ rest front. pump_passes script a c.value.action rest front e
+    (wants_main_take (own_entries 0 past) c.value.action c.value.made kinds.MainNone c.passes refl) refl)
+
+-- the end of a main task counts for its pump
+pub driver_ends : (script : Plan) (past : List Entry) (e : Entry) (a : Agenda) (w : Running) → IsBuilt script → IsLegal script past
+    → running past 0 ≡ Some w → e.seat ≡ 0 → is_main_end e.kind ≡ true → is_main_none e.kind ≡ false → IsAt script past a.place a.made
+    → IsAt script (past ++ e ∷ []) (moved_on script.actions a).place (moved_on script.actions a).made
+driver_ends script past e a w plan legal runs driver ends none at =
+    let (c, now, pump) = (legal_past script past legal).one_thing.pumps w runs in
+    driver_to script past e a (moved_on script.actions a) c plan (eq-eqb e.seat 0 driver) at now
+    (λ rest front. pump_ends script a c.action rest front e pump none ends)
+
+-- while a task runs, its entries other than its end leave the driver's place
+pub task_waits : (script : Plan) (past : List Entry) (e : Entry) (place made : ℕ) (w : Running) → IsBuilt script → IsLegal script past
+    → running past e.seat ≡ Some w → is_main_end e.kind ≡ false → is_main_none e.kind ≡ false → IsAt script past place made
+    → IsAt script (past ++ e ∷ []) place made
+task_waits script past e place made w plan legal runs ends none at = by (eqb e.seat 0) refl
+  where
+    b : Agenda
+    b = record { place = place; made = made }
+
+    by : (c : Bool) → eqb e.seat 0 ≡ c → IsAt script (past ++ e ∷ []) place made
+    by false other = driver_waits script past e place made other at
+    by true driver =
+        let (c, now, pump) = (legal_past script past legal).one_thing.pumps w (ap (running past) (sym (eqb-true e.seat 0 driver)) ∙ runs) in
+        driver_to script past e b b c plan driver at now (λ rest front. pump_stays script b c.action rest front e pump none ends)
 
 -- what is behind a complete action is part of what there was
 behind_within : (n : ℕ) (own left : List Entry) → behind n own ≡ Some left → length left ≤ length own
@@ -141,30 +314,59 @@ behind_within zero own left h = let same : own ≡ left = cc in rw same (omega a
 behind_within (suc n) [] left h = absurd cc
 behind_within (suc n) (e ∷ own) left h = omega (arith, behind_within n own left h)
 
-action_within : (x : Action) (own left : List Entry) → is_pool_action x ≡ true → behind_action x own ≡ Some left → length left ≤ length own
-action_within (actions.Post task runner delay) own left pool h = behind_within 1 own left h
-action_within (actions.Tick count) own left pool h = behind_within count own left h
-action_within (actions.Policy policy) own left pool h = behind_within 1 own left h
-action_within actions.Flush own left pool h = behind_within 1 own left h
-action_within actions.Shutdown own left pool h = behind_within 2 own left h
-action_within x own left pool h = absurd cc
+-- what is behind a complete pump is part of what there was
+pump_within : (n : ℕ) (own left : List Entry) → behind_pump n own ≡ Some left → length left ≤ length own
+pump_within n [] left h = absurd cc
+pump_within n (e ∷ own) left h = by (is_main_none e.kind || (is_main_end e.kind && leb n 1)) h (pump_within (cond (is_main_end e.kind) (n - 1) n) own left)
+  where
+    by : (b : Bool) → cond b (Some own) (behind_pump (cond (is_main_end e.kind) (n - 1) n) own) ≡ Some left
+        → (behind_pump (cond (is_main_end e.kind) (n - 1) n) own ≡ Some left → length left ≤ length own) → length left ≤ suc (length own)
+    by true k next = let same : own ≡ left = same_Some own left k in rw same (omega arith)
+    by false k next = omega (arith, next k)
 
-agenda_within : (xs : List Action) (own : List Entry) → AllByRecursion (λ x. is_pool_action x ≡ true) xs → length (agenda_from xs own).made ≤ length own
-agenda_within [] own pool = omega arith
-agenda_within (x ∷ xs) own pool = by (behind_action x own) refl (λ left. agenda_within xs left pool.1)
+-- what is behind a complete join is part of what there was
+join_within : (own left : List Entry) → behind_join own ≡ Some left → length left ≤ length own
+join_within [] left h = absurd cc
+join_within (e ∷ own) left h = by (is_joined e.kind) h (join_within own left)
+  where
+    by : (b : Bool) → cond b (Some own) (behind_join own) ≡ Some left → (behind_join own ≡ Some left → length left ≤ length own)
+        → length left ≤ suc (length own)
+    by true k next = let same : own ≡ left = same_Some own left k in rw same (omega arith)
+    by false k next = omega (arith, next k)
+
+-- what is behind a complete action is part of what there was
+action_within : (x : Action) (own left : List Entry) → behind_action x own ≡ Some left → length left ≤ length own
+action_within (actions.Tick n) own left h = behind_within n own left h
+action_within (actions.Pump n) own left h = pump_within n own left h
+action_within (actions.Join job) own left h = join_within own left h
+action_within (actions.Cancel job) own left h = behind_within 2 own left h
+action_within actions.Shutdown own left h = behind_within 2 own left h
+action_within x own left h = behind_within 1 own left h
+
+-- the first action has made no more entries than there are
+agenda_within : (xs : List Action) (own : List Entry) → length (agenda_from xs own).made ≤ length own
+agenda_within [] own = omega arith
+agenda_within (x ∷ xs) own = by (behind_action x own) refl (agenda_within xs)
   where
     by : (o : Option (List Entry)) → behind_action x own ≡ o → ((left : List Entry) → length (agenda_from xs left).made ≤ length left)
         → length (option_map_or (λ left. agenda_from xs left) o (record { actions = x ∷ xs; made = own })).made ≤ length own
     by None is next = omega arith
-    by (Some left) is next = omega (arith, next left, action_within x own left pool.0 is)
+    by (Some left) is next = omega (arith, next left, action_within x own left is)
+
+-- no more count than were made
+counted_within : (xs : List Action) (made : List Entry) → counted xs made ≤ length made
+counted_within [] made = omega arith
+counted_within (actions.Pump n ∷ xs) made = count_le (λ (e : Entry). is_main_end e.kind) made
+counted_within (x ∷ xs) made = omega arith
 
 -- a legal history is short, so the current action has made few entries
-pub few_entries_made : (script : Plan) (past : List Entry) (place made : ℕ) → IsPoolPlan script → IsLegal script past → IsAt script past place made
+pub few_entries_made : (script : Plan) (past : List Entry) (place made : ℕ) → IsBuilt script → IsLegal script past → IsAt script past place made
     → made < 2 ^ 31
 unfolding agenda
 few_entries_made script past place made plan legal at = omega (
   arith,
-  agenda_within script.actions (own_entries 0 past) plan.pool_actions,
+  agenda_within script.actions (own_entries 0 past),
+  counted_within (agenda script (own_entries 0 past)).actions (agenda script (own_entries 0 past)).made,
   at.made_is,
   count_le (λ (e : Entry). eqb e.seat 0) past,
   entries_within_limit script past plan.sound legal,
@@ -183,29 +385,3 @@ finished_is script past place made at = rw (current_is_first script (own_entries
     none_from (x ∷ xs) zero front h = grind arith
     none_from (x ∷ xs) (suc n) front h =
         let same : eqb (suc n) (suc (length xs)) ≡ eqb n (length xs) = grind arith in rw same (none_from xs n front (omega (arith, h)))
-
--- what holds of each action holds of the current one
-current_has : (P : Action → Type 0) (xs : List Action) (own : List Entry) (c : Current) → AllByRecursion P xs → current_from xs own ≡ Some c → P c.action
-current_has P [] own c all h = absurd (none-some c h)
-current_has P (x ∷ xs) own c all h = by (behind_action x own) h (λ left. current_has P xs left c all.1)
-  where
-    by : (o : Option (List Entry)) → option_map_or (λ left. current_from xs left) o (Some (record { action = x; made = own })) ≡ Some c
-        → ((left : List Entry) → current_from xs left ≡ Some c → P c.action) → P c.action
-    by None k next = subst (λ (d : Current). P d.action) (same_Some _ c k) all.0
-    by (Some left) k next = next left k
-
--- a worker runs the tasks of the pool, and the driver none
-pub worker_runs : (script : Plan) (past : List Entry) (seat : ℕ) (w : Running) → IsPoolPlan script → IsLegal script past → running past seat ≡ Some w
-    → (w.is_main ≡ false) × (1 ≤ seat)
-unfolding current
-worker_runs script past seat w plan legal runs = by w.is_main refl ((legal_past script past legal).consistent.runs seat w runs)
-  where
-    no_pump : (x : Action) → is_pool_action x ≡ true → is_pump x ≡ true → ⊥
-    no_pump (actions.Pump n) pool pump = absurd cc
-    no_pump x pool pump = absurd cc
-
-    by : (main : Bool) → w.is_main ≡ main → RunsAs script past seat w main → (main ≡ false) × (1 ≤ seat)
-    by false is r = (refl, r.worker)
-    by true is r =
-        let (c, now, pump) = (legal_past script past legal).one_thing.pumps w (ap (running past) (sym r.driver) ∙ runs) in
-        absurd (no_pump c.action (current_has (λ x. is_pool_action x ≡ true) script.actions (own_entries 0 past) c plan.pool_actions now) pump)

@@ -6,11 +6,11 @@ use Rattle.std.proofs.lemmas.Bool.{ne_eqb}
 use Rattle.env_core.proofs.Wanted.{post_allowed}
 use Rattle.std.specs.Prelude.{not}
 use Rattle.task_model.specs.Refusal.{is_refused}
-use Rattle.env_core.proofs.Wanted.{post_is_sound}
-use Rattle.pool_core.specs.Calls.{CanPost, next}
-use Rattle.std.proofs.Common.{Bool}
+use Rattle.env_core.proofs.Wanted.{main_post_is_sound, named, post_is_sound, queue_declared}
+use Rattle.pool_core.specs.Calls.{CanPost}
+use Rattle.std.proofs.Common.{Bool, Some, false, true}
 use Rattle.task_base.specs.declared.entry.Kind.TheVariants as kinds
-use Rattle.env_core.proofs.Driver.{driver_moves, few_entries_made}
+use Rattle.env_core.proofs.Driver.{driver_moves, few_entries_made, is_of_pump}
 use Rattle.env_core.proofs.Wanted.{wanted_by_script}
 use Rattle.env_core.specs.Agenda.{moved_on}
 use Rattle.env_core.specs.Calls.{IsWantedNext}
@@ -23,8 +23,16 @@ use Rattle.hist_model.proofs.Laws.Entries.{entries_within, entries_within_limit}
 use Rattle.hist_model.proofs.Laws.Legal.{is_legal_push}
 use Rattle.hist_model.specs.Allowed.{IsAllowed}
 use Rattle.hist_model.specs.Legal.{IsLegal}
+use Rattle.pool_core.proofs.Others.{stands_at_main, stands_at_still}
+use Rattle.pool_core.specs.Others.{is_still as pool_is_still}
 use Rattle.pool_core.specs.StandsFor.{StandsFor}
+use Rattle.pool_laws.specs.Seats.{moves_main, runs_pool_task}
+use Rattle.sequence_manager.proofs.Others.{stands_pool, stands_still}
+use Rattle.sequence_manager.specs.Calls.{CanPost as MainCanPost, HasQueue}
+use Rattle.sequence_manager.specs.Others.{is_still, moves_pool}
+use Rattle.sequence_manager.specs.StandsFor.{StandsFor as MainStandsFor}
 use Rattle.pool_core.specs.declared.pool.Pool.{Pool}
+use Rattle.sequence_manager.specs.declared.manager.Manager.{Manager}
 use Rattle.std.proofs.Common.{List, Option, [], arith, length, length-append, refl, ℕ, ◌++◌, ◌+◌, ◌<◌, ◌∷◌, ◌≡◌}
 use Rattle.task_base.specs.Plan.{Plan}
 use Rattle.task_base.specs.Rows.{Listed}
@@ -32,11 +40,14 @@ use Rattle.task_base.specs.declared.entry.Entry.{Entry}
 use Rattle.task_base.specs.declared.entry.Kind.{Kind}
 use Rattle.task_base.specs.declared.step.Step.{Step}
 
+-- a legal history and one more entry that is allowed are a legal history
 pub legal_next : (script : Plan) (past : List Entry) (e : Entry) → IsLegal script past → IsAllowed script past e → IsLegal script (past ++ e ∷ [])
 legal_next script past e legal allowed = rw (is_legal_push script past e, legal, allowed) refl
 
-pub has_room : {X : Type 0} {bodies : List (Option X)} {whole rest : X → List Step} {script : Plan} {log : Listed Entry} {pool : Pool} {place made : ℕ}
-    (e : Entry) → Holds bodies whole rest script log pool place made → IsAllowed script log.items e → 0 < log.spare
+-- there is room for an entry that is allowed
+pub has_room : {X : Type 0} {bodies : List (Option X)} {whole rest : X → List Step} {script : Plan} {log : Listed Entry} {pool : Pool} {manager : Manager}
+    {place made : ℕ}
+    (e : Entry) → Holds bodies whole rest script log pool manager place made → IsAllowed script log.items e → 0 < log.spare
 has_room {script = script} {log = log} e holds allowed =
     omega (
       arith,
@@ -45,8 +56,10 @@ has_room {script = script} {log = log} e holds allowed =
       entries_within script (log.items ++ e ∷ []) holds.plan.sound (legal_next script log.items e holds.legal allowed),
     )
 
-pub enters_is : {X : Type 0} {bodies : List (Option X)} {whole rest : X → List Step} {script : Plan} {log : Listed Entry} {pool : Pool} {place made : ℕ}
-    (seat : ℕ) (kind : Kind) (later : Listed Entry) → Holds bodies whole rest script log pool place made
+-- a call that adds an entry that is allowed enters it
+pub enters_is : {X : Type 0} {bodies : List (Option X)} {whole rest : X → List Step} {script : Plan} {log : Listed Entry} {pool : Pool}
+    {manager : Manager} {place made : ℕ}
+    (seat : ℕ) (kind : Kind) (later : Listed Entry) → Holds bodies whole rest script log pool manager place made
     → IsAllowed script log.items (record { seat = seat; kind = kind }) → later.items ≡ log.items ++ (record { seat = seat; kind = kind }) ∷ []
     → Enters (record { script = script; history = log.items }) (record { script = script; history = later.items }) seat kind
 enters_is {script = script} {log = log} seat kind later holds allowed is =
@@ -58,41 +71,79 @@ enters_is {script = script} {log = log} seat kind later holds allowed is =
       bounded = entries_within_limit script (log.items ++ (record { seat = seat; kind = kind }) ∷ []) holds.plan.sound legal;
     })
 
-pub holds_next : {X : Type 0} {bodies : List (Option X)} {whole rest : X → List Step} {script : Plan} {log : Listed Entry} {pool : Pool} {place made : ℕ}
-    (e : Entry) (bodies_now : List (Option X)) (later : Listed Entry) (pool_now : Pool) (place_now made_now : ℕ)
-    → Holds bodies whole rest script log pool place made → IsAllowed script log.items e → later.items ≡ log.items ++ e ∷ [] → later.spare + 1 ≡ log.spare
-    → StandsFor script (log.items ++ e ∷ []) pool_now → AreBodies bodies_now whole rest script (log.items ++ e ∷ [])
-    → IsAt script (log.items ++ e ∷ []) place_now made_now → Holds bodies_now whole rest script later pool_now place_now made_now
-holds_next {script = script} {log = log} e bodies_now later pool_now place_now made_now holds allowed is spare stands drawer driver = record {
-  plan = holds.plan;
-  legal = rw is (legal_next script log.items e holds.legal allowed);
-  stands = rw is stands;
-  drawer = rw is drawer;
-  driver = rw is driver;
-  room = rw is (omega (arith, holds.room, spare, length-append log.items (e ∷ [])));
-}
+-- everything holds behind one more entry, where it does of each part
+pub holds_next : {X : Type 0} {bodies : List (Option X)} {whole rest : X → List Step} {script : Plan} {log : Listed Entry} {pool : Pool}
+    {manager : Manager} {place made : ℕ}
+    (e : Entry) (bodies_now : List (Option X)) (later : Listed Entry) (pool_now : Pool) (manager_now : Manager) (place_now made_now : ℕ)
+    → Holds bodies whole rest script log pool manager place made → IsAllowed script log.items e → later.items ≡ log.items ++ e ∷ []
+    → later.spare + 1 ≡ log.spare
+    → StandsFor script (log.items ++ e ∷ []) pool_now → MainStandsFor script (log.items ++ e ∷ []) manager_now
+    → AreBodies bodies_now whole rest script (log.items ++ e ∷ [])
+    → IsAt script (log.items ++ e ∷ []) place_now made_now → Holds bodies_now whole rest script later pool_now manager_now place_now made_now
+holds_next {script = script} {log = log} e bodies_now later pool_now manager_now place_now made_now holds allowed is spare stands main drawer driver =
+    record {
+      plan = holds.plan;
+      legal = rw is (legal_next script log.items e holds.legal allowed);
+      stands = rw is stands;
+      main = rw is main;
+      drawer = rw is drawer;
+      driver = rw is driver;
+      room = rw is (omega (arith, holds.room, spare, length-append log.items (e ∷ [])));
+    }
+
+-- Entries that are not of the main queues, and those that are not of the pool.
+
+-- an entry that is none of the main queues leaves them as they are
+pub main_still : {X : Type 0} {bodies : List (Option X)} {whole rest : X → List Step} {script : Plan} {log : Listed Entry} {pool : Pool}
+    {manager : Manager} {place made : ℕ}
+    (e : Entry) → Holds bodies whole rest script log pool manager place made → is_still e.kind ≡ true → MainStandsFor script (log.items ++ e ∷ []) manager
+main_still {script = script} {log = log} {manager = manager} e holds still = stands_still script log.items manager e still holds.main
+
+-- an entry of a worker that moves the pool leaves the main queues as they are
+pub main_at_worker : {X : Type 0} {bodies : List (Option X)} {whole rest : X → List Step} {script : Plan} {log : Listed Entry} {pool : Pool}
+    {manager : Manager} {place made : ℕ}
+    (e : Entry) → Holds bodies whole rest script log pool manager place made → moves_pool e.kind ≡ true → 1 ≤ e.seat
+    → MainStandsFor script (log.items ++ e ∷ []) manager
+main_at_worker {script = script} {log = log} {manager = manager} e holds moves worker = stands_pool script log.items manager e moves worker holds.main
+
+-- an entry that is none of the pool leaves it as it is
+pub pool_still : {X : Type 0} {bodies : List (Option X)} {whole rest : X → List Step} {script : Plan} {log : Listed Entry} {pool : Pool}
+    {manager : Manager} {place made : ℕ}
+    (e : Entry) → Holds bodies whole rest script log pool manager place made → pool_is_still e.kind ≡ true → StandsFor script (log.items ++ e ∷ []) pool
+pool_still {script = script} {log = log} {pool = pool} e holds still = stands_at_still script log.items e pool still holds.stands
+
+-- an entry of the main queues leaves the pool as it is, where the seat runs no task of the pool
+pub pool_at_driver : {X : Type 0} {bodies : List (Option X)} {whole rest : X → List Step} {script : Plan} {log : Listed Entry} {pool : Pool}
+    {manager : Manager} {place made : ℕ}
+    (e : Entry) → Holds bodies whole rest script log pool manager place made → moves_main e.kind ≡ true → runs_pool_task log.items e.seat ≡ false
+    → StandsFor script (log.items ++ e ∷ []) pool
+pool_at_driver {script = script} {log = log} {pool = pool} e holds moves none = stands_at_main script log.items e pool moves none holds.stands
 
 -- An entry by the script.
 
-pub few_of_action : {X : Type 0} {bodies : List (Option X)} {whole rest : X → List Step} {script : Plan} {log : Listed Entry} {pool : Pool} {place made : ℕ}
-    → Holds bodies whole rest script log pool place made → made < 2 ^ 31
+-- the driver's action has made few entries
+pub few_of_action : {X : Type 0} {bodies : List (Option X)} {whole rest : X → List Step} {script : Plan} {log : Listed Entry} {pool : Pool}
+    {manager : Manager} {place made : ℕ}
+    → Holds bodies whole rest script log pool manager place made → made < 2 ^ 31
 few_of_action {script = script} {log = log} {place = place} {made = made} holds =
     few_entries_made script log.items place made holds.plan holds.legal holds.driver
 
 -- the driver's place behind it
-pub driver_at : {X : Type 0} {bodies : List (Option X)} {whole rest : X → List Step} {script : Plan} {log : Listed Entry} {pool : Pool} {agenda : Agenda}
-    (seat : ℕ) (kind : Kind) (now : Agenda) → Holds bodies whole rest script log pool agenda.place agenda.made
-    → IsWantedNext (record { script = script; history = log.items }) seat kind → now ≡ moved_on script.actions agenda
+pub driver_at : {X : Type 0} {bodies : List (Option X)} {whole rest : X → List Step} {script : Plan} {log : Listed Entry} {pool : Pool}
+    {manager : Manager} {agenda : Agenda}
+    (seat : ℕ) (kind : Kind) (now : Agenda) → Holds bodies whole rest script log pool manager agenda.place agenda.made
+    → IsWantedNext (record { script = script; history = log.items }) seat kind → is_of_pump kind ≡ false → now ≡ moved_on script.actions agenda
     → IsAt script (log.items ++ (record { seat = seat; kind = kind }) ∷ []) now.place now.made
-driver_at {script = script} {log = log} {agenda = agenda} seat kind now holds wanted moved =
+driver_at {script = script} {log = log} {agenda = agenda} seat kind now holds wanted other moved =
     rw moved (driver_moves script log.items (record { seat = seat; kind = kind }) agenda holds.plan
-    (wanted_by_script (record { script = script; history = log.items }) seat kind wanted) holds.driver)
+    (wanted_by_script (record { script = script; history = log.items }) seat kind wanted) other holds.driver)
 
 -- An entry of a worker.
 
 -- the driver waits behind a worker's entry
-pub worker_waits : {X : Type 0} {bodies : List (Option X)} {whole rest : X → List Step} {script : Plan} {log : Listed Entry} {pool : Pool} {place made : ℕ}
-    (seat : ℕ) (kind : Kind) → Holds bodies whole rest script log pool place made → 1 ≤ seat
+pub worker_waits : {X : Type 0} {bodies : List (Option X)} {whole rest : X → List Step} {script : Plan} {log : Listed Entry} {pool : Pool}
+    {manager : Manager} {place made : ℕ}
+    (seat : ℕ) (kind : Kind) → Holds bodies whole rest script log pool manager place made → 1 ≤ seat
     → IsAt script (log.items ++ (record { seat = seat; kind = kind }) ∷ []) place made
 worker_waits {script = script} {log = log} {place = place} {made = made} seat kind holds worker =
     driver_waits script log.items (record { seat = seat; kind = kind }) place made (ne_eqb seat 0 (λ is. omega (arith, worker, is))) holds.driver
@@ -100,8 +151,9 @@ worker_waits {script = script} {log = log} {place = place} {made = made} seat ki
 -- A post, by the script or by a task.
 
 -- the pool's condition
-pub can_post : {X : Type 0} {bodies : List (Option X)} {whole rest : X → List Step} {script : Plan} {log : Listed Entry} {pool : Pool} {place made : ℕ}
-    (seat next task runner delay : ℕ) (ok : Bool) → Holds bodies whole rest script log pool place made → next ≡ length log.items
+pub can_post : {X : Type 0} {bodies : List (Option X)} {whole rest : X → List Step} {script : Plan} {log : Listed Entry} {pool : Pool} {manager : Manager}
+    {place made : ℕ}
+    (seat next task runner delay : ℕ) (ok : Bool) → Holds bodies whole rest script log pool manager place made → next ≡ length log.items
     → IsAllowed script log.items (record { seat = seat; kind = kinds.Post task runner delay ok })
     → CanPost script log.items pool next task runner delay
 can_post {script = script} {log = log} seat next task runner delay ok holds is allowed =
@@ -115,17 +167,56 @@ can_post {script = script} {log = log} seat next task runner delay ok holds is a
     }
 
 -- the number of entries fits a place
-pub place_fits : {X : Type 0} {bodies : List (Option X)} {whole rest : X → List Step} {script : Plan} {log : Listed Entry} {pool : Pool} {place made : ℕ}
-    (n : ℕ) → Holds bodies whole rest script log pool place made → n ≡ length log.items → n < 2 ^ 32
+pub place_fits : {X : Type 0} {bodies : List (Option X)} {whole rest : X → List Step} {script : Plan} {log : Listed Entry} {pool : Pool}
+    {manager : Manager} {place made : ℕ}
+    (n : ℕ) → Holds bodies whole rest script log pool manager place made → n ≡ length log.items → n < 2 ^ 32
 place_fits {script = script} {log = log} n holds is = rw is (omega (arith, entries_within_limit script log.items holds.plan.sound holds.legal))
 
 -- that of the driver's post, by what the rules reply
 pub can_post_by_script : {X : Type 0} {bodies : List (Option X)} {whole rest : X
-    → List Step} {script : Plan} {log : Listed Entry} {pool : Pool} {place made : ℕ}
-    (seat next task runner delay : ℕ) → Holds bodies whole rest script log pool place made → next ≡ length log.items
+    → List Step} {script : Plan} {log : Listed Entry} {pool : Pool} {manager : Manager} {place made : ℕ}
+    (seat next task runner delay : ℕ) → Holds bodies whole rest script log pool manager place made → next ≡ length log.items
     → ((ok : Bool) → IsWantedNext (record { script = script; history = log.items }) seat (kinds.Post task runner delay ok))
     → CanPost script log.items pool next task runner delay
 can_post_by_script {script = script} {log = log} seat next task runner delay holds is wanted =
     can_post seat next task runner delay (not (is_refused script log.items runner delay)) holds is
     (post_allowed (record { script = script; history = log.items }) seat task runner delay (not (is_refused script log.items runner delay))
     (wanted (not (is_refused script log.items runner delay))) refl)
+
+-- What the script does to a main queue.
+
+-- the main queues' condition: the queue is declared
+pub at_queue : {X : Type 0} {bodies : List (Option X)} {whole rest : X → List Step} {script : Plan} {log : Listed Entry} {pool : Pool} {manager : Manager}
+    {place made : ℕ}
+    (seat queue : ℕ) (kind : Kind) → Holds bodies whole rest script log pool manager place made → named kind ≡ Some queue
+    → IsWantedNext (record { script = script; history = log.items }) seat kind → HasQueue script log.items manager queue
+at_queue {script = script} {log = log} seat queue kind holds is wanted = record {
+  stands = holds.main;
+  declared = queue_declared (record { script = script; history = log.items }) seat kind queue is holds.plan wanted;
+}
+
+-- A post to a main queue, by the script or by a task.
+
+-- the main queues' condition
+pub can_main_post : {X : Type 0} {bodies : List (Option X)} {whole rest : X → List Step} {script : Plan} {log : Listed Entry} {pool : Pool}
+    {manager : Manager} {place made : ℕ}
+    (seat next task queue delay : ℕ) (ok : Bool) → Holds bodies whole rest script log pool manager place made → next ≡ length log.items
+    → IsAllowed script log.items (record { seat = seat; kind = kinds.Main task queue delay ok })
+    → MainCanPost script log.items manager next task queue delay
+can_main_post {script = script} {log = log} seat next task queue delay ok holds is allowed =
+    let sound = main_post_is_sound script log.items seat task queue delay ok holds.plan holds.legal allowed in record {
+      stands = holds.main;
+      place_is = is;
+      few = place_fits (length log.items) holds refl;
+      posted = sound.posted;
+      is_new = sound.is_new;
+      delay_fits = sound.delay_fits;
+    }
+
+-- its task is declared
+pub main_task_declared : {X : Type 0} {bodies : List (Option X)} {whole rest : X → List Step} {script : Plan} {log : Listed Entry} {pool : Pool}
+    {manager : Manager} {place made : ℕ}
+    (seat task queue delay : ℕ) (ok : Bool) → Holds bodies whole rest script log pool manager place made
+    → IsAllowed script log.items (record { seat = seat; kind = kinds.Main task queue delay ok }) → task < length script.tasks
+main_task_declared {script = script} {log = log} seat task queue delay ok holds allowed =
+    (main_post_is_sound script log.items seat task queue delay ok holds.plan holds.legal allowed).task_declared

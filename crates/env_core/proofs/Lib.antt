@@ -1,11 +1,13 @@
 pub mod Plans
 pub mod Shutdown
-pub mod Scopes
-pub mod Wanted
-pub mod Bodies
+pub mod Queues
 pub mod Driver
+pub mod Scopes
+pub mod Bodies
+pub mod Wanted
 pub mod Entries
 pub mod Taking
-pub mod Tested
 pub mod Acts
+pub mod Small
+pub mod Tested
 pub mod TestedCalls

@@ -1,17 +1,17 @@
--- What a script of the pool alone gives in a legal history: what its actions and steps are, who runs, and that nobody is inside a job.
-use Rattle.env_core.specs.Built.{IsPoolPlan, is_pool_action, posts_to_main}
-use Rattle.hist_model.proofs.Laws.Choice.{found}
+-- What a script without jobs gives in a legal history: what its actions and steps are, who runs, and that nobody is inside a job.
+use Rattle.env_core.specs.Built.{IsBuilt}
+use Rattle.hist_model.proofs.Laws.Choice.{Found, found}
 use Rattle.hist_model.proofs.Laws.Consistent.{legal_is_consistent}
 use Rattle.hist_model.proofs.Laws.EntriesJobs.{claimed_within}
 use Rattle.hist_model.proofs.Laws.HoldsApart.{legal_holds_apart}
-use Rattle.hist_model.proofs.Laws.OneThing.{legal_does_one_thing}
-use Rattle.hist_model.specs.Allowed.{by_task, enters}
-use Rattle.hist_model.specs.Laws.Consistent.{RunsAs, is_pump}
+use Rattle.hist_model.proofs.Laws.OneThing.{legal_does_one_thing, wanted_by}
+use Rattle.hist_model.proofs.Laws.Own.{running_own}
+use Rattle.hist_model.specs.Allowed.{by_script, by_task, enters}
+use Rattle.hist_model.specs.Laws.Consistent.{RunsAs, RunsMainTask, RunsPoolTask, is_pump}
 use Rattle.hist_model.specs.Legal.{IsLegal}
 use Rattle.hist_model.specs.Script.{Current, behind_action, current, current_from, wants}
 use Rattle.hist_model.specs.Views.{own_entries}
 use Rattle.list_laws.proofs.Elements.{AllByRecursion-filter, slice_get_all}
-use Rattle.list_laws.proofs.Options.{AllByRecursion-not_any}
 use Rattle.list_laws.proofs.Places.{none_from_count}
 use Rattle.list_laws.proofs.Ranges.{range_any_at}
 use Rattle.list_laws.specs.Lists.{holds_of}
@@ -21,9 +21,9 @@ use Rattle.script_model.specs.Laws.Sound.{AreDeclarationsSound, IsStepSound, IsS
 use Rattle.std.proofs.Common.{Bool, List, None, Option, Some, [], ap, arith, eqb, false, refl, subst, sym, true, ℕ, ◌∙◌, ◌∷◌, ◌≡◌}
 use Rattle.std.proofs.lemmas.Bool.{and_parts, eqb-true, true≢false}
 use Rattle.std.proofs.lemmas.Option.{none-some, same_Some}
-use Rattle.std.specs.List.{AllByRecursion, list_any}
+use Rattle.std.specs.List.{AllByRecursion}
 use Rattle.std.specs.Option.{IfSome, option_map_or}
-use Rattle.std.specs.Prelude.{filter, slice_get, ◌&&◌}
+use Rattle.std.specs.Prelude.{filter, is_none, slice_get, ◌&&◌}
 use Rattle.task_base.specs.Plan.{Plan}
 use Rattle.task_base.specs.Steps.{is_act}
 use Rattle.task_base.specs.declared.entry.Entry.{Entry}
@@ -38,6 +38,7 @@ use Rattle.task_base.specs.declared.step.Step.TheVariants as steps
 
 -- The actions of the driver.
 
+-- what holds of each of some actions holds of the first that is not complete
 current_from_is : (P : Action → Type 0) (xs : List Action) (own : List Entry) (c : Current) → AllByRecursion P xs → current_from xs own ≡ Some c → P c.action
 current_from_is P [] own c all is = absurd (none-some c is)
 current_from_is P (x ∷ xs) own c all is = at (behind_action x own) (λ left. current_from_is P xs left c all.1) is
@@ -62,6 +63,15 @@ wants_post own (actions.Post t r d) made task runner delay ok h =
     rw (eqb-true task t inner.0, eqb-true runner r inner.1, eqb-true delay d outer.1) refl
 wants_post own action made task runner delay ok h = absurd cc
 
+-- so is one that wants a post to a main queue
+pub wants_main : (own : List Entry) (action : Action) (made : List Entry) (task queue delay : ℕ) (ok : Bool)
+    → wants own action made (kinds.Main task queue delay ok) ≡ true → action ≡ actions.Main task queue delay
+wants_main own (actions.Main t q d) made task queue delay ok h =
+    let outer = and_parts (eqb task t && eqb queue q) (eqb delay d) h in
+    let inner = and_parts (eqb task t) (eqb queue q) outer.0 in
+    rw (eqb-true task t inner.0, eqb-true queue q inner.1, eqb-true delay d outer.1) refl
+wants_main own action made task queue delay ok h = absurd cc
+
 -- The steps of a task.
 
 -- a seat enters the next act step of the task that it runs
@@ -80,6 +90,7 @@ next_is_of script past seat w step runs next = sym here ∙ next
     here : next_act script past seat ≡ slice_get (filter is_act (steps_of script w.task)) (acts_done past seat)
     here = rw runs refl
 
+-- the entry of a task is of its next act step
 pub entered_by : (script : Plan) (past : List Entry) (seat : ℕ) (kind : Kind) → by_task script past seat kind ≡ true → EntersStep script past seat kind
 unfolding by_task
 entered_by script past seat kind h =
@@ -93,6 +104,7 @@ entered_by script past seat kind h =
       enters = s.passes;
     }
 
+-- the entry of the next act step of a task is one of the task
 pub by_next : (script : Plan) (past : List Entry) (seat : ℕ) (kind : Kind) (w : Running) (step : Step) → running past seat ≡ Some w
     → next_act script past seat ≡ Some step → enters w.task step kind ≡ true → by_task script past seat kind ≡ true
 unfolding by_task
@@ -121,34 +133,53 @@ steps_are script t sound = at (slice_get script.tasks t) refl
     at None is = (tt, tt)
     at (Some xs) is = let s = sound.tasks_sound t xs is in (s.steps_within, s.steps_sound)
 
--- no act step of a task posts to a main queue
-pub not_main : (script : Plan) (t n : ℕ) (step : Step) → IsPoolPlan script → slice_get (filter is_act (steps_of script t)) n ≡ Some step
-    → posts_to_main step ≡ false
-not_main script t n step plan is = act_is (λ s. posts_to_main s ≡ false) (steps_of script t) n step
-    (at (slice_get script.tasks t) (slice_get_all _ script.tasks t plan.no_main_steps)) is
-  where
-    at : (o : Option (List Step)) → IfSome o (λ xs. list_any posts_to_main xs ≡ false)
-        → AllByRecursion (λ s. posts_to_main s ≡ false) (option_map_or (λ steps. steps) o [])
-    at None none = tt
-    at (Some xs) none = AllByRecursion-not_any posts_to_main xs none
+-- a step that enters a post to a main queue is that post
+pub enters_main : (t : ℕ) (step : Step) (task queue delay : ℕ) (ok : Bool) → enters t step (kinds.Main task queue delay ok) ≡ true
+    → step ≡ steps.Main task queue delay
+enters_main t (steps.Main u q d) task queue delay ok h =
+    let outer = and_parts (eqb task u && eqb queue q) (eqb delay d) h in
+    let inner = and_parts (eqb task u) (eqb queue q) outer.0 in
+    rw (eqb-true task u inner.0, eqb-true queue q inner.1, eqb-true delay d outer.1) refl
+enters_main t step task queue delay ok h = absurd cc
 
 -- Who runs and holds what.
 
--- the driver runs nothing: it would be at a pump
-pub driver_runs_nothing : (script : Plan) (past : List Entry) → IsPoolPlan script → IsLegal script past → running past 0 ≡ None
-driver_runs_nothing script past plan legal = at (running past 0) refl
+-- a worker runs the tasks of the pool, and the driver the main tasks
+pub pool_runs : (script : Plan) (past : List Entry) (seat : ℕ) (w : Running) → IsLegal script past → running past seat ≡ Some w → w.is_main ≡ false
+    → RunsPoolTask script past seat w
+pool_runs script past seat w legal runs pool = subst (RunsAs script past seat w) pool ((legal_is_consistent script past legal).runs seat w runs)
+
+-- who runs a main task is the driver
+pub main_runs : (script : Plan) (past : List Entry) (seat : ℕ) (w : Running) → IsLegal script past → running past seat ≡ Some w → w.is_main ≡ true
+    → RunsMainTask past seat w
+main_runs script past seat w legal runs main = subst (RunsAs script past seat w) main ((legal_is_consistent script past legal).runs seat w runs)
+
+-- what a pump wants, it wants while the driver runs nothing
+pump_wants : (own : List Entry) (action : Action) (made : List Entry) (kind : Kind) → is_pump action ≡ true → wants own action made kind ≡ true
+    → is_none (running own 0) ≡ true
+pump_wants own (actions.Pump n) made (kinds.MainTake task queue value) pump h = h
+pump_wants own (actions.Pump n) made kinds.MainNone pump h = h
+pump_wants own (actions.Pump n) made kind pump h = absurd cc
+pump_wants own action made kind pump h = absurd cc
+
+-- where the script wants an entry of the driver, the driver runs nothing
+pub driver_runs_nothing : (script : Plan) (past : List Entry) (seat : ℕ) (kind : Kind) → IsLegal script past → by_script script past seat kind ≡ true
+    → running past 0 ≡ None
+driver_runs_nothing script past seat kind legal wanted = at (running past 0) refl
   where
-    no_pump : (action : Action) → is_pool_action action ≡ true → is_pump action ≡ true → ⊥
-    no_pump (actions.Pump n) pool pump = absurd cc
-    no_pump action pool pump = absurd cc
+    c : Found Current (λ c. wants (own_entries 0 past) c.action c.made kind) (current script (own_entries 0 past))
+    c = wanted_by script past seat kind wanted
 
     at : (o : Option Running) → running past 0 ≡ o → o ≡ None
     at None is = refl
-    at (Some w) is = let (c, now, pump) = (legal_does_one_thing script past legal).pumps w is in
-        absurd (no_pump c.action (action_is (λ action. is_pool_action action ≡ true) script (own_entries 0 past) c plan.pool_actions now) pump)
+    at (Some w) is =
+        let (d, now, pump) = (legal_does_one_thing script past legal).pumps w is in
+        let same : d ≡ c.value = same_Some d c.value (sym now ∙ c.is) in
+        absurd (true≢false (sym (pump_wants (own_entries 0 past) c.value.action c.value.made kind (subst (λ x. is_pump x.action ≡ true) same pump) c.passes)
+        ∙ ap is_none (running_own past 0 ∙ is)))
 
 -- nobody holds an item: there is none
-pub holds_nothing : (script : Plan) (past : List Entry) (seat : ℕ) → IsPoolPlan script → IsLegal script past → holding past seat ≡ None
+pub holds_nothing : (script : Plan) (past : List Entry) (seat : ℕ) → IsBuilt script → IsLegal script past → holding past seat ≡ None
 holds_nothing script past seat plan legal = at (holding past seat) refl
   where
     at : (o : Option Holding) → holding past seat ≡ o → o ≡ None
@@ -157,13 +188,13 @@ holds_nothing script past seat plan legal = at (holding past seat) refl
         let no_items : items_of script h.job ≡ 0 = rw (plan.no_jobs) refl in
         absurd (omega (arith, (legal_holds_apart script past legal).is_claimed seat h is, claimed_within script past h.job legal, no_items))
 
--- where no worker runs a task of the pool, no seat runs anything
-runs_nothing : (script : Plan) (past : List Entry) (seat : ℕ) → IsPoolPlan script → IsLegal script past → running_tasks script past ≡ 0
+-- where the driver runs nothing and no worker runs a task of the pool, no seat runs anything
+runs_nothing : (script : Plan) (past : List Entry) (seat : ℕ) → IsLegal script past → running past 0 ≡ None → running_tasks script past ≡ 0
     → running past seat ≡ None
-runs_nothing script past seat plan legal none = at (running past seat) refl
+runs_nothing script past seat legal driver none = at (running past seat) refl
   where
     by : (w : Running) (main : Bool) → running past seat ≡ Some w → w.is_main ≡ main → RunsAs script past seat w main → ⊥
-    by w true is main r = none-some w (sym (driver_runs_nothing script past plan legal) ∙ subst (λ s. running past s ≡ Some w) r.driver is)
+    by w true is main r = none-some w (sym driver ∙ subst (λ s. running past s ≡ Some w) r.driver is)
     by w false is pool r = true≢false (sym (range_any_at (runs_pool_task past) 1 script.workers seat (rw (is, pool) refl) r.worker (omega (arith, r.known)))
         ∙ none_from_count (runs_pool_task past) (worker_seats script) none)
 
@@ -172,6 +203,7 @@ runs_nothing script past seat plan legal none = at (running past seat) refl
     at (Some w) is = absurd (by w w.is_main is refl ((legal_is_consistent script past legal).runs seat w is))
 
 -- then each seat is free
-pub free_where_none_runs : (script : Plan) (past : List Entry) (seat : ℕ) → IsPoolPlan script → IsLegal script past → running_tasks script past ≡ 0
-    → is_free past seat ≡ true
-free_where_none_runs script past seat plan legal none = rw (runs_nothing script past seat plan legal none, holds_nothing script past seat plan legal) refl
+pub free_where_none_runs : (script : Plan) (past : List Entry) (seat : ℕ) → IsBuilt script → IsLegal script past → running past 0 ≡ None
+    → running_tasks script past ≡ 0 → is_free past seat ≡ true
+free_where_none_runs script past seat plan legal driver none =
+    rw (runs_nothing script past seat legal driver none, holds_nothing script past seat plan legal) refl

@@ -1,26 +1,27 @@
 -- In a legal history the scopes of a task open and close in turn, as its steps say.
-use Rattle.env_core.specs.Built.{IsPoolPlan, is_open_after}
-use Rattle.env_core.proofs.Driver.{worker_runs}
+use Rattle.env_core.specs.Built.{IsBuilt, is_open_after}
+use Rattle.env_core.proofs.Plans.{EntersStep, entered_by, main_runs, next_is_of, pool_runs}
 use Rattle.hist_model.specs.Allowed.{IsAllowed, by_script, by_task, enters, is_reply, may_come, same_scope}
 use Rattle.hist_model.specs.Legal.{IsLegal}
 use Rattle.hist_model.proofs.Laws.AtPlaces.{take_at}
-use Rattle.hist_model.proofs.Laws.Choice.{found}
 use Rattle.hist_model.proofs.Laws.Legal.{is_legal_push, legal_induction}
 use Rattle.hist_model.proofs.Laws.LegalPast.{legal_past}
+use Rattle.hist_model.proofs.Laws.PostingCounts.{counted, posted_at_most_once}
 use Rattle.hist_model.proofs.Laws.Takes.{by_driver, take_is}
+use Rattle.list_laws.proofs.Finds.{contained_counts}
 use Rattle.hist_model.proofs.Laws.Whose.{runs_behind}
 use Rattle.list_laws.proofs.Values.{eqb-same}
-use Rattle.list_laws.specs.Lists.{holds_of}
 use Rattle.pool_laws.proofs.Room.Capacity.{scope_kept}
-use Rattle.pool_laws.proofs.Seats.Running.{acts_other, running_here}
+use Rattle.pool_laws.proofs.Seats.Running.{acts_other}
 use Rattle.pool_laws.specs.Room.{scopes}
 use Rattle.script_model.specs.Draft.{has_bad_scopes}
-use Rattle.std.proofs.Common.{Bool, List, None, Option, Some, [], drop, eqb, false, leb, length, take, true, zero, suc, ℕ, ◌+◌, ◌++◌, ◌∙◌, ◌∷◌, ◌≡◌, ◌≤◌, add-one, ap, arith, refl, sym, ⊎_elim}
-use Rattle.std.proofs.lemmas.Bool.{and_from, and_parts, eqb-false, eqb-true, false_from_ne_true, not-false, or_cases, or_from, or_parts, true≢false}
+use Rattle.std.proofs.Common.{Bool, List, None, Option, Some, [], drop, eqb, false, leb, length, take, true, zero, suc, ℕ, ◌+◌, ◌++◌, ◌∙◌, ◌∷◌, ◌≡◌}
+use Rattle.std.proofs.Common.{◌≤◌, add-one, ap, arith, refl, subst, sym, ⊎_elim}
+use Rattle.std.proofs.lemmas.Bool.{and_from, and_parts, eqb-false, eqb-true, false_from_ne_true, not-false, or_cases, or_parts, true≢false}
 use Rattle.std.proofs.lemmas.List.{drop_all}
 use Rattle.std.proofs.lemmas.Option.{none-some, same_Some}
 use Rattle.std.specs.Option.{option_map_or}
-use Rattle.std.specs.Prelude.{filter, is_some, not, ◌&&◌, ◌||◌, slice_get}
+use Rattle.std.specs.Prelude.{Contains, filter, is_some, not, ◌&&◌, ◌||◌, slice_get}
 use Rattle.task_base.specs.Plan.{Plan}
 use Rattle.task_base.specs.Steps.{is_act}
 use Rattle.task_base.specs.declared.entry.Entry.{Entry}
@@ -28,12 +29,11 @@ use Rattle.task_base.specs.declared.entry.Kind.{Kind}
 use Rattle.task_base.specs.declared.entry.Kind.TheVariants as kinds
 use Rattle.task_base.specs.declared.step.Scope.{Scope}
 use Rattle.task_base.specs.declared.step.Step.{Step}
-use Rattle.task_base.specs.declared.step.Step.TheVariants.{Block, Unblock}
 use Rattle.task_base.specs.declared.step.Step.TheVariants as steps
 use Rattle.task_body.proofs.Progress.{drop-slice_get}
-use Rattle.task_model.proofs.Growth.{acts_done_push, is_main_taken_push, open_scope_push}
+use Rattle.task_model.proofs.Growth.{acts_done_push, open_scope_push}
 use Rattle.task_model.specs.Capacity.{OpenScope, open_scope, scope_after}
-use Rattle.task_model.specs.Posts.{is_main_taken, main_takes}
+use Rattle.task_model.specs.Posts.{Posted, is_main_taken, posts}
 use Rattle.task_model.specs.Seats.{Running, acts_after, acts_done, next_act, running, running_after, steps_of}
 
 -- ---- steps
@@ -42,6 +42,7 @@ use Rattle.task_model.specs.Seats.{Running, acts_after, acts_done, next_act, run
 abbrev acts_of : Plan → ℕ → List Step
 acts_of script t = filter is_act (steps_of script t)
 
+-- whether a scope is open behind some steps and more
 open_after-append : (b : Bool) (xs ys : List Step) → is_open_after b (xs ++ ys) ≡ is_open_after (is_open_after b xs) ys
 open_after-append b [] ys = refl
 open_after-append b (steps.Block scope ∷ xs) ys = open_after-append true xs ys
@@ -55,6 +56,7 @@ acts_in_turn b (steps.Block scope ∷ xs) = ap (λ c. b || c) (acts_in_turn true
 acts_in_turn b (steps.Unblock ∷ xs) = ap (λ c. not b || c) (acts_in_turn false xs)
 acts_in_turn b (step ∷ xs) = acts_in_turn b xs
 
+-- scopes that open and close in turn do so behind the first n steps
 rest_in_turn : (b : Bool) (xs : List Step) (n : ℕ) → has_bad_scopes b xs ≡ false → has_bad_scopes (is_open_after b (take n xs)) (drop n xs) ≡ false
 rest_in_turn b xs zero h = h
 rest_in_turn b [] (suc n) h = h
@@ -63,7 +65,7 @@ rest_in_turn b (steps.Unblock ∷ xs) (suc n) h = rest_in_turn false xs n (or_pa
 rest_in_turn b (step ∷ xs) (suc n) h = rest_in_turn b xs n h
 
 -- so do those of each task
-task_in_turn : (script : Plan) (t : ℕ) → IsPoolPlan script → has_bad_scopes false (acts_of script t) ≡ false
+task_in_turn : (script : Plan) (t : ℕ) → IsBuilt script → has_bad_scopes false (acts_of script t) ≡ false
 task_in_turn script t plan = acts_in_turn false (steps_of script t) ∙ by (slice_get script.tasks t) refl
   where
     by : (o : Option (List Step)) → slice_get script.tasks t ≡ o → has_bad_scopes false (option_map_or (λ steps. steps) o []) ≡ false
@@ -72,43 +74,27 @@ task_in_turn script t plan = acts_in_turn false (steps_of script t) ∙ by (slic
 
 -- ---- entries
 
--- no main task is ever taken
-no_main_taken : (script : Plan) (past : List Entry) (t : ℕ) → IsPoolPlan script → IsLegal script past → is_main_taken past t ≡ false
-unfolding is_main_taken
-no_main_taken script past t plan legal = legal_induction script (λ past. is_main_taken past t ≡ false) refl step past legal
-  where
-    step : (past : List Entry) (e : Entry) → IsLegal script past → IsAllowed script past e → is_main_taken past t ≡ false
-        → is_main_taken (past ++ e ∷ []) t ≡ false
-    step past e legal allowed none = is_main_taken_push past e t ∙ or_from (is_main_taken past t) (main_takes t e.kind) none (by e.kind refl)
-      where
-        longer : IsLegal script (past ++ e ∷ [])
-        longer = is_legal_push script past e ∙ and_from _ _ legal allowed
+-- what is taken of the pool was not taken as a main task
+no_main_taken : (script : Plan) (past : List Entry) (p : Posted) → IsBuilt script → IsLegal script past → Contains (posts past) p
+    → is_main_taken past p.task ≡ false
+no_main_taken script past p plan legal accepted =
+    let once = plan.sound.once.posted_once in
+    let known = counted script once past legal in
+    false_from_ne_true (is_main_taken past p.task) (λ k. omega (
+      arith,
+      contained_counts (λ (q : Posted). eqb q.task p.task) (posts past) p accepted (eqb-same p.task),
+      known.taken true p.task k,
+      known.accepted p.task,
+      posted_at_most_once script past p.task once legal,
+    ))
 
-        by : (kind : Kind) → e.kind ≡ kind → main_takes t kind ≡ false
-        by (kinds.MainTake task queue value) is =
-            let runs = running_here past e e.seat (eqb-same e.seat) ∙ ap (running_after (running past e.seat)) is in
-            absurd (true≢false (worker_runs script (past ++ e ∷ []) e.seat _ plan longer runs).0)
-        by kind is = refl
-
--- the entry of a task is of its next act step
-record EntersNext (script : Plan) (past : List Entry) (seat : ℕ) (kind : Kind) : Type 0 where
-  now : Running
-  runs : running past seat ≡ Some now
-  step : Step
-  is_next : slice_get (acts_of script now.task) (acts_done past seat) ≡ Some step
-  enters_it : enters now.task step kind ≡ true
-
--- the next act step is that of the task that the seat runs
-next_of : (script : Plan) (past : List Entry) (seat : ℕ) (w : Running) (step : Step) → running past seat ≡ Some w → next_act script past seat ≡ Some step
-    → slice_get (acts_of script w.task) (acts_done past seat) ≡ Some step
-next_of script past seat w step runs is = rw runs at is
-
-enters_next : (script : Plan) (past : List Entry) (seat : ℕ) (kind : Kind) → by_task script past seat kind ≡ true → EntersNext script past seat kind
-unfolding by_task
-enters_next script past seat kind h =
-    let w = found (λ (x : Running). holds_of (λ step. enters x.task step kind) (next_act script past seat)) (running past seat) h in
-    let step = found (λ s. enters w.value.task s kind) (next_act script past seat) w.passes in
-    record { now = w.value; runs = w.is; step = step.value; is_next = next_of script past seat w.value step.value w.is step.is; enters_it = step.passes }
+-- no task of the pool that runs is a main task that runs
+pool_or_main : (script : Plan) (past : List Entry) (a b : ℕ) (v w : Running) → IsBuilt script → IsLegal script past → running past a ≡ Some v
+    → running past b ≡ Some w → v.is_main ≡ true → w.is_main ≡ false → v.task ≡ w.task → ⊥
+pool_or_main script past a b v w plan legal runs_v runs_w main pool same =
+    let m = main_runs script past a v legal runs_v main in
+    let p = pool_runs script past b w legal runs_w pool in
+    true≢false (sym m.taken ∙ ap (is_main_taken past) (same ∙ sym p.task_is) ∙ no_main_taken script past p.accepted plan legal p.posted)
 
 -- the entry of an act step opens and closes the scope of its task, as the step does
 scope_moves : (t n : ℕ) (past : List Entry) (now : Option OpenScope) (step : Step) (kind : Kind) → enters t step kind ≡ true
@@ -127,6 +113,7 @@ scoped_task t u (steps.Post a r d) (kinds.Post task runner delay ok) h k = absur
 scoped_task t u (steps.Main a q d) (kinds.Main task queue delay ok) h k = absurd cc
 scoped_task t u step kind h k = absurd cc
 
+-- an entry that opens or closes a scope is one of a task
 scopes_by_task : (script : Plan) (past : List Entry) (seat u : ℕ) (kind : Kind) → may_come script past seat kind ≡ true → scopes u kind ≡ true
     → by_task script past seat kind ≡ true
 unfolding may_come
@@ -134,33 +121,39 @@ scopes_by_task script past seat u (kinds.Enter task scope) may k = may
 scopes_by_task script past seat u (kinds.Leave task) may k = may
 scopes_by_task script past seat u kind may k = absurd cc
 
--- what the task of a seat has open, by the act steps that were entered
+-- what the task of the pool that a seat runs has open, by the act steps that were entered
 abbrev ScopeIs : Plan → List Entry → Type 0
-ScopeIs script past = (seat : ℕ) (w : Running) → running past seat ≡ Some w
+ScopeIs script past = (seat : ℕ) (w : Running) → running past seat ≡ Some w → w.is_main ≡ false
     → is_some (open_scope past w.task) ≡ is_open_after false (take (acts_done past seat) (acts_of script w.task))
 
-scope_step : (script : Plan) (past : List Entry) (e : Entry) → IsPoolPlan script → IsLegal script past → IsAllowed script past e → ScopeIs script past
+-- one more entry leaves it so
+scope_step : (script : Plan) (past : List Entry) (e : Entry) → IsBuilt script → IsLegal script past → IsAllowed script past e → ScopeIs script past
     → ScopeIs script (past ++ e ∷ [])
 unfolding may_come
-scope_step script past e plan legal allowed before seat w runs = ⊎_elim other own (runs_behind past e seat w runs)
+scope_step script past e plan legal allowed before seat w runs pool = ⊎_elim other own (runs_behind past e seat w runs)
   where
     may : may_come script past e.seat e.kind ≡ true
     may = (and_parts (leb e.seat script.workers) (may_come script past e.seat e.kind) allowed).1
 
-    pool : (w.is_main ≡ false) × (1 ≤ seat)
-    pool = worker_runs script (past ++ e ∷ []) seat w plan (is_legal_push script past e ∙ and_from _ _ legal allowed) runs
+    worker : 1 ≤ seat
+    worker = (pool_runs script (past ++ e ∷ []) seat w (is_legal_push script past e ∙ and_from _ _ legal allowed) runs pool).worker
 
     -- an entry of another seat opens and closes no scope of this task
     other : (running past seat ≡ Some w) × (eqb e.seat seat ≡ false)
         → is_some (open_scope (past ++ e ∷ []) w.task) ≡ is_open_after false (take (acts_done (past ++ e ∷ []) seat) (acts_of script w.task))
-    other (now, elsewhere) = rw (scope_kept past e w.task (false_from_ne_true _ untouched), acts_other past e seat elsewhere) (before seat w now)
+    other (now, elsewhere) = rw (scope_kept past e w.task (false_from_ne_true _ untouched), acts_other past e seat elsewhere) (before seat w now pool)
       where
         untouched : scopes w.task e.kind ≡ true → ⊥
         untouched k =
-            let n : EntersNext script past e.seat e.kind =
-            enters_next script past e.seat e.kind (scopes_by_task script past e.seat w.task e.kind may k) in
-            eqb-false e.seat seat elsewhere ((legal_past script past legal).consistent.one_task e.seat seat n.now w n.runs now
-            (worker_runs script past e.seat n.now plan legal n.runs).0 pool.0 (scoped_task n.now.task w.task n.step e.kind n.enters_it k))
+            let n : EntersStep script past e.seat e.kind =
+            entered_by script past e.seat e.kind (scopes_by_task script past e.seat w.task e.kind may k) in
+            let same : n.now.task ≡ w.task = scoped_task n.now.task w.task n.step e.kind n.enters k in
+            apart n.now n.runs same n.now.is_main refl
+          where
+            apart : (v : Running) → running past e.seat ≡ Some v → v.task ≡ w.task → (main : Bool) → v.is_main ≡ main → ⊥
+            apart v runs_v same true is = pool_or_main script past e.seat seat v w plan legal runs_v now is pool same
+            apart v runs_v same false is =
+                eqb-false e.seat seat elsewhere ((legal_past script past legal).consistent.one_task e.seat seat v w runs_v now is pool same)
 
     -- the scope and the act steps after an entry of the seat's own
     IsNow : Kind → Type 0
@@ -173,77 +166,84 @@ scope_step script past e plan legal allowed before seat w runs = ⊎_elim other 
       where
         act : (kind : Kind) → running past e.seat ≡ Some w → by_task script past e.seat kind ≡ true → IsNow kind
         act kind now h =
-            let n : EntersNext script past e.seat kind = enters_next script past e.seat kind h in
+            let n : EntersStep script past e.seat kind = entered_by script past e.seat kind h in
             let same : n.now ≡ w = same_Some n.now w (sym n.runs ∙ now) in
-            let moves = scope_moves w.task (acts_done past e.seat) past (open_scope past w.task) n.step kind (rw same at n.enters_it) in
+            let moves = scope_moves w.task (acts_done past e.seat) past (open_scope past w.task) n.step kind (rw same at n.enters) in
             rw (
               moves.0,
               add-one,
               take_at (acts_of script w.task) (acts_done past e.seat) n.step (rw same at n.is_next),
               open_after-append false (take (acts_done past e.seat) (acts_of script w.task)) (n.step ∷ []),
-              ← before e.seat w now,
+              ← before e.seat w now pool,
             ) moves.1
 
         post : (kind : Kind) (refused ok : Bool) → running past e.seat ≡ Some w
             → ((by_script script past e.seat kind || by_task script past e.seat kind) && is_reply refused ok) ≡ true → IsNow kind
-        post kind refused ok now h = act kind now (⊎_elim (λ s. absurd (omega (arith, by_driver script past e.seat kind s, here, pool.1))) (λ t. t)
+        post kind refused ok now h = act kind now (⊎_elim (λ s. absurd (omega (arith, by_driver script past e.seat kind s, here, worker))) (λ t. t)
             (or_cases (by_script script past e.seat kind) (by_task script past e.seat kind) (and_parts _ (is_reply refused ok) h).0))
 
         by : (kind : Kind) → may_come script past e.seat kind ≡ true → running_after (running past e.seat) kind ≡ Some w → IsNow kind
         by (kinds.Take task runner value) m k =
-            let fresh = (take_is script past e.seat task runner value m).not_taken in
-            let none = (legal_past script past legal).rises.scopes_of_taken task fresh (no_main_taken script past task plan legal) in
+            let taken = take_is script past e.seat task runner value m in
+            let other = subst (λ t. is_main_taken past t ≡ false) taken.task_is (no_main_taken script past taken.head.posted plan legal
+            taken.is_head.accepted) in
+            let none = (legal_past script past legal).rises.scopes_of_taken task taken.not_taken other in
             let same : task ≡ w.task = cc in rw (← same, none) refl
-        by (kinds.MainTake task queue value) m k = absurd (true≢false (ap (λ (v : Running). v.is_main) (same_Some _ w k) ∙ pool.0))
+        by (kinds.MainTake task queue value) m k = absurd (true≢false (ap (λ (v : Running). v.is_main) (same_Some _ w k) ∙ pool))
         by (kinds.End task left) m k = absurd (none-some w k)
         by (kinds.MainEnd task left) m k = absurd (none-some w k)
         by (kinds.Post task runner delay ok) m k = post (kinds.Post task runner delay ok) _ ok k m
         by (kinds.Main task queue delay ok) m k = post (kinds.Main task queue delay ok) _ ok k m
         by (kinds.Enter task scope) m k = act (kinds.Enter task scope) k m
         by (kinds.Leave task) m k = act (kinds.Leave task) k m
-        by kind m k = before e.seat w k
+        by kind m k = before e.seat w k pool
 
 -- the task that a seat runs of the pool has a scope open exactly where the last scope step among the act steps that it has
 -- entered opened one
-pub scope_is : (script : Plan) (past : List Entry) (seat : ℕ) (w : Running) → IsPoolPlan script → IsLegal script past → running past seat ≡ Some w
-    → is_some (open_scope past w.task) ≡ is_open_after false (take (acts_done past seat) (filter is_act (steps_of script w.task)))
+pub scope_is : (script : Plan) (past : List Entry) (seat : ℕ) (w : Running) → IsBuilt script → IsLegal script past → running past seat ≡ Some w
+    → w.is_main ≡ false → is_some (open_scope past w.task) ≡ is_open_after false (take (acts_done past seat) (filter is_act (steps_of script w.task)))
 unfolding running
-scope_is script past seat w plan legal runs = legal_induction script (ScopeIs script) (λ s v h. absurd (none-some v h))
-    (λ past e legal allowed before. scope_step script past e plan legal allowed before) past legal seat w runs
+scope_is script past seat w plan legal runs pool = legal_induction script (ScopeIs script) (λ s v h other. absurd (none-some v h))
+    (λ past e legal allowed before. scope_step script past e plan legal allowed before) past legal seat w runs pool
 
 -- what is left of the act steps closes and opens its scopes in turn, as one is open now
-left_in_turn : (script : Plan) (past : List Entry) (seat : ℕ) (w : Running) → IsPoolPlan script → IsLegal script past → running past seat ≡ Some w
-    → has_bad_scopes (is_some (open_scope past w.task)) (drop (acts_done past seat) (acts_of script w.task)) ≡ false
-left_in_turn script past seat w plan legal runs =
-    rw (scope_is script past seat w plan legal runs) (rest_in_turn false (acts_of script w.task) (acts_done past seat) (task_in_turn script w.task plan))
+left_in_turn : (script : Plan) (past : List Entry) (seat : ℕ) (w : Running) → IsBuilt script → IsLegal script past → running past seat ≡ Some w
+    → w.is_main ≡ false → has_bad_scopes (is_some (open_scope past w.task)) (drop (acts_done past seat) (acts_of script w.task)) ≡ false
+left_in_turn script past seat w plan legal runs pool =
+    rw (scope_is script past seat w plan legal runs pool) (rest_in_turn false (acts_of script w.task) (acts_done past seat) (task_in_turn script w.task plan))
 
+-- where a scope is not open there is none
 none_open : (o : Option OpenScope) → is_some o ≡ false → o ≡ None
 none_open None h = refl
 none_open (Some x) h = absurd cc
 
+-- where a scope is open there is one
 some_open : (o : Option OpenScope) → is_some o ≡ true → (opened : OpenScope) × (o ≡ Some opened)
 some_open None h = absurd cc
 some_open (Some x) h = (x, refl)
 
 -- so none is open where its next step opens one, one is where its next step closes it, and none is at its end
-pub closed_at_block : (script : Plan) (past : List Entry) (seat : ℕ) (w : Running) (scope : Scope) → IsPoolPlan script → IsLegal script past
-    → running past seat ≡ Some w → next_act script past seat ≡ Some (steps.Block scope) → open_scope past w.task ≡ None
-closed_at_block script past seat w scope plan legal runs is =
-    let next = next_of script past seat w (steps.Block scope) runs is in
+pub closed_at_block : (script : Plan) (past : List Entry) (seat : ℕ) (w : Running) (scope : Scope) → IsBuilt script → IsLegal script past
+    → running past seat ≡ Some w → w.is_main ≡ false → next_act script past seat ≡ Some (steps.Block scope) → open_scope past w.task ≡ None
+closed_at_block script past seat w scope plan legal runs pool is =
+    let next = next_is_of script past seat w (steps.Block scope) runs is in
     let left = rw (drop-slice_get (acts_of script w.task) (acts_done past seat) (steps.Block scope) (sym next)) at
-    (left_in_turn script past seat w plan legal runs) in
+    (left_in_turn script past seat w plan legal runs pool) in
     none_open (open_scope past w.task) (or_parts _ _ left).0
 
-pub open_at_unblock : (script : Plan) (past : List Entry) (seat : ℕ) (w : Running) → IsPoolPlan script → IsLegal script past
-    → running past seat ≡ Some w → next_act script past seat ≡ Some steps.Unblock → (opened : OpenScope) × (open_scope past w.task ≡ Some opened)
-open_at_unblock script past seat w plan legal runs is =
-    let next = next_of script past seat w steps.Unblock runs is in
+-- one is open where the next step closes it
+pub open_at_unblock : (script : Plan) (past : List Entry) (seat : ℕ) (w : Running) → IsBuilt script → IsLegal script past
+    → running past seat ≡ Some w → w.is_main ≡ false → next_act script past seat ≡ Some steps.Unblock
+    → (opened : OpenScope) × (open_scope past w.task ≡ Some opened)
+open_at_unblock script past seat w plan legal runs pool is =
+    let next = next_is_of script past seat w steps.Unblock runs is in
     let left = rw (drop-slice_get (acts_of script w.task) (acts_done past seat) steps.Unblock (sym next)) at
-    (left_in_turn script past seat w plan legal runs) in
+    (left_in_turn script past seat w plan legal runs pool) in
     some_open (open_scope past w.task) (not-false (is_some (open_scope past w.task)) (or_parts _ _ left).0)
 
-pub closed_at_end : (script : Plan) (past : List Entry) (seat : ℕ) (w : Running) → IsPoolPlan script → IsLegal script past
-    → running past seat ≡ Some w → acts_done past seat ≡ length (filter is_act (steps_of script w.task)) → open_scope past w.task ≡ None
-closed_at_end script past seat w plan legal runs all =
+-- none is open where all act steps were entered
+pub closed_at_end : (script : Plan) (past : List Entry) (seat : ℕ) (w : Running) → IsBuilt script → IsLegal script past
+    → running past seat ≡ Some w → w.is_main ≡ false → acts_done past seat ≡ length (filter is_act (steps_of script w.task)) → open_scope past w.task ≡ None
+closed_at_end script past seat w plan legal runs pool all =
     none_open (open_scope past w.task) (rw (drop_all (acts_done past seat) (acts_of script w.task) (omega (arith, all))) at
-    (left_in_turn script past seat w plan legal runs))
+    (left_in_turn script past seat w plan legal runs pool))

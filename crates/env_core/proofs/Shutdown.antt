@@ -1,14 +1,15 @@
--- How far shutdown has come, by the driver's place in a script of the pool alone, which starts shutdown at most once.
-use Rattle.env_core.proofs.Plans.{driver_runs_nothing, entered_by, holds_nothing}
-use Rattle.env_core.specs.Built.{IsPoolPlan}
+-- How far shutdown has come, by the driver's place in a script without jobs, which starts shutdown at most once.
+use Rattle.env_core.proofs.Plans.{entered_by, holds_nothing}
+use Rattle.env_core.specs.Built.{IsBuilt}
 use Rattle.hist_model.proofs.Laws.Agenda.{agenda_push, current_is_first}
 use Rattle.hist_model.proofs.Laws.Choice.{Found}
 use Rattle.hist_model.proofs.Laws.Legal.{legal_induction}
-use Rattle.hist_model.proofs.Laws.OneThing.{job_step_holds, wanted_by}
+use Rattle.hist_model.proofs.Laws.OneThing.{job_step_holds, legal_does_one_thing, wanted_by}
 use Rattle.hist_model.proofs.Laws.Own.{own_entries_push}
 use Rattle.hist_model.proofs.Laws.Takes.{by_driver, end_is, job_take_is, main_end_is, take_is}
 use Rattle.hist_model.specs.Allowed.{IsAllowed, by_script, by_task, may_come}
 use Rattle.hist_model.specs.Laws.Agenda.{agenda, agenda_from, completes, first_of, next_agenda}
+use Rattle.hist_model.specs.Laws.Consistent.{is_pump}
 use Rattle.hist_model.specs.Legal.{IsLegal}
 use Rattle.hist_model.specs.Script.{Current, behind_action, current, wants}
 use Rattle.hist_model.specs.Views.{own_entries}
@@ -16,12 +17,13 @@ use Rattle.list_laws.proofs.Counts.{count-cons}
 use Rattle.list_laws.proofs.Places.{count_none, none_from_count}
 use Rattle.list_laws.specs.Lists.{count}
 use Rattle.script_model.specs.Draft.{is_shutdown}
-use Rattle.std.proofs.Common.{Bool, List, None, Option, Some, [], ap, arith, cond, eqb, false, leb, refl, subst, suc, sym, true, zero, ℕ, ⊎_elim, ◌++◌, ◌∙◌, ◌∷◌, ◌≡◌, ◌≤◌}
+use Rattle.std.proofs.Common.{Bool, List, None, Option, Some, [], ap, arith, cond, eqb, false, leb, refl, subst, suc, sym, true, zero, ℕ, ⊎_elim, inl}
+use Rattle.std.proofs.Common.{inr, ◌++◌, ◌∙◌, ◌∷◌, ◌≡◌, ◌≤◌}
 use Rattle.std.proofs.lemmas.Bool.{and_parts, eqb-false, eqb-true, or_cases, true≢false}
 use Rattle.std.proofs.lemmas.Option.{none-some, same_Some}
 use Rattle.std.specs.List.{list_any}
 use Rattle.std.specs.Option.{option_map_or}
-use Rattle.std.specs.Prelude.{◌||◌}
+use Rattle.std.specs.Prelude.{◌||◌, ◌⊎◌}
 use Rattle.task_base.specs.Plan.{Plan}
 use Rattle.task_base.specs.declared.entry.Entry.{Entry}
 use Rattle.task_base.specs.declared.entry.Kind.{Kind}
@@ -34,47 +36,57 @@ use Rattle.task_base.specs.declared.entry.Kind.TheVariants as kinds
 use Rattle.task_base.specs.declared.script.Action.TheVariants as actions
 use Rattle.task_traits.specs.declared.phase.Phase.TheVariants as phases
 
--- Each entry of the driver is by the script.
+-- Each entry of the driver is by the script, or by a main task.
 
--- the driver takes nothing as a worker, runs nothing and holds nothing
-pub driver_by_script : (script : Plan) (past : List Entry) (seat : ℕ) (kind : Kind) → IsPoolPlan script → IsLegal script past → seat ≡ 0
-    → may_come script past seat kind ≡ true → by_script script past seat kind ≡ true
+-- the driver is at a pump, and the entry neither starts nor ends shutdown
+record IsAtPump (script : Plan) (past : List Entry) (kind : Kind) : Type 0 where
+  now : Current
+  is : current script (own_entries 0 past) ≡ Some now
+  pump : is_pump now.action ≡ true
+  still : (phase : Phase) → phase_after phase kind ≡ phase
+
+-- the driver takes nothing as a worker and holds nothing
+driver_entry : (script : Plan) (past : List Entry) (seat : ℕ) (kind : Kind) → IsBuilt script → IsLegal script past → seat ≡ 0
+    → may_come script past seat kind ≡ true → (by_script script past seat kind ≡ true) ⊎ IsAtPump script past kind
 unfolding may_come
-driver_by_script script past seat kind plan legal driver may = by kind may
+driver_entry script past seat kind plan legal driver may = by kind may
   where
-    runs : (w : Running) → running past seat ≡ Some w → ⊥
-    runs w is = none-some w (sym (driver_runs_nothing script past plan legal) ∙ ap (running past) (sym driver) ∙ is)
+    runs : (k : Kind) (w : Running) → running past seat ≡ Some w → ((phase : Phase) → phase_after phase k ≡ phase) → IsAtPump script past k
+    runs k w is still =
+        let (c, now, pump) = (legal_does_one_thing script past legal).pumps w (ap (running past) (sym driver) ∙ is) in
+        record { now = c; is = now; pump = pump; still = still }
 
     worker : 1 ≤ seat → ⊥
     worker low = omega (arith, low, driver)
 
-    by_the_task : (k : Kind) → by_task script past seat k ≡ true → ⊥
-    by_the_task k h = let s = entered_by script past seat k h in runs s.now s.runs
+    by_the_task : (k : Kind) → by_task script past seat k ≡ true → ((phase : Phase) → phase_after phase k ≡ phase) → IsAtPump script past k
+    by_the_task k h still = let s = entered_by script past seat k h in runs k s.now s.runs still
 
-    either : (k : Kind) → (by_script script past seat k || by_task script past seat k) ≡ true → by_script script past seat k ≡ true
-    either k h = ⊎_elim (λ wanted. wanted) (λ task. absurd (by_the_task k task)) (or_cases _ _ h)
+    either : (k : Kind) → (by_script script past seat k || by_task script past seat k) ≡ true → ((phase : Phase) → phase_after phase k ≡ phase)
+        → (by_script script past seat k ≡ true) ⊎ IsAtPump script past k
+    either k h still = ⊎_elim inl (λ task. inr (by_the_task k task still)) (or_cases _ _ h)
 
-    by : (k : Kind) → may_come script past seat k ≡ true → by_script script past seat k ≡ true
-    by (kinds.Post task runner delay ok) h = either (kinds.Post task runner delay ok) (and_parts _ _ h).0
-    by (kinds.Main task queue delay ok) h = either (kinds.Main task queue delay ok) (and_parts _ _ h).0
-    by (kinds.Tick now) h = (and_parts _ _ (and_parts _ _ h).0).0
+    by : (k : Kind) → may_come script past seat k ≡ true → (by_script script past seat k ≡ true) ⊎ IsAtPump script past k
+    by (kinds.Post task runner delay ok) h = either (kinds.Post task runner delay ok) (and_parts _ _ h).0 (λ phase. refl)
+    by (kinds.Main task queue delay ok) h = either (kinds.Main task queue delay ok) (and_parts _ _ h).0 (λ phase. refl)
+    by (kinds.Tick now) h = inl (and_parts _ _ (and_parts _ _ h).0).0
     by (kinds.Take task runner found) h = absurd (worker (take_is script past seat task runner found h).worker)
-    by (kinds.End task left) h = let w = end_is script past seat task left h in absurd (runs w.0 w.1)
-    by (kinds.Enter task scope) h = absurd (by_the_task (kinds.Enter task scope) h)
-    by (kinds.Leave task) h = absurd (by_the_task (kinds.Leave task) h)
-    by (kinds.MainTake task queue found) h = (and_parts _ _ (and_parts _ _ h).0).0
-    by (kinds.MainEnd task left) h = let w = main_end_is script past seat task left h in absurd (runs w.0 w.1)
-    by kinds.MainNone h = (and_parts _ _ h).0
-    by (kinds.JobPost job ok) h = (and_parts _ _ h).0
-    by (kinds.JobTake job id item) h = ⊎_elim (λ k. absurd (worker k.0.worker)) (λ k. k.0) (job_take_is script past seat job id item h)
+    by (kinds.End task left) h = let w = end_is script past seat task left h in inr (runs (kinds.End task left) w.0 w.1 (λ phase. refl))
+    by (kinds.Enter task scope) h = inr (by_the_task (kinds.Enter task scope) h (λ phase. refl))
+    by (kinds.Leave task) h = inr (by_the_task (kinds.Leave task) h (λ phase. refl))
+    by (kinds.MainTake task queue found) h = inl (and_parts _ _ (and_parts _ _ h).0).0
+    by (kinds.MainEnd task left) h = let w = main_end_is script past seat task left h in inr (runs (kinds.MainEnd task left) w.0 w.1 (λ phase. refl))
+    by kinds.MainNone h = inl (and_parts _ _ h).0
+    by (kinds.JobPost job ok) h = inl (and_parts _ _ h).0
+    by (kinds.JobTake job id item) h = inl (⊎_elim (λ k. absurd (worker k.0.worker)) (λ k. k.0) (job_take_is script past seat job id item h))
     by (kinds.JobStep job id item value next) h =
         let held = job_step_holds script past seat job id item value next h in
         absurd (none-some held.0 (sym (holds_nothing script past seat plan legal) ∙ held.1))
-    by (kinds.Cancelled job) h = (and_parts _ _ (and_parts _ _ h).0).0
-    by (kinds.Joined job reply) h = (and_parts _ _ (and_parts _ _ h).0).0
-    by kinds.Idle h = (and_parts _ _ (and_parts _ _ h).0).0
-    by kinds.Done h = (and_parts _ _ (and_parts _ _ h).0).0
-    by k h = h
+    by (kinds.Cancelled job) h = inl (and_parts _ _ (and_parts _ _ h).0).0
+    by (kinds.Joined job reply) h = inl (and_parts _ _ (and_parts _ _ h).0).0
+    by kinds.Idle h = inl (and_parts _ _ (and_parts _ _ h).0).0
+    by kinds.Done h = inl (and_parts _ _ (and_parts _ _ h).0).0
+    by k h = inl h
 
 -- The phase at each place of the driver.
 
@@ -94,6 +106,7 @@ IsAtPhase phase [] made = Unit {0}
 IsAtPhase phase (actions.Shutdown ∷ rest) made = (list_any is_shutdown rest ≡ false) × (phase ≡ phase_at made)
 IsAtPhase phase (x ∷ rest) made = IsBefore phase rest
 
+-- what fits the actions from one on fits those behind it
 before_rest : (phase : Phase) (x : Action) (xs : List Action) → IsBefore phase (x ∷ xs) → IsBefore phase xs
 before_rest phase x xs b = record { once = omega (arith, b.once, count-cons is_shutdown x xs); running = λ h. b.running (some (is_shutdown x) h) }
   where
@@ -101,6 +114,7 @@ before_rest phase x xs b = record { once = omega (arith, b.once, count-cons is_s
     some true h = refl
     some false h = h
 
+-- what fits the actions fits the place at the first of them
 before_first : (phase : Phase) (x : Action) (xs : List Action) → IsBefore phase (x ∷ xs) → IsAtPhase phase (x ∷ xs) []
 before_first phase actions.Shutdown xs b = (none_from_count is_shutdown xs (omega (arith, b.once)), b.running refl)
 before_first phase x xs b = before_rest phase x xs b
@@ -111,6 +125,7 @@ behind_nothing (actions.Tick zero) left h = same_Some [] left h
 behind_nothing (actions.Tick (suc n)) left h = absurd cc
 behind_nothing x left h = absurd cc
 
+-- where some actions begin, the phase fits the first that is not complete
 begins : (phase : Phase) (xs : List Action) → IsBefore phase xs → IsAtPhase phase (agenda_from xs []).actions (agenda_from xs []).made
 begins phase [] b = tt
 begins phase (x ∷ xs) b = at (behind_action x []) refl (begins phase xs (before_rest phase x xs b))
@@ -145,6 +160,22 @@ moves own phase x rest made seat kind w at = by (completes x made kind)
     by true = begins phase rest at
     by false = at
 
+-- an entry inside a pump that changes no phase
+pump_moves : (phase : Phase) (xs : List Action) (made : List Entry) (c : Current) (e : Entry) → first_of xs made ≡ Some c → is_pump c.action ≡ true
+    → IsAtPhase phase xs made → IsAtPhase phase (next_agenda xs made e).actions (next_agenda xs made e).made
+pump_moves phase [] made c e is pump at = absurd (none-some c is)
+pump_moves phase (x ∷ rest) made c e is pump at = of_pump x (ap (λ (y : Current). is_pump y.action) (same_Some _ c is) ∙ pump) at
+  where
+    of_pump : (y : Action) → is_pump y ≡ true → IsAtPhase phase (y ∷ rest) made
+        → IsAtPhase phase (next_agenda (y ∷ rest) made e).actions (next_agenda (y ∷ rest) made e).made
+    of_pump (actions.Pump n) h now = by (completes (actions.Pump n) made e.kind)
+      where
+        by : (b : Bool) → IsAtPhase phase (cond b (agenda_from rest []) (record { actions = actions.Pump n ∷ rest; made = made ++ e ∷ [] })).actions
+            (cond b (agenda_from rest []) (record { actions = actions.Pump n ∷ rest; made = made ++ e ∷ [] })).made
+        by true = begins phase rest now
+        by false = now
+    of_pump y h now = absurd cc
+
 -- the phase fits the place of the driver
 abbrev IsInStep : Plan → List Entry → Type 0
 IsInStep script past = IsAtPhase (phase_of past) (agenda script (own_entries 0 past)).actions (agenda script (own_entries 0 past)).made
@@ -166,12 +197,13 @@ same_phase script past seat kinds.Done phase other h =
     absurd (eqb-false seat 0 other (by_driver script past seat kinds.Done (and_parts _ _ (and_parts _ _ h).0).0))
 same_phase script past seat kind phase other h = refl
 
-in_step_at_start : (script : Plan) → IsPoolPlan script → IsInStep script []
+-- at the start the phase fits
+in_step_at_start : (script : Plan) → IsBuilt script → IsInStep script []
 unfolding agenda phase_of
 in_step_at_start script plan = begins phases.Running script.actions (record { once = plan.sound.once.one_shutdown; running = λ h. refl })
 
 -- so it does in every legal history
-in_step : (script : Plan) (past : List Entry) → IsPoolPlan script → IsLegal script past → IsInStep script past
+in_step : (script : Plan) (past : List Entry) → IsBuilt script → IsLegal script past → IsInStep script past
 in_step script past plan legal = legal_induction script (IsInStep script) (in_step_at_start script plan) next past legal
   where
     next : (before : List Entry) (e : Entry) → IsLegal script before → IsAllowed script before e → IsInStep script before → IsInStep script (before ++ e ∷ [])
@@ -186,11 +218,23 @@ in_step script past plan legal = legal_induction script (IsInStep script) (in_st
         by : (b : Bool) → eqb e.seat 0 ≡ b
             → IsAtPhase (phase_after (phase_of before) e.kind) (agenda script (cond b (own ++ e ∷ []) own)).actions
             (agenda script (cond b (own ++ e ∷ []) own)).made
-        by true driver =
-            let c = wanted_by script before e.seat e.kind (driver_by_script script before e.seat e.kind plan before_legal (eqb-true e.seat 0 driver) may) in
-            rw (agenda_push script own e)
-            (wanted_moves own (phase_of before) (agenda script own).actions (agenda script own).made c.value e
-            (sym (current_is_first script own) ∙ c.is) c.passes now)
+        by true driver = rw (agenda_push script own e)
+            (⊎_elim wanted at_pump (driver_entry script before e.seat e.kind plan before_legal (eqb-true e.seat 0 driver) may))
+          where
+            Moved : Phase → Type 0
+            Moved phase = IsAtPhase phase (next_agenda (agenda script own).actions (agenda script own).made e).actions
+                (next_agenda (agenda script own).actions (agenda script own).made e).made
+
+            wanted : by_script script before e.seat e.kind ≡ true → Moved (phase_after (phase_of before) e.kind)
+            wanted h =
+                let c = wanted_by script before e.seat e.kind h in
+                wanted_moves own (phase_of before) (agenda script own).actions (agenda script own).made c.value e
+                (sym (current_is_first script own) ∙ c.is) c.passes now
+
+            at_pump : IsAtPump script before e.kind → Moved (phase_after (phase_of before) e.kind)
+            at_pump p = subst Moved (sym (p.still (phase_of before)))
+                (pump_moves (phase_of before) (agenda script own).actions (agenda script own).made p.now e
+                (sym (current_is_first script own) ∙ p.is) p.pump now)
         by false other = rw (same_phase script before e.seat e.kind (phase_of before) other may) now
 
 -- the driver is at this kind of entry of its script
@@ -207,7 +251,7 @@ phase_by own phase now kind says (x ∷ rest) made c is w at =
     says x rest made (ap (λ (y : Current). wants own y.action y.made kind) (same_Some _ c is) ∙ w) at
 
 -- where shutdown is to be started, it was not
-pub at_start : (script : Plan) (past : List Entry) → IsPoolPlan script → IsLegal script past → IsDue script past kinds.Shutdown
+pub at_start : (script : Plan) (past : List Entry) → IsBuilt script → IsLegal script past → IsDue script past kinds.Shutdown
     → phase_of past ≡ phases.Running
 at_start script past plan legal due = phase_by own (phase_of past) phases.Running kinds.Shutdown (says (phase_of past)) (agenda script own).actions
     (agenda script own).made due.value (sym (current_is_first script own) ∙ due.is) due.passes (in_step script past plan legal)
@@ -222,7 +266,7 @@ at_start script past plan legal due = phase_by own (phase_of past) phases.Runnin
     says phase x rest made w at = absurd cc
 
 -- where it is to be done, it was started
-pub at_done : (script : Plan) (past : List Entry) → IsPoolPlan script → IsLegal script past → IsDue script past kinds.Done
+pub at_done : (script : Plan) (past : List Entry) → IsBuilt script → IsLegal script past → IsDue script past kinds.Done
     → phase_of past ≡ phases.Started
 at_done script past plan legal due = phase_by own (phase_of past) phases.Started kinds.Done (says (phase_of past)) (agenda script own).actions
     (agenda script own).made due.value (sym (current_is_first script own) ∙ due.is) due.passes (in_step script past plan legal)

@@ -1,9 +1,12 @@
 -- A worker takes a task: what the pool asks, and the body that leaves the drawer.
-use Rattle.env_core.proofs.Bodies.{body_there}
+use Rattle.env_core.proofs.Bodies.{accepted_in_drawer, body_there, main_accepted_in_drawer}
 use Rattle.env_core.proofs.Driver.{finished_is}
-use Rattle.env_core.proofs.Wanted.{take_allowed}
-use Rattle.env_core.specs.Calls.{IsFreeWorker}
+use Rattle.env_core.proofs.Plans.{driver_runs_nothing}
+use Rattle.env_core.proofs.Queues.{accepted_right}
+use Rattle.env_core.proofs.Wanted.{take_allowed, wanted_by_script}
+use Rattle.env_core.specs.Calls.{IsFreeWorker, IsWantedNext}
 use Rattle.env_core.specs.Holds.{Holds}
+use Rattle.hist_model.proofs.Laws.Choice.{chosen_is}
 use Rattle.hist_model.proofs.Laws.Own.{running_own}
 use Rattle.hist_model.specs.Allowed.{IsAllowed}
 use Rattle.hist_model.specs.Script.{is_finished}
@@ -13,21 +16,26 @@ use Rattle.pool_core.proofs.Accepted.{head_accepted}
 use Rattle.pool_core.specs.Calls.{CanTake, IsTaken}
 use Rattle.pool_core.specs.Pasts.{IsDeclared}
 use Rattle.pool_core.specs.declared.pool.Pool.{Pool}
+use Rattle.sequence_manager.specs.declared.manager.Manager.{Manager}
 use Rattle.pool_laws.proofs.Room.Capacity.{free_parts}
-use Rattle.std.proofs.Common.{Bool, List, Option, Some, ap, false, length, subst, sym, ℕ, ◌<◌, ◌∙◌, ◌≡◌}
+use Rattle.pool_laws.specs.Seats.{runs_pool_task}
+use Rattle.sequence_manager.specs.Calls.{CanTake as MainCanTake, IsTaken as MainIsTaken}
+use Rattle.std.proofs.Common.{Bool, List, Option, Some, ap, false, length, refl, subst, sym, ℕ, ◌<◌, ◌∙◌, ◌≡◌}
 use Rattle.std.proofs.lemmas.Option.{get_or_from_slice_get, slice_get-get_or}
 use Rattle.std.specs.Prelude.{slice_get, slice_index_or, ◌==◌}
 use Rattle.task_base.specs.Plan.{Plan}
 use Rattle.task_base.specs.Rows.{Listed}
 use Rattle.task_base.specs.Runners.{sequence_of}
 use Rattle.task_base.specs.declared.entry.Entry.{Entry}
-use Rattle.task_base.specs.declared.entry.Kind.TheVariants.{Take}
+use Rattle.task_base.specs.declared.entry.Kind.{Kind}
 use Rattle.task_base.specs.declared.step.Step.{Step}
-use Rattle.task_model.specs.Posts.{posts}
+use Rattle.task_model.specs.Posts.{is_main_taken, posts}
 use Rattle.task_base.specs.declared.entry.Kind.TheVariants as kinds
 
-pub can_take : {X : Type 0} {bodies : List (Option X)} {whole rest : X → List Step} {script : Plan} {log : Listed Entry} {pool : Pool} {place made : ℕ}
-    (seat : ℕ) → Holds bodies whole rest script log pool place made → IsFreeWorker (record { script = script; history = log.items }) seat
+-- the pool may be asked for a task of a free worker
+pub can_take : {X : Type 0} {bodies : List (Option X)} {whole rest : X → List Step} {script : Plan} {log : Listed Entry} {pool : Pool} {manager : Manager}
+    {place made : ℕ}
+    (seat : ℕ) → Holds bodies whole rest script log pool manager place made → IsFreeWorker (record { script = script; history = log.items }) seat
     → CanTake script log.items pool seat
 can_take {script = script} {log = log} seat holds free = record {
   stands = holds.stands;
@@ -36,19 +44,23 @@ can_take {script = script} {log = log} seat holds free = record {
   free = sym (running_own log.items seat) ∙ (free_parts (own_entries seat log.items) seat free.free).0;
 }
 
-pub unfinished : {X : Type 0} {bodies : List (Option X)} {whole rest : X → List Step} {script : Plan} {log : Listed Entry} {pool : Pool} {place made : ℕ}
-    (b : Bool) → Holds bodies whole rest script log pool place made → b ≡ (place == length script.actions) → is_finished script log.items ≡ b
+-- the script is finished exactly where all actions are complete
+pub unfinished : {X : Type 0} {bodies : List (Option X)} {whole rest : X → List Step} {script : Plan} {log : Listed Entry} {pool : Pool}
+    {manager : Manager} {place made : ℕ}
+    (b : Bool) → Holds bodies whole rest script log pool manager place made → b ≡ (place == length script.actions) → is_finished script log.items ≡ b
 unfinished {script = script} {log = log} {place = place} {made = made} b holds is = finished_is script log.items place made holds.driver ∙ sym is
 
 -- the task that is taken was accepted and not taken, and its body is there
-pub taken_body : {X : Type 0} {bodies : List (Option X)} {whole rest : X → List Step} {script : Plan} {log : Listed Entry} {pool : Pool} {place made : ℕ}
-    (seat task runner found : ℕ) → Holds bodies whole rest script log pool place made → IsTaken script log.items seat task runner found
+pub taken_body : {X : Type 0} {bodies : List (Option X)} {whole rest : X → List Step} {script : Plan} {log : Listed Entry} {pool : Pool}
+    {manager : Manager} {place made : ℕ}
+    (seat task runner found : ℕ) → Holds bodies whole rest script log pool manager place made → IsTaken script log.items seat task runner found
     → (task < length script.tasks) × ((body : X) × (slice_get bodies task ≡ Some (Some body)))
 taken_body {bodies = bodies} {whole = whole} {rest = rest} {script = script} {log = log} seat task runner found holds is =
     let head = head_accepted script log.items (sequence_of script runner task) is.head is.is_head in
     let declared : IsDeclared script is.head.posted =
     AllByRecursion-contains (IsDeclared script) (posts log.items) is.head.posted holds.stands.past_fits.declared head.0 in
-    let there = body_there bodies whole rest script log.items is.head.posted holds.plan holds.legal holds.drawer head.0 declared.1 head.2 in
+    let there = body_there bodies whole rest script log.items is.head.posted.task holds.drawer declared.1
+    (accepted_in_drawer script log.items is.head.posted holds.plan.sound.once.posted_once holds.legal head.0 head.2) in
     (subst (λ t. t < length script.tasks) is.task_is declared.1, (there.0, subst (λ t. slice_get bodies t ≡ Some (Some there.0)) is.task_is there.1))
 
 -- what stands at its place is that body
@@ -56,13 +68,55 @@ pub body_at : {X : Type 0} (bodies : List (Option X)) (task : ℕ) (slot : Optio
     → slot ≡ slice_index_or bodies task slot → slot ≡ Some body → slice_get bodies task ≡ Some (Some body)
 body_at bodies task slot body within is some = slice_get-get_or bodies task slot within ∙ ap (λ o. Some o) (sym is ∙ some)
 
+-- the body at its place is what stands there
 pub slot_is : {X : Type 0} (bodies : List (Option X)) (task : ℕ) (slot : Option X) (body : X) → slot ≡ slice_index_or bodies task slot
     → slice_get bodies task ≡ Some (Some body) → slot ≡ Some body
 slot_is bodies task slot body is there = is ∙ get_or_from_slice_get bodies task (Some body) slot there
 
-pub taken_allowed : {X : Type 0} {bodies : List (Option X)} {whole rest : X → List Step} {script : Plan} {log : Listed Entry} {pool : Pool} {place made : ℕ}
-    (seat task runner found : ℕ) → Holds bodies whole rest script log pool place made → IsFreeWorker (record { script = script; history = log.items }) seat
+-- the entry of the take is allowed
+pub taken_allowed : {X : Type 0} {bodies : List (Option X)} {whole rest : X → List Step} {script : Plan} {log : Listed Entry} {pool : Pool}
+    {manager : Manager} {place made : ℕ}
+    (seat task runner found : ℕ) → Holds bodies whole rest script log pool manager place made
+    → IsFreeWorker (record { script = script; history = log.items }) seat
     → false ≡ (place == length script.actions) → IsTaken script log.items seat task runner found
     → IsAllowed script log.items (record { seat = seat; kind = kinds.Take task runner found })
 taken_allowed {script = script} {log = log} seat task runner found holds free is taken =
     take_allowed (record { script = script; history = log.items }) seat task runner found free (unfinished false holds is) taken
+
+-- The driver takes a main task.
+
+-- the main queues may be asked for a task where the script wants one
+pub can_main_take : {X : Type 0} {bodies : List (Option X)} {whole rest : X → List Step} {script : Plan} {log : Listed Entry} {pool : Pool}
+    {manager : Manager} {place made : ℕ}
+    (seat : ℕ) (kind : Kind) → Holds bodies whole rest script log pool manager place made
+    → IsWantedNext (record { script = script; history = log.items }) seat kind → MainCanTake script log.items manager
+can_main_take {script = script} {log = log} seat kind holds next = record {
+  stands = holds.main;
+  idle = rw (driver_runs_nothing script log.items seat kind holds.legal
+      (wanted_by_script (record { script = script; history = log.items }) seat kind next)) refl;
+}
+
+-- the main task that is taken was accepted and not taken, and its body is there
+pub main_taken_body : {X : Type 0} {bodies : List (Option X)} {whole rest : X → List Step} {script : Plan} {log : Listed Entry} {pool : Pool}
+    {manager : Manager} {place made : ℕ}
+    (task queue found : ℕ) → Holds bodies whole rest script log pool manager place made → MainIsTaken script log.items task queue found
+    → (task < length script.tasks) × ((body : X) × (slice_get bodies task ≡ Some (Some body)))
+main_taken_body {bodies = bodies} {whole = whole} {rest = rest} {script = script} {log = log} task queue found holds is =
+    let front = (chosen_is script log.items is.front is.chosen).0 in
+    let same : front.accepted.task ≡ task = front.task_is ∙ is.task_is in
+    let declared = (accepted_right script log.items front.accepted holds.plan holds.main.past_fits front.posted).task_declared in
+    let untaken : is_main_taken log.items front.accepted.task ≡ false = ap (is_main_taken log.items) front.task_is ∙ front.not_taken in
+    let there = body_there bodies whole rest script log.items front.accepted.task holds.drawer declared
+    (main_accepted_in_drawer script log.items front.accepted holds.plan.sound.once.posted_once holds.legal front.posted untaken) in
+    (subst (λ t. t < length script.tasks) same declared, (there.0, subst (λ t. slice_get bodies t ≡ Some (Some there.0)) same there.1))
+
+-- the driver runs no task of the pool
+pub none_of_pool : {X : Type 0} {bodies : List (Option X)} {whole rest : X → List Step} {script : Plan} {log : Listed Entry} {pool : Pool}
+    {manager : Manager} {place made : ℕ}
+    (seat : ℕ) (kind : Kind) → Holds bodies whole rest script log pool manager place made
+    → IsWantedNext (record { script = script; history = log.items }) seat kind → runs_pool_task log.items seat ≡ false
+none_of_pool {script = script} {log = log} seat kind holds next = rw (
+  next.driver,
+  driver_runs_nothing script log.items seat kind holds.legal
+      (wanted_by_script (record { script = script; history = log.items }) seat kind next),
+) refl

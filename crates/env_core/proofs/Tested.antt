@@ -22,7 +22,8 @@ use Rattle.task_model.specs.Seats.{acts_done, holding, running, steps_of}
 use Rattle.task_body.specs.Bodies.{AssignmentView}
 use Rattle.hist_model.proofs.Laws.Differing.{posted_once_decides}
 use Rattle.hist_model.specs.Script.{current, is_finished, is_wanted}
-use Rattle.env_core.specs.Built.{IsPoolPlan}
+use Rattle.env_core.proofs.Small.{config_sound, limits_sound}
+use Rattle.env_core.specs.Built.{IsBuilt}
 use Rattle.env_core.specs.Calls.{AreFresh, CanEnd, IsFreeWorker, IsWantedNext}
 use Rattle.env_core.specs.Views.{EnvView, Enters}
 
@@ -41,30 +42,13 @@ empty_plan = record {
   actions = [];
 }
 
-pub empty_is_plan : IsPoolPlan empty_plan
+-- the empty script is sound
+pub empty_is_plan : IsBuilt empty_plan
 unfolding postings
 empty_is_plan = record {
   sound = record {
-    config = record {
-      some_workers = omega arith;
-      few_workers = omega arith;
-      some_foreground = omega arith;
-      few_foreground = omega arith;
-      some_best = omega arith;
-      best_within = omega arith;
-      few_background = omega arith;
-      threshold_within = omega arith;
-    };
-    limits = record {
-      few_runners = omega arith;
-      few_queues = omega arith;
-      few_tasks = omega arith;
-      few_jobs = omega arith;
-      few_items = omega arith;
-      few_steps = omega arith;
-      few_ticks = omega arith;
-      few_events = omega arith;
-    };
+    config = config_sound empty_plan refl;
+    limits = limits_sound empty_plan refl;
     declarations = record {
       seats_there = tt;
       queues_within = tt;
@@ -75,8 +59,6 @@ empty_is_plan = record {
     once = record { posted_once = λ t. omega arith; started_once = λ j. omega arith; one_shutdown = omega arith };
   };
   no_jobs = refl;
-  no_main_steps = tt;
-  pool_actions = tt;
 }
 
 -- without tasks there are no bodies
@@ -111,53 +93,40 @@ first_plan = record {
   actions = actions.Post 0 0 0 ∷ actions.Flush ∷ [];
 }
 
+-- its one task is sound
 first_tasks_sound : (t : ℕ) (task : List Step) → slice_get first_plan.tasks t ≡ Some task → IsTaskSound first_plan t task
 first_tasks_sound zero task here = subst (IsTaskSound first_plan 0) (some-injective here)
     (record { steps_within = (omega arith, tt); steps_sound = (tt, tt); scopes_in_turn = refl })
 first_tasks_sound (suc t) task here = absurd (none-some task here)
 
+-- its actions stand in order
 first_in_order : (k : ℕ) (action : Action) → slice_get first_plan.actions k ≡ Some action → IsInOrder (take k first_plan.actions) action
 first_in_order zero action here = subst (IsInOrder []) (some-injective here) tt
 first_in_order (suc zero) action here = subst (IsInOrder (actions.Post 0 0 0 ∷ [])) (some-injective here) tt
 first_in_order (suc (suc k)) action here = absurd (none-some action here)
 
+-- its task is posted once
 first_posted_once : IsPostedOnce first_plan
 unfolding postings
 first_posted_once = (posted_once_decides first_plan).0 refl
 
-pub first_is_plan : IsPoolPlan first_plan
+-- the script is sound
+pub first_is_plan : IsBuilt first_plan
 first_is_plan = record {
   sound = record {
-    config = record {
-      some_workers = omega arith;
-      few_workers = omega arith;
-      some_foreground = omega arith;
-      few_foreground = omega arith;
-      some_best = omega arith;
-      best_within = omega arith;
-      few_background = omega arith;
-      threshold_within = omega arith;
-    };
-    limits = record {
-      few_runners = omega arith;
-      few_queues = omega arith;
-      few_tasks = omega arith;
-      few_jobs = omega arith;
-      few_items = omega arith;
-      few_steps = omega arith;
-      few_ticks = omega arith;
-      few_events = omega arith;
-    };
+    config = config_sound first_plan refl;
+    limits = limits_sound first_plan refl;
     declarations = record { seats_there = (tt, tt); queues_within = tt; tasks_sound = first_tasks_sound; jobs_sound = tt };
     actions = record {
-      each_sound = ((record { task_declared = omega arith; runner_declared = omega arith; may_block = λ opens. absurd (false≢true opens) }, omega arith), (tt, tt));
+      each_sound = (
+        (record { task_declared = omega arith; runner_declared = omega arith; may_block = λ opens. absurd (false≢true opens) }, omega arith),
+        (tt, tt),
+      );
       in_order = first_in_order;
     };
     once = record { posted_once = first_posted_once; started_once = λ j. omega arith; one_shutdown = omega arith };
   };
   no_jobs = refl;
-  no_main_steps = (refl, tt);
-  pool_actions = (refl, (refl, tt));
 }
 
 -- one body of the task's steps is the drawer of the script
@@ -174,6 +143,7 @@ pub record IsAfter (view : EnvView) (past : List Entry) : Type 0 where
   pub script : view.script ≡ first_plan
   pub history : view.history ≡ past
 
+-- at the start the history is empty
 pub opened : (view : EnvView) (script : Plan) → view.script ≡ script → script ≡ first_plan → view.history ≡ [] → IsAfter view []
 opened view script same is empty = record { script = same ∙ is; history = empty }
 
@@ -187,6 +157,7 @@ pub wants_post_first : (view : EnvView) (ok : Bool) → IsAfter view [] → IsWa
 unfolding is_wanted current
 wants_post_first view ok is = record { driver = refl; wanted = rw (is.script, is.history) refl }
 
+-- the history with the post
 abbrev pub posted : Bool → List Entry
 posted ok = (record { seat = 0; kind = kinds.Post 0 0 0 ok }) ∷ []
 
@@ -195,9 +166,11 @@ pub free_behind_post : (view : EnvView) (ok : Bool) → IsAfter view (posted ok)
 unfolding holding running
 free_behind_post view ok is = record { worker = omega arith; known = rw is.script (omega arith); free = rw is.history refl }
 
+-- the history with the post and the take
 abbrev pub taken : Bool → ℕ → ℕ → ℕ → List Entry
 taken ok task home found = posted ok ++ (record { seat = 1; kind = kinds.Take task home found }) ∷ []
 
+-- its task only computes
 no_acts : (t : ℕ) → filter is_act (steps_of first_plan t) ≡ []
 no_acts zero = refl
 no_acts (suc t) = refl

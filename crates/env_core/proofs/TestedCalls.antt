@@ -1,16 +1,21 @@
 -- What each call does to what the tables of the tests say of the history.
-use Rattle.env_core.proofs.Driver.{driver_at_start, driver_moves, driver_waits, few_entries_made, place_at}
-use Rattle.env_core.proofs.Wanted.{wanted_by_script}
-use Rattle.env_core.specs.Agenda.{moved_on}
-use Rattle.env_core.specs.Built.{IsPoolPlan}
-use Rattle.env_core.specs.Calls.{CanEnd, EntersAct, HasTaken, IsFreeWorker, IsNextAct, IsWantedNext, act_of, entry_of}
+use Rattle.env_core.proofs.Driver.{all_count, driver_at_start, driver_ends, driver_moves, driver_passes, driver_takes, driver_waits}
+use Rattle.env_core.proofs.Driver.{few_entries_made, is_of_pump, place_at}
+use Rattle.env_core.proofs.Tested.{stepped}
+use Rattle.env_core.proofs.Wanted.{wanted_by_script, wants_take}
+use Rattle.env_core.specs.Agenda.{counted, moved_on, passed_on}
+use Rattle.env_core.specs.Built.{IsBuilt}
+use Rattle.env_core.specs.Calls.{CanEnd, CanEndMain, EntersAct, HasTaken, HasTakenMain, IsFreeWorker, IsNextAct, IsWantedNext, act_of, entry_of}
+use Rattle.env_core.specs.Holds.{IsAt}
 use Rattle.env_core.specs.Played.{IsPlayed, IsUnderWay, TellsSeat, TellsSeats, makes_entry}
 use Rattle.env_core.specs.Views.{EnvView, Enters}
 use Rattle.env_core.specs.declared.agenda.Agenda.{Agenda}
 use Rattle.hist_model.proofs.Laws.Agenda.{current_is_first}
 use Rattle.hist_model.proofs.Laws.Legal.{nothing_is_legal}
-use Rattle.hist_model.proofs.Laws.Own.{own_entries_push}
+use Rattle.hist_model.proofs.Laws.OneThing.{wanted_by}
+use Rattle.hist_model.proofs.Laws.Own.{own_entries_push, running_own}
 use Rattle.hist_model.specs.Laws.Agenda.{agenda, first_of}
+use Rattle.hist_model.specs.Laws.Consistent.{is_pump}
 use Rattle.hist_model.specs.Script.{current, is_wanted, wants}
 use Rattle.hist_model.specs.Views.{own_entries}
 use Rattle.list_laws.proofs.Values.{eqb-same, some-injective}
@@ -30,6 +35,8 @@ use Rattle.task_base.specs.declared.entry.Kind.{Kind}
 use Rattle.task_base.specs.declared.entry.Kind.TheVariants as kinds
 use Rattle.task_base.specs.declared.policy.Policy.{Policy}
 use Rattle.task_base.specs.declared.policy.Policy.TheVariants.{All, Foreground, Nothing}
+use Rattle.task_base.specs.declared.script.FenceAt.{FenceAt}
+use Rattle.task_base.specs.declared.script.FenceAt.TheVariants.{Now, Start}
 use Rattle.task_base.specs.declared.script.Action.{Action}
 use Rattle.task_base.specs.declared.script.Action.TheVariants as actions
 use Rattle.task_base.specs.declared.step.Step.{Step}
@@ -43,13 +50,12 @@ use Rattle.task_model.specs.Seats.{Running, acts_after, acts_done, holding, hold
 
 -- The driver's place.
 
--- the action at the driver's place is the one that it is at, and it has made so many entries
-current_at : {view : EnvView} {script : Plan} {a : Agenda} {seats : List (Option AssignmentView)} → IsPlayed view script a seats → (x : Action)
-    → slice_get script.actions a.place ≡ Some x
-    → (made : List Entry) × (current view.script (own_entries 0 view.history) ≡ Some (record { action = x; made = made })) × (length made ≡ a.made)
-current_at {view = view} {script = script} {a = a} i x here =
-    let own = own_entries 0 view.history in
-    ((agenda view.script own).made, current_is_first view.script own ∙ rw (i.driver.actions_are, i.script_is) (first _ a.place here), i.driver.made_is)
+-- the action at the driver's place is the one that it is at
+at_action : {view : EnvView} {script : Plan} {a : Agenda} {seats : List (Option AssignmentView)} → IsPlayed view script a seats → (x : Action)
+    → slice_get script.actions a.place ≡ Some x → current view.script (own_entries 0 view.history)
+    ≡ Some (record { action = x; made = (agenda view.script (own_entries 0 view.history)).made })
+at_action {view = view} {a = a} i x here =
+    current_is_first view.script (own_entries 0 view.history) ∙ rw (i.driver.actions_are, i.script_is) (first _ a.place here)
   where
     first : (xs : List Action) (place : ℕ) → slice_get xs place ≡ Some x → {made : List Entry}
         → first_of (drop place xs) made ≡ Some (record { action = x; made = made })
@@ -57,51 +63,102 @@ current_at {view = view} {script = script} {a = a} i x here =
     first (y ∷ ys) zero h = rw (some-injective h) refl
     first (y ∷ ys) (suc place) h = first ys place h
 
+-- an action other than a pump has made so many entries as the driver's place says
+current_at : {view : EnvView} {script : Plan} {a : Agenda} {seats : List (Option AssignmentView)} → IsPlayed view script a seats → (x : Action)
+    → is_pump x ≡ false → slice_get script.actions a.place ≡ Some x
+    → (made : List Entry) × (current view.script (own_entries 0 view.history) ≡ Some (record { action = x; made = made })) × (length made ≡ a.made)
+current_at {view = view} {script = script} {a = a} i x other here =
+    let own = own_entries 0 view.history in
+    let all : counted (agenda view.script own).actions (agenda view.script own).made ≡ length (agenda view.script own).made =
+    rw i.driver.actions_are (counts view.script.actions a.place (agenda view.script own).made (rw i.script_is here)) in (
+      (agenda view.script own).made,
+      at_action i x here,
+      sym all ∙ i.driver.made_is,
+    )
+  where
+    counts : (xs : List Action) (place : ℕ) (made : List Entry) → slice_get xs place ≡ Some x → counted (drop place xs) made ≡ length made
+    counts [] place made h = absurd (none-some x h)
+    counts (y ∷ ys) zero made h = rw (some-injective h) (all_count x ys made other)
+    counts (y ∷ ys) (suc place) made h = counts ys place made h
+
 -- an entry that this action wants is wanted next
 wanted_at : {view : EnvView} {script : Plan} {a : Agenda} {seats : List (Option AssignmentView)} → IsPlayed view script a seats → (x : Action) (kind : Kind)
-    → slice_get script.actions a.place ≡ Some x
+    → is_pump x ≡ false → slice_get script.actions a.place ≡ Some x
     → ((own made : List Entry) → length made ≡ a.made → wants own x made kind ≡ true) → IsWantedNext view 0 kind
 unfolding is_wanted
-wanted_at {view = view} i x kind here wants_it =
-    let now = current_at i x here in
+wanted_at {view = view} i x kind other here wants_it =
+    let now = current_at i x other here in
     record { driver = refl; wanted = rw now.1 (wants_it (own_entries 0 view.history) now.0 now.2) }
 
 -- the next post, tick, policy, wait, start and end of shutdown of the script
 pub wants_post : {view : EnvView} {script : Plan} {a : Agenda} {seats : List (Option AssignmentView)} → IsPlayed view script a seats
     → (task runner delay : ℕ) (ok : Bool) → slice_get script.actions a.place ≡ Some (actions.Post task runner delay)
     → IsWantedNext view 0 (kinds.Post task runner delay ok)
-wants_post i task runner delay ok here = wanted_at i (actions.Post task runner delay) (kinds.Post task runner delay ok) here
+wants_post i task runner delay ok here = wanted_at i (actions.Post task runner delay) (kinds.Post task runner delay ok) refl here
     (λ own made few. rw (eqb-same task, eqb-same runner, eqb-same delay) refl)
 
+-- the next tick of the script
 pub wants_tick : {view : EnvView} {script : Plan} {a : Agenda} {seats : List (Option AssignmentView)} → IsPlayed view script a seats
     → (count now : ℕ) → slice_get script.actions a.place ≡ Some (actions.Tick count) → IsWantedNext view 0 (kinds.Tick now)
-wants_tick i count now here = wanted_at i (actions.Tick count) (kinds.Tick now) here (λ own made few. refl)
+wants_tick i count now here = wanted_at i (actions.Tick count) (kinds.Tick now) refl here (λ own made few. refl)
 
+-- the next policy of the script
 pub wants_policy : {view : EnvView} {script : Plan} {a : Agenda} {seats : List (Option AssignmentView)} → IsPlayed view script a seats
     → (policy : Policy) → slice_get script.actions a.place ≡ Some (actions.Policy policy) → IsWantedNext view 0 (kinds.Policy policy)
-wants_policy {a = a} i policy here = wanted_at i (actions.Policy policy) (kinds.Policy policy) here (same policy)
+wants_policy {a = a} i policy here = wanted_at i (actions.Policy policy) (kinds.Policy policy) refl here (same policy)
   where
     same : (p : Policy) (own made : List Entry) → length made ≡ a.made → wants own (actions.Policy p) made (kinds.Policy p) ≡ true
     same All own made few = refl
     same Foreground own made few = refl
     same Nothing own made few = refl
 
+-- the next wait of the script
 pub wants_idle : {view : EnvView} {script : Plan} {a : Agenda} {seats : List (Option AssignmentView)} → IsPlayed view script a seats
     → slice_get script.actions a.place ≡ Some actions.Flush → IsWantedNext view 0 kinds.Idle
-wants_idle i here = wanted_at i actions.Flush kinds.Idle here (λ own made few. refl)
+wants_idle i here = wanted_at i actions.Flush kinds.Idle refl here (λ own made few. refl)
 
+-- the start of shutdown
 pub wants_shutdown : {view : EnvView} {script : Plan} {a : Agenda} {seats : List (Option AssignmentView)} → IsPlayed view script a seats
     → slice_get script.actions a.place ≡ Some actions.Shutdown → a.made ≡ 0 → IsWantedNext view 0 kinds.Shutdown
-wants_shutdown i here none = wanted_at i actions.Shutdown kinds.Shutdown here (λ own made few. rw (few, none) refl)
+wants_shutdown i here none = wanted_at i actions.Shutdown kinds.Shutdown refl here (λ own made few. rw (few, none) refl)
 
+-- the end of shutdown
 pub wants_done : {view : EnvView} {script : Plan} {a : Agenda} {seats : List (Option AssignmentView)} → IsPlayed view script a seats
     → slice_get script.actions a.place ≡ Some actions.Shutdown → a.made ≡ 1 → IsWantedNext view 0 kinds.Done
-wants_done i here one = wanted_at i actions.Shutdown kinds.Done here (λ own made few. rw (few, one) refl)
+wants_done i here one = wanted_at i actions.Shutdown kinds.Done refl here (λ own made few. rw (few, one) refl)
+
+-- the next post to a main queue, fence, close and pump of the script
+pub wants_main_post : {view : EnvView} {script : Plan} {a : Agenda} {seats : List (Option AssignmentView)} → IsPlayed view script a seats
+    → (task queue delay : ℕ) (ok : Bool) → slice_get script.actions a.place ≡ Some (actions.Main task queue delay)
+    → IsWantedNext view 0 (kinds.Main task queue delay ok)
+wants_main_post i task queue delay ok here = wanted_at i (actions.Main task queue delay) (kinds.Main task queue delay ok) refl here
+    (λ own made few. rw (eqb-same task, eqb-same queue, eqb-same delay) refl)
+
+-- the next fence of the script
+pub wants_fence : {view : EnvView} {script : Plan} {a : Agenda} {seats : List (Option AssignmentView)} → IsPlayed view script a seats
+    → (queue : ℕ) (at : FenceAt) → slice_get script.actions a.place ≡ Some (actions.Fence queue at) → IsWantedNext view 0 (kinds.Fence queue at)
+wants_fence {a = a} i queue at here = wanted_at i (actions.Fence queue at) (kinds.Fence queue at) refl here (same at)
+  where
+    same : (f : FenceAt) (own made : List Entry) → length made ≡ a.made → wants own (actions.Fence queue f) made (kinds.Fence queue f) ≡ true
+    same Now own made few = rw (eqb-same queue) refl
+    same Start own made few = rw (eqb-same queue) refl
+
+-- the next closing of a main queue
+pub wants_close : {view : EnvView} {script : Plan} {a : Agenda} {seats : List (Option AssignmentView)} → IsPlayed view script a seats
+    → (queue : ℕ) → slice_get script.actions a.place ≡ Some (actions.Close queue) → IsWantedNext view 0 (kinds.Close queue)
+wants_close i queue here = wanted_at i (actions.Close queue) (kinds.Close queue) refl here (λ own made few. eqb-same queue)
+
+-- a pump of the script, which the driver is inside
+pub wants_pump : {view : EnvView} {script : Plan} {a : Agenda} {seats : List (Option AssignmentView)} → IsPlayed view script a seats
+    → (count : ℕ) → slice_get script.actions a.place ≡ Some (actions.Pump count) → IsWantedNext view 0 kinds.MainNone
+unfolding is_wanted
+wants_pump i count here = record { driver = refl; wanted = rw (at_action i (actions.Pump count) here, i.driver_free) refl }
 
 -- the driver has made few entries by its action, and is at a place of the script
 pub few_made : {view : EnvView} {script : Plan} {a : Agenda} {seats : List (Option AssignmentView)} → IsPlayed view script a seats → a.made < 2 ^ 31
 few_made {view = view} {a = a} i = few_entries_made view.script view.history a.place a.made i.plan i.legal i.driver
 
+-- the driver's place is one of the script
 pub place_within : {view : EnvView} {script : Plan} {a : Agenda} {seats : List (Option AssignmentView)} → IsPlayed view script a seats
     → a.place ≤ length script.actions
 place_within i = rw (← i.script_is) i.driver.within
@@ -127,11 +184,13 @@ tells_kept before after seat (Some work) script own tells = record {
   left = rw own tells.left;
 }
 
+-- an entry is none of another seat
 own_other : {before after : EnvView} {seat : ℕ} {kind : Kind} → Enters before after seat kind → (k : ℕ) → (seat ≡ k → ⊥)
     → own_entries k after.history ≡ own_entries k before.history
 own_other {before = before} {seat = seat} {kind = kind} enters k other =
     rw (enters.entered, own_entries_push before.history (record { seat = seat; kind = kind }) k, ne_eqb seat k other) refl
 
+-- an entry is one of its seat
 own_same : {before after : EnvView} {seat : ℕ} {kind : Kind} → Enters before after seat kind
     → own_entries seat after.history ≡ own_entries seat before.history ++ (record { seat = seat; kind = kind }) ∷ []
 own_same {before = before} {seat = seat} {kind = kind} enters =
@@ -143,16 +202,19 @@ running_next : {before after : EnvView} {seat : ℕ} {kind : Kind} → Enters be
 running_next {before = before} {seat = seat} {kind = kind} enters =
     rw (own_same enters, running_push (own_entries seat before.history) (record { seat = seat; kind = kind }) seat, eqb-same seat) refl
 
+-- what a seat holds behind an entry of its own
 holding_next : {before after : EnvView} {seat : ℕ} {kind : Kind} → Enters before after seat kind
     → holding (own_entries seat after.history) seat ≡ holding_after (holding (own_entries seat before.history) seat) kind
 holding_next {before = before} {seat = seat} {kind = kind} enters =
     rw (own_same enters, holding_push (own_entries seat before.history) (record { seat = seat; kind = kind }) seat, eqb-same seat) refl
 
+-- how many acts a seat has entered behind an entry of its own
 acts_next : {before after : EnvView} {seat : ℕ} {kind : Kind} → Enters before after seat kind
     → acts_done (own_entries seat after.history) seat ≡ acts_after (acts_done (own_entries seat before.history) seat) kind
 acts_next {before = before} {seat = seat} {kind = kind} enters =
     rw (own_same enters, acts_done_push (own_entries seat before.history) (record { seat = seat; kind = kind }) seat, eqb-same seat) refl
 
+-- a call leaves the script
 same_script : {before after : EnvView} {seat : ℕ} {kind : Kind} → Enters before after seat kind → after.script ≡ before.script
 same_script enters = ap (λ (v : EnvView). v.script) enters.entered
 
@@ -182,7 +244,7 @@ tells_driver {before = before} {after = after} seats enters tells k x worker is 
 -- What the calls do.
 
 -- at the start all seats are free
-pub played_at_start : (view : EnvView) (script : Plan) → IsPoolPlan script → view.script ≡ script → view.history ≡ [] → script.workers ≡ 2
+pub played_at_start : (view : EnvView) (script : Plan) → IsBuilt script → view.script ≡ script → view.history ≡ [] → script.workers ≡ 2
     → IsPlayed view script (record { place = 0; made = 0 }) (None ∷ None ∷ None ∷ [])
 unfolding holding running
 played_at_start view script plan same empty two = record {
@@ -190,6 +252,7 @@ played_at_start view script plan same empty two = record {
   script_is = same;
   legal = rw empty (nothing_is_legal view.script);
   driver = rw (empty, same) (driver_at_start script plan);
+  driver_free = rw empty refl;
   workers_are = rw (same, two) refl;
   seats_are = all_free;
 }
@@ -205,19 +268,44 @@ pub three_pushed : {A : Type 0} (x : A) (none one two three : List A) → none �
     → three ≡ x ∷ x ∷ x ∷ []
 three_pushed x none one two three a b c d = rw (d, c, b, a) refl
 
--- an entry of the driver moves its place on
-pub played_driver : {before after : EnvView} {script : Plan} {a : Agenda} {seats : List (Option AssignmentView)} {kind : Kind} (later : Agenda)
-    → IsPlayed before script a seats → IsWantedNext before 0 kind → Enters before after 0 kind → later ≡ moved_on script.actions a
-    → IsPlayed after script later seats
-played_driver {before = before} {after = after} {script = script} {a = a} {seats = seats} {kind = kind} later i wanted enters moved = record {
+-- an entry of the driver that leaves it free moves its place
+played_moved : {before after : EnvView} {script : Plan} {a : Agenda} {seats : List (Option AssignmentView)} {kind : Kind} (later : Agenda)
+    → IsPlayed before script a seats → Enters before after 0 kind → running_after None kind ≡ None
+    → IsAt before.script (before.history ++ (record { seat = 0; kind = kind }) ∷ []) later.place later.made → IsPlayed after script later seats
+played_moved {seats = seats} {kind = kind} later i enters free moved = record {
   plan = rw (same_script enters) i.plan;
   script_is = same_script enters ∙ i.script_is;
   legal = enters.legal;
-  driver = rw (enters.entered, moved, ← i.script_is)
-      (driver_moves before.script before.history (record { seat = 0; kind = kind }) a i.plan (wanted_by_script before 0 kind wanted) i.driver);
+  driver = rw enters.entered moved;
+  driver_free = running_next enters ∙ ap (λ now. running_after now kind) i.driver_free ∙ free;
   workers_are = rw (same_script enters) i.workers_are;
   seats_are = tells_driver seats enters i.seats_are;
 }
+
+-- an action that wants an entry that no pump makes leaves a free driver free
+stays_free : (own : List Entry) (x : Action) (made : List Entry) (kind : Kind) → wants own x made kind ≡ true → is_of_pump kind ≡ false
+    → running_after None kind ≡ None
+stays_free own (actions.Pump n) made (kinds.Take task home found) w h = absurd cc
+stays_free own x made (kinds.Take task home found) w h = absurd cc
+stays_free own x made (kinds.MainTake task queue found) w h = absurd cc
+stays_free own x made kind w h = refl
+
+-- an entry of the driver moves its place on
+pub played_driver : {before after : EnvView} {script : Plan} {a : Agenda} {seats : List (Option AssignmentView)} {kind : Kind} (later : Agenda)
+    → IsPlayed before script a seats → IsWantedNext before 0 kind → is_of_pump kind ≡ false → Enters before after 0 kind → later ≡ moved_on script.actions a
+    → IsPlayed after script later seats
+played_driver {before = before} {script = script} {a = a} {kind = kind} later i wanted other enters moved =
+    let by = wanted_by_script before 0 kind wanted in
+    let c = wanted_by before.script before.history 0 kind by in
+    played_moved later i enters (stays_free (own_entries 0 before.history) c.value.action c.value.made kind c.passes other)
+    (rw (moved, ← i.script_is) (driver_moves before.script before.history (record { seat = 0; kind = kind }) a i.plan by other i.driver))
+
+-- where no front is open the pump is complete
+pub played_none : {before after : EnvView} {script : Plan} {a : Agenda} {seats : List (Option AssignmentView)} (later : Agenda)
+    → IsPlayed before script a seats → IsWantedNext before 0 kinds.MainNone → Enters before after 0 kinds.MainNone → later ≡ passed_on script.actions a
+    → IsPlayed after script later seats
+played_none {before = before} {a = a} later i wanted enters moved = played_moved later i enters refl
+    (rw (moved, ← i.script_is) (driver_passes before.script before.history 0 a i.plan (wanted_by_script before 0 kinds.MainNone wanted) i.driver))
 
 -- an entry of a worker changes what is told of its seat
 played_worker : {before after : EnvView} {script : Plan} {a : Agenda} {seats : List (Option AssignmentView)} {seat : ℕ} {kind : Kind}
@@ -229,6 +317,7 @@ played_worker {before = before} {a = a} {seats = seats} {seat = seat} {kind = ki
   legal = enters.legal;
   driver = rw enters.entered (driver_waits before.script before.history (record { seat = seat; kind = kind }) a.place a.made
       (ne_eqb seat 0 (λ same. omega (arith, worker, same))) i.driver);
+  driver_free = rw (own_other enters 0 (λ same. omega (arith, worker, same))) i.driver_free;
   workers_are = rw (same_script enters) (length-set seats seat slot ∙ i.workers_are);
   seats_are = tells_set seats slot enters within i.seats_are here;
 }
@@ -242,6 +331,7 @@ can_take {seats = seats} i seat worker free = record {
   free = i.seats_are seat None worker free;
 }
 
+-- a take gives the seat its assignment
 pub played_take : {before after : EnvView} {script : Plan} {a : Agenda} {seats : List (Option AssignmentView)} (seat : ℕ) (work : AssignmentView)
     → IsPlayed before script a seats → 1 ≤ seat → slice_get seats seat ≡ Some None → HasTaken before after seat work
     → IsPlayed after script a (slice_set seats seat (Some work))
@@ -267,6 +357,7 @@ computed zero xs all = refl
 computed (suc n) [] all = refl
 computed (suc n) (x ∷ xs) all = rw all.0 (computed n xs all.1)
 
+-- where a step computes or none is left, no act step is done
 no_entry : (rest : List Step) (value : ℕ) (act : Act) (later : List Step) (left : ℕ) → makes_entry act ≡ false → Progress rest value act later left
     → filter is_act later ≡ filter is_act rest
 no_entry rest value (acts.Did count) later left computes did = rw did.dropped (computed count rest did.computed)
@@ -309,6 +400,7 @@ record CountsAct (now : Option Running) (kind : Kind) : Type 0 where
   holds_none : holding_after None kind ≡ None
   counts : (n : ℕ) → acts_after n kind ≡ n + 1
 
+-- so it is with the entry of each act
 counts_act : (now : Option Running) (t : ℕ) (act : Act) (ok : Bool) (kind : Kind) → entry_of t act ok ≡ Some kind → CountsAct now kind
 counts_act now t (acts.Post task runner delay) ok kind is = subst (CountsAct now) (some-injective is)
     (record { runs = refl; holds_none = refl; counts = λ n. refl })
@@ -348,6 +440,7 @@ played_step {view = view} {seats = seats} seat work later act i worker here step
   script_is = i.script_is;
   legal = i.legal;
   driver = i.driver;
+  driver_free = i.driver_free;
   workers_are = length-set seats seat (Some later) ∙ i.workers_are;
   seats_are = tells;
 }
@@ -427,3 +520,48 @@ played_end {before = before} {seats = seats} seat work later i worker here enter
     let under = i.seats_are seat (Some work) worker here in
     played_worker None i enters worker (slice_get_within seats seat (Some work) here)
     (rw (running_next enters, holding_next enters, under.holds_none) refl)
+
+-- a main task of which a step computes and none is left behind it may end
+pub can_end_main : {before taken : EnvView} (work later last : AssignmentView) (count : ℕ) → HasTakenMain before taken 0 work
+    → HasStepped work later (acts.Did count) → HasStepped later last acts.Finished → CanEndMain taken 0 last
+can_end_main work later last count took computes finishes =
+    let computed : filter is_act later.rest ≡ filter is_act work.rest = no_entry work.rest work.value (acts.Did count) later.rest later.value refl
+    computes.progress in
+    let none : [] ≡ filter is_act work.whole = ap (filter is_act) (sym finishes.progress.none) ∙ computed ∙ ap (filter is_act) took.rest_is in
+    rw (stepped work later last computes.unchanged finishes.unchanged) (record {
+      seats = record {
+        now = record { task = work.task; home = work.home; found = work.found; is_main = true };
+        runs = running_next took.enters;
+        task_is = refl;
+        home_is = refl;
+        found_is = refl;
+        whole_is = rw (same_script took.enters) took.whole_is;
+      };
+      is_main = refl;
+      none_left = finishes.progress.none_later;
+      all_entered = acts_next took.enters ∙ ap (λ (xs : List Step). length xs) none;
+    })
+
+-- a main task that the driver takes and ends counts for its pump
+pub played_main : {before taken after : EnvView} {script : Plan} {a : Agenda} {seats : List (Option AssignmentView)} (later : Agenda)
+    (work last : AssignmentView) → IsPlayed before script a seats → IsWantedNext before 0 kinds.MainNone → HasTakenMain before taken 0 work
+    → Enters taken after 0 (kinds.MainEnd last.task last.value) → later ≡ moved_on script.actions a → IsPlayed after script later seats
+played_main {before = before} {taken = taken} {a = a} {seats = seats} later work last i wanted took ends moved = record {
+  plan = rw (same_script ends, same_script took.enters) i.plan;
+  script_is = same_script ends ∙ same_script took.enters ∙ i.script_is;
+  legal = ends.legal;
+  driver = rw (ends.entered, moved, ← i.script_is, ← same_script took.enters)
+      (driver_ends taken.script taken.history (record { seat = 0; kind = kinds.MainEnd last.task last.value }) a
+      (record { task = work.task; home = work.home; found = work.found; is_main = true }) (rw (same_script took.enters) i.plan) took.enters.legal
+      (sym (running_own taken.history 0) ∙ running_next took.enters) refl refl refl at_take);
+  driver_free = running_next ends;
+  workers_are = rw (same_script ends, same_script took.enters) i.workers_are;
+  seats_are = tells_driver seats ends (tells_driver seats took.enters i.seats_are);
+}
+  where
+    e : Entry
+    e = record { seat = 0; kind = kinds.MainTake work.task work.home work.found }
+
+    at_take : IsAt taken.script taken.history a.place a.made
+    at_take = rw took.enters.entered (driver_takes before.script before.history e a.place a.made i.plan
+        (wanted_by_script before 0 e.kind (wants_take before 0 work.task work.home work.found wanted)) refl refl refl i.driver)

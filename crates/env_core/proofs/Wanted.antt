@@ -1,17 +1,20 @@
 -- What is known of an entry that the script wants next, or that is the next act step of a task: it may come.
-use Rattle.env_core.proofs.Plans.{act_is, action_is, by_next, entered_by, enters_post, free_where_none_runs, next_is_of, not_main, steps_are, wants_post}
+use Rattle.env_core.proofs.Plans.{act_is, action_is, by_next, driver_runs_nothing, entered_by, enters_main, enters_post, free_where_none_runs}
+use Rattle.env_core.proofs.Plans.{main_runs, steps_are}
+use Rattle.env_core.proofs.Plans.{wants_main, wants_post}
+use Rattle.env_core.proofs.Queues.{action_posts, none_open, step_posts}
 use Rattle.env_core.proofs.Shutdown.{at_done, at_start}
-use Rattle.env_core.specs.Built.{IsPoolPlan, posts_to_main}
-use Rattle.env_core.specs.Calls.{CanEnd, IsFreeWorker, IsIdle, IsNextAct, IsWantedNext, act_of, entry_of, lets_in}
+use Rattle.env_core.specs.Built.{IsBuilt}
+use Rattle.env_core.specs.Calls.{CanEnd, CanEndMain, IsFreeWorker, IsIdle, IsNextAct, IsWantedNext, act_of, entry_of, lets_in}
 use Rattle.env_core.specs.Views.{EnvView}
 use Rattle.hist_model.proofs.Laws.OneThing.{wanted_by}
 use Rattle.hist_model.proofs.Laws.Own.{acts_done_own, holding_own, running_own}
 use Rattle.hist_model.proofs.Laws.PostedOnce.{a_posted_task_is_new}
 use Rattle.hist_model.specs.Allowed.{IsAllowed, by_script, by_task, enters, is_reply, may_come, same_scope}
 use Rattle.hist_model.specs.Legal.{IsLegal}
-use Rattle.hist_model.specs.Script.{is_finished}
+use Rattle.hist_model.specs.Script.{is_finished, is_wanted, wants}
 use Rattle.hist_model.specs.Views.{own_entries}
-use Rattle.list_laws.proofs.Elements.{AllByRecursion-map}
+use Rattle.list_laws.proofs.Elements.{AllByRecursion-contains_itself, AllByRecursion-map}
 use Rattle.list_laws.proofs.Options.{AllByRecursion-not_any}
 use Rattle.list_laws.proofs.Tests.{list_all-from_recursion}
 use Rattle.list_laws.proofs.Values.{eqb-same, some-injective}
@@ -19,11 +22,13 @@ use Rattle.pool_core.specs.Calls.{IsTaken}
 use Rattle.pool_core.specs.Pasts.{IsPoolScript}
 use Rattle.pool_laws.proofs.Seats.Running.{free_is_quiet}
 use Rattle.script_model.specs.Laws.Sound.{IsActionSound, IsSeatThere, IsStepSound, IsStepWithin}
-use Rattle.std.proofs.Common.{Bool, List, None, Option, Some, ap, arith, eqb, false, length, refl, subst, sym, true, ℕ, ⊎_elim, ◌<◌, ◌∙◌, ◌≡◌, ◌≤◌}
-use Rattle.std.proofs.lemmas.Bool.{and_parts, eq-eqb, le-leb, or_cases}
+use Rattle.sequence_manager.specs.Pasts.{IsPostedTo}
+use Rattle.std.proofs.Common.{Bool, List, None, Option, Some, [], ap, arith, eqb, false, length, refl, subst, suc, sym, true, ℕ, ⊎_elim, ◌<◌, ◌∙◌, ◌≡◌, ◌≤◌}
+use Rattle.std.proofs.lemmas.Bool.{and_parts, eq-eqb, eqb-true, le-leb, leb-true, or_cases}
 use Rattle.std.proofs.lemmas.Option.{none-some}
 use Rattle.std.specs.List.{list_all}
-use Rattle.std.specs.Prelude.{filter, is_none, is_some, not, ◌&&◌, ◌||◌}
+use Rattle.std.specs.Option.{option_map, option_map_or}
+use Rattle.std.specs.Prelude.{Contains, filter, is_none, is_some, nat_lt, not, slice_get, unwrap_or, ◌&&◌, ◌||◌}
 use Rattle.task_base.specs.Plan.{Plan}
 use Rattle.task_base.specs.Runners.{seat_of_kind}
 use Rattle.task_base.specs.Steps.{after, is_act}
@@ -31,6 +36,9 @@ use Rattle.task_base.specs.declared.entry.Entry.{Entry}
 use Rattle.task_base.specs.declared.entry.Kind.{Kind}
 use Rattle.task_base.specs.declared.limits.TheConstants.{LAST_MOMENT, MOST_MICROSECONDS}
 use Rattle.task_base.specs.declared.policy.Policy.{Policy}
+use Rattle.task_base.specs.declared.script.Action.{Action}
+use Rattle.task_base.specs.declared.script.FenceAt.{FenceAt}
+use Rattle.task_base.specs.declared.script.MainQueue.{MainQueue}
 use Rattle.task_base.specs.declared.script.RunnerKind.{RunnerKind}
 use Rattle.task_base.specs.declared.script.RunnerKind.TheVariants.{Parallel, Sequenced, Single}
 use Rattle.task_base.specs.declared.step.Scope.{Scope}
@@ -40,9 +48,11 @@ use Rattle.task_body.specs.Bodies.{AssignmentView}
 use Rattle.task_body.specs.declared.act.Act.{Act}
 use Rattle.task_model.specs.Blockers.{blockers_of}
 use Rattle.task_model.specs.Phase.{phase_of}
-use Rattle.task_model.specs.Posts.{post_of}
-use Rattle.task_model.specs.Refusal.{is_refused}
-use Rattle.task_model.specs.Seats.{Running, next_act, running, steps_of, worker_seats}
+use Rattle.task_model.specs.Cells.{main_cell_of}
+use Rattle.task_model.specs.MainQueues.{Front, chosen_of, voters_of}
+use Rattle.task_model.specs.Posts.{main_post_of, post_of}
+use Rattle.task_model.specs.Refusal.{is_closed, is_refused}
+use Rattle.task_model.specs.Seats.{Running, acts_done, next_act, running, steps_of, worker_seats}
 use Rattle.task_model.specs.Sources.{best_of}
 use Rattle.task_model.specs.Time.{now_of}
 use Rattle.task_base.specs.declared.entry.Kind.TheVariants as kinds
@@ -55,6 +65,7 @@ known_allowed : (view : EnvView) (seat : ℕ) (kind : Kind) → seat ≤ view.sc
     → IsAllowed view.script view.history (record { seat = seat; kind = kind })
 known_allowed view seat kind known may = rw (le-leb seat view.script.workers known, may) refl
 
+-- an entry of the driver's seat that may come is allowed
 driver_allowed : (view : EnvView) (seat : ℕ) (kind : Kind) → seat ≡ 0 → may_come view.script view.history seat kind ≡ true
     → IsAllowed view.script view.history (record { seat = seat; kind = kind })
 driver_allowed view seat kind driver = known_allowed view seat kind (omega (arith, driver))
@@ -75,6 +86,7 @@ post_may_come script past seat task runner delay ok wanted reply = rw (wanted, r
     says true = refl
     says false = refl
 
+-- a post with the right reply, which the script wants
 pub post_allowed : (view : EnvView) (seat task runner delay : ℕ) (ok : Bool) → IsWantedNext view seat (kinds.Post task runner delay ok)
     → ok ≡ not (is_refused view.script view.history runner delay)
     → IsAllowed view.script view.history (record { seat = seat; kind = kinds.Post task runner delay ok })
@@ -82,35 +94,157 @@ post_allowed view seat task runner delay ok next reply = driver_allowed view sea
     (post_may_come view.script view.history seat task runner delay ok
     (rw (wanted_by_script view seat (kinds.Post task runner delay ok) next) refl) reply)
 
+-- so may a post to a main queue
+main_may_come : (script : Plan) (past : List Entry) (seat task queue delay : ℕ) (ok : Bool)
+    → (by_script script past seat (kinds.Main task queue delay ok) || by_task script past seat (kinds.Main task queue delay ok)) ≡ true
+    → ok ≡ not (is_closed past queue) → may_come script past seat (kinds.Main task queue delay ok) ≡ true
+unfolding may_come
+main_may_come script past seat task queue delay ok wanted reply = rw (wanted, reply) (says (is_closed past queue))
+  where
+    says : (refused : Bool) → is_reply refused (not refused) ≡ true
+    says true = refl
+    says false = refl
+
+-- a post to a main queue with the right reply, which the script wants
+pub main_post_allowed : (view : EnvView) (seat task queue delay : ℕ) (ok : Bool) → IsWantedNext view seat (kinds.Main task queue delay ok)
+    → ok ≡ not (is_closed view.history queue)
+    → IsAllowed view.script view.history (record { seat = seat; kind = kinds.Main task queue delay ok })
+main_post_allowed view seat task queue delay ok next reply = driver_allowed view seat (kinds.Main task queue delay ok) next.driver
+    (main_may_come view.script view.history seat task queue delay ok
+    (rw (wanted_by_script view seat (kinds.Main task queue delay ok) next) refl) reply)
+
+-- a fence that the script wants
+pub fence_allowed : (view : EnvView) (seat queue : ℕ) (at : FenceAt) → IsWantedNext view seat (kinds.Fence queue at)
+    → IsAllowed view.script view.history (record { seat = seat; kind = kinds.Fence queue at })
+unfolding may_come
+fence_allowed view seat queue at next =
+    driver_allowed view seat (kinds.Fence queue at) next.driver (wanted_by_script view seat (kinds.Fence queue at) next)
+
+-- the removal of a fence that the script wants
+pub unfence_allowed : (view : EnvView) (seat queue : ℕ) → IsWantedNext view seat (kinds.Unfence queue)
+    → IsAllowed view.script view.history (record { seat = seat; kind = kinds.Unfence queue })
+unfolding may_come
+unfence_allowed view seat queue next =
+    driver_allowed view seat (kinds.Unfence queue) next.driver (wanted_by_script view seat (kinds.Unfence queue) next)
+
+-- a vote that the script wants
+pub vote_allowed : (view : EnvView) (seat queue voter : ℕ) (on : Bool) → IsWantedNext view seat (kinds.Vote queue voter on)
+    → IsAllowed view.script view.history (record { seat = seat; kind = kinds.Vote queue voter on })
+unfolding may_come
+vote_allowed view seat queue voter on next =
+    driver_allowed view seat (kinds.Vote queue voter on) next.driver (wanted_by_script view seat (kinds.Vote queue voter on) next)
+
+-- a new class that the script wants
+pub rank_allowed : (view : EnvView) (seat queue class : ℕ) → IsWantedNext view seat (kinds.Rank queue class)
+    → IsAllowed view.script view.history (record { seat = seat; kind = kinds.Rank queue class })
+unfolding may_come
+rank_allowed view seat queue class next =
+    driver_allowed view seat (kinds.Rank queue class) next.driver (wanted_by_script view seat (kinds.Rank queue class) next)
+
+-- the closing of a main queue that the script wants
+pub close_allowed : (view : EnvView) (seat queue : ℕ) → IsWantedNext view seat (kinds.Close queue)
+    → IsAllowed view.script view.history (record { seat = seat; kind = kinds.Close queue })
+unfolding may_come
+close_allowed view seat queue next =
+    driver_allowed view seat (kinds.Close queue) next.driver (wanted_by_script view seat (kinds.Close queue) next)
+
+-- inside a pump, the script wants the take of any main task where it wants that none is found
+take_wanted : (own : List Entry) (x : Action) (made : List Entry) (task queue value : ℕ) → wants own x made kinds.MainNone ≡ true
+    → wants own x made (kinds.MainTake task queue value) ≡ true
+take_wanted own (actions.Pump n) made task queue value h = h
+take_wanted own x made task queue value h = absurd cc
+
+-- the script wants the take of any main task where it wants that none is found
+pub wants_take : (view : EnvView) (seat task queue value : ℕ) → IsWantedNext view seat kinds.MainNone
+    → IsWantedNext view seat (kinds.MainTake task queue value)
+unfolding is_wanted
+wants_take view seat task queue value next =
+    let c = wanted_by view.script view.history seat kinds.MainNone (wanted_by_script view seat kinds.MainNone next) in
+    record {
+      driver = next.driver;
+      wanted = rw c.is (take_wanted (own_entries 0 view.history) c.value.action c.value.made task queue value c.passes);
+    }
+
+-- the take of the chosen front, inside a pump
+pub main_take_allowed : (view : EnvView) (seat task queue value : ℕ) (front : Front) → IsWantedNext view seat kinds.MainNone
+    → chosen_of view.script view.history ≡ Some front → front.task ≡ task → front.queue ≡ queue → value ≡ main_cell_of view.history queue
+    → IsAllowed view.script view.history (record { seat = seat; kind = kinds.MainTake task queue value })
+unfolding may_come
+main_take_allowed view seat task queue value front next chosen task_is queue_is value_is =
+    driver_allowed view seat (kinds.MainTake task queue value) next.driver
+    (rw (
+      wanted_by_script view seat (kinds.MainTake task queue value) (wants_take view seat task queue value next),
+      chosen,
+      eq-eqb _ _ task_is,
+      eq-eqb _ _ queue_is,
+      eq-eqb _ _ value_is,
+    ) refl)
+
+-- that none is found where no front is chosen, inside a pump
+pub main_none_allowed : (view : EnvView) (seat : ℕ) → IsWantedNext view seat kinds.MainNone → chosen_of view.script view.history ≡ None
+    → IsAllowed view.script view.history (record { seat = seat; kind = kinds.MainNone })
+unfolding may_come
+main_none_allowed view seat next none = driver_allowed view seat kinds.MainNone next.driver
+    (rw (wanted_by_script view seat kinds.MainNone next, none_open view.script view.history none) refl)
+
+-- the end of a main task of which no step is left
+pub main_end_allowed : (view : EnvView) (seat : ℕ) (work : AssignmentView) → IsLegal view.script view.history → CanEndMain view seat work
+    → work.value ≡ after work.whole work.found
+    → IsAllowed view.script view.history (record { seat = seat; kind = kinds.MainEnd work.task work.value })
+unfolding may_come
+main_end_allowed view seat work legal can left =
+    let runs : running view.history seat ≡ Some can.seats.now = sym (running_own view.history seat) ∙ can.seats.runs in
+    let driver = (main_runs view.script view.history seat can.seats.now legal runs can.is_main).driver in
+    driver_allowed view seat (kinds.MainEnd work.task work.value) driver
+    (rw (
+      eq-eqb seat 0 driver,
+      runs,
+      can.is_main,
+      eq-eqb _ _ (sym can.seats.task_is),
+      ← acts_done_own view.history seat,
+      can.all_entered,
+      eq-eqb _ _ (ap (λ xs. length (filter is_act xs)) can.seats.whole_is),
+      eq-eqb _ _ value_is,
+    ) refl)
+  where
+    value_is : work.value ≡ after (steps_of view.script can.seats.now.task) can.seats.now.found
+    value_is = left ∙ rw (can.seats.whole_is, can.seats.found_is) refl
+
+-- a tick at a moment that is not before the last one
 pub tick_allowed : (view : EnvView) (seat moment : ℕ) → IsWantedNext view seat (kinds.Tick moment) → now_of view.history ≤ moment → moment ≤ LAST_MOMENT
     → IsAllowed view.script view.history (record { seat = seat; kind = kinds.Tick moment })
 unfolding may_come
 tick_allowed view seat moment next later last = driver_allowed view seat (kinds.Tick moment) next.driver
     (rw (wanted_by_script view seat (kinds.Tick moment) next, le-leb (now_of view.history) moment later, le-leb moment LAST_MOMENT last) refl)
 
+-- a policy that the script wants
 pub policy_allowed : (view : EnvView) (seat : ℕ) (policy : Policy) → IsWantedNext view seat (kinds.Policy policy)
     → IsAllowed view.script view.history (record { seat = seat; kind = kinds.Policy policy })
 unfolding may_come
 policy_allowed view seat policy next = driver_allowed view seat (kinds.Policy policy) next.driver (wanted_by_script view seat (kinds.Policy policy) next)
 
+-- the start of shutdown that the script wants
 pub shutdown_allowed : (view : EnvView) (seat : ℕ) → IsWantedNext view seat kinds.Shutdown
     → IsAllowed view.script view.history (record { seat = seat; kind = kinds.Shutdown })
 unfolding may_come
 shutdown_allowed view seat next = driver_allowed view seat kinds.Shutdown next.driver (wanted_by_script view seat kinds.Shutdown next)
 
+-- the end of shutdown, where it has started and nothing blocks it
 pub done_allowed : (view : EnvView) (seat : ℕ) → IsWantedNext view seat kinds.Done → phase_of view.history ≡ phases.Started
     → blockers_of view.script view.history ≡ 0 → IsAllowed view.script view.history (record { seat = seat; kind = kinds.Done })
 unfolding may_come
 done_allowed view seat next started none = driver_allowed view seat kinds.Done next.driver
     (rw (wanted_by_script view seat kinds.Done next, started, none) refl)
 
-pub idle_allowed : (view : EnvView) (seat : ℕ) → IsPoolPlan view.script → IsLegal view.script view.history → IsWantedNext view seat kinds.Idle
+-- that the pool is idle, where nothing runs and nothing may be taken
+pub idle_allowed : (view : EnvView) (seat : ℕ) → IsBuilt view.script → IsLegal view.script view.history → IsWantedNext view seat kinds.Idle
     → IsIdle view → IsAllowed view.script view.history (record { seat = seat; kind = kinds.Idle })
 unfolding may_come
 idle_allowed view seat plan legal next idle = driver_allowed view seat kinds.Idle next.driver
     (rw (
       wanted_by_script view seat kinds.Idle next,
-      free_is_quiet view.script view.history (λ s known. free_where_none_runs view.script view.history s plan legal idle.0),
+      free_is_quiet view.script view.history (λ s known. free_where_none_runs view.script view.history s plan legal
+          (driver_runs_nothing view.script view.history seat kinds.Idle legal (wanted_by_script view seat kinds.Idle next)) idle.0),
       none_ready,
     ) refl)
   where
@@ -123,6 +257,7 @@ idle_allowed view seat plan legal next idle = driver_allowed view seat kinds.Idl
         no_best None h = refl
         no_best (Some x) h = absurd cc
 
+-- the take of the head of a free worker's best source
 pub take_allowed : (view : EnvView) (seat task runner found : ℕ) → IsFreeWorker view seat → is_finished view.script view.history ≡ false
     → IsTaken view.script view.history seat task runner found
     → IsAllowed view.script view.history (record { seat = seat; kind = kinds.Take task runner found })
@@ -142,6 +277,7 @@ take_allowed view seat task runner found worker unfinished is = known_allowed vi
       eq-eqb _ _ is.found_is,
     ) refl)
 
+-- the end of a task of the pool of which no step is left
 pub end_allowed : (view : EnvView) (seat : ℕ) (work : AssignmentView) → CanEnd view seat work → work.value ≡ after work.whole work.found
     → IsAllowed view.script view.history (record { seat = seat; kind = kinds.End work.task work.value })
 unfolding may_come
@@ -160,14 +296,12 @@ end_allowed view seat work can left = known_allowed view seat (kinds.End work.ta
     value_is : work.value ≡ after (steps_of view.script can.seats.now.task) can.seats.now.found
     value_is = left ∙ rw (can.seats.whole_is, can.seats.found_is) refl
 
--- the entry of the next act step of a task may come, and a post of it by its reply, where the script is one of the pool alone: a
--- post to a main queue would be refused where the queue is closed
-pub act_of_plan_allowed : (view : EnvView) (seat : ℕ) (act : Act) (w : Running) (kind : Kind) → IsPoolPlan view.script → IsNextAct view seat act
+-- the entry of the next act step of a task may come, and a post of it by its reply
+pub act_allowed : (view : EnvView) (seat : ℕ) (act : Act) (w : Running) (kind : Kind) → IsNextAct view seat act
     → running view.history seat ≡ Some w → entry_of w.task act (lets_in view act) ≡ Some kind
     → IsAllowed view.script view.history (record { seat = seat; kind = kind })
 unfolding may_come
-act_of_plan_allowed view seat act w kind plan next runs is = of_step next.step (rw (← next.is_act) is)
-    (not_main view.script w.task _ next.step plan (next_is_of view.script view.history seat w next.step runs is_next)) is_next
+act_allowed view seat act w kind next runs is = of_step next.step (rw (← next.is_act) is) is_next
   where
     is_next : next_act view.script view.history seat ≡ Some next.step
     is_next = rw (← running_own view.history seat, ← acts_done_own view.history seat) next.is_next
@@ -190,23 +324,28 @@ act_of_plan_allowed view seat act w kind plan next runs is = of_step next.step (
     same_scope_is May = refl
     same_scope_is Will = refl
 
-    of_step : (step : Step) → entry_of w.task (act_of step) (lets_in view (act_of step)) ≡ Some kind → posts_to_main step ≡ false
+    of_step : (step : Step) → entry_of w.task (act_of step) (lets_in view (act_of step)) ≡ Some kind
         → next_act view.script view.history seat ≡ Some step → IsAllowed view.script view.history (record { seat = seat; kind = kind })
-    of_step (steps.Post u r d) e pool now =
+    of_step (steps.Post u r d) e now =
         let ok : Bool = not (is_refused view.script view.history r d) in
         subst Comes (some-injective e) (known_allowed view seat (kinds.Post u r d ok) next.known
         (post_may_come view.script view.history seat u r d ok (second (by_script view.script view.history seat (kinds.Post u r d ok))
         (by_the_task (kinds.Post u r d ok) (steps.Post u r d) now (same_post u r d))) refl))
-    of_step (steps.Main u q d) e pool now = absurd cc
-    of_step (steps.Block scope) e pool now = subst Comes (some-injective e) (known_allowed view seat (kinds.Enter w.task scope) next.known
+    of_step (steps.Main u q d) e now =
+        let ok : Bool = not (is_closed view.history q) in
+        subst Comes (some-injective e) (known_allowed view seat (kinds.Main u q d ok) next.known
+        (main_may_come view.script view.history seat u q d ok (second (by_script view.script view.history seat (kinds.Main u q d ok))
+        (by_the_task (kinds.Main u q d ok) (steps.Main u q d) now (same_post u q d))) refl))
+    of_step (steps.Block scope) e now = subst Comes (some-injective e) (known_allowed view seat (kinds.Enter w.task scope) next.known
         (by_the_task (kinds.Enter w.task scope) (steps.Block scope) now (rw (eqb-same w.task) (same_scope_is scope))))
-    of_step steps.Unblock e pool now = subst Comes (some-injective e) (known_allowed view seat (kinds.Leave w.task) next.known
+    of_step steps.Unblock e now = subst Comes (some-injective e) (known_allowed view seat (kinds.Leave w.task) next.known
         (by_the_task (kinds.Leave w.task) steps.Unblock now (eqb-same w.task)))
-    of_step step e pool now = absurd (none-some kind e)
+    of_step step e now = absurd (none-some kind e)
 
 -- What is posted is declared and new, and the phase is right where shutdown is started or done.
 
-pub post_is_sound : (script : Plan) (past : List Entry) (seat task runner delay : ℕ) (ok : Bool) → IsPoolPlan script → IsLegal script past
+-- a post that may come is sound, and its task was not posted
+pub post_is_sound : (script : Plan) (past : List Entry) (seat task runner delay : ℕ) (ok : Bool) → IsBuilt script → IsLegal script past
     → IsAllowed script past (record { seat = seat; kind = kinds.Post task runner delay ok })
     → (task < length script.tasks) × (runner < length script.runners) × (delay ≤ MOST_MICROSECONDS) × (post_of past task ≡ None)
 unfolding may_come
@@ -234,19 +373,144 @@ post_is_sound script past seat task runner delay ok plan legal allowed =
         let within = subst IsStepWithin is (act_is IsStepWithin _ _ s.step (steps_are script s.now.task plan.sound.declarations).0 s.is_next) in
         (declared.1, within)
 
-pub starts_while_running : (script : Plan) (past : List Entry) (seat : ℕ) → IsPoolPlan script → IsLegal script past
+-- a post to a main queue is one of the script's, of a task that was not accepted
+pub record IsMainPostSound (script : Plan) (past : List Entry) (task queue delay : ℕ) : Type 0 where
+  pub task_declared : task < length script.tasks
+  pub delay_fits : delay ≤ MOST_MICROSECONDS
+  pub posted : IsPostedTo script task queue
+  pub is_new : main_post_of past task ≡ None
+
+-- an act step that posts to a main queue does so rightly
+act_posts : (script : Plan) (t n task queue delay : ℕ) → slice_get (filter is_act (steps_of script t)) n ≡ Some (steps.Main task queue delay)
+    → IsPostedTo script task queue
+act_posts script t n task queue delay is = at (slice_get script.tasks t) refl is
+  where
+    at : (o : Option (List Step)) → slice_get script.tasks t ≡ o
+        → slice_get (filter is_act (option_map_or (λ steps. steps) o [])) n ≡ Some (steps.Main task queue delay) → IsPostedTo script task queue
+    at None here k = absurd (none-some _ k)
+    at (Some xs) here k = step_posts script t task queue delay xs here
+        (act_is (Contains xs) xs n (steps.Main task queue delay) (AllByRecursion-contains_itself xs) k)
+
+-- a post to a main queue that may come is sound, and its task was not posted
+pub main_post_is_sound : (script : Plan) (past : List Entry) (seat task queue delay : ℕ) (ok : Bool) → IsBuilt script → IsLegal script past
+    → IsAllowed script past (record { seat = seat; kind = kinds.Main task queue delay ok }) → IsMainPostSound script past task queue delay
+unfolding may_come
+main_post_is_sound script past seat task queue delay ok plan legal allowed =
+    let (sound, posted) = ⊎_elim by_the_script by_the_task (or_cases _ _ (and_parts _ _ (and_parts _ _ allowed).1).0) in
+    record {
+      task_declared = sound.0.task_declared;
+      delay_fits = sound.1;
+      posted = posted;
+      is_new = (a_posted_task_is_new script past (record { seat = seat; kind = kinds.Main task queue delay ok }) task plan.sound.once.posted_once legal
+          allowed refl).not_main_accepted;
+    }
+  where
+    by_the_script : by_script script past seat (kinds.Main task queue delay ok) ≡ true
+        → IsActionSound script (actions.Main task queue delay) × IsPostedTo script task queue
+    by_the_script wanted =
+        let c = wanted_by script past seat (kinds.Main task queue delay ok) wanted in
+        let same = wants_main (own_entries 0 past) c.value.action c.value.made task queue delay ok c.passes in (
+          subst (IsActionSound script) same (action_is (IsActionSound script) script (own_entries 0 past) c.value plan.sound.actions.each_sound c.is),
+          action_posts script task queue delay (subst (Contains script.actions) same
+              (action_is (Contains script.actions) script (own_entries 0 past) c.value (AllByRecursion-contains_itself script.actions) c.is)),
+        )
+
+    by_the_task : by_task script past seat (kinds.Main task queue delay ok) ≡ true
+        → IsActionSound script (actions.Main task queue delay) × IsPostedTo script task queue
+    by_the_task enters =
+        let s = entered_by script past seat (kinds.Main task queue delay ok) enters in
+        let is : s.step ≡ steps.Main task queue delay = enters_main s.now.task s.step task queue delay ok s.enters in
+        let declared = subst (IsStepSound script s.now.task) is (act_is (IsStepSound script s.now.task) _ _ s.step
+        (steps_are script s.now.task plan.sound.declarations).1 s.is_next) in
+        let within = subst IsStepWithin is (act_is IsStepWithin _ _ s.step (steps_are script s.now.task plan.sound.declarations).0 s.is_next) in
+        ((declared.1, within), act_posts script s.now.task (acts_done past seat) task queue delay (rw is at s.is_next))
+
+-- What the driver does to a main queue names one that is declared.
+
+-- the queue that such an entry names
+abbrev pub named : Kind → Option ℕ
+named (kinds.Fence queue at) = Some queue
+named (kinds.Unfence queue) = Some queue
+named (kinds.Vote queue voter on) = Some queue
+named (kinds.Rank queue class) = Some queue
+named (kinds.Close queue) = Some queue
+named kind = None
+
+-- an action that wants an entry of a queue is sound only where the queue is declared
+names_queue : (script : Plan) (own : List Entry) (x : Action) (made : List Entry) (kind : Kind) (n : ℕ) → named kind ≡ Some n
+    → wants own x made kind ≡ true → IsActionSound script x → n < length script.queues
+names_queue script own (actions.Fence q a) made (kinds.Fence queue at) n is w sound =
+    subst (λ k. k < length script.queues) (sym (eqb-true queue q (and_parts _ _ w).0) ∙ some-injective is) sound
+names_queue script own (actions.Unfence q) made (kinds.Unfence queue) n is w sound =
+    subst (λ k. k < length script.queues) (sym (eqb-true queue q w) ∙ some-injective is) sound
+names_queue script own (actions.Vote q v o) made (kinds.Vote queue voter on) n is w sound =
+    subst (λ k. k < length script.queues) (sym (eqb-true queue q (and_parts _ _ (and_parts _ _ w).0).0) ∙ some-injective is) sound.0
+names_queue script own (actions.Rank q c) made (kinds.Rank queue class) n is w sound =
+    subst (λ k. k < length script.queues) (sym (eqb-true queue q (and_parts _ _ w).0) ∙ some-injective is) sound.0
+names_queue script own (actions.Close q) made (kinds.Close queue) n is w sound =
+    subst (λ k. k < length script.queues) (sym (eqb-true queue q w) ∙ some-injective is) sound
+names_queue script own x made (kinds.Fence queue at) n is w sound = absurd cc
+names_queue script own x made (kinds.Unfence queue) n is w sound = absurd cc
+names_queue script own x made (kinds.Vote queue voter on) n is w sound = absurd cc
+names_queue script own x made (kinds.Rank queue class) n is w sound = absurd cc
+names_queue script own x made (kinds.Close queue) n is w sound = absurd cc
+names_queue script own x made kind n is w sound = absurd (none-some n is)
+
+-- what the script wants is what a sound action wants
+sound_at : (P : Type 0) (view : EnvView) (seat : ℕ) (kind : Kind) → IsBuilt view.script → IsWantedNext view seat kind
+    → ((x : Action) (made : List Entry) → wants (own_entries 0 view.history) x made kind ≡ true → IsActionSound view.script x → P) → P
+sound_at P view seat kind plan next says =
+    let c = wanted_by view.script view.history seat kind (wanted_by_script view seat kind next) in
+    says c.value.action c.value.made c.passes
+    (action_is (IsActionSound view.script) view.script (own_entries 0 view.history) c.value plan.sound.actions.each_sound c.is)
+
+-- the queue of an entry that the script wants is declared
+pub queue_declared : (view : EnvView) (seat : ℕ) (kind : Kind) (queue : ℕ) → named kind ≡ Some queue → IsBuilt view.script → IsWantedNext view seat kind
+    → queue < length view.script.queues
+queue_declared view seat kind queue is plan next = sound_at (queue < length view.script.queues) view seat kind plan next
+    (λ x made w sound. names_queue view.script (own_entries 0 view.history) x made kind queue is w sound)
+
+-- the voter of a vote that the script wants is one of its queue
+pub voter_declared : (view : EnvView) (seat queue voter : ℕ) (on : Bool) → IsBuilt view.script → IsWantedNext view seat (kinds.Vote queue voter on)
+    → voter < voters_of view.script queue
+voter_declared view seat queue voter on plan next = sound_at (voter < voters_of view.script queue) view seat (kinds.Vote queue voter on) plan next by
+  where
+    has : (o : Option MainQueue) (v : ℕ) → unwrap_or (option_map (λ declared. nat_lt v declared.voters) o) false ≡ true
+        → v < option_map_or (λ queue. queue.voters) o 0
+    has None v h = absurd cc
+    has (Some q) v h = leb-true (suc v) q.voters h
+
+    by : (x : Action) (made : List Entry) → wants (own_entries 0 view.history) x made (kinds.Vote queue voter on) ≡ true → IsActionSound view.script x
+        → voter < voters_of view.script queue
+    by (actions.Vote q v o) made w sound =
+        let parts = and_parts _ _ (and_parts _ _ w).0 in
+        rw (eqb-true queue q parts.0, eqb-true voter v parts.1) (has (slice_get view.script.queues q) v sound.2)
+    by x made w sound = absurd cc
+
+-- the class that the script wants is within its range
+pub class_within : (view : EnvView) (seat queue class : ℕ) → IsBuilt view.script → IsWantedNext view seat (kinds.Rank queue class) → class ≤ 7
+class_within view seat queue class plan next = sound_at (class ≤ 7) view seat (kinds.Rank queue class) plan next by
+  where
+    by : (x : Action) (made : List Entry) → wants (own_entries 0 view.history) x made (kinds.Rank queue class) ≡ true → IsActionSound view.script x
+        → class ≤ 7
+    by (actions.Rank q c) made w sound = rw (eqb-true class c (and_parts (eqb queue q) (eqb class c) w).1) sound.1
+    by x made w sound = absurd cc
+
+-- shutdown starts while the phase is running
+pub starts_while_running : (script : Plan) (past : List Entry) (seat : ℕ) → IsBuilt script → IsLegal script past
     → IsAllowed script past (record { seat = seat; kind = kinds.Shutdown }) → phase_of past ≡ phases.Running
 unfolding may_come
 starts_while_running script past seat plan legal allowed = at_start script past plan legal
     (wanted_by script past seat kinds.Shutdown (and_parts _ _ allowed).1)
 
-pub done_while_started : (view : EnvView) (seat : ℕ) → IsPoolPlan view.script → IsLegal view.script view.history → IsWantedNext view seat kinds.Done
+-- shutdown ends where it has started
+pub done_while_started : (view : EnvView) (seat : ℕ) → IsBuilt view.script → IsLegal view.script view.history → IsWantedNext view seat kinds.Done
     → phase_of view.history ≡ phases.Started
 done_while_started view seat plan legal next = at_done view.script view.history plan legal
     (wanted_by view.script view.history seat kinds.Done (wanted_by_script view seat kinds.Done next))
 
 -- the pool runs such a script
-pub pool_script : (script : Plan) → IsPoolPlan script → IsPoolScript script
+pub pool_script : (script : Plan) → IsBuilt script → IsPoolScript script
 pool_script script plan = record {
   workers_fit = plan.sound.config.few_workers;
   runners_fit = plan.sound.limits.few_runners;

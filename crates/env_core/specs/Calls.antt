@@ -9,8 +9,9 @@ use Rattle.task_base.specs.declared.step.Step.{Step}
 use Rattle.task_base.specs.declared.step.Step.TheVariants as steps
 use Rattle.task_model.specs.Seats.{Running, running, acts_done, next_act, steps_of, is_free}
 use Rattle.task_model.specs.Sources.{best_of}
-use Rattle.task_model.specs.Cells.{cell_of}
-use Rattle.task_model.specs.Refusal.{is_refused}
+use Rattle.task_model.specs.Cells.{cell_of, main_cell_of}
+use Rattle.task_model.specs.MainQueues.{Front, chosen_of}
+use Rattle.task_model.specs.Refusal.{is_closed, is_refused}
 use Rattle.hist_model.specs.Script.{is_wanted, is_finished}
 use Rattle.hist_model.specs.Views.{own_entries}
 use Rattle.task_body.specs.Bodies.{AssignmentView}
@@ -56,11 +57,18 @@ pub record IsSeats (view : EnvView) (seat : ℕ) (work : AssignmentView) : Type 
   pub found_is : work.found ≡ now.found
   pub whole_is : work.whole ≡ steps_of view.script now.task
 
--- the seat's assignment has no step left, and all its act steps were entered
+-- the seat's assignment is that of a task of the pool, has no step left, and all its act steps were entered
 pub record CanEnd (view : EnvView) (seat : ℕ) (work : AssignmentView) : Type 0 where
   pub known : seat ≤ view.script.workers
   pub seats : IsSeats view seat work
   pub is_pool : seats.now.is_main ≡ false
+  pub none_left : work.rest ≡ []
+  pub all_entered : acts_done (own_entries seat view.history) seat ≡ length (filter is_act work.whole)
+
+-- the seat's assignment is that of a main task, has no step left, and all its act steps were entered
+pub record CanEndMain (view : EnvView) (seat : ℕ) (work : AssignmentView) : Type 0 where
+  pub seats : IsSeats view seat work
+  pub is_main : seats.now.is_main ≡ true
   pub none_left : work.rest ≡ []
   pub all_entered : acts_done (own_entries seat view.history) seat ≡ length (filter is_act work.whole)
 
@@ -75,6 +83,7 @@ entry_of t act ok = None
 -- whether a post of the act is let in; other acts always are
 abbrev pub lets_in : EnvView → Act → Bool
 lets_in view (acts.Post task runner delay) = not (is_refused view.script view.history runner delay)
+lets_in view (acts.Main task queue delay) = not (is_closed view.history queue)
 lets_in view act = true
 
 -- the call entered the act of the task that the seat runs
@@ -110,6 +119,29 @@ abbrev pub TakeGives : {B : Type 0} → EnvView → EnvView → ℕ → Taken B 
 TakeGives before after seat (taken.Task work) = HasTaken before after seat work
 TakeGives before after seat taken.Nothing = HasNothing before after seat
 TakeGives before after seat taken.Over = IsOver before after
+
+-- the driver has taken the chosen front of the main queues, with its queue's cell and a body of which no step is done; its
+-- entry is made
+pub record HasTakenMain (before after : EnvView) (seat : ℕ) (work : AssignmentView) : Type 0 where
+  pub front : Front
+  pub chosen : chosen_of before.script before.history ≡ Some front
+  pub task_is : work.task ≡ front.task
+  pub home_is : work.home ≡ front.queue
+  pub enters : Enters before after seat (kinds.MainTake work.task work.home work.found)
+  pub found_is : work.found ≡ main_cell_of before.history work.home
+  pub value_is : work.value ≡ work.found
+  pub whole_is : work.whole ≡ steps_of before.script work.task
+  pub rest_is : work.rest ≡ work.whole
+
+-- no front of the main queues is open, and that was entered
+pub record HasNoMain (before after : EnvView) (seat : ℕ) : Type 0 where
+  pub none : chosen_of before.script before.history ≡ None
+  pub enters : Enters before after seat kinds.MainNone
+
+-- what the driver's take gives
+abbrev pub MainTakeGives : EnvView → EnvView → ℕ → Option AssignmentView → Type 0
+MainTakeGives before after seat (Some work) = HasTakenMain before after seat work
+MainTakeGives before after seat None = HasNoMain before after seat
 
 -- the entry may come: the script wants it, no worker runs a task of the pool, and none may take one
 abbrev pub IsIdle : EnvView → Type 0

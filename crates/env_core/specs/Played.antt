@@ -5,10 +5,10 @@ use Rattle.task_base.specs.Steps.{is_act}
 use Rattle.task_body.specs.Bodies.{AssignmentView}
 use Rattle.task_body.specs.declared.act.Act.{Act}
 use Rattle.task_body.specs.declared.act.Act.TheVariants as acts
-use Rattle.task_model.specs.Seats.{acts_done, holding, is_free}
+use Rattle.task_model.specs.Seats.{acts_done, holding, is_free, running}
 use Rattle.hist_model.specs.Legal.{IsLegal}
 use Rattle.hist_model.specs.Views.{own_entries}
-use Rattle.env_core.specs.Built.{IsPoolPlan}
+use Rattle.env_core.specs.Built.{IsBuilt}
 use Rattle.env_core.specs.Calls.{IsSeats}
 use Rattle.env_core.specs.Holds.{IsAt}
 use Rattle.env_core.specs.Views.{EnvView}
@@ -37,11 +37,13 @@ TellsSeat view seat (Some work) = IsUnderWay view seat work
 abbrev pub TellsSeats : EnvView → List (Option AssignmentView) → Type 0
 TellsSeats view seats = (seat : ℕ) (slot : Option AssignmentView) → 1 ≤ seat → slice_get seats seat ≡ Some slot → TellsSeat view seat slot
 
--- the environment runs the script, the driver is at this place of it, and the table says of each worker seat what is so
+-- the environment runs the script, the driver is at this place of it and runs no task, and the table says of each worker seat
+-- what is so
 pub record IsPlayed (view : EnvView) (script : Plan) (agenda : Agenda) (seats : List (Option AssignmentView)) : Type 0 where
-  pub plan : IsPoolPlan view.script
+  pub plan : IsBuilt view.script
   pub script_is : view.script ≡ script
   pub legal : IsLegal view.script view.history
   pub driver : IsAt view.script view.history agenda.place agenda.made
+  pub driver_free : running (own_entries 0 view.history) 0 ≡ None
   pub workers_are : length seats ≡ view.script.workers + 1
   pub seats_are : TellsSeats view seats

@@ -1,9 +1,10 @@
 ghost use Rattle.std.specs.Prelude.{◌≡◌, ◌==◌, ◌<◌, ◌≤◌, ◌^◌, length, slice_get, IfSome};
-ghost use Rattle.env_core.specs.Agenda.{entries_of, moved_on};
+ghost use Rattle.env_core.specs.Agenda.{entries_of, moved_on, passed_on};
 
 use task_base::{Action, Script};
 
-/// How far the driver has come in a script: how many actions are complete, and how many entries the next one has made.
+/// How far the driver has come in a script: how many actions are complete, and how many entries the next one has made. Of
+/// a pump those count at which a main task ends.
 #[derive(Clone, Copy, Debug)]
 pub struct Agenda {
     pub place: usize,
@@ -18,7 +19,7 @@ impl Agenda {
         self.place == script.actions.len()
     }
 
-    /// The driver has made one more entry by its script.
+    /// The driver has made one more entry by its script, or has ended one more main task.
     pub fn entered(&mut self, script: &Script)
         requires few { self.old.made < 2 ^ 31 }
         requires within { self.old.place ≤ length script.now.actions }
@@ -33,14 +34,25 @@ impl Agenda {
             self.made = 0;
         }
     }
+
+    /// The driver's action is complete: a pump found no main task.
+    pub fn completed(&mut self, script: &Script)
+        requires { self.old.place ≤ length script.now.actions }
+        ensures { self.new ≡ passed_on script.now.actions self.old }
+    {
+        if self.place < script.actions.len() {
+            self.place += 1;
+            self.made = 0;
+        }
+    }
 }
 
-// How many entries an action makes.
+// How many entries complete an action.
 fn entries_of(action: &Action) -> u32
     ensures { result ≡ entries_of action.now }
 {
     match action {
-        Action::Tick { count } => *count,
+        Action::Tick { count } | Action::Pump { count } => *count,
         Action::Cancel { .. } | Action::Shutdown => 2,
         _ => 1,
     }

@@ -1,13 +1,14 @@
 ghost use Rattle.std.specs.Prelude.{◌≡◌, ℕ, ◌≤◌, ◌<◌, ◌↔◌, List, [], map, length, slice_get, not, Bool, true, false, IsOk, IfOk, IfErr, OnOk, OnErr, Some};
-ghost use Rattle.env_core.specs.Built.{IsPoolPlan};
-ghost use Rattle.env_core.specs.Calls.{IsWantedNext, IsFreeWorker, IsNextAct, CanEnd, HasTaken, HasNothing, IsOver, EntersAct, lets_in};
+ghost use Rattle.env_core.specs.Built.{IsBuilt};
+ghost use Rattle.env_core.specs.Calls.{IsWantedNext, IsFreeWorker, IsNextAct, CanEnd, CanEndMain, HasTaken, HasNothing, IsOver, HasTakenMain};
+ghost use Rattle.env_core.specs.Calls.{HasNoMain, MainTakeGives, EntersAct, lets_in};
 ghost use Rattle.env_core.specs.Drawer.{kept_if};
 ghost use Rattle.env_core.specs.Views.{Enters};
 ghost use Rattle.hist_model.specs.Moments.{moment_behind};
 ghost use Rattle.pool_core.specs.Calls.{running_tasks, is_any_ready};
 ghost use Rattle.task_model.specs.Blockers.{blockers_of};
 ghost use Rattle.task_model.specs.Phase.{phase_of};
-ghost use Rattle.task_model.specs.Refusal.{is_refused};
+ghost use Rattle.task_model.specs.Refusal.{is_closed, is_refused};
 ghost use Rattle.task_model.specs.Seats.{steps_of};
 ghost use Rattle.task_traits.specs.declared.phase.Phase.TheVariants as phases;
 ghost use Rattle.task_model.specs.Time.{now_of};
@@ -15,17 +16,19 @@ ghost use Rattle.task_model.specs.Time.{now_of};
 use crate::agenda::Agenda;
 use hist_model::Chronicle;
 use pool_core::{Pool, PoolTake};
+use sequence_manager::Manager;
 use shutdown_phase::StillBlocked;
 use std::alloc::{AllocError, Global};
 use std::marker::Model;
 use task_base::{
-    Entry, Kind, LAST_MOMENT, NotYet, Policy, Rows, RunnerId, Scope, Script, SeatNo, TaskId,
+    Entry, FenceAt, Kind, LAST_MOMENT, NotYet, Policy, QueueId, Rows, RunnerId, Scope, Script,
+    SeatNo, TaskId,
 };
 use task_body::{Act, Assignment, Taken, TaskBody};
 use task_script::events_bound;
 
 /// The environment of one run (Chromium's `base/task` as a browser holds it): the script, the bodies of the tasks, the
-/// pool, and the history.
+/// pool, the main queues, and the history.
 ///
 /// Each call is one event: it adds one entry to the history, or none. All memory is taken by `open`. A seat is 0 for
 /// the driver, which performs the script, and 1 and above for the workers.
@@ -33,6 +36,7 @@ use task_script::events_bound;
 pub struct Env<B: TaskBody> {
     script: Script,
     pool: Pool,
+    main: Manager,
     /// The bodies of the tasks that may still be taken.
     bodies: Vec<Option<Box<B>>>,
     log: Rows<Entry>,
@@ -48,7 +52,8 @@ impl<B: TaskBody> Model for Env<B> {
 
     ghost view = { λ e. record { script = e.script; history = e.log.items } };
 
-    ghost invariant = { λ e. Holds e.bodies.items (λ body. B.whole body.value) (λ body. B.rest body.value) e.script e.log e.pool e.agenda.place e.agenda.made };
+    ghost invariant = { λ e. Holds e.bodies.items (λ body. B.whole body.value) (λ body. B.rest body.value) e.script e.log e.pool e.main
+        e.agenda.place e.agenda.made };
 }
 
 impl<B: TaskBody> Chronicle for Env<B> {
@@ -60,21 +65,23 @@ impl<B: TaskBody> Chronicle for Env<B> {
 impl<B: TaskBody> Env<B> {
     ghost use Rattle.env_core.specs.Calls.{AreFresh, TakeGives, IsIdle};
 
-    /// The environment of a script of the pool alone, at the start of its history, with a body for each task: body i is
+    /// The environment of a script without jobs, at the start of its history, with a body for each task: body i is
     /// that of task i, and none of its steps is done. The error is want of memory, and nothing is left made.
     pub fn open(alloc: Global, script: Script, bodies: Vec<Box<B>>) -> Result<Env<B>, AllocError>
-        requires plan { IsPoolPlan script }
+        requires plan { IsBuilt script }
         requires bodies { AreFresh bodies.items (λ body. B.whole body.value) (λ body. B.rest body.value) script }
         ensures script { IfOk result (λ env. env.script ≡ script) }
         ensures empty { IfOk result (λ env. env.history ≡ []) }
     {
         let pool = Pool::new(alloc, &script)?;
+        let main = Manager::new(alloc, &script)?;
         let bodies = drawer(alloc, bodies)?;
         let mut log = Rows::new(alloc);
         log.reserve(events_bound(&script) as usize)?;
         Ok(Env {
             script,
             pool,
+            main,
             bodies,
             log,
             agenda: Agenda { place: 0, made: 0 },
@@ -102,6 +109,27 @@ impl<B: TaskBody> Env<B> {
         ok
     }
 
+    /// The driver posts a task to a main queue, with a delay in microseconds. A refused post drops the task's body.
+    pub fn main_post(&mut self, seat: SeatNo, task: TaskId, queue: QueueId, delay: u64) -> bool
+        requires { (ok : Bool) → IsWantedNext self.old seat (Kind.Main task queue delay ok) }
+        ensures reply { result ≡ not (is_closed self.old.history queue) }
+        ensures enters { Enters self.old self.new seat (Kind.Main task queue delay result) }
+    {
+        let ok = self.main.post(self.log.len() as u32, task, queue, delay);
+        keep_if(ok, &mut self.bodies, task);
+        self.agenda.entered(&self.script);
+        self.log.push_spare(Entry {
+            seat,
+            kind: Kind::Main {
+                task,
+                queue,
+                delay,
+                ok,
+            },
+        });
+        ok
+    }
+
     /// The driver has read the clock, in microseconds. Answers the moment that is entered.
     pub fn tick(&mut self, seat: SeatNo, reading: u64) -> u64
         requires { (now : ℕ) → IsWantedNext self.old seat (Kind.Tick now) }
@@ -110,6 +138,7 @@ impl<B: TaskBody> Env<B> {
     {
         let now = reading.max(self.pool.moment()).min(LAST_MOMENT);
         self.pool.tick(self.log.len() as u32, now);
+        self.main.tick(now);
         self.agenda.entered(&self.script);
         self.log.push_spare(Entry {
             seat,
@@ -128,6 +157,118 @@ impl<B: TaskBody> Env<B> {
         self.log.push_spare(Entry {
             seat,
             kind: Kind::Policy { policy },
+        });
+    }
+
+    /// The driver puts a fence into a main queue: behind all tasks that are ready by now, or before all tasks.
+    pub fn fence(&mut self, seat: SeatNo, queue: QueueId, at: FenceAt)
+        requires { IsWantedNext self.old seat (Kind.Fence queue at) }
+        ensures { Enters self.old self.new seat (Kind.Fence queue at) }
+    {
+        self.main.fence(queue, at);
+        self.agenda.entered(&self.script);
+        self.log.push_spare(Entry {
+            seat,
+            kind: Kind::Fence { queue, at },
+        });
+    }
+
+    /// The driver removes the fence of a main queue, if it has one.
+    pub fn unfence(&mut self, seat: SeatNo, queue: QueueId)
+        requires { IsWantedNext self.old seat (Kind.Unfence queue) }
+        ensures { Enters self.old self.new seat (Kind.Unfence queue) }
+    {
+        self.main.unfence(queue);
+        self.agenda.entered(&self.script);
+        self.log.push_spare(Entry {
+            seat,
+            kind: Kind::Unfence { queue },
+        });
+    }
+
+    /// A voter of a main queue votes for it, or against it.
+    pub fn vote(&mut self, seat: SeatNo, queue: QueueId, voter: u8, on: bool)
+        requires { IsWantedNext self.old seat (Kind.Vote queue voter on) }
+        ensures { Enters self.old self.new seat (Kind.Vote queue voter on) }
+    {
+        self.main.vote(queue, voter, on);
+        self.agenda.entered(&self.script);
+        self.log.push_spare(Entry {
+            seat,
+            kind: Kind::Vote { queue, voter, on },
+        });
+    }
+
+    /// The driver puts a main queue in another class.
+    pub fn rank(&mut self, seat: SeatNo, queue: QueueId, class: u8)
+        requires { IsWantedNext self.old seat (Kind.Rank queue class) }
+        ensures { Enters self.old self.new seat (Kind.Rank queue class) }
+    {
+        self.main.rank(queue, class);
+        self.agenda.entered(&self.script);
+        self.log.push_spare(Entry {
+            seat,
+            kind: Kind::Rank { queue, class },
+        });
+    }
+
+    /// The driver closes a main queue: its tasks never run, and it accepts no more. What was taken is done to its end.
+    pub fn close_queue(&mut self, seat: SeatNo, queue: QueueId)
+        requires { IsWantedNext self.old seat (Kind.Close queue) }
+        ensures { Enters self.old self.new seat (Kind.Close queue) }
+    {
+        self.main.close(queue);
+        self.agenda.entered(&self.script);
+        self.log.push_spare(Entry {
+            seat,
+            kind: Kind::Close { queue },
+        });
+    }
+
+    /// The driver, inside a pump and with no task, takes the chosen front of the main queues, whose body leaves the drawer.
+    /// None where no front is open, which completes the pump.
+    pub fn main_take(&mut self, seat: SeatNo) -> Option<Assignment<B>>
+        requires { IsWantedNext self.old seat Kind.MainNone }
+        ensures { MainTakeGives self.old self.new seat result }
+    {
+        match self.main.take() {
+            None => {
+                self.agenda.completed(&self.script);
+                self.log.push_spare(Entry {
+                    seat,
+                    kind: Kind::MainNone,
+                });
+                None
+            }
+            Some((task, queue, cell)) => {
+                let body = self.bodies[task as usize].take().unwrap();
+                self.log.push_spare(Entry {
+                    seat,
+                    kind: Kind::MainTake {
+                        task,
+                        queue,
+                        found: cell.value(),
+                    },
+                });
+                Some(Assignment::new(task, queue, cell, body))
+            }
+        }
+    }
+
+    /// The driver has ended its main task: the cell goes home with what the task left, and the body is dropped.
+    pub fn main_end(&mut self, seat: SeatNo, work: Assignment<B>)
+        requires { CanEndMain self.old seat work }
+        ensures { Enters self.old self.new seat (Kind.MainEnd work.task work.value) }
+    {
+        let task = work.task();
+        let queue = work.home();
+        let (cell, _) = work.split_up();
+        let left = cell.value();
+        self.main.end(queue, cell);
+        self.agenda.entered(&self.script);
+        self.log.push_spare(Entry {
+            seat,
+            kind: Kind::MainEnd { task, left },
         });
     }
 
@@ -169,10 +310,11 @@ impl<B: TaskBody> Env<B> {
                 runner,
                 delay,
             } => self.post_by_task(seat, task, runner, delay),
+            Act::Main { task, queue, delay } => self.main_post_by_task(seat, task, queue, delay),
             Act::Enter(scope) => self.enter(seat, scope),
             Act::Leave => self.leave(seat),
-            Act::Main { .. } | Act::Did(_) | Act::Finished => {
-                // No task of such a script posts to a main queue.
+            Act::Did(_) | Act::Finished => {
+                // What is not an act step makes no entry.
                 let _ = &self.script;
                 unreachable!()
             }
@@ -263,6 +405,25 @@ impl<B: TaskBody> Env<B> {
             kind: Kind::Post {
                 task,
                 runner,
+                delay,
+                ok,
+            },
+        });
+        ok
+    }
+
+    fn main_post_by_task(&mut self, seat: SeatNo, task: TaskId, queue: QueueId, delay: u64) -> bool
+        requires { IsNextAct self.old seat (Act.Main task queue delay) }
+        ensures reply { result ≡ not (is_closed self.old.history queue) }
+        ensures enters { Enters self.old self.new seat (Kind.Main task queue delay result) }
+    {
+        let ok = self.main.post(self.log.len() as u32, task, queue, delay);
+        keep_if(ok, &mut self.bodies, task);
+        self.log.push_spare(Entry {
+            seat,
+            kind: Kind::Main {
+                task,
+                queue,
                 delay,
                 ok,
             },

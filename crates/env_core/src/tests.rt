@@ -3,6 +3,7 @@ ghost use Rattle.std.specs.Prelude.{◌≡◌, [], ◌∷◌, IfOk, false};
 mod bodies;
 mod entries;
 mod lives;
+mod main;
 mod played;
 mod scopes;
 

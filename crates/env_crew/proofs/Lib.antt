@@ -1,6 +1,9 @@
 pub mod Holds
+pub mod Rests
 pub mod Tasks
 pub mod Spares
-pub mod Steps
+pub mod Moves
 pub mod Time
+pub mod Done
+pub mod Pump
 pub mod Tested

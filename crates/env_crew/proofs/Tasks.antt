@@ -1,37 +1,49 @@
--- A worker's work at a task that it has taken.
-use Rattle.std.proofs.Common.{◌≡◌, ◌≢◌, ℕ, zero, suc, ◌+◌, ◌<◌, ◌≤◌, Bool, true, false, List, [], ◌∷◌, ◌++◌, length, take, drop, refl, sym, ap, ◌∙◌, append-nil, append_assoc, Option, Some, None, arith}
-use Rattle.std.specs.Prelude.{filter, is_none, slice_get}
+-- A task that a seat has taken: while its steps are done, and behind its end.
+use Rattle.std.proofs.Common.{◌≡◌, ◌≢◌, ℕ, zero, suc, ◌+◌, ◌<◌, ◌≤◌, Bool, true, false, List, [], ◌∷◌}
+use Rattle.std.proofs.Common.{◌++◌, length, take, drop, refl, sym, ap, ◌∙◌, append-nil, append_assoc, Option, Some, None, arith}
+use Rattle.std.specs.Prelude.{filter, is_none}
+use Rattle.std.specs.List.{AllByRecursion}
 use Rattle.std.proofs.lemmas.Bool.{and_parts}
 use Rattle.std.proofs.lemmas.List.{length-append}
 use Rattle.std.proofs.lemmas.Option.{same_Some}
+use Rattle.list_laws.proofs.Elements.{AllByRecursion-map}
+use Rattle.list_laws.proofs.Places.{AllByRecursion-push, slice_get_seam}
+use Rattle.list_laws.proofs.Values.{eqb-same}
 use Rattle.task_base.specs.Steps.{is_act}
 use Rattle.task_base.specs.declared.entry.Entry.{Entry}
 use Rattle.task_base.specs.declared.entry.Kind.{Kind}
 use Rattle.task_base.specs.declared.entry.Kind.TheVariants as kinds
 use Rattle.task_base.specs.declared.step.Step.{Step}
 use Rattle.task_base.specs.declared.step.Step.TheVariants as steps
-use Rattle.task_model.specs.Seats.{Running, running, running_after, holding, holding_after, is_free, acts_done, acts_after, steps_of}
+use Rattle.task_model.specs.Seats.{Running, running, running_after, holding, is_free, acts_done, acts_after, steps_of}
 use Rattle.task_model.specs.Sources.{best_of}
+use Rattle.task_model.proofs.Growth.{running_push, holding_push}
 use Rattle.hist_model.specs.Script.{is_finished}
 use Rattle.task_body.specs.Bodies.{AssignmentView}
 use Rattle.task_body.specs.Progress.{OnlyComputes, Progress}
 use Rattle.task_body.specs.declared.act.Act.{Act}
 use Rattle.task_body.specs.declared.act.Act.TheVariants as acts
-use Rattle.env_core.specs.Calls.{IsNextAct, IsSeats, CanEnd, HasTaken, HasNothing, IsOver, EntersAct, act_of, entry_of}
+use Rattle.env_core.specs.Calls.{IsNextAct, CanEnd, CanEndMain, HasTaken, HasTakenMain, HasNothing, IsOver, EntersAct, act_of, entry_of}
 use Rattle.env_core.specs.Views.{Enters}
 use Rattle.env_crew.specs.Desk.{DeskView, IsLater, Holds, as_seen, mine, view_at}
 use Rattle.env_crew.specs.Serving.{IsFree, FoundNothing, FoundEnd}
-use Rattle.env_crew.proofs.Holds.{later_trans, later_entered, mine_kept, length_entered, running_entered, holding_entered, acts_entered}
+use Rattle.env_crew.specs.Tasks.{HasDoneActs, IsUnderWay, Parted, is_acting}
+use Rattle.env_crew.proofs.Holds.{later_refl, later_trans, later_entered, mine_kept, mine_entered, running_entered, acts_entered}
+use Rattle.env_crew.proofs.Rests.{KeepsHolding, KeepsRunning, holding_stays, running_stays}
 
 -- Nothing is taken.
 
--- a desk with the same entries of its own is free as before
-pub free_kept : (old new : DeskView) → IsFree old → new.script ≡ old.script → new.seat ≡ old.seat → mine new ≡ mine old → IsFree new
-free_kept old new free script seat own = record {
+-- a worker's desk that runs and holds nothing again is free as before
+pub still_free : (old new : DeskView) → IsFree old → new.script ≡ old.script → new.seat ≡ old.seat → is_free (mine new) old.seat ≡ true → IsFree new
+still_free old new free script seat rests = record {
   worker = rw seat free.worker;
   known = rw (seat, script) free.known;
-  free = ap (λ s. is_free (mine new) s) seat ∙ ap (λ entries. is_free entries old.seat) own ∙ free.free;
+  free = ap (λ s. is_free (mine new) s) seat ∙ rests;
 }
+
+-- and so is one with the same entries of its own
+pub free_kept : (old new : DeskView) → IsFree old → new.script ≡ old.script → new.seat ≡ old.seat → mine new ≡ mine old → IsFree new
+free_kept old new free script seat own = still_free old new free script seat (ap (λ entries. is_free entries old.seat) own ∙ free.free)
 
 -- there was nothing to take
 pub found_nothing : (old new : DeskView) (past : List Entry) → Holds old past new → HasNothing (view_at old past) (as_seen new) old.seat → FoundNothing old new
@@ -48,78 +60,66 @@ found_end old new past holds over = record {
   finished = ap (λ v. is_finished v.script v.history) over.kept ∙ over.finished;
 }
 
--- The work.
+-- The take.
 
--- so many of the act steps were entered, and those of the rest were not
-pub record Parted (whole rest : List Step) (n : ℕ) : Type 0 where
-  pub done : List Step
-  pub parted : filter is_act whole ≡ done ++ filter is_act rest
-  pub count : length done ≡ n
-
--- the desk's worker is at a task that it has taken since the start
-pub record Works (start now : DeskView) (work : AssignmentView) : Type 0 where
-  pub later : IsLater start now
-  pub turned : start.turns < now.turns
-  pub longer : length (mine start) < length (mine now)
-  pub worker : 1 ≤ now.seat
-  pub known : now.seat ≤ now.script.workers
-  pub seats : IsSeats (as_seen now) now.seat work
-  pub is_pool : seats.now.is_main ≡ false
-  pub holds_none : holding (mine now) now.seat ≡ None
-  pub entered : Parted work.whole work.rest (acts_done (mine now) now.seat)
-
-none_of : {A : Type 0} (o : Option A) → is_none o ≡ true → o ≡ None
-none_of None is = refl
-none_of (Some x) is = absurd cc
-
--- it has taken a task
-pub works_behind_take : (old new : DeskView) (past : List Entry) (work : AssignmentView) → IsFree old → Holds old past new
-    → HasTaken (view_at old past) (as_seen new) old.seat work → Works old new work
-works_behind_take old new past work free holds taken =
-    let kind = kinds.Take work.task work.home work.found in
-    record {
-      later = later_entered holds kind taken.enters;
-      turned = omega (arith, holds.turned);
-      longer = omega (arith, length_entered holds kind taken.enters);
-      worker = rw holds.seat_is free.worker;
-      known = rw (holds.seat_is, holds.script_is) free.known;
-      seats = record {
-        now = record { task = work.task; home = work.home; found = work.found; is_main = false };
-        runs = running_entered holds kind taken.enters;
-        task_is = refl;
-        home_is = refl;
-        found_is = refl;
-        whole_is = taken.whole_is ∙ ap (λ s. steps_of s work.task) (sym holds.script_is);
-      };
-      is_pool = refl;
-      holds_none = holding_entered holds kind taken.enters
-          ∙ none_of (holding (mine old) old.seat) (and_parts (is_none (running (mine old) old.seat)) (is_none (holding (mine old) old.seat)) free.free).1;
-      entered = record { done = []; parted = rw taken.rest_is refl; count = sym (acts_entered holds kind taken.enters) };
-    }
-
--- it goes on without an entry where no act step was done
-works_on : (start now : DeskView) (old new : AssignmentView) → Works start now old → new ≡ record old { value = new.value; rest = new.rest }
-    → filter is_act old.rest ≡ filter is_act new.rest → Works start now new
-works_on start now old new works same none = rw same (record {
-  later = works.later;
-  turned = works.turned;
-  longer = works.longer;
-  worker = works.worker;
-  known = works.known;
+-- a seat that has taken a task by its entry is at it
+taken_by : (old new : DeskView) (past : List Entry) (work : AssignmentView) (kind : Kind) (now : Running) → old.seat ≤ old.script.workers
+    → ((before : Option Running) → running_after before kind ≡ Some now) → ((n : ℕ) → acts_after n kind ≡ 0)
+    → now ≡ record { task = work.task; home = work.home; found = work.found; is_main = now.is_main }
+    → Holds old past new → Enters (view_at old past) (as_seen new) old.seat kind
+    → work.whole ≡ steps_of old.script work.task → work.rest ≡ work.whole → IsUnderWay new work
+taken_by old new past work kind now known starts begins is holds enters whole rest = record {
+  known = rw (holds.seat_is, holds.script_is) known;
   seats = record {
-    now = works.seats.now;
-    runs = works.seats.runs;
-    task_is = works.seats.task_is;
-    home_is = works.seats.home_is;
-    found_is = works.seats.found_is;
-    whole_is = works.seats.whole_is;
+    now = now;
+    runs = running_entered holds kind enters ∙ starts (running (mine old) old.seat);
+    task_is = sym (ap (λ (w : Running). w.task) is);
+    home_is = sym (ap (λ (w : Running). w.home) is);
+    found_is = sym (ap (λ (w : Running). w.found) is);
+    whole_is = whole ∙ ap (λ s. steps_of s work.task) (sym holds.script_is) ∙ ap (λ t. steps_of new.script t) (sym (ap (λ (w : Running). w.task) is));
   };
-  is_pool = works.is_pool;
-  holds_none = works.holds_none;
   entered = record {
-    done = works.entered.done;
-    parted = works.entered.parted ∙ ap (λ s. works.entered.done ++ s) none;
-    count = works.entered.count;
+    done = [];
+    parted = ap (filter is_act) (sym rest);
+    count = sym (acts_entered holds kind enters ∙ begins (acts_done (mine old) old.seat));
+  };
+}
+
+-- a worker has taken a task of the pool
+pub under_way_behind_take : (old new : DeskView) (past : List Entry) (work : AssignmentView) → IsFree old → Holds old past new
+    → HasTaken (view_at old past) (as_seen new) old.seat work → IsUnderWay new work
+under_way_behind_take old new past work free holds taken =
+    taken_by old new past work (kinds.Take work.task work.home work.found)
+    (record { task = work.task; home = work.home; found = work.found; is_main = false }) free.known (λ before. refl) (λ n. refl) refl holds taken.enters
+    taken.whole_is taken.rest_is
+
+-- the driver has taken a main task
+pub under_way_behind_main_take : (old new : DeskView) (past : List Entry) (work : AssignmentView) → old.seat ≡ 0 → Holds old past new
+    → HasTakenMain (view_at old past) (as_seen new) old.seat work → IsUnderWay new work
+under_way_behind_main_take old new past work driver holds taken =
+    taken_by old new past work (kinds.MainTake work.task work.home work.found)
+    (record { task = work.task; home = work.home; found = work.found; is_main = true }) (omega (arith, driver)) (λ before. refl) (λ n. refl) refl holds
+    taken.enters taken.whole_is taken.rest_is
+
+-- The steps.
+
+-- the seat is as far where no act step was done
+goes_on : (now : DeskView) (old new : AssignmentView) → IsUnderWay now old → new ≡ record old { value = new.value; rest = new.rest }
+    → filter is_act old.rest ≡ filter is_act new.rest → IsUnderWay now new
+goes_on now old new under same none = rw same (record {
+  known = under.known;
+  seats = record {
+    now = under.seats.now;
+    runs = under.seats.runs;
+    task_is = under.seats.task_is;
+    home_is = under.seats.home_is;
+    found_is = under.seats.found_is;
+    whole_is = under.seats.whole_is;
+  };
+  entered = record {
+    done = under.entered.done;
+    parted = under.entered.parted ∙ ap (λ s. under.entered.done ++ s) none;
+    count = under.entered.count;
   };
 })
 
@@ -130,15 +130,20 @@ computes_first (suc n) [] computes = refl
 computes_first (suc n) (step ∷ rest) computes = rw computes.0 (computes_first n rest computes.1)
 
 -- compute steps are no entries
-pub works_behind_steps : (start now : DeskView) (old new : AssignmentView) (n : ℕ) → Works start now old
-    → Progress old.rest old.value (acts.Did n) new.rest new.value → new ≡ record old { value = new.value; rest = new.rest } → Works start now new
-works_behind_steps start now old new n works computes same =
-    works_on start now old new works same (computes_first n old.rest computes.computed ∙ ap (filter is_act) (sym computes.dropped))
+pub under_way_behind_steps : (now : DeskView) (old new : AssignmentView) (n : ℕ) → IsUnderWay now old
+    → Progress old.rest old.value (acts.Did n) new.rest new.value → new ≡ record old { value = new.value; rest = new.rest } → IsUnderWay now new
+under_way_behind_steps now old new n under computes same =
+    goes_on now old new under same (computes_first n old.rest computes.computed ∙ ap (filter is_act) (sym computes.dropped))
 
 -- nor is it an entry that no step is left
-pub works_at_last : (start now : DeskView) (old new : AssignmentView) → Works start now old
-    → Progress old.rest old.value acts.Finished new.rest new.value → new ≡ record old { value = new.value; rest = new.rest } → Works start now new
-works_at_last start now old new works rests same = works_on start now old new works same (ap (filter is_act) (rests.none ∙ sym rests.none_later))
+pub under_way_at_last : (now : DeskView) (old new : AssignmentView) → IsUnderWay now old
+    → Progress old.rest old.value acts.Finished new.rest new.value → new ≡ record old { value = new.value; rest = new.rest } → IsUnderWay now new
+under_way_at_last now old new under rests same = goes_on now old new under same (ap (filter is_act) (rests.none ∙ sym rests.none_later))
+
+-- two changes of value and rest are one
+pub stepped : (a b c : AssignmentView) → b ≡ record a { value = b.value; rest = b.rest } → c ≡ record b { value = c.value; rest = c.rest }
+    → c ≡ record a { value = c.value; rest = c.rest }
+stepped a b c first second = second ∙ ap (λ (x : AssignmentView). record x { value = c.value; rest = c.rest }) first
 
 -- The act steps.
 
@@ -162,38 +167,26 @@ is_act_first rest value (acts.Enter scope) later left progress no_steps unfinish
 is_act_first rest value acts.Leave later left progress no_steps unfinished =
     record { step = steps.Unblock; first = progress.reached; acts = refl; told = refl }
 
-slice_get-behind : {A : Type 0} (xs ys : List A) (x : A) → slice_get (xs ++ x ∷ ys) (length xs) ≡ Some x
-slice_get-behind [] ys x = refl
-slice_get-behind (y ∷ xs) ys x = slice_get-behind xs ys x
-
 -- the act steps are those that were entered, this one, and those of the steps that come later
 parted_at : (whole rest later : List Step) (n : ℕ) (act : Act) (entered : Parted whole rest n) (is : IsAct rest act later)
     → filter is_act whole ≡ entered.done ++ is.step ∷ filter is_act later
 parted_at whole rest later n act entered is = entered.parted ∙ rw (is.first, is.acts) refl
 
 -- the act that a step answers is the next one
-pub next_act_is : (start now : DeskView) (work : AssignmentView) (act : Act) (value : ℕ) (later : List Step) (left : ℕ) → Works start now work
+pub next_act_is : (now : DeskView) (work : AssignmentView) (act : Act) (value : ℕ) (later : List Step) (left : ℕ) → IsUnderWay now work
     → Progress work.rest value act later left → ((n : ℕ) → act ≢ acts.Did n) → act ≢ acts.Finished → IsNextAct (as_seen now) now.seat act
-next_act_is start now work act value later left works progress no_steps unfinished =
+next_act_is now work act value later left under progress no_steps unfinished =
     let is = is_act_first work.rest value act later left progress no_steps unfinished in
-    let parted = parted_at work.whole work.rest later (acts_done (mine now) now.seat) act works.entered is in
+    let parted = parted_at work.whole work.rest later (acts_done (mine now) now.seat) act under.entered is in
     record {
-      known = works.known;
+      known = under.known;
       step = is.step;
-      is_next = rw (works.seats.runs, ← works.seats.whole_is, parted, ← works.entered.count)
-          (slice_get-behind works.entered.done (filter is_act later) is.step);
+      is_next = rw (under.seats.runs, ← under.seats.whole_is, parted, ← under.entered.count)
+          (slice_get_seam under.entered.done is.step (filter is_act later));
       is_act = is.told;
     }
 
--- the entry of an act step
-abbrev is_acting : Kind → Bool
-is_acting (kinds.Post task runner delay ok) = true
-is_acting (kinds.Main task queue delay ok) = true
-is_acting (kinds.Enter task scope) = true
-is_acting (kinds.Leave task) = true
-is_acting kind = false
-
--- it leaves what the seat runs and holds, and counts
+-- the entry of an act is one of an act step
 acting : (t : ℕ) (act : Act) (ok : Bool) (kind : Kind) → entry_of t act ok ≡ Some kind → is_acting kind ≡ true
 acting t (acts.Post task runner delay) ok kind is = rw (← same_Some _ kind is) refl
 acting t (acts.Main task queue delay) ok kind is = rw (← same_Some _ kind is) refl
@@ -201,18 +194,23 @@ acting t (acts.Enter scope) ok kind is = rw (← same_Some _ kind is) refl
 acting t acts.Leave ok kind is = rw (← same_Some _ kind is) refl
 acting t act ok kind is = absurd cc
 
-acting_runs : (kind : Kind) (now : Option Running) → is_acting kind ≡ true → running_after now kind ≡ now
-acting_runs (kinds.Take task runner found) now acts = absurd cc
-acting_runs (kinds.End task left) now acts = absurd cc
-acting_runs (kinds.MainTake task queue found) now acts = absurd cc
-acting_runs (kinds.MainEnd task left) now acts = absurd cc
-acting_runs kind now acts = refl
+-- it leaves what the seat runs
+acting_runs : (kind : Kind) → is_acting kind ≡ true → KeepsRunning kind
+acting_runs (kinds.Post task runner delay ok) acts now = refl
+acting_runs (kinds.Main task queue delay ok) acts now = refl
+acting_runs (kinds.Enter task scope) acts now = refl
+acting_runs (kinds.Leave task) acts now = refl
+acting_runs kind acts now = absurd cc
 
-acting_holds : (kind : Kind) → is_acting kind ≡ true → holding_after None kind ≡ None
-acting_holds (kinds.JobTake job id item) acts = absurd cc
-acting_holds (kinds.JobStep job id item value next) acts = absurd cc
-acting_holds kind acts = refl
+-- and what it holds
+acting_holds : (kind : Kind) → is_acting kind ≡ true → KeepsHolding kind
+acting_holds (kinds.Post task runner delay ok) acts now = refl
+acting_holds (kinds.Main task queue delay ok) acts now = refl
+acting_holds (kinds.Enter task scope) acts now = refl
+acting_holds (kinds.Leave task) acts now = refl
+acting_holds kind acts now = absurd cc
 
+-- and counts
 acting_counts : (kind : Kind) (n : ℕ) → is_acting kind ≡ true → acts_after n kind ≡ n + 1
 acting_counts (kinds.Post task runner delay ok) n acts = refl
 acting_counts (kinds.Main task queue delay ok) n acts = refl
@@ -221,58 +219,159 @@ acting_counts (kinds.Leave task) n acts = refl
 acting_counts kind n acts = absurd cc
 
 -- the act was entered
-pub works_behind_act : (start now later : DeskView) (past : List Entry) (old new : AssignmentView) (act : Act) (ok : Bool) → Works start now old
+pub under_way_behind_act : (now later : DeskView) (past : List Entry) (old new : AssignmentView) (act : Act) (ok : Bool) → IsUnderWay now old
     → Progress old.rest old.value act new.rest new.value → new ≡ record old { value = new.value; rest = new.rest } → ((n : ℕ) → act ≢ acts.Did n)
-    → act ≢ acts.Finished → Holds now past later → EntersAct (view_at now past) (as_seen later) now.seat act ok → Works start later new
-works_behind_act start now later past old new act ok works progress same no_steps unfinished holds entered =
+    → act ≢ acts.Finished → Holds now past later → EntersAct (view_at now past) (as_seen later) now.seat act ok → IsUnderWay later new
+under_way_behind_act now later past old new act ok under progress same no_steps unfinished holds entered =
     let kind = entered.kind in
     let acts = acting entered.now.task act ok kind entered.kind_is in
     let first = is_act_first old.rest old.value act new.rest new.value progress no_steps unfinished in
     let n = acts_done (mine now) now.seat in
     rw same (record {
-      later = later_trans start now later works.later (later_entered holds kind entered.enters);
-      turned = omega (arith, works.turned, holds.turned);
-      longer = omega (arith, works.longer, length_entered holds kind entered.enters);
-      worker = rw holds.seat_is works.worker;
-      known = rw (holds.seat_is, holds.script_is) works.known;
+      known = rw (holds.seat_is, holds.script_is) under.known;
       seats = record {
-        now = works.seats.now;
-        runs = running_entered holds kind entered.enters ∙ acting_runs kind (running (mine now) now.seat) acts ∙ works.seats.runs;
-        task_is = works.seats.task_is;
-        home_is = works.seats.home_is;
-        found_is = works.seats.found_is;
-        whole_is = works.seats.whole_is ∙ ap (λ s. steps_of s works.seats.now.task) (sym holds.script_is);
+        now = under.seats.now;
+        runs = running_entered holds kind entered.enters ∙ acting_runs kind acts (running (mine now) now.seat) ∙ under.seats.runs;
+        task_is = under.seats.task_is;
+        home_is = under.seats.home_is;
+        found_is = under.seats.found_is;
+        whole_is = under.seats.whole_is ∙ ap (λ s. steps_of s under.seats.now.task) (sym holds.script_is);
       };
-      is_pool = works.is_pool;
-      holds_none = holding_entered holds kind entered.enters ∙ ap (λ h. holding_after h kind) works.holds_none ∙ acting_holds kind acts;
       entered = record {
-        done = works.entered.done ++ first.step ∷ [];
-        parted = parted_at old.whole old.rest new.rest n act works.entered first
-            ∙ sym (append_assoc works.entered.done (first.step ∷ []) (filter is_act new.rest));
-        count = length-append works.entered.done (first.step ∷ []) ∙ ap (λ m. m + 1) works.entered.count
+        done = under.entered.done ++ first.step ∷ [];
+        parted = parted_at old.whole old.rest new.rest n act under.entered first
+            ∙ sym (append_assoc under.entered.done (first.step ∷ []) (filter is_act new.rest));
+        count = length-append under.entered.done (first.step ∷ []) ∙ ap (λ m. m + 1) under.entered.count
             ∙ sym (acts_entered holds kind entered.enters ∙ acting_counts kind n acts);
       };
     })
 
+-- at first no act step is done
+pub no_acts_done : (d : DeskView) → HasDoneActs d d
+no_acts_done d = record { later = later_refl d; made = []; grows = sym (append-nil (mine d)); acts = tt }
+
+-- and then one more
+pub one_act_more : (start now later : DeskView) (past : List Entry) (act : Act) (ok : Bool) → HasDoneActs start now → Holds now past later
+    → EntersAct (view_at now past) (as_seen later) now.seat act ok → HasDoneActs start later
+one_act_more start now later past act ok did holds entered =
+    let e : Entry = record { seat = now.seat; kind = entered.kind } in
+    record {
+      later = later_trans start now later did.later (later_entered holds entered.kind entered.enters);
+      made = did.made ++ e ∷ [];
+      grows = mine_entered holds entered.kind entered.enters ∙ ap (λ own. own ++ e ∷ []) did.grows ∙ append_assoc (mine start) did.made (e ∷ []);
+      acts = AllByRecursion-push (λ (x : Entry). is_acting x.kind ≡ true) did.made e did.acts
+          (acting entered.now.task act ok entered.kind entered.kind_is);
+    }
+
 -- The end.
 
--- a worker with no step left may end
-pub may_end : (start now : DeskView) (work : AssignmentView) → Works start now work → work.rest ≡ [] → CanEnd (as_seen now) now.seat work
-may_end start now work works none = record {
-  known = works.known;
-  seats = works.seats;
-  is_pool = works.is_pool;
+-- all act steps were entered where no step is left
+all_entered : (now : DeskView) (work : AssignmentView) → IsUnderWay now work → work.rest ≡ []
+    → acts_done (mine now) now.seat ≡ length (filter is_act work.whole)
+all_entered now work under none =
+    sym (ap length under.entered.parted ∙ rw none (ap length (append-nil under.entered.done)) ∙ under.entered.count)
+
+-- a task of the pool with no step left may end
+pub may_end : (now : DeskView) (work : AssignmentView) (under : IsUnderWay now work) → under.seats.now.is_main ≡ false → work.rest ≡ []
+    → CanEnd (as_seen now) now.seat work
+may_end now work under pool none = record {
+  known = under.known;
+  seats = under.seats;
+  is_pool = pool;
   none_left = none;
-  all_entered = sym (ap length works.entered.parted ∙ rw none (ap length (append-nil works.entered.done)) ∙ works.entered.count);
+  all_entered = all_entered now work under none;
 }
 
--- and is free again
-pub free_behind_end : (start now later : DeskView) (past : List Entry) (work : AssignmentView) → Works start now work → Holds now past later
-    → Enters (view_at now past) (as_seen later) now.seat (kinds.End work.task work.value) → IsFree later
-free_behind_end start now later past work works holds entered =
-    let kind = kinds.End work.task work.value in
+-- and so may a main task
+pub may_end_main : (now : DeskView) (work : AssignmentView) (under : IsUnderWay now work) → under.seats.now.is_main ≡ true → work.rest ≡ []
+    → CanEndMain (as_seen now) now.seat work
+may_end_main now work under main none =
+    record { seats = under.seats; is_main = main; none_left = none; all_entered = all_entered now work under none }
+
+-- a task that was taken by this entry is still the one that runs, behind its act steps
+still_runs : (old taken done : DeskView) (past : List Entry) (kind : Kind) (now : Running) (work : AssignmentView)
+    → ((before : Option Running) → running_after before kind ≡ Some now) → Holds old past taken → Enters (view_at old past) (as_seen taken) old.seat kind
+    → HasDoneActs taken done → (under : IsUnderWay done work) → under.seats.now ≡ now
+still_runs old taken done past kind now work starts holds enters did under = same_Some under.seats.now now (sym under.seats.runs
+    ∙ ap (λ s. running (mine done) s) did.later.seat_is ∙ ap (λ own. running own taken.seat) did.grows
+    ∙ running_stays (mine taken) did.made taken.seat (AllByRecursion-map (λ (e : Entry). is_acting e.kind ≡ true) (λ (e : Entry). KeepsRunning e.kind) did.made
+    (λ e acts. acting_runs e.kind acts) did.acts)
+    ∙ running_entered holds kind enters ∙ starts (running (mine old) old.seat))
+
+-- the task of the pool that a worker took is still one
+pub still_pool : (old taken done : DeskView) (past : List Entry) (begun work : AssignmentView) → Holds old past taken
+    → HasTaken (view_at old past) (as_seen taken) old.seat begun → HasDoneActs taken done → (under : IsUnderWay done work)
+    → under.seats.now.is_main ≡ false
+still_pool old taken done past begun work holds took did under = ap (λ (w : Running). w.is_main)
+    (still_runs old taken done past (kinds.Take begun.task begun.home begun.found)
+    (record { task = begun.task; home = begun.home; found = begun.found; is_main = false }) work (λ before. refl) holds took.enters did under)
+
+-- the main task that the driver took is still one
+pub still_main : (old taken done : DeskView) (past : List Entry) (begun work : AssignmentView) → Holds old past taken
+    → HasTakenMain (view_at old past) (as_seen taken) old.seat begun → HasDoneActs taken done → (under : IsUnderWay done work)
+    → under.seats.now.is_main ≡ true
+still_main old taken done past begun work holds took did under = ap (λ (w : Running). w.is_main)
+    (still_runs old taken done past (kinds.MainTake begun.task begun.home begun.found)
+    (record { task = begun.task; home = begun.home; found = begun.found; is_main = true }) work (λ before. refl) holds took.enters did under)
+
+-- The whole.
+
+-- the seat took a task by one entry, did its act steps, and ended it by another
+pub record HasWorked (old new : DeskView) (take end : Kind) : Type 0 where
+  pub later : IsLater old new
+  pub turned : old.turns < new.turns
+  pub acts : List Entry
+  pub acting : AllByRecursion (λ e. is_acting e.kind ≡ true) acts
+  pub grows : mine new ≡ mine old ++ ((record { seat = old.seat; kind = take } ∷ acts) ++ record { seat = old.seat; kind = end } ∷ [])
+
+pub has_worked : (old taken done new : DeskView) (past last : List Entry) (take end : Kind) → Holds old past taken
+    → Enters (view_at old past) (as_seen taken) old.seat take → HasDoneActs taken done → Holds done last new
+    → Enters (view_at done last) (as_seen new) done.seat end → HasWorked old new take end
+has_worked old taken done new past last take end took enters did ended leaves =
+    let t : Entry = record { seat = old.seat; kind = take } in
+    let e : Entry = record { seat = old.seat; kind = end } in
     record {
-      worker = rw holds.seat_is works.worker;
-      known = rw (holds.seat_is, holds.script_is) works.known;
-      free = rw (running_entered holds kind entered, holding_entered holds kind entered, works.holds_none) refl;
+      later = later_trans old taken new (later_entered took take enters) (later_trans taken done new did.later (later_entered ended end leaves));
+      turned = omega (arith, took.turned, did.later.turned, ended.turned);
+      acts = did.made;
+      acting = did.acts;
+      grows = mine_entered ended end leaves
+          ∙ ap (λ s. mine done ++ (record { seat = s; kind = end }) ∷ []) (did.later.seat_is ∙ took.seat_is)
+          ∙ ap (λ own. own ++ e ∷ []) (did.grows ∙ ap (λ own. own ++ did.made) (mine_entered took take enters) ∙ append_assoc (mine old) (t ∷ []) did.made)
+          ∙ append_assoc (mine old) (t ∷ did.made) (e ∷ []);
     }
+
+module _ {old new : DeskView} {take end : Kind} (worked : HasWorked old new take end) where
+  t : Entry
+  t = record { seat = old.seat; kind = take }
+
+  e : Entry
+  e = record { seat = old.seat; kind = end }
+
+  -- it then has more entries
+  pub longer_behind_work : length (mine old) < length (mine new)
+  unfolding t e
+  longer_behind_work = omega (
+    arith,
+    ap length worked.grows ∙ length-append (mine old) ((t ∷ worked.acts) ++ e ∷ []),
+    length-append (t ∷ worked.acts) (e ∷ []),
+  )
+
+  -- a seat that ran and held nothing runs and holds nothing again
+  pub rests_behind_work : KeepsHolding take → KeepsHolding end → ((before : Option Running) → running_after before end ≡ None)
+      → is_free (mine old) old.seat ≡ true → is_free (mine new) old.seat ≡ true
+  unfolding t e
+  rests_behind_work takes keeps ends free =
+      let own = mine old ++ (t ∷ worked.acts) in
+      let grows : mine new ≡ own ++ e ∷ [] = worked.grows ∙ sym (append_assoc (mine old) (t ∷ worked.acts) (e ∷ [])) in
+      let ran : running (mine new) old.seat ≡ None =
+      ap (λ all. running all old.seat) grows ∙ running_push own e old.seat ∙ rw (eqb-same old.seat) (ends (running own old.seat)) in
+      let held : holding (mine new) old.seat ≡ holding (mine old) old.seat =
+      ap (λ all. holding all old.seat) grows
+      ∙ holding_push own e old.seat ∙ rw (eqb-same old.seat) (keeps (holding own old.seat))
+      ∙ holding_stays (mine old) (t ∷ worked.acts) old.seat (
+        takes,
+        AllByRecursion-map (λ (x : Entry). is_acting x.kind ≡ true)
+            (λ (x : Entry). KeepsHolding x.kind) worked.acts (λ x acts. acting_holds x.kind acts) worked.acting,
+      ) in
+      rw (ran, held) (and_parts (is_none (running (mine old) old.seat)) (is_none (holding (mine old) old.seat)) free).1

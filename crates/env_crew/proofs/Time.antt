@@ -1,7 +1,8 @@
 -- The moments of the driver's ticks are those of the clock's readings.
-use Rattle.std.proofs.Common.{◌≡◌, ℕ, ◌+◌, Bool, true, false, cond, eqb, List, [], ◌∷◌, ◌++◌, length, take, get_or, refl, sym, ap, ◌∙◌, append-nil, Option, Some, None, arith}
+use Rattle.std.proofs.Common.{◌≡◌, ℕ, ◌+◌, Bool, true, false, cond, eqb, List, [], ◌∷◌, ◌++◌}
+use Rattle.std.proofs.Common.{length, take, get_or, refl, sym, ap, ◌∙◌, append-nil, Option, Some, None, arith}
 use Rattle.std.specs.Prelude.{IfSome, fold, nat_le}
-use Rattle.std.specs.List.{cons_option}
+use Rattle.std.specs.List.{AllByRecursion, cons_option}
 use Rattle.std.proofs.lemmas.Bool.{and_parts}
 use Rattle.std.proofs.lemmas.List.{take_more, take_all, length-append, length-take-le, get_or-take}
 use Rattle.std.proofs.lemmas.List.Elements.{filter_map-append}
@@ -34,14 +35,18 @@ time_starts told = record { moments = at_first; behind = λ k. ap told (omega ar
     at_first [] begins none = refl
     at_first (r ∷ readings) begins none = absurd (omega (arith, none))
 
--- an entry that is no tick
-pub time_stays : (told now : ℕ → Option ℕ) (old new : DeskView) (kind : Kind) → moment_of kind ≡ None → mine new ≡ with_own old kind
-    → KeepsTime told now (mine old) → KeepsTime told now (mine new)
-time_stays told now old new kind none own keeps = record { moments = rw same keeps.moments; behind = rw same keeps.behind }
+-- entries that are no ticks
+pub no_ticks : (own more : List Entry) → AllByRecursion (λ e. moment_of e.kind ≡ None) more → ticks_of (own ++ more) ≡ ticks_of own
+no_ticks own more none = filter_map-append (λ (e : Entry). moment_of e.kind) own more ∙ ap (λ ticks. ticks_of own ++ ticks) (nothing more none)
+    ∙ append-nil (ticks_of own)
   where
-    same : ticks_of (mine new) ≡ ticks_of (mine old)
-    same = rw own (filter_map-append (λ (e : Entry). moment_of e.kind) (mine old) ((record { seat = old.seat; kind = kind }) ∷ [])
-        ∙ rw none (append-nil (ticks_of (mine old))))
+    nothing : (more : List Entry) → AllByRecursion (λ e. moment_of e.kind ≡ None) more → ticks_of more ≡ []
+    nothing [] none = refl
+    nothing (e ∷ more) none = rw none.0 (nothing more none.1)
+
+-- they leave the time that is kept
+pub time_stays : (told now : ℕ → Option ℕ) (old new : List Entry) → ticks_of new ≡ ticks_of old → KeepsTime told now old → KeepsTime told now new
+time_stays told now old new same keeps = record { moments = rw same keeps.moments; behind = rw same keeps.behind }
 
 -- the last of the ticks' moments is the moment that the history has come to
 last_is_now : (past : List Entry) → last_of (ticks_of past) ≡ now_of past

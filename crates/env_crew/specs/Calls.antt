@@ -1,17 +1,17 @@
 -- What each call of a desk answers: from the environment at the hold to the one that the call left.
-use Rattle.std.specs.Prelude.{◌≡◌, ◌≢◌, ℕ, Bool, not, Result, Ok, Err}
+use Rattle.std.specs.Prelude.{◌≡◌, ◌≢◌, ℕ, Bool, not, Option, Some, None, Result, Ok, Err}
 use Rattle.task_base.specs.declared.entry.Kind.{Kind}
 use Rattle.task_base.specs.declared.entry.Kind.TheVariants as kinds
 use Rattle.task_base.specs.declared.source.NotYet.{NotYet}
 use Rattle.task_model.specs.Blockers.{blockers_of}
-use Rattle.task_model.specs.Refusal.{is_refused}
+use Rattle.task_model.specs.Refusal.{is_closed, is_refused}
 use Rattle.task_model.specs.Time.{now_of}
 use Rattle.hist_model.specs.Moments.{moment_behind}
 use Rattle.shutdown_phase.specs.declared.phase_count.StillBlocked.{StillBlocked}
 use Rattle.task_body.specs.Bodies.{AssignmentView}
 use Rattle.task_body.specs.declared.act.Act.{Act}
 use Rattle.pool_core.specs.Calls.{running_tasks, is_any_ready}
-use Rattle.env_core.specs.Calls.{EntersAct, HasTaken, HasNothing, IsOver, IsIdle, lets_in}
+use Rattle.env_core.specs.Calls.{EntersAct, HasTaken, HasNothing, HasTakenMain, HasNoMain, IsOver, IsIdle, lets_in}
 use Rattle.env_core.specs.Views.{EnvView, Enters}
 use Rattle.env_crew.specs.declared.desk.Given.{Given}
 use Rattle.env_crew.specs.declared.desk.Given.TheVariants as given
@@ -24,10 +24,19 @@ HasEntered seat kind before after = Enters before after seat kind
 abbrev pub HasEnded : ℕ → AssignmentView → EnvView → EnvView → Type 0
 HasEnded seat work before after = Enters before after seat (kinds.End work.task work.value)
 
+-- the driver's main task ended, and left its value
+abbrev pub HasEndedMain : ℕ → AssignmentView → EnvView → EnvView → Type 0
+HasEndedMain seat work before after = Enters before after seat (kinds.MainEnd work.task work.value)
+
 -- the seat posted a task; the reply is false exactly where the post is refused
 pub record HasPosted (seat task runner delay : ℕ) (ok : Bool) (before after : EnvView) : Type 0 where
   pub reply : ok ≡ not (is_refused before.script before.history runner delay)
   pub enters : Enters before after seat (kinds.Post task runner delay ok)
+
+-- the seat posted a task to a main queue; the reply is false exactly where the queue is closed
+pub record HasPostedMain (seat task queue delay : ℕ) (ok : Bool) (before after : EnvView) : Type 0 where
+  pub reply : ok ≡ not (is_closed before.history queue)
+  pub enters : Enters before after seat (kinds.Main task queue delay ok)
 
 -- the seat made a tick, at the moment that the reading becomes
 pub record HasTicked (seat reading now : ℕ) (before after : EnvView) : Type 0 where
@@ -39,6 +48,11 @@ abbrev pub Gives : {W : Type 0} → (W → AssignmentView) → ℕ → Given W �
 Gives work seat (given.Task taken) before after = HasTaken before after seat (work taken)
 Gives work seat given.Nothing before after = HasNothing before after seat
 Gives work seat given.Over before after = IsOver before after
+
+-- what a take from the main queues gives the driver
+abbrev pub GivesMain : {W : Type 0} → (W → AssignmentView) → ℕ → Option W → EnvView → EnvView → Type 0
+GivesMain work seat (Some taken) before after = HasTakenMain before after seat (work taken)
+GivesMain work seat None before after = HasNoMain before after seat
 
 -- the seat's task did its next act step; the reply is false exactly where that is a post that is refused
 pub record HasActed (seat : ℕ) (act : Act) (ok : Bool) (before after : EnvView) : Type 0 where

@@ -1,8 +1,9 @@
 -- What the driver does at its desk, and what becomes of the desks that it serves while it waits.
-use Rattle.std.specs.Prelude.{◌≡◌, ℕ, ◌+◌, List, length, slice_get, Option, Some}
+use Rattle.std.specs.Prelude.{◌≡◌, ℕ, ◌+◌, true, List, [], ◌∷◌, length, slice_get, Option, Some}
 use Rattle.task_base.specs.declared.script.Action.{Action}
 use Rattle.task_base.specs.declared.entry.Entry.{Entry}
 use Rattle.task_base.specs.declared.entry.Kind.{Kind}
+use Rattle.task_model.specs.Seats.{is_free}
 use Rattle.hist_model.specs.Moments.{moments_of, ticks_of}
 use Rattle.hist_model.specs.Laws.Agenda.{agenda, agenda_from}
 use Rattle.env_io.specs.Readings.{BeginsWith}
@@ -27,6 +28,14 @@ HasMomentsOf told log = (readings : List ℕ) → BeginsWith told readings → l
 pub record KeepsTime (told now : ℕ → Option ℕ) (log : List Entry) : Type 0 where
   pub moments : HasMomentsOf told log
   pub behind : (k : ℕ) → now k ≡ told (length (ticks_of log) + k)
+
+-- the driver has done this action, with a clock that told these readings before, and those now: the next one begins, the driver
+-- runs and holds nothing, and it keeps the clock's time
+pub record HasDone (action : Action) (old new : DeskView) (told_then told_now : ℕ → Option ℕ) : Type 0 where
+  pub later : IsLater old new
+  pub next : (rest : List Action) → IsAt old (action ∷ rest) [] → IsAt new rest []
+  pub rests : is_free (mine new) 0 ≡ true
+  pub time : (told : ℕ → Option ℕ) → KeepsTime told told_then (mine old) → KeepsTime told told_now (mine new)
 
 -- each of the desks is a worker's that runs nothing
 abbrev pub AllFree : {D : Type 0} → (D → DeskView) → List D → Type 0

@@ -5,19 +5,19 @@ ghost use Rattle.task_body.specs.Progress.{Progress};
 use task_base::TaskId;
 use task_body::{Act, Assignment, TaskBody};
 
-/// A task that a worker has taken and does step by step: what a desk hands out, and takes back at the end.
+/// A task that a seat has taken and does step by step: what a desk hands out, and takes back at the end.
 ///
-/// It is what `serve` asks of a desk's assignments, whatever their bodies are (this project's own rule). A task that was
-/// taken can't be forgotten: only a desk's `end` spends it.
+/// It is what `serve` and `drive` ask of a desk's assignments, whatever their bodies are (this project's own rule). A task
+/// that was taken can't be forgotten: only a desk's `end` or `main_end` spends it.
 pub trait Assigned {
     /// The task, its home, what it found, its value now, all its steps, and those that are still to do.
     ghost work: { Self → AssignmentView };
 
-    /// The task, which the worker names at the gate.
+    /// The task, which a worker names at the gate.
     fn task(&self) -> TaskId
         ensures { result ≡ (work self.now).task };
 
-    /// One step of the body, or several compute steps at once. An act is only told: the worker enters it at its desk,
+    /// One step of the body, or several compute steps at once. An act is only told: the seat enters it at its desk,
     /// before the next step.
     fn step(&mut self) -> Act
         ensures progress { Progress (work self.old).rest (work self.old).value result (work self.new).rest (work self.new).value }

@@ -1,7 +1,8 @@
 ghost use Rattle.std.specs.Prelude.{◌≡◌, ℕ, Bool};
 ghost use Rattle.task_base.specs.declared.entry.Kind.TheVariants as kinds;
-ghost use Rattle.env_core.specs.Calls.{IsNextAct, CanEnd};
-ghost use Rattle.env_crew.specs.Calls.{Gives, HasActed, HasEnded, HasEntered, HasPosted, HasTicked, TriesDone, TriesIdle};
+ghost use Rattle.env_core.specs.Calls.{IsNextAct, CanEnd, CanEndMain};
+ghost use Rattle.env_crew.specs.Calls.{Gives, GivesMain, HasActed, HasEnded, HasEndedMain};
+ghost use Rattle.env_crew.specs.Calls.{HasEntered, HasPosted, HasPostedMain, HasTicked, TriesDone, TriesIdle};
 ghost use Rattle.env_crew.specs.Desk.{DeskView, Answers, as_seen};
 ghost use Rattle.env_crew.specs.Driving.{IsWanted};
 ghost use Rattle.env_crew.specs.Serving.{IsFree};
@@ -9,7 +10,7 @@ ghost use Rattle.env_crew.specs.Serving.{IsFree};
 use crate::assigned::Assigned;
 use shutdown_phase::StillBlocked;
 use std::sync::Wait;
-use task_base::{NotYet, Policy, RunnerId, SeatNo, TaskId};
+use task_base::{FenceAt, NotYet, Policy, QueueId, RunnerId, SeatNo, TaskId};
 use task_body::Act;
 
 /// What a worker that asks for work is given at its desk (this project's own rule).
@@ -29,7 +30,7 @@ pub enum Given<W> {
 /// never this one. Seat 0 is the driver's, which performs the script. A condition is one on the seat's own entries, so
 /// that no other seat can break it.
 pub trait Desk {
-    /// The assignment that `take` gives.
+    /// The assignment that `take` and `main_take` give.
     type Work: Assigned;
 
     /// What contracts see.
@@ -44,6 +45,11 @@ pub trait Desk {
         requires { (ok : Bool) → IsWanted (desk self.old) (kinds.Post task runner delay ok) }
         ensures { Answers (desk self.old) (desk self.new) (HasPosted (desk self.old).seat task runner delay result) };
 
+    /// The driver posts a task to a main queue, with a delay in microseconds. False where the queue is closed.
+    fn main_post<R: Wait>(&mut self, rt: &R, task: TaskId, queue: QueueId, delay: u64) -> bool
+        requires { (ok : Bool) → IsWanted (desk self.old) (kinds.Main task queue delay ok) }
+        ensures { Answers (desk self.old) (desk self.new) (HasPostedMain (desk self.old).seat task queue delay result) };
+
     /// The driver has read the clock, in microseconds. Answers the moment that is entered.
     fn tick<R: Wait>(&mut self, rt: &R, reading: u64) -> u64
         requires { (now : ℕ) → IsWanted (desk self.old) (kinds.Tick now) }
@@ -53,6 +59,43 @@ pub trait Desk {
     fn policy<R: Wait>(&mut self, rt: &R, policy: Policy)
         requires { IsWanted (desk self.old) (kinds.Policy policy) }
         ensures { Answers (desk self.old) (desk self.new) (HasEntered (desk self.old).seat (kinds.Policy policy)) };
+
+    /// The driver puts a fence into a main queue: behind all tasks that are ready by now, or before all tasks. It takes the
+    /// place of the one that stands.
+    fn fence<R: Wait>(&mut self, rt: &R, queue: QueueId, at: FenceAt)
+        requires { IsWanted (desk self.old) (kinds.Fence queue at) }
+        ensures { Answers (desk self.old) (desk self.new) (HasEntered (desk self.old).seat (kinds.Fence queue at)) };
+
+    /// The driver removes the fence of a main queue, if it has one.
+    fn unfence<R: Wait>(&mut self, rt: &R, queue: QueueId)
+        requires { IsWanted (desk self.old) (kinds.Unfence queue) }
+        ensures { Answers (desk self.old) (desk self.new) (HasEntered (desk self.old).seat (kinds.Unfence queue)) };
+
+    /// A voter of a main queue votes for it, or against it: the queue is enabled while all of its voters are for it.
+    fn vote<R: Wait>(&mut self, rt: &R, queue: QueueId, voter: u8, on: bool)
+        requires { IsWanted (desk self.old) (kinds.Vote queue voter on) }
+        ensures { Answers (desk self.old) (desk self.new) (HasEntered (desk self.old).seat (kinds.Vote queue voter on)) };
+
+    /// The driver puts a main queue in another class.
+    fn rank<R: Wait>(&mut self, rt: &R, queue: QueueId, class: u8)
+        requires { IsWanted (desk self.old) (kinds.Rank queue class) }
+        ensures { Answers (desk self.old) (desk self.new) (HasEntered (desk self.old).seat (kinds.Rank queue class)) };
+
+    /// The driver closes a main queue: its tasks that have not started never run, and it accepts no more.
+    fn close_queue<R: Wait>(&mut self, rt: &R, queue: QueueId)
+        requires { IsWanted (desk self.old) (kinds.Close queue) }
+        ensures { Answers (desk self.old) (desk self.new) (HasEntered (desk self.old).seat (kinds.Close queue)) };
+
+    /// The driver, inside a pump and with no task, takes the chosen front of the main queues. None where no front is open,
+    /// which is entered and ends the pump.
+    fn main_take<R: Wait>(&mut self, rt: &R) -> Option<Self::Work>
+        requires { IsWanted (desk self.old) kinds.MainNone }
+        ensures { Answers (desk self.old) (desk self.new) (GivesMain Self.Work.work (desk self.old).seat result) };
+
+    /// The driver has ended its main task.
+    fn main_end<R: Wait>(&mut self, rt: &R, work: Self::Work)
+        requires { CanEndMain (as_seen (desk self.old)) (desk self.old).seat (Self.Work.work work) }
+        ensures { Answers (desk self.old) (desk self.new) (HasEndedMain (desk self.old).seat (Self.Work.work work)) };
 
     /// A worker asks for work. Nothing may change to a task at any moment, Over never changes.
     fn take<R: Wait>(&mut self, rt: &R) -> Given<Self::Work>

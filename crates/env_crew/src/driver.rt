@@ -1,14 +1,16 @@
-ghost use Rattle.std.specs.Prelude.{◌≡◌, ℕ, List, [], ◌∷◌, true, Option};
+ghost use Rattle.std.specs.Prelude.{◌≡◌, ℕ, ◌≤◌, List, [], ◌∷◌, true, Option};
 ghost use Rattle.task_base.specs.declared.entry.Kind.TheVariants as kinds;
 ghost use Rattle.task_base.specs.declared.script.Action.{Action};
 ghost use Rattle.task_base.specs.declared.script.Action.TheVariants as actions;
 ghost use Rattle.task_model.specs.Seats.{is_free};
 ghost use Rattle.hist_model.specs.Script.{is_finished};
-ghost use Rattle.env_core.specs.Built.{IsPoolPlan, is_pool_action};
+ghost use Rattle.env_core.specs.Built.{IsBuilt};
+ghost use Rattle.script_model.specs.Laws.Sound.{IsActionSound};
 ghost use Rattle.env_crew.specs.Desk.{IsLater, mine, with_own};
-ghost use Rattle.env_crew.specs.Driving.{AllFree, IsAt, IsWanted, KeepsTime, SameDesks};
+ghost use Rattle.env_crew.specs.Driving.{AllFree, HasDone, IsAt, IsWanted, KeepsTime, SameDesks};
 
 use crate::desk::Desk;
+use crate::steps::do_steps;
 use crate::worker::serve;
 use crossbeam_utils::Backoff;
 use env_io::{Clock, Gate};
@@ -76,14 +78,30 @@ fn finish_shutdown<D: Desk, G: Gate, R: Wait>(rt: &R, desk: &mut D, spare: &mut 
 fn tick<D: Desk, C: Clock, R: Wait>(rt: &R, desk: &mut D, clock: &mut C, count: u32)
     requires driver { (D.desk desk.old).seat ≡ 0 }
     requires at { (rest : List Action) × IsAt (D.desk desk.old) (actions.Tick count ∷ rest) [] }
-    ensures later { IsLater (D.desk desk.old) (D.desk desk.new) }
-    ensures next { (rest : List Action) → IsAt (D.desk desk.old) (actions.Tick count ∷ rest) [] → IsAt (D.desk desk.new) rest [] }
-    ensures rests { is_free (mine (D.desk desk.new)) 0 ≡ is_free (mine (D.desk desk.old)) 0 }
-    ensures time { (told : ℕ → Option ℕ) → KeepsTime told (C.readings clock.old) (mine (D.desk desk.old))
-        → KeepsTime told (C.readings clock.new) (mine (D.desk desk.new)) }
+    requires rests { is_free (mine (D.desk desk.old)) 0 ≡ true }
+    ensures { HasDone (actions.Tick count) (D.desk desk.old) (D.desk desk.new) (C.readings clock.old) (C.readings clock.new) }
 {
     for _ in 0..count {
         desk.tick(rt, clock.now());
+    }
+}
+
+/// Runs main tasks to their ends, one after the other, until so many were run or no front is open.
+fn pump<D: Desk, R: Wait>(rt: &R, desk: &mut D, count: u32)
+    requires driver { (D.desk desk.old).seat ≡ 0 }
+    requires some { 1 ≤ count }
+    requires at { (rest : List Action) × IsAt (D.desk desk.old) (actions.Pump count ∷ rest) [] }
+    requires rests { is_free (mine (D.desk desk.old)) 0 ≡ true }
+    ensures { (clock : ℕ → Option ℕ) → HasDone (actions.Pump count) (D.desk desk.old) (D.desk desk.new) clock clock }
+{
+    for _ in 0..count {
+        match desk.main_take(rt) {
+            Some(work) => {
+                let work = do_steps(rt, desk, work);
+                desk.main_end(rt, work);
+            }
+            None => return,
+        }
     }
 }
 
@@ -97,14 +115,12 @@ fn perform<D: Desk, C: Clock, G: Gate, R: Wait>(
     gate: &G,
 )
     requires driver { (D.desk desk.old).seat ≡ 0 }
-    requires of_pool { is_pool_action action ≡ true }
+    requires no_jobs { (D.desk desk.old).script.jobs ≡ [] }
+    requires sound { IsActionSound (D.desk desk.old).script action }
     requires at { (rest : List Action) × IsAt (D.desk desk.old) (action ∷ rest) [] }
+    requires rests { is_free (mine (D.desk desk.old)) 0 ≡ true }
     requires free { AllFree D.desk spare.old.items }
-    ensures later { IsLater (D.desk desk.old) (D.desk desk.new) }
-    ensures next { (rest : List Action) → IsAt (D.desk desk.old) (action ∷ rest) [] → IsAt (D.desk desk.new) rest [] }
-    ensures rests { is_free (mine (D.desk desk.new)) 0 ≡ is_free (mine (D.desk desk.old)) 0 }
-    ensures time { (told : ℕ → Option ℕ) → KeepsTime told (C.readings clock.old) (mine (D.desk desk.old))
-        → KeepsTime told (C.readings clock.new) (mine (D.desk desk.new)) }
+    ensures done { HasDone action (D.desk desk.old) (D.desk desk.new) (C.readings clock.old) (C.readings clock.new) }
     ensures free { AllFree D.desk spare.new.items }
     ensures same { SameDesks D.desk spare.old.items spare.new.items }
 {
@@ -116,18 +132,27 @@ fn perform<D: Desk, C: Clock, G: Gate, R: Wait>(
         } => {
             desk.post(rt, task, runner, delay);
         }
+        Action::Main { task, queue, delay } => {
+            desk.main_post(rt, task, queue, delay);
+        }
         Action::Tick { count } => tick(rt, desk, clock, count),
         Action::Policy { policy } => desk.policy(rt, policy),
+        Action::Fence { queue, at } => desk.fence(rt, queue, at),
+        Action::Unfence { queue } => desk.unfence(rt, queue),
+        Action::Vote { queue, voter, on } => desk.vote(rt, queue, voter, on),
+        Action::Rank { queue, class } => desk.rank(rt, queue, class),
+        Action::Close { queue } => desk.close_queue(rt, queue),
+        Action::Pump { count } => pump(rt, desk, count),
         Action::Flush => flush(rt, desk, spare, gate),
         Action::Shutdown => {
             desk.start_shutdown(rt);
             finish_shutdown(rt, desk, spare, gate);
         }
-        _ => unreachable!(),
+        Action::StartJob { .. } | Action::Join { .. } | Action::Cancel { .. } => unreachable!(),
     }
 }
 
-/// Performs a script of the pool from its start, at the driver's desk. While an action waits, it serves the spare desks,
+/// Performs a script without jobs from its start, at the driver's desk. While an action waits, it serves the spare desks,
 /// each once in a round, and then waits a little: those are the desks of workers that got no thread of their own. Each
 /// tick reads the clock once.
 pub fn drive<D: Desk, C: Clock, G: Gate, R: Wait>(
@@ -138,7 +163,7 @@ pub fn drive<D: Desk, C: Clock, G: Gate, R: Wait>(
     clock: &mut C,
     gate: &G,
 )
-    requires plan { IsPoolPlan script.now }
+    requires plan { IsBuilt script.now }
     requires script { (D.desk desk.old).script ≡ script.now }
     requires driver { (D.desk desk.old).seat ≡ 0 }
     requires start { mine (D.desk desk.old) ≡ [] }

@@ -5,6 +5,7 @@
 mod assigned;
 mod desk;
 mod driver;
+mod steps;
 mod worker;
 
 pub use assigned::Assigned;

@@ -11,8 +11,8 @@ use std::marker::Model;
 use std::sync::Wait;
 use std::test::Fail;
 use task_base::{
-    Action, Behaviour, Entry, Kind, NotYet, Policy, Priority, Rows, Runner, RunnerId, RunnerKind,
-    Script, SeatNo, Step, Task, TaskId, Traits,
+    Action, Behaviour, Entry, FenceAt, Kind, NotYet, Policy, Priority, QueueId, Rows, Runner,
+    RunnerId, RunnerKind, Script, SeatNo, Step, Task, TaskId, Traits,
 };
 use task_body::{Act, Assignment, ScriptBody, Taken, TaskBody};
 
@@ -70,6 +70,11 @@ impl<B: TaskBody> Desk for LoneDesk<B> {
         self.env.post(self.seat, task, runner, delay)
     }
 
+    fn main_post<R: Wait>(&mut self, rt: &R, task: TaskId, queue: QueueId, delay: u64) -> bool {
+        self.turns = one_more(rt, self.turns);
+        self.env.main_post(self.seat, task, queue, delay)
+    }
+
     fn tick<R: Wait>(&mut self, rt: &R, reading: u64) -> u64 {
         self.turns = one_more(rt, self.turns);
         self.env.tick(self.seat, reading)
@@ -78,6 +83,41 @@ impl<B: TaskBody> Desk for LoneDesk<B> {
     fn policy<R: Wait>(&mut self, rt: &R, policy: Policy) {
         self.turns = one_more(rt, self.turns);
         self.env.policy(self.seat, policy);
+    }
+
+    fn fence<R: Wait>(&mut self, rt: &R, queue: QueueId, at: FenceAt) {
+        self.turns = one_more(rt, self.turns);
+        self.env.fence(self.seat, queue, at);
+    }
+
+    fn unfence<R: Wait>(&mut self, rt: &R, queue: QueueId) {
+        self.turns = one_more(rt, self.turns);
+        self.env.unfence(self.seat, queue);
+    }
+
+    fn vote<R: Wait>(&mut self, rt: &R, queue: QueueId, voter: u8, on: bool) {
+        self.turns = one_more(rt, self.turns);
+        self.env.vote(self.seat, queue, voter, on);
+    }
+
+    fn rank<R: Wait>(&mut self, rt: &R, queue: QueueId, class: u8) {
+        self.turns = one_more(rt, self.turns);
+        self.env.rank(self.seat, queue, class);
+    }
+
+    fn close_queue<R: Wait>(&mut self, rt: &R, queue: QueueId) {
+        self.turns = one_more(rt, self.turns);
+        self.env.close_queue(self.seat, queue);
+    }
+
+    fn main_take<R: Wait>(&mut self, rt: &R) -> Option<Assignment<B>> {
+        self.turns = one_more(rt, self.turns);
+        self.env.main_take(self.seat)
+    }
+
+    fn main_end<R: Wait>(&mut self, rt: &R, work: Assignment<B>) {
+        self.turns = one_more(rt, self.turns);
+        self.env.main_end(self.seat, work);
     }
 
     fn take<R: Wait>(&mut self, rt: &R) -> Given<Assignment<B>> {

@@ -5,10 +5,10 @@ ghost use Rattle.env_crew.specs.Serving.{HasServed, IsFree};
 
 use crate::assigned::Assigned;
 use crate::desk::{Desk, Given};
+use crate::steps::do_steps;
 use crossbeam_utils::Backoff;
 use env_io::Gate;
 use std::sync::Wait;
-use task_body::Act;
 
 /// What a worker did when it was served once.
 #[derive(Clone, Copy, Debug, PartialEq, Eq)]
@@ -30,21 +30,13 @@ pub fn serve<D: Desk, G: Gate, R: Wait>(rt: &R, desk: &mut D, gate: &G) -> Serve
     ensures turned { (D.desk desk.old).turns < (D.desk desk.new).turns }
     ensures served { HasServed (D.desk desk.old) (D.desk desk.new) result }
 {
-    let mut work = match desk.take(rt) {
+    let work = match desk.take(rt) {
         Given::Task(work) => work,
         Given::Nothing => return Served::Nothing,
         Given::Over => return Served::Over,
     };
     gate.before(desk.number(), work.task());
-    loop {
-        match work.step() {
-            Act::Did(_) => {}
-            Act::Finished => break,
-            act => {
-                desk.act(rt, act);
-            }
-        }
-    }
+    let work = do_steps(rt, desk, work);
     desk.end(rt, work);
     Served::Worked
 }

@@ -1,3 +1,4 @@
+pub mod Sits
 pub mod Refusals
 pub mod Tested
 pub mod Crossing

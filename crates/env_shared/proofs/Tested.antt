@@ -19,7 +19,7 @@ use Rattle.hist_model.specs.Script.{current, is_wanted}
 use Rattle.hist_model.specs.Views.{own_entries}
 use Rattle.hist_model.specs.Allowed.{IsAllowed}
 use Rattle.turn_table.specs.Seats.{EntersOne, TurnKey, SeatView}
-use Rattle.env_core.specs.Built.{IsPoolPlan}
+use Rattle.env_core.specs.Built.{IsBuilt}
 use Rattle.env_core.specs.Calls.{IsWantedNext}
 use Rattle.env_core.specs.Views.{EnvView, Enters}
 use Rattle.env_core.proofs.Tested.{first_plan}
@@ -28,7 +28,8 @@ use Rattle.env_crew.specs.Driving.{IsWanted}
 use Rattle.env_crew.specs.Serving.{IsFree}
 use Rattle.env_crew.proofs.Holds.{mine_entered, mine_kept}
 use Rattle.env_crew.proofs.Tasks.{free_kept}
-use Rattle.env_shared.specs.Sits.{Seated, desk_of}
+use Rattle.env_core.proofs.Small.{config_sound, limits_sound}
+use Rattle.env_shared.specs.Sits.{desk_of}
 use Rattle.env_shared.specs.Samples.{CanAsk, closing_plan, driver_seat, quiet_plan, worker_seat}
 
 -- The scripts.
@@ -37,30 +38,12 @@ quiet_in_order : (k : ℕ) (action : Action) → slice_get quiet_plan.actions k 
 quiet_in_order zero action here = subst (IsInOrder []) (some-injective here) tt
 quiet_in_order (suc k) action here = absurd (none-some action here)
 
-pub quiet_is_plan : IsPoolPlan quiet_plan
+pub quiet_is_plan : IsBuilt quiet_plan
 unfolding postings
 quiet_is_plan = record {
   sound = record {
-    config = record {
-      some_workers = omega arith;
-      few_workers = omega arith;
-      some_foreground = omega arith;
-      few_foreground = omega arith;
-      some_best = omega arith;
-      best_within = omega arith;
-      few_background = omega arith;
-      threshold_within = omega arith;
-    };
-    limits = record {
-      few_runners = omega arith;
-      few_queues = omega arith;
-      few_tasks = omega arith;
-      few_jobs = omega arith;
-      few_items = omega arith;
-      few_steps = omega arith;
-      few_ticks = omega arith;
-      few_events = omega arith;
-    };
+    config = config_sound quiet_plan refl;
+    limits = limits_sound quiet_plan refl;
     declarations = record {
       seats_there = tt;
       queues_within = tt;
@@ -71,8 +54,6 @@ quiet_is_plan = record {
     once = record { posted_once = λ t. omega arith; started_once = λ j. omega arith; one_shutdown = omega arith };
   };
   no_jobs = refl;
-  no_main_steps = tt;
-  pool_actions = (refl, tt);
 }
 
 closing_tasks_sound : (t : ℕ) (task : List Step) → slice_get closing_plan.tasks t ≡ Some task → IsTaskSound closing_plan t task
@@ -89,29 +70,11 @@ closing_posted_once : IsPostedOnce closing_plan
 unfolding postings
 closing_posted_once = (posted_once_decides closing_plan).0 refl
 
-pub closing_is_plan : IsPoolPlan closing_plan
+pub closing_is_plan : IsBuilt closing_plan
 closing_is_plan = record {
   sound = record {
-    config = record {
-      some_workers = omega arith;
-      few_workers = omega arith;
-      some_foreground = omega arith;
-      few_foreground = omega arith;
-      some_best = omega arith;
-      best_within = omega arith;
-      few_background = omega arith;
-      threshold_within = omega arith;
-    };
-    limits = record {
-      few_runners = omega arith;
-      few_queues = omega arith;
-      few_tasks = omega arith;
-      few_jobs = omega arith;
-      few_items = omega arith;
-      few_steps = omega arith;
-      few_ticks = omega arith;
-      few_events = omega arith;
-    };
+    config = config_sound closing_plan refl;
+    limits = limits_sound closing_plan refl;
     declarations = record { seats_there = (tt, tt); queues_within = tt; tasks_sound = closing_tasks_sound; jobs_sound = tt };
     actions = record {
       each_sound = (
@@ -123,8 +86,6 @@ closing_is_plan = record {
     once = record { posted_once = closing_posted_once; started_once = λ j. omega arith; one_shutdown = omega arith };
   };
   no_jobs = refl;
-  no_main_steps = (refl, tt);
-  pool_actions = (refl, (refl, tt));
 }
 
 -- What they want.
@@ -241,11 +202,6 @@ waits_on start old new past waits holds kept = record {
   number_is = holds.seat_is ∙ waits.number_is;
   free = free_kept (desk_of old) (desk_of new) waits.free holds.script_is holds.seat_is (mine_kept holds kept);
 }
-
--- the shared environment of the seat that leaves
-pub leaves_of : (start now out : SeatView) → Waits start now → start.of.stands ≡ true → out ≡ now → Seated out → out.of ≡ start.of
-leaves_of start now out waits stands same seated =
-    rw (← waits.table_is, ← waits.script_is, ← same, ← (seated.stands ∙ sym stands)) refl
 
 -- it may ask for a task
 pub can_ask : (key : TurnKey) (script : Plan) (n : ℕ) (s : SeatView) → s ≡ worker_seat key n → key.basis ≡ script → 1 ≤ n → n ≤ script.workers → CanAsk key s

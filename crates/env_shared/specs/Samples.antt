@@ -8,8 +8,11 @@ use Rattle.task_base.specs.declared.script.Action.TheVariants as actions
 use Rattle.task_base.specs.declared.script.RunnerKind.TheVariants as runners
 use Rattle.task_base.specs.declared.step.Scope.TheVariants as scopes
 use Rattle.task_base.specs.declared.step.Step.TheVariants as steps
+use Rattle.task_body.specs.Bodies.{AssignmentView}
 use Rattle.turn_table.specs.Seats.{TurnKey, SeatView}
+use Rattle.env_crew.specs.Desk.{DeskView}
 use Rattle.env_crew.specs.Serving.{IsFree}
+use Rattle.env_crew.specs.Tasks.{IsUnderWay}
 use Rattle.env_shared.specs.Sits.{desk_of}
 
 -- two workers, and a driver that puts a policy in force
@@ -82,3 +85,8 @@ pub record CanAsk (key : TurnKey) (seat : SeatView) : Type 0 where
   pub of_is : seat.of ≡ key
   pub known : seat.number ≤ key.basis.workers
   pub free : IsFree (desk_of seat)
+
+-- the worker at this desk is at a task of the pool that it has taken, and has entered the act steps that are done
+pub record IsAtTask (d : DeskView) (work : AssignmentView) : Type 0 where
+  pub under_way : IsUnderWay d work
+  pub is_pool : under_way.seats.now.is_main ≡ false

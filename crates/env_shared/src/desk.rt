@@ -11,7 +11,7 @@ use env_crew::{Desk, Given};
 use shutdown_phase::StillBlocked;
 use std::marker::Model;
 use std::sync::Wait;
-use task_base::{Behaviour, NotYet, Policy, RunnerId, SeatNo, TaskId};
+use task_base::{Behaviour, FenceAt, NotYet, Policy, QueueId, RunnerId, SeatNo, TaskId};
 use task_body::{Act, Assignment, Taken, TaskBody};
 
 /// A desk of an environment that is shared: a seat, with the turn that it takes at each call.
@@ -107,6 +107,17 @@ impl<'a, B: TaskBody> Desk for SharedDesk<'a, B> {
         ok
     }
 
+    fn main_post<R: Wait>(&mut self, rt: &R, task: TaskId, queue: QueueId, delay: u64) -> bool {
+        let shared = self.shared;
+        let turnstile = &shared.turnstile;
+        let seat = self.seat.take().unwrap();
+        let number = seat.number();
+        let (mut env, holding) = turnstile.turn(rt, seat);
+        let ok = env.main_post(number, task, queue, delay);
+        self.seat = Some(turnstile.enter(env, holding));
+        ok
+    }
+
     fn tick<R: Wait>(&mut self, rt: &R, reading: u64) -> u64 {
         let shared = self.shared;
         let turnstile = &shared.turnstile;
@@ -125,6 +136,84 @@ impl<'a, B: TaskBody> Desk for SharedDesk<'a, B> {
         let number = seat.number();
         let (mut env, holding) = turnstile.turn(rt, seat);
         env.policy(number, policy);
+        self.seat = Some(turnstile.enter(env, holding));
+    }
+
+    fn fence<R: Wait>(&mut self, rt: &R, queue: QueueId, at: FenceAt) {
+        let shared = self.shared;
+        let turnstile = &shared.turnstile;
+        let seat = self.seat.take().unwrap();
+        let number = seat.number();
+        let (mut env, holding) = turnstile.turn(rt, seat);
+        env.fence(number, queue, at);
+        self.seat = Some(turnstile.enter(env, holding));
+    }
+
+    fn unfence<R: Wait>(&mut self, rt: &R, queue: QueueId) {
+        let shared = self.shared;
+        let turnstile = &shared.turnstile;
+        let seat = self.seat.take().unwrap();
+        let number = seat.number();
+        let (mut env, holding) = turnstile.turn(rt, seat);
+        env.unfence(number, queue);
+        self.seat = Some(turnstile.enter(env, holding));
+    }
+
+    fn vote<R: Wait>(&mut self, rt: &R, queue: QueueId, voter: u8, on: bool) {
+        let shared = self.shared;
+        let turnstile = &shared.turnstile;
+        let seat = self.seat.take().unwrap();
+        let number = seat.number();
+        let (mut env, holding) = turnstile.turn(rt, seat);
+        env.vote(number, queue, voter, on);
+        self.seat = Some(turnstile.enter(env, holding));
+    }
+
+    fn rank<R: Wait>(&mut self, rt: &R, queue: QueueId, class: u8) {
+        let shared = self.shared;
+        let turnstile = &shared.turnstile;
+        let seat = self.seat.take().unwrap();
+        let number = seat.number();
+        let (mut env, holding) = turnstile.turn(rt, seat);
+        env.rank(number, queue, class);
+        self.seat = Some(turnstile.enter(env, holding));
+    }
+
+    fn close_queue<R: Wait>(&mut self, rt: &R, queue: QueueId) {
+        let shared = self.shared;
+        let turnstile = &shared.turnstile;
+        let seat = self.seat.take().unwrap();
+        let number = seat.number();
+        let (mut env, holding) = turnstile.turn(rt, seat);
+        env.close_queue(number, queue);
+        self.seat = Some(turnstile.enter(env, holding));
+    }
+
+    fn main_take<R: Wait>(&mut self, rt: &R) -> Option<Assignment<B>> {
+        let shared = self.shared;
+        let turnstile = &shared.turnstile;
+        let seat = self.seat.take().unwrap();
+        let number = seat.number();
+        let (mut env, holding) = turnstile.turn(rt, seat);
+        match env.main_take(number) {
+            Some(work) => {
+                self.seat = Some(turnstile.enter(env, holding));
+                Some(work)
+            }
+            None => {
+                self.seat = Some(turnstile.enter(env, holding));
+                None
+            }
+        }
+    }
+
+    fn main_end<R: Wait>(&mut self, rt: &R, work: Assignment<B>) {
+        let shared = self.shared;
+        let turnstile = &shared.turnstile;
+        let seat = self.seat.take().unwrap();
+        let number = seat.number();
+        let (mut env, holding) = turnstile.turn(rt, seat);
+        env.main_end(number, work);
         self.seat = Some(turnstile.enter(env, holding));
     }
 

@@ -1,6 +1,6 @@
 ghost use Rattle.std.specs.Prelude.{◌≡◌, ◌<◌, ◌≤◌, ◌+◌, ◌^◌, [], length, true, false, IfOk};
 ghost use Rattle.std.specs.List.{AllByRecursion};
-ghost use Rattle.env_core.specs.Built.{IsPoolPlan};
+ghost use Rattle.env_core.specs.Built.{IsBuilt};
 ghost use Rattle.env_core.specs.Calls.{AreFresh};
 ghost use Rattle.hist_model.specs.Legal.{IsLegal};
 ghost use Rattle.turn_table.specs.Seats.{Rising, Tells, closed};
@@ -28,25 +28,25 @@ pub struct Shared<B: TaskBody> {
 
 impl<B: TaskBody> Model for Shared<B> {
     ghost use Rattle.std.specs.Prelude.{◌≡◌, true};
-    ghost use Rattle.env_core.specs.Built.{IsPoolPlan};
+    ghost use Rattle.env_core.specs.Built.{IsBuilt};
     ghost use Rattle.turn_table.specs.Seats.{TurnKey};
 
     ghost Value = { TurnKey };
 
     ghost view = { λ s. s.turnstile };
 
-    ghost invariant = { λ s. IsPoolPlan s.turnstile.basis × (s.turnstile.stands ≡ true) };
+    ghost invariant = { λ s. IsBuilt s.turnstile.basis × (s.turnstile.stands ≡ true) };
 }
 
 impl<B: TaskBody> Shared<B> {
-    /// Opens the environment of a script of the pool alone, with a body for each task, and gives the driver's seat. The
-    /// error is want of memory, and nothing was entered.
+    /// Opens the environment of a script without jobs, with a body for each task, and gives the driver's seat. The error
+    /// is want of memory, and nothing was entered.
     pub fn open(
         alloc: Global,
         script: Script,
         bodies: Vec<Box<B>>,
     ) -> Result<(Shared<B>, EnvSeat<B>), AllocError>
-        requires plan { IsPoolPlan script }
+        requires plan { IsBuilt script }
         requires bodies { AreFresh bodies.items (λ body. B.whole body.value) (λ body. B.rest body.value) script }
         ensures script { IfOk result (λ made. made.0.basis ≡ script) }
         ensures stands { IfOk result (λ made. made.0.stands ≡ true) }

@@ -1,7 +1,6 @@
-//! Scripts of the pool, and bodies whose runs and lives a test counts.
+//! Scripts without jobs, and bodies whose runs and lives a test counts.
 ghost use Rattle.std.specs.Prelude.{◌≡◌, ◌∷◌, [], false, true, length, slice_get, IfOk, Some};
-ghost use Rattle.std.specs.List.{list_any, AllByRecursion};
-ghost use Rattle.env_core.specs.Built.{IsPoolPlan, is_pool_action, posts_to_main};
+ghost use Rattle.env_core.specs.Built.{IsBuilt};
 ghost use Rattle.env_core.specs.Calls.{AreFresh};
 ghost use Rattle.task_base.specs.Steps.{is_act};
 ghost use Rattle.task_body.specs.Kinds.{view_of};
@@ -10,7 +9,7 @@ use std::alloc::{AllocError, Global};
 use std::process::Abort;
 use std::sync::Arc;
 use std::sync::atomic::{AtomicU64, Ordering};
-use task_base::{Action, Rows, Script, Step, Task, apply};
+use task_base::{Script, Step, Task, apply};
 use task_body::{Body, OnceBody, ScriptBody, Work};
 use task_script::read_script;
 
@@ -32,9 +31,9 @@ impl Work for Counted {
     }
 }
 
-/// The script of a text, which has two workers and is of the pool alone.
+/// The script of a text, which has two workers and no jobs.
 pub fn script_of(rt: &impl Abort, alloc: Global, text: &str) -> Script
-    ensures plan { IsPoolPlan result }
+    ensures plan { IsBuilt result }
     ensures two { result.workers ≡ 2 }
 {
     assert!(rt; text.len() <= 4_294_967_294);
@@ -43,42 +42,7 @@ pub fn script_of(rt: &impl Abort, alloc: Global, text: &str) -> Script
     };
     assert!(rt; script.workers == 2);
     assert!(rt; script.jobs.is_empty());
-    assert!(rt; never_post_to_main(script.tasks.as_slice()));
-    assert!(rt; are_of_the_pool(script.actions.as_slice()));
     script
-}
-
-// Whether no task posts to a main queue.
-fn never_post_to_main(tasks: &[Task]) -> bool
-    ensures { result ≡ true → AllByRecursion (λ steps. list_any posts_to_main steps ≡ false) tasks.now }
-{
-    tasks.iter().all(|task| !posts_to_main(task))
-}
-
-// Whether a task posts to a main queue.
-fn posts_to_main(task: &Task) -> bool
-    ensures { result ≡ list_any posts_to_main task.now }
-{
-    task.steps
-        .as_slice()
-        .iter()
-        .any(|step| matches!(step, Step::Main { .. }))
-}
-
-// Whether no action names a main queue or a job.
-fn are_of_the_pool(actions: &[Action]) -> bool
-    ensures { result ≡ true → AllByRecursion (λ action. is_pool_action action ≡ true) actions.now }
-{
-    actions.iter().all(|action| {
-        matches!(
-            action,
-            Action::Post { .. }
-                | Action::Tick { .. }
-                | Action::Policy { .. }
-                | Action::Flush
-                | Action::Shutdown
-        )
-    })
 }
 
 /// A body for each task of a script. That of a task of one compute step does it at once, and counts its run.

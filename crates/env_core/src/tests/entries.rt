@@ -1,5 +1,5 @@
 //! Entries of a history, each in one word.
-use task_base::{Entry, Kind, RunnerId, Scope, SeatNo, TaskId};
+use task_base::{Entry, Kind, QueueId, RunnerId, Scope, SeatNo, TaskId};
 
 /// A post, and whether it is accepted.
 pub fn post(seat: SeatNo, task: TaskId, runner: RunnerId, delay: u64, ok: bool) -> Entry {
@@ -10,6 +10,27 @@ pub fn post(seat: SeatNo, task: TaskId, runner: RunnerId, delay: u64, ok: bool) 
         ok,
     };
     Entry { seat, kind }
+}
+
+/// A post to a main queue, and whether it is accepted.
+pub fn main_post(seat: SeatNo, task: TaskId, queue: QueueId, delay: u64, ok: bool) -> Entry {
+    let kind = Kind::Main {
+        task,
+        queue,
+        delay,
+        ok,
+    };
+    Entry { seat, kind }
+}
+
+/// The take of a main task, with what it finds.
+pub fn main_take(task: TaskId, queue: QueueId, found: u64) -> Entry {
+    driver(Kind::MainTake { task, queue, found })
+}
+
+/// The end of a main task, with what it leaves.
+pub fn main_end(task: TaskId, left: u64) -> Entry {
+    driver(Kind::MainEnd { task, left })
 }
 
 /// A reading of the clock by the driver.

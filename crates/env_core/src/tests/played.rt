@@ -1,6 +1,6 @@
 //! An environment with what a test knows of its history, so that a test is a list of calls.
 ghost use Rattle.std.specs.Prelude.{◌≡◌, ◌≤◌, slice_get, slice_set, Some, None, true, false};
-ghost use Rattle.env_core.specs.Built.{IsPoolPlan};
+ghost use Rattle.env_core.specs.Built.{IsBuilt};
 ghost use Rattle.env_core.specs.Calls.{AreFresh, EntersAct, IsNextAct};
 ghost use Rattle.env_core.specs.Played.{makes_entry};
 ghost use Rattle.task_body.specs.Kinds.{view_of};
@@ -20,9 +20,15 @@ use task_body::{Act, Assignment, Body, Taken};
 pub enum Call {
     /// The task, and whether its post is accepted.
     Post(TaskId, bool),
+    /// The task, and whether its post to a main queue is accepted.
+    Main(TaskId, bool),
     /// The reading of the clock, and the moment that is entered.
     Tick(u64, u64),
     Policy,
+    Fence,
+    Close,
+    /// The main task that the driver takes and ends; none where no front is open, which completes the pump.
+    Pump(Option<TaskId>),
     /// The seat, and the task that it takes.
     Take(SeatNo, Option<TaskId>),
     /// The seat, for which there will be nothing any more.
@@ -67,7 +73,7 @@ impl Played {
         script: Script,
         bodies: Vec<Box<Body<Counted>>>,
     ) -> Result<Played, AllocError>
-        requires plan { IsPoolPlan script }
+        requires plan { IsBuilt script }
         requires two { script.workers ≡ 2 }
         requires bodies { AreFresh bodies.items (λ body. (view_of body.value).whole) (λ body. (view_of body.value).rest) script }
     {
@@ -100,7 +106,13 @@ impl Played {
             Call::Tick(reading, moment) => {
                 assert_eq!(rt; self.tick(rt, reading), moment, "call {at}");
             }
+            Call::Main(task, accepted) => {
+                assert_eq!(rt; self.main_post(rt), (task, accepted), "call {at}");
+            }
             Call::Policy => self.policy(rt),
+            Call::Fence => self.fence(rt),
+            Call::Close => self.close_queue(rt),
+            Call::Pump(task) => assert_eq!(rt; self.pump(rt), task, "call {at}"),
             Call::Take(seat, task) => {
                 assert_eq!(rt; self.take(rt, seat), Some(task), "call {at}");
             }
@@ -163,6 +175,55 @@ impl Played {
         };
         self.env.policy(0, policy);
         self.agenda.entered(&self.script);
+    }
+
+    /// The driver posts the next task to a main queue, and says which and whether it was accepted.
+    pub fn main_post(&mut self, rt: &impl Abort) -> (TaskId, bool) {
+        let Action::Main { task, queue, delay } = action_at(rt, &self.script, self.agenda) else {
+            panic!(rt; "the script wants no post to a main queue")
+        };
+        let accepted = self.env.main_post(0, task, queue, delay);
+        self.agenda.entered(&self.script);
+        (task, accepted)
+    }
+
+    /// The driver puts the next fence into its queue.
+    pub fn fence(&mut self, rt: &impl Abort) {
+        let Action::Fence { queue, at } = action_at(rt, &self.script, self.agenda) else {
+            panic!(rt; "the script wants no fence")
+        };
+        self.env.fence(0, queue, at);
+        self.agenda.entered(&self.script);
+    }
+
+    /// The driver closes the next queue.
+    pub fn close_queue(&mut self, rt: &impl Abort) {
+        let Action::Close { queue } = action_at(rt, &self.script, self.agenda) else {
+            panic!(rt; "the script closes no queue")
+        };
+        self.env.close_queue(0, queue);
+        self.agenda.entered(&self.script);
+    }
+
+    /// The driver takes a main task, whose steps compute, and ends it: which task, or none where no front is open.
+    pub fn pump(&mut self, rt: &impl Abort) -> Option<TaskId> {
+        let Action::Pump { .. } = action_at(rt, &self.script, self.agenda) else {
+            panic!(rt; "the script wants no pump")
+        };
+        let Some(mut work) = self.env.main_take(0) else {
+            self.agenda.completed(&self.script);
+            return None;
+        };
+        let Act::Did(_) = work.step() else {
+            panic!(rt; "the main task does not compute")
+        };
+        let Act::Finished = work.step() else {
+            panic!(rt; "the main task has more steps")
+        };
+        let task = work.task();
+        self.env.main_end(0, work);
+        self.agenda.entered(&self.script);
+        Some(task)
     }
 
     /// A seat that has no assignment takes one: its task, or none; nothing where there will be none any more.

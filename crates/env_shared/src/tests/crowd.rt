@@ -23,7 +23,7 @@ impl Promise<(EnvSeat<ScriptBody>, u32)> for GivesBack {
 }
 
 /// Asks for a task a hundred times, and counts how often there is nothing.
-#[tactic(auto, using(crate::proofs::Tested::waits_first, crate::proofs::Tested::waits_on, crate::proofs::Tested::leaves_of))]
+#[tactic(auto, using(crate::proofs::Tested::waits_first, crate::proofs::Tested::waits_on, crate::proofs::Sits::same_environment))]
 fn ask<R: Wait + Abort>(
     rt: &R,
     shared: &Shared<ScriptBody>,

@@ -2,8 +2,7 @@
 ghost use Rattle.std.specs.Prelude.{◌≡◌, IfOk};
 ghost use Rattle.env_crew.specs.Desk.{DeskView, IsLater};
 ghost use Rattle.env_crew.specs.Serving.{IsFree};
-ghost use Rattle.env_crew.proofs.Tasks.{Works};
-ghost use Rattle.env_shared.specs.Samples.{IsBack, crossing_plan, driver_seat};
+ghost use Rattle.env_shared.specs.Samples.{IsAtTask, IsBack, crossing_plan, driver_seat};
 
 use super::scripts::{adding, blocking, crossing};
 use crate::{EnvSeat, Shared};
@@ -19,7 +18,7 @@ use task_body::{Act, ScriptBody};
 #[tactic(auto, using(crate::proofs::Crossing::at_take, crate::proofs::Crossing::later_take))]
 fn take_one<D: Desk, R: Wait + Abort>(rt: &R, desk: &mut D) -> D::Work
     requires free { IsFree (D.desk desk.old) }
-    ensures at { (start : DeskView) × Works start (D.desk desk.new) (D.Work.work result) }
+    ensures at { IsAtTask (D.desk desk.new) (D.Work.work result) }
     ensures later { IsLater (D.desk desk.old) (D.desk desk.new) }
 {
     match desk.take(rt) {
@@ -31,7 +30,7 @@ fn take_one<D: Desk, R: Wait + Abort>(rt: &R, desk: &mut D) -> D::Work
 
 /// A task does a compute step.
 fn compute<W: Assigned, R: Abort>(rt: &R, work: &mut W)
-    ensures at { (start now : DeskView) → Works start now (W.work work.old) → Works start now (W.work work.new) }
+    ensures at { (now : DeskView) → IsAtTask now (W.work work.old) → IsAtTask now (W.work work.new) }
 {
     match work.step() {
         Act::Did(_) => {}
@@ -41,8 +40,8 @@ fn compute<W: Assigned, R: Abort>(rt: &R, work: &mut W)
 
 /// A task does an act step, which the worker enters.
 fn act_one<D: Desk, R: Wait + Abort>(rt: &R, desk: &mut D, work: &mut D::Work) -> Act
-    requires at { (start : DeskView) × Works start (D.desk desk.old) (D.Work.work work.old) }
-    ensures at { (start : DeskView) × Works start (D.desk desk.new) (D.Work.work work.new) }
+    requires at { IsAtTask (D.desk desk.old) (D.Work.work work.old) }
+    ensures at { IsAtTask (D.desk desk.new) (D.Work.work work.new) }
     ensures later { IsLater (D.desk desk.old) (D.desk desk.new) }
 {
     match work.step() {
@@ -58,7 +57,7 @@ fn act_one<D: Desk, R: Wait + Abort>(rt: &R, desk: &mut D, work: &mut D::Work) -
 /// A worker ends a task that has no step left.
 #[tactic(auto, using(crate::proofs::Crossing::later_end))]
 fn end_one<D: Desk, R: Wait + Abort>(rt: &R, desk: &mut D, work: D::Work)
-    requires at { (start : DeskView) × Works start (D.desk desk.old) (D.Work.work work) }
+    requires at { IsAtTask (D.desk desk.old) (D.Work.work work) }
     ensures later { IsLater (D.desk desk.old) (D.desk desk.new) }
 {
     let mut work = work;

@@ -1,6 +1,6 @@
 use Rattle.std.proofs.Common.{sym}
 use Rattle.env_app.proofs.Outcomes.{taken_whole, built_fault, unbuilt_fault, first_fault_is}
-use Rattle.env_app.proofs.PoolPlans.{pool_plan}
+use Rattle.env_app.proofs.Plans.{built_plan}
 use Rattle.env_app.proofs.load.load.Goals as goal
 
 pub returns-in-Err-Bad-clause-outcome : goal.returns-in-Err-Bad-clause-outcome
@@ -17,7 +17,7 @@ returns-in-Err-Bad-clause-outcome g c =
 pub returns-then-is_built-clause-outcome : goal.returns-then-is_built-clause-outcome
 returns-then-is_built-clause-outcome g c = (
   c.in-Ok.ensures.end,
-  pool_plan c.in-Ok-read_script.script c.in-Ok-read_script.ensures.sound (sym c.if-is_built.ensures),
+  built_plan c.in-Ok-read_script.script c.in-Ok-read_script.ensures.sound (sym c.if-is_built.ensures),
   λ bytes told.
       let all = taken_whole _ _ c.in-Ok.bytes.items bytes c.in-Ok.ensures.whole c.in-Ok.ensures.end told in
       let reads = rw (c.deref.ensures.value, all) at c.in-Ok-read_script.ensures.read in (

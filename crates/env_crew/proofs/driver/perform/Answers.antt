@@ -1,35 +1,168 @@
-use Rattle.std.proofs.Common.{◌∙◌, ◌∷◌, [], refl}
+use Rattle.std.proofs.Common.{◌∙◌, ◌∷◌, ◌++◌, [], refl, ap, append_assoc}
+use Rattle.list_laws.proofs.Values.{eqb-same}
 use Rattle.task_base.specs.declared.entry.Entry.{Entry}
 use Rattle.task_base.specs.declared.entry.Kind.TheVariants as kinds
 use Rattle.task_base.specs.declared.script.Action.TheVariants as actions
 use Rattle.env_crew.specs.Desk.{mine}
-use Rattle.env_crew.proofs.Holds.{mine_entered}
-use Rattle.env_crew.proofs.Steps.{at_push, wanted_at, at_next, at_one, wants_post, policy_same, rests_on}
-use Rattle.env_crew.proofs.Time.{time_stays}
+use Rattle.env_crew.proofs.Done.{done_by, done_by_call}
+use Rattle.env_crew.proofs.Holds.{later_entered, later_trans, mine_entered}
+use Rattle.env_crew.proofs.Moves.{at_more, policy_same, wanted_at, wanted_first, wants_fence, wants_main, wants_post, wants_rank, wants_vote}
 use Rattle.env_crew.proofs.driver.perform.Goals as goal
 
--- What is asked of the desk.
+-- A post.
 
 pub post-requires : goal.post-requires
 post-requires g c ok =
-    let f = g.D.Desk.desk c.args.desk.now in
-    let p = c.in-Post in
-    wanted_at f (actions.Post p.task p.runner p.delay) c.requires.at.0 [] (kinds.Post p.task p.runner p.delay ok) c.requires.driver
-    (rw p.is at c.requires.at.1) refl (wants_post (mine f) p.task p.runner p.delay ok)
+    let a = c.in-Post in
+    wanted_first (g.D.Desk.desk c.args.desk.now) c.args.action (actions.Post a.task a.runner a.delay) (kinds.Post a.task a.runner a.delay ok)
+    c.requires.driver a.is c.requires.at refl (wants_post (mine (g.D.Desk.desk c.args.desk.now)) a.task a.runner a.delay ok)
+
+pub returns-in-Post-clause-done : goal.returns-in-Post-clause-done
+returns-in-Post-clause-done g c =
+    let a = c.in-Post in
+    let made = c.post.ensures in
+    rw a.is (done_by_call (actions.Post a.task a.runner a.delay) _ made.holds made.answered.enters (λ now. refl, λ now. refl, refl) refl c.requires.rests)
+
+-- A post to a main queue.
+
+pub main_post-requires : goal.main_post-requires
+main_post-requires g c ok =
+    let a = c.in-Main in
+    wanted_first (g.D.Desk.desk c.args.desk.now) c.args.action (actions.Main a.task a.queue a.delay) (kinds.Main a.task a.queue a.delay ok)
+    c.requires.driver a.is c.requires.at refl (wants_main (mine (g.D.Desk.desk c.args.desk.now)) a.task a.queue a.delay ok)
+
+pub returns-in-Main-clause-done : goal.returns-in-Main-clause-done
+returns-in-Main-clause-done g c =
+    let a = c.in-Main in
+    let made = c.main_post.ensures in
+    rw a.is (done_by_call (actions.Main a.task a.queue a.delay) _ made.holds made.answered.enters (λ now. refl, λ now. refl, refl) refl c.requires.rests)
+
+-- Another policy.
 
 pub policy-requires : goal.policy-requires
 policy-requires g c =
-    wanted_at (g.D.Desk.desk c.args.desk.now) (actions.Policy c.in-Policy.policy) c.requires.at.0 [] (kinds.Policy c.in-Policy.policy) c.requires.driver
-    (rw c.in-Policy.is at c.requires.at.1) refl (policy_same c.in-Policy.policy)
+    let a = c.in-Policy in
+    wanted_first (g.D.Desk.desk c.args.desk.now) c.args.action (actions.Policy a.policy) (kinds.Policy a.policy) c.requires.driver a.is c.requires.at refl
+    (policy_same a.policy)
+
+pub returns-in-Policy-clause-done : goal.returns-in-Policy-clause-done
+returns-in-Policy-clause-done g c =
+    let a = c.in-Policy in
+    let made = c.policy.ensures in
+    rw a.is (done_by_call (actions.Policy a.policy) _ made.holds made.answered (λ now. refl, λ now. refl, refl) refl c.requires.rests)
+
+-- A fence.
+
+pub fence-requires : goal.fence-requires
+fence-requires g c =
+    let a = c.in-Fence in
+    wanted_first (g.D.Desk.desk c.args.desk.now) c.args.action (actions.Fence a.queue a.at) (kinds.Fence a.queue a.at) c.requires.driver a.is c.requires.at refl
+    (wants_fence (mine (g.D.Desk.desk c.args.desk.now)) a.queue a.at)
+
+pub returns-in-Fence-clause-done : goal.returns-in-Fence-clause-done
+returns-in-Fence-clause-done g c =
+    let a = c.in-Fence in
+    let made = c.fence.ensures in
+    rw a.is (done_by_call (actions.Fence a.queue a.at) _ made.holds made.answered (λ now. refl, λ now. refl, refl) refl c.requires.rests)
+
+-- No fence.
+
+pub unfence-requires : goal.unfence-requires
+unfence-requires g c =
+    let a = c.in-Unfence in
+    wanted_first (g.D.Desk.desk c.args.desk.now) c.args.action (actions.Unfence a.queue) (kinds.Unfence a.queue) c.requires.driver a.is c.requires.at refl
+    (eqb-same a.queue)
+
+pub returns-in-Unfence-clause-done : goal.returns-in-Unfence-clause-done
+returns-in-Unfence-clause-done g c =
+    let a = c.in-Unfence in
+    let made = c.unfence.ensures in
+    rw a.is (done_by_call (actions.Unfence a.queue) _ made.holds made.answered (λ now. refl, λ now. refl, refl) refl c.requires.rests)
+
+-- A vote.
+
+pub vote-requires : goal.vote-requires
+vote-requires g c =
+    let a = c.in-Vote in
+    wanted_first (g.D.Desk.desk c.args.desk.now) c.args.action (actions.Vote a.queue a.voter a.on) (kinds.Vote a.queue a.voter a.on)
+    c.requires.driver a.is c.requires.at refl (wants_vote (mine (g.D.Desk.desk c.args.desk.now)) a.queue a.voter a.on)
+
+pub returns-in-Vote-clause-done : goal.returns-in-Vote-clause-done
+returns-in-Vote-clause-done g c =
+    let a = c.in-Vote in
+    let made = c.vote.ensures in
+    rw a.is (done_by_call (actions.Vote a.queue a.voter a.on) _ made.holds made.answered (λ now. refl, λ now. refl, refl) refl c.requires.rests)
+
+-- Another class.
+
+pub rank-requires : goal.rank-requires
+rank-requires g c =
+    let a = c.in-Rank in
+    wanted_first (g.D.Desk.desk c.args.desk.now) c.args.action (actions.Rank a.queue a.class) (kinds.Rank a.queue a.class)
+    c.requires.driver a.is c.requires.at refl (wants_rank (mine (g.D.Desk.desk c.args.desk.now)) a.queue a.class)
+
+pub returns-in-Rank-clause-done : goal.returns-in-Rank-clause-done
+returns-in-Rank-clause-done g c =
+    let a = c.in-Rank in
+    let made = c.rank.ensures in
+    rw a.is (done_by_call (actions.Rank a.queue a.class) _ made.holds made.answered (λ now. refl, λ now. refl, refl) refl c.requires.rests)
+
+-- A queue is closed.
+
+pub close_queue-requires : goal.close_queue-requires
+close_queue-requires g c =
+    let a = c.in-Close in
+    wanted_first (g.D.Desk.desk c.args.desk.now) c.args.action (actions.Close a.queue) (kinds.Close a.queue) c.requires.driver a.is c.requires.at refl
+    (eqb-same a.queue)
+
+pub returns-in-Close-clause-done : goal.returns-in-Close-clause-done
+returns-in-Close-clause-done g c =
+    let a = c.in-Close in
+    let made = c.close_queue.ensures in
+    rw a.is (done_by_call (actions.Close a.queue) _ made.holds made.answered (λ now. refl, λ now. refl, refl) refl c.requires.rests)
+
+-- Ticks.
+
+pub tick-requires : goal.tick-requires
+tick-requires g c = record {
+  driver = c.requires.driver;
+  at = rw c.in-Tick.is at c.requires.at;
+  rests = c.requires.rests;
+}
+
+pub returns-in-Tick-clause-done : goal.returns-in-Tick-clause-done
+returns-in-Tick-clause-done g c = rw c.in-Tick.is c.tick.ensures
+
+-- A pump.
+
+pub pump-requires : goal.pump-requires
+pump-requires g c =
+    let sound = rw c.in-Pump.is at c.requires.sound in
+    record {
+      driver = c.requires.driver;
+      some = sound.0;
+      at = rw c.in-Pump.is at c.requires.at;
+      rests = c.requires.rests;
+    }
+
+pub returns-in-Pump-clause-done : goal.returns-in-Pump-clause-done
+returns-in-Pump-clause-done g c = rw c.in-Pump.is (c.pump.ensures (g.C.Clock.readings c.args.clock.now))
+
+-- A wait for the pool.
 
 pub flush-requires-clause-wanted : goal.flush-requires-clause-wanted
 flush-requires-clause-wanted g c κs within =
-    wanted_at (g.D.Desk.desk c.args.desk.now) actions.Flush c.requires.at.0 [] kinds.Idle c.requires.driver (rw c.in-Flush.is at c.requires.at.1) refl refl
+    wanted_first (g.D.Desk.desk c.args.desk.now) c.args.action actions.Flush kinds.Idle c.requires.driver c.in-Flush.is c.requires.at refl refl
+
+pub returns-in-Flush-clause-done : goal.returns-in-Flush-clause-done
+returns-in-Flush-clause-done g c =
+    rw c.in-Flush.is (done_by actions.Flush _ _ c.flush.ensures.later c.flush.ensures.entered ((λ now. refl, λ now. refl, refl), tt) refl c.requires.rests)
+
+-- A shutdown.
 
 pub start_shutdown-requires : goal.start_shutdown-requires
 start_shutdown-requires g c =
-    wanted_at (g.D.Desk.desk c.args.desk.now) actions.Shutdown c.requires.at.0 [] kinds.Shutdown c.requires.driver
-    (rw c.in-Shutdown.is at c.requires.at.1) refl refl
+    wanted_first (g.D.Desk.desk c.args.desk.now) c.args.action actions.Shutdown kinds.Shutdown c.requires.driver c.in-Shutdown.is c.requires.at refl refl
 
 pub finish_shutdown-requires-clause-wanted : goal.finish_shutdown-requires-clause-wanted
 finish_shutdown-requires-clause-wanted g c κs within =
@@ -38,92 +171,18 @@ finish_shutdown-requires-clause-wanted g c κs within =
     let hold = c.start_shutdown.ensures.holds in
     let e : Entry = record { seat = f.seat; kind = kinds.Shutdown } in
     wanted_at h actions.Shutdown c.requires.at.0 (e ∷ []) kinds.Done (hold.seat_is ∙ c.requires.driver)
-    (at_push f h (actions.Shutdown ∷ c.requires.at.0) [] kinds.Shutdown hold.script_is (mine_entered hold kinds.Shutdown c.start_shutdown.ensures.answered)
+    (at_more f h (actions.Shutdown ∷ c.requires.at.0) [] (e ∷ []) hold.script_is (mine_entered hold kinds.Shutdown c.start_shutdown.ensures.answered)
     (rw c.in-Shutdown.is at c.requires.at.1)) refl refl
 
--- A post.
-
-pub returns-in-Post-clause-next : goal.returns-in-Post-clause-next
-returns-in-Post-clause-next g c rest start =
-    let p = c.in-Post in
-    let hold = c.post.ensures.holds in
-    let kind = kinds.Post p.task p.runner p.delay c.post.result in
-    at_one (g.D.Desk.desk c.args.desk.now) (g.D.Desk.desk c.post.new.self) (actions.Post p.task p.runner p.delay) rest kind hold.script_is
-    (mine_entered hold kind c.post.ensures.answered.enters) refl (rw p.is at start)
-
-pub returns-in-Post-clause-rests : goal.returns-in-Post-clause-rests
-returns-in-Post-clause-rests g c =
-    let p = c.in-Post in
-    let kind = kinds.Post p.task p.runner p.delay c.post.result in
-    rests_on (g.D.Desk.desk c.args.desk.now) (g.D.Desk.desk c.post.new.self) kind (mine_entered c.post.ensures.holds kind c.post.ensures.answered.enters) refl
-
-pub returns-in-Post-clause-time : goal.returns-in-Post-clause-time
-returns-in-Post-clause-time g c told keeps =
-    let p = c.in-Post in
-    let kind = kinds.Post p.task p.runner p.delay c.post.result in
-    time_stays told _ (g.D.Desk.desk c.args.desk.now) (g.D.Desk.desk c.post.new.self) kind refl
-    (mine_entered c.post.ensures.holds kind c.post.ensures.answered.enters) keeps
-
--- Another policy.
-
-pub returns-in-Policy-clause-next : goal.returns-in-Policy-clause-next
-returns-in-Policy-clause-next g c rest start =
-    let p = c.in-Policy.policy in
-    let hold = c.policy.ensures.holds in
-    at_one (g.D.Desk.desk c.args.desk.now) (g.D.Desk.desk c.policy.new.self) (actions.Policy p) rest (kinds.Policy p) hold.script_is
-    (mine_entered hold (kinds.Policy p) c.policy.ensures.answered) refl (rw c.in-Policy.is at start)
-
-pub returns-in-Policy-clause-rests : goal.returns-in-Policy-clause-rests
-returns-in-Policy-clause-rests g c =
-    let kind = kinds.Policy c.in-Policy.policy in
-    rests_on (g.D.Desk.desk c.args.desk.now) (g.D.Desk.desk c.policy.new.self) kind (mine_entered c.policy.ensures.holds kind c.policy.ensures.answered) refl
-
-pub returns-in-Policy-clause-time : goal.returns-in-Policy-clause-time
-returns-in-Policy-clause-time g c told keeps =
-    let kind = kinds.Policy c.in-Policy.policy in
-    time_stays told _ (g.D.Desk.desk c.args.desk.now) (g.D.Desk.desk c.policy.new.self) kind refl
-    (mine_entered c.policy.ensures.holds kind c.policy.ensures.answered) keeps
-
--- A wait for the pool.
-
-pub returns-in-Flush-clause-next : goal.returns-in-Flush-clause-next
-returns-in-Flush-clause-next g c rest start =
-    at_one (g.D.Desk.desk c.args.desk.now) (g.D.Desk.desk c.flush.new.desk) actions.Flush rest kinds.Idle c.flush.ensures.later.script_is
-    c.flush.ensures.entered refl (rw c.in-Flush.is at start)
-
-pub returns-in-Flush-clause-rests : goal.returns-in-Flush-clause-rests
-returns-in-Flush-clause-rests g c =
-    rests_on (g.D.Desk.desk c.args.desk.now) (g.D.Desk.desk c.flush.new.desk) kinds.Idle c.flush.ensures.entered refl
-
-pub returns-in-Flush-clause-time : goal.returns-in-Flush-clause-time
-returns-in-Flush-clause-time g c told keeps =
-    time_stays told _ (g.D.Desk.desk c.args.desk.now) (g.D.Desk.desk c.flush.new.desk) kinds.Idle refl c.flush.ensures.entered keeps
-
--- A shutdown.
-
-pub returns-in-Shutdown-clause-next : goal.returns-in-Shutdown-clause-next
-returns-in-Shutdown-clause-next g c rest start =
+pub returns-in-Shutdown-clause-done : goal.returns-in-Shutdown-clause-done
+returns-in-Shutdown-clause-done g c =
     let f = g.D.Desk.desk c.args.desk.now in
     let h = g.D.Desk.desk c.start_shutdown.new.self in
     let k = g.D.Desk.desk c.finish_shutdown.new.desk in
-    let hold = c.start_shutdown.ensures.holds in
+    let start = c.start_shutdown.ensures in
     let e : Entry = record { seat = f.seat; kind = kinds.Shutdown } in
     let d : Entry = record { seat = h.seat; kind = kinds.Done } in
-    at_next k actions.Shutdown rest (e ∷ d ∷ []) []
-    (at_push h k (actions.Shutdown ∷ rest) (e ∷ []) kinds.Done c.finish_shutdown.ensures.later.script_is c.finish_shutdown.ensures.entered
-    (at_push f h (actions.Shutdown ∷ rest) [] kinds.Shutdown hold.script_is (mine_entered hold kinds.Shutdown c.start_shutdown.ensures.answered)
-    (rw c.in-Shutdown.is at start))) refl
-
-pub returns-in-Shutdown-clause-rests : goal.returns-in-Shutdown-clause-rests
-returns-in-Shutdown-clause-rests g c =
-    let f = g.D.Desk.desk c.args.desk.now in
-    let h = g.D.Desk.desk c.start_shutdown.new.self in
-    rests_on h (g.D.Desk.desk c.finish_shutdown.new.desk) kinds.Done c.finish_shutdown.ensures.entered refl
-    ∙ rests_on f h kinds.Shutdown (mine_entered c.start_shutdown.ensures.holds kinds.Shutdown c.start_shutdown.ensures.answered) refl
-
-pub returns-in-Shutdown-clause-time : goal.returns-in-Shutdown-clause-time
-returns-in-Shutdown-clause-time g c told keeps =
-    let f = g.D.Desk.desk c.args.desk.now in
-    let h = g.D.Desk.desk c.start_shutdown.new.self in
-    time_stays told _ h (g.D.Desk.desk c.finish_shutdown.new.desk) kinds.Done refl c.finish_shutdown.ensures.entered
-    (time_stays told _ f h kinds.Shutdown refl (mine_entered c.start_shutdown.ensures.holds kinds.Shutdown c.start_shutdown.ensures.answered) keeps)
+    rw c.in-Shutdown.is (done_by actions.Shutdown _ (e ∷ d ∷ [])
+    (later_trans f h k (later_entered start.holds kinds.Shutdown start.answered) c.finish_shutdown.ensures.later)
+    (c.finish_shutdown.ensures.entered ∙ ap (λ own. own ++ d ∷ []) (mine_entered start.holds kinds.Shutdown start.answered)
+    ∙ append_assoc (mine f) (e ∷ []) (d ∷ [])) ((λ now. refl, λ now. refl, refl), ((λ now. refl, λ now. refl, refl), tt)) refl c.requires.rests)

@@ -1,9 +1,13 @@
 use Rattle.std.proofs.Common.{◌+◌, ◌∙◌, ◌++◌, ◌∷◌, [], refl, ap, arith}
 use Rattle.std.proofs.lemmas.List.{length-append}
+use Rattle.task_base.specs.declared.entry.Entry.{Entry}
 use Rattle.task_base.specs.declared.entry.Kind.TheVariants as kinds
 use Rattle.task_base.specs.declared.script.Action.TheVariants as actions
+use Rattle.task_model.specs.Seats.{is_free}
+use Rattle.env_crew.specs.Desk.{mine}
 use Rattle.env_crew.proofs.Holds.{later_refl, later_trans, later_entered, mine_entered}
-use Rattle.env_crew.proofs.Steps.{at_push, wanted_at, at_next, behind_short, behind_all, rests_on}
+use Rattle.env_crew.proofs.Rests.{free_stays}
+use Rattle.env_crew.proofs.Moves.{at_more, wanted_at, at_next, behind_short, behind_all}
 use Rattle.env_crew.proofs.Time.{time_on}
 use Rattle.env_crew.proofs.driver.tick.Goals as goal
 
@@ -13,7 +17,7 @@ loop-init g c = record {
   made = [];
   counted = refl;
   at = λ rest start. start;
-  rests = refl;
+  rests = c.requires.rests;
   time = λ told keeps. keeps;
 }
 
@@ -31,19 +35,25 @@ loop-preserved g c =
     let hold = c.tick.ensures.holds in
     let kind = kinds.Tick c.tick.result in
     let own = mine_entered hold kind c.tick.ensures.answered.enters in
+    let e : Entry = record { seat = f.seat; kind = kind } in
     record {
       later = later_trans (g.D.Desk.desk c.args.desk.now) f h was.later (later_entered hold kind c.tick.ensures.answered.enters);
-      made = was.made ++ record { seat = f.seat; kind = kind } ∷ [];
-      counted = length-append was.made (record { seat = f.seat; kind = kind } ∷ []) ∙ ap (λ n. n + 1) was.counted;
-      at = λ rest start. at_push f h (actions.Tick c.args.count ∷ rest) was.made kind hold.script_is own (was.at rest start);
-      rests = rests_on f h kind own refl ∙ was.rests;
+      made = was.made ++ e ∷ [];
+      counted = length-append was.made (e ∷ []) ∙ ap (λ n. n + 1) was.counted;
+      at = λ rest start. at_more f h (actions.Tick c.args.count ∷ rest) was.made (e ∷ []) hold.script_is own (was.at rest start);
+      rests = ap (λ all. is_free all 0) own ∙ free_stays (mine f) (e ∷ []) 0 (λ run. refl, tt) (λ held. refl, tt) ∙ was.rests;
       time = λ told keeps. time_on told (g.C.Clock.readings c.loop.clock) (g.C.Clock.readings c.now.new.self) f h c.tick.ensures.past c.now.result c.tick.result
           (was.later.seat_is ∙ c.requires.driver) c.now.ensures.first c.now.ensures.later hold.legal hold.own c.tick.ensures.answered.moment own
           (was.time told keeps);
     }
 
-pub returns-clause-next : goal.returns-clause-next
-returns-clause-next g c rest start =
+pub returns : goal.returns
+returns g c =
     let was = c.loop.invariant in
-    at_next (g.D.Desk.desk c.loop.desk) (actions.Tick c.args.count) rest was.made [] (was.at rest start)
-    (behind_all c.args.count was.made (omega (arith, was.counted, c.loop-test.false, c.loop.auto.counter-end)))
+    record {
+      later = was.later;
+      next = λ rest start. at_next (g.D.Desk.desk c.loop.desk) (actions.Tick c.args.count) rest was.made [] (was.at rest start)
+          (behind_all c.args.count was.made (omega (arith, was.counted, c.loop-test.false, c.loop.auto.counter-end)));
+      rests = was.rests;
+      time = was.time;
+    }

@@ -1,4 +1,4 @@
-use Rattle.std.proofs.Common.{◌≡◌, ℕ, List, ◌∷◌, [], length, Option}
+use Rattle.std.proofs.Common.{◌≡◌, ℕ, true, List, ◌∷◌, [], length, Option}
 use Rattle.task_base.specs.declared.entry.Entry.{Entry}
 use Rattle.task_base.specs.declared.script.Action.{Action}
 use Rattle.task_base.specs.declared.script.Action.TheVariants as actions
@@ -13,7 +13,7 @@ pub record Ticking (start now : DeskView) (count counter : ℕ) (told_then told_
   pub made : List Entry
   pub counted : length made ≡ counter
   pub at : (rest : List Action) → IsAt start (actions.Tick count ∷ rest) [] → IsAt now (actions.Tick count ∷ rest) made
-  pub rests : is_free (mine now) 0 ≡ is_free (mine start) 0
+  pub rests : is_free (mine now) 0 ≡ true
   pub time : (told : ℕ → Option ℕ) → KeepsTime told told_then (mine start) → KeepsTime told told_now (mine now)
 
 abbrev pub invariant-loop : goal.invariant-loop

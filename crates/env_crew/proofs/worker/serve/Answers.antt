@@ -1,34 +1,31 @@
 use Rattle.std.proofs.Common.{refl}
-use Rattle.env_crew.proofs.Tasks.{works_behind_take, works_behind_steps, works_at_last, next_act_is, works_behind_act, may_end, free_behind_end}
+use Rattle.env_crew.proofs.Tasks.{has_worked, longer_behind_work, may_end, rests_behind_work, still_free, still_pool, under_way_behind_take}
 use Rattle.env_crew.proofs.worker.serve.Goals as goal
 
-pub loop-act-init : goal.loop-act-init
-loop-act-init g c = works_behind_take _ _ c.in-Task.ensures.past _ c.requires.free c.in-Task.ensures.holds c.in-Task.ensures.answered
-
-pub loop-act-preserved-in-Did : goal.loop-act-preserved-in-Did
-loop-act-preserved-in-Did g c =
-    works_behind_steps _ _ (g.D.Work.Assigned.work c.loop-act.work) (g.D.Work.Assigned.work c.step.new.self) c.in-Did.field-0 c.loop-act.invariant
-    c.in-Did.ensures.progress c.in-Did.ensures.unchanged
-
-pub act-requires : goal.act-requires
-act-requires g c =
-    next_act_is _ _ (g.D.Work.Assigned.work c.loop-act.work) c.step.result (g.D.Work.Assigned.work c.loop-act.work).value
-    (g.D.Work.Assigned.work c.step.new.self).rest (g.D.Work.Assigned.work c.step.new.self).value c.loop-act.invariant c.step.ensures.progress
-    c.in_default.not-Did c.in_default.not-Finished
-
-pub loop-act-preserved : goal.loop-act-preserved
-loop-act-preserved g c =
-    works_behind_act _ _ _ c.act.ensures.past (g.D.Work.Assigned.work c.loop-act.work) (g.D.Work.Assigned.work c.step.new.self) c.step.result c.act.result
-    c.loop-act.invariant c.step.ensures.progress c.step.ensures.unchanged c.in_default.not-Did c.in_default.not-Finished c.act.ensures.holds
-    c.act.ensures.answered.enters
+pub do_steps-work-requires : goal.do_steps-work-requires
+do_steps-work-requires g c =
+    under_way_behind_take _ _ c.in-Task.ensures.past _ c.requires.free c.in-Task.ensures.holds c.in-Task.ensures.answered
 
 pub end-requires : goal.end-requires
 end-requires g c =
-    may_end _ _ (g.D.Work.Assigned.work c.step.new.self) (works_at_last _ _ (g.D.Work.Assigned.work c.loop-act.work) (g.D.Work.Assigned.work c.step.new.self)
-    c.loop-act.invariant c.in-Finished.ensures.progress c.in-Finished.ensures.unchanged) (c.in-Finished.ensures.finished refl)
+    let took = c.in-Task.ensures in
+    let did = c.do_steps-work.ensures in
+    may_end (g.D.Desk.desk c.do_steps-work.new.desk) (g.D.Work.Assigned.work c.do_steps-work.result) did.under_way
+    (still_pool (g.D.Desk.desk c.args.desk.now) (g.D.Desk.desk c.take.new.self) (g.D.Desk.desk c.do_steps-work.new.desk) took.past
+    (g.D.Work.Assigned.work c.in-Task.work) (g.D.Work.Assigned.work c.do_steps-work.result) took.holds took.answered did.acts did.under_way) did.none_left
 
-pub returns-clause-free : goal.returns-clause-free
-returns-clause-free g c =
-    free_behind_end _ _ _ c.end.ensures.past (g.D.Work.Assigned.work c.step.new.self)
-    (works_at_last _ _ (g.D.Work.Assigned.work c.loop-act.work) (g.D.Work.Assigned.work c.step.new.self) c.loop-act.invariant c.in-Finished.ensures.progress
-    c.in-Finished.ensures.unchanged) c.end.ensures.holds c.end.ensures.answered
+pub returns : goal.returns
+returns g c =
+    let old = g.D.Desk.desk c.args.desk.now in
+    let new = g.D.Desk.desk c.end.new.self in
+    let took = c.in-Task.ensures in
+    let ended = c.end.ensures in
+    let worked = has_worked old (g.D.Desk.desk c.take.new.self) (g.D.Desk.desk c.do_steps-work.new.desk) new took.past ended.past _ _ took.holds
+    took.answered.enters c.do_steps-work.ensures.acts ended.holds ended.answered in
+    record {
+      free = still_free old new c.requires.free worked.later.script_is worked.later.seat_is
+          (rests_behind_work worked (λ held. refl) (λ held. refl) (λ before. refl) c.requires.free.free);
+      later = worked.later;
+      turned = worked.turned;
+      served = longer_behind_work worked;
+    }

@@ -1,6 +1,6 @@
 use Rattle.env_core.proofs.Acts.{end_closed, holds_by_worker}
-use Rattle.env_core.proofs.Driver.{worker_runs}
-use Rattle.env_core.proofs.Entries.{enters_is, has_room}
+use Rattle.env_core.proofs.Plans.{pool_runs}
+use Rattle.env_core.proofs.Entries.{enters_is, has_room, main_at_worker}
 use Rattle.env_core.proofs.Wanted.{end_allowed}
 use Rattle.env_core.proofs.env.Env.end.Goals as goal
 use Rattle.env_core.specs.Calls.{CanEnd}
@@ -25,12 +25,14 @@ invariant_of-self g c =
     let can : CanEnd (record { script = c.self.inside.script; history = past }) c.args.seat c.args.work = rw c.self.view_is c.requires in
     let closed = end_closed c.args.seat c.args.work c.self.invariant can in
     let e : Entry = record { seat = c.args.seat; kind = kinds.End c.args.work.task c.args.work.value } in
+    let worker = (pool_runs c.self.inside.script past c.args.seat can.seats.now c.self.invariant.legal closed.runs can.is_pool).worker in
     let stands : StandsFor c.self.inside.script (past ++ e ∷ []) c.end.new.self =
     rw (← can.seats.task_is, c.split_up-cell.ensures.cell) at (c.end.ensures c.self.inside.script past can.seats.now closed) in
     holds_by_worker e c.push_spare.new.self c.end.new.self c.self.invariant
     (end_allowed _ c.args.seat c.args.work can (sym c.split_up-cell.ensures.cell ∙ c.split_up-cell.ensures.left))
-    (worker_runs c.self.inside.script past c.args.seat can.seats.now c.self.invariant.plan c.self.invariant.legal closed.runs).1 (λ t. refl)
+    worker (λ t. refl)
     (rw (c.task-task.ensures, c.value-left.ensures, c.split_up-cell.ensures.cell) at c.push_spare.ensures.items) c.push_spare.ensures.spare stands
+    (main_at_worker e c.self.invariant refl worker)
 
 pub returns : goal.returns
 returns g c = rw (← c.self.view_is) (enters_is c.args.seat (kinds.End c.args.work.task c.args.work.value) c.push_spare.new.self c.self.invariant

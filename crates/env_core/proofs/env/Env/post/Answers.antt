@@ -1,9 +1,9 @@
 use Rattle.env_core.proofs.Bodies.{bodies_at_post}
-use Rattle.env_core.proofs.Entries.{can_post_by_script, driver_at, enters_is, few_of_action, has_room, holds_next, place_fits}
+use Rattle.env_core.proofs.Entries.{can_post_by_script, driver_at, enters_is, few_of_action, has_room, holds_next, main_still, place_fits}
 use Rattle.env_core.proofs.Wanted.{post_allowed}
 use Rattle.task_base.specs.declared.entry.Entry.{Entry}
 use Rattle.task_base.specs.declared.entry.Kind.TheVariants as kinds
-use Rattle.std.proofs.Common.{arith}
+use Rattle.std.proofs.Common.{arith, refl}
 use Rattle.env_core.specs.Calls.{IsWantedNext}
 use Rattle.env_core.proofs.env.Env.post.Goals as goal
 
@@ -42,14 +42,16 @@ invariant_of-self g c =
     let wanted : IsWantedNext (record { script = c.self.inside.script; history = c.self.inside.log.items }) c.args.seat
     (kinds.Post c.args.task c.args.runner c.args.delay c.post-ok.result) = rw c.self.view_is (c.requires c.post-ok.result) in
     let e : Entry = record { seat = c.args.seat; kind = kinds.Post c.args.task c.args.runner c.args.delay c.post-ok.result } in
-    holds_next e c.keep_if.new.bodies.items c.push_spare.new.self c.post-ok.new.self c.entered.new.self.place c.entered.new.self.made c.self.invariant
+    holds_next e c.keep_if.new.bodies.items c.push_spare.new.self c.post-ok.new.self c.self.inside.main c.entered.new.self.place c.entered.new.self.made
+    c.self.invariant
     (post_allowed (record { script = c.self.inside.script; history = c.self.inside.log.items }) c.args.seat c.args.task c.args.runner c.args.delay
     c.post-ok.result wanted (c.post-ok.ensures.reply c.self.inside.script c.self.inside.log.items can))
     c.push_spare.ensures.items c.push_spare.ensures.spare
-    (c.post-ok.ensures.stands c.self.inside.script c.self.inside.log.items c.args.seat can)
+    (c.post-ok.ensures.stands c.self.inside.script c.self.inside.log.items c.args.seat can) (main_still e c.self.invariant refl)
     (rw c.keep_if.ensures (bodies_at_post c.self.inside.bodies.items _ _ c.self.inside.script c.self.inside.log.items c.args.seat c.args.task c.args.runner
     c.args.delay c.post-ok.result c.self.invariant.drawer))
-    (driver_at c.args.seat (kinds.Post c.args.task c.args.runner c.args.delay c.post-ok.result) c.entered.new.self c.self.invariant wanted c.entered.ensures)
+    (driver_at c.args.seat (kinds.Post c.args.task c.args.runner c.args.delay c.post-ok.result) c.entered.new.self c.self.invariant wanted refl
+    c.entered.ensures)
 
 pub returns-clause-reply : goal.returns-clause-reply
 returns-clause-reply g c = rw (← c.self.view_is) (c.post-ok.ensures.reply c.self.inside.script c.self.inside.log.items

@@ -1,5 +1,5 @@
 use Rattle.env_core.proofs.Bodies.{bodies_kept}
-use Rattle.env_core.proofs.Entries.{driver_at, enters_is, few_of_action, has_room, holds_next}
+use Rattle.env_core.proofs.Entries.{driver_at, enters_is, few_of_action, has_room, holds_next, main_still}
 use Rattle.env_core.proofs.Wanted.{shutdown_allowed, starts_while_running}
 use Rattle.env_core.specs.Calls.{IsWantedNext}
 use Rattle.hist_model.specs.Allowed.{IsAllowed}
@@ -34,14 +34,15 @@ invariant_of-self g c =
     let e : Entry = record { seat = c.args.seat; kind = kinds.Shutdown } in
     let allowed : IsAllowed c.self.inside.script c.self.inside.log.items e =
     shutdown_allowed (record { script = c.self.inside.script; history = c.self.inside.log.items }) c.args.seat wanted in
-    holds_next e c.self.inside.bodies.items c.push_spare.new.self c.start_shutdown.new.self c.entered.new.self.place c.entered.new.self.made c.self.invariant
+    holds_next e c.self.inside.bodies.items c.push_spare.new.self c.start_shutdown.new.self c.self.inside.main c.entered.new.self.place
+    c.entered.new.self.made c.self.invariant
     allowed c.push_spare.ensures.items c.push_spare.ensures.spare
     (c.start_shutdown.ensures c.self.inside.script c.self.inside.log.items c.args.seat (record {
       stands = c.self.invariant.stands;
       phase_is = starts_while_running c.self.inside.script c.self.inside.log.items c.args.seat c.self.invariant.plan c.self.invariant.legal allowed;
-    }))
+    })) (main_still e c.self.invariant refl)
     (bodies_kept c.self.inside.bodies.items _ _ c.self.inside.script c.self.inside.log.items e (λ t. refl) c.self.invariant.drawer)
-    (driver_at c.args.seat kinds.Shutdown c.entered.new.self c.self.invariant wanted c.entered.ensures)
+    (driver_at c.args.seat kinds.Shutdown c.entered.new.self c.self.invariant wanted refl c.entered.ensures)
 
 pub returns-clause-enters : goal.returns-clause-enters
 returns-clause-enters g c = rw (← c.self.view_is) (enters_is c.args.seat kinds.Shutdown c.push_spare.new.self c.self.invariant

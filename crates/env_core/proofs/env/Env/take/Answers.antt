@@ -1,14 +1,11 @@
 use Rattle.env_core.proofs.Entries.{worker_waits}
-use Rattle.env_core.proofs.Bodies.{bodies_without}
-use Rattle.env_core.proofs.Entries.{enters_is, holds_next}
+use Rattle.env_core.proofs.Bodies.{bodies_at_take}
+use Rattle.env_core.proofs.Entries.{enters_is, holds_next, main_at_worker}
 use Rattle.env_core.proofs.Taking.{body_at, slot_is}
-use Rattle.std.proofs.Math.Bool.{or-false}
-use Rattle.std.specs.Prelude.{◌==◌}
 use Rattle.task_base.specs.declared.entry.Entry.{Entry}
 use Rattle.env_core.proofs.Taking.{can_take}
 use Rattle.env_core.proofs.Entries.{has_room}
 use Rattle.env_core.proofs.Taking.{taken_allowed, taken_body, unfinished}
-use Rattle.task_base.specs.declared.entry.Kind.TheVariants.{Take}
 use Rattle.task_base.specs.declared.entry.Kind.TheVariants as kinds
 use Rattle.std.proofs.Common.{arith, refl, sym, ◌∙◌}
 use Rattle.std.proofs.Common.{true, false, slice_set}
@@ -26,6 +23,7 @@ invariant_of-self g c = let holds = c.self.invariant in record {
   plan = holds.plan;
   legal = holds.legal;
   stands = c.in-Nothing.ensures.stands c.self.inside.script c.self.inside.log.items (can_take c.args.seat holds (rw c.self.view_is c.requires));
+  main = holds.main;
   drawer = holds.drawer;
   driver = holds.driver;
   room = holds.room;
@@ -56,20 +54,22 @@ new-requires g c =
     (c.in-Task.ensures.answer c.self.inside.script c.self.inside.log.items (can_take c.args.seat c.self.invariant (rw c.self.view_is c.requires))) in
     let there = body_at c.self.inside.bodies.items c.in-Task.task c.index_mut.result.now c.unwrap-body.result (rw c.self.invariant.drawer.all body.0)
     c.index_mut.ensures.value (sym c.take-in-Task.ensures.value ∙ c.unwrap-body.ensures) in
-    c.self.invariant.drawer.rest_is c.in-Task.task c.unwrap-body.result there ∙ sym (c.self.invariant.drawer.whole_is c.in-Task.task c.unwrap-body.result there)
+    c.self.invariant.drawer.rest_is c.in-Task.task c.unwrap-body.result there ∙ sym (c.self.invariant.drawer.whole_is c.in-Task.task c.unwrap-body.result
+    there)
 
 pub invariant_of-self-in-Task : goal.invariant_of-self-in-Task
 invariant_of-self-in-Task g c =
     let e : Entry = record { seat = c.args.seat; kind = kinds.Take c.in-Task.task c.in-Task.runner c.in-Task.cell } in
     let can = can_take c.args.seat c.self.invariant (rw c.self.view_is c.requires) in
-    holds_next e (slice_set c.self.inside.bodies.items c.in-Task.task c.take-in-Task.new.self) c.push_spare.new.self c.take.new.self c.self.inside.agenda.place
+    holds_next e (slice_set c.self.inside.bodies.items c.in-Task.task c.take-in-Task.new.self) c.push_spare.new.self c.take.new.self c.self.inside.main
+    c.self.inside.agenda.place
     c.self.inside.agenda.made c.self.invariant
     (taken_allowed c.args.seat c.in-Task.task c.in-Task.runner c.in-Task.cell c.self.invariant (rw c.self.view_is c.requires)
     (sym c.if-is_finished.false ∙ c.is_finished.ensures) (c.in-Task.ensures.answer c.self.inside.script c.self.inside.log.items can))
     (rw (← c.value.ensures) c.push_spare.ensures.items) c.push_spare.ensures.spare
-    (c.in-Task.ensures.stands c.self.inside.script c.self.inside.log.items can)
-    (rw c.take-in-Task.ensures.after (bodies_without c.self.inside.bodies.items _ _ c.self.inside.script c.self.inside.log.items e c.in-Task.task
-    (λ t. or-false (c.in-Task.task == t)) c.self.invariant.drawer))
+    (c.in-Task.ensures.stands c.self.inside.script c.self.inside.log.items can) (main_at_worker e c.self.invariant refl c.requires.worker)
+    (rw c.take-in-Task.ensures.after (bodies_at_take c.self.inside.bodies.items _ _ c.self.inside.script c.self.inside.log.items c.args.seat c.in-Task.task
+    c.in-Task.runner c.in-Task.cell c.self.invariant.drawer))
     (worker_waits c.args.seat (kinds.Take c.in-Task.task c.in-Task.runner c.in-Task.cell) c.self.invariant c.requires.worker)
 
 pub returns-in-Nothing : goal.returns-in-Nothing

@@ -1,7 +1,7 @@
 use Rattle.env_core.proofs.Bodies.{bodies_kept}
-use Rattle.env_core.proofs.Entries.{driver_at, enters_is, few_of_action, has_room, holds_next}
+use Rattle.env_core.proofs.Entries.{driver_at, enters_is, few_of_action, has_room, holds_next, main_still}
 use Rattle.env_core.proofs.Wanted.{done_allowed, done_while_started}
-use Rattle.env_core.specs.Built.{IsPoolPlan}
+use Rattle.env_core.specs.Built.{IsBuilt}
 use Rattle.env_core.specs.Calls.{IsWantedNext}
 use Rattle.env_core.specs.Views.{EnvView}
 use Rattle.hist_model.specs.Legal.{IsLegal}
@@ -16,7 +16,7 @@ use Rattle.task_traits.specs.declared.phase.Phase.TheVariants as phases
 use Rattle.env_core.proofs.env.Env.try_done.Goals as goal
 
 -- the script wants the end of shutdown only where shutdown has started
-ends : (view : EnvView) (pool : Pool) (seat : ℕ) → IsPoolPlan view.script → IsLegal view.script view.history → IsWantedNext view seat kinds.Done
+ends : (view : EnvView) (pool : Pool) (seat : ℕ) → IsBuilt view.script → IsLegal view.script view.history → IsWantedNext view seat kinds.Done
     → StandsFor view.script view.history pool → IsInPhase view.script view.history pool phases.Started
 ends view pool seat plan legal wanted stands = record { stands = stands; phase_is = done_while_started view seat plan legal wanted }
 
@@ -51,7 +51,8 @@ push_spare-requires g c =
     let wanted : IsWantedNext view c.args.seat kinds.Done = rw c.self.view_is c.requires in
     let phase = ends view c.self.inside.pool c.args.seat c.self.invariant.plan c.self.invariant.legal wanted c.self.invariant.stands in
     has_room (record { seat = c.args.seat; kind = kinds.Done }) c.self.invariant
-    (done_allowed view c.args.seat wanted phase.phase_is ((c.in_ok-try_done.ensures.ok c.self.inside.script c.self.inside.log.items phase).0 (refl {a = true})))
+    (done_allowed view c.args.seat wanted phase.phase_is ((c.in_ok-try_done.ensures.ok c.self.inside.script c.self.inside.log.items phase).0
+    (refl {a = true})))
 
 pub invariant_of-self-2 : goal.invariant_of-self-2
 invariant_of-self-2 g c =
@@ -59,12 +60,14 @@ invariant_of-self-2 g c =
     let wanted : IsWantedNext view c.args.seat kinds.Done = rw c.self.view_is c.requires in
     let phase = ends view c.self.inside.pool c.args.seat c.self.invariant.plan c.self.invariant.legal wanted c.self.invariant.stands in
     let e : Entry = record { seat = c.args.seat; kind = kinds.Done } in
-    holds_next e c.self.inside.bodies.items c.push_spare.new.self c.try_done.new.self c.entered.new.self.place c.entered.new.self.made c.self.invariant
-    (done_allowed view c.args.seat wanted phase.phase_is ((c.in_ok-try_done.ensures.ok c.self.inside.script c.self.inside.log.items phase).0 (refl {a = true})))
+    holds_next e c.self.inside.bodies.items c.push_spare.new.self c.try_done.new.self c.self.inside.main c.entered.new.self.place c.entered.new.self.made
+    c.self.invariant
+    (done_allowed view c.args.seat wanted phase.phase_is ((c.in_ok-try_done.ensures.ok c.self.inside.script c.self.inside.log.items phase).0
+    (refl {a = true})))
     c.push_spare.ensures.items c.push_spare.ensures.spare
-    (c.in_ok-try_done.ensures.done c.self.inside.script c.self.inside.log.items c.args.seat phase)
+    (c.in_ok-try_done.ensures.done c.self.inside.script c.self.inside.log.items c.args.seat phase) (main_still e c.self.invariant refl)
     (bodies_kept c.self.inside.bodies.items _ _ c.self.inside.script c.self.inside.log.items e (λ t. refl) c.self.invariant.drawer)
-    (driver_at c.args.seat kinds.Done c.entered.new.self c.self.invariant wanted c.entered.ensures)
+    (driver_at c.args.seat kinds.Done c.entered.new.self c.self.invariant wanted refl c.entered.ensures)
 
 pub returns-clause-ok : goal.returns-clause-ok
 returns-clause-ok g c =
@@ -78,5 +81,6 @@ returns-clause-enters g c =
     let wanted : IsWantedNext view c.args.seat kinds.Done = rw c.self.view_is c.requires in
     let phase = ends view c.self.inside.pool c.args.seat c.self.invariant.plan c.self.invariant.legal wanted c.self.invariant.stands in
     rw (← c.self.view_is) (enters_is c.args.seat kinds.Done c.push_spare.new.self c.self.invariant
-    (done_allowed view c.args.seat wanted phase.phase_is ((c.in_ok-try_done.ensures.ok c.self.inside.script c.self.inside.log.items phase).0 (refl {a = true})))
+    (done_allowed view c.args.seat wanted phase.phase_is ((c.in_ok-try_done.ensures.ok c.self.inside.script c.self.inside.log.items phase).0
+    (refl {a = true})))
     c.push_spare.ensures.items)

@@ -1,9 +1,8 @@
 use Rattle.env_core.proofs.Bodies.{bodies_kept}
-use Rattle.env_core.proofs.Entries.{driver_at, enters_is, few_of_action, has_room, holds_next}
+use Rattle.env_core.proofs.Entries.{driver_at, enters_is, few_of_action, has_room, holds_next, main_still, pool_still}
 use Rattle.env_core.proofs.Wanted.{idle_allowed}
 use Rattle.env_core.specs.Calls.{IsIdle, IsWantedNext}
 use Rattle.env_core.specs.Views.{EnvView}
-use Rattle.pool_core.proofs.Others.{stands_at_still}
 use Rattle.std.proofs.Common.{refl, true}
 use Rattle.task_base.specs.declared.entry.Entry.{Entry}
 use Rattle.task_base.specs.declared.entry.Kind.TheVariants as kinds
@@ -25,11 +24,12 @@ invariant_of-self g c =
     let wanted : IsWantedNext view c.args.seat kinds.Idle = rw c.self.view_is c.requires in
     let idle : IsIdle view = (c.in_ok-idle.ensures.ok view.script view.history c.self.invariant.stands).0 (refl {a = true}) in
     let e : Entry = record { seat = c.args.seat; kind = kinds.Idle } in
-    holds_next e c.self.inside.bodies.items c.push_spare.new.self c.self.inside.pool c.entered.new.self.place c.entered.new.self.made c.self.invariant
+    holds_next e c.self.inside.bodies.items c.push_spare.new.self c.self.inside.pool c.self.inside.main c.entered.new.self.place c.entered.new.self.made
+    c.self.invariant
     (idle_allowed view c.args.seat c.self.invariant.plan c.self.invariant.legal wanted idle) c.push_spare.ensures.items c.push_spare.ensures.spare
-    (stands_at_still c.self.inside.script c.self.inside.log.items e c.self.inside.pool refl c.self.invariant.stands)
+    (pool_still e c.self.invariant refl) (main_still e c.self.invariant refl)
     (bodies_kept c.self.inside.bodies.items _ _ c.self.inside.script c.self.inside.log.items e (λ t. refl) c.self.invariant.drawer)
-    (driver_at c.args.seat kinds.Idle c.entered.new.self c.self.invariant wanted c.entered.ensures)
+    (driver_at c.args.seat kinds.Idle c.entered.new.self c.self.invariant wanted refl c.entered.ensures)
 
 pub returns-clause-enters : goal.returns-clause-enters
 returns-clause-enters g c =

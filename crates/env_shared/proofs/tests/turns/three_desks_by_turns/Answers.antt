@@ -63,11 +63,7 @@ try_idle-requires g c =
     drives_wants crossing_plan (driven kind ∷ driven next ∷ []) c.post-2.new.self kinds.Idle behind_both (crossing_wants_idle c.post.result c.post-2.result)
 
 pub end_one-requires : goal.end_one-requires
-end_one-requires g c =
-    let at = c.take_one-short.ensures.at in
-    record { at = (at.0, c.compute.ensures.at _ _ at.1) }
+end_one-requires g c = record { at = c.compute.ensures.at _ c.take_one-short.ensures.at }
 
 pub act_one-left-requires : goal.act_one-left-requires
-act_one-left-requires g c =
-    let at = c.act_one-entered.ensures.at in
-    record { at = (at.0, c.compute-2.ensures.at _ _ at.1) }
+act_one-left-requires g c = record { at = c.compute-2.ensures.at _ c.act_one-entered.ensures.at }

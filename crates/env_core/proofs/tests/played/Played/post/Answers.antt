@@ -1,5 +1,5 @@
 use Rattle.env_core.proofs.TestedCalls.{few_made, played_driver, wants_post}
-use Rattle.std.proofs.Common.{◌≡◌, Some}
+use Rattle.std.proofs.Common.{◌≡◌, Some, refl}
 use Rattle.std.specs.Prelude.{slice_get}
 use Rattle.task_base.specs.declared.script.Action.TheVariants as actions
 use Rattle.env_core.proofs.tests.played.Played.post.Goals as goal
@@ -15,5 +15,6 @@ entered-requires-clause-few g c = few_made c.self.invariant
 pub invariant_of-self : goal.invariant_of-self
 invariant_of-self g c =
     let here : slice_get c.self.inside.script.actions c.self.inside.agenda.place ≡ Some (actions.Post c.in-Post.task c.in-Post.runner c.in-Post.delay) = cc in
-    played_driver c.entered.new.self c.self.invariant (wants_post c.self.invariant c.in-Post.task c.in-Post.runner c.in-Post.delay c.post-accepted.result here)
-    c.post-accepted.ensures.enters c.entered.ensures
+    played_driver c.entered.new.self c.self.invariant (wants_post c.self.invariant c.in-Post.task c.in-Post.runner c.in-Post.delay c.post-accepted.result
+    here)
+    refl c.post-accepted.ensures.enters c.entered.ensures

@@ -1,5 +1,5 @@
 use Rattle.env_core.proofs.TestedCalls.{played_driver, wants_shutdown}
-use Rattle.std.proofs.Common.{◌≡◌, Some, arith}
+use Rattle.std.proofs.Common.{◌≡◌, Some, arith, refl}
 use Rattle.std.specs.Prelude.{slice_get}
 use Rattle.task_base.specs.declared.script.Action.TheVariants as actions
 use Rattle.env_core.proofs.tests.played.Played.start_shutdown.Goals as goal
@@ -12,4 +12,5 @@ start_shutdown-requires g c =
 pub invariant_of-self : goal.invariant_of-self
 invariant_of-self g c =
     let here : slice_get c.self.inside.script.actions c.self.inside.agenda.place ≡ Some actions.Shutdown = cc in
-    played_driver c.entered.new.self c.self.invariant (wants_shutdown c.self.invariant here (omega arith)) c.start_shutdown.ensures.enters c.entered.ensures
+    played_driver c.entered.new.self c.self.invariant (wants_shutdown c.self.invariant here
+    (omega arith)) refl c.start_shutdown.ensures.enters c.entered.ensures

@@ -1,5 +1,5 @@
 use Rattle.env_core.proofs.TestedCalls.{few_made, played_driver, wants_tick}
-use Rattle.std.proofs.Common.{◌≡◌, Some}
+use Rattle.std.proofs.Common.{◌≡◌, Some, refl}
 use Rattle.std.specs.Prelude.{slice_get}
 use Rattle.task_base.specs.declared.script.Action.TheVariants as actions
 use Rattle.env_core.proofs.tests.played.Played.tick.Goals as goal
@@ -16,4 +16,4 @@ pub invariant_of-self : goal.invariant_of-self
 invariant_of-self g c =
     let here : slice_get c.self.inside.script.actions c.self.inside.agenda.place ≡ Some (actions.Tick c.in-Tick.count) = cc in
     played_driver c.entered.new.self c.self.invariant (wants_tick c.self.invariant c.in-Tick.count c.tick-moment.result here)
-    c.tick-moment.ensures.enters c.entered.ensures
+    refl c.tick-moment.ensures.enters c.entered.ensures

@@ -1,7 +1,8 @@
 -- How the driver moves on in its actions.
-use Rattle.std.proofs.Common.{◌≡◌, ℕ, zero, suc, ◌+◌, ◌<◌, Bool, true, false, cond, eqb, List, [], ◌∷◌, ◌++◌, length, refl, sym, ap, subst, ◌∙◌, Some, None, arith, get_or, drop, drop-cons}
+use Rattle.std.proofs.Common.{◌≡◌, ℕ, zero, suc, ◌+◌, ◌<◌, Bool, true, false, List, [], ◌∷◌, ◌++◌}
+use Rattle.std.proofs.Common.{length, refl, sym, ap, subst, ◌∙◌, Some, None, append-nil, append_assoc, arith, get_or, drop, drop-cons}
 use Rattle.std.specs.Option.{option_map_or}
-use Rattle.std.specs.Prelude.{is_none, ◌&&◌}
+use Rattle.std.specs.Prelude.{is_none}
 use Rattle.list_laws.proofs.Values.{eqb-same}
 use Rattle.list_laws.specs.Lists.{holds_of}
 use Rattle.task_base.specs.Plan.{Plan}
@@ -12,13 +13,14 @@ use Rattle.task_base.specs.declared.policy.Policy.{Policy}
 use Rattle.task_base.specs.declared.policy.Policy.TheVariants as policies
 use Rattle.task_base.specs.declared.script.Action.{Action}
 use Rattle.task_base.specs.declared.script.Action.TheVariants as actions
-use Rattle.task_model.specs.Seats.{running, running_after, holding, holding_after, is_free}
-use Rattle.task_model.proofs.Growth.{running_push, holding_push}
+use Rattle.task_base.specs.declared.script.FenceAt.{FenceAt}
+use Rattle.task_base.specs.declared.script.FenceAt.TheVariants as fences
+use Rattle.task_model.specs.Seats.{running, holding, is_free}
 use Rattle.hist_model.specs.Script.{behind, behind_action, same_policy, wants, current, is_wanted, is_finished}
 use Rattle.hist_model.specs.Views.{own_entries}
 use Rattle.hist_model.specs.Laws.Agenda.{agenda, agenda_from, agenda_after, current_of}
 use Rattle.hist_model.proofs.Laws.Agenda.{agenda_push, current_is_first}
-use Rattle.env_crew.specs.Desk.{DeskView, mine, with_own}
+use Rattle.env_crew.specs.Desk.{DeskView, mine}
 use Rattle.env_crew.specs.Driving.{IsAt, IsWanted}
 
 -- one more entry of an agenda
@@ -27,14 +29,19 @@ from_push : (script : Plan) (actions : List Action) (made : List Entry) (e : Ent
 unfolding agenda
 from_push script actions made e = agenda_push (record script { actions = actions }) made e
 
--- the first of the actions makes one more entry
-pub at_push : (old new : DeskView) (actions : List Action) (made : List Entry) (kind : Kind) → new.script ≡ old.script → mine new ≡ with_own old kind
-    → IsAt old actions made → IsAt new actions (made ++ record { seat = old.seat; kind = kind } ∷ [])
+-- the first of the actions makes more entries
+pub at_more : (old new : DeskView) (actions : List Action) (made more : List Entry) → new.script ≡ old.script → mine new ≡ mine old ++ more
+    → IsAt old actions made → IsAt new actions (made ++ more)
 unfolding IsAt
-at_push old new actions made kind same own at =
-    let e : Entry = record { seat = old.seat; kind = kind } in
-    ap (λ s. agenda s (mine new)) same ∙ ap (λ entries. agenda old.script entries) own ∙ agenda_push old.script (mine old) e ∙ ap (λ a. agenda_after a e) at
-    ∙ sym (from_push old.script actions made e)
+at_more old new actions made more same own at = ap (λ s. agenda s (mine new)) same ∙ ap (λ all. agenda old.script all) own ∙ grown (mine old) made more at
+  where
+    grown : (own made more : List Entry) → agenda old.script own ≡ agenda_from actions made
+        → agenda old.script (own ++ more) ≡ agenda_from actions (made ++ more)
+    grown own made [] at = ap (λ all. agenda old.script all) (append-nil own) ∙ at ∙ ap (λ all. agenda_from actions all) (sym (append-nil made))
+    grown own made (e ∷ more) at = ap (λ all. agenda old.script all) (sym (append_assoc own (e ∷ []) more))
+        ∙ grown (own ++ e ∷ []) (made ++ e ∷ []) more
+        (agenda_push old.script own e ∙ ap (λ a. agenda_after a e) at ∙ sym (from_push old.script actions made e))
+        ∙ ap (λ all. agenda_from actions all) (append_assoc made (e ∷ []) more)
 
 -- what the first of the actions wants is wanted next
 pub wanted_at : (d : DeskView) (action : Action) (rest : List Action) (made : List Entry) (kind : Kind) → d.seat ≡ 0 → IsAt d (action ∷ rest) made
@@ -47,18 +54,18 @@ wanted_at d action rest made kind driver at more is = record {
       ∙ ap (λ o. current_of (option_map_or (λ left. agenda_from rest left) o (record { actions = action ∷ rest; made = made }))) more) ∙ is);
 }
 
+-- an action that has made nothing wants its first entry
+pub wanted_first : (d : DeskView) (given action : Action) (kind : Kind) → d.seat ≡ 0 → given ≡ action → (rest : List Action) × IsAt d (given ∷ rest) []
+    → behind_action action [] ≡ None → wants (mine d) action [] kind ≡ true → IsWanted d kind
+wanted_first d given action kind driver is at more wanted =
+    wanted_at d action at.0 [] kind driver (subst (λ x. IsAt d (x ∷ at.0) []) is at.1) more wanted
+
 -- the first of the actions is complete, and the next one begins
 pub at_next : (d : DeskView) (action : Action) (rest : List Action) (made left : List Entry) → IsAt d (action ∷ rest) made
     → behind_action action made ≡ Some left → IsAt d rest left
 unfolding IsAt
 at_next d action rest made left at done =
     at ∙ ap (λ o. option_map_or (λ left. agenda_from rest left) o (record { actions = action ∷ rest; made = made })) done
-
--- an action of one entry makes it, and the next one begins
-pub at_one : (old new : DeskView) (action : Action) (rest : List Action) (kind : Kind) → new.script ≡ old.script → mine new ≡ with_own old kind
-    → behind_action action (record { seat = old.seat; kind = kind } ∷ []) ≡ Some [] → IsAt old (action ∷ rest) [] → IsAt new rest []
-at_one old new action rest kind same own done at =
-    at_next new action rest (record { seat = old.seat; kind = kind } ∷ []) [] (at_push old new (action ∷ rest) [] kind same own at) done
 
 -- a count of entries that was not made
 pub behind_short : (n : ℕ) (made : List Entry) → length made < n → behind n made ≡ None
@@ -76,6 +83,24 @@ behind_all (suc n) (e ∷ made) h = behind_all n made (omega arith)
 -- a post is what a post's action wants
 pub wants_post : (own : List Entry) (t r d : ℕ) (ok : Bool) → wants own (actions.Post t r d) [] (kinds.Post t r d ok) ≡ true
 wants_post own t r d ok = rw (eqb-same t, eqb-same r, eqb-same d) refl
+
+-- and so to a main queue
+pub wants_main : (own : List Entry) (t q d : ℕ) (ok : Bool) → wants own (actions.Main t q d) [] (kinds.Main t q d ok) ≡ true
+wants_main own t q d ok = rw (eqb-same t, eqb-same q, eqb-same d) refl
+
+-- a fence that stands there
+pub wants_fence : (own : List Entry) (q : ℕ) (at : FenceAt) → wants own (actions.Fence q at) [] (kinds.Fence q at) ≡ true
+wants_fence own q fences.Now = rw (eqb-same q) refl
+wants_fence own q fences.Start = rw (eqb-same q) refl
+
+-- a vote for it, or against it
+pub wants_vote : (own : List Entry) (q v : ℕ) (on : Bool) → wants own (actions.Vote q v on) [] (kinds.Vote q v on) ≡ true
+wants_vote own q v true = rw (eqb-same q, eqb-same v) refl
+wants_vote own q v false = rw (eqb-same q, eqb-same v) refl
+
+-- the class
+pub wants_rank : (own : List Entry) (q c : ℕ) → wants own (actions.Rank q c) [] (kinds.Rank q c) ≡ true
+wants_rank own q c = rw (eqb-same q, eqb-same c) refl
 
 -- a policy is itself
 pub policy_same : (p : Policy) → same_policy p p ≡ true
@@ -99,35 +124,6 @@ pub at_action : (d : DeskView) (xs : List Action) (i : ℕ) (x : Action) → i <
 at_action d xs i x below at =
     let next : suc i ≡ i + 1 = omega arith in
     subst (λ n. IsAt d (get_or xs i x ∷ drop n xs) []) next (subst (λ l. IsAt d l []) (drop-cons xs i x below) at)
-
--- entries of the driver by the actions of a script of the pool
-abbrev pub is_driving : Kind → Bool
-is_driving (kinds.Post task runner delay ok) = true
-is_driving (kinds.Tick now) = true
-is_driving (kinds.Policy policy) = true
-is_driving kinds.Idle = true
-is_driving kinds.Shutdown = true
-is_driving kinds.Done = true
-is_driving kind = false
-
--- they leave what the driver runs and holds
-pub rests_on : (old new : DeskView) (kind : Kind) → mine new ≡ with_own old kind → is_driving kind ≡ true → is_free (mine new) 0 ≡ is_free (mine old) 0
-rests_on old new kind own driving = rw (own, running_push (mine old) e 0, holding_push (mine old) e 0) (by kind driving (eqb old.seat 0))
-  where
-    e : Entry
-    e = record { seat = old.seat; kind = kind }
-
-    by : (k : Kind) → is_driving k ≡ true → (b : Bool)
-        → (is_none (cond b (running_after (running (mine old) 0) k) (running (mine old) 0))
-        && is_none (cond b (holding_after (holding (mine old) 0) k) (holding (mine old) 0))) ≡ is_free (mine old) 0
-    by (kinds.Post task runner delay ok) d true = refl
-    by (kinds.Tick now) d true = refl
-    by (kinds.Policy policy) d true = refl
-    by kinds.Idle d true = refl
-    by kinds.Shutdown d true = refl
-    by kinds.Done d true = refl
-    by k d false = refl
-    by k d true = absurd cc
 
 -- a driver with no entry runs and holds nothing
 pub nothing_rests : (d : DeskView) → mine d ≡ [] → is_free (mine d) 0 ≡ true

@@ -1,0 +1,39 @@
+-- A task that a seat has taken, while its steps are done.
+use Rattle.std.specs.Prelude.{◌≡◌, ℕ, ◌≤◌, Bool, true, false, List, ◌++◌, filter, length}
+use Rattle.std.specs.List.{AllByRecursion}
+use Rattle.task_base.specs.Steps.{is_act}
+use Rattle.task_base.specs.declared.entry.Entry.{Entry}
+use Rattle.task_base.specs.declared.entry.Kind.{Kind}
+use Rattle.task_base.specs.declared.entry.Kind.TheVariants as kinds
+use Rattle.task_base.specs.declared.step.Step.{Step}
+use Rattle.task_model.specs.Seats.{acts_done}
+use Rattle.task_body.specs.Bodies.{AssignmentView}
+use Rattle.env_core.specs.Calls.{IsSeats}
+use Rattle.env_crew.specs.Desk.{DeskView, IsLater, as_seen, mine}
+
+-- of the act steps of all these steps so many were entered, and those of the rest were not
+pub record Parted (whole rest : List Step) (n : ℕ) : Type 0 where
+  pub done : List Step
+  pub parted : filter is_act whole ≡ done ++ filter is_act rest
+  pub count : length done ≡ n
+
+-- the seat runs the task of this assignment, and has entered the act steps of the steps that are done, and no others
+pub record IsUnderWay (d : DeskView) (work : AssignmentView) : Type 0 where
+  pub known : d.seat ≤ d.script.workers
+  pub seats : IsSeats (as_seen d) d.seat work
+  pub entered : Parted work.whole work.rest (acts_done (mine d) d.seat)
+
+-- the entry of an act step
+abbrev pub is_acting : Kind → Bool
+is_acting (kinds.Post task runner delay ok) = true
+is_acting (kinds.Main task queue delay ok) = true
+is_acting (kinds.Enter task scope) = true
+is_acting (kinds.Leave task) = true
+is_acting kind = false
+
+-- the same desk, now or later; what the seat entered meanwhile are act steps
+pub record HasDoneActs (old new : DeskView) : Type 0 where
+  pub later : IsLater old new
+  pub made : List Entry
+  pub grows : mine new ≡ mine old ++ made
+  pub acts : AllByRecursion (λ e. is_acting e.kind ≡ true) made
