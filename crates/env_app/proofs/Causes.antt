@@ -5,8 +5,9 @@ use Rattle.task_base.specs.declared.fault.Fault.{Fault}
 use Rattle.task_base.specs.declared.fault.Fault.TheVariants.{NotLegal, BadWords, BadScript, ReadFault, WriteFault, NoMemory, TooLarge}
 use Rattle.task_base.specs.Fault.{status_of}
 use Rattle.env_app.specs.declared.words.Command.{Command}
-use Rattle.env_app.specs.Outcome.{Ends, RunsTo, HasCause, IsSteady, TookMore, TookWithin, script_fault}
-use Rattle.env_app.proofs.Outcomes.{built_fault}
+use Rattle.env_app.specs.Outcome.{Ends, RunsTo, HasCause, IsSteady, TookMore, TookWithin}
+use Rattle.env_app.proofs.Outcomes.{no_fault}
+use Rattle.script_model.specs.Grammar.{first_fault}
 
 -- ---- what can not be
 
@@ -56,7 +57,7 @@ cause_of_fault command told source sink (BadScript line reason) runs source_stea
   no_command = λ none. absurd (some_not_none command runs.0 none);
   read_to_end = λ e. runs.1;
   done = λ e. absurd (omega arith);
-  bad_script = λ e bytes told. let h = runs.2 bytes told in (h.0, is_there (script_fault bytes) (line, reason) h.1);
+  bad_script = λ e bytes told. let h = runs.2 bytes told in (h.0, is_there (first_fault bytes) (line, reason) h.1);
   no_script = λ there bytes told few bad. inl refl;
   read_fault = λ e. absurd (omega arith);
   write_fault = λ e. absurd (omega arith);
@@ -66,9 +67,9 @@ cause_of_fault command told source sink (BadScript line reason) runs source_stea
   took_more = λ e. absurd (omega arith);
   took_within = λ not. within (λ same. absurd cc);
   large = λ there bytes told many. let few = (runs.2 bytes told).0 in absurd (omega arith);
-  good_input = λ there bytes told script few reads built calm quiet.
+  good_input = λ there bytes told script few reads calm quiet.
       let bad = (runs.2 bytes told).1 in
-      let good = built_fault bytes script reads built in
+      let good = no_fault bytes script reads in
       absurd cc;
 }
 cause_of_fault command told source sink ReadFault runs source_steady sink_steady more within = record {
@@ -87,7 +88,7 @@ cause_of_fault command told source sink ReadFault runs source_steady sink_steady
   took_more = λ e. absurd (omega arith);
   took_within = λ not. within (λ same. absurd cc);
   large = λ there bytes told many. inl refl;
-  good_input = λ there bytes told script few reads built calm quiet. absurd (calm runs.1);
+  good_input = λ there bytes told script few reads calm quiet. absurd (calm runs.1);
 }
 cause_of_fault command told source sink WriteFault runs source_steady sink_steady more within = record {
   known = (omega arith, λ e. absurd (omega arith));
@@ -96,7 +97,7 @@ cause_of_fault command told source sink WriteFault runs source_steady sink_stead
   read_to_end = λ e. runs.1;
   done = λ e. absurd (omega arith);
   bad_script = λ e. absurd (omega arith);
-  no_script = λ there bytes told few bad. absurd (some_not_none (script_fault bytes) bad (runs.3 bytes told).2);
+  no_script = λ there bytes told few bad. let run = (runs.3 bytes told).1 in absurd (some_not_none (first_fault bytes) bad (no_fault bytes run.script run.reads));
   read_fault = λ e. absurd (omega arith);
   write_fault = λ e. (runs.2, runs.3);
   source_steady = λ not. source_steady (λ same. absurd cc);
@@ -105,7 +106,7 @@ cause_of_fault command told source sink WriteFault runs source_steady sink_stead
   took_more = λ e. absurd (omega arith);
   took_within = λ not. within (λ same. absurd cc);
   large = λ there bytes told many. let few = (runs.3 bytes told).0 in absurd (omega arith);
-  good_input = λ there bytes told script few reads built calm quiet. absurd (quiet runs.2);
+  good_input = λ there bytes told script few reads calm quiet. absurd (quiet runs.2);
 }
 cause_of_fault command told source sink (NoMemory error) runs source_steady sink_steady more within = record {
   known = (omega arith, λ e. absurd (omega arith));
@@ -123,7 +124,7 @@ cause_of_fault command told source sink (NoMemory error) runs source_steady sink
   took_more = λ e. absurd (omega arith);
   took_within = λ not. within (λ same. absurd cc);
   large = λ there bytes told many. inr (inl refl);
-  good_input = λ there bytes told script few reads built calm quiet. inr refl;
+  good_input = λ there bytes told script few reads calm quiet. inr refl;
 }
 cause_of_fault command told source sink TooLarge runs source_steady sink_steady more within = record {
   known = (omega arith, λ e. absurd (omega arith));
@@ -141,5 +142,5 @@ cause_of_fault command told source sink TooLarge runs source_steady sink_steady 
   took_more = λ e. more refl;
   took_within = λ not. absurd (not refl);
   large = λ there bytes told many. inr (inr refl);
-  good_input = λ there bytes told script few reads built calm quiet. let many = runs.1 bytes told in absurd (omega arith);
+  good_input = λ there bytes told script few reads calm quiet. let many = runs.1 bytes told in absurd (omega arith);
 }

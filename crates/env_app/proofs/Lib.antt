@@ -1,6 +1,5 @@
 pub mod Steps
 pub mod Parses
-pub mod Plans
 pub mod Fresh
 pub mod Seats
 pub mod Outcomes

@@ -1,20 +1,17 @@
 -- What the answers of the parts of a run say together.
-use Rattle.std.proofs.Common.{◌≡◌, ◌≤◌, ◌+◌, ℕ, true, false, List, [], ◌++◌, length, take, Option, Some, None, refl, sym, ap, subst, ◌∙◌, inl, inr, append-nil, arith}
+use Rattle.std.proofs.Common.{◌≡◌, ◌≤◌, ◌+◌, ℕ, List, [], ◌++◌, length, take, Option, Some, None, refl, sym, ap, subst, ◌∙◌, inl, inr, append-nil, arith}
 use Rattle.std.specs.Prelude.{◌⊎◌, alloc_error, IfErr, IfSome, OnOk, OnErr, Result, Ok, Err}
 use Rattle.std.proofs.lemmas.List.{take_all, length-append, length-take}
 use Rattle.task_base.specs.Fault.{status_of}
 use Rattle.task_base.specs.declared.fault.Fault.{Fault}
 use Rattle.task_base.specs.declared.fault.Fault.TheVariants.{NotLegal, BadWords, BadScript, ReadFault, WriteFault, NoMemory, TooLarge}
-use Rattle.std.specs.Result.{result_err}
 use Rattle.task_base.specs.Plan.{Plan}
-use Rattle.task_base.specs.declared.fault.TheConstants.{NOT_BUILT}
 use Rattle.task_base.specs.declared.entry.Entry.{Entry}
 use Rattle.hist_model.specs.Legal.{IsLegal}
 use Rattle.hist_model.specs.Script.{IsWhole}
-use Rattle.script_model.specs.Grammar.{Reads, first_fault, script_read}
-use Rattle.env_app.specs.Built.{is_built}
+use Rattle.script_model.specs.Grammar.{Reads, first_fault}
 use Rattle.env_app.specs.declared.words.Command.{Command}
-use Rattle.env_app.specs.Outcome.{Ends, Failed, LoadsScript, Wrote, WroteAll, WroteFront, RunsTo, IsFaultAt, fault_in, note_line, note_of_status, output_of, script_fault, readings_of}
+use Rattle.env_app.specs.Outcome.{Ends, Failed, LoadsScript, Wrote, WroteAll, WroteFront, RunsTo, IsFaultAt, note_line, note_of_status, output_of, readings_of}
 use Rattle.env_crew.specs.Driving.{HasMomentsOf}
 use Rattle.env_io.specs.Bytes.{Gives, Gains}
 use Rattle.env_io.proofs.Bytes.{Gives-trans}
@@ -42,24 +39,9 @@ wrote_front (Err e) before after text whole part = part
 
 -- ---- scripts and their faults
 
--- a script that runs today has no fault
-pub built_fault : (bytes : List ℕ) (script : Plan) → Reads bytes script → is_built script ≡ true → script_fault bytes ≡ None
-unfolding script_fault
-built_fault bytes script reads built = rw (reads, built) refl
-
--- one that does not has line 0 and its own reason
-pub unbuilt_fault : (bytes : List ℕ) (script : Plan) → Reads bytes script → is_built script ≡ false → script_fault bytes ≡ Some (0, NOT_BUILT)
-unfolding script_fault
-unbuilt_fault bytes script reads built = rw (reads, built) refl
-
--- and bytes that are no script have their first fault
-pub first_fault_is : (bytes : List ℕ) (at : ℕ × ℕ) → first_fault bytes ≡ Some at → script_fault bytes ≡ Some at
-unfolding script_fault
-first_fault_is bytes at first = found (script_read bytes) first
-  where
-    found : (r : Result Plan (ℕ × ℕ)) → result_err r ≡ Some at → fault_in r ≡ Some at
-    found (Ok script) h = absurd cc
-    found (Err at') h = h
+-- a script has no fault
+pub no_fault : (bytes : List ℕ) (script : Plan) → Reads bytes script → first_fault bytes ≡ None
+no_fault bytes script reads = rw reads refl
 
 -- ---- runs
 
@@ -75,7 +57,7 @@ ran command told source sink script log result loads legal whole moments all cut
         → Wrote (Some command) told How source sink
     wrote How written bytes is =
         let read = loads.2 bytes is in
-        (read.0, record { script = script; log = log; reads = read.1; legal = legal; whole = whole; moments = moments; written = written }, read.2)
+        (read.0, record { script = script; log = log; reads = read.1; legal = legal; whole = whole; moments = moments; written = written })
 
     by : (r : Result (Unit {0}) Fault) → OnOk r (WroteAll sink.before sink.after (output_of command.json log))
         → (r ≡ Err WriteFault → WroteFront sink.before sink.after (output_of command.json log)) → (r ≡ Err WriteFault → Failed sink)

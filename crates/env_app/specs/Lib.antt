@@ -1,4 +1,3 @@
-pub mod Built
 pub mod CommandLine
 pub mod Crew
 pub mod Outcome

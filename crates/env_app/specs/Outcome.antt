@@ -1,5 +1,5 @@
 -- What a run did, by what it read and what it wrote.
-use Rattle.std.specs.Prelude.{alloc_error, ◌≡◌, ◌≢◌, ◌⊎◌, ◌<◌, ◌≤◌, ℕ, Bool, true, ◌==◌, if◌then◌else◌, List, [], ◌∷◌, ◌++◌, length, take, find, codes, Option, Some, None, IfSome, IsSome, Result, Ok, Err}
+use Rattle.std.specs.Prelude.{alloc_error, ◌≡◌, ◌≢◌, ◌⊎◌, ◌<◌, ◌≤◌, ℕ, Bool, ◌==◌, if◌then◌else◌, List, [], ◌∷◌, ◌++◌, length, take, find, codes, Option, Some, None, IfSome, IsSome, Result, Ok, Err}
 use Rattle.std.specs.Option.{option_map_or}
 use Rattle.task_base.specs.Plan.{Plan}
 use Rattle.task_base.specs.Fault.{status_of, note_of}
@@ -9,14 +9,12 @@ use Rattle.task_base.specs.declared.fault.Fault.{Fault}
 use Rattle.task_base.specs.declared.fault.Fault.TheVariants.{NotLegal, BadWords, BadScript, ReadFault, WriteFault, NoMemory, TooLarge}
 use Rattle.env_io.specs.Bytes.{Gives, Gains, Rose}
 use Rattle.env_io.specs.Readings.{no_step, step_readings}
-use Rattle.task_base.specs.declared.fault.TheConstants.{NOT_BUILT}
-use Rattle.script_model.specs.Grammar.{Reads, script_read}
+use Rattle.script_model.specs.Grammar.{Reads, first_fault}
 use Rattle.log_model.specs.LogText.{log_json, log_text}
 use Rattle.hist_model.specs.Legal.{IsLegal}
 use Rattle.hist_model.specs.Script.{IsWhole}
-use Rattle.env_core.specs.Built.{IsBuilt}
+use Rattle.script_model.specs.Laws.Sound.{IsSound}
 use Rattle.env_crew.specs.Driving.{HasMomentsOf}
-use Rattle.env_app.specs.Built.{is_built}
 use Rattle.env_app.specs.declared.words.Command.{Command}
 use Rattle.env_app.specs.CommandLine.{asks_json, asks_step}
 
@@ -39,16 +37,6 @@ pub record HasRun (bytes : List ℕ) (json : Bool) (told : ℕ → Option ℕ) (
   pub whole : IsWhole script log
   pub moments : HasMomentsOf told log
   pub written : Written (output_of json log)
-
--- the fault of a script that was read, or of its first bad line: that one's number and reason, or line 0 and its own reason
--- for a script that does not run today
-abbrev pub fault_in : Result Plan (ℕ × ℕ) → Option (ℕ × ℕ)
-fault_in (Err at) = Some at
-fault_in (Ok script) = if is_built script then None else Some (0, NOT_BUILT)
-
--- the fault that the bytes have as a script to be run, as line and reason, if they have one
-unfoldable pub script_fault : List ℕ → Option (ℕ × ℕ)
-script_fault bytes = fault_in (script_read bytes)
 
 -- the whole text was added to what the sink holds
 abbrev pub WroteAll : Option (List ℕ) → Option (List ℕ) → List ℕ → Type 0
@@ -98,9 +86,9 @@ IsSteady side = side.faults_after ≡ side.faults_before
 
 -- what the answer of reading a script says
 abbrev pub LoadsScript : Ends → Result Plan Fault → Type 0
-LoadsScript source (Ok script) = IsReadToEnd source × IsBuilt script
-    × OfBytes source (λ bytes. IsWithin bytes × Reads bytes script × (script_fault bytes ≡ None))
-LoadsScript source (Err (BadScript line reason)) = IsReadToEnd source × OfBytes source (λ bytes. IsWithin bytes × (script_fault bytes ≡ Some (line, reason)))
+LoadsScript source (Ok script) = IsReadToEnd source × IsSound script
+    × OfBytes source (λ bytes. IsWithin bytes × Reads bytes script)
+LoadsScript source (Err (BadScript line reason)) = IsReadToEnd source × OfBytes source (λ bytes. IsWithin bytes × (first_fault bytes ≡ Some (line, reason)))
 LoadsScript source (Err ReadFault) = Failed source
 LoadsScript source (Err TooLarge) = OfBytes source (λ bytes. MOST_BYTES < length bytes)
 LoadsScript source (Err (NoMemory error)) = Unit {0}
@@ -108,10 +96,10 @@ LoadsScript source (Err (NotLegal line)) = ⊥
 LoadsScript source (Err BadWords) = ⊥
 LoadsScript source (Err WriteFault) = ⊥
 
--- the bytes are a script that runs today, and this much of what the command writes of its history was written
+-- the bytes are a script, and this much of what the command writes of its history was written
 abbrev pub Wrote : Option Command → (ℕ → Option ℕ) → (Option (List ℕ) → Option (List ℕ) → List ℕ → Type 0) → Ends → Ends → Type 0
 Wrote command told How source sink = OfBytes source (λ bytes. IsWithin bytes
-    × HasRun bytes (asks_json command) (readings_of (asks_step command) told) (How sink.before sink.after) × (script_fault bytes ≡ None))
+    × HasRun bytes (asks_json command) (readings_of (asks_step command) told) (How sink.before sink.after))
 
 -- what the answer of a run says: its words are a command or none, its clock told these readings, and its source and its sink
 -- were left so
@@ -120,7 +108,7 @@ RunsTo command told source sink (Ok done) = IsSome command × IsReadToEnd source
 RunsTo command told source sink (Err BadWords) = command ≡ None
 RunsTo command told source sink (Err WriteFault) = IsSome command × IsReadToEnd source × Failed sink × Wrote command told WroteFront source sink
 RunsTo command told source sink (Err (BadScript line reason)) = IsSome command × IsReadToEnd source
-    × OfBytes source (λ bytes. IsWithin bytes × (script_fault bytes ≡ Some (line, reason)))
+    × OfBytes source (λ bytes. IsWithin bytes × (first_fault bytes ≡ Some (line, reason)))
 RunsTo command told source sink (Err ReadFault) = IsSome command × Failed source
 RunsTo command told source sink (Err TooLarge) = IsSome command × OfBytes source (λ bytes. MOST_BYTES < length bytes)
 RunsTo command told source sink (Err (NoMemory error)) = Unit {0}
@@ -138,11 +126,10 @@ pub record HasCause (command : Option Command) (told : ℕ → Option ℕ) (sour
   pub read_to_end : (status ≡ 0) ⊎ (status ≡ 3) ⊎ (status ≡ 5) → IsReadToEnd source
   -- under 0 the whole of what the command writes of the run's history was written
   pub done : status ≡ 0 → Wrote command told WroteAll source sink
-  -- 3 comes only where the bytes, within the limit, have a fault as a script: the grammar gives none, or one that does not
-  -- run today
-  pub bad_script : status ≡ 3 → OfBytes source (λ bytes. IsWithin bytes × IsSome (script_fault bytes))
+  -- 3 comes only where the bytes, within the limit, have a fault as a script
+  pub bad_script : status ≡ 3 → OfBytes source (λ bytes. IsWithin bytes × IsSome (first_fault bytes))
   -- and where they have one, nothing but 3, a failed source and want of memory comes
-  pub no_script : IsSome command → OfBytes source (λ bytes. IsWithin bytes → IsSome (script_fault bytes) → (status ≡ 3) ⊎ (status ≡ 4) ⊎ (status ≡ 6))
+  pub no_script : IsSome command → OfBytes source (λ bytes. IsWithin bytes → IsSome (first_fault bytes) → (status ≡ 3) ⊎ (status ≡ 4) ⊎ (status ≡ 6))
   -- 4 comes only where the source failed
   pub read_fault : status ≡ 4 → Failed source
   -- 5 comes only where the sink failed, and a front of what the command writes was written
@@ -157,8 +144,8 @@ pub record HasCause (command : Option Command) (told : ℕ → Option ℕ) (sour
   pub took_within : status ≢ 7 → TookWithin source
   -- and where more came, nothing but 7, a failed source and want of memory comes
   pub large : IsSome command → OfBytes source (λ bytes. MOST_BYTES < length bytes → (status ≡ 4) ⊎ (status ≡ 6) ⊎ (status ≡ 7))
-  -- good input gives no fault: where neither side fails, a script that runs today is run, or memory is wanting
-  pub good_input : IsSome command → OfBytes source (λ bytes. (script : Plan) → IsWithin bytes → Reads bytes script → is_built script ≡ true
+  -- good input gives no fault: where neither side fails, a script is run, or memory is wanting
+  pub good_input : IsSome command → OfBytes source (λ bytes. (script : Plan) → IsWithin bytes → Reads bytes script
       → ¬ Failed source → ¬ Failed sink → (status ≡ 0) ⊎ (status ≡ 6))
 
 -- the note of a fault, with its line feed
@@ -175,4 +162,4 @@ note_of_status at status = option_map_or note_line (find (λ fault. status_of fa
 
 -- under the status of a bad script, this is the line and the reason of the fault that the source's bytes have as a script
 abbrev pub IsFaultAt : Option (List ℕ) → ℕ → ℕ × ℕ → Type 0
-IsFaultAt left status at = status ≡ 3 → (bytes : List ℕ) → left ≡ Some bytes → script_fault bytes ≡ Some at
+IsFaultAt left status at = status ≡ 3 → (bytes : List ℕ) → left ≡ Some bytes → first_fault bytes ≡ Some at

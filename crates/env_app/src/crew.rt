@@ -3,7 +3,7 @@ ghost use Rattle.std.specs.Prelude.{◌≡◌, ◌≤◌, [], length, true, IfOk
 ghost use Rattle.task_base.specs.declared.limits.TheConstants.{MOST_EVENTS};
 ghost use Rattle.hist_model.specs.Legal.{IsLegal};
 ghost use Rattle.hist_model.specs.Script.{IsWhole};
-ghost use Rattle.env_core.specs.Built.{IsBuilt};
+ghost use Rattle.script_model.specs.Laws.Sound.{IsSound};
 ghost use Rattle.env_core.specs.Calls.{AreFresh};
 ghost use Rattle.env_crew.specs.Driving.{HasMomentsOf};
 ghost use Rattle.env_app.specs.Crew.{AreBack, ArePromised, AreSpare, IsDriver, refused};
@@ -33,7 +33,7 @@ pub fn perform<'a, R: Threads + Wait, B: TaskBody, C: Clock, G: Gate>(
     clock: &mut C,
     gate: &G,
 ) -> (EnvSeat<B>, Rows<EnvSeat<B>>)
-    requires plan { IsBuilt script.now }
+    requires plan { IsSound script.now }
     requires script { shared.now.basis ≡ script.now }
     requires stands { shared.now.stands ≡ true }
     requires first { IsDriver shared.now script.now.workers first }
@@ -64,7 +64,7 @@ fn attend_all<'s, E, R: Threads + Wait + Sync, B: TaskBody + Send, C: Clock, G: 
     clock: &mut C,
     gate: &'s G,
 ) -> Result<(EnvSeat<B>, Rows<EnvSeat<B>>), AllocError>
-    requires plan { IsBuilt script.now }
+    requires plan { IsSound script.now }
     requires script { shared.now.basis ≡ script.now }
     requires stands { shared.now.stands ≡ true }
     requires first { IsDriver shared.now 0 first }
@@ -101,7 +101,7 @@ fn in_scope<R: Threads + Wait + Sync, B: TaskBody + Send, C: Clock, G: Gate>(
     clock: &mut C,
     gate: &G,
 ) -> Result<(EnvSeat<B>, Rows<EnvSeat<B>>), AllocError>
-    requires plan { IsBuilt script.now }
+    requires plan { IsSound script.now }
     requires script { shared.now.basis ≡ script.now }
     requires stands { shared.now.stands ≡ true }
     requires first { IsDriver shared.now 0 first }
@@ -112,7 +112,7 @@ fn in_scope<R: Threads + Wait + Sync, B: TaskBody + Send, C: Clock, G: Gate>(
         thread::scope_env(),
         rt,
         |scope| -> Result<(EnvSeat<B>, Rows<EnvSeat<B>>), AllocError>
-            requires plan { IsBuilt script.now }
+            requires plan { IsSound script.now }
             requires script { shared.now.basis ≡ script.now }
             requires stands { shared.now.stands ≡ true }
             requires first { IsDriver shared.now 0 first }
@@ -134,7 +134,7 @@ pub fn run_crew<R: Threads + Wait + Sync, B: TaskBody + Send, C: Clock, G: Gate>
     clock: &mut C,
     gate: &G,
 ) -> Result<Env<B>, AllocError>
-    requires plan { IsBuilt script.now }
+    requires plan { IsSound script.now }
     requires bodies { AreFresh bodies.items (λ body. B.whole body.value) (λ body. B.rest body.value) script.now }
     ensures script { IfOk result (λ env. env.script ≡ script.now) }
     ensures legal { IfOk result (λ env. IsLegal script.now env.history) }

@@ -5,7 +5,6 @@
 #![tactic(auto)]
 
 mod bodies;
-mod built;
 mod crew;
 mod input;
 mod load;

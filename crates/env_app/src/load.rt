@@ -1,15 +1,13 @@
 ghost use Rattle.std.specs.Prelude.{◌≡◌, ◌≢◌, Err};
 ghost use Rattle.env_app.specs.Outcome.{ends, LoadsScript, TookMore, TookWithin};
 
-use crate::built::is_built;
 use crate::input::{InputFault, read_input};
 use env_io::Source;
 use std::alloc::Global;
-use task_base::{Fault, NOT_BUILT, Script};
+use task_base::{Fault, Script};
 use task_script::{ScriptFault, read_script};
 
-/// Reads a script from a source, to its end. A script that does not run today is a bad one, of line 0 and the reason
-/// `NOT_BUILT`.
+/// Reads a script from a source, to its end.
 pub fn load<S: Source>(alloc: Global, source: &mut S) -> Result<Script, Fault>
     ensures outcome { LoadsScript (ends (S.left source.old) (S.left source.new) (S.faults source.old) (S.faults source.new)) result }
     ensures took_more { result ≡ Err Fault.TooLarge → TookMore (ends (S.left source.old) (S.left source.new) (S.faults source.old) (S.faults source.new)) }
@@ -22,17 +20,9 @@ pub fn load<S: Source>(alloc: Global, source: &mut S) -> Result<Script, Fault>
         Err(InputFault::Memory(error)) => return Err(Fault::NoMemory(error)),
         Err(InputFault::TooLarge) => return Err(Fault::TooLarge),
     };
-    let script = match read_script(alloc, &bytes) {
-        Ok(script) => script,
-        Err(ScriptFault::Bad { line, reason }) => return Err(Fault::BadScript { line, reason }),
-        Err(ScriptFault::Memory(error)) => return Err(Fault::NoMemory(error)),
-    };
-    if is_built(&script) {
-        Ok(script)
-    } else {
-        Err(Fault::BadScript {
-            line: 0,
-            reason: NOT_BUILT,
-        })
+    match read_script(alloc, &bytes) {
+        Ok(script) => Ok(script),
+        Err(ScriptFault::Bad { line, reason }) => Err(Fault::BadScript { line, reason }),
+        Err(ScriptFault::Memory(error)) => Err(Fault::NoMemory(error)),
     }
 }

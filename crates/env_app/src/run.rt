@@ -1,8 +1,8 @@
-ghost use Rattle.std.specs.Prelude.{◌≡◌, ◌≢◌, ◌≤◌, ◌⊎◌, ℕ, List, length, map, string_bytes, alloc_error, Some, None, Err, IfOk, IfErr, OnErr};
+ghost use Rattle.std.specs.Prelude.{◌≡◌, ◌≢◌, ◌≤◌, ◌⊎◌, ℕ, List, length, map, string_bytes, alloc_error, Some, None, Err, IfOk, IfErr};
 ghost use Rattle.task_base.specs.declared.limits.TheConstants.{MOST_EVENTS};
 ghost use Rattle.hist_model.specs.Legal.{IsLegal};
 ghost use Rattle.hist_model.specs.Script.{IsWhole};
-ghost use Rattle.env_core.specs.Built.{IsBuilt};
+ghost use Rattle.script_model.specs.Laws.Sound.{IsSound};
 ghost use Rattle.env_io.specs.Bytes.{Gains, Rose};
 ghost use Rattle.env_app.specs.CommandLine.{asks_json, asks_step, command_of};
 ghost use Rattle.env_crew.specs.Driving.{HasMomentsOf};
@@ -30,7 +30,7 @@ fn log_of_run<R: Threads + Wait + Sync, C: Clock, G: Gate>(
     clock: &mut C,
     gate: &G,
 ) -> Result<Rows<Entry>, AllocError>
-    requires { IsBuilt script.now }
+    requires { IsSound script.now }
     ensures legal { IfOk result (λ log. IsLegal script.now log.items) }
     ensures whole { IfOk result (λ log. IsWhole script.now log.items) }
     ensures bounded { IfOk result (λ log. length log.items ≤ MOST_EVENTS) }

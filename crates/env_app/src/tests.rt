@@ -1,6 +1,7 @@
 mod alone;
 mod faults;
 mod gates;
+mod jobs;
 mod main_queues;
 mod outside;
 mod pool;

@@ -1,12 +1,11 @@
 -- The driver's place in its script, as the history grows.
 use Rattle.env_core.specs.Agenda.{counted, entries_of, moved_on, passed, passed_on}
-use Rattle.env_core.specs.Built.{IsBuilt}
 use Rattle.env_core.specs.Holds.{IsAt}
 use Rattle.hist_model.specs.Allowed.{by_script}
 use Rattle.env_core.specs.declared.agenda.Agenda.{Agenda}
 use Rattle.hist_model.specs.Laws.Agenda.{agenda, agenda_from, completes, first_of, next_agenda}
 use Rattle.hist_model.specs.Laws.Agenda as laws
-use Rattle.hist_model.specs.Laws.Consistent.{is_pump}
+use Rattle.hist_model.specs.Laws.Consistent.{is_join, is_pump}
 use Rattle.hist_model.specs.Legal.{IsLegal}
 use Rattle.hist_model.specs.Script.{Current, behind, behind_action, behind_join, behind_pump, current, is_finished, is_joined, is_main_end, is_main_none, wants}
 use Rattle.hist_model.specs.Views.{own_entries}
@@ -19,7 +18,7 @@ use Rattle.hist_model.proofs.Laws.Takes.{by_driver}
 use Rattle.list_laws.proofs.Counts.{count_le}
 use Rattle.list_laws.proofs.Places.{count-push}
 use Rattle.list_laws.specs.Lists.{count}
-use Rattle.script_model.specs.Laws.Sound.{IsActionSound}
+use Rattle.script_model.specs.Laws.Sound.{IsActionSound, IsSound}
 use Rattle.std.proofs.Common.{Bool, List, None, Option, Some, [], add-one, cond, drop, eqb, false, leb, length, length-append, true, zero, suc, ℕ}
 use Rattle.std.proofs.Common.{◌+◌, ◌-◌, ◌++◌, ◌<◌, ◌^◌, ◌∙◌, ◌∷◌, ◌≡◌, ◌≤◌, refl, sym, ap, subst, arith}
 use Rattle.std.proofs.lemmas.Bool.{eq-eqb, eqb-true}
@@ -33,7 +32,7 @@ use Rattle.task_base.specs.declared.entry.Kind.{Kind}
 use Rattle.task_base.specs.declared.entry.Kind.TheVariants as kinds
 use Rattle.task_base.specs.declared.script.Action.{Action}
 use Rattle.task_base.specs.declared.script.Action.TheVariants as actions
-use Rattle.task_model.specs.Seats.{Running, running}
+use Rattle.task_model.specs.Seats.{Holding, Running, holding, running}
 
 -- a sound action is not complete where it has made nothing
 nothing_made : (script : Plan) (x : Action) → IsActionSound script x → behind_action x [] ≡ None
@@ -49,13 +48,14 @@ fresh_agenda script (x ∷ xs) sound = rw (nothing_made script x sound.0) refl
 nothing_counts : (xs : List Action) → counted xs [] ≡ 0
 nothing_counts [] = refl
 nothing_counts (actions.Pump n ∷ xs) = refl
+nothing_counts (actions.Join job ∷ xs) = refl
 nothing_counts (x ∷ xs) = refl
 
 -- at the start the driver is at the first action
-pub driver_at_start : (script : Plan) → IsBuilt script → IsAt script [] 0 0
+pub driver_at_start : (script : Plan) → IsSound script → IsAt script [] 0 0
 unfolding agenda
 driver_at_start script plan =
-    let fresh = fresh_agenda script script.actions plan.sound.actions.each_sound in
+    let fresh = fresh_agenda script script.actions plan.actions.each_sound in
     record {
       within = omega arith;
       actions_are = ap (λ a. a.actions) fresh;
@@ -103,22 +103,39 @@ pump_waits n (e ∷ made) some waits = by (is_main_none e.kind) (is_main_end e.k
         last true is l = absurd cc
         last false is l = let more : 2 ≤ n = grind (arith, is) in omega (arith, more, less (omega (arith, more)) l)
 
+-- a join that is not complete has no reply yet
+join_waits : (made : List Entry) → behind_join made ≡ None → count (λ e. is_joined e.kind) made ≡ 0
+join_waits [] waits = refl
+join_waits (e ∷ made) waits = by (is_joined e.kind) waits (join_waits made)
+  where
+    by : (joined : Bool) → cond joined (Some made) (behind_join made) ≡ None → (behind_join made ≡ None → count (λ x. is_joined x.kind) made ≡ 0)
+        → length (cond joined (e ∷ filter (λ x. is_joined x.kind) made) (filter (λ x. is_joined x.kind) made)) ≡ 0
+    by true k none = absurd cc
+    by false k none = none k
+
 -- whether the driver makes such an entry inside a pump by the script
 abbrev pub is_of_pump : Kind → Bool
 is_of_pump (kinds.MainTake task queue value) = true
 is_of_pump kinds.MainNone = true
 is_of_pump kind = false
 
--- one more entry that a sound action other than a pump makes completes it where it is the last of those that it makes
-completes_is : (script : Plan) (x : Action) (made : List Entry) (kind : Kind) → script.jobs ≡ [] → IsActionSound script x → is_pump x ≡ false
-    → behind_action x made ≡ None → completes x made kind ≡ eqb (length made + 1) (entries_of x)
-completes_is script (actions.Pump n) made kind no_jobs sound other waits = absurd cc
-completes_is script (actions.Tick n) made kind no_jobs sound other waits = refl
-completes_is script (actions.Join job) made kind no_jobs sound other waits = absurd (omega (arith, sound, ap (λ xs. length xs) no_jobs))
-completes_is script (actions.Cancel job) made kind no_jobs sound other waits = refl
-completes_is script actions.Shutdown made kind no_jobs sound other waits = refl
-completes_is script x [] kind no_jobs sound other waits = refl
-completes_is script x (e ∷ made) kind no_jobs sound other waits = absurd cc
+-- whether such an entry counts where the script wants it: all do but those of a pump, and the take of an item inside a join
+abbrev pub is_counted : Kind → Bool
+is_counted (kinds.MainTake task queue value) = false
+is_counted kinds.MainNone = false
+is_counted (kinds.JobTake job id item) = false
+is_counted kind = true
+
+-- one more entry that an action other than a pump or a join makes completes it where it is the last of those that it makes
+completes_is : (x : Action) (made : List Entry) (kind : Kind) → (is_pump x || is_join x) ≡ false → behind_action x made ≡ None
+    → completes x made kind ≡ eqb (length made + 1) (entries_of x)
+completes_is (actions.Pump n) made kind other waits = absurd cc
+completes_is (actions.Tick n) made kind other waits = refl
+completes_is (actions.Join job) made kind other waits = absurd cc
+completes_is (actions.Cancel job) made kind other waits = refl
+completes_is actions.Shutdown made kind other waits = refl
+completes_is x [] kind other waits = refl
+completes_is x (e ∷ made) kind other waits = absurd cc
 
 -- the actions from a place on, and the first of them
 pub place_at : {A : Type 0} (xs : List A) (place : ℕ) (x : A) (rest : List A) → x ∷ rest ≡ drop place xs
@@ -146,12 +163,12 @@ next_place b x rest made e =
     cond (completes x made e.kind) (passed b) (record { place = b.place; made = counted (x ∷ rest) (made ++ e ∷ []) })
 
 -- one more entry of the first action moves the agenda and its place alike
-agenda_next : (script : Plan) (e : Entry) (x : Action) (rest : List Action) (made : List Entry) (b : Agenda) → IsBuilt script
+agenda_next : (script : Plan) (e : Entry) (x : Action) (rest : List Action) (made : List Entry) (b : Agenda) → IsSound script
     → StandsAt script (record { actions = x ∷ rest; made = made }) b
     → StandsAt script (next_agenda (x ∷ rest) made e) (next_place b x rest made e) × (slice_get script.actions b.place ≡ Some x) × IsActionSound script x
 agenda_next script e x rest made b plan s =
     let (is, behind, within) = place_at script.actions b.place x rest s.actions_are in
-    let sound = subst (AllByRecursion (IsActionSound script)) (sym s.actions_are) (all_from _ script.actions b.place plan.sound.actions.each_sound) in
+    let sound = subst (AllByRecursion (IsActionSound script)) (sym s.actions_are) (all_from _ script.actions b.place plan.actions.each_sound) in
     (by (completes x made e.kind) (fresh_agenda script rest sound.1) behind within, is, sound.0)
   where
     by : (c : Bool) → agenda_from rest [] ≡ record { actions = rest; made = [] } → drop (suc b.place) script.actions ≡ rest → b.place < length script.actions
@@ -169,17 +186,18 @@ abbrev Moves : Plan → Agenda → Agenda → Action → List Action → List En
 Moves script b later x rest made e = IsActionSound script x → slice_get script.actions b.place ≡ Some x → behind_action x made ≡ None
     → counted (x ∷ rest) made ≡ b.made → next_place b x rest made e ≡ later
 
--- of an action other than a pump all entries count
-pub all_count : (x : Action) (rest : List Action) (made : List Entry) → is_pump x ≡ false → counted (x ∷ rest) made ≡ length made
+-- of an action other than a pump or a join all entries count
+pub all_count : (x : Action) (rest : List Action) (made : List Entry) → (is_pump x || is_join x) ≡ false → counted (x ∷ rest) made ≡ length made
 all_count (actions.Pump n) rest made other = absurd cc
+all_count (actions.Join job) rest made other = absurd cc
 all_count x rest made other = refl
 
--- an entry of an action other than a pump
-moves_other : (script : Plan) (b : Agenda) (x : Action) (rest : List Action) (made : List Entry) (e : Entry) → IsBuilt script → is_pump x ≡ false
+-- an entry of an action other than a pump or a join
+moves_other : (script : Plan) (b : Agenda) (x : Action) (rest : List Action) (made : List Entry) (e : Entry) → (is_pump x || is_join x) ≡ false
     → Moves script b (moved_on script.actions b) x rest made e
-moves_other script b x rest made e plan other sound is waits counts =
+moves_other script b x rest made e other sound is waits counts =
     let so_far : b.made ≡ length made = sym counts ∙ all_count x rest made other in
-    rw (is, completes_is script x made e.kind plan.no_jobs sound other waits, all_more, so_far) (by (eqb (length made + 1) (entries_of x)))
+    rw (is, completes_is x made e.kind other waits, all_more, so_far) (by (eqb (length made + 1) (entries_of x)))
   where
     all_more : counted (x ∷ rest) (made ++ e ∷ []) ≡ length made + 1
     all_more = all_count x rest (made ++ e ∷ []) other ∙ length-append made (e ∷ [])
@@ -217,8 +235,25 @@ pump_passes : (script : Plan) (b : Agenda) (x : Action) (rest : List Action) (ma
 pump_passes script b (actions.Pump n) rest made e pump none sound is waits counts = rw (is, none) refl
 pump_passes script b x rest made e pump none sound is waits counts = absurd cc
 
+-- the entries of a join: all but the reply leave the place
+join_stays : (script : Plan) (b : Agenda) (x : Action) (rest : List Action) (made : List Entry) (e : Entry) → is_join x ≡ true
+    → is_joined e.kind ≡ false → Moves script b b x rest made e
+join_stays script b (actions.Join job) rest made e join joined sound is waits counts =
+    let more : count (λ (y : Entry). is_joined y.kind) (made ++ e ∷ []) ≡ b.made = count-push (λ (y : Entry). is_joined y.kind) made e
+    ∙ ap (λ k. count (λ (y : Entry). is_joined y.kind) made + cond k 1 0) joined ∙ omega (arith, counts) in
+    rw (joined, more) refl
+join_stays script b x rest made e join joined sound is waits counts = absurd cc
+
+-- the reply completes its join
+join_ends : (script : Plan) (b : Agenda) (x : Action) (rest : List Action) (made : List Entry) (e : Entry) → is_join x ≡ true
+    → is_joined e.kind ≡ true → Moves script b (moved_on script.actions b) x rest made e
+join_ends script b (actions.Join job) rest made e join joined sound is waits counts =
+    let none : b.made ≡ 0 = sym counts ∙ join_waits made waits in
+    rw (is, joined, none) refl
+join_ends script b x rest made e join joined sound is waits counts = absurd cc
+
 -- an entry of the driver moves its place as it does that of its action
-driver_to : (script : Plan) (past : List Entry) (e : Entry) (b later : Agenda) (c : Current) → IsBuilt script → (e.seat == 0) ≡ true
+driver_to : (script : Plan) (past : List Entry) (e : Entry) (b later : Agenda) (c : Current) → IsSound script → (e.seat == 0) ≡ true
     → IsAt script past b.place b.made → current script (own_entries 0 past) ≡ Some c
     → ((rest : List Action) (made : List Entry) → Moves script b later c.action rest made e) → IsAt script (past ++ e ∷ []) later.place later.made
 unfolding agenda
@@ -239,21 +274,58 @@ driver_to script past e b later c plan driver at now moves =
         let moves_x = subst (λ y. Moves script b later y rest made e) (sym (ap (λ (d : Current). d.action) (same_Some _ c is))) (moves rest made) in
         subst (StandsAt script (next_agenda (x ∷ rest) made e)) (moves_x next.2 next.1 (waits x rest refl) s.made_is) next.0
 
--- an action that wants an entry that no pump makes is none
-no_pump : (own : List Entry) (x : Action) (made : List Entry) (kind : Kind) → wants own x made kind ≡ true → is_of_pump kind ≡ false → is_pump x ≡ false
-no_pump own (actions.Pump n) made (kinds.MainTake task queue value) w h = absurd cc
-no_pump own (actions.Pump n) made kinds.MainNone w h = absurd cc
-no_pump own (actions.Pump n) made kind w h = absurd cc
-no_pump own x made kind w h = refl
+-- no pump wants an entry that counts
+no_pump_wants : (own : List Entry) (n : ℕ) (made : List Entry) (kind : Kind) → wants own (actions.Pump n) made kind ≡ true → is_counted kind ≡ true → ⊥
+no_pump_wants own n made (kinds.MainTake task queue value) w h = absurd cc
+no_pump_wants own n made kinds.MainNone w h = absurd cc
+no_pump_wants own n made kind w h = absurd cc
 
--- an entry by the script
-pub driver_moves : (script : Plan) (past : List Entry) (e : Entry) (a : Agenda) → IsBuilt script → by_script script past e.seat e.kind ≡ true
-    → is_of_pump e.kind ≡ false → IsAt script past a.place a.made
+-- a join wants one entry that counts, its reply
+reply_wanted : (own : List Entry) (job : ℕ) (made : List Entry) (kind : Kind) → wants own (actions.Join job) made kind ≡ true → is_counted kind ≡ true
+    → is_joined kind ≡ true
+reply_wanted own job made (kinds.JobTake j id item) w h = absurd cc
+reply_wanted own job made (kinds.Joined j reply) w h = refl
+reply_wanted own job made kind w h = absurd cc
+
+-- an entry that counts, where the action wants it
+moves_wanted : (script : Plan) (b : Agenda) (own : List Entry) (x : Action) (front : List Entry) (e : Entry) → wants own x front e.kind ≡ true
+    → is_counted e.kind ≡ true → (rest : List Action) (made : List Entry) → Moves script b (moved_on script.actions b) x rest made e
+moves_wanted script b own (actions.Pump n) front e w h rest made = absurd (no_pump_wants own n front e.kind w h)
+moves_wanted script b own (actions.Join job) front e w h rest made =
+    join_ends script b (actions.Join job) rest made e refl (reply_wanted own job front e.kind w h)
+moves_wanted script b own x front e w h rest made = moves_other script b x rest made e refl
+
+-- an entry by the script that counts
+pub driver_moves : (script : Plan) (past : List Entry) (e : Entry) (a : Agenda) → IsSound script → by_script script past e.seat e.kind ≡ true
+    → is_counted e.kind ≡ true → IsAt script past a.place a.made
     → IsAt script (past ++ e ∷ []) (moved_on script.actions a).place (moved_on script.actions a).made
-driver_moves script past e a plan by other at =
+driver_moves script past e a plan by counts at =
     let c = wanted_by script past e.seat e.kind by in
     driver_to script past e a (moved_on script.actions a) c.value plan (eq-eqb e.seat 0 (by_driver script past e.seat e.kind by)) at c.is
-    (λ rest made. moves_other script a c.value.action rest made e plan (no_pump (own_entries 0 past) c.value.action c.value.made e.kind c.passes other))
+    (moves_wanted script a (own_entries 0 past) c.value.action c.value.made e c.passes counts)
+
+-- inside a join, an entry of the driver other than the reply leaves its place
+pub driver_joins_on : (script : Plan) (past : List Entry) (e : Entry) (place made : ℕ) (c : Current) → IsSound script → e.seat ≡ 0
+    → current script (own_entries 0 past) ≡ Some c → is_join c.action ≡ true → is_joined e.kind ≡ false → IsAt script past place made
+    → IsAt script (past ++ e ∷ []) place made
+driver_joins_on script past e place made c plan driver now join joined at =
+    let b : Agenda = record { place = place; made = made } in
+    driver_to script past e b b c plan (eq-eqb e.seat 0 driver) at now (λ rest front. join_stays script b c.action rest front e join joined)
+
+-- an action that wants the take of an item is a join
+join_wants : (own : List Entry) (x : Action) (made : List Entry) (job id item : ℕ) → wants own x made (kinds.JobTake job id item) ≡ true → is_join x ≡ true
+join_wants own (actions.Join j) made job id item w = refl
+join_wants own x made job id item w = absurd cc
+
+-- so does the take of an item that the script wants
+pub driver_goes_in : (script : Plan) (past : List Entry) (seat job id item place made : ℕ) → IsSound script
+    → by_script script past seat (kinds.JobTake job id item) ≡ true → IsAt script past place made
+    → IsAt script (past ++ (record { seat = seat; kind = kinds.JobTake job id item }) ∷ []) place made
+driver_goes_in script past seat job id item place made plan by at =
+    let c = wanted_by script past seat (kinds.JobTake job id item) by in
+    driver_joins_on script past (record { seat = seat; kind = kinds.JobTake job id item }) place made c.value plan
+    (by_driver script past seat (kinds.JobTake job id item) by) c.is
+    (join_wants (own_entries 0 past) c.value.action c.value.made job id item c.passes) refl at
 
 -- inside a pump the driver takes a main task, or finds none
 wants_main_take : (own : List Entry) (x : Action) (made : List Entry) (kind : Kind) → wants own x made kind ≡ true → is_of_pump kind ≡ true → is_pump x ≡ true
@@ -263,7 +335,7 @@ wants_main_take own x made kinds.MainNone w h = absurd cc
 wants_main_take own x made kind w h = absurd cc
 
 -- the take of a main task leaves the driver's place
-pub driver_takes : (script : Plan) (past : List Entry) (e : Entry) (place made : ℕ) → IsBuilt script → by_script script past e.seat e.kind ≡ true
+pub driver_takes : (script : Plan) (past : List Entry) (e : Entry) (place made : ℕ) → IsSound script → by_script script past e.seat e.kind ≡ true
     → is_of_pump e.kind ≡ true → is_main_none e.kind ≡ false → is_main_end e.kind ≡ false → IsAt script past place made
     → IsAt script (past ++ e ∷ []) place made
 driver_takes script past e place made plan by pumps none ends at =
@@ -274,7 +346,7 @@ driver_takes script past e place made plan by pumps none ends at =
     (wants_main_take (own_entries 0 past) c.value.action c.value.made e.kind c.passes pumps) none ends)
 
 -- where no main task is found the driver passes on to the next action
-pub driver_passes : (script : Plan) (past : List Entry) (seat : ℕ) (a : Agenda) → IsBuilt script → by_script script past seat kinds.MainNone ≡ true
+pub driver_passes : (script : Plan) (past : List Entry) (seat : ℕ) (a : Agenda) → IsSound script → by_script script past seat kinds.MainNone ≡ true
     → IsAt script past a.place a.made
     → IsAt script (past ++ (record { seat = seat; kind = kinds.MainNone }) ∷ []) (passed_on script.actions a).place (passed_on script.actions a).made
 driver_passes script past seat a plan by at =
@@ -285,7 +357,7 @@ driver_passes script past seat a plan by at =
     (wants_main_take (own_entries 0 past) c.value.action c.value.made kinds.MainNone c.passes refl) refl)
 
 -- the end of a main task counts for its pump
-pub driver_ends : (script : Plan) (past : List Entry) (e : Entry) (a : Agenda) (w : Running) → IsBuilt script → IsLegal script past
+pub driver_ends : (script : Plan) (past : List Entry) (e : Entry) (a : Agenda) (w : Running) → IsSound script → IsLegal script past
     → running past 0 ≡ Some w → e.seat ≡ 0 → is_main_end e.kind ≡ true → is_main_none e.kind ≡ false → IsAt script past a.place a.made
     → IsAt script (past ++ e ∷ []) (moved_on script.actions a).place (moved_on script.actions a).made
 driver_ends script past e a w plan legal runs driver ends none at =
@@ -294,7 +366,7 @@ driver_ends script past e a w plan legal runs driver ends none at =
     (λ rest front. pump_ends script a c.action rest front e pump none ends)
 
 -- while a task runs, its entries other than its end leave the driver's place
-pub task_waits : (script : Plan) (past : List Entry) (e : Entry) (place made : ℕ) (w : Running) → IsBuilt script → IsLegal script past
+pub task_waits : (script : Plan) (past : List Entry) (e : Entry) (place made : ℕ) (w : Running) → IsSound script → IsLegal script past
     → running past e.seat ≡ Some w → is_main_end e.kind ≡ false → is_main_none e.kind ≡ false → IsAt script past place made
     → IsAt script (past ++ e ∷ []) place made
 task_waits script past e place made w plan legal runs ends none at = by (eqb e.seat 0) refl
@@ -307,6 +379,18 @@ task_waits script past e place made w plan legal runs ends none at = by (eqb e.s
     by true driver =
         let (c, now, pump) = (legal_past script past legal).one_thing.pumps w (ap (running past) (sym (eqb-true e.seat 0 driver)) ∙ runs) in
         driver_to script past e b b c plan driver at now (λ rest front. pump_stays script b c.action rest front e pump none ends)
+
+-- while a seat holds an item, its entries other than a reply leave the driver's place
+pub holder_waits : (script : Plan) (past : List Entry) (e : Entry) (place made : ℕ) (h : Holding) → IsSound script → IsLegal script past
+    → holding past e.seat ≡ Some h → is_joined e.kind ≡ false → IsAt script past place made → IsAt script (past ++ e ∷ []) place made
+holder_waits script past e place made h plan legal holds joined at = by (eqb e.seat 0) refl
+  where
+    by : (c : Bool) → eqb e.seat 0 ≡ c → IsAt script (past ++ e ∷ []) place made
+    by false other = driver_waits script past e place made other at
+    by true is =
+        let driver = eqb-true e.seat 0 is in
+        let (c, now, join) = (legal_past script past legal).one_thing.joins h (ap (holding past) (sym driver) ∙ holds) in
+        driver_joins_on script past e place made c plan driver now join joined at
 
 -- what is behind a complete action is part of what there was
 behind_within : (n : ℕ) (own left : List Entry) → behind n own ≡ Some left → length left ≤ length own
@@ -357,10 +441,11 @@ agenda_within (x ∷ xs) own = by (behind_action x own) refl (agenda_within xs)
 counted_within : (xs : List Action) (made : List Entry) → counted xs made ≤ length made
 counted_within [] made = omega arith
 counted_within (actions.Pump n ∷ xs) made = count_le (λ (e : Entry). is_main_end e.kind) made
+counted_within (actions.Join job ∷ xs) made = count_le (λ (e : Entry). is_joined e.kind) made
 counted_within (x ∷ xs) made = omega arith
 
 -- a legal history is short, so the current action has made few entries
-pub few_entries_made : (script : Plan) (past : List Entry) (place made : ℕ) → IsBuilt script → IsLegal script past → IsAt script past place made
+pub few_entries_made : (script : Plan) (past : List Entry) (place made : ℕ) → IsSound script → IsLegal script past → IsAt script past place made
     → made < 2 ^ 31
 unfolding agenda
 few_entries_made script past place made plan legal at = omega (
@@ -369,7 +454,7 @@ few_entries_made script past place made plan legal at = omega (
   counted_within (agenda script (own_entries 0 past)).actions (agenda script (own_entries 0 past)).made,
   at.made_is,
   count_le (λ (e : Entry). eqb e.seat 0) past,
-  entries_within_limit script past plan.sound legal,
+  entries_within_limit script past plan legal,
 )
 
 -- the script is finished exactly where all actions are complete

@@ -8,9 +8,9 @@ use Rattle.std.specs.Prelude.{not}
 use Rattle.task_model.specs.Refusal.{is_refused}
 use Rattle.env_core.proofs.Wanted.{main_post_is_sound, named, post_is_sound, queue_declared}
 use Rattle.pool_core.specs.Calls.{CanPost}
-use Rattle.std.proofs.Common.{Bool, Some, false, true}
+use Rattle.std.proofs.Common.{Bool, Some, true}
 use Rattle.task_base.specs.declared.entry.Kind.TheVariants as kinds
-use Rattle.env_core.proofs.Driver.{driver_moves, few_entries_made, is_of_pump}
+use Rattle.env_core.proofs.Driver.{driver_moves, few_entries_made, is_counted}
 use Rattle.env_core.proofs.Wanted.{wanted_by_script}
 use Rattle.env_core.specs.Agenda.{moved_on}
 use Rattle.env_core.specs.Calls.{IsWantedNext}
@@ -26,7 +26,7 @@ use Rattle.hist_model.specs.Legal.{IsLegal}
 use Rattle.pool_core.proofs.Others.{stands_at_main, stands_at_still}
 use Rattle.pool_core.specs.Others.{is_still as pool_is_still}
 use Rattle.pool_core.specs.StandsFor.{StandsFor}
-use Rattle.pool_laws.specs.Seats.{moves_main, runs_pool_task}
+use Rattle.pool_laws.specs.Seats.{moves_main}
 use Rattle.sequence_manager.proofs.Others.{stands_pool, stands_still}
 use Rattle.sequence_manager.specs.Calls.{CanPost as MainCanPost, HasQueue}
 use Rattle.sequence_manager.specs.Others.{is_still, moves_pool}
@@ -53,7 +53,7 @@ has_room {script = script} {log = log} e holds allowed =
       arith,
       holds.room,
       length-append log.items (e ∷ []),
-      entries_within script (log.items ++ e ∷ []) holds.plan.sound (legal_next script log.items e holds.legal allowed),
+      entries_within script (log.items ++ e ∷ []) holds.plan (legal_next script log.items e holds.legal allowed),
     )
 
 -- a call that adds an entry that is allowed enters it
@@ -68,7 +68,7 @@ enters_is {script = script} {log = log} seat kind later holds allowed is =
       entered = refl;
       allowed = allowed;
       legal = legal;
-      bounded = entries_within_limit script (log.items ++ (record { seat = seat; kind = kind }) ∷ []) holds.plan.sound legal;
+      bounded = entries_within_limit script (log.items ++ (record { seat = seat; kind = kind }) ∷ []) holds.plan legal;
     })
 
 -- everything holds behind one more entry, where it does of each part
@@ -112,12 +112,12 @@ pub pool_still : {X : Type 0} {bodies : List (Option X)} {whole rest : X → Lis
     (e : Entry) → Holds bodies whole rest script log pool manager place made → pool_is_still e.kind ≡ true → StandsFor script (log.items ++ e ∷ []) pool
 pool_still {script = script} {log = log} {pool = pool} e holds still = stands_at_still script log.items e pool still holds.stands
 
--- an entry of the main queues leaves the pool as it is, where the seat runs no task of the pool
+-- the driver leaves the pool as it is where it takes or ends a main task
 pub pool_at_driver : {X : Type 0} {bodies : List (Option X)} {whole rest : X → List Step} {script : Plan} {log : Listed Entry} {pool : Pool}
     {manager : Manager} {place made : ℕ}
-    (e : Entry) → Holds bodies whole rest script log pool manager place made → moves_main e.kind ≡ true → runs_pool_task log.items e.seat ≡ false
+    (e : Entry) → Holds bodies whole rest script log pool manager place made → moves_main e.kind ≡ true → e.seat ≡ 0
     → StandsFor script (log.items ++ e ∷ []) pool
-pool_at_driver {script = script} {log = log} {pool = pool} e holds moves none = stands_at_main script log.items e pool moves none holds.stands
+pool_at_driver {script = script} {log = log} {pool = pool} e holds moves driver = stands_at_main script log.items e pool moves driver holds.stands
 
 -- An entry by the script.
 
@@ -132,11 +132,11 @@ few_of_action {script = script} {log = log} {place = place} {made = made} holds 
 pub driver_at : {X : Type 0} {bodies : List (Option X)} {whole rest : X → List Step} {script : Plan} {log : Listed Entry} {pool : Pool}
     {manager : Manager} {agenda : Agenda}
     (seat : ℕ) (kind : Kind) (now : Agenda) → Holds bodies whole rest script log pool manager agenda.place agenda.made
-    → IsWantedNext (record { script = script; history = log.items }) seat kind → is_of_pump kind ≡ false → now ≡ moved_on script.actions agenda
+    → IsWantedNext (record { script = script; history = log.items }) seat kind → is_counted kind ≡ true → now ≡ moved_on script.actions agenda
     → IsAt script (log.items ++ (record { seat = seat; kind = kind }) ∷ []) now.place now.made
-driver_at {script = script} {log = log} {agenda = agenda} seat kind now holds wanted other moved =
+driver_at {script = script} {log = log} {agenda = agenda} seat kind now holds wanted counts moved =
     rw moved (driver_moves script log.items (record { seat = seat; kind = kind }) agenda holds.plan
-    (wanted_by_script (record { script = script; history = log.items }) seat kind wanted) other holds.driver)
+    (wanted_by_script (record { script = script; history = log.items }) seat kind wanted) counts holds.driver)
 
 -- An entry of a worker.
 
@@ -170,7 +170,7 @@ can_post {script = script} {log = log} seat next task runner delay ok holds is a
 pub place_fits : {X : Type 0} {bodies : List (Option X)} {whole rest : X → List Step} {script : Plan} {log : Listed Entry} {pool : Pool}
     {manager : Manager} {place made : ℕ}
     (n : ℕ) → Holds bodies whole rest script log pool manager place made → n ≡ length log.items → n < 2 ^ 32
-place_fits {script = script} {log = log} n holds is = rw is (omega (arith, entries_within_limit script log.items holds.plan.sound holds.legal))
+place_fits {script = script} {log = log} n holds is = rw is (omega (arith, entries_within_limit script log.items holds.plan holds.legal))
 
 -- that of the driver's post, by what the rules reply
 pub can_post_by_script : {X : Type 0} {bodies : List (Option X)} {whole rest : X

@@ -11,3 +11,7 @@ pub mod Acts
 pub mod Small
 pub mod Tested
 pub mod TestedCalls
+pub mod TestedJobs
+pub mod Starts
+pub mod JobEntries
+pub mod JobCalls

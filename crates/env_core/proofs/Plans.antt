@@ -1,13 +1,10 @@
--- What a script without jobs gives in a legal history: what its actions and steps are, who runs, and that nobody is inside a job.
-use Rattle.env_core.specs.Built.{IsBuilt}
+-- What a script gives in a legal history: what its actions and steps are, and who runs and holds what.
 use Rattle.hist_model.proofs.Laws.Choice.{Found, found}
 use Rattle.hist_model.proofs.Laws.Consistent.{legal_is_consistent}
-use Rattle.hist_model.proofs.Laws.EntriesJobs.{claimed_within}
-use Rattle.hist_model.proofs.Laws.HoldsApart.{legal_holds_apart}
 use Rattle.hist_model.proofs.Laws.OneThing.{legal_does_one_thing, wanted_by}
-use Rattle.hist_model.proofs.Laws.Own.{running_own}
+use Rattle.hist_model.proofs.Laws.Own.{holding_own, running_own}
 use Rattle.hist_model.specs.Allowed.{by_script, by_task, enters}
-use Rattle.hist_model.specs.Laws.Consistent.{RunsAs, RunsMainTask, RunsPoolTask, is_pump}
+use Rattle.hist_model.specs.Laws.Consistent.{RunsAs, RunsMainTask, RunsPoolTask, is_join, is_pump}
 use Rattle.hist_model.specs.Legal.{IsLegal}
 use Rattle.hist_model.specs.Script.{Current, behind_action, current, current_from, wants}
 use Rattle.hist_model.specs.Views.{own_entries}
@@ -15,22 +12,20 @@ use Rattle.list_laws.proofs.Elements.{AllByRecursion-filter, slice_get_all}
 use Rattle.list_laws.proofs.Places.{none_from_count}
 use Rattle.list_laws.proofs.Ranges.{range_any_at}
 use Rattle.list_laws.specs.Lists.{holds_of}
-use Rattle.pool_core.specs.Calls.{running_tasks}
-use Rattle.pool_laws.specs.Seats.{runs_pool_task}
+use Rattle.pool_core.specs.Calls.{is_working, running_tasks}
 use Rattle.script_model.specs.Laws.Sound.{AreDeclarationsSound, IsStepSound, IsStepWithin}
-use Rattle.std.proofs.Common.{Bool, List, None, Option, Some, [], ap, arith, eqb, false, refl, subst, sym, true, ℕ, ◌∙◌, ◌∷◌, ◌≡◌}
-use Rattle.std.proofs.lemmas.Bool.{and_parts, eqb-true, true≢false}
+use Rattle.std.proofs.Common.{Bool, List, None, Option, Some, [], ap, arith, eqb, false, refl, subst, suc, sym, true, zero, ℕ, ◌∙◌, ◌∷◌, ◌≡◌, ◌≤◌}
+use Rattle.std.proofs.lemmas.Bool.{and_parts, eqb-true, false_from_ne_true, true≢false}
 use Rattle.std.proofs.lemmas.Option.{none-some, same_Some}
 use Rattle.std.specs.List.{AllByRecursion}
 use Rattle.std.specs.Option.{IfSome, option_map_or}
-use Rattle.std.specs.Prelude.{filter, is_none, slice_get, ◌&&◌}
+use Rattle.std.specs.Prelude.{filter, is_none, is_some, not, slice_get, ◌&&◌, ◌||◌}
 use Rattle.task_base.specs.Plan.{Plan}
 use Rattle.task_base.specs.Steps.{is_act}
 use Rattle.task_base.specs.declared.entry.Entry.{Entry}
 use Rattle.task_base.specs.declared.entry.Kind.{Kind}
 use Rattle.task_base.specs.declared.script.Action.{Action}
 use Rattle.task_base.specs.declared.step.Step.{Step}
-use Rattle.task_model.specs.Jobs.{items_of}
 use Rattle.task_model.specs.Seats.{Holding, Running, acts_done, holding, is_free, next_act, running, steps_of, worker_seats}
 use Rattle.task_base.specs.declared.entry.Kind.TheVariants as kinds
 use Rattle.task_base.specs.declared.script.Action.TheVariants as actions
@@ -178,32 +173,50 @@ driver_runs_nothing script past seat kind legal wanted = at (running past 0) ref
         absurd (true≢false (sym (pump_wants (own_entries 0 past) c.value.action c.value.made kind (subst (λ x. is_pump x.action ≡ true) same pump) c.passes)
         ∙ ap is_none (running_own past 0 ∙ is)))
 
--- nobody holds an item: there is none
-pub holds_nothing : (script : Plan) (past : List Entry) (seat : ℕ) → IsBuilt script → IsLegal script past → holding past seat ≡ None
-holds_nothing script past seat plan legal = at (holding past seat) refl
+-- what a join wants, it wants while the driver holds nothing
+join_wants : (own : List Entry) (action : Action) (made : List Entry) (kind : Kind) → is_join action ≡ true → wants own action made kind ≡ true
+    → is_none (holding own 0) ≡ true
+join_wants own (actions.Join j) made (kinds.JobTake job id item) join h = (and_parts (eqb job j) (is_none (holding own 0)) h).1
+join_wants own (actions.Join j) made (kinds.Joined job reply) join h = (and_parts (eqb job j) (is_none (holding own 0)) h).1
+join_wants own (actions.Join j) made kind join h = absurd cc
+join_wants own action made kind join h = absurd cc
+
+-- where the script wants an entry of the driver, the driver holds nothing
+pub driver_holds_nothing : (script : Plan) (past : List Entry) (seat : ℕ) (kind : Kind) → IsLegal script past → by_script script past seat kind ≡ true
+    → holding past 0 ≡ None
+driver_holds_nothing script past seat kind legal wanted = at (holding past 0) refl
   where
-    at : (o : Option Holding) → holding past seat ≡ o → o ≡ None
+    c : Found Current (λ c. wants (own_entries 0 past) c.action c.made kind) (current script (own_entries 0 past))
+    c = wanted_by script past seat kind wanted
+
+    at : (o : Option Holding) → holding past 0 ≡ o → o ≡ None
     at None is = refl
     at (Some h) is =
-        let no_items : items_of script h.job ≡ 0 = rw (plan.no_jobs) refl in
-        absurd (omega (arith, (legal_holds_apart script past legal).is_claimed seat h is, claimed_within script past h.job legal, no_items))
+        let (d, now, join) = (legal_does_one_thing script past legal).joins h is in
+        let same : d ≡ c.value = same_Some d c.value (sym now ∙ c.is) in
+        absurd (true≢false (sym (join_wants (own_entries 0 past) c.value.action c.value.made kind (subst (λ x. is_join x.action ≡ true) same join) c.passes)
+        ∙ ap is_none (holding_own past 0 ∙ is)))
 
--- where the driver runs nothing and no worker runs a task of the pool, no seat runs anything
-runs_nothing : (script : Plan) (past : List Entry) (seat : ℕ) → IsLegal script past → running past 0 ≡ None → running_tasks script past ≡ 0
-    → running past seat ≡ None
-runs_nothing script past seat legal driver none = at (running past seat) refl
+-- a worker that does not work runs nothing and holds nothing
+idle_is_free : (script : Plan) (past : List Entry) (seat : ℕ) → IsLegal script past → 1 ≤ seat → is_working past seat ≡ false → is_free past seat ≡ true
+idle_is_free script past seat legal worker idle = by (running past seat) (holding past seat) refl idle
   where
-    by : (w : Running) (main : Bool) → running past seat ≡ Some w → w.is_main ≡ main → RunsAs script past seat w main → ⊥
-    by w true is main r = none-some w (sym driver ∙ subst (λ s. running past s ≡ Some w) r.driver is)
-    by w false is pool r = true≢false (sym (range_any_at (runs_pool_task past) 1 script.workers seat (rw (is, pool) refl) r.worker (omega (arith, r.known)))
-        ∙ none_from_count (runs_pool_task past) (worker_seats script) none)
+    by : (r : Option Running) (h : Option Holding) → running past seat ≡ r → (holds_of (λ w. not w.is_main) r || is_some h) ≡ false
+        → (is_none r && is_none h) ≡ true
+    by None None is k = refl
+    by None (Some h) is k = absurd cc
+    by (Some w) h is k = of_main w.is_main refl
+      where
+        of_main : (main : Bool) → w.is_main ≡ main → (is_none (Some w) && is_none h) ≡ true
+        of_main true main =
+            let driver : seat ≡ 0 = (main_runs script past seat w legal is main).driver in absurd (omega (arith, driver, worker))
+        of_main false pool = let works : (not w.is_main || is_some h) ≡ true = rw pool refl in absurd (true≢false (sym works ∙ k))
 
-    at : (o : Option Running) → running past seat ≡ o → o ≡ None
-    at None is = refl
-    at (Some w) is = absurd (by w w.is_main is refl ((legal_is_consistent script past legal).runs seat w is))
-
--- then each seat is free
-pub free_where_none_runs : (script : Plan) (past : List Entry) (seat : ℕ) → IsBuilt script → IsLegal script past → running past 0 ≡ None
-    → running_tasks script past ≡ 0 → is_free past seat ≡ true
-free_where_none_runs script past seat plan legal driver none =
-    rw (runs_nothing script past seat legal driver none, holds_nothing script past seat plan legal) refl
+-- where the driver runs and holds nothing and no worker works, each seat is free
+pub free_where_none_runs : (script : Plan) (past : List Entry) (seat : ℕ) → IsLegal script past → running past 0 ≡ None → holding past 0 ≡ None
+    → seat ≤ script.workers → running_tasks script past ≡ 0 → is_free past seat ≡ true
+free_where_none_runs script past zero legal runs holds known none = rw (runs, holds) refl
+free_where_none_runs script past (suc n) legal runs holds known none = idle_is_free script past (suc n) legal (omega arith)
+    (false_from_ne_true (is_working past (suc n)) (λ works. true≢false
+    (sym (range_any_at (is_working past) 1 script.workers (suc n) works (omega arith) (omega (arith, known)))
+    ∙ none_from_count (is_working past) (worker_seats script) none)))

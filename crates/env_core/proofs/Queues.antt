@@ -1,5 +1,4 @@
 -- What a script posts to its main queues: it is as the main queues ask, and so is what was accepted.
-use Rattle.env_core.specs.Built.{IsBuilt}
 use Rattle.hist_model.proofs.Laws.Choice.{of_least}
 use Rattle.list_laws.proofs.Elements.{AllByRecursion-append, AllByRecursion-contains, AllByRecursion-contains_itself, AllByRecursion-map}
 use Rattle.list_laws.proofs.Least.{no_least}
@@ -8,7 +7,7 @@ use Rattle.list_laws.proofs.Values.{eqb-same}
 use Rattle.list_laws.specs.Lists.{holds_of, least}
 use Rattle.script_model.specs.Bound.{events_of_action}
 use Rattle.script_model.specs.Draft.{has_bad_scopes, is_block}
-use Rattle.script_model.specs.Laws.Sound.{IsActionSound, IsQueuePost, IsStepSound}
+use Rattle.script_model.specs.Laws.Sound.{IsActionSound, IsQueuePost, IsSound, IsStepSound}
 use Rattle.script_model.specs.Laws.Sound as sounds
 use Rattle.sequence_manager.specs.Pasts.{IsMainPast, IsMainScript, IsPostedTo, IsQueueWithin}
 use Rattle.sequence_manager.specs.Postings.{MainPosting, main_postings, posting_of_action, posting_of_step, postings_of_tasks}
@@ -61,11 +60,11 @@ tasks_right script (xs ∷ tasks) from sound = AllByRecursion-append (IsRight sc
     (tasks_right script tasks (from + 1) (λ t ys is. let same : from + suc t ≡ from + 1 + t = omega arith in rw (← same) (sound (suc t) ys is)))
 
 -- each posting of the script to a main queue is right
-postings_right : (script : Plan) → IsBuilt script → AllByRecursion (IsRight script) (main_postings script)
+postings_right : (script : Plan) → IsSound script → AllByRecursion (IsRight script) (main_postings script)
 unfolding main_postings
 postings_right script plan = AllByRecursion-append (IsRight script) (postings_of_tasks script.tasks) (filter_map posting_of_action script.actions)
-    (tasks_right script script.tasks 0 (λ t xs is. let same : 0 + t ≡ t = omega arith in rw same (plan.sound.declarations.tasks_sound t xs is).steps_sound))
-    (actions_right script script.actions plan.sound.actions.each_sound)
+    (tasks_right script script.tasks 0 (λ t xs is. let same : 0 + t ≡ t = omega arith in rw same (plan.declarations.tasks_sound t xs is).steps_sound))
+    (actions_right script script.actions plan.actions.each_sound)
 
 -- There are few.
 
@@ -93,30 +92,30 @@ actions_few (actions.Main task queue delay ∷ xs) = omega (arith, actions_few x
 actions_few (x ∷ xs) = omega (arith, actions_few xs, sum_by-cons events_of_action x xs)
 
 -- the postings of a script to main queues can be counted in 31 bits
-postings_few : (script : Plan) → IsBuilt script → length (main_postings script) < 2 ^ 31
+postings_few : (script : Plan) → IsSound script → length (main_postings script) < 2 ^ 31
 unfolding main_postings
 postings_few script plan = omega (
   arith,
   length-append (postings_of_tasks script.tasks) (filter_map posting_of_action script.actions),
   tasks_few script.tasks,
   actions_few script.actions,
-  plan.sound.limits.few_steps,
-  plan.sound.limits.few_events,
+  plan.limits.few_steps,
+  plan.limits.few_events,
 )
 
 -- the main queues of such a script can be made
-pub main_script : (script : Plan) → IsBuilt script → IsMainScript script
+pub main_script : (script : Plan) → IsSound script → IsMainScript script
 main_script script plan = record {
-  queues_fit = plan.sound.limits.few_queues;
+  queues_fit = plan.limits.few_queues;
   queues_within = AllByRecursion-map sounds.IsQueueWithin IsQueueWithin script.queues
-      (λ q within. record { class_fits = within.class_within; voters_fit = within.voters_within }) plan.sound.declarations.queues_within;
+      (λ q within. record { class_fits = within.class_within; voters_fit = within.voters_within }) plan.declarations.queues_within;
   postings_fit = postings_few script plan;
   homes_there = AllByRecursion-map (IsRight script) (λ p. p.queue < length script.queues) (main_postings script) (λ p right. right.queue_declared)
       (postings_right script plan);
 }
 
 -- what was accepted is declared, and of a task that opens no scope
-pub accepted_right : (script : Plan) (past : List Entry) (p : Posted) → IsBuilt script → IsMainPast script past → Contains (main_posts past) p
+pub accepted_right : (script : Plan) (past : List Entry) (p : Posted) → IsSound script → IsMainPast script past → Contains (main_posts past) p
     → IsQueuePost script p.task p.home
 accepted_right script past p plan fits accepted = AllByRecursion-contains (IsRight script) (main_postings script) (record { task = p.task; queue = p.home })
     (postings_right script plan) (AllByRecursion-contains (λ q. IsPostedTo script q.task q.home) (main_posts past) p fits.posted accepted)
@@ -170,12 +169,12 @@ scopeless (steps.Post task runner delay ∷ xs) none turn = (refl, scopeless xs 
 scopeless (steps.Main task queue delay ∷ xs) none turn = (refl, scopeless xs none turn)
 
 -- a task that is rightly posted to a main queue has no step of a scope
-pub no_scope_steps : (script : Plan) (task queue : ℕ) → IsBuilt script → IsQueuePost script task queue
+pub no_scope_steps : (script : Plan) (task queue : ℕ) → IsSound script → IsQueuePost script task queue
     → AllByRecursion (λ s. is_scope s ≡ false) (steps_of script task)
 no_scope_steps script task queue plan post =
     let here = slice_get-get_or script.tasks task [] post.task_declared in
     let xs = slice_index_or script.tasks task [] in
-    rw here (scopeless xs post.no_scope (plan.sound.declarations.tasks_sound task xs here).scopes_in_turn)
+    rw here (scopeless xs post.no_scope (plan.declarations.tasks_sound task xs here).scopes_in_turn)
 
 -- Where nothing is chosen, no front is open.
 

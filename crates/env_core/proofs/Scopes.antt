@@ -1,5 +1,6 @@
 -- In a legal history the scopes of a task open and close in turn, as its steps say.
-use Rattle.env_core.specs.Built.{IsBuilt, is_open_after}
+use Rattle.script_model.specs.Laws.Sound.{IsSound}
+use Rattle.env_core.specs.Scopes.{is_open_after}
 use Rattle.env_core.proofs.Plans.{EntersStep, entered_by, main_runs, next_is_of, pool_runs}
 use Rattle.hist_model.specs.Allowed.{IsAllowed, by_script, by_task, enters, is_reply, may_come, same_scope}
 use Rattle.hist_model.specs.Legal.{IsLegal}
@@ -65,20 +66,20 @@ rest_in_turn b (steps.Unblock ∷ xs) (suc n) h = rest_in_turn false xs n (or_pa
 rest_in_turn b (step ∷ xs) (suc n) h = rest_in_turn b xs n h
 
 -- so do those of each task
-task_in_turn : (script : Plan) (t : ℕ) → IsBuilt script → has_bad_scopes false (acts_of script t) ≡ false
+task_in_turn : (script : Plan) (t : ℕ) → IsSound script → has_bad_scopes false (acts_of script t) ≡ false
 task_in_turn script t plan = acts_in_turn false (steps_of script t) ∙ by (slice_get script.tasks t) refl
   where
     by : (o : Option (List Step)) → slice_get script.tasks t ≡ o → has_bad_scopes false (option_map_or (λ steps. steps) o []) ≡ false
     by None is = refl
-    by (Some steps) is = (plan.sound.declarations.tasks_sound t steps is).scopes_in_turn
+    by (Some steps) is = (plan.declarations.tasks_sound t steps is).scopes_in_turn
 
 -- ---- entries
 
 -- what is taken of the pool was not taken as a main task
-no_main_taken : (script : Plan) (past : List Entry) (p : Posted) → IsBuilt script → IsLegal script past → Contains (posts past) p
+no_main_taken : (script : Plan) (past : List Entry) (p : Posted) → IsSound script → IsLegal script past → Contains (posts past) p
     → is_main_taken past p.task ≡ false
 no_main_taken script past p plan legal accepted =
-    let once = plan.sound.once.posted_once in
+    let once = plan.once.posted_once in
     let known = counted script once past legal in
     false_from_ne_true (is_main_taken past p.task) (λ k. omega (
       arith,
@@ -89,7 +90,7 @@ no_main_taken script past p plan legal accepted =
     ))
 
 -- no task of the pool that runs is a main task that runs
-pool_or_main : (script : Plan) (past : List Entry) (a b : ℕ) (v w : Running) → IsBuilt script → IsLegal script past → running past a ≡ Some v
+pool_or_main : (script : Plan) (past : List Entry) (a b : ℕ) (v w : Running) → IsSound script → IsLegal script past → running past a ≡ Some v
     → running past b ≡ Some w → v.is_main ≡ true → w.is_main ≡ false → v.task ≡ w.task → ⊥
 pool_or_main script past a b v w plan legal runs_v runs_w main pool same =
     let m = main_runs script past a v legal runs_v main in
@@ -127,7 +128,7 @@ ScopeIs script past = (seat : ℕ) (w : Running) → running past seat ≡ Some 
     → is_some (open_scope past w.task) ≡ is_open_after false (take (acts_done past seat) (acts_of script w.task))
 
 -- one more entry leaves it so
-scope_step : (script : Plan) (past : List Entry) (e : Entry) → IsBuilt script → IsLegal script past → IsAllowed script past e → ScopeIs script past
+scope_step : (script : Plan) (past : List Entry) (e : Entry) → IsSound script → IsLegal script past → IsAllowed script past e → ScopeIs script past
     → ScopeIs script (past ++ e ∷ [])
 unfolding may_come
 scope_step script past e plan legal allowed before seat w runs pool = ⊎_elim other own (runs_behind past e seat w runs)
@@ -200,14 +201,14 @@ scope_step script past e plan legal allowed before seat w runs pool = ⊎_elim o
 
 -- the task that a seat runs of the pool has a scope open exactly where the last scope step among the act steps that it has
 -- entered opened one
-pub scope_is : (script : Plan) (past : List Entry) (seat : ℕ) (w : Running) → IsBuilt script → IsLegal script past → running past seat ≡ Some w
+pub scope_is : (script : Plan) (past : List Entry) (seat : ℕ) (w : Running) → IsSound script → IsLegal script past → running past seat ≡ Some w
     → w.is_main ≡ false → is_some (open_scope past w.task) ≡ is_open_after false (take (acts_done past seat) (filter is_act (steps_of script w.task)))
 unfolding running
 scope_is script past seat w plan legal runs pool = legal_induction script (ScopeIs script) (λ s v h other. absurd (none-some v h))
     (λ past e legal allowed before. scope_step script past e plan legal allowed before) past legal seat w runs pool
 
 -- what is left of the act steps closes and opens its scopes in turn, as one is open now
-left_in_turn : (script : Plan) (past : List Entry) (seat : ℕ) (w : Running) → IsBuilt script → IsLegal script past → running past seat ≡ Some w
+left_in_turn : (script : Plan) (past : List Entry) (seat : ℕ) (w : Running) → IsSound script → IsLegal script past → running past seat ≡ Some w
     → w.is_main ≡ false → has_bad_scopes (is_some (open_scope past w.task)) (drop (acts_done past seat) (acts_of script w.task)) ≡ false
 left_in_turn script past seat w plan legal runs pool =
     rw (scope_is script past seat w plan legal runs pool) (rest_in_turn false (acts_of script w.task) (acts_done past seat) (task_in_turn script w.task plan))
@@ -223,7 +224,7 @@ some_open None h = absurd cc
 some_open (Some x) h = (x, refl)
 
 -- so none is open where its next step opens one, one is where its next step closes it, and none is at its end
-pub closed_at_block : (script : Plan) (past : List Entry) (seat : ℕ) (w : Running) (scope : Scope) → IsBuilt script → IsLegal script past
+pub closed_at_block : (script : Plan) (past : List Entry) (seat : ℕ) (w : Running) (scope : Scope) → IsSound script → IsLegal script past
     → running past seat ≡ Some w → w.is_main ≡ false → next_act script past seat ≡ Some (steps.Block scope) → open_scope past w.task ≡ None
 closed_at_block script past seat w scope plan legal runs pool is =
     let next = next_is_of script past seat w (steps.Block scope) runs is in
@@ -232,7 +233,7 @@ closed_at_block script past seat w scope plan legal runs pool is =
     none_open (open_scope past w.task) (or_parts _ _ left).0
 
 -- one is open where the next step closes it
-pub open_at_unblock : (script : Plan) (past : List Entry) (seat : ℕ) (w : Running) → IsBuilt script → IsLegal script past
+pub open_at_unblock : (script : Plan) (past : List Entry) (seat : ℕ) (w : Running) → IsSound script → IsLegal script past
     → running past seat ≡ Some w → w.is_main ≡ false → next_act script past seat ≡ Some steps.Unblock
     → (opened : OpenScope) × (open_scope past w.task ≡ Some opened)
 open_at_unblock script past seat w plan legal runs pool is =
@@ -242,7 +243,7 @@ open_at_unblock script past seat w plan legal runs pool is =
     some_open (open_scope past w.task) (not-false (is_some (open_scope past w.task)) (or_parts _ _ left).0)
 
 -- none is open where all act steps were entered
-pub closed_at_end : (script : Plan) (past : List Entry) (seat : ℕ) (w : Running) → IsBuilt script → IsLegal script past
+pub closed_at_end : (script : Plan) (past : List Entry) (seat : ℕ) (w : Running) → IsSound script → IsLegal script past
     → running past seat ≡ Some w → w.is_main ≡ false → acts_done past seat ≡ length (filter is_act (steps_of script w.task)) → open_scope past w.task ≡ None
 closed_at_end script past seat w plan legal runs pool all =
     none_open (open_scope past w.task) (rw (drop_all (acts_done past seat) (acts_of script w.task) (omega (arith, all))) at

@@ -1,6 +1,6 @@
--- How far shutdown has come, by the driver's place in a script without jobs, which starts shutdown at most once.
-use Rattle.env_core.proofs.Plans.{entered_by, holds_nothing}
-use Rattle.env_core.specs.Built.{IsBuilt}
+-- How far shutdown has come, by the driver's place in a script, which starts shutdown at most once.
+use Rattle.env_core.proofs.Plans.{entered_by}
+use Rattle.script_model.specs.Laws.Sound.{IsSound}
 use Rattle.hist_model.proofs.Laws.Agenda.{agenda_push, current_is_first}
 use Rattle.hist_model.proofs.Laws.Choice.{Found}
 use Rattle.hist_model.proofs.Laws.Legal.{legal_induction}
@@ -9,7 +9,7 @@ use Rattle.hist_model.proofs.Laws.Own.{own_entries_push}
 use Rattle.hist_model.proofs.Laws.Takes.{by_driver, end_is, job_take_is, main_end_is, take_is}
 use Rattle.hist_model.specs.Allowed.{IsAllowed, by_script, by_task, may_come}
 use Rattle.hist_model.specs.Laws.Agenda.{agenda, agenda_from, completes, first_of, next_agenda}
-use Rattle.hist_model.specs.Laws.Consistent.{is_pump}
+use Rattle.hist_model.specs.Laws.Consistent.{is_join, is_pump}
 use Rattle.hist_model.specs.Legal.{IsLegal}
 use Rattle.hist_model.specs.Script.{Current, behind_action, current, wants}
 use Rattle.hist_model.specs.Views.{own_entries}
@@ -30,43 +30,52 @@ use Rattle.task_base.specs.declared.entry.Kind.{Kind}
 use Rattle.task_base.specs.declared.script.Action.{Action}
 use Rattle.task_model.proofs.Growth.{phase_of_push}
 use Rattle.task_model.specs.Phase.{phase_after, phase_of}
-use Rattle.task_model.specs.Seats.{Running, running}
+use Rattle.task_model.specs.Seats.{Holding, Running, holding, running}
 use Rattle.task_traits.specs.declared.phase.Phase.{Phase}
 use Rattle.task_base.specs.declared.entry.Kind.TheVariants as kinds
 use Rattle.task_base.specs.declared.script.Action.TheVariants as actions
 use Rattle.task_traits.specs.declared.phase.Phase.TheVariants as phases
 
--- Each entry of the driver is by the script, or by a main task.
+-- Each entry of the driver is by the script, by a main task, or of an item.
 
--- the driver is at a pump, and the entry neither starts nor ends shutdown
-record IsAtPump (script : Plan) (past : List Entry) (kind : Kind) : Type 0 where
+-- the driver is at a pump or a join, and the entry neither starts nor ends shutdown
+record IsInside (script : Plan) (past : List Entry) (kind : Kind) : Type 0 where
   now : Current
   is : current script (own_entries 0 past) ≡ Some now
-  pump : is_pump now.action ≡ true
+  inside : (is_pump now.action || is_join now.action) ≡ true
   still : (phase : Phase) → phase_after phase kind ≡ phase
 
--- the driver takes nothing as a worker and holds nothing
-driver_entry : (script : Plan) (past : List Entry) (seat : ℕ) (kind : Kind) → IsBuilt script → IsLegal script past → seat ≡ 0
-    → may_come script past seat kind ≡ true → (by_script script past seat kind ≡ true) ⊎ IsAtPump script past kind
+-- the driver takes nothing as a worker; it runs main tasks at a pump, and holds items at a join
+driver_entry : (script : Plan) (past : List Entry) (seat : ℕ) (kind : Kind) → IsLegal script past → seat ≡ 0
+    → may_come script past seat kind ≡ true → (by_script script past seat kind ≡ true) ⊎ IsInside script past kind
 unfolding may_come
-driver_entry script past seat kind plan legal driver may = by kind may
+driver_entry script past seat kind legal driver may = by kind may
   where
-    runs : (k : Kind) (w : Running) → running past seat ≡ Some w → ((phase : Phase) → phase_after phase k ≡ phase) → IsAtPump script past k
+    runs : (k : Kind) (w : Running) → running past seat ≡ Some w → ((phase : Phase) → phase_after phase k ≡ phase) → IsInside script past k
     runs k w is still =
         let (c, now, pump) = (legal_does_one_thing script past legal).pumps w (ap (running past) (sym driver) ∙ is) in
-        record { now = c; is = now; pump = pump; still = still }
+        record { now = c; is = now; inside = rw pump refl; still = still }
+
+    holds : (k : Kind) (h : Holding) → holding past seat ≡ Some h → ((phase : Phase) → phase_after phase k ≡ phase) → IsInside script past k
+    holds k h is still =
+        let (c, now, join) = (legal_does_one_thing script past legal).joins h (ap (holding past) (sym driver) ∙ is) in
+        record { now = c; is = now; inside = second (is_pump c.action) join; still = still }
+      where
+        second : (a : Bool) {b : Bool} → b ≡ true → (a || b) ≡ true
+        second true k = refl
+        second false k = k
 
     worker : 1 ≤ seat → ⊥
     worker low = omega (arith, low, driver)
 
-    by_the_task : (k : Kind) → by_task script past seat k ≡ true → ((phase : Phase) → phase_after phase k ≡ phase) → IsAtPump script past k
+    by_the_task : (k : Kind) → by_task script past seat k ≡ true → ((phase : Phase) → phase_after phase k ≡ phase) → IsInside script past k
     by_the_task k h still = let s = entered_by script past seat k h in runs k s.now s.runs still
 
     either : (k : Kind) → (by_script script past seat k || by_task script past seat k) ≡ true → ((phase : Phase) → phase_after phase k ≡ phase)
-        → (by_script script past seat k ≡ true) ⊎ IsAtPump script past k
+        → (by_script script past seat k ≡ true) ⊎ IsInside script past k
     either k h still = ⊎_elim inl (λ task. inr (by_the_task k task still)) (or_cases _ _ h)
 
-    by : (k : Kind) → may_come script past seat k ≡ true → (by_script script past seat k ≡ true) ⊎ IsAtPump script past k
+    by : (k : Kind) → may_come script past seat k ≡ true → (by_script script past seat k ≡ true) ⊎ IsInside script past k
     by (kinds.Post task runner delay ok) h = either (kinds.Post task runner delay ok) (and_parts _ _ h).0 (λ phase. refl)
     by (kinds.Main task queue delay ok) h = either (kinds.Main task queue delay ok) (and_parts _ _ h).0 (λ phase. refl)
     by (kinds.Tick now) h = inl (and_parts _ _ (and_parts _ _ h).0).0
@@ -81,7 +90,7 @@ driver_entry script past seat kind plan legal driver may = by kind may
     by (kinds.JobTake job id item) h = inl (⊎_elim (λ k. absurd (worker k.0.worker)) (λ k. k.0) (job_take_is script past seat job id item h))
     by (kinds.JobStep job id item value next) h =
         let held = job_step_holds script past seat job id item value next h in
-        absurd (none-some held.0 (sym (holds_nothing script past seat plan legal) ∙ held.1))
+        inr (holds (kinds.JobStep job id item value next) held.0 held.1 (λ phase. refl))
     by (kinds.Cancelled job) h = inl (and_parts _ _ (and_parts _ _ h).0).0
     by (kinds.Joined job reply) h = inl (and_parts _ _ (and_parts _ _ h).0).0
     by kinds.Idle h = inl (and_parts _ _ (and_parts _ _ h).0).0
@@ -160,21 +169,28 @@ moves own phase x rest made seat kind w at = by (completes x made kind)
     by true = begins phase rest at
     by false = at
 
--- an entry inside a pump that changes no phase
-pump_moves : (phase : Phase) (xs : List Action) (made : List Entry) (c : Current) (e : Entry) → first_of xs made ≡ Some c → is_pump c.action ≡ true
-    → IsAtPhase phase xs made → IsAtPhase phase (next_agenda xs made e).actions (next_agenda xs made e).made
-pump_moves phase [] made c e is pump at = absurd (none-some c is)
-pump_moves phase (x ∷ rest) made c e is pump at = of_pump x (ap (λ (y : Current). is_pump y.action) (same_Some _ c is) ∙ pump) at
+-- an entry inside a pump or a join that changes no phase
+inner_moves : (phase : Phase) (xs : List Action) (made : List Entry) (c : Current) (e : Entry) → first_of xs made ≡ Some c
+    → (is_pump c.action || is_join c.action) ≡ true → IsAtPhase phase xs made → IsAtPhase phase (next_agenda xs made e).actions (next_agenda xs made e).made
+inner_moves phase [] made c e is inside at = absurd (none-some c is)
+inner_moves phase (x ∷ rest) made c e is inside at =
+    of_action x (ap (λ (y : Current). is_pump y.action || is_join y.action) (same_Some _ c is) ∙ inside) at
   where
-    of_pump : (y : Action) → is_pump y ≡ true → IsAtPhase phase (y ∷ rest) made
+    of_action : (y : Action) → (is_pump y || is_join y) ≡ true → IsAtPhase phase (y ∷ rest) made
         → IsAtPhase phase (next_agenda (y ∷ rest) made e).actions (next_agenda (y ∷ rest) made e).made
-    of_pump (actions.Pump n) h now = by (completes (actions.Pump n) made e.kind)
+    of_action (actions.Pump n) h now = by (completes (actions.Pump n) made e.kind)
       where
         by : (b : Bool) → IsAtPhase phase (cond b (agenda_from rest []) (record { actions = actions.Pump n ∷ rest; made = made ++ e ∷ [] })).actions
             (cond b (agenda_from rest []) (record { actions = actions.Pump n ∷ rest; made = made ++ e ∷ [] })).made
         by true = begins phase rest now
         by false = now
-    of_pump y h now = absurd cc
+    of_action (actions.Join job) h now = by (completes (actions.Join job) made e.kind)
+      where
+        by : (b : Bool) → IsAtPhase phase (cond b (agenda_from rest []) (record { actions = actions.Join job ∷ rest; made = made ++ e ∷ [] })).actions
+            (cond b (agenda_from rest []) (record { actions = actions.Join job ∷ rest; made = made ++ e ∷ [] })).made
+        by true = begins phase rest now
+        by false = now
+    of_action y h now = absurd cc
 
 -- the phase fits the place of the driver
 abbrev IsInStep : Plan → List Entry → Type 0
@@ -198,12 +214,12 @@ same_phase script past seat kinds.Done phase other h =
 same_phase script past seat kind phase other h = refl
 
 -- at the start the phase fits
-in_step_at_start : (script : Plan) → IsBuilt script → IsInStep script []
+in_step_at_start : (script : Plan) → IsSound script → IsInStep script []
 unfolding agenda phase_of
-in_step_at_start script plan = begins phases.Running script.actions (record { once = plan.sound.once.one_shutdown; running = λ h. refl })
+in_step_at_start script plan = begins phases.Running script.actions (record { once = plan.once.one_shutdown; running = λ h. refl })
 
 -- so it does in every legal history
-in_step : (script : Plan) (past : List Entry) → IsBuilt script → IsLegal script past → IsInStep script past
+in_step : (script : Plan) (past : List Entry) → IsSound script → IsLegal script past → IsInStep script past
 in_step script past plan legal = legal_induction script (IsInStep script) (in_step_at_start script plan) next past legal
   where
     next : (before : List Entry) (e : Entry) → IsLegal script before → IsAllowed script before e → IsInStep script before → IsInStep script (before ++ e ∷ [])
@@ -219,7 +235,7 @@ in_step script past plan legal = legal_induction script (IsInStep script) (in_st
             → IsAtPhase (phase_after (phase_of before) e.kind) (agenda script (cond b (own ++ e ∷ []) own)).actions
             (agenda script (cond b (own ++ e ∷ []) own)).made
         by true driver = rw (agenda_push script own e)
-            (⊎_elim wanted at_pump (driver_entry script before e.seat e.kind plan before_legal (eqb-true e.seat 0 driver) may))
+            (⊎_elim wanted inside (driver_entry script before e.seat e.kind before_legal (eqb-true e.seat 0 driver) may))
           where
             Moved : Phase → Type 0
             Moved phase = IsAtPhase phase (next_agenda (agenda script own).actions (agenda script own).made e).actions
@@ -231,10 +247,10 @@ in_step script past plan legal = legal_induction script (IsInStep script) (in_st
                 wanted_moves own (phase_of before) (agenda script own).actions (agenda script own).made c.value e
                 (sym (current_is_first script own) ∙ c.is) c.passes now
 
-            at_pump : IsAtPump script before e.kind → Moved (phase_after (phase_of before) e.kind)
-            at_pump p = subst Moved (sym (p.still (phase_of before)))
-                (pump_moves (phase_of before) (agenda script own).actions (agenda script own).made p.now e
-                (sym (current_is_first script own) ∙ p.is) p.pump now)
+            inside : IsInside script before e.kind → Moved (phase_after (phase_of before) e.kind)
+            inside i = subst Moved (sym (i.still (phase_of before)))
+                (inner_moves (phase_of before) (agenda script own).actions (agenda script own).made i.now e
+                (sym (current_is_first script own) ∙ i.is) i.inside now)
         by false other = rw (same_phase script before e.seat e.kind (phase_of before) other may) now
 
 -- the driver is at this kind of entry of its script
@@ -251,7 +267,7 @@ phase_by own phase now kind says (x ∷ rest) made c is w at =
     says x rest made (ap (λ (y : Current). wants own y.action y.made kind) (same_Some _ c is) ∙ w) at
 
 -- where shutdown is to be started, it was not
-pub at_start : (script : Plan) (past : List Entry) → IsBuilt script → IsLegal script past → IsDue script past kinds.Shutdown
+pub at_start : (script : Plan) (past : List Entry) → IsSound script → IsLegal script past → IsDue script past kinds.Shutdown
     → phase_of past ≡ phases.Running
 at_start script past plan legal due = phase_by own (phase_of past) phases.Running kinds.Shutdown (says (phase_of past)) (agenda script own).actions
     (agenda script own).made due.value (sym (current_is_first script own) ∙ due.is) due.passes (in_step script past plan legal)
@@ -266,7 +282,7 @@ at_start script past plan legal due = phase_by own (phase_of past) phases.Runnin
     says phase x rest made w at = absurd cc
 
 -- where it is to be done, it was started
-pub at_done : (script : Plan) (past : List Entry) → IsBuilt script → IsLegal script past → IsDue script past kinds.Done
+pub at_done : (script : Plan) (past : List Entry) → IsSound script → IsLegal script past → IsDue script past kinds.Done
     → phase_of past ≡ phases.Started
 at_done script past plan legal due = phase_by own (phase_of past) phases.Started kinds.Done (says (phase_of past)) (agenda script own).actions
     (agenda script own).made due.value (sym (current_is_first script own) ∙ due.is) due.passes (in_step script past plan legal)

@@ -16,14 +16,13 @@ use Rattle.task_base.specs.declared.script.Action.TheVariants as actions
 use Rattle.task_base.specs.declared.script.RunnerKind.TheVariants as runners
 use Rattle.task_base.specs.declared.step.Step.{Step}
 use Rattle.task_base.specs.declared.step.Step.TheVariants as steps
-use Rattle.script_model.specs.Laws.Sound.{IsInOrder, IsTaskSound}
+use Rattle.script_model.specs.Laws.Sound.{IsInOrder, IsSound, IsTaskSound}
 use Rattle.script_model.specs.Postings.{IsPostedOnce, postings}
 use Rattle.task_model.specs.Seats.{acts_done, holding, running, steps_of}
 use Rattle.task_body.specs.Bodies.{AssignmentView}
 use Rattle.hist_model.proofs.Laws.Differing.{posted_once_decides}
 use Rattle.hist_model.specs.Script.{current, is_finished, is_wanted}
 use Rattle.env_core.proofs.Small.{config_sound, limits_sound}
-use Rattle.env_core.specs.Built.{IsBuilt}
 use Rattle.env_core.specs.Calls.{AreFresh, CanEnd, IsFreeWorker, IsWantedNext}
 use Rattle.env_core.specs.Views.{EnvView, Enters}
 
@@ -43,22 +42,19 @@ empty_plan = record {
 }
 
 -- the empty script is sound
-pub empty_is_plan : IsBuilt empty_plan
+pub empty_is_plan : IsSound empty_plan
 unfolding postings
 empty_is_plan = record {
-  sound = record {
-    config = config_sound empty_plan refl;
-    limits = limits_sound empty_plan refl;
-    declarations = record {
-      seats_there = tt;
-      queues_within = tt;
-      tasks_sound = λ t steps here. absurd (none-some steps here);
-      jobs_sound = tt;
-    };
-    actions = record { each_sound = tt; in_order = λ k action here. absurd (none-some action here) };
-    once = record { posted_once = λ t. omega arith; started_once = λ j. omega arith; one_shutdown = omega arith };
+  config = config_sound empty_plan refl;
+  limits = limits_sound empty_plan refl;
+  declarations = record {
+    seats_there = tt;
+    queues_within = tt;
+    tasks_sound = λ t steps here. absurd (none-some steps here);
+    jobs_sound = tt;
   };
-  no_jobs = refl;
+  actions = record { each_sound = tt; in_order = λ k action here. absurd (none-some action here) };
+  once = record { posted_once = λ t. omega arith; started_once = λ j. omega arith; one_shutdown = omega arith };
 }
 
 -- without tasks there are no bodies
@@ -111,22 +107,19 @@ unfolding postings
 first_posted_once = (posted_once_decides first_plan).0 refl
 
 -- the script is sound
-pub first_is_plan : IsBuilt first_plan
+pub first_is_plan : IsSound first_plan
 first_is_plan = record {
-  sound = record {
-    config = config_sound first_plan refl;
-    limits = limits_sound first_plan refl;
-    declarations = record { seats_there = (tt, tt); queues_within = tt; tasks_sound = first_tasks_sound; jobs_sound = tt };
-    actions = record {
-      each_sound = (
-        (record { task_declared = omega arith; runner_declared = omega arith; may_block = λ opens. absurd (false≢true opens) }, omega arith),
-        (tt, tt),
-      );
-      in_order = first_in_order;
-    };
-    once = record { posted_once = first_posted_once; started_once = λ j. omega arith; one_shutdown = omega arith };
+  config = config_sound first_plan refl;
+  limits = limits_sound first_plan refl;
+  declarations = record { seats_there = (tt, tt); queues_within = tt; tasks_sound = first_tasks_sound; jobs_sound = tt };
+  actions = record {
+    each_sound = (
+      (record { task_declared = omega arith; runner_declared = omega arith; may_block = λ opens. absurd (false≢true opens) }, omega arith),
+      (tt, tt),
+    );
+    in_order = first_in_order;
   };
-  no_jobs = refl;
+  once = record { posted_once = first_posted_once; started_once = λ j. omega arith; one_shutdown = omega arith };
 }
 
 -- one body of the task's steps is the drawer of the script

@@ -1,13 +1,14 @@
 -- What each call does to what the tables of the tests say of the history.
 use Rattle.env_core.proofs.Driver.{all_count, driver_at_start, driver_ends, driver_moves, driver_passes, driver_takes, driver_waits}
-use Rattle.env_core.proofs.Driver.{few_entries_made, is_of_pump, place_at}
+use Rattle.env_core.proofs.Driver.{few_entries_made, is_counted, place_at}
 use Rattle.env_core.proofs.Tested.{stepped}
 use Rattle.env_core.proofs.Wanted.{wanted_by_script, wants_take}
 use Rattle.env_core.specs.Agenda.{counted, moved_on, passed_on}
-use Rattle.env_core.specs.Built.{IsBuilt}
+use Rattle.script_model.specs.Laws.Sound.{IsSound}
 use Rattle.env_core.specs.Calls.{CanEnd, CanEndMain, EntersAct, HasTaken, HasTakenMain, IsFreeWorker, IsNextAct, IsWantedNext, act_of, entry_of}
 use Rattle.env_core.specs.Holds.{IsAt}
-use Rattle.env_core.specs.Played.{IsPlayed, IsUnderWay, TellsSeat, TellsSeats, makes_entry}
+use Rattle.env_core.specs.Jobs.{held_by}
+use Rattle.env_core.specs.Played.{IsPlayed, IsUnderWay, TellsPasses, TellsSeat, TellsSeats, makes_entry}
 use Rattle.env_core.specs.Views.{EnvView, Enters}
 use Rattle.env_core.specs.declared.agenda.Agenda.{Agenda}
 use Rattle.hist_model.proofs.Laws.Agenda.{current_is_first}
@@ -15,19 +16,19 @@ use Rattle.hist_model.proofs.Laws.Legal.{nothing_is_legal}
 use Rattle.hist_model.proofs.Laws.OneThing.{wanted_by}
 use Rattle.hist_model.proofs.Laws.Own.{own_entries_push, running_own}
 use Rattle.hist_model.specs.Laws.Agenda.{agenda, first_of}
-use Rattle.hist_model.specs.Laws.Consistent.{is_pump}
+use Rattle.hist_model.specs.Laws.Consistent.{is_join, is_pump}
 use Rattle.hist_model.specs.Script.{current, is_wanted, wants}
 use Rattle.hist_model.specs.Views.{own_entries}
 use Rattle.list_laws.proofs.Values.{eqb-same, some-injective}
 use Rattle.list_laws.proofs.Places.{slice_get-set_same, slice_get-set_other}
-use Rattle.pool_laws.proofs.Room.Capacity.{free_parts}
 use Rattle.std.proofs.Common.{◌≡◌, ℕ, ◌+◌, ◌<◌, ◌≤◌, ◌^◌, Bool, true, false, eqb, List, [], ◌∷◌, ◌++◌}
 use Rattle.std.proofs.Common.{length, drop, take, Option, Some, None, zero, suc, refl, sym, ap, ◌∙◌, subst, arith, add-one}
 use Rattle.std.proofs.lemmas.Bool.{eqb-false, eqb-true, ne_eqb}
 use Rattle.std.proofs.lemmas.List.{length-set}
 use Rattle.std.proofs.lemmas.Option.{none-some, slice_get_within}
 use Rattle.std.specs.List.{AllByRecursion}
-use Rattle.std.specs.Prelude.{filter, slice_get, slice_set}
+use Rattle.std.specs.Option.{option_map}
+use Rattle.std.specs.Prelude.{filter, slice_get, slice_set, ◌||◌}
 use Rattle.task_base.specs.Plan.{Plan}
 use Rattle.task_base.specs.Steps.{is_act}
 use Rattle.task_base.specs.declared.entry.Entry.{Entry}
@@ -42,16 +43,18 @@ use Rattle.task_base.specs.declared.script.Action.TheVariants as actions
 use Rattle.task_base.specs.declared.step.Step.{Step}
 use Rattle.task_base.specs.declared.step.Step.TheVariants as steps
 use Rattle.task_body.specs.Bodies.{AssignmentView}
+use Rattle.task_body.specs.Passes.{PassView}
 use Rattle.task_body.specs.Progress.{Progress}
 use Rattle.task_body.specs.declared.act.Act.{Act}
 use Rattle.task_body.specs.declared.act.Act.TheVariants as acts
 use Rattle.task_model.proofs.Growth.{acts_done_push, holding_push, running_push}
-use Rattle.task_model.specs.Seats.{Running, acts_after, acts_done, holding, holding_after, running, running_after}
+use Rattle.task_model.specs.Seats.{Holding, Running, acts_after, acts_done, holding, holding_after, running, running_after}
 
 -- The driver's place.
 
 -- the action at the driver's place is the one that it is at
-at_action : {view : EnvView} {script : Plan} {a : Agenda} {seats : List (Option AssignmentView)} → IsPlayed view script a seats → (x : Action)
+pub at_action : {view : EnvView} {script : Plan} {a : Agenda} {seats : List (Option AssignmentView)} {passes : List (Option PassView)}
+    → IsPlayed view script a seats passes → (x : Action)
     → slice_get script.actions a.place ≡ Some x → current view.script (own_entries 0 view.history)
     ≡ Some (record { action = x; made = (agenda view.script (own_entries 0 view.history)).made })
 at_action {view = view} {a = a} i x here =
@@ -63,9 +66,10 @@ at_action {view = view} {a = a} i x here =
     first (y ∷ ys) zero h = rw (some-injective h) refl
     first (y ∷ ys) (suc place) h = first ys place h
 
--- an action other than a pump has made so many entries as the driver's place says
-current_at : {view : EnvView} {script : Plan} {a : Agenda} {seats : List (Option AssignmentView)} → IsPlayed view script a seats → (x : Action)
-    → is_pump x ≡ false → slice_get script.actions a.place ≡ Some x
+-- an action other than a pump or a join has made so many entries as the driver's place says
+current_at : {view : EnvView} {script : Plan} {a : Agenda} {seats : List (Option AssignmentView)} {passes : List (Option PassView)}
+    → IsPlayed view script a seats passes → (x : Action)
+    → (is_pump x || is_join x) ≡ false → slice_get script.actions a.place ≡ Some x
     → (made : List Entry) × (current view.script (own_entries 0 view.history) ≡ Some (record { action = x; made = made })) × (length made ≡ a.made)
 current_at {view = view} {script = script} {a = a} i x other here =
     let own = own_entries 0 view.history in
@@ -82,8 +86,9 @@ current_at {view = view} {script = script} {a = a} i x other here =
     counts (y ∷ ys) (suc place) made h = counts ys place made h
 
 -- an entry that this action wants is wanted next
-wanted_at : {view : EnvView} {script : Plan} {a : Agenda} {seats : List (Option AssignmentView)} → IsPlayed view script a seats → (x : Action) (kind : Kind)
-    → is_pump x ≡ false → slice_get script.actions a.place ≡ Some x
+pub wanted_at : {view : EnvView} {script : Plan} {a : Agenda} {seats : List (Option AssignmentView)} {passes : List (Option PassView)}
+    → IsPlayed view script a seats passes → (x : Action) (kind : Kind)
+    → (is_pump x || is_join x) ≡ false → slice_get script.actions a.place ≡ Some x
     → ((own made : List Entry) → length made ≡ a.made → wants own x made kind ≡ true) → IsWantedNext view 0 kind
 unfolding is_wanted
 wanted_at {view = view} i x kind other here wants_it =
@@ -91,19 +96,22 @@ wanted_at {view = view} i x kind other here wants_it =
     record { driver = refl; wanted = rw now.1 (wants_it (own_entries 0 view.history) now.0 now.2) }
 
 -- the next post, tick, policy, wait, start and end of shutdown of the script
-pub wants_post : {view : EnvView} {script : Plan} {a : Agenda} {seats : List (Option AssignmentView)} → IsPlayed view script a seats
+pub wants_post : {view : EnvView} {script : Plan} {a : Agenda} {seats : List (Option AssignmentView)} {passes : List (Option PassView)}
+    → IsPlayed view script a seats passes
     → (task runner delay : ℕ) (ok : Bool) → slice_get script.actions a.place ≡ Some (actions.Post task runner delay)
     → IsWantedNext view 0 (kinds.Post task runner delay ok)
 wants_post i task runner delay ok here = wanted_at i (actions.Post task runner delay) (kinds.Post task runner delay ok) refl here
     (λ own made few. rw (eqb-same task, eqb-same runner, eqb-same delay) refl)
 
 -- the next tick of the script
-pub wants_tick : {view : EnvView} {script : Plan} {a : Agenda} {seats : List (Option AssignmentView)} → IsPlayed view script a seats
+pub wants_tick : {view : EnvView} {script : Plan} {a : Agenda} {seats : List (Option AssignmentView)} {passes : List (Option PassView)}
+    → IsPlayed view script a seats passes
     → (count now : ℕ) → slice_get script.actions a.place ≡ Some (actions.Tick count) → IsWantedNext view 0 (kinds.Tick now)
 wants_tick i count now here = wanted_at i (actions.Tick count) (kinds.Tick now) refl here (λ own made few. refl)
 
 -- the next policy of the script
-pub wants_policy : {view : EnvView} {script : Plan} {a : Agenda} {seats : List (Option AssignmentView)} → IsPlayed view script a seats
+pub wants_policy : {view : EnvView} {script : Plan} {a : Agenda} {seats : List (Option AssignmentView)} {passes : List (Option PassView)}
+    → IsPlayed view script a seats passes
     → (policy : Policy) → slice_get script.actions a.place ≡ Some (actions.Policy policy) → IsWantedNext view 0 (kinds.Policy policy)
 wants_policy {a = a} i policy here = wanted_at i (actions.Policy policy) (kinds.Policy policy) refl here (same policy)
   where
@@ -113,29 +121,34 @@ wants_policy {a = a} i policy here = wanted_at i (actions.Policy policy) (kinds.
     same Nothing own made few = refl
 
 -- the next wait of the script
-pub wants_idle : {view : EnvView} {script : Plan} {a : Agenda} {seats : List (Option AssignmentView)} → IsPlayed view script a seats
+pub wants_idle : {view : EnvView} {script : Plan} {a : Agenda} {seats : List (Option AssignmentView)} {passes : List (Option PassView)}
+    → IsPlayed view script a seats passes
     → slice_get script.actions a.place ≡ Some actions.Flush → IsWantedNext view 0 kinds.Idle
 wants_idle i here = wanted_at i actions.Flush kinds.Idle refl here (λ own made few. refl)
 
 -- the start of shutdown
-pub wants_shutdown : {view : EnvView} {script : Plan} {a : Agenda} {seats : List (Option AssignmentView)} → IsPlayed view script a seats
+pub wants_shutdown : {view : EnvView} {script : Plan} {a : Agenda} {seats : List (Option AssignmentView)} {passes : List (Option PassView)}
+    → IsPlayed view script a seats passes
     → slice_get script.actions a.place ≡ Some actions.Shutdown → a.made ≡ 0 → IsWantedNext view 0 kinds.Shutdown
 wants_shutdown i here none = wanted_at i actions.Shutdown kinds.Shutdown refl here (λ own made few. rw (few, none) refl)
 
 -- the end of shutdown
-pub wants_done : {view : EnvView} {script : Plan} {a : Agenda} {seats : List (Option AssignmentView)} → IsPlayed view script a seats
+pub wants_done : {view : EnvView} {script : Plan} {a : Agenda} {seats : List (Option AssignmentView)} {passes : List (Option PassView)}
+    → IsPlayed view script a seats passes
     → slice_get script.actions a.place ≡ Some actions.Shutdown → a.made ≡ 1 → IsWantedNext view 0 kinds.Done
 wants_done i here one = wanted_at i actions.Shutdown kinds.Done refl here (λ own made few. rw (few, one) refl)
 
 -- the next post to a main queue, fence, close and pump of the script
-pub wants_main_post : {view : EnvView} {script : Plan} {a : Agenda} {seats : List (Option AssignmentView)} → IsPlayed view script a seats
+pub wants_main_post : {view : EnvView} {script : Plan} {a : Agenda} {seats : List (Option AssignmentView)} {passes : List (Option PassView)}
+    → IsPlayed view script a seats passes
     → (task queue delay : ℕ) (ok : Bool) → slice_get script.actions a.place ≡ Some (actions.Main task queue delay)
     → IsWantedNext view 0 (kinds.Main task queue delay ok)
 wants_main_post i task queue delay ok here = wanted_at i (actions.Main task queue delay) (kinds.Main task queue delay ok) refl here
     (λ own made few. rw (eqb-same task, eqb-same queue, eqb-same delay) refl)
 
 -- the next fence of the script
-pub wants_fence : {view : EnvView} {script : Plan} {a : Agenda} {seats : List (Option AssignmentView)} → IsPlayed view script a seats
+pub wants_fence : {view : EnvView} {script : Plan} {a : Agenda} {seats : List (Option AssignmentView)} {passes : List (Option PassView)}
+    → IsPlayed view script a seats passes
     → (queue : ℕ) (at : FenceAt) → slice_get script.actions a.place ≡ Some (actions.Fence queue at) → IsWantedNext view 0 (kinds.Fence queue at)
 wants_fence {a = a} i queue at here = wanted_at i (actions.Fence queue at) (kinds.Fence queue at) refl here (same at)
   where
@@ -144,48 +157,53 @@ wants_fence {a = a} i queue at here = wanted_at i (actions.Fence queue at) (kind
     same Start own made few = rw (eqb-same queue) refl
 
 -- the next closing of a main queue
-pub wants_close : {view : EnvView} {script : Plan} {a : Agenda} {seats : List (Option AssignmentView)} → IsPlayed view script a seats
+pub wants_close : {view : EnvView} {script : Plan} {a : Agenda} {seats : List (Option AssignmentView)} {passes : List (Option PassView)}
+    → IsPlayed view script a seats passes
     → (queue : ℕ) → slice_get script.actions a.place ≡ Some (actions.Close queue) → IsWantedNext view 0 (kinds.Close queue)
 wants_close i queue here = wanted_at i (actions.Close queue) (kinds.Close queue) refl here (λ own made few. eqb-same queue)
 
 -- a pump of the script, which the driver is inside
-pub wants_pump : {view : EnvView} {script : Plan} {a : Agenda} {seats : List (Option AssignmentView)} → IsPlayed view script a seats
+pub wants_pump : {view : EnvView} {script : Plan} {a : Agenda} {seats : List (Option AssignmentView)} {passes : List (Option PassView)}
+    → IsPlayed view script a seats passes
     → (count : ℕ) → slice_get script.actions a.place ≡ Some (actions.Pump count) → IsWantedNext view 0 kinds.MainNone
 unfolding is_wanted
 wants_pump i count here = record { driver = refl; wanted = rw (at_action i (actions.Pump count) here, i.driver_free) refl }
 
 -- the driver has made few entries by its action, and is at a place of the script
-pub few_made : {view : EnvView} {script : Plan} {a : Agenda} {seats : List (Option AssignmentView)} → IsPlayed view script a seats → a.made < 2 ^ 31
+pub few_made : {view : EnvView} {script : Plan} {a : Agenda} {seats : List (Option AssignmentView)} {passes : List (Option PassView)}
+    → IsPlayed view script a seats passes → a.made < 2 ^ 31
 few_made {view = view} {a = a} i = few_entries_made view.script view.history a.place a.made i.plan i.legal i.driver
 
 -- the driver's place is one of the script
-pub place_within : {view : EnvView} {script : Plan} {a : Agenda} {seats : List (Option AssignmentView)} → IsPlayed view script a seats
+pub place_within : {view : EnvView} {script : Plan} {a : Agenda} {seats : List (Option AssignmentView)} {passes : List (Option PassView)}
+    → IsPlayed view script a seats passes
     → a.place ≤ length script.actions
 place_within i = rw (← i.script_is) i.driver.within
 
 -- The table of the seats.
 
--- what is told of a seat stays so while the seat makes no entry
+-- what is told of a seat stays so while it runs the same and enters no act
 tells_kept : (before after : EnvView) (seat : ℕ) (slot : Option AssignmentView) → after.script ≡ before.script
-    → own_entries seat after.history ≡ own_entries seat before.history → TellsSeat before seat slot → TellsSeat after seat slot
-tells_kept before after seat None script own tells = rw own tells
-tells_kept before after seat (Some work) script own tells = record {
+    → running (own_entries seat after.history) seat ≡ running (own_entries seat before.history) seat
+    → acts_done (own_entries seat after.history) seat ≡ acts_done (own_entries seat before.history) seat → TellsSeat before seat slot
+    → TellsSeat after seat slot
+tells_kept before after seat None script runs acts tells = runs ∙ tells
+tells_kept before after seat (Some work) script runs acts tells = record {
   seats = record {
     now = tells.seats.now;
-    runs = rw own tells.seats.runs;
+    runs = runs ∙ tells.seats.runs;
     task_is = tells.seats.task_is;
     home_is = tells.seats.home_is;
     found_is = tells.seats.found_is;
     whole_is = rw script tells.seats.whole_is;
   };
   is_pool = tells.is_pool;
-  holds_none = rw own tells.holds_none;
-  few = rw own tells.few;
-  left = rw own tells.left;
+  few = rw acts tells.few;
+  left = rw acts tells.left;
 }
 
 -- an entry is none of another seat
-own_other : {before after : EnvView} {seat : ℕ} {kind : Kind} → Enters before after seat kind → (k : ℕ) → (seat ≡ k → ⊥)
+pub own_other : {before after : EnvView} {seat : ℕ} {kind : Kind} → Enters before after seat kind → (k : ℕ) → (seat ≡ k → ⊥)
     → own_entries k after.history ≡ own_entries k before.history
 own_other {before = before} {seat = seat} {kind = kind} enters k other =
     rw (enters.entered, own_entries_push before.history (record { seat = seat; kind = kind }) k, ne_eqb seat k other) refl
@@ -197,13 +215,13 @@ own_same {before = before} {seat = seat} {kind = kind} enters =
     rw (enters.entered, own_entries_push before.history (record { seat = seat; kind = kind }) seat, eqb-same seat) refl
 
 -- what a seat runs and holds, and how many acts it has entered, behind an entry of its own
-running_next : {before after : EnvView} {seat : ℕ} {kind : Kind} → Enters before after seat kind
+pub running_next : {before after : EnvView} {seat : ℕ} {kind : Kind} → Enters before after seat kind
     → running (own_entries seat after.history) seat ≡ running_after (running (own_entries seat before.history) seat) kind
 running_next {before = before} {seat = seat} {kind = kind} enters =
     rw (own_same enters, running_push (own_entries seat before.history) (record { seat = seat; kind = kind }) seat, eqb-same seat) refl
 
 -- what a seat holds behind an entry of its own
-holding_next : {before after : EnvView} {seat : ℕ} {kind : Kind} → Enters before after seat kind
+pub holding_next : {before after : EnvView} {seat : ℕ} {kind : Kind} → Enters before after seat kind
     → holding (own_entries seat after.history) seat ≡ holding_after (holding (own_entries seat before.history) seat) kind
 holding_next {before = before} {seat = seat} {kind = kind} enters =
     rw (own_same enters, holding_push (own_entries seat before.history) (record { seat = seat; kind = kind }) seat, eqb-same seat) refl
@@ -214,12 +232,22 @@ acts_next : {before after : EnvView} {seat : ℕ} {kind : Kind} → Enters befor
 acts_next {before = before} {seat = seat} {kind = kind} enters =
     rw (own_same enters, acts_done_push (own_entries seat before.history) (record { seat = seat; kind = kind }) seat, eqb-same seat) refl
 
+-- what an entry leaves of its own seat it leaves of each
+pub kept_for : {T : Type 0} {before after : EnvView} {seat : ℕ} {kind : Kind} (told : List Entry → ℕ → T) → Enters before after seat kind
+    → told (own_entries seat after.history) seat ≡ told (own_entries seat before.history) seat → (k : ℕ)
+    → told (own_entries k after.history) k ≡ told (own_entries k before.history) k
+kept_for {before = before} {after = after} {seat = seat} told enters same k = by (eqb seat k) refl
+  where
+    by : (b : Bool) → eqb seat k ≡ b → told (own_entries k after.history) k ≡ told (own_entries k before.history) k
+    by true is = rw (← eqb-true seat k is) same
+    by false other = ap (λ own. told own k) (own_other enters k (eqb-false seat k other))
+
 -- a call leaves the script
-same_script : {before after : EnvView} {seat : ℕ} {kind : Kind} → Enters before after seat kind → after.script ≡ before.script
+pub same_script : {before after : EnvView} {seat : ℕ} {kind : Kind} → Enters before after seat kind → after.script ≡ before.script
 same_script enters = ap (λ (v : EnvView). v.script) enters.entered
 
 -- an item that is put in twice
-set_twice : {A : Type 0} (xs : List A) (k : ℕ) (x y : A) → slice_set (slice_set xs k x) k y ≡ slice_set xs k y
+pub set_twice : {A : Type 0} (xs : List A) (k : ℕ) (x y : A) → slice_set (slice_set xs k x) k y ≡ slice_set xs k y
 set_twice [] k x y = refl
 set_twice (z ∷ zs) zero x y = refl
 set_twice (z ∷ zs) (suc k) x y = ap (λ rest. z ∷ rest) (set_twice zs k x y)
@@ -232,20 +260,48 @@ tells_set {before = before} {after = after} {seat = seat} seats slot enters with
     by : (b : Bool) → eqb seat k ≡ b → TellsSeat after k x
     by true same = rw (← eqb-true seat k same) (subst (TellsSeat after seat)
         (some-injective (sym (slice_get-set_same seats seat slot within) ∙ (rw (← eqb-true seat k same) at is))) here)
-    by false other = tells_kept before after k x (same_script enters) (own_other enters k (eqb-false seat k other))
+    by false other = tells_kept before after k x (same_script enters) (rw (own_other enters k (eqb-false seat k other)) refl)
+        (rw (own_other enters k (eqb-false seat k other)) refl)
         (tells k x worker (sym (slice_get-set_other seats seat k slot (eqb-false seat k other)) ∙ is))
 
 -- the driver's entries leave the table as it is
 tells_driver : {before after : EnvView} {kind : Kind} (seats : List (Option AssignmentView)) → Enters before after 0 kind → TellsSeats before seats
     → TellsSeats after seats
 tells_driver {before = before} {after = after} seats enters tells k x worker is =
-    tells_kept before after k x (same_script enters) (own_other enters k (λ same. omega (arith, worker, same))) (tells k x worker is)
+    let own = own_other enters k (λ same. omega (arith, worker, same)) in
+    tells_kept before after k x (same_script enters) (rw own refl) (rw own refl) (tells k x worker is)
+
+-- so do entries that are none of a task
+pub tells_tasks : {before after : EnvView} {seat : ℕ} {kind : Kind} (seats : List (Option AssignmentView)) → Enters before after seat kind
+    → ((now : Option Running) → running_after now kind ≡ now) → ((n : ℕ) → acts_after n kind ≡ n) → TellsSeats before seats → TellsSeats after seats
+tells_tasks {before = before} {after = after} seats enters runs acts tells k x worker is =
+    tells_kept before after k x (same_script enters) (kept_for running enters (running_next enters ∙ runs _) k)
+    (kept_for acts_done enters (acts_next enters ∙ acts _) k) (tells k x worker is)
+
+-- The table of the items.
+
+-- the table tells of each seat, where it does of the one that made the entry
+pub passes_set : {before after : EnvView} {seat : ℕ} {kind : Kind} (passes : List (Option PassView)) (slot : Option PassView)
+    → Enters before after seat kind → seat < length passes → TellsPasses before passes
+    → holding (own_entries seat after.history) seat ≡ option_map held_by slot → TellsPasses after (slice_set passes seat slot)
+passes_set {before = before} {after = after} {seat = seat} passes slot enters within tells here k x is = by (eqb seat k) refl
+  where
+    by : (b : Bool) → eqb seat k ≡ b → holding (own_entries k after.history) k ≡ option_map held_by x
+    by true same = rw (← eqb-true seat k same) (here ∙ ap (option_map held_by)
+        (some-injective (sym (slice_get-set_same passes seat slot within) ∙ (rw (← eqb-true seat k same) at is))))
+    by false other = rw (own_other enters k (eqb-false seat k other))
+        (tells k x (sym (slice_get-set_other passes seat k slot (eqb-false seat k other)) ∙ is))
+
+-- an entry that is none of an item leaves the table as it is
+passes_kept : {before after : EnvView} {seat : ℕ} {kind : Kind} (passes : List (Option PassView)) → Enters before after seat kind
+    → ((now : Option Holding) → holding_after now kind ≡ now) → TellsPasses before passes → TellsPasses after passes
+passes_kept passes enters keeps tells k x is = kept_for holding enters (holding_next enters ∙ keeps _) k ∙ tells k x is
 
 -- What the calls do.
 
 -- at the start all seats are free
-pub played_at_start : (view : EnvView) (script : Plan) → IsBuilt script → view.script ≡ script → view.history ≡ [] → script.workers ≡ 2
-    → IsPlayed view script (record { place = 0; made = 0 }) (None ∷ None ∷ None ∷ [])
+pub played_at_start : (view : EnvView) (script : Plan) → IsSound script → view.script ≡ script → view.history ≡ [] → script.workers ≡ 2
+    → IsPlayed view script (record { place = 0; made = 0 }) (None ∷ None ∷ None ∷ []) (None ∷ None ∷ None ∷ [])
 unfolding holding running
 played_at_start view script plan same empty two = record {
   plan = rw same plan;
@@ -254,7 +310,9 @@ played_at_start view script plan same empty two = record {
   driver = rw (empty, same) (driver_at_start script plan);
   driver_free = rw empty refl;
   workers_are = rw (same, two) refl;
+  items_are = rw (same, two) refl;
   seats_are = all_free;
+  passes_are = all_empty;
 }
   where
     all_free : TellsSeats view (None ∷ None ∷ None ∷ [])
@@ -263,55 +321,78 @@ played_at_start view script plan same empty two = record {
     all_free (suc (suc zero)) slot worker is = subst (TellsSeat view 2) (some-injective is) (rw empty refl)
     all_free (suc (suc (suc k))) slot worker is = absurd (none-some slot is)
 
+    all_empty : TellsPasses view (None ∷ None ∷ None ∷ [])
+    all_empty zero slot is = rw (empty, ← some-injective is) refl
+    all_empty (suc zero) slot is = rw (empty, ← some-injective is) refl
+    all_empty (suc (suc zero)) slot is = rw (empty, ← some-injective is) refl
+    all_empty (suc (suc (suc k))) slot is = absurd (none-some slot is)
+
 -- three seats that are put into an empty table
 pub three_pushed : {A : Type 0} (x : A) (none one two three : List A) → none ≡ [] → one ≡ none ++ x ∷ [] → two ≡ one ++ x ∷ [] → three ≡ two ++ x ∷ []
     → three ≡ x ∷ x ∷ x ∷ []
 three_pushed x none one two three a b c d = rw (d, c, b, a) refl
 
 -- an entry of the driver that leaves it free moves its place
-played_moved : {before after : EnvView} {script : Plan} {a : Agenda} {seats : List (Option AssignmentView)} {kind : Kind} (later : Agenda)
-    → IsPlayed before script a seats → Enters before after 0 kind → running_after None kind ≡ None
-    → IsAt before.script (before.history ++ (record { seat = 0; kind = kind }) ∷ []) later.place later.made → IsPlayed after script later seats
-played_moved {seats = seats} {kind = kind} later i enters free moved = record {
+played_moved : {before after : EnvView} {script : Plan} {a : Agenda} {seats : List (Option AssignmentView)}
+    {passes : List (Option PassView)} {kind : Kind} (later : Agenda)
+    → IsPlayed before script a seats passes → Enters before after 0 kind → running_after None kind ≡ None
+    → ((now : Option Holding) → holding_after now kind ≡ now)
+    → IsAt before.script (before.history ++ (record { seat = 0; kind = kind }) ∷ []) later.place later.made → IsPlayed after script later seats passes
+played_moved {seats = seats} {passes = passes} {kind = kind} later i enters free keeps moved = record {
   plan = rw (same_script enters) i.plan;
   script_is = same_script enters ∙ i.script_is;
   legal = enters.legal;
   driver = rw enters.entered moved;
   driver_free = running_next enters ∙ ap (λ now. running_after now kind) i.driver_free ∙ free;
   workers_are = rw (same_script enters) i.workers_are;
+  items_are = rw (same_script enters) i.items_are;
   seats_are = tells_driver seats enters i.seats_are;
+  passes_are = passes_kept passes enters keeps i.passes_are;
 }
 
--- an action that wants an entry that no pump makes leaves a free driver free
-stays_free : (own : List Entry) (x : Action) (made : List Entry) (kind : Kind) → wants own x made kind ≡ true → is_of_pump kind ≡ false
+-- an action that wants an entry that counts leaves a free driver free
+stays_free : (own : List Entry) (x : Action) (made : List Entry) (kind : Kind) → wants own x made kind ≡ true → is_counted kind ≡ true
     → running_after None kind ≡ None
 stays_free own (actions.Pump n) made (kinds.Take task home found) w h = absurd cc
 stays_free own x made (kinds.Take task home found) w h = absurd cc
 stays_free own x made (kinds.MainTake task queue found) w h = absurd cc
 stays_free own x made kind w h = refl
 
+-- an action that wants an entry that counts leaves what is held
+keeps_item : (own : List Entry) (x : Action) (made : List Entry) (kind : Kind) → wants own x made kind ≡ true → is_counted kind ≡ true
+    → (now : Option Holding) → holding_after now kind ≡ now
+keeps_item own x made (kinds.JobTake job id item) w h now = absurd cc
+keeps_item own (actions.Pump n) made (kinds.JobStep job id item value next) w h now = absurd cc
+keeps_item own x made (kinds.JobStep job id item value next) w h now = absurd cc
+keeps_item own x made kind w h now = refl
+
 -- an entry of the driver moves its place on
-pub played_driver : {before after : EnvView} {script : Plan} {a : Agenda} {seats : List (Option AssignmentView)} {kind : Kind} (later : Agenda)
-    → IsPlayed before script a seats → IsWantedNext before 0 kind → is_of_pump kind ≡ false → Enters before after 0 kind → later ≡ moved_on script.actions a
-    → IsPlayed after script later seats
-played_driver {before = before} {script = script} {a = a} {kind = kind} later i wanted other enters moved =
+pub played_driver : {before after : EnvView} {script : Plan} {a : Agenda} {seats : List (Option AssignmentView)}
+    {passes : List (Option PassView)} {kind : Kind} (later : Agenda)
+    → IsPlayed before script a seats passes → IsWantedNext before 0 kind → is_counted kind ≡ true → Enters before after 0 kind
+    → later ≡ moved_on script.actions a
+    → IsPlayed after script later seats passes
+played_driver {before = before} {script = script} {a = a} {kind = kind} later i wanted counts enters moved =
     let by = wanted_by_script before 0 kind wanted in
     let c = wanted_by before.script before.history 0 kind by in
-    played_moved later i enters (stays_free (own_entries 0 before.history) c.value.action c.value.made kind c.passes other)
-    (rw (moved, ← i.script_is) (driver_moves before.script before.history (record { seat = 0; kind = kind }) a i.plan by other i.driver))
+    played_moved later i enters (stays_free (own_entries 0 before.history) c.value.action c.value.made kind c.passes counts)
+    (keeps_item (own_entries 0 before.history) c.value.action c.value.made kind c.passes counts)
+    (rw (moved, ← i.script_is) (driver_moves before.script before.history (record { seat = 0; kind = kind }) a i.plan by counts i.driver))
 
 -- where no front is open the pump is complete
-pub played_none : {before after : EnvView} {script : Plan} {a : Agenda} {seats : List (Option AssignmentView)} (later : Agenda)
-    → IsPlayed before script a seats → IsWantedNext before 0 kinds.MainNone → Enters before after 0 kinds.MainNone → later ≡ passed_on script.actions a
-    → IsPlayed after script later seats
-played_none {before = before} {a = a} later i wanted enters moved = played_moved later i enters refl
+pub played_none : {before after : EnvView} {script : Plan} {a : Agenda} {seats : List (Option AssignmentView)}
+    {passes : List (Option PassView)} (later : Agenda)
+    → IsPlayed before script a seats passes → IsWantedNext before 0 kinds.MainNone → Enters before after 0 kinds.MainNone → later ≡ passed_on script.actions a
+    → IsPlayed after script later seats passes
+played_none {before = before} {a = a} later i wanted enters moved = played_moved later i enters refl (λ now. refl)
     (rw (moved, ← i.script_is) (driver_passes before.script before.history 0 a i.plan (wanted_by_script before 0 kinds.MainNone wanted) i.driver))
 
 -- an entry of a worker changes what is told of its seat
-played_worker : {before after : EnvView} {script : Plan} {a : Agenda} {seats : List (Option AssignmentView)} {seat : ℕ} {kind : Kind}
-    (slot : Option AssignmentView) → IsPlayed before script a seats → Enters before after seat kind → 1 ≤ seat → seat < length seats
-    → TellsSeat after seat slot → IsPlayed after script a (slice_set seats seat slot)
-played_worker {before = before} {a = a} {seats = seats} {seat = seat} {kind = kind} slot i enters worker within here = record {
+played_worker : {before after : EnvView} {script : Plan} {a : Agenda} {seats : List (Option AssignmentView)}
+    {passes : List (Option PassView)} {seat : ℕ} {kind : Kind}
+    (slot : Option AssignmentView) → IsPlayed before script a seats passes → Enters before after seat kind → 1 ≤ seat → seat < length seats
+    → ((now : Option Holding) → holding_after now kind ≡ now) → TellsSeat after seat slot → IsPlayed after script a (slice_set seats seat slot) passes
+played_worker {before = before} {a = a} {seats = seats} {passes = passes} {seat = seat} {kind = kind} slot i enters worker within keeps here = record {
   plan = rw (same_script enters) i.plan;
   script_is = same_script enters ∙ i.script_is;
   legal = enters.legal;
@@ -319,24 +400,28 @@ played_worker {before = before} {a = a} {seats = seats} {seat = seat} {kind = ki
       (ne_eqb seat 0 (λ same. omega (arith, worker, same))) i.driver);
   driver_free = rw (own_other enters 0 (λ same. omega (arith, worker, same))) i.driver_free;
   workers_are = rw (same_script enters) (length-set seats seat slot ∙ i.workers_are);
+  items_are = rw (same_script enters) i.items_are;
   seats_are = tells_set seats slot enters within i.seats_are here;
+  passes_are = passes_kept passes enters keeps i.passes_are;
 }
 
 -- a worker without an assignment is free
-pub can_take : {view : EnvView} {script : Plan} {a : Agenda} {seats : List (Option AssignmentView)} → IsPlayed view script a seats → (seat : ℕ) → 1 ≤ seat
-    → slice_get seats seat ≡ Some None → IsFreeWorker view seat
-can_take {seats = seats} i seat worker free = record {
+pub can_take : {view : EnvView} {script : Plan} {a : Agenda} {seats : List (Option AssignmentView)} {passes : List (Option PassView)}
+    → IsPlayed view script a seats passes → (seat : ℕ) → 1 ≤ seat
+    → slice_get seats seat ≡ Some None → slice_get passes seat ≡ Some None → IsFreeWorker view seat
+can_take {seats = seats} i seat worker free empty_handed = record {
   worker = worker;
   known = omega (arith, slice_get_within seats seat None free, i.workers_are);
-  free = i.seats_are seat None worker free;
+  free = rw (i.seats_are seat None worker free, i.passes_are seat None empty_handed) refl;
 }
 
 -- a take gives the seat its assignment
-pub played_take : {before after : EnvView} {script : Plan} {a : Agenda} {seats : List (Option AssignmentView)} (seat : ℕ) (work : AssignmentView)
-    → IsPlayed before script a seats → 1 ≤ seat → slice_get seats seat ≡ Some None → HasTaken before after seat work
-    → IsPlayed after script a (slice_set seats seat (Some work))
+pub played_take : {before after : EnvView} {script : Plan} {a : Agenda} {seats : List (Option AssignmentView)}
+    {passes : List (Option PassView)} (seat : ℕ) (work : AssignmentView)
+    → IsPlayed before script a seats passes → 1 ≤ seat → slice_get seats seat ≡ Some None → HasTaken before after seat work
+    → IsPlayed after script a (slice_set seats seat (Some work)) passes
 played_take {before = before} {after = after} {seats = seats} seat work i worker free taken =
-    played_worker (Some work) i taken.enters worker (slice_get_within seats seat None free) (record {
+    played_worker (Some work) i taken.enters worker (slice_get_within seats seat None free) (λ now. refl) (record {
       seats = record {
         now = record { task = work.task; home = work.home; found = work.found; is_main = false };
         runs = running_next taken.enters;
@@ -346,7 +431,6 @@ played_take {before = before} {after = after} {seats = seats} seat work i worker
         whole_is = rw (same_script taken.enters) taken.whole_is;
       };
       is_pool = refl;
-      holds_none = holding_next taken.enters ∙ (free_parts (own_entries seat before.history) seat (i.seats_are seat None worker free)).1;
       few = rw (acts_next taken.enters) (omega arith);
       left = rw (acts_next taken.enters, taken.rest_is) refl;
     })
@@ -379,8 +463,9 @@ pub record HasStepped (before after : AssignmentView) (act : Act) : Type 0 where
   pub unchanged : after ≡ record before { value = after.value; rest = after.rest }
 
 -- an act of a seat's task is its next one
-pub can_act : {view : EnvView} {script : Plan} {a : Agenda} {seats : List (Option AssignmentView)} (seat : ℕ) (work later : AssignmentView) (act : Act)
-    → IsPlayed view script a seats → 1 ≤ seat → slice_get seats seat ≡ Some (Some work) → HasStepped work later act → makes_entry act ≡ true
+pub can_act : {view : EnvView} {script : Plan} {a : Agenda} {seats : List (Option AssignmentView)}
+    {passes : List (Option PassView)} (seat : ℕ) (work later : AssignmentView) (act : Act)
+    → IsPlayed view script a seats passes → 1 ≤ seat → slice_get seats seat ≡ Some (Some work) → HasStepped work later act → makes_entry act ≡ true
     → IsNextAct view seat act
 can_act {view = view} {seats = seats} seat work later act i worker here stepped enters_one =
     let under = i.seats_are seat (Some work) worker here in
@@ -397,25 +482,25 @@ can_act {view = view} {seats = seats} seat work later act i worker here stepped 
 -- the entry of an act leaves what the seat runs and holds, and counts one act more
 record CountsAct (now : Option Running) (kind : Kind) : Type 0 where
   runs : running_after now kind ≡ now
-  holds_none : holding_after None kind ≡ None
+  keeps : (held : Option Holding) → holding_after held kind ≡ held
   counts : (n : ℕ) → acts_after n kind ≡ n + 1
 
 -- so it is with the entry of each act
 counts_act : (now : Option Running) (t : ℕ) (act : Act) (ok : Bool) (kind : Kind) → entry_of t act ok ≡ Some kind → CountsAct now kind
 counts_act now t (acts.Post task runner delay) ok kind is = subst (CountsAct now) (some-injective is)
-    (record { runs = refl; holds_none = refl; counts = λ n. refl })
+    (record { runs = refl; keeps = λ held. refl; counts = λ n. refl })
 counts_act now t (acts.Main task queue delay) ok kind is = subst (CountsAct now) (some-injective is)
-    (record { runs = refl; holds_none = refl; counts = λ n. refl })
-counts_act now t (acts.Enter scope) ok kind is = subst (CountsAct now) (some-injective is) (record { runs = refl; holds_none = refl; counts = λ n. refl })
-counts_act now t acts.Leave ok kind is = subst (CountsAct now) (some-injective is) (record { runs = refl; holds_none = refl; counts = λ n. refl })
+    (record { runs = refl; keeps = λ held. refl; counts = λ n. refl })
+counts_act now t (acts.Enter scope) ok kind is = subst (CountsAct now) (some-injective is) (record { runs = refl; keeps = λ held. refl; counts = λ n. refl })
+counts_act now t acts.Leave ok kind is = subst (CountsAct now) (some-injective is) (record { runs = refl; keeps = λ held. refl; counts = λ n. refl })
 counts_act now t act ok kind is = absurd (none-some kind is)
 
 -- what is under way stays so as a step changes the value and the rest, and an entry of the act is made or not
 under_way : (before after : EnvView) (seat : ℕ) (work later : AssignmentView) (act : Act) → HasStepped work later act → IsUnderWay before seat work
     → after.script ≡ before.script → running (own_entries seat after.history) seat ≡ running (own_entries seat before.history) seat
-    → holding (own_entries seat after.history) seat ≡ None → acts_done (own_entries seat after.history) seat ≤ length (filter is_act work.whole)
+    → acts_done (own_entries seat after.history) seat ≤ length (filter is_act work.whole)
     → filter is_act later.rest ≡ drop (acts_done (own_entries seat after.history) seat) (filter is_act work.whole) → IsUnderWay after seat later
-under_way before after seat work later act stepped under script runs holds few left =
+under_way before after seat work later act stepped under script runs few left =
     rw stepped.unchanged (record {
       seats = record {
         now = under.seats.now;
@@ -426,15 +511,15 @@ under_way before after seat work later act stepped under script runs holds few l
         whole_is = rw script under.seats.whole_is;
       };
       is_pool = under.is_pool;
-      holds_none = holds;
       few = few;
       left = left;
     })
 
 -- a step without an entry changes the assignment alone
-pub played_step : {view : EnvView} {script : Plan} {a : Agenda} {seats : List (Option AssignmentView)} (seat : ℕ) (work later : AssignmentView) (act : Act)
-    → IsPlayed view script a seats → 1 ≤ seat → slice_get seats seat ≡ Some (Some work) → HasStepped work later act → makes_entry act ≡ false
-    → IsPlayed view script a (slice_set seats seat (Some later))
+pub played_step : {view : EnvView} {script : Plan} {a : Agenda} {seats : List (Option AssignmentView)}
+    {passes : List (Option PassView)} (seat : ℕ) (work later : AssignmentView) (act : Act)
+    → IsPlayed view script a seats passes → 1 ≤ seat → slice_get seats seat ≡ Some (Some work) → HasStepped work later act → makes_entry act ≡ false
+    → IsPlayed view script a (slice_set seats seat (Some later)) passes
 played_step {view = view} {seats = seats} seat work later act i worker here stepped computes = record {
   plan = i.plan;
   script_is = i.script_is;
@@ -442,12 +527,14 @@ played_step {view = view} {seats = seats} seat work later act i worker here step
   driver = i.driver;
   driver_free = i.driver_free;
   workers_are = length-set seats seat (Some later) ∙ i.workers_are;
+  items_are = i.items_are;
   seats_are = tells;
+  passes_are = i.passes_are;
 }
   where
     still : IsUnderWay view seat later
     still = let under = i.seats_are seat (Some work) worker here in
-        under_way view view seat work later act stepped under refl refl under.holds_none under.few
+        under_way view view seat work later act stepped under refl refl under.few
         (no_entry work.rest work.value act later.rest later.value computes stepped.progress ∙ under.left)
 
     tells : TellsSeats view (slice_set seats seat (Some later))
@@ -460,9 +547,10 @@ played_step {view = view} {seats = seats} seat work later act i worker here step
         by false other = i.seats_are k x known (sym (slice_get-set_other seats seat k (Some later) (eqb-false seat k other)) ∙ is)
 
 -- an act of a seat's task, as it is entered
-pub played_act : {before after : EnvView} {script : Plan} {a : Agenda} {seats : List (Option AssignmentView)} (seat : ℕ)
-    (work later : AssignmentView) (act : Act) (ok : Bool) → IsPlayed before script a seats → 1 ≤ seat → slice_get seats seat ≡ Some (Some work)
-    → HasStepped work later act → makes_entry act ≡ true → EntersAct before after seat act ok → IsPlayed after script a (slice_set seats seat (Some later))
+pub played_act : {before after : EnvView} {script : Plan} {a : Agenda} {seats : List (Option AssignmentView)} {passes : List (Option PassView)} (seat : ℕ)
+    (work later : AssignmentView) (act : Act) (ok : Bool) → IsPlayed before script a seats passes → 1 ≤ seat → slice_get seats seat ≡ Some (Some work)
+    → HasStepped work later act → makes_entry act ≡ true → EntersAct before after seat act ok
+    → IsPlayed after script a (slice_set seats seat (Some later)) passes
 played_act {before = before} {after = after} {seats = seats} seat work later act ok i worker here stepped enters_one enters =
     let under = i.seats_are seat (Some work) worker here in
     let reached = first_act work.rest work.value act later.rest later.value enters_one stepped.progress in
@@ -471,31 +559,33 @@ played_act {before = before} {after = after} {seats = seats} seat work later act
     let counts = counts_act (running (own_entries seat before.history) seat) enters.now.task act ok enters.kind enters.kind_is in
     let done : acts_done (own_entries seat after.history) seat ≡ acts_done (own_entries seat before.history) seat + 1 =
     acts_next enters.enters ∙ counts.counts (acts_done (own_entries seat before.history) seat) in
-    played_worker (Some later) i enters.enters worker (slice_get_within seats seat (Some work) here)
+    played_worker (Some later) i enters.enters worker (slice_get_within seats seat (Some work) here) counts.keeps
     (under_way before after seat work later act stepped under (same_script enters.enters) (running_next enters.enters ∙ counts.runs)
-    (holding_next enters.enters ∙ ap (λ held. holding_after held enters.kind) under.holds_none ∙ counts.holds_none)
     (rw done (omega (arith, at.2))) (rw (done, add-one) (sym at.1)))
 
 -- a step, whose act is entered if it is one
-pub played_stepped : {before after : EnvView} {script : Plan} {a : Agenda} {seats : List (Option AssignmentView)} (seat : ℕ) (work later : AssignmentView)
-    (act : Act) (ok : Bool) → IsPlayed before script a seats → 1 ≤ seat → slice_get seats seat ≡ Some (Some work) → HasStepped work later act
+pub played_stepped : {before after : EnvView} {script : Plan} {a : Agenda} {seats : List (Option AssignmentView)}
+    {passes : List (Option PassView)} (seat : ℕ) (work later : AssignmentView)
+    (act : Act) (ok : Bool) → IsPlayed before script a seats passes → 1 ≤ seat → slice_get seats seat ≡ Some (Some work) → HasStepped work later act
     → (makes_entry act ≡ true → EntersAct before after seat act ok) → (makes_entry act ≡ false → after ≡ before)
-    → IsPlayed after script a (slice_set (slice_set seats seat None) seat (Some later))
-played_stepped {before = before} {after = after} {script = script} {a = a} {seats = seats} seat work later act ok i worker here stepped entered kept =
+    → IsPlayed after script a (slice_set (slice_set seats seat None) seat (Some later)) passes
+played_stepped {before = before} {after = after} {script = script} {a = a} {seats = seats} {passes = passes} seat work later act ok i worker here stepped
+    entered kept =
     rw (set_twice seats seat None (Some later)) (by (makes_entry act) refl)
   where
-    by : (b : Bool) → makes_entry act ≡ b → IsPlayed after script a (slice_set seats seat (Some later))
+    by : (b : Bool) → makes_entry act ≡ b → IsPlayed after script a (slice_set seats seat (Some later)) passes
     by true is = played_act seat work later act ok i worker here stepped is (entered is)
     by false is = rw (kept is) (played_step seat work later act i worker here stepped is)
 
 -- a task without steps left may end
-pub can_end : {view : EnvView} {script : Plan} {a : Agenda} {seats : List (Option AssignmentView)} (seat : ℕ) (work later : AssignmentView) (act : Act)
-    → IsPlayed view script a seats → 1 ≤ seat → slice_get seats seat ≡ Some (Some work) → HasStepped work later act → act ≡ acts.Finished
+pub can_end : {view : EnvView} {script : Plan} {a : Agenda} {seats : List (Option AssignmentView)}
+    {passes : List (Option PassView)} (seat : ℕ) (work later : AssignmentView) (act : Act)
+    → IsPlayed view script a seats passes → 1 ≤ seat → slice_get seats seat ≡ Some (Some work) → HasStepped work later act → act ≡ acts.Finished
     → CanEnd view seat later
 can_end {view = view} {seats = seats} seat work later act i worker here any finished =
     let stepped : HasStepped work later acts.Finished = subst (HasStepped work later) finished any in
     let under = i.seats_are seat (Some work) worker here in
-    let now : IsUnderWay view seat later = under_way view view seat work later acts.Finished stepped under refl refl under.holds_none under.few
+    let now : IsUnderWay view seat later = under_way view view seat work later acts.Finished stepped under refl refl under.few
     (no_entry work.rest work.value acts.Finished later.rest later.value refl stepped.progress ∙ under.left) in
     record {
       known = omega (arith, slice_get_within seats seat (Some work) here, i.workers_are);
@@ -513,13 +603,12 @@ can_end {view = view} {seats = seats} seat work later act i worker here any fini
     all (suc n) (x ∷ xs) few none = ap suc (all n xs (omega (arith, few)) none)
 
 -- an end frees its seat
-pub played_end : {before after : EnvView} {script : Plan} {a : Agenda} {seats : List (Option AssignmentView)} (seat : ℕ) (work later : AssignmentView)
-    → IsPlayed before script a seats → 1 ≤ seat → slice_get seats seat ≡ Some (Some work) → Enters before after seat (kinds.End later.task later.value)
-    → IsPlayed after script a (slice_set seats seat None)
+pub played_end : {before after : EnvView} {script : Plan} {a : Agenda} {seats : List (Option AssignmentView)}
+    {passes : List (Option PassView)} (seat : ℕ) (work later : AssignmentView)
+    → IsPlayed before script a seats passes → 1 ≤ seat → slice_get seats seat ≡ Some (Some work) → Enters before after seat (kinds.End later.task later.value)
+    → IsPlayed after script a (slice_set seats seat None) passes
 played_end {before = before} {seats = seats} seat work later i worker here enters =
-    let under = i.seats_are seat (Some work) worker here in
-    played_worker None i enters worker (slice_get_within seats seat (Some work) here)
-    (rw (running_next enters, holding_next enters, under.holds_none) refl)
+    played_worker None i enters worker (slice_get_within seats seat (Some work) here) (λ now. refl) (running_next enters)
 
 -- a main task of which a step computes and none is left behind it may end
 pub can_end_main : {before taken : EnvView} (work later last : AssignmentView) (count : ℕ) → HasTakenMain before taken 0 work
@@ -543,10 +632,11 @@ can_end_main work later last count took computes finishes =
     })
 
 -- a main task that the driver takes and ends counts for its pump
-pub played_main : {before taken after : EnvView} {script : Plan} {a : Agenda} {seats : List (Option AssignmentView)} (later : Agenda)
-    (work last : AssignmentView) → IsPlayed before script a seats → IsWantedNext before 0 kinds.MainNone → HasTakenMain before taken 0 work
-    → Enters taken after 0 (kinds.MainEnd last.task last.value) → later ≡ moved_on script.actions a → IsPlayed after script later seats
-played_main {before = before} {taken = taken} {a = a} {seats = seats} later work last i wanted took ends moved = record {
+pub played_main : {before taken after : EnvView} {script : Plan} {a : Agenda} {seats : List (Option AssignmentView)}
+    {passes : List (Option PassView)} (later : Agenda)
+    (work last : AssignmentView) → IsPlayed before script a seats passes → IsWantedNext before 0 kinds.MainNone → HasTakenMain before taken 0 work
+    → Enters taken after 0 (kinds.MainEnd last.task last.value) → later ≡ moved_on script.actions a → IsPlayed after script later seats passes
+played_main {before = before} {taken = taken} {a = a} {seats = seats} {passes = passes} later work last i wanted took ends moved = record {
   plan = rw (same_script ends, same_script took.enters) i.plan;
   script_is = same_script ends ∙ same_script took.enters ∙ i.script_is;
   legal = ends.legal;
@@ -556,7 +646,9 @@ played_main {before = before} {taken = taken} {a = a} {seats = seats} later work
       (sym (running_own taken.history 0) ∙ running_next took.enters) refl refl refl at_take);
   driver_free = running_next ends;
   workers_are = rw (same_script ends, same_script took.enters) i.workers_are;
+  items_are = rw (same_script ends, same_script took.enters) i.items_are;
   seats_are = tells_driver seats ends (tells_driver seats took.enters i.seats_are);
+  passes_are = passes_kept passes ends (λ now. refl) (passes_kept passes took.enters (λ now. refl) i.passes_are);
 }
   where
     e : Entry

@@ -1,10 +1,8 @@
 -- What is known of an entry that the script wants next, or that is the next act step of a task: it may come.
-use Rattle.env_core.proofs.Plans.{act_is, action_is, by_next, driver_runs_nothing, entered_by, enters_main, enters_post, free_where_none_runs}
-use Rattle.env_core.proofs.Plans.{main_runs, steps_are}
-use Rattle.env_core.proofs.Plans.{wants_main, wants_post}
+use Rattle.env_core.proofs.Plans.{act_is, action_is, by_next, driver_holds_nothing, driver_runs_nothing, entered_by, enters_main, enters_post}
+use Rattle.env_core.proofs.Plans.{free_where_none_runs, main_runs, steps_are, wants_main, wants_post}
 use Rattle.env_core.proofs.Queues.{action_posts, none_open, step_posts}
 use Rattle.env_core.proofs.Shutdown.{at_done, at_start}
-use Rattle.env_core.specs.Built.{IsBuilt}
 use Rattle.env_core.specs.Calls.{CanEnd, CanEndMain, IsFreeWorker, IsIdle, IsNextAct, IsWantedNext, act_of, entry_of, lets_in}
 use Rattle.env_core.specs.Views.{EnvView}
 use Rattle.hist_model.proofs.Laws.OneThing.{wanted_by}
@@ -18,10 +16,10 @@ use Rattle.list_laws.proofs.Elements.{AllByRecursion-contains_itself, AllByRecur
 use Rattle.list_laws.proofs.Options.{AllByRecursion-not_any}
 use Rattle.list_laws.proofs.Tests.{list_all-from_recursion}
 use Rattle.list_laws.proofs.Values.{eqb-same, some-injective}
-use Rattle.pool_core.specs.Calls.{IsTaken}
+use Rattle.pool_core.specs.Calls.{IsEntered, IsTaken}
 use Rattle.pool_core.specs.Pasts.{IsPoolScript}
 use Rattle.pool_laws.proofs.Seats.Running.{free_is_quiet}
-use Rattle.script_model.specs.Laws.Sound.{IsActionSound, IsSeatThere, IsStepSound, IsStepWithin}
+use Rattle.script_model.specs.Laws.Sound.{IsActionSound, IsSeatThere, IsSound, IsStepSound, IsStepWithin}
 use Rattle.sequence_manager.specs.Pasts.{IsPostedTo}
 use Rattle.std.proofs.Common.{Bool, List, None, Option, Some, [], ap, arith, eqb, false, length, refl, subst, suc, sym, true, ℕ, ⊎_elim, ◌<◌, ◌∙◌, ◌≡◌, ◌≤◌}
 use Rattle.std.proofs.lemmas.Bool.{and_parts, eq-eqb, eqb-true, le-leb, leb-true, or_cases}
@@ -237,14 +235,15 @@ done_allowed view seat next started none = driver_allowed view seat kinds.Done n
     (rw (wanted_by_script view seat kinds.Done next, started, none) refl)
 
 -- that the pool is idle, where nothing runs and nothing may be taken
-pub idle_allowed : (view : EnvView) (seat : ℕ) → IsBuilt view.script → IsLegal view.script view.history → IsWantedNext view seat kinds.Idle
+pub idle_allowed : (view : EnvView) (seat : ℕ) → IsLegal view.script view.history → IsWantedNext view seat kinds.Idle
     → IsIdle view → IsAllowed view.script view.history (record { seat = seat; kind = kinds.Idle })
 unfolding may_come
-idle_allowed view seat plan legal next idle = driver_allowed view seat kinds.Idle next.driver
+idle_allowed view seat legal next idle = driver_allowed view seat kinds.Idle next.driver
     (rw (
       wanted_by_script view seat kinds.Idle next,
-      free_is_quiet view.script view.history (λ s known. free_where_none_runs view.script view.history s plan legal
-          (driver_runs_nothing view.script view.history seat kinds.Idle legal (wanted_by_script view seat kinds.Idle next)) idle.0),
+      free_is_quiet view.script view.history (λ s known. free_where_none_runs view.script view.history s legal
+          (driver_runs_nothing view.script view.history seat kinds.Idle legal (wanted_by_script view seat kinds.Idle next))
+          (driver_holds_nothing view.script view.history seat kinds.Idle legal (wanted_by_script view seat kinds.Idle next)) (omega (arith, known)) idle.0),
       none_ready,
     ) refl)
   where
@@ -275,6 +274,26 @@ take_allowed view seat task runner found worker unfinished is = known_allowed vi
       eq-eqb _ _ is.task_is,
       eq-eqb _ _ is.runner_is,
       eq-eqb _ _ is.found_is,
+    ) refl)
+
+-- the take of an item of the job that is a free worker's best source
+pub item_allowed : (view : EnvView) (seat job id item : ℕ) → IsFreeWorker view seat → is_finished view.script view.history ≡ false
+    → IsEntered view.script view.history seat job id item
+    → IsAllowed view.script view.history (record { seat = seat; kind = kinds.JobTake job id item })
+unfolding may_come
+item_allowed view seat job id item worker unfinished is = known_allowed view seat (kinds.JobTake job id item) worker.known
+    (rw (
+      le-leb 1 seat worker.worker,
+      le-leb seat view.script.workers worker.known,
+      ← running_own view.history seat,
+      ← holding_own view.history seat,
+      worker.free,
+      unfinished,
+      is.is_best,
+      is.id_is,
+      eqb-same job,
+      eqb-same id,
+      eq-eqb _ _ is.item_is,
     ) refl)
 
 -- the end of a task of the pool of which no step is left
@@ -345,7 +364,7 @@ act_allowed view seat act w kind next runs is = of_step next.step (rw (← next.
 -- What is posted is declared and new, and the phase is right where shutdown is started or done.
 
 -- a post that may come is sound, and its task was not posted
-pub post_is_sound : (script : Plan) (past : List Entry) (seat task runner delay : ℕ) (ok : Bool) → IsBuilt script → IsLegal script past
+pub post_is_sound : (script : Plan) (past : List Entry) (seat task runner delay : ℕ) (ok : Bool) → IsSound script → IsLegal script past
     → IsAllowed script past (record { seat = seat; kind = kinds.Post task runner delay ok })
     → (task < length script.tasks) × (runner < length script.runners) × (delay ≤ MOST_MICROSECONDS) × (post_of past task ≡ None)
 unfolding may_come
@@ -354,7 +373,7 @@ post_is_sound script past seat task runner delay ok plan legal allowed =
       sound.0.task_declared,
       sound.0.runner_declared,
       sound.1,
-      (a_posted_task_is_new script past (record { seat = seat; kind = kinds.Post task runner delay ok }) task plan.sound.once.posted_once legal allowed
+      (a_posted_task_is_new script past (record { seat = seat; kind = kinds.Post task runner delay ok }) task plan.once.posted_once legal allowed
           refl).not_accepted,
     )
   where
@@ -362,15 +381,15 @@ post_is_sound script past seat task runner delay ok plan legal allowed =
     by_the_script wanted =
         let c = wanted_by script past seat (kinds.Post task runner delay ok) wanted in
         subst (IsActionSound script) (wants_post (own_entries 0 past) c.value.action c.value.made task runner delay ok c.passes)
-        (action_is (IsActionSound script) script (own_entries 0 past) c.value plan.sound.actions.each_sound c.is)
+        (action_is (IsActionSound script) script (own_entries 0 past) c.value plan.actions.each_sound c.is)
 
     by_the_task : by_task script past seat (kinds.Post task runner delay ok) ≡ true → IsActionSound script (actions.Post task runner delay)
     by_the_task enters =
         let s = entered_by script past seat (kinds.Post task runner delay ok) enters in
         let is : s.step ≡ steps.Post task runner delay = enters_post s.now.task s.step task runner delay ok s.enters in
         let declared = subst (IsStepSound script s.now.task) is (act_is (IsStepSound script s.now.task) _ _ s.step
-        (steps_are script s.now.task plan.sound.declarations).1 s.is_next) in
-        let within = subst IsStepWithin is (act_is IsStepWithin _ _ s.step (steps_are script s.now.task plan.sound.declarations).0 s.is_next) in
+        (steps_are script s.now.task plan.declarations).1 s.is_next) in
+        let within = subst IsStepWithin is (act_is IsStepWithin _ _ s.step (steps_are script s.now.task plan.declarations).0 s.is_next) in
         (declared.1, within)
 
 -- a post to a main queue is one of the script's, of a task that was not accepted
@@ -392,7 +411,7 @@ act_posts script t n task queue delay is = at (slice_get script.tasks t) refl is
         (act_is (Contains xs) xs n (steps.Main task queue delay) (AllByRecursion-contains_itself xs) k)
 
 -- a post to a main queue that may come is sound, and its task was not posted
-pub main_post_is_sound : (script : Plan) (past : List Entry) (seat task queue delay : ℕ) (ok : Bool) → IsBuilt script → IsLegal script past
+pub main_post_is_sound : (script : Plan) (past : List Entry) (seat task queue delay : ℕ) (ok : Bool) → IsSound script → IsLegal script past
     → IsAllowed script past (record { seat = seat; kind = kinds.Main task queue delay ok }) → IsMainPostSound script past task queue delay
 unfolding may_come
 main_post_is_sound script past seat task queue delay ok plan legal allowed =
@@ -401,7 +420,7 @@ main_post_is_sound script past seat task queue delay ok plan legal allowed =
       task_declared = sound.0.task_declared;
       delay_fits = sound.1;
       posted = posted;
-      is_new = (a_posted_task_is_new script past (record { seat = seat; kind = kinds.Main task queue delay ok }) task plan.sound.once.posted_once legal
+      is_new = (a_posted_task_is_new script past (record { seat = seat; kind = kinds.Main task queue delay ok }) task plan.once.posted_once legal
           allowed refl).not_main_accepted;
     }
   where
@@ -410,7 +429,7 @@ main_post_is_sound script past seat task queue delay ok plan legal allowed =
     by_the_script wanted =
         let c = wanted_by script past seat (kinds.Main task queue delay ok) wanted in
         let same = wants_main (own_entries 0 past) c.value.action c.value.made task queue delay ok c.passes in (
-          subst (IsActionSound script) same (action_is (IsActionSound script) script (own_entries 0 past) c.value plan.sound.actions.each_sound c.is),
+          subst (IsActionSound script) same (action_is (IsActionSound script) script (own_entries 0 past) c.value plan.actions.each_sound c.is),
           action_posts script task queue delay (subst (Contains script.actions) same
               (action_is (Contains script.actions) script (own_entries 0 past) c.value (AllByRecursion-contains_itself script.actions) c.is)),
         )
@@ -421,8 +440,8 @@ main_post_is_sound script past seat task queue delay ok plan legal allowed =
         let s = entered_by script past seat (kinds.Main task queue delay ok) enters in
         let is : s.step ≡ steps.Main task queue delay = enters_main s.now.task s.step task queue delay ok s.enters in
         let declared = subst (IsStepSound script s.now.task) is (act_is (IsStepSound script s.now.task) _ _ s.step
-        (steps_are script s.now.task plan.sound.declarations).1 s.is_next) in
-        let within = subst IsStepWithin is (act_is IsStepWithin _ _ s.step (steps_are script s.now.task plan.sound.declarations).0 s.is_next) in
+        (steps_are script s.now.task plan.declarations).1 s.is_next) in
+        let within = subst IsStepWithin is (act_is IsStepWithin _ _ s.step (steps_are script s.now.task plan.declarations).0 s.is_next) in
         ((declared.1, within), act_posts script s.now.task (acts_done past seat) task queue delay (rw is at s.is_next))
 
 -- What the driver does to a main queue names one that is declared.
@@ -457,21 +476,21 @@ names_queue script own x made (kinds.Close queue) n is w sound = absurd cc
 names_queue script own x made kind n is w sound = absurd (none-some n is)
 
 -- what the script wants is what a sound action wants
-sound_at : (P : Type 0) (view : EnvView) (seat : ℕ) (kind : Kind) → IsBuilt view.script → IsWantedNext view seat kind
+sound_at : (P : Type 0) (view : EnvView) (seat : ℕ) (kind : Kind) → IsSound view.script → IsWantedNext view seat kind
     → ((x : Action) (made : List Entry) → wants (own_entries 0 view.history) x made kind ≡ true → IsActionSound view.script x → P) → P
 sound_at P view seat kind plan next says =
     let c = wanted_by view.script view.history seat kind (wanted_by_script view seat kind next) in
     says c.value.action c.value.made c.passes
-    (action_is (IsActionSound view.script) view.script (own_entries 0 view.history) c.value plan.sound.actions.each_sound c.is)
+    (action_is (IsActionSound view.script) view.script (own_entries 0 view.history) c.value plan.actions.each_sound c.is)
 
 -- the queue of an entry that the script wants is declared
-pub queue_declared : (view : EnvView) (seat : ℕ) (kind : Kind) (queue : ℕ) → named kind ≡ Some queue → IsBuilt view.script → IsWantedNext view seat kind
+pub queue_declared : (view : EnvView) (seat : ℕ) (kind : Kind) (queue : ℕ) → named kind ≡ Some queue → IsSound view.script → IsWantedNext view seat kind
     → queue < length view.script.queues
 queue_declared view seat kind queue is plan next = sound_at (queue < length view.script.queues) view seat kind plan next
     (λ x made w sound. names_queue view.script (own_entries 0 view.history) x made kind queue is w sound)
 
 -- the voter of a vote that the script wants is one of its queue
-pub voter_declared : (view : EnvView) (seat queue voter : ℕ) (on : Bool) → IsBuilt view.script → IsWantedNext view seat (kinds.Vote queue voter on)
+pub voter_declared : (view : EnvView) (seat queue voter : ℕ) (on : Bool) → IsSound view.script → IsWantedNext view seat (kinds.Vote queue voter on)
     → voter < voters_of view.script queue
 voter_declared view seat queue voter on plan next = sound_at (voter < voters_of view.script queue) view seat (kinds.Vote queue voter on) plan next by
   where
@@ -488,7 +507,7 @@ voter_declared view seat queue voter on plan next = sound_at (voter < voters_of 
     by x made w sound = absurd cc
 
 -- the class that the script wants is within its range
-pub class_within : (view : EnvView) (seat queue class : ℕ) → IsBuilt view.script → IsWantedNext view seat (kinds.Rank queue class) → class ≤ 7
+pub class_within : (view : EnvView) (seat queue class : ℕ) → IsSound view.script → IsWantedNext view seat (kinds.Rank queue class) → class ≤ 7
 class_within view seat queue class plan next = sound_at (class ≤ 7) view seat (kinds.Rank queue class) plan next by
   where
     by : (x : Action) (made : List Entry) → wants (own_entries 0 view.history) x made (kinds.Rank queue class) ≡ true → IsActionSound view.script x
@@ -497,26 +516,26 @@ class_within view seat queue class plan next = sound_at (class ≤ 7) view seat 
     by x made w sound = absurd cc
 
 -- shutdown starts while the phase is running
-pub starts_while_running : (script : Plan) (past : List Entry) (seat : ℕ) → IsBuilt script → IsLegal script past
+pub starts_while_running : (script : Plan) (past : List Entry) (seat : ℕ) → IsSound script → IsLegal script past
     → IsAllowed script past (record { seat = seat; kind = kinds.Shutdown }) → phase_of past ≡ phases.Running
 unfolding may_come
 starts_while_running script past seat plan legal allowed = at_start script past plan legal
     (wanted_by script past seat kinds.Shutdown (and_parts _ _ allowed).1)
 
 -- shutdown ends where it has started
-pub done_while_started : (view : EnvView) (seat : ℕ) → IsBuilt view.script → IsLegal view.script view.history → IsWantedNext view seat kinds.Done
+pub done_while_started : (view : EnvView) (seat : ℕ) → IsSound view.script → IsLegal view.script view.history → IsWantedNext view seat kinds.Done
     → phase_of view.history ≡ phases.Started
 done_while_started view seat plan legal next = at_done view.script view.history plan legal
     (wanted_by view.script view.history seat kinds.Done (wanted_by_script view seat kinds.Done next))
 
 -- the pool runs such a script
-pub pool_script : (script : Plan) → IsBuilt script → IsPoolScript script
+pub pool_script : (script : Plan) → IsSound script → IsPoolScript script
 pool_script script plan = record {
-  workers_fit = plan.sound.config.few_workers;
-  runners_fit = plan.sound.limits.few_runners;
-  tasks_fit = plan.sound.limits.few_tasks;
-  seats_fit = AllByRecursion-map _ _ script.runners (λ r there. fits r.kind there) plan.sound.declarations.seats_there;
-  no_jobs = plan.no_jobs;
+  workers_fit = plan.config.few_workers;
+  runners_fit = plan.limits.few_runners;
+  tasks_fit = plan.limits.few_tasks;
+  seats_fit = AllByRecursion-map _ _ script.runners (λ r there. fits r.kind there) plan.declarations.seats_there;
+  jobs_fit = plan.limits.few_jobs;
 }
   where
     fits : (kind : RunnerKind) → IsSeatThere script kind → (seat : ℕ) → seat_of_kind kind ≡ Some seat → (1 ≤ seat) × (seat ≤ script.workers)

@@ -1,14 +1,14 @@
--- The driver's place in a script without jobs, and how its entries move it on.
+-- The driver's place in a script, and how its entries move it on.
 use Rattle.std.specs.Prelude.{ℕ, ◌+◌, ◌==◌, if◌then◌else◌, List, ◌∷◌, length, slice_get}
 use Rattle.std.specs.Option.{option_map_or}
 use Rattle.list_laws.specs.Lists.{count}
 use Rattle.task_base.specs.declared.entry.Entry.{Entry}
 use Rattle.task_base.specs.declared.script.Action.{Action}
 use Rattle.task_base.specs.declared.script.Action.TheVariants as actions
-use Rattle.hist_model.specs.Script.{is_main_end}
+use Rattle.hist_model.specs.Script.{is_joined, is_main_end}
 use Rattle.env_core.specs.declared.agenda.Agenda.{Agenda}
 
--- how many entries complete an action: all that it makes, and of a pump those at which a main task ends
+-- how many entries complete an action: all that it makes, of a pump those at which a main task ends, and of a join its reply
 abbrev pub entries_of : Action → ℕ
 entries_of (actions.Tick count) = count
 entries_of (actions.Pump count) = count
@@ -19,6 +19,7 @@ entries_of action = 1
 -- of the entries that the first of some actions has made, how many count towards these
 abbrev pub counted : List Action → List Entry → ℕ
 counted (actions.Pump n ∷ rest) made = count (λ e. is_main_end e.kind) made
+counted (actions.Join job ∷ rest) made = count (λ e. is_joined e.kind) made
 counted actions made = length made
 
 -- the place behind a complete action
@@ -29,7 +30,7 @@ passed a = record { place = a.place + 1; made = 0 }
 abbrev pub behind_one : Agenda → Action → Agenda
 behind_one a action = if a.made + 1 == entries_of action then passed a else record a { made = a.made + 1 }
 
--- the place after one more entry by the script, or one more end of a main task
+-- the place after one more entry that counts
 abbrev pub moved_on : List Action → Agenda → Agenda
 moved_on actions a = option_map_or (behind_one a) (slice_get actions a.place) a
 

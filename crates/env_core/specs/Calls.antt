@@ -20,6 +20,7 @@ use Rattle.task_body.specs.declared.act.Act.TheVariants as acts
 use Rattle.task_body.specs.declared.taken.Taken.{Taken}
 use Rattle.task_body.specs.declared.taken.Taken.TheVariants as taken
 use Rattle.pool_core.specs.Calls.{running_tasks, is_any_ready}
+use Rattle.env_core.specs.Jobs.{HasTakenItem}
 use Rattle.env_core.specs.Views.{EnvView, Enters}
 
 -- the seat is the driver's, and the script wants this entry next
@@ -117,6 +118,7 @@ pub record IsOver (before after : EnvView) : Type 0 where
 -- what a worker's take gives
 abbrev pub TakeGives : {B : Type 0} → EnvView → EnvView → ℕ → Taken B → Type 0
 TakeGives before after seat (taken.Task work) = HasTaken before after seat work
+TakeGives before after seat (taken.Item pass) = HasTakenItem before after seat pass
 TakeGives before after seat taken.Nothing = HasNothing before after seat
 TakeGives before after seat taken.Over = IsOver before after
 
@@ -143,7 +145,7 @@ abbrev pub MainTakeGives : EnvView → EnvView → ℕ → Option AssignmentView
 MainTakeGives before after seat (Some work) = HasTakenMain before after seat work
 MainTakeGives before after seat None = HasNoMain before after seat
 
--- the entry may come: the script wants it, no worker runs a task of the pool, and none may take one
+-- the entry may come: the script wants it, no worker runs a task of the pool or is inside a job, and none may take a source
 abbrev pub IsIdle : EnvView → Type 0
 IsIdle view = (running_tasks view.script view.history ≡ 0) × (is_any_ready view.script view.history ≡ false)
 

@@ -13,7 +13,7 @@ use Rattle.pool_core.specs.declared.pool.Pool.{Pool}
 use Rattle.sequence_manager.specs.StandsFor.{StandsFor as MainStandsFor}
 use Rattle.sequence_manager.specs.declared.manager.Manager.{Manager}
 use Rattle.env_core.specs.Agenda.{counted}
-use Rattle.env_core.specs.Built.{IsBuilt}
+use Rattle.script_model.specs.Laws.Sound.{IsSound}
 use Rattle.env_core.specs.Drawer.{AreBodies}
 
 -- so many actions of the script are complete, and the next one has made so many entries that count
@@ -22,11 +22,11 @@ pub record IsAt (script : Plan) (past : List Entry) (place made : ℕ) : Type 0 
   pub actions_are : (agenda script (own_entries 0 past)).actions ≡ drop place script.actions
   pub made_is : counted (agenda script (own_entries 0 past)).actions (agenda script (own_entries 0 past)).made ≡ made
 
--- the script is one without jobs; the history is legal, the pool and the main queues stand for it, the drawer has the bodies
+-- the script is one that was read; the history is legal, the pool and the main queues stand for it, the drawer has the bodies
 -- of what may still be taken, the driver's place is known, and there is room for each entry that may come
 pub record Holds {X : Type 0} (bodies : List (Option X)) (whole rest : X → List Step) (script : Plan) (log : Listed Entry) (pool : Pool)
     (manager : Manager) (place made : ℕ) : Type 0 where
-  pub plan : IsBuilt script
+  pub plan : IsSound script
   pub legal : IsLegal script log.items
   pub stands : StandsFor script log.items pool
   pub main : MainStandsFor script log.items manager

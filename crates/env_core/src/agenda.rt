@@ -1,10 +1,10 @@
-ghost use Rattle.std.specs.Prelude.{◌≡◌, ◌==◌, ◌<◌, ◌≤◌, ◌^◌, length, slice_get, IfSome};
+ghost use Rattle.std.specs.Prelude.{◌≡◌, ◌==◌, ◌<◌, ◌≤◌, ◌^◌, length};
 ghost use Rattle.env_core.specs.Agenda.{entries_of, moved_on, passed_on};
 
 use task_base::{Action, Script};
 
 /// How far the driver has come in a script: how many actions are complete, and how many entries the next one has made. Of
-/// a pump those count at which a main task ends.
+/// a pump those count at which a main task ends, and of a join its reply.
 #[derive(Clone, Copy, Debug)]
 pub struct Agenda {
     pub place: usize,
@@ -19,7 +19,7 @@ impl Agenda {
         self.place == script.actions.len()
     }
 
-    /// The driver has made one more entry by its script, or has ended one more main task.
+    /// The driver has made one more entry that counts: one by its script, or the end of a main task.
     pub fn entered(&mut self, script: &Script)
         requires few { self.old.made < 2 ^ 31 }
         requires within { self.old.place ≤ length script.now.actions }

@@ -1,7 +1,7 @@
-ghost use Rattle.std.specs.Prelude.{◌≡◌, ℕ, ◌≤◌, ◌<◌, ◌↔◌, List, [], map, length, slice_get, not, Bool, true, false, IsOk, IfOk, IfErr, OnOk, OnErr, Some};
-ghost use Rattle.env_core.specs.Built.{IsBuilt};
-ghost use Rattle.env_core.specs.Calls.{IsWantedNext, IsFreeWorker, IsNextAct, CanEnd, CanEndMain, HasTaken, HasNothing, IsOver, HasTakenMain};
-ghost use Rattle.env_core.specs.Calls.{HasNoMain, MainTakeGives, EntersAct, lets_in};
+ghost use Rattle.std.specs.Prelude.{◌≡◌, ℕ, ◌<◌, ◌↔◌, [], map, length, not, Bool, true, IsOk, IfOk, IfErr, OnOk, OnErr, Some};
+ghost use Rattle.script_model.specs.Laws.Sound.{IsSound};
+ghost use Rattle.env_core.specs.Calls.{IsWantedNext, IsFreeWorker, IsNextAct, CanEnd, CanEndMain};
+ghost use Rattle.env_core.specs.Calls.{MainTakeGives, EntersAct, lets_in};
 ghost use Rattle.env_core.specs.Drawer.{kept_if};
 ghost use Rattle.env_core.specs.Views.{Enters};
 ghost use Rattle.hist_model.specs.Moments.{moment_behind};
@@ -9,9 +9,10 @@ ghost use Rattle.pool_core.specs.Calls.{running_tasks, is_any_ready};
 ghost use Rattle.task_model.specs.Blockers.{blockers_of};
 ghost use Rattle.task_model.specs.Phase.{phase_of};
 ghost use Rattle.task_model.specs.Refusal.{is_closed, is_refused};
-ghost use Rattle.task_model.specs.Seats.{steps_of};
 ghost use Rattle.task_traits.specs.declared.phase.Phase.TheVariants as phases;
 ghost use Rattle.task_model.specs.Time.{now_of};
+
+mod jobs;
 
 use crate::agenda::Agenda;
 use hist_model::Chronicle;
@@ -24,7 +25,7 @@ use task_base::{
     Entry, FenceAt, Kind, LAST_MOMENT, NotYet, Policy, QueueId, Rows, RunnerId, Scope, Script,
     SeatNo, TaskId,
 };
-use task_body::{Act, Assignment, Taken, TaskBody};
+use task_body::{Act, Assignment, JobPass, Taken, TaskBody};
 use task_script::events_bound;
 
 /// The environment of one run (Chromium's `base/task` as a browser holds it): the script, the bodies of the tasks, the
@@ -65,10 +66,10 @@ impl<B: TaskBody> Chronicle for Env<B> {
 impl<B: TaskBody> Env<B> {
     ghost use Rattle.env_core.specs.Calls.{AreFresh, TakeGives, IsIdle};
 
-    /// The environment of a script without jobs, at the start of its history, with a body for each task: body i is
+    /// The environment of a script, at the start of its history, with a body for each task: body i is
     /// that of task i, and none of its steps is done. The error is want of memory, and nothing is left made.
     pub fn open(alloc: Global, script: Script, bodies: Vec<Box<B>>) -> Result<Env<B>, AllocError>
-        requires plan { IsBuilt script }
+        requires plan { IsSound script }
         requires bodies { AreFresh bodies.items (λ body. B.whole body.value) (λ body. B.rest body.value) script }
         ensures script { IfOk result (λ env. env.script ≡ script) }
         ensures empty { IfOk result (λ env. env.history ≡ []) }
@@ -282,6 +283,13 @@ impl<B: TaskBody> Env<B> {
         }
         match self.pool.take(seat) {
             PoolTake::Nothing => Taken::Nothing,
+            PoolTake::Item { job, id, item } => {
+                self.log.push_spare(Entry {
+                    seat,
+                    kind: Kind::JobTake { job, id, item },
+                });
+                Taken::Item(JobPass::new(job, id, item))
+            }
             PoolTake::Task { task, runner, cell } => {
                 let body = self.bodies[task as usize].take().unwrap();
                 self.log.push_spare(Entry {
@@ -336,8 +344,8 @@ impl<B: TaskBody> Env<B> {
         });
     }
 
-    /// The driver waits for the pool: it goes on where no worker runs a task and none may take one. The error says how
-    /// many run, and whether one may take more.
+    /// The driver waits for the pool: it goes on where no worker runs a task or is inside a job, and none may take a source.
+    /// The error says how many do, and whether one may take more.
     pub fn try_idle(&mut self, seat: SeatNo) -> Result<(), NotYet>
         requires { IsWantedNext self.old seat Kind.Idle }
         ensures ok { IsOk result ↔ IsIdle self.old }

@@ -2,6 +2,7 @@ ghost use Rattle.std.specs.Prelude.{◌≡◌, [], ◌∷◌, IfOk, false};
 
 mod bodies;
 mod entries;
+mod jobs;
 mod lives;
 mod main;
 mod played;
@@ -52,6 +53,7 @@ fn empty_script_is_over_at_once(rt: HostRuntime) -> Result<(), Fail> {
     match env.take(1) {
         Taken::Over => {}
         Taken::Nothing => unreachable!(),
+        Taken::Item(_pass) => unreachable!(),
         Taken::Task(_work) => unreachable!(),
     }
     assert!(rt; env.into_log().is_empty());
@@ -122,7 +124,7 @@ fn first_run(rt: HostRuntime) -> Result<(), Fail> {
     assert!(rt; env.post(0, 0, 0, 0));
     let mut work = match env.take(1) {
         Taken::Task(work) => work,
-        Taken::Nothing | Taken::Over => panic!(rt; "the worker gets no task"),
+        Taken::Item(_) | Taken::Nothing | Taken::Over => panic!(rt; "the worker gets no task"),
     };
     assert_eq!(rt; (work.task(), work.home(), work.found()), (0, 0, 0));
     assert_eq!(rt; work.step(), Act::Did(1));

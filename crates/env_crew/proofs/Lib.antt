@@ -1,9 +1,11 @@
 pub mod Holds
 pub mod Rests
 pub mod Tasks
+pub mod Visits
 pub mod Spares
 pub mod Moves
 pub mod Time
 pub mod Done
 pub mod Pump
+pub mod Joins
 pub mod Tested

@@ -3,12 +3,11 @@ use Rattle.std.proofs.Common.{ℕ, zero, suc, [], ◌∷◌, Some, take, ◌≡�
 use Rattle.std.specs.Prelude.{slice_get}
 use Rattle.std.proofs.lemmas.Option.{none-some}
 use Rattle.list_laws.proofs.Values.{some-injective}
-use Rattle.script_model.specs.Laws.Sound.{IsInOrder}
+use Rattle.script_model.specs.Laws.Sound.{IsInOrder, IsSound}
 use Rattle.script_model.specs.Postings.{postings}
 use Rattle.task_base.specs.Plan.{Plan}
 use Rattle.task_base.specs.declared.script.Action.{Action}
 use Rattle.task_base.specs.declared.script.Action.TheVariants as actions
-use Rattle.env_core.specs.Built.{IsBuilt}
 use Rattle.env_core.proofs.Small.{config_sound, limits_sound}
 use Rattle.env_core.proofs.Tested.{empty_plan}
 
@@ -23,20 +22,17 @@ ticking_in_order (suc (suc zero)) action here = subst (IsInOrder (actions.Tick 2
 ticking_in_order (suc (suc (suc k))) action here = absurd (none-some action here)
 
 -- it is sound
-pub ticking_is_plan : IsBuilt ticking_plan
+pub ticking_is_plan : IsSound ticking_plan
 unfolding postings
 ticking_is_plan = record {
-  sound = record {
-    config = config_sound ticking_plan refl;
-    limits = limits_sound ticking_plan refl;
-    declarations = record {
-      seats_there = tt;
-      queues_within = tt;
-      tasks_sound = λ t steps here. absurd (none-some steps here);
-      jobs_sound = tt;
-    };
-    actions = record { each_sound = ((omega arith, omega arith), (tt, (tt, tt))); in_order = ticking_in_order };
-    once = record { posted_once = λ t. omega arith; started_once = λ j. omega arith; one_shutdown = omega arith };
+  config = config_sound ticking_plan refl;
+  limits = limits_sound ticking_plan refl;
+  declarations = record {
+    seats_there = tt;
+    queues_within = tt;
+    tasks_sound = λ t steps here. absurd (none-some steps here);
+    jobs_sound = tt;
   };
-  no_jobs = refl;
+  actions = record { each_sound = ((omega arith, omega arith), (tt, (tt, tt))); in_order = ticking_in_order };
+  once = record { posted_once = λ t. omega arith; started_once = λ j. omega arith; one_shutdown = omega arith };
 }

@@ -2,16 +2,19 @@
 use Rattle.std.specs.Prelude.{◌≡◌, ◌≢◌, ℕ, Bool, not, Option, Some, None, Result, Ok, Err}
 use Rattle.task_base.specs.declared.entry.Kind.{Kind}
 use Rattle.task_base.specs.declared.entry.Kind.TheVariants as kinds
+use Rattle.task_base.specs.declared.entry.JobReply.{JobReply}
 use Rattle.task_base.specs.declared.source.NotYet.{NotYet}
 use Rattle.task_model.specs.Blockers.{blockers_of}
-use Rattle.task_model.specs.Refusal.{is_closed, is_refused}
+use Rattle.task_model.specs.Refusal.{is_closed, is_job_forbidden, is_refused}
 use Rattle.task_model.specs.Time.{now_of}
 use Rattle.hist_model.specs.Moments.{moment_behind}
 use Rattle.shutdown_phase.specs.declared.phase_count.StillBlocked.{StillBlocked}
 use Rattle.task_body.specs.Bodies.{AssignmentView}
+use Rattle.task_body.specs.Passes.{PassView}
 use Rattle.task_body.specs.declared.act.Act.{Act}
 use Rattle.pool_core.specs.Calls.{running_tasks, is_any_ready}
 use Rattle.env_core.specs.Calls.{EntersAct, HasTaken, HasNothing, HasTakenMain, HasNoMain, IsOver, IsIdle, lets_in}
+use Rattle.env_core.specs.Jobs.{HasTakenItem, JobTakeGives, StepGives, TriesToCancel, TriesToJoin}
 use Rattle.env_core.specs.Views.{EnvView, Enters}
 use Rattle.env_crew.specs.declared.desk.Given.{Given}
 use Rattle.env_crew.specs.declared.desk.Given.TheVariants as given
@@ -46,6 +49,7 @@ pub record HasTicked (seat reading now : ℕ) (before after : EnvView) : Type 0 
 -- what a take gives the seat
 abbrev pub Gives : {W : Type 0} → (W → AssignmentView) → ℕ → Given W → EnvView → EnvView → Type 0
 Gives work seat (given.Task taken) before after = HasTaken before after seat (work taken)
+Gives work seat (given.Item pass) before after = HasTakenItem before after seat pass
 Gives work seat given.Nothing before after = HasNothing before after seat
 Gives work seat given.Over before after = IsOver before after
 
@@ -53,6 +57,27 @@ Gives work seat given.Over before after = IsOver before after
 abbrev pub GivesMain : {W : Type 0} → (W → AssignmentView) → ℕ → Option W → EnvView → EnvView → Type 0
 GivesMain work seat (Some taken) before after = HasTakenMain before after seat (work taken)
 GivesMain work seat None before after = HasNoMain before after seat
+
+-- the seat posted a job; the reply is false exactly where the phase forbids the job
+pub record HasPostedJob (seat job : ℕ) (ok : Bool) (before after : EnvView) : Type 0 where
+  pub reply : ok ≡ not (is_job_forbidden before.script before.history job)
+  pub enters : Enters before after seat (kinds.JobPost job ok)
+
+-- what a join gives the driver that asks for an item
+abbrev pub GivesItem : ℕ → ℕ → Option PassView → EnvView → EnvView → Type 0
+GivesItem seat job got before after = JobTakeGives before after seat job got
+
+-- what the end of an item gives the seat
+abbrev pub HasStepped : ℕ → PassView → ℕ → Option PassView → EnvView → EnvView → Type 0
+HasStepped seat pass value got before after = StepGives before after seat pass value got
+
+-- what asking whether a cancelled job is empty does
+abbrev pub TriesCancelled : ℕ → ℕ → Result (Unit {0}) NotYet → EnvView → EnvView → Type 0
+TriesCancelled seat job answer before after = TriesToCancel before after seat job answer
+
+-- what asking for the reply to a join does
+abbrev pub TriesJoined : ℕ → ℕ → Result JobReply NotYet → EnvView → EnvView → Type 0
+TriesJoined seat job answer before after = TriesToJoin before after seat job answer
 
 -- the seat's task did its next act step; the reply is false exactly where that is a post that is refused
 pub record HasActed (seat : ℕ) (act : Act) (ok : Bool) (before after : EnvView) : Type 0 where

@@ -1,8 +1,11 @@
-ghost use Rattle.std.specs.Prelude.{◌≡◌, ℕ, Bool};
+ghost use Rattle.std.specs.Prelude.{◌≡◌, ◌<◌, ℕ, Bool, length};
+ghost use Rattle.task_base.specs.declared.entry.JobReply.{JobReply};
+ghost use Rattle.task_model.specs.Jobs.{item_value};
 ghost use Rattle.task_base.specs.declared.entry.Kind.TheVariants as kinds;
 ghost use Rattle.env_core.specs.Calls.{IsNextAct, CanEnd, CanEndMain};
-ghost use Rattle.env_crew.specs.Calls.{Gives, GivesMain, HasActed, HasEnded, HasEndedMain};
-ghost use Rattle.env_crew.specs.Calls.{HasEntered, HasPosted, HasPostedMain, HasTicked, TriesDone, TriesIdle};
+ghost use Rattle.env_core.specs.Jobs.{CanEndItem};
+ghost use Rattle.env_crew.specs.Calls.{Gives, GivesItem, GivesMain, HasActed, HasEnded, HasEndedMain, HasStepped};
+ghost use Rattle.env_crew.specs.Calls.{HasEntered, HasPosted, HasPostedJob, HasPostedMain, HasTicked, TriesCancelled, TriesDone, TriesIdle, TriesJoined};
 ghost use Rattle.env_crew.specs.Desk.{DeskView, Answers, as_seen};
 ghost use Rattle.env_crew.specs.Driving.{IsWanted};
 ghost use Rattle.env_crew.specs.Serving.{IsFree};
@@ -10,13 +13,15 @@ ghost use Rattle.env_crew.specs.Serving.{IsFree};
 use crate::assigned::Assigned;
 use shutdown_phase::StillBlocked;
 use std::sync::Wait;
-use task_base::{FenceAt, NotYet, Policy, QueueId, RunnerId, SeatNo, TaskId};
-use task_body::Act;
+use task_base::{FenceAt, JobId, JobReply, NotYet, Policy, QueueId, RunnerId, SeatNo, TaskId};
+use task_body::{Act, JobPass};
 
 /// What a worker that asks for work is given at its desk (this project's own rule).
 pub enum Given<W> {
     /// A task to run.
     Task(W),
+    /// An item of a job to work on.
+    Item(JobPass),
     /// There is nothing that this worker may take now.
     Nothing,
     /// There will be nothing any more.
@@ -26,7 +31,7 @@ pub enum Given<W> {
 /// One seat of an environment that many threads share (this project's own rule; a worker of Chromium's pool reaches the
 /// shared pool through the delegate of `base/task/thread_pool/worker_thread.h`).
 ///
-/// Each call but `number` takes the turn once, and so may wait for it. Between two calls other seats may make entries,
+/// Each call but `number` and `job_value` takes the turn once, and so may wait for it. Between two calls other seats may make entries,
 /// never this one. Seat 0 is the driver's, which performs the script. A condition is one on the seat's own entries, so
 /// that no other seat can break it.
 pub trait Desk {
@@ -111,6 +116,42 @@ pub trait Desk {
     fn end<R: Wait>(&mut self, rt: &R, work: Self::Work)
         requires { CanEnd (as_seen (desk self.old)) (desk self.old).seat (Self.Work.work work) }
         ensures { Answers (desk self.old) (desk self.new) (HasEnded (desk self.old).seat (Self.Work.work work)) };
+
+    /// The driver posts a job. False where the post is refused.
+    fn job_post<R: Wait>(&mut self, rt: &R, job: JobId) -> bool
+        requires { (ok : Bool) → IsWanted (desk self.old) (kinds.JobPost job ok) }
+        ensures { Answers (desk self.old) (desk self.new) (HasPostedJob (desk self.old).seat job result) };
+
+    /// The driver, inside a join and with no item, goes into the job. None where it may not.
+    fn job_take<R: Wait>(&mut self, rt: &R, job: JobId) -> Option<JobPass>
+        requires { (id item : ℕ) → IsWanted (desk self.old) (kinds.JobTake job id item) }
+        ensures { Answers (desk self.old) (desk self.new) (GivesItem (desk self.old).seat job result) };
+
+    /// The seat has ended its item with a value. It goes on with the item that is given, or has left the job.
+    fn job_step<R: Wait>(&mut self, rt: &R, pass: JobPass, value: u64) -> Option<JobPass>
+        requires { CanEndItem (as_seen (desk self.old)) (desk self.old).seat pass value }
+        ensures { Answers (desk self.old) (desk self.new) (HasStepped (desk self.old).seat pass value result) };
+
+    /// The driver cancels a job: nobody goes in any more, and who is inside leaves at the end of its item.
+    fn job_cancel<R: Wait>(&mut self, rt: &R, job: JobId)
+        requires { IsWanted (desk self.old) (kinds.JobCancel job) }
+        ensures { Answers (desk self.old) (desk self.new) (HasEntered (desk self.old).seat (kinds.JobCancel job)) };
+
+    /// The driver waits for a job that it has cancelled. The error is that somebody is inside, and the driver may ask again.
+    fn try_cancelled<R: Wait>(&mut self, rt: &R, job: JobId) -> Result<(), NotYet>
+        requires { IsWanted (desk self.old) (kinds.Cancelled job) }
+        ensures { Answers (desk self.old) (desk self.new) (TriesCancelled (desk self.old).seat job result) };
+
+    /// The driver waits for the reply of a job that it joins. The error is that somebody is inside, or that there is none
+    /// yet, and the driver may ask again.
+    fn try_joined<R: Wait>(&mut self, rt: &R, job: JobId) -> Result<JobReply, NotYet>
+        requires { (reply : JobReply) → IsWanted (desk self.old) (kinds.Joined job reply) }
+        ensures { Answers (desk self.old) (desk self.new) (TriesJoined (desk self.old).seat job result) };
+
+    /// The value of an item of a job. It takes no turn.
+    fn job_value(&self, job: JobId, item: u32) -> u64
+        requires { job < length (desk self.now).script.jobs }
+        ensures { result ≡ item_value (desk self.now).script job item };
 
     /// The driver waits for the pool. The error is that it is not idle, and the driver may ask again.
     fn try_idle<R: Wait>(&mut self, rt: &R) -> Result<(), NotYet>

@@ -1,78 +1,18 @@
 ghost use Rattle.std.specs.Prelude.{◌≡◌, ℕ, ◌≤◌, List, [], ◌∷◌, true, Option};
-ghost use Rattle.task_base.specs.declared.entry.Kind.TheVariants as kinds;
 ghost use Rattle.task_base.specs.declared.script.Action.{Action};
 ghost use Rattle.task_base.specs.declared.script.Action.TheVariants as actions;
 ghost use Rattle.task_model.specs.Seats.{is_free};
 ghost use Rattle.hist_model.specs.Script.{is_finished};
-ghost use Rattle.env_core.specs.Built.{IsBuilt};
-ghost use Rattle.script_model.specs.Laws.Sound.{IsActionSound};
-ghost use Rattle.env_crew.specs.Desk.{IsLater, mine, with_own};
-ghost use Rattle.env_crew.specs.Driving.{AllFree, HasDone, IsAt, IsWanted, KeepsTime, SameDesks};
+ghost use Rattle.script_model.specs.Laws.Sound.{IsActionSound, IsSound};
+ghost use Rattle.env_crew.specs.Desk.{IsLater, mine};
+ghost use Rattle.env_crew.specs.Driving.{AllFree, HasDone, IsAt, KeepsTime, SameDesks};
 
 use crate::desk::Desk;
 use crate::steps::do_steps;
-use crate::worker::serve;
-use crossbeam_utils::Backoff;
+use crate::waits::{finish_cancel, finish_shutdown, flush, join};
 use env_io::{Clock, Gate};
 use std::sync::Wait;
 use task_base::{Action, Rows, Script};
-
-/// Serves each of the spare desks once.
-fn serve_each<D: Desk, G: Gate, R: Wait>(rt: &R, spare: &mut Rows<D>, gate: &G)
-    requires free { AllFree D.desk spare.old.items }
-    ensures free { AllFree D.desk spare.new.items }
-    ensures same { SameDesks D.desk spare.old.items spare.new.items }
-{
-    for place in 0..spare.len() {
-        if let Some(desk) = spare.at_mut(place) {
-            serve(rt, desk, gate);
-        }
-    }
-}
-
-/// Waits until the pool is idle.
-fn flush<D: Desk, G: Gate, R: Wait>(rt: &R, desk: &mut D, spare: &mut Rows<D>, gate: &G)
-    requires wanted { IsWanted (D.desk desk.old) kinds.Idle }
-    requires free { AllFree D.desk spare.old.items }
-    ensures later { IsLater (D.desk desk.old) (D.desk desk.new) }
-    ensures entered { mine (D.desk desk.new) ≡ with_own (D.desk desk.old) kinds.Idle }
-    ensures free { AllFree D.desk spare.new.items }
-    ensures same { SameDesks D.desk spare.old.items spare.new.items }
-{
-    let backoff = Backoff::new();
-    for _ in rt.forever() {
-        match desk.try_idle(rt) {
-            Ok(()) => return,
-            Err(_) => {
-                serve_each(rt, spare, gate);
-                backoff.snooze();
-            }
-        }
-    }
-    unreachable!()
-}
-
-/// Waits until nothing blocks shutdown.
-fn finish_shutdown<D: Desk, G: Gate, R: Wait>(rt: &R, desk: &mut D, spare: &mut Rows<D>, gate: &G)
-    requires wanted { IsWanted (D.desk desk.old) kinds.Done }
-    requires free { AllFree D.desk spare.old.items }
-    ensures later { IsLater (D.desk desk.old) (D.desk desk.new) }
-    ensures entered { mine (D.desk desk.new) ≡ with_own (D.desk desk.old) kinds.Done }
-    ensures free { AllFree D.desk spare.new.items }
-    ensures same { SameDesks D.desk spare.old.items spare.new.items }
-{
-    let backoff = Backoff::new();
-    for _ in rt.forever() {
-        match desk.try_done(rt) {
-            Ok(()) => return,
-            Err(_) => {
-                serve_each(rt, spare, gate);
-                backoff.snooze();
-            }
-        }
-    }
-    unreachable!()
-}
 
 /// Reads the clock so many times.
 fn tick<D: Desk, C: Clock, R: Wait>(rt: &R, desk: &mut D, clock: &mut C, count: u32)
@@ -115,7 +55,6 @@ fn perform<D: Desk, C: Clock, G: Gate, R: Wait>(
     gate: &G,
 )
     requires driver { (D.desk desk.old).seat ≡ 0 }
-    requires no_jobs { (D.desk desk.old).script.jobs ≡ [] }
     requires sound { IsActionSound (D.desk desk.old).script action }
     requires at { (rest : List Action) × IsAt (D.desk desk.old) (action ∷ rest) [] }
     requires rests { is_free (mine (D.desk desk.old)) 0 ≡ true }
@@ -148,11 +87,18 @@ fn perform<D: Desk, C: Clock, G: Gate, R: Wait>(
             desk.start_shutdown(rt);
             finish_shutdown(rt, desk, spare, gate);
         }
-        Action::StartJob { .. } | Action::Join { .. } | Action::Cancel { .. } => unreachable!(),
+        Action::StartJob { job } => {
+            desk.job_post(rt, job);
+        }
+        Action::Join { job } => join(rt, desk, spare, job, gate),
+        Action::Cancel { job } => {
+            desk.job_cancel(rt, job);
+            finish_cancel(rt, desk, spare, job, gate);
+        }
     }
 }
 
-/// Performs a script without jobs from its start, at the driver's desk. While an action waits, it serves the spare desks,
+/// Performs a script from its start, at the driver's desk. While an action waits, it serves the spare desks,
 /// each once in a round, and then waits a little: those are the desks of workers that got no thread of their own. Each
 /// tick reads the clock once.
 pub fn drive<D: Desk, C: Clock, G: Gate, R: Wait>(
@@ -163,7 +109,7 @@ pub fn drive<D: Desk, C: Clock, G: Gate, R: Wait>(
     clock: &mut C,
     gate: &G,
 )
-    requires plan { IsBuilt script.now }
+    requires plan { IsSound script.now }
     requires script { (D.desk desk.old).script ≡ script.now }
     requires driver { (D.desk desk.old).seat ≡ 0 }
     requires start { mine (D.desk desk.old) ≡ [] }

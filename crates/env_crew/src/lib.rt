@@ -5,7 +5,9 @@
 mod assigned;
 mod desk;
 mod driver;
+mod items;
 mod steps;
+mod waits;
 mod worker;
 
 pub use assigned::Assigned;

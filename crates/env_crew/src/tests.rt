@@ -11,21 +11,23 @@ use std::marker::Model;
 use std::sync::Wait;
 use std::test::Fail;
 use task_base::{
-    Action, Behaviour, Entry, FenceAt, Kind, NotYet, Policy, Priority, QueueId, Rows, Runner,
-    RunnerId, RunnerKind, Script, SeatNo, Step, Task, TaskId, Traits,
+    Action, Behaviour, Entry, FenceAt, Job, JobId, JobReply, Kind, NotYet, Policy, Priority,
+    QueueId, Rows, Runner, RunnerId, RunnerKind, Script, SeatNo, Step, Task, TaskId, Traits, apply,
 };
-use task_body::{Act, Assignment, ScriptBody, Taken, TaskBody};
+use task_body::{Act, Assignment, JobPass, ScriptBody, Taken, TaskBody};
 
 /// A desk that has an environment to itself, on one thread.
 #[derive(Drop)]
 struct LoneDesk<B: TaskBody> {
     env: Env<B>,
+    /// The script's jobs, which the environment keeps to itself.
+    jobs: Rows<Job>,
     seat: SeatNo,
     turns: u64,
 }
 
 impl<B: TaskBody> Model for LoneDesk<B> {
-    ghost use Rattle.std.specs.Prelude.{[]};
+    ghost use Rattle.std.specs.Prelude.{◌≡◌, []};
     ghost use Rattle.env_crew.specs.Desk.{DeskView};
     ghost use Rattle.hist_model.specs.Legal.{IsLegal};
 
@@ -42,7 +44,7 @@ impl<B: TaskBody> Model for LoneDesk<B> {
       turns = d.turns;
     } };
 
-    ghost invariant = { λ d. IsLegal d.env.script d.env.history };
+    ghost invariant = { λ d. IsLegal d.env.script d.env.history × (d.jobs.items ≡ d.env.script.jobs) };
 }
 
 /// One turn more. It stays where the number has no room.
@@ -124,6 +126,7 @@ impl<B: TaskBody> Desk for LoneDesk<B> {
         self.turns = one_more(rt, self.turns);
         match self.env.take(self.seat) {
             Taken::Task(work) => Given::Task(work),
+            Taken::Item(pass) => Given::Item(pass),
             Taken::Nothing => Given::Nothing,
             Taken::Over => Given::Over,
         }
@@ -137,6 +140,46 @@ impl<B: TaskBody> Desk for LoneDesk<B> {
     fn end<R: Wait>(&mut self, rt: &R, work: Assignment<B>) {
         self.turns = one_more(rt, self.turns);
         self.env.end(self.seat, work);
+    }
+
+    fn job_post<R: Wait>(&mut self, rt: &R, job: JobId) -> bool {
+        self.turns = one_more(rt, self.turns);
+        self.env.job_post(self.seat, job)
+    }
+
+    fn job_take<R: Wait>(&mut self, rt: &R, job: JobId) -> Option<JobPass> {
+        self.turns = one_more(rt, self.turns);
+        self.env.job_take(self.seat, job)
+    }
+
+    fn job_step<R: Wait>(&mut self, rt: &R, pass: JobPass, value: u64) -> Option<JobPass> {
+        self.turns = one_more(rt, self.turns);
+        self.env.job_step(self.seat, pass, value)
+    }
+
+    fn job_cancel<R: Wait>(&mut self, rt: &R, job: JobId) {
+        self.turns = one_more(rt, self.turns);
+        self.env.job_cancel(self.seat, job);
+    }
+
+    fn try_cancelled<R: Wait>(&mut self, rt: &R, job: JobId) -> Result<(), NotYet> {
+        self.turns = one_more(rt, self.turns);
+        self.env.try_cancelled(self.seat, job)
+    }
+
+    fn try_joined<R: Wait>(&mut self, rt: &R, job: JobId) -> Result<JobReply, NotYet> {
+        self.turns = one_more(rt, self.turns);
+        self.env.try_joined(self.seat, job)
+    }
+
+    fn job_value(&self, job: JobId, item: u32) -> u64 {
+        let Some(job) = self.jobs.at(job as usize) else {
+            unreachable!()
+        };
+        job.steps
+            .as_slice()
+            .iter()
+            .fold(u64::from(item), |value, step| apply(step, value))
     }
 
     fn try_idle<R: Wait>(&mut self, rt: &R) -> Result<(), NotYet> {
@@ -155,15 +198,17 @@ impl<B: TaskBody> Desk for LoneDesk<B> {
     }
 }
 
-/// A desk at this environment.
-fn seated<B: TaskBody>(env: Env<B>, seat: SeatNo) -> LoneDesk<B>
-    requires { IsLegal env.script env.history }
+/// A desk at this environment, whose script has these jobs.
+fn seated<B: TaskBody>(env: Env<B>, jobs: Rows<Job>, seat: SeatNo) -> LoneDesk<B>
+    requires legal { IsLegal env.script env.history }
+    requires jobs { jobs.items ≡ env.script.jobs }
     ensures script { result.script ≡ env.script }
     ensures seat { result.seat ≡ seat }
     ensures seen { result.seen ≡ env.history }
 {
     LoneDesk {
         env,
+        jobs,
         seat,
         turns: 0,
     }
@@ -200,7 +245,7 @@ fn idle_script(alloc: Global, actions: Vec<Action>) -> Script
 fn worker_goes_home_when_all_is_done(rt: HostRuntime) -> Result<(), Fail> {
     let script = idle_script(rt.alloc(), Vec::new(rt.alloc()));
     let env = Env::<ScriptBody>::open(rt.alloc(), script, Vec::new(rt.alloc()))?;
-    let mut desk = seated(env, 1);
+    let mut desk = seated(env, Rows::new(rt.alloc()), 1);
     work(&rt, &mut desk, &OpenGate);
     assert!(rt; env_of(desk).into_log().is_empty());
     Ok(())
@@ -219,7 +264,7 @@ fn driver_performs_a_script(rt: HostRuntime) -> Result<(), Fail> {
     let script = ticking(rt.alloc())?;
     let copy = ticking(rt.alloc())?;
     let env = Env::<ScriptBody>::open(rt.alloc(), copy, Vec::new(rt.alloc()))?;
-    let mut desk = seated(env, 0);
+    let mut desk = seated(env, Rows::new(rt.alloc()), 0);
     let mut spare = Rows::new(rt.alloc());
     let mut clock = StepClock::new(3);
     drive(&rt, &mut desk, &mut spare, &script, &mut clock, &OpenGate);
@@ -276,7 +321,7 @@ fn worker_serves_a_task(rt: HostRuntime) -> Result<(), Fail> {
     let body = Box::new(rt.alloc(), ScriptBody::new(add_five(rt.alloc())?))?;
     let mut env = Env::open(rt.alloc(), script, vec![in rt.alloc(); body]?)?;
     assert!(rt; env.post(0, 0, 0, 0));
-    let mut worker = seated(env, 1);
+    let mut worker = seated(env, Rows::new(rt.alloc()), 1);
     // The gate tells that the task passed it, since no other one does.
     let gate = HoldGate::new(0, 1, 0);
     assert_eq!(rt; serve(&rt, &mut worker, &gate), Served::Worked);

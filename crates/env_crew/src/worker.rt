@@ -5,6 +5,7 @@ ghost use Rattle.env_crew.specs.Serving.{HasServed, IsFree};
 
 use crate::assigned::Assigned;
 use crate::desk::{Desk, Given};
+use crate::items::do_items;
 use crate::steps::do_steps;
 use crossbeam_utils::Backoff;
 use env_io::Gate;
@@ -13,7 +14,7 @@ use std::sync::Wait;
 /// What a worker did when it was served once.
 #[derive(Clone, Copy, Debug, PartialEq, Eq)]
 pub enum Served {
-    /// It took a task and did all of its work.
+    /// It took a task and did all of its work, or worked on items of a job until it left.
     Worked,
     /// There was nothing that it might take.
     Nothing,
@@ -21,8 +22,8 @@ pub enum Served {
     Over,
 }
 
-/// Has a worker take a task and do all of its work: one round of the loop of `worker_thread.h`. The gate is passed
-/// between the take and the first step. It may wait at each of its calls, for the turn alone.
+/// Has a worker take a task and do all of its work, or go into a job and work on its items until it leaves: one round of
+/// the loop of `worker_thread.h`. The gate is passed between the take of a task and the first step. It may wait at each of its calls, for the turn alone.
 pub fn serve<D: Desk, G: Gate, R: Wait>(rt: &R, desk: &mut D, gate: &G) -> Served
     requires free { IsFree (D.desk desk.old) }
     ensures free { IsFree (D.desk desk.new) }
@@ -30,14 +31,16 @@ pub fn serve<D: Desk, G: Gate, R: Wait>(rt: &R, desk: &mut D, gate: &G) -> Serve
     ensures turned { (D.desk desk.old).turns < (D.desk desk.new).turns }
     ensures served { HasServed (D.desk desk.old) (D.desk desk.new) result }
 {
-    let work = match desk.take(rt) {
-        Given::Task(work) => work,
+    match desk.take(rt) {
+        Given::Task(work) => {
+            gate.before(desk.number(), work.task());
+            let work = do_steps(rt, desk, work);
+            desk.end(rt, work);
+        }
+        Given::Item(pass) => do_items(rt, desk, pass),
         Given::Nothing => return Served::Nothing,
         Given::Over => return Served::Over,
-    };
-    gate.before(desk.number(), work.task());
-    let work = do_steps(rt, desk, work);
-    desk.end(rt, work);
+    }
     Served::Worked
 }
 

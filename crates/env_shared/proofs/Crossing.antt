@@ -3,7 +3,7 @@ use Rattle.std.proofs.Common.{◌≡◌, ◌≢◌, ℕ, zero, suc, Bool, true, 
 use Rattle.std.specs.Prelude.{slice_get}
 use Rattle.std.proofs.lemmas.Option.{none-some}
 use Rattle.list_laws.proofs.Values.{some-injective}
-use Rattle.script_model.specs.Laws.Sound.{IsInOrder, IsTaskSound}
+use Rattle.script_model.specs.Laws.Sound.{IsInOrder, IsSound, IsTaskSound}
 use Rattle.script_model.specs.Postings.{IsPostedOnce, postings}
 use Rattle.task_base.specs.declared.entry.Entry.{Entry}
 use Rattle.task_base.specs.declared.entry.Kind.{Kind}
@@ -20,7 +20,6 @@ use Rattle.task_body.specs.Bodies.{AssignmentView}
 use Rattle.task_body.specs.Progress.{Progress}
 use Rattle.task_body.specs.declared.act.Act.{Act}
 use Rattle.task_body.specs.declared.act.Act.TheVariants as acts
-use Rattle.env_core.specs.Built.{IsBuilt}
 use Rattle.env_core.specs.Calls.{AreFresh, CanEnd, HasTaken, IsNextAct, entry_of}
 use Rattle.env_core.specs.Views.{Enters}
 use Rattle.env_crew.specs.Calls.{HasActed}
@@ -52,22 +51,19 @@ crossing_posted_once : IsPostedOnce crossing_plan
 unfolding postings
 crossing_posted_once = (posted_once_decides crossing_plan).0 refl
 
-pub crossing_is_plan : IsBuilt crossing_plan
+pub crossing_is_plan : IsSound crossing_plan
 crossing_is_plan = record {
-  sound = record {
-    config = config_sound crossing_plan refl;
-    limits = limits_sound crossing_plan refl;
-    declarations = record { seats_there = (tt, tt); queues_within = tt; tasks_sound = crossing_tasks_sound; jobs_sound = tt };
-    actions = record {
-      each_sound = (
-        (record { task_declared = omega arith; runner_declared = omega arith; may_block = λ opens. refl }, omega arith),
-        ((record { task_declared = omega arith; runner_declared = omega arith; may_block = λ opens. refl }, omega arith), (tt, tt)),
-      );
-      in_order = crossing_in_order;
-    };
-    once = record { posted_once = crossing_posted_once; started_once = λ j. omega arith; one_shutdown = omega arith };
+  config = config_sound crossing_plan refl;
+  limits = limits_sound crossing_plan refl;
+  declarations = record { seats_there = (tt, tt); queues_within = tt; tasks_sound = crossing_tasks_sound; jobs_sound = tt };
+  actions = record {
+    each_sound = (
+      (record { task_declared = omega arith; runner_declared = omega arith; may_block = λ opens. refl }, omega arith),
+      ((record { task_declared = omega arith; runner_declared = omega arith; may_block = λ opens. refl }, omega arith), (tt, tt)),
+    );
+    in_order = crossing_in_order;
   };
-  no_jobs = refl;
+  once = record { posted_once = crossing_posted_once; started_once = λ j. omega arith; one_shutdown = omega arith };
 }
 
 -- the steps of its first task

@@ -4,7 +4,7 @@ use Rattle.std.specs.Prelude.{slice_get}
 use Rattle.std.proofs.lemmas.Bool.{false≢true}
 use Rattle.std.proofs.lemmas.Option.{none-some}
 use Rattle.list_laws.proofs.Values.{some-injective}
-use Rattle.script_model.specs.Laws.Sound.{IsInOrder, IsTaskSound}
+use Rattle.script_model.specs.Laws.Sound.{IsInOrder, IsSound, IsTaskSound}
 use Rattle.script_model.specs.Postings.{IsPostedOnce, postings}
 use Rattle.task_base.specs.Plan.{Plan}
 use Rattle.task_base.specs.declared.entry.Entry.{Entry}
@@ -19,7 +19,6 @@ use Rattle.hist_model.specs.Script.{current, is_wanted}
 use Rattle.hist_model.specs.Views.{own_entries}
 use Rattle.hist_model.specs.Allowed.{IsAllowed}
 use Rattle.turn_table.specs.Seats.{EntersOne, TurnKey, SeatView}
-use Rattle.env_core.specs.Built.{IsBuilt}
 use Rattle.env_core.specs.Calls.{IsWantedNext}
 use Rattle.env_core.specs.Views.{EnvView, Enters}
 use Rattle.env_core.proofs.Tested.{first_plan}
@@ -38,22 +37,19 @@ quiet_in_order : (k : ℕ) (action : Action) → slice_get quiet_plan.actions k 
 quiet_in_order zero action here = subst (IsInOrder []) (some-injective here) tt
 quiet_in_order (suc k) action here = absurd (none-some action here)
 
-pub quiet_is_plan : IsBuilt quiet_plan
+pub quiet_is_plan : IsSound quiet_plan
 unfolding postings
 quiet_is_plan = record {
-  sound = record {
-    config = config_sound quiet_plan refl;
-    limits = limits_sound quiet_plan refl;
-    declarations = record {
-      seats_there = tt;
-      queues_within = tt;
-      tasks_sound = λ t steps here. absurd (none-some steps here);
-      jobs_sound = tt;
-    };
-    actions = record { each_sound = (tt, tt); in_order = quiet_in_order };
-    once = record { posted_once = λ t. omega arith; started_once = λ j. omega arith; one_shutdown = omega arith };
+  config = config_sound quiet_plan refl;
+  limits = limits_sound quiet_plan refl;
+  declarations = record {
+    seats_there = tt;
+    queues_within = tt;
+    tasks_sound = λ t steps here. absurd (none-some steps here);
+    jobs_sound = tt;
   };
-  no_jobs = refl;
+  actions = record { each_sound = (tt, tt); in_order = quiet_in_order };
+  once = record { posted_once = λ t. omega arith; started_once = λ j. omega arith; one_shutdown = omega arith };
 }
 
 closing_tasks_sound : (t : ℕ) (task : List Step) → slice_get closing_plan.tasks t ≡ Some task → IsTaskSound closing_plan t task
@@ -70,22 +66,19 @@ closing_posted_once : IsPostedOnce closing_plan
 unfolding postings
 closing_posted_once = (posted_once_decides closing_plan).0 refl
 
-pub closing_is_plan : IsBuilt closing_plan
+pub closing_is_plan : IsSound closing_plan
 closing_is_plan = record {
-  sound = record {
-    config = config_sound closing_plan refl;
-    limits = limits_sound closing_plan refl;
-    declarations = record { seats_there = (tt, tt); queues_within = tt; tasks_sound = closing_tasks_sound; jobs_sound = tt };
-    actions = record {
-      each_sound = (
-        (record { task_declared = omega arith; runner_declared = omega arith; may_block = λ opens. absurd (false≢true opens) }, omega arith),
-        (tt, tt),
-      );
-      in_order = closing_in_order;
-    };
-    once = record { posted_once = closing_posted_once; started_once = λ j. omega arith; one_shutdown = omega arith };
+  config = config_sound closing_plan refl;
+  limits = limits_sound closing_plan refl;
+  declarations = record { seats_there = (tt, tt); queues_within = tt; tasks_sound = closing_tasks_sound; jobs_sound = tt };
+  actions = record {
+    each_sound = (
+      (record { task_declared = omega arith; runner_declared = omega arith; may_block = λ opens. absurd (false≢true opens) }, omega arith),
+      (tt, tt),
+    );
+    in_order = closing_in_order;
   };
-  no_jobs = refl;
+  once = record { posted_once = closing_posted_once; started_once = λ j. omega arith; one_shutdown = omega arith };
 }
 
 -- What they want.

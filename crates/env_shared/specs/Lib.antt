@@ -1,2 +1,3 @@
 pub mod Sits
 pub mod Samples
+pub mod Workers

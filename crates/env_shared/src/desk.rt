@@ -11,8 +11,10 @@ use env_crew::{Desk, Given};
 use shutdown_phase::StillBlocked;
 use std::marker::Model;
 use std::sync::Wait;
-use task_base::{Behaviour, FenceAt, NotYet, Policy, QueueId, RunnerId, SeatNo, TaskId};
-use task_body::{Act, Assignment, Taken, TaskBody};
+use task_base::{
+    Behaviour, FenceAt, JobId, JobReply, NotYet, Policy, QueueId, RunnerId, SeatNo, TaskId,
+};
+use task_body::{Act, Assignment, JobPass, Taken, TaskBody};
 
 /// A desk of an environment that is shared: a seat, with the turn that it takes at each call.
 ///
@@ -228,6 +230,10 @@ impl<'a, B: TaskBody> Desk for SharedDesk<'a, B> {
                 self.seat = Some(turnstile.enter(env, holding));
                 Given::Task(work)
             }
+            Taken::Item(pass) => {
+                self.seat = Some(turnstile.enter(env, holding));
+                Given::Item(pass)
+            }
             Taken::Nothing => {
                 self.seat = Some(turnstile.back(env, holding));
                 Given::Nothing
@@ -258,6 +264,97 @@ impl<'a, B: TaskBody> Desk for SharedDesk<'a, B> {
         let (mut env, holding) = turnstile.turn(rt, seat);
         env.end(number, work);
         self.seat = Some(turnstile.enter(env, holding));
+    }
+
+    fn job_post<R: Wait>(&mut self, rt: &R, job: JobId) -> bool {
+        let shared = self.shared;
+        let turnstile = &shared.turnstile;
+        let seat = self.seat.take().unwrap();
+        let number = seat.number();
+        let (mut env, holding) = turnstile.turn(rt, seat);
+        let ok = env.job_post(number, job);
+        self.seat = Some(turnstile.enter(env, holding));
+        ok
+    }
+
+    fn job_take<R: Wait>(&mut self, rt: &R, job: JobId) -> Option<JobPass> {
+        let shared = self.shared;
+        let turnstile = &shared.turnstile;
+        let seat = self.seat.take().unwrap();
+        let number = seat.number();
+        let (mut env, holding) = turnstile.turn(rt, seat);
+        let Some(pass) = env.job_take(number, job) else {
+            self.seat = Some(turnstile.back(env, holding));
+            return None;
+        };
+        self.seat = Some(turnstile.enter(env, holding));
+        Some(pass)
+    }
+
+    fn job_step<R: Wait>(&mut self, rt: &R, pass: JobPass, value: u64) -> Option<JobPass> {
+        let shared = self.shared;
+        let turnstile = &shared.turnstile;
+        let seat = self.seat.take().unwrap();
+        let number = seat.number();
+        let (mut env, holding) = turnstile.turn(rt, seat);
+        let Some(next) = env.job_step(number, pass, value) else {
+            self.seat = Some(turnstile.enter(env, holding));
+            return None;
+        };
+        self.seat = Some(turnstile.enter(env, holding));
+        Some(next)
+    }
+
+    fn job_cancel<R: Wait>(&mut self, rt: &R, job: JobId) {
+        let shared = self.shared;
+        let turnstile = &shared.turnstile;
+        let seat = self.seat.take().unwrap();
+        let number = seat.number();
+        let (mut env, holding) = turnstile.turn(rt, seat);
+        env.job_cancel(number, job);
+        self.seat = Some(turnstile.enter(env, holding));
+    }
+
+    fn try_cancelled<R: Wait>(&mut self, rt: &R, job: JobId) -> Result<(), NotYet> {
+        let shared = self.shared;
+        let turnstile = &shared.turnstile;
+        let seat = self.seat.take().unwrap();
+        let number = seat.number();
+        let (mut env, holding) = turnstile.turn(rt, seat);
+        match env.try_cancelled(number, job) {
+            Ok(()) => {
+                self.seat = Some(turnstile.enter(env, holding));
+                Ok(())
+            }
+            Err(not_yet) => {
+                self.seat = Some(turnstile.back(env, holding));
+                Err(not_yet)
+            }
+        }
+    }
+
+    fn try_joined<R: Wait>(&mut self, rt: &R, job: JobId) -> Result<JobReply, NotYet> {
+        let shared = self.shared;
+        let turnstile = &shared.turnstile;
+        let seat = self.seat.take().unwrap();
+        let number = seat.number();
+        let (mut env, holding) = turnstile.turn(rt, seat);
+        match env.try_joined(number, job) {
+            Ok(reply) => {
+                self.seat = Some(turnstile.enter(env, holding));
+                Ok(reply)
+            }
+            Err(not_yet) => {
+                self.seat = Some(turnstile.back(env, holding));
+                Err(not_yet)
+            }
+        }
+    }
+
+    fn job_value(&self, job: JobId, item: u32) -> u64 {
+        let shared = self.shared;
+        let _number = self.number();
+        shared.value(job, item)
     }
 
     fn try_idle<R: Wait>(&mut self, rt: &R) -> Result<(), NotYet> {

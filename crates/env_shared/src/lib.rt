@@ -4,6 +4,7 @@
 
 mod desk;
 mod shared;
+mod workers;
 
 pub use desk::SharedDesk;
 pub use shared::{EnvSeat, Shared};

@@ -1,16 +1,19 @@
 ghost use Rattle.std.specs.Prelude.{◌≡◌, ◌<◌, ◌≤◌, ◌+◌, ◌^◌, [], length, true, false, IfOk};
 ghost use Rattle.std.specs.List.{AllByRecursion};
-ghost use Rattle.env_core.specs.Built.{IsBuilt};
+ghost use Rattle.script_model.specs.Laws.Sound.{IsSound};
 ghost use Rattle.env_core.specs.Calls.{AreFresh};
 ghost use Rattle.hist_model.specs.Legal.{IsLegal};
+ghost use Rattle.task_model.specs.Jobs.{item_value};
 ghost use Rattle.turn_table.specs.Seats.{Rising, Tells, closed};
 ghost use Rattle.env_shared.specs.Sits.{Seated};
 
 use crate::desk::SharedDesk;
+use crate::workers::workers_of;
 use env_core::Env;
+use job_source::{JobWorker, StepsWorker};
 use std::alloc::{AllocError, Global};
 use std::marker::Model;
-use task_base::{Rows, Script};
+use task_base::{JobId, Rows, Script};
 use task_body::TaskBody;
 use turn_table::{Seat, Turnstile};
 
@@ -24,37 +27,41 @@ pub type EnvSeat<B> = Seat<Env<B>>;
 #[derive(Drop)]
 pub struct Shared<B: TaskBody> {
     pub(crate) turnstile: Turnstile<Env<B>>,
+    /// The work of each job, which no call of the environment touches.
+    workers: Rows<StepsWorker>,
 }
 
 impl<B: TaskBody> Model for Shared<B> {
     ghost use Rattle.std.specs.Prelude.{◌≡◌, true};
-    ghost use Rattle.env_core.specs.Built.{IsBuilt};
+    ghost use Rattle.script_model.specs.Laws.Sound.{IsSound};
     ghost use Rattle.turn_table.specs.Seats.{TurnKey};
+    ghost use Rattle.env_shared.specs.Workers.{steps_of_jobs};
 
     ghost Value = { TurnKey };
 
     ghost view = { λ s. s.turnstile };
 
-    ghost invariant = { λ s. IsBuilt s.turnstile.basis × (s.turnstile.stands ≡ true) };
+    ghost invariant = { λ s. IsSound s.turnstile.basis × (s.turnstile.stands ≡ true) × (s.workers.items ≡ steps_of_jobs s.turnstile.basis) };
 }
 
 impl<B: TaskBody> Shared<B> {
-    /// Opens the environment of a script without jobs, with a body for each task, and gives the driver's seat. The error
+    /// Opens the environment of a script, with a body for each task, and gives the driver's seat. The error
     /// is want of memory, and nothing was entered.
     pub fn open(
         alloc: Global,
         script: Script,
         bodies: Vec<Box<B>>,
     ) -> Result<(Shared<B>, EnvSeat<B>), AllocError>
-        requires plan { IsBuilt script }
+        requires plan { IsSound script }
         requires bodies { AreFresh bodies.items (λ body. B.whole body.value) (λ body. B.rest body.value) script }
         ensures script { IfOk result (λ made. made.0.basis ≡ script) }
         ensures stands { IfOk result (λ made. made.0.stands ≡ true) }
         ensures seat { IfOk result (λ made. made.1 ≡ record { of = made.0; number = 0; seen = []; mine = []; made = 1; loads = 0; last = 0; turns = 0; told = false }) }
     {
+        let workers = workers_of(alloc, &script)?;
         let env = Env::open(alloc, script, bodies)?;
         match Turnstile::new(alloc, env) {
-            Ok((turnstile, seat)) => Ok((Shared { turnstile }, seat)),
+            Ok((turnstile, seat)) => Ok((Shared { turnstile, workers }, seat)),
             Err((_env, error)) => Err(error),
         }
     }
@@ -78,6 +85,15 @@ impl<B: TaskBody> Shared<B> {
         ensures seated { Seated result }
     {
         SharedDesk::new(self, seat)
+    }
+
+    /// The value of an item of a job. It takes no turn: the work of jobs stands beside it.
+    pub fn value(&self, job: JobId, item: u32) -> u64
+        requires { job < length self.now.basis.jobs }
+        ensures { result ≡ item_value self.now.basis job item }
+    {
+        let _turnstile = &self.turnstile;
+        self.workers.at(job as usize).unwrap().value(item)
     }
 
     /// Closes it once all seats came back, and gives the environment that stood under the turn. The seat that comes

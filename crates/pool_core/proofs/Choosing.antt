@@ -1,19 +1,23 @@
 -- What the pool chooses is the best source.
+use Rattle.task_model.specs.Refusal.{behaviour_of_job, effective_at}
+use Rattle.task_model.specs.Jobs.{JobPosted, job_post_of, may_enter}
+use Rattle.pool_core.proofs.JobViews.{enters_parts}
+use Rattle.pool_core.proofs.JobQueues.{job_made}
 use Rattle.list_laws.proofs.Elements.{slice_get_all}
 use Rattle.list_laws.proofs.Values.{some-injective}
 use Rattle.list_laws.specs.Lists.{Ranks, keep}
 use Rattle.pool_core.proofs.Accepted.{head_accepted, is_declared}
-use Rattle.pool_core.proofs.Following.{has_place, lane_fits}
+use Rattle.pool_core.proofs.Following.{lane_fits, sequence_made}
 use Rattle.pool_core.proofs.Queues.{owns_own}
 use Rattle.pool_core.proofs.Room.{groups_have_room}
 use Rattle.pool_core.specs.Choice.{IsBestOf, IsOffer, IsOffered, better_of, is_open, priority_in}
 use Rattle.pool_core.specs.Pasts.{IsPoolScript}
 use Rattle.pool_core.specs.Queues.{belongs, lane_of, queue_of, rank_as, same}
 use Rattle.pool_core.specs.StandsFor.{StandsFor}
-use Rattle.pool_core.specs.State.{HasPlace, is_best_by, lane_by}
+use Rattle.pool_core.specs.State.{is_best_by, lane_by}
 use Rattle.pool_core.specs.declared.pool.Pool.{Pool}
 use Rattle.pool_laws.proofs.Choice.Best.{only_best}
-use Rattle.pool_laws.proofs.Choice.Candidates.{candidate_names, free_is_waiting, job_within, sequence_within, waiting_is_free, waiting_sequence}
+use Rattle.pool_laws.proofs.Choice.Candidates.{candidate_names, free_is_waiting, job_within, sequence_within, waiting_is_free, waiting_job, waiting_sequence}
 use Rattle.pool_laws.proofs.Choice.Least.{best_is_best, ranks_goes_before}
 use Rattle.pool_laws.specs.Choice.{IsBest, IsFree, source_waiting}
 use Rattle.sequence_queue.specs.Ranked.{IsMadeFor, rank_below}
@@ -33,13 +37,13 @@ use Rattle.task_base.specs.declared.policy.Policy.{Policy}
 use Rattle.task_base.specs.declared.script.Runner.{Runner}
 use Rattle.task_base.specs.declared.source.TaskSource.{TaskSource}
 use Rattle.task_base.specs.declared.source.TaskSource.TheVariants.{Job, Sequence}
-use Rattle.task_model.specs.Capacity.{has_room}
+use Rattle.task_model.specs.Capacity.{has_room, priority_of_job}
 use Rattle.task_model.specs.Keys.{Ready}
 use Rattle.task_model.specs.Phase.{phase_of}
 use Rattle.task_model.specs.Policies.{is_held, policy_of}
 use Rattle.task_model.specs.Seats.{runs_sequence}
 use Rattle.task_model.specs.Sequences.{head_of}
-use Rattle.task_model.specs.Sources.{Candidate, IsTakeable, best_of, goes_before, is_takeable, sequence_candidate, waiting}
+use Rattle.task_model.specs.Sources.{Candidate, IsTakeable, best_of, goes_before, is_takeable, job_candidate, sequence_candidate, waiting}
 use Rattle.task_traits.specs.Behaviour.{forbids}
 use Rattle.task_traits.specs.declared.phase.Phase.{Phase}
 use Rattle.task_traits.specs.declared.traits.Behaviour.{Behaviour}
@@ -49,18 +53,6 @@ use Rattle.task_traits.specs.declared.traits.Priority.TheVariants.{BestEffort, U
 use Rattle.sequence_queue.specs.Ranked as queues
 use Rattle.task_base.specs.declared.policy.Policy.TheVariants as policies
 use Rattle.task_traits.specs.declared.phase.Phase.TheVariants as phases
-
--- What would wait, while there are no jobs: sequences by their heads.
-
--- what waits is a sequence of the script that does not run, by its head
-waits_by_head : (script : Plan) (past : List Entry) (source : TaskSource) (c : Candidate) → IsPoolScript script → source_waiting script past source ≡ Some c
-    → (s : ℕ) × (head : Ready) × (s < sequence_count script) × (runs_sequence script past s ≡ false) × (head_of script past s ≡ Some head)
-    × (sequence_candidate script s head ≡ c) × (source ≡ Sequence s)
-waits_by_head script past (Sequence s) c limits is =
-    let inside = sequence_within script past s c is in
-    let parts = waiting_sequence script past s c inside.1 in
-    (s, parts.0, inside.0, parts.1, parts.2, parts.3, refl)
-waits_by_head script past (Job j) c limits is = absurd (omega (arith, (job_within script past j c is).0, ap length limits.no_jobs))
 
 -- the seat of a single-thread runner is a worker's
 seat_above : (script : Plan) (runner seat : ℕ) → IsPoolScript script → seat_of script runner ≡ Some seat → 1 ≤ seat
@@ -74,7 +66,7 @@ seat_above script runner seat limits is = by (slice_get script.runners runner) (
 -- Which queues are open.
 
 -- the policies that hold back the work of a queue hold back all of it, or none
-held_by_queue : (past : List Entry) (priority : Priority) (best : Bool) → same (is_best_effort priority) best ≡ true
+pub held_by_queue : (past : List Entry) (priority : Priority) (best : Bool) → same (is_best_effort priority) best ≡ true
     → is_held past priority ≡ is_held past (priority_in best)
 held_by_queue past priority best is = by (phase_of past) (policy_of past) priority best is
   where
@@ -118,7 +110,7 @@ lets_block phases.Done behaviour allowed = absurd (false≢true (sym allowed))
 -- What the open queues of a seat hold, and what it may take.
 
 -- a source that a queue holds has a candidate of the queue
-held_is : (lane : ℕ) (best : Bool) (o : Option Candidate) (rank : Rank) → option_map rank_as (keep (belongs lane best) o) ≡ Some rank
+pub held_is : (lane : ℕ) (best : Bool) (o : Option Candidate) (rank : Rank) → option_map rank_as (keep (belongs lane best) o) ≡ Some rank
     → (c : Candidate) × (o ≡ Some c) × (belongs lane best c ≡ true) × (rank_as c ≡ rank)
 held_is lane best None rank is = absurd (none-some rank is)
 held_is lane best (Some c) rank is = by (belongs lane best c) refl is
@@ -136,6 +128,38 @@ seat_lets seat lane (Some only) above at is = elim at [
   | inl shared ↦ absurd (omega (arith, eqb-true only lane is, shared, above only refl))
   | inr own ↦ eq-eqb only seat (eqb-true only lane is ∙ own)
 ]
+
+-- the queue of a candidate's priority and seat is there and made for it, the phase lets block work start, and a seat that it
+-- states is a worker's
+pub record HasQueue (script : Plan) (past : List Entry) (pool : Pool) (c : Candidate) : Type 0 where
+  pub there : lane_of c.seat < script.workers + 1
+  pub made : IsMadeFor (queue_of pool.lanes (lane_of c.seat) (is_best_effort c.priority)) c.source
+  pub lets : forbids (phase_of past) BlockShutdown ≡ false
+  pub above : (only : ℕ) → c.seat ≡ Some only → 1 ≤ only
+
+pub has_queue : (script : Plan) (past : List Entry) (pool : Pool) (source : TaskSource) (c : Candidate) → StandsFor script past pool
+    → source_waiting script past source ≡ Some c → HasQueue script past pool c
+has_queue script past pool (Sequence s) c stands is =
+    let waits = waiting_sequence script past s c (sequence_within script past s c is).1 in
+    let head : Ready = waits.0 in
+    let accepted = head_accepted script past s head waits.2 in
+    let declared = is_declared script past head.posted stands.past_fits accepted.0 in
+    subst (HasQueue script past pool) waits.3 (record {
+      there = lane_fits script head.posted.home stands.script_fits;
+      made = subst (λ n. IsMadeFor (queue_of pool.lanes (lane_by script head.posted.home) (is_best_by script head.posted.home)) (Sequence n)) accepted.1
+          (sequence_made script pool.lanes head.posted.home head.posted.task stands.script_fits stands.queues.roomy declared.0 declared.1);
+      lets = lets_block (phase_of past) (effective_at script head.posted.home head.posted.delay) accepted.3;
+      above = λ only seated. seat_above script head.posted.home only stands.script_fits seated;
+    })
+has_queue script past pool (Job j) c stands is =
+    let inside = job_within script past j c is in
+    let waits = waiting_job script past j c inside.1 in
+    subst (HasQueue script past pool) waits.3 (record {
+      there = omega arith;
+      made = job_made script pool.lanes (is_best_effort (priority_of_job script j)) j stands.queues.roomy inside.0;
+      lets = lets_block (phase_of past) (behaviour_of_job script j) (enters_parts script past j waits.1).1;
+      above = λ only seated. absurd (none-some only seated);
+    })
 
 -- what a seat is offered it may take
 offered_is : (script : Plan) (past : List Entry) (pool : Pool) (seat : ℕ) (source : TaskSource) (rank : Rank) → StandsFor script past pool
@@ -162,39 +186,25 @@ offered_is script past pool seat source rank stands known (lane, best, at, offer
     lane_there (inr own) = omega (arith, own, known)
 
     above : (c : Candidate) → source_waiting script past source ≡ Some c → (only : ℕ) → c.seat ≡ Some only → 1 ≤ only
-    above c is only seated =
-        let waits = waits_by_head script past source c stands.script_fits is in
-        seat_above script waits.1.posted.home only stands.script_fits (ap (λ d. d.seat) waits.5 ∙ seated)
+    above c is = (has_queue script past pool source c stands is).above
 
 -- what a seat may take it is offered
 takeable_is : (script : Plan) (past : List Entry) (pool : Pool) (seat : ℕ) (c : Candidate) → StandsFor script past pool → IsTakeable script past seat c
     → IsOffer pool seat c.source (rank_as c)
 takeable_is script past pool seat c stands takeable =
     let free : IsFree script past c = waiting_is_free script past c takeable.0 in
-    let waits = waits_by_head script past c.source c stands.script_fits free.candidate in
-    let s = waits.0 in
-    let head : Ready = waits.1 in
-    let accepted = head_accepted script past s head waits.4 in
-    let declared = is_declared script past head.posted stands.past_fits accepted.0 in
-    let tests : (has_room script past c.priority ≡ true) × (option_map_or (λ only. only == seat) c.seat true ≡ true) = and_parts _ _ takeable.1 in
-    let runner : HasPlace pool s head.posted.home =
-    subst (λ n. HasPlace pool n head.posted.home) accepted.1
-    (has_place script pool head.posted.home head.posted.task stands.script_fits stands.runners stands.lines.all stands.queues.roomy declared.0 declared.1) in
-    let lane : lane_of c.seat ≡ lane_by script head.posted.home = ap (λ d. lane_of d.seat) (sym waits.5) in
-    let best : is_best_effort c.priority ≡ is_best_by script head.posted.home = ap (λ d. is_best_effort d.priority) (sym waits.5) in
-    let made : IsMadeFor (queue_of pool.lanes (lane_of c.seat) (is_best_effort c.priority)) c.source =
-    rw (waits.6, lane, best) (rw stands.runners at runner.made) in (
+    let queue = has_queue script past pool c.source c stands free.candidate in
+    let tests : (has_room script past c.priority ≡ true) × (option_map_or (λ only. only == seat) c.seat true ≡ true) = and_parts _ _ takeable.1 in (
       lane_of c.seat,
       is_best_effort c.priority,
       at c.seat tests.1,
       record {
         opened = open_is script past pool (is_best_effort c.priority) stands ∙ and_from _ _ (and_from _ _
-            (ap not (lets_block (phase_of past) _ accepted.3))
+            (ap not queue.lets)
             (ap not (sym (held_by_queue past c.priority (is_best_effort c.priority) (own_queue c.priority)) ∙ free.not_held)))
             (sym (room_by_queue script past c.priority (is_best_effort c.priority) (own_queue c.priority)) ∙ tests.0);
-        made = made;
-        held = stands.queues.ranks (lane_of c.seat) (is_best_effort c.priority) c.source
-            (rw lane (lane_fits script head.posted.home stands.script_fits)) made
+        made = queue.made;
+        held = stands.queues.ranks (lane_of c.seat) (is_best_effort c.priority) c.source queue.there queue.made
             ∙ rw (free.candidate, owns_own (lane_of c.seat) (is_best_effort c.priority)) refl;
       },
     )
@@ -228,14 +238,25 @@ best_offer script past pool seat (Some (source, rank)) stands known (offered, fi
     } in
     rw (only_best script past seat c best, found.2, found.3) refl
 
--- which is a sequence with its head, while there are no jobs
-pub best_is_sequence : (script : Plan) (past : List Entry) (seat : ℕ) (c : Candidate) → IsPoolScript script → best_of script past seat ≡ Some c
-    → (s : ℕ) × (head : Ready) × (s < sequence_count script) × (runs_sequence script past s ≡ false) × (head_of script past s ≡ Some head)
+-- where that is a sequence, it does not run, and has a head
+pub best_is_sequence : (script : Plan) (past : List Entry) (seat s : ℕ) (c : Candidate) → best_of script past seat ≡ Some c → c.source ≡ Sequence s
+    → (head : Ready) × (s < sequence_count script) × (runs_sequence script past s ≡ false) × (head_of script past s ≡ Some head)
     × (sequence_candidate script s head ≡ c)
-best_is_sequence script past seat c limits is =
+best_is_sequence script past seat s c is named =
     let free : IsFree script past c = waiting_is_free script past c (best_is_best script past seat c is).takeable.0 in
-    let waits = waits_by_head script past c.source c limits free.candidate in
-    (waits.0, waits.1, waits.2, waits.3, waits.4, waits.5)
+    let inside = sequence_within script past s c (ap (source_waiting script past) (sym named) ∙ free.candidate) in
+    let waits = waiting_sequence script past s c inside.1 in
+    (waits.0, inside.0, waits.1, waits.2, waits.3)
+
+-- where it is a job, it may be entered, and was posted
+pub best_is_job : (script : Plan) (past : List Entry) (seat j : ℕ) (c : Candidate) → best_of script past seat ≡ Some c → c.source ≡ Job j
+    → (post : JobPosted) × (j < length script.jobs) × (may_enter script past j ≡ true) × (job_post_of past j ≡ Some post)
+    × (job_candidate script past j post ≡ c)
+best_is_job script past seat j c is named =
+    let free : IsFree script past c = waiting_is_free script past c (best_is_best script past seat c is).takeable.0 in
+    let inside = job_within script past j c (ap (source_waiting script past) (sym named) ∙ free.candidate) in
+    let waits = waiting_job script past j c inside.1 in
+    (waits.0, inside.0, waits.1, waits.2, waits.3)
 
 -- The best of several queues.
 

@@ -1,4 +1,13 @@
 -- The pool of a history that has not begun.
+use Rattle.pool_core.specs.PoolJobs.{fresh_job}
+use Rattle.pool_laws.proofs.Choice.Candidates.{job_in}
+use Rattle.pool_core.proofs.JobTables.{holders_at_start}
+use Rattle.pool_core.proofs.JobQueues.{job_made_within}
+use Rattle.pool_core.specs.Jobs.{AreJobs, job_as}
+use Rattle.std.proofs.lemmas.Option.{slice_get-map}
+use Rattle.task_model.specs.Jobs.{claimed, done, is_cancelled, job_post_of, job_sum, may_enter}
+use Rattle.pool_core.proofs.HeldItems.{held_at_start}
+use Rattle.task_model.specs.Sources.{Candidate, job_waiting}
 use Rattle.pool_core.proofs.Following.{hold_from}
 use Rattle.pool_core.proofs.GroupGrowth.{groups_at_start}
 use Rattle.pool_core.proofs.LineGrowth.{lines_at_start}
@@ -8,19 +17,22 @@ use Rattle.pool_core.proofs.Tables.{postings_at_start, seats_at_start}
 use Rattle.pool_core.proofs.Tracking.{tracked_at_start}
 use Rattle.pool_core.specs.Groups.{empty_groups}
 use Rattle.pool_core.specs.Pasts.{IsPoolScript}
-use Rattle.pool_core.specs.Queues.{AreRoomy, HoldWaiting, empty_lane, empty_lanes, empty_queue, job_room, no_lane, queue_in, queue_of, sequence_room}
+use Rattle.pool_core.specs.Queues.{AreRoomy, HoldJobs, HoldWaiting, belongs, empty_lane, empty_lanes, empty_queue, job_room, no_lane, queue_in, queue_of, rank_as, sequence_room}
 use Rattle.pool_core.specs.StandsFor.{StandsFor}
 use Rattle.pool_core.specs.State.{rank_by, runner_of}
 use Rattle.pool_core.specs.declared.pool.Pool.{Pool}
 use Rattle.pool_core.specs.declared.posting.Posting.{Posting}
 use Rattle.sequence_queue.specs.Ranked.{rank_of}
-use Rattle.std.proofs.Common.{Bool, List, None, Option, Some, [], ap, arith, false, length, refl, sym, true, ℕ, ◌+◌, ◌<◌, ◌∙◌, ◌≡◌}
-use Rattle.std.proofs.lemmas.List.{length-replicate}
+use Rattle.std.proofs.Common.{Bool, List, None, Option, Some, [], ap, arith, cond, false, length, refl, suc, sym, true, zero, ℕ, ◌+◌, ◌<◌, ◌∙◌, ◌∷◌, ◌≡◌}
+use Rattle.std.proofs.lemmas.List.{length-map, length-replicate}
 use Rattle.std.proofs.lemmas.List.FromFn.{get_or-map-range_with_len, length-map-range_with_len}
-use Rattle.std.specs.Prelude.{option_and_then, replicate}
-use Rattle.task_base.specs.Plan.{Plan}
+use Rattle.list_laws.specs.Lists.{keep}
+use Rattle.std.proofs.lemmas.Bool.{false≢true}
+use Rattle.std.specs.Option.{option_map}
+use Rattle.std.specs.Prelude.{is_some, map, option_and_then, replicate, slice_get}
+use Rattle.task_base.specs.Plan.{JobPlan, Plan}
 use Rattle.task_base.specs.Runners.{sequence_count}
-use Rattle.task_base.specs.declared.source.TaskSource.TheVariants.{Sequence}
+use Rattle.task_base.specs.declared.source.TaskSource.TheVariants.{Job, Sequence}
 use Rattle.task_model.specs.Past.{fold_past}
 use Rattle.task_model.specs.Posts.{posts}
 use Rattle.task_model.specs.Time.{now_of}
@@ -48,13 +60,40 @@ empty_lanes_roomy script = record {
       ∙ length-replicate (sequence_room script lane + job_room script lane) None;
 }
 
+-- no job was posted
+no_candidate : (script : Plan) (j : ℕ) → job_waiting script [] j ≡ None
+unfolding job_post_of fold_past
+no_candidate script j = by (may_enter script [] j)
+  where
+    by : (b : Bool) → ◌≡◌ {A = Option Candidate} (cond b None None) None
+    by true = refl
+    by false = refl
+
+-- there is an element at each place
+get_there : {A : Type 0} (xs : List A) (i : ℕ) → i < length xs → is_some (slice_get xs i) ≡ true
+get_there [] i less = absurd (omega (arith, less))
+get_there (x ∷ xs) zero less = refl
+get_there (x ∷ xs) (suc i) less = get_there xs i (omega (arith, less))
+
+-- the jobs at the start
+jobs_at_start : (script : Plan) → AreJobs script [] (map fresh_job script.jobs)
+unfolding job_post_of is_cancelled claimed done job_sum fold_past
+jobs_at_start script = record {
+  all = length-map script.jobs fresh_job;
+  each = λ j less. slice_get-map fresh_job script.jobs j ∙ by j (slice_get script.jobs j) refl (get_there script.jobs j less);
+}
+  where
+    by : (j : ℕ) (o : Option JobPlan) → slice_get script.jobs j ≡ o → is_some (slice_get script.jobs j) ≡ true → option_map fresh_job o ≡ Some (job_as script [] j)
+    by j None is there = absurd (false≢true (sym (ap is_some is) ∙ there))
+    by j (Some job) is there = rw (is, held_at_start script j) refl
+
 -- nothing waits
 hold_at_start : (script : Plan) → IsPoolScript script → HoldWaiting script [] (empty_lanes script)
 hold_at_start script limits = hold_from script [] held (empty_lanes script) postings limits (past_at_start script) (lines_at_start script)
     (postings_at_start script) (empty_lanes_roomy script) (
       (λ lane best s less made owned. nothing_held lane best s less),
       (λ s there lane best less made owned. nothing_held lane best s less ∙ sym (no_rank s (runner_of script postings s))),
-    )
+    ) no_job_waits
   where
     held : Held
     held = record { sequences = replicate (sequence_count script) fresh; room = length script.tasks }
@@ -66,6 +105,13 @@ hold_at_start script limits = hold_from script [] held (empty_lanes script) post
     nothing_held lane best s less = ap (λ q. rank_of q (Sequence s)) (empty_queue_of script lane best (omega (arith, less, (empty_lanes_roomy script).all)))
         ∙ replicated (sequence_room script lane + job_room script lane) s None
 
+    no_job_waits : HoldJobs script [] (empty_lanes script)
+    no_job_waits lane best j less made =
+        ap (λ q. rank_of q (Job j)) (empty_queue_of script lane best less)
+        ∙ replicated (sequence_room script lane + job_room script lane) (sequence_room script lane + j) None
+        ∙ sym (ap (λ o. option_map rank_as (keep (belongs lane best) o)) (job_in script [] j (job_made_within script (empty_lanes script) lane best j
+        (empty_lanes_roomy script) less made) ∙ no_candidate script j))
+
     no_rank : (s : ℕ) (o : Option ℕ) → option_and_then (λ r. rank_by script r (sequence_at held s)) o ≡ None
     no_rank s None = refl
     no_rank s (Some r) = ap (rank_by script r) (replicated (sequence_count script) s fresh)
@@ -75,10 +121,11 @@ pub stands_at_start : (script : Plan) (pool : Pool) → IsPoolScript script → 
     → pool.sequences ≡ record { sequences = replicate (sequence_count script) fresh; room = length script.tasks } → pool.lanes ≡ empty_lanes script
     → pool.groups ≡ empty_groups script → pool.delayed ≡ record { held = []; room = length script.tasks }
     → pool.tracker ≡ record { phase = phases.Running; policy = policies.All; block_items = 0; skip_items = 0 }
-    → pool.postings.items ≡ replicate (length script.tasks) None → pool.seats.items ≡ replicate (script.workers + 1) None → pool.moment ≡ 0
+    → pool.postings.items ≡ replicate (length script.tasks) None → pool.seats.items ≡ replicate (script.workers + 1) None
+    → pool.jobs.items ≡ map fresh_job script.jobs → pool.holders.items ≡ replicate (script.workers + 1) None → pool.moment ≡ 0
     → StandsFor script [] pool
 unfolding posts now_of fold_past
-stands_at_start script pool fits runners sequences lanes groups delayed tracker postings seats moment = record {
+stands_at_start script pool fits runners sequences lanes groups delayed tracker postings seats jobs holders moment = record {
   script_fits = fits;
   past_fits = past_at_start script;
   runners = runners;
@@ -86,9 +133,11 @@ stands_at_start script pool fits runners sequences lanes groups delayed tracker 
   queues = rw lanes (hold_at_start script fits);
   groups = rw groups (groups_at_start script);
   delayed = delayed;
-  tracker = tracker ∙ sym (tracked_at_start script fits);
+  tracker = tracker ∙ sym (tracked_at_start script);
   postings = rw postings (postings_at_start script);
   seats = rw seats (seats_at_start script);
+  jobs = rw jobs (jobs_at_start script);
+  holders = rw holders (holders_at_start script);
   moment = moment;
   room = rw (delayed, sequences) (omega arith);
 }

@@ -1,7 +1,9 @@
 -- The end of a task keeps what the pool stands for.
+use Rattle.pool_core.proofs.JobTables.{holders_kept, jobs_kept}
+use Rattle.pool_core.proofs.JobQueues.{jobs_held, jobs_stay}
 use Rattle.pool_core.proofs.AtSeat.{IsAtSeat}
 use Rattle.pool_core.proofs.Delays.{unripe_kept}
-use Rattle.pool_core.proofs.Following.{follow_in, hold_refreshed, runner_is}
+use Rattle.pool_core.proofs.Following.{follow_in, hold_refreshed, runner_is, sequence_made}
 use Rattle.pool_core.proofs.GroupGrowth.{groups_at_end}
 use Rattle.pool_core.proofs.GroupWorks.{with_seat}
 use Rattle.pool_core.proofs.LineGrowth.{lines_at_end}
@@ -53,12 +55,16 @@ stands_at_end {script = script} {past = past} {pool = pool} {seat = seat} {w = w
   lines = lines;
   queues = hold_refreshed script later pool.sequences (brought_home pool.sequences s left) pool.lanes pool.postings.items s w.home stands.script_fits fits
       lines known stands.queues.roomy runs old
-      (λ other another. other_sequence pool.sequences s other _ another);
+      (λ other another. other_sequence pool.sequences s other _ another)
+      (sequence_made script pool.lanes w.home w.task stands.script_fits stands.queues.roomy at.runner_declared at.task_declared)
+      (jobs_stay script past e pool.lanes refl (jobs_held script past pool.lanes stands.queues));
   groups = groups_at_end script past pool.groups seat left w stands.script_fits stands.past_fits stands.groups at.runs at.is_pool;
   delayed = rw (unripe_kept past e refl) stands.delayed;
   tracker = rw (tracked_at_end script past seat left w at.post stands.past_fits at.runs at.is_pool at.accepted, stands.tracker) refl;
   postings = known;
   seats = seats_at_end script past seat w.task left pool.seats.items stands.seats at.known;
+  jobs = jobs_kept script past e pool.jobs.items refl stands.jobs;
+  holders = holders_kept script past e pool.holders.items refl stands.holders;
   moment = rw (now_of_push past e) stands.moment;
   room = rw (posts_same past e refl) stands.room;
 })

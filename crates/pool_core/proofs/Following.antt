@@ -3,11 +3,12 @@ use Rattle.list_laws.proofs.Elements.{slice_get_all}
 use Rattle.list_laws.proofs.Values.{eqb-same}
 use Rattle.list_laws.specs.Lists.{holds_of, keep}
 use Rattle.pool_core.proofs.Accepted.{head_accepted, is_declared, one_post}
+use Rattle.pool_core.proofs.JobQueues.{hold_both, jobs_beside}
 use Rattle.pool_core.proofs.Lines.{first_is_head, sequence_there}
 use Rattle.pool_core.proofs.Queues.{AllFollow, all_refreshed, roomy_refreshed}
 use Rattle.pool_core.specs.Lines.{AreLines}
 use Rattle.pool_core.specs.Pasts.{IsPoolPast, IsPoolScript}
-use Rattle.pool_core.specs.Queues.{AreRoomy, HoldWaiting, belongs, is_stated, job_room, lane_of, queue_of, rank_as, same, sequence_room, with_source}
+use Rattle.pool_core.specs.Queues.{AreRoomy, HoldJobs, HoldSequences, HoldWaiting, belongs, is_stated, lane_of, queue_of, rank_as, same, sequence_room, with_source}
 use Rattle.pool_core.specs.StandsFor.{StandsFor}
 use Rattle.pool_core.specs.State.{HasPlace, is_best_by, lane_by, owns, rank_by, rank_of_head, runner_of}
 use Rattle.pool_core.specs.Tables.{ArePostings, posting_of}
@@ -31,8 +32,7 @@ use Rattle.task_base.specs.declared.entry.Entry.{Entry}
 use Rattle.task_base.specs.declared.script.Runner.{Runner}
 use Rattle.task_base.specs.declared.script.RunnerKind.{RunnerKind}
 use Rattle.task_base.specs.declared.script.RunnerKind.TheVariants.{Parallel, Sequenced, Single}
-use Rattle.task_base.specs.declared.source.TaskSource.{TaskSource}
-use Rattle.task_base.specs.declared.source.TaskSource.TheVariants.{Job, Sequence}
+use Rattle.task_base.specs.declared.source.TaskSource.TheVariants.{Sequence}
 use Rattle.task_model.specs.Capacity.{priority_of}
 use Rattle.task_model.specs.Cells.{cell_of}
 use Rattle.task_model.specs.Keys.{Ready, arrivals}
@@ -107,6 +107,13 @@ room_for script runner task declared there = by (slice_get script.runners runner
     by None is fits = fits
     by (Some r) is fits = of_kind r is r.kind refl fits
 
+-- a runner's queue is made for each sequence of its tasks
+pub sequence_made : (script : Plan) (lanes : List Lane) (runner task : ℕ) → IsPoolScript script → AreRoomy script lanes → runner < length script.runners
+    → task < length script.tasks → IsMadeFor (queue_of lanes (lane_by script runner) (is_best_by script runner)) (Sequence (sequence_of script runner task))
+sequence_made script lanes runner task limits roomy declared task_declared =
+    rw (roomy.sequences (lane_by script runner) (is_best_by script runner) (lane_fits script runner limits))
+    (room_for script runner task declared (sequence_there script runner task declared task_declared))
+
 -- a runner's queue has room for each sequence of its tasks
 pub has_place : (script : Plan) (pool : Pool) (runner task : ℕ) → IsPoolScript script → pool.runners ≡ table_of script.runners script.background
     → length pool.sequences.sequences ≡ sequence_count script → AreRoomy script pool.lanes → runner < length script.runners → task < length script.tasks
@@ -115,8 +122,7 @@ has_place script pool runner task limits runners all roomy declared task_declare
   declared = declared;
   there = omega (arith, all, in_script);
   lane_there = omega (arith, lane_fits script runner limits, roomy.all);
-  made = rw (roomy.sequences (lane_by script runner) (is_best_by script runner) (lane_fits script runner limits))
-      (room_for script runner task declared in_script);
+  made = sequence_made script pool.lanes runner task limits roomy declared task_declared;
 }
   where
     in_script : sequence_of script runner task < sequence_count script
@@ -131,14 +137,6 @@ made_within script lanes lane best s roomy less made = by (lane == 0) (is_stated
     by true stated in_room = in_room
     by false true in_room = omega (arith, in_room)
     by false false in_room = absurd (omega (arith, in_room))
-
--- no queue is made for a job, as there are none
-no_job_room : (script : Plan) (lane : ℕ) → IsPoolScript script → job_room script lane ≡ 0
-no_job_room script lane limits = by (lane == 0)
-  where
-    by : (b : Bool) → cond b (length script.jobs) 0 ≡ 0
-    by true = ap length limits.no_jobs
-    by false = refl
 
 -- What waits by the rules, and the state of a sequence.
 
@@ -205,23 +203,25 @@ follow_in script past pool stands = (
         ∙ rank_waiting script past pool.sequences pool.postings.items lane best s stands.past_fits stands.lines stands.postings
         (made_within script pool.lanes lane best s stands.queues.roomy there made)
 
--- and back: where each sequence is where its state says, the queues hold what the rules say
+-- and back: where each sequence is where its state says, the queues hold what the rules say of the sequences
+pub sequences_from : (script : Plan) (past : List Entry) (held : Held) (lanes : List Lane) (postings : List (Option Posting))
+    → IsPoolPast script past → AreLines script past (arrivals past) held → ArePostings script past postings → AreRoomy script lanes
+    → AllFollow script postings held lanes → HoldSequences script past lanes
+sequences_from script past held lanes postings fits are known roomy all lane best s less made =
+    let there = made_within script lanes lane best s roomy less made in
+    let within : lane < length lanes = omega (arith, roomy.all) in
+    let by_rules = rank_waiting script past held postings lane best s fits are known there in
+    elim (cases_Bool (owns script postings lane best s)) [
+      | inl owned ↦ all.1 s there lane best within made owned ∙ sym (rw owned at by_rules)
+      | inr owned ↦ all.0 lane best s within made owned ∙ sym (rw owned at by_rules)
+    ]
+
+-- where each sequence is where its state says, and each job is where the rules say, the queues hold what these say
 pub hold_from : (script : Plan) (past : List Entry) (held : Held) (lanes : List Lane) (postings : List (Option Posting)) → IsPoolScript script
     → IsPoolPast script past → AreLines script past (arrivals past) held → ArePostings script past postings → AreRoomy script lanes
-    → AllFollow script postings held lanes → HoldWaiting script past lanes
-hold_from script past held lanes postings limits fits are known roomy all = record { roomy = roomy; ranks = ranks }
-  where
-    ranks : (lane : ℕ) (best : Bool) (source : TaskSource) → lane < script.workers + 1 → IsMadeFor (queue_of lanes lane best) source
-        → rank_of (queue_of lanes lane best) source ≡ option_map rank_as (keep (belongs lane best) (source_waiting script past source))
-    ranks lane best (Job j) less made = absurd (omega (arith, made, roomy.jobs lane best less, no_job_room script lane limits))
-    ranks lane best (Sequence s) less made =
-        let there = made_within script lanes lane best s roomy less made in
-        let within : lane < length lanes = omega (arith, roomy.all) in
-        let by_rules = rank_waiting script past held postings lane best s fits are known there in
-        elim (cases_Bool (owns script postings lane best s)) [
-          | inl owned ↦ all.1 s there lane best within made owned ∙ sym (rw owned at by_rules)
-          | inr owned ↦ all.0 lane best s within made owned ∙ sym (rw owned at by_rules)
-        ]
+    → AllFollow script postings held lanes → HoldJobs script past lanes → HoldWaiting script past lanes
+hold_from script past held lanes postings limits fits are known roomy all jobs =
+    hold_both script past lanes roomy (sequences_from script past held lanes postings fits are known roomy all) jobs
 
 -- the post of a new task to a runner leaves each sequence where it is
 pub follow_at_post : (script : Plan) (past : List Entry) (held : Held) (lanes : List Lane) (postings : List (Option Posting)) (task : ℕ) (posting : Posting)
@@ -279,9 +279,11 @@ pub hold_refreshed : (script : Plan) (later : List Entry) (before held : Held) (
     → IsPoolScript script → IsPoolPast script later → AreLines script later (arrivals later) held → ArePostings script later postings → AreRoomy script lanes
     → runner_of script postings s ≡ Some runner → AllFollow script postings before lanes
     → ((other : ℕ) → (s ≡ other → ⊥) → sequence_at held other ≡ sequence_at before other)
+    → IsMadeFor (queue_of lanes (lane_by script runner) (is_best_by script runner)) (Sequence s) → HoldJobs script later lanes
     → HoldWaiting script later
     (with_source lanes (lane_by script runner) (is_best_by script runner) (Sequence s) (rank_by script runner (sequence_at held s)))
-hold_refreshed script later before held lanes postings s runner limits fits are known roomy runs all others =
+hold_refreshed script later before held lanes postings s runner limits fits are known roomy runs all others made jobs =
     hold_from script later held _ postings limits fits are known
     (roomy_refreshed script lanes (lane_by script runner) (is_best_by script runner) (Sequence s) (rank_by script runner (sequence_at held s)) roomy)
     (all_refreshed script postings before held lanes s runner roomy runs all others)
+    (jobs_beside script later lanes (lane_by script runner) (is_best_by script runner) s (rank_by script runner (sequence_at held s)) made jobs)

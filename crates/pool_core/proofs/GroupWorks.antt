@@ -2,26 +2,27 @@
 use Rattle.list_laws.proofs.Values.{some-injective}
 use Rattle.list_laws.specs.Lists.{keep}
 use Rattle.pool_core.proofs.Accepted.{runs_accepted}
-use Rattle.pool_core.specs.Groups.{AreGroups, StandsForGroup, group_in, in_background, opened_as, pool_work, with_group}
+use Rattle.pool_core.specs.Groups.{AreGroups, StandsForGroup, group_in, in_background, item_work, opened_as, pool_work, task_work, with_group}
+use Rattle.pool_core.specs.Holdings.{worker_holding}
 use Rattle.pool_core.specs.Pasts.{IsPoolPast, IsPoolScript}
 use Rattle.pool_core.specs.declared.groups.Groups.{Groups}
 use Rattle.pool_laws.proofs.Room.Capacity.{scope_kept}
-use Rattle.pool_laws.proofs.Seats.Running.{running_other}
+use Rattle.pool_laws.proofs.Seats.Running.{holding_other, running_other}
 use Rattle.pool_laws.specs.Room.{scopes as scopes_of}
-use Rattle.std.proofs.Common.{Bool, List, None, Option, Some, [], ap, arith, eqb, false, inl, inr, length, refl, sym, true, ℕ, ◌++◌, ◌+◌, ◌<◌, ◌∙◌, ◌∷◌, ◌≡◌, ◌≤◌}
+use Rattle.std.proofs.Common.{Bool, List, None, Option, Some, [], ap, arith, cond, eqb, false, inl, inr, length, refl, sym, true, ℕ, ◌++◌, ◌+◌, ◌<◌, ◌∙◌, ◌∷◌, ◌≡◌, ◌≤◌}
 use Rattle.std.proofs.Math.ListN.{length-set}
-use Rattle.std.proofs.lemmas.Bool.{cases_eq, ne_eqb}
+use Rattle.std.proofs.lemmas.Bool.{cases_eq, lt-ltb, ne_eqb}
 use Rattle.std.proofs.lemmas.List.{get_or-set_other, get_or-set_same}
-use Rattle.std.proofs.lemmas.Option.{unwrap_or-slice_get}
+use Rattle.std.proofs.lemmas.Option.{none-some, unwrap_or-slice_get}
 use Rattle.std.specs.Option.{option_map}
-use Rattle.std.specs.Prelude.{if◌then◌else◌, not, slice_set, ◌==◌, ◌⊎◌}
+use Rattle.std.specs.Prelude.{if◌then◌else◌, nat_lt, not, slice_set, ◌==◌, ◌⊎◌}
 use Rattle.task_base.specs.Groups.{Background, Foreground, Group, group_of, same_group}
 use Rattle.task_base.specs.Plan.{Plan}
 use Rattle.task_base.specs.declared.entry.Entry.{Entry}
 use Rattle.task_base.specs.declared.limits.TheConstants.{MOST_WORKERS}
-use Rattle.task_model.specs.Capacity.{is_in, open_scope, priority_of}
+use Rattle.task_model.specs.Capacity.{is_in, open_scope, priority_of, priority_of_job}
 use Rattle.task_model.specs.Posts.{post_of}
-use Rattle.task_model.specs.Seats.{Running, running}
+use Rattle.task_model.specs.Seats.{Holding, Running, holding, running}
 use Rattle.task_model.specs.Time.{now_of}
 use Rattle.task_traits.specs.declared.traits.Priority.{Priority}
 use Rattle.thread_group.specs.Group.{GroupWork, with_work, work_at}
@@ -137,12 +138,11 @@ groups_moved script past later groups seat priority before after are moved = by 
 
 -- What a seat does of the pool's work.
 
--- the work of a seat that runs this
+-- the work of a seat that runs this, where that is a task of the pool
 abbrev pub work_by : Plan → List Entry → Option Running → Option Work
-work_by script past run = option_map (λ w. record { priority = priority_of script w.home; scope = option_map opened_as (open_scope past w.task) })
-    (keep (λ w. not w.is_main) run)
+work_by script past run = option_map (task_work script past) (keep (λ w. not w.is_main) run)
 
-work_by_same : (script : Plan) (past later : List Entry) (run : Option Running)
+pub work_by_same : (script : Plan) (past later : List Entry) (run : Option Running)
     → ((w : Running) → run ≡ Some w → w.is_main ≡ false → open_scope later w.task ≡ open_scope past w.task) → work_by script later run ≡ work_by script past run
 work_by_same script past later None same = refl
 work_by_same script past later (Some w) same = by w.is_main refl
@@ -151,17 +151,54 @@ work_by_same script past later (Some w) same = by w.is_main refl
     by true is = rw is refl
     by false is = rw (is, same w refl is) refl
 
-pub work_kept : (script : Plan) (past later : List Entry) (seat : ℕ) → running later seat ≡ running past seat
+-- the work of a seat, by what it runs and holds
+pub work_from : (script : Plan) (past later : List Entry) (seat : ℕ)
+    → work_by script later (running later seat) ≡ work_by script past (running past seat) → holding later seat ≡ holding past seat
+    → pool_work script later seat ≡ pool_work script past seat
+work_from script past later seat tasks held = rw (tasks, held) refl
+
+pub work_kept : (script : Plan) (past later : List Entry) (seat : ℕ) → running later seat ≡ running past seat → holding later seat ≡ holding past seat
     → ((w : Running) → running past seat ≡ Some w → w.is_main ≡ false → open_scope later w.task ≡ open_scope past w.task)
     → pool_work script later seat ≡ pool_work script past seat
-work_kept script past later seat run same = ap (work_by script later) run ∙ work_by_same script past later (running past seat) same
+work_kept script past later seat run held same = work_from script past later seat
+    (ap (work_by script later) run ∙ work_by_same script past later (running past seat) same) held
 
 -- another seat, where the entry opens and closes no scope of its task
 pub other_kept : (script : Plan) (past : List Entry) (e : Entry) (seat : ℕ) → (e.seat == seat) ≡ false
     → ((w : Running) → running past seat ≡ Some w → w.is_main ≡ false → scopes_of w.task e.kind ≡ false)
     → pool_work script (past ++ e ∷ []) seat ≡ pool_work script past seat
 other_kept script past e seat other quiet =
-    work_kept script past (past ++ e ∷ []) seat (running_other past e seat other) (λ w runs pool. scope_kept past e w.task (quiet w runs pool))
+    work_kept script past (past ++ e ∷ []) seat (running_other past e seat other) (holding_other past e seat other)
+    (λ w runs pool. scope_kept past e w.task (quiet w runs pool))
+
+-- a worker holds what it holds, and the driver's item is no work of the groups
+pub worker_holds : (past : List Entry) (seat : ℕ) → 1 ≤ seat → worker_holding past seat ≡ holding past seat
+worker_holds past seat worker = rw (lt-ltb 0 seat worker) refl
+
+holds_none : (past : List Entry) (seat : ℕ) → holding past seat ≡ None → worker_holding past seat ≡ None
+holds_none past seat none = rw none (by (nat_lt 0 seat))
+  where
+    by : (b : Bool) → ◌≡◌ {A = Option Holding} (cond b None None) None
+    by true = refl
+    by false = refl
+
+-- a seat that runs and holds nothing does no work
+pub no_work : (script : Plan) (past : List Entry) (seat : ℕ) → running past seat ≡ None → holding past seat ≡ None → pool_work script past seat ≡ None
+no_work script past seat runs held = rw (runs, holds_none past seat held) refl
+
+-- an item that a worker holds, which runs no task
+pub work_of_item : (script : Plan) (past : List Entry) (seat : ℕ) (h : Holding) → 1 ≤ seat → running past seat ≡ None → holding past seat ≡ Some h
+    → pool_work script past seat ≡ Some (item_work script h)
+work_of_item script past seat h worker runs held = rw (runs, worker_holds past seat worker, held) refl
+
+-- a worker that runs a task is inside no job
+pub runner_holds_nothing : (script : Plan) (past : List Entry) (seat : ℕ) (w : Running) → IsPoolPast script past → running past seat ≡ Some w
+    → w.is_main ≡ false → holding past seat ≡ None
+runner_holds_nothing script past seat w fits runs pool = by (holding past seat) refl
+  where
+    by : (o : Option Holding) → holding past seat ≡ o → o ≡ None
+    by None is = refl
+    by (Some h) is = absurd (none-some w (sym (fits.inside.one_thing seat h (fits.runs seat w runs pool).worker is) ∙ runs))
 
 -- a task of the pool
 pub work_of_task : (script : Plan) (past : List Entry) (seat : ℕ) (w : Running) → running past seat ≡ Some w → w.is_main ≡ false
@@ -197,7 +234,7 @@ group_stands script past groups priority are = by (group_of script priority)
     by Foreground = are.foreground
     by Background = are.background
 
-same_itself : (g : Group) → same_group g g ≡ true
+pub same_itself : (g : Group) → same_group g g ≡ true
 same_itself Foreground = refl
 same_itself Background = refl
 
@@ -214,3 +251,11 @@ pub task_works : (script : Plan) (past : List Entry) (groups : Groups) (seat : �
 task_works script past groups seat w limits fits are runs pool =
     (group_stands script past groups (priority_of script w.home) are).seats seat (seat_there script seat limits (fits.runs seat w runs pool).known)
     ∙ rw (runs, pool, same_itself (group_of script (priority_of script w.home))) refl
+
+pub item_works : (script : Plan) (past : List Entry) (groups : Groups) (seat : ℕ) (h : Holding) → IsPoolScript script → IsPoolPast script past
+    → AreGroups script past groups → 1 ≤ seat → holding past seat ≡ Some h
+    → work_at (group_in groups (in_background script (priority_of_job script h.job))) seat
+    ≡ Some (record { priority = priority_of_job script h.job; scope = None })
+item_works script past groups seat h limits fits are worker held =
+    (group_stands script past groups (priority_of_job script h.job) are).seats seat (seat_there script seat limits (fits.inside.holds seat h held).known)
+    ∙ rw (work_of_item script past seat h worker (fits.inside.one_thing seat h worker held) held, same_itself (group_of script (priority_of_job script h.job))) refl

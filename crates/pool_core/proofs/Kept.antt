@@ -4,26 +4,24 @@ use Rattle.pool_core.proofs.LineGrowth.{lines_kept}
 use Rattle.pool_core.proofs.Tables.{postings_kept, seats_kept}
 use Rattle.pool_core.specs.Groups.{AreGroups}
 use Rattle.pool_core.specs.Lines.{AreLines}
-use Rattle.pool_core.specs.Pasts.{IsPoolPast, IsPoolScript}
+use Rattle.pool_core.specs.Pasts.{IsPoolPast}
 use Rattle.pool_core.specs.Queues.{HoldWaiting}
 use Rattle.pool_core.specs.StandsFor.{StandsFor}
 use Rattle.pool_core.specs.Tables.{AreSeats, tracked}
 use Rattle.pool_core.specs.declared.groups.Groups.{Groups}
 use Rattle.pool_core.specs.declared.lanes.Lane.{Lane}
 use Rattle.pool_core.specs.declared.pool.Pool.{Pool}
-use Rattle.pool_laws.proofs.Choice.Waiting.{sequence_waiting_same}
 use Rattle.pool_laws.proofs.Keys.Arrivals.{arrivals_same}
 use Rattle.pool_laws.proofs.Keys.Posts.{posts_same}
-use Rattle.pool_laws.specs.Choice.{moves_sequence_waiting, source_waiting}
+use Rattle.pool_laws.specs.Choice.{moves_sequence_waiting, moves_sources, source_waiting}
 use Rattle.pool_laws.specs.Keys.{moves_ready}
-use Rattle.pool_laws.specs.Seats.{moves_running}
-use Rattle.std.proofs.Common.{List, None, [], ap, arith, false, length, refl, sym, true, ℕ, ◌++◌, ◌∙◌, ◌∷◌, ◌≡◌}
-use Rattle.std.proofs.lemmas.Bool.{le-ltb, true≢false}
+use Rattle.pool_laws.specs.Seats.{moves_holding, moves_running}
+use Rattle.std.proofs.Common.{List, [], false, refl, sym, true, ℕ, ◌++◌, ◌∙◌, ◌∷◌, ◌≡◌}
+use Rattle.std.proofs.lemmas.Bool.{or_parts, true≢false}
 use Rattle.task_base.specs.Plan.{Plan}
 use Rattle.task_base.specs.declared.entry.Entry.{Entry}
 use Rattle.task_base.specs.declared.entry.Kind.{Kind}
 use Rattle.task_base.specs.declared.source.TaskSource.{TaskSource}
-use Rattle.task_base.specs.declared.source.TaskSource.TheVariants.{Job, Sequence}
 use Rattle.task_model.proofs.Growth.{now_of_push}
 use Rattle.task_model.specs.Keys.{arrivals}
 use Rattle.task_model.specs.Phase.{phase_after}
@@ -31,6 +29,10 @@ use Rattle.task_model.specs.Time.{now_after, now_of}
 use Rattle.task_tracker.specs.Tracked.{Tracked}
 use Rattle.task_traits.specs.declared.phase.Phase.{Phase}
 use Rattle.task_base.specs.declared.entry.Kind.TheVariants as kinds
+use Rattle.pool_core.proofs.JobTables.{holders_kept, jobs_kept}
+use Rattle.pool_laws.proofs.Choice.Candidates.{source_same}
+use Rattle.pool_laws.specs.Jobs.{moves_jobs}
+use Rattle.pool_laws.specs.Shutdown.{moves_open_jobs}
 
 -- what the queues hold stays where each source waits as before
 pub hold_same : (script : Plan) (past later : List Entry) (lanes : List Lane)
@@ -41,18 +43,6 @@ hold_same script past later lanes same hold = record {
   ranks = λ lane best source there made. rw (same source) (hold.ranks lane best source there made);
 }
 
--- no sequence begins or ceases to wait, and there are no jobs
-hold_kept : (script : Plan) (past : List Entry) (e : Entry) (lanes : List Lane) → IsPoolScript script → moves_sequence_waiting e.kind ≡ false
-    → HoldWaiting script past lanes → HoldWaiting script (past ++ e ∷ []) lanes
-hold_kept script past e lanes limits still hold = hold_same script past (past ++ e ∷ []) lanes same hold
-  where
-    no_job : (any : List Entry) (j : ℕ) → source_waiting script any (Job j) ≡ None
-    no_job any j = rw (le-ltb j (length script.jobs) (omega (arith, ap length limits.no_jobs))) refl
-
-    same : (source : TaskSource) → source_waiting script (past ++ e ∷ []) source ≡ source_waiting script past source
-    same (Sequence s) = rw (sequence_waiting_same script past e s still) refl
-    same (Job j) = no_job (past ++ e ∷ []) j ∙ sym (no_job past j)
-
 -- a kind that gives no task a key, and is no tick
 pub record LeavesTasks (kind : Kind) : Type 0 where
   pub ready : moves_ready kind ≡ false
@@ -62,9 +52,9 @@ pub record LeavesTasks (kind : Kind) : Type 0 where
 pub stands_with : (script : Plan) (past : List Entry) (pool : Pool) (e : Entry) (groups : Groups) (tracker : Tracked) → StandsFor script past pool
     → LeavesTasks e.kind → IsPoolPast script (past ++ e ∷ []) → AreLines script (past ++ e ∷ []) (arrivals past) pool.sequences
     → HoldWaiting script (past ++ e ∷ []) pool.lanes → AreGroups script (past ++ e ∷ []) groups → tracker ≡ tracked script (past ++ e ∷ [])
-    → AreSeats script (past ++ e ∷ []) pool.seats.items
+    → AreSeats script (past ++ e ∷ []) pool.seats.items → moves_open_jobs e.kind ≡ false
     → StandsFor script (past ++ e ∷ []) (record pool { groups = groups; tracker = tracker })
-stands_with script past pool e groups tracker stands leaves fits lines hold are is seats = record {
+stands_with script past pool e groups tracker stands leaves fits lines hold are is seats no_job = record {
   script_fits = stands.script_fits;
   past_fits = fits;
   runners = stands.runners;
@@ -75,9 +65,16 @@ stands_with script past pool e groups tracker stands leaves fits lines hold are 
   tracker = is;
   postings = postings_kept script past e pool.postings.items (no_post e.kind leaves.ready) stands.postings;
   seats = seats;
+  jobs = jobs_kept script past e pool.jobs.items no_job stands.jobs;
+  holders = holders_kept script past e pool.holders.items (no_holding e.kind no_job) stands.holders;
   moment = stands.moment ∙ sym (leaves.now (now_of past)) ∙ sym (now_of_push past e);
   room = rw (posts_same past e (no_post e.kind leaves.ready)) stands.room;
 }
+  where
+    no_holding : (kind : Kind) → moves_open_jobs kind ≡ false → moves_holding kind ≡ false
+    no_holding (kinds.JobTake job id item) h = h
+    no_holding (kinds.JobStep job id item value goes_on) h = h
+    no_holding kind h = refl
 
 -- a kind that also leaves what runs, and the phase
 record LeavesAll (kind : Kind) : Type 0 where
@@ -85,17 +82,25 @@ record LeavesAll (kind : Kind) : Type 0 where
   runs : moves_running kind ≡ false
   phase : (now : Phase) → phase_after now kind ≡ now
 
--- and where it changes nothing by which a sequence waits
+-- and where it changes nothing by which a source waits
 pub stands_kept : (script : Plan) (past : List Entry) (pool : Pool) (e : Entry) (groups : Groups) (tracker : Tracked) → StandsFor script past pool
-    → moves_sequence_waiting e.kind ≡ false → IsPoolPast script (past ++ e ∷ []) → AreGroups script (past ++ e ∷ []) groups
+    → moves_sources e.kind ≡ false → IsPoolPast script (past ++ e ∷ []) → AreGroups script (past ++ e ∷ []) groups
     → tracker ≡ tracked script (past ++ e ∷ []) → StandsFor script (past ++ e ∷ []) (record pool { groups = groups; tracker = tracker })
 stands_kept script past pool e groups tracker stands still fits are is =
-    let leaves = leaves_all e.kind still in
+    let quiet = or_parts (moves_sequence_waiting e.kind) (moves_jobs e.kind) still in
+    let leaves = leaves_all e.kind quiet.0 in
     stands_with script past pool e groups tracker stands leaves.tasks fits
     (lines_kept script past e (arrivals past) pool.sequences leaves.runs leaves.phase stands.lines)
-    (hold_kept script past e pool.lanes stands.script_fits still stands.queues) are is
-    (seats_kept script past e pool.seats.items leaves.runs stands.seats)
+    (hold_same script past (past ++ e ∷ []) pool.lanes (λ source. source_same script past e source still) stands.queues) are is
+    (seats_kept script past e pool.seats.items leaves.runs stands.seats) (no_job e.kind quiet.1)
   where
+    no_job : (kind : Kind) → moves_jobs kind ≡ false → moves_open_jobs kind ≡ false
+    no_job (kinds.JobPost job ok) h = h
+    no_job (kinds.JobTake job id item) h = h
+    no_job (kinds.JobStep job id item value goes_on) h = h
+    no_job (kinds.JobCancel job) h = h
+    no_job kind h = refl
+
     leaves_all : (kind : Kind) → moves_sequence_waiting kind ≡ false → LeavesAll kind
     leaves_all (kinds.Post task runner delay true) h = absurd (true≢false h)
     leaves_all (kinds.Tick moment) h = absurd (true≢false h)

@@ -1,5 +1,9 @@
 pub mod Lists
 pub mod Accepted
+pub mod Insides
+pub mod HeldItems
+pub mod JobViews
+pub mod JobTables
 pub mod TakenKeys
 pub mod Pasts
 pub mod Tables
@@ -11,12 +15,16 @@ pub mod Room
 pub mod Lines
 pub mod LineGrowth
 pub mod Queues
+pub mod JobQueues
 pub mod Following
 pub mod AtSeat
 pub mod Kept
 pub mod EmptyPool
 pub mod Posts
+pub mod JobStands
+pub mod AtJob
 pub mod Choosing
+pub mod Yields
 pub mod Takes
 pub mod Ends
 pub mod Scopes

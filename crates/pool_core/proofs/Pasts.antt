@@ -4,15 +4,17 @@ use Rattle.hist_model.specs.Laws.Consistent.{RunsPoolTask}
 use Rattle.list_laws.proofs.Elements.{AllByRecursion-append}
 use Rattle.list_laws.proofs.Values.{eqb-same}
 use Rattle.pool_core.proofs.Accepted.{head_accepted, new_is_not_taken, one_post, runs_accepted}
+use Rattle.pool_core.proofs.Insides.{inside_at_driver, inside_at_start, inside_at_task, inside_kept}
 use Rattle.pool_core.proofs.TakenKeys.{keys_at_post, keys_at_start, keys_at_take, keys_kept}
 use Rattle.pool_core.specs.Calls.{after_end, after_enter, after_leave, after_post, after_tick, next}
+use Rattle.pool_core.specs.Holdings.{AreInside}
 use Rattle.pool_core.specs.Others.{is_quiet}
 use Rattle.pool_core.specs.Pasts.{IsDeclared, IsPoolPast, TakenHaveKeys}
 use Rattle.pool_core.specs.Queues.{same}
 use Rattle.pool_laws.proofs.Keys.Arrivals.{arrivals_are_ready_at_start, arrivals_are_ready_grows}
 use Rattle.pool_laws.proofs.Keys.Posts.{post_of_grows, posts_in_order, posts_same}
 use Rattle.pool_laws.proofs.Keys.Ready.{no_tick_ahead_at_start, no_tick_ahead_grows}
-use Rattle.pool_laws.proofs.Seats.Running.{holding_same, running_same, seat_runs}
+use Rattle.pool_laws.proofs.Seats.Running.{running_same, seat_runs}
 use Rattle.pool_laws.specs.Keys.{moves_posts}
 use Rattle.pool_laws.specs.Room.{scopes}
 use Rattle.pool_laws.specs.Seats.{moves_holding, moves_main, moves_running}
@@ -44,7 +46,7 @@ abbrev Now : List Entry → Entry → Option Running → ℕ → Running → Typ
 Now past e taken s w = ((running past s ≡ Some w) × (ends w.task e.kind ≡ false)) ⊎ ((s ≡ e.seat) × (taken ≡ Some w))
 
 -- an entry behind a past posts what is declared and new, takes what was accepted and is of a sequence that does not run, ends
--- what was taken, leaves what else runs, opens no scope of what was not taken, and claims no item of a job
+-- what was taken, leaves what else runs, opens no scope of what was not taken, and leaves known who is inside a job
 record IsNext (script : Plan) (past : List Entry) (e : Entry) (taken : Option Running) : Type 0 where
   in_order : InOrder (posts (past ++ e ∷ []))
   declared : AllByRecursion (IsDeclared script) (posted_by past e.kind)
@@ -57,7 +59,7 @@ record IsNext (script : Plan) (past : List Entry) (e : Entry) (taken : Option Ru
   later : now_of past ≤ now_after (now_of past) e.kind
   fits : now_after (now_of past) e.kind ≤ LAST_MOMENT
   scopes : (t : ℕ) → is_taken past t ≡ false → scope_after t past None e.kind ≡ None
-  items : moves_holding e.kind ≡ false
+  inside : AreInside script (past ++ e ∷ [])
   keys : TakenHaveKeys (past ++ e ∷ [])
 
 -- such an entry keeps what the pool knows of the past
@@ -77,7 +79,7 @@ past_next script past e taken n c = record {
   scopes_of_taken = λ t h.
       let free = or_parts (is_taken past t) (takes t e.kind) (rw is_taken_push at h) in
       rw (open_scope_push, c.scopes_of_taken t free.0) (n.scopes t free.0);
-  no_items = λ seat. rw (holding_same past e seat n.items) (c.no_items seat);
+  inside = n.inside;
   taken_have_keys = n.keys;
 }
   where
@@ -124,9 +126,9 @@ runs_no_more past e still s w h pool = sym (running_same past e s still) ∙ h
 past_still : (script : Plan) (past : List Entry) (e : Entry) → RunsNoMore past e → ((t : ℕ) → (takes t e.kind ≡ false) × (ends t e.kind ≡ false))
     → InOrder (posts (past ++ e ∷ [])) → AllByRecursion (IsDeclared script) (posted_by past e.kind)
     → now_of past ≤ now_after (now_of past) e.kind → now_after (now_of past) e.kind ≤ LAST_MOMENT
-    → ((t : ℕ) → is_taken past t ≡ false → scope_after t past None e.kind ≡ None) → moves_holding e.kind ≡ false
+    → ((t : ℕ) → is_taken past t ≡ false → scope_after t past None e.kind ≡ None) → AreInside script (past ++ e ∷ [])
     → TakenHaveKeys (past ++ e ∷ []) → IsPoolPast script past → IsPoolPast script (past ++ e ∷ [])
-past_still script past e no_more none order declared later last scopes items keys c = past_next script past e None (record {
+past_still script past e no_more none order declared later last scopes inside keys c = past_next script past e None (record {
   in_order = order;
   declared = declared;
   was_accepted = λ t h. absurd (both_ways _ (none t).0 h);
@@ -137,17 +139,17 @@ past_still script past e no_more none order declared later last scopes items key
   later = later;
   fits = last;
   scopes = scopes;
-  items = items;
+  inside = inside;
   keys = keys;
 }) c
 
 -- an entry that changes nothing of the pool but the policy and the phase
 past_beside : (script : Plan) (past : List Entry) (e : Entry) → (is_quiet e.kind || moves_main e.kind) ≡ true → RunsNoMore past e
-    → IsPoolPast script past → IsPoolPast script (past ++ e ∷ [])
-past_beside script past e beside no_more fits = past_still script past e no_more (none e.kind beside)
+    → AreInside script (past ++ e ∷ []) → IsPoolPast script past → IsPoolPast script (past ++ e ∷ [])
+past_beside script past e beside no_more inside fits = past_still script past e no_more (none e.kind beside)
     (rw (posts_same past e (no_posts e.kind beside)) fits.in_order) (none_declared e.kind beside)
     (rw (same_moment e.kind beside) (omega arith)) (rw (same_moment e.kind beside) fits.moment_fits)
-    (λ t free. no_scope t e.kind beside) (no_items e.kind beside)
+    (λ t free. no_scope t e.kind beside) inside
     (keys_kept past e (no_posts e.kind beside) (λ t. (none e.kind beside t).0) fits.taken_have_keys) fits
   where
     none : (kind : Kind) → (is_quiet kind || moves_main kind) ≡ true → (t : ℕ) → (takes t kind ≡ false) × (ends t kind ≡ false)
@@ -172,11 +174,6 @@ past_beside script past e beside no_more fits = past_still script past e no_more
     no_scope t (kinds.Leave task) h = absurd (true≢false (sym h))
     no_scope t kind h = refl
 
-    no_items : (kind : Kind) → (is_quiet kind || moves_main kind) ≡ true → moves_holding kind ≡ false
-    no_items (kinds.JobTake job id item) h = absurd (true≢false (sym h))
-    no_items (kinds.JobStep job id item value next) h = absurd (true≢false (sym h))
-    no_items kind h = refl
-
 pub past_at_start : (script : Plan) → IsPoolPast script []
 unfolding posts fold_past is_taken is_ended running now_of open_scope holding
 past_at_start script = record {
@@ -190,7 +187,7 @@ past_at_start script = record {
   no_tick_ahead = no_tick_ahead_at_start;
   arrivals_are_ready = arrivals_are_ready_at_start;
   scopes_of_taken = λ t h. refl;
-  no_items = λ seat. refl;
+  inside = inside_at_start script;
   taken_have_keys = keys_at_start;
 }
 
@@ -199,25 +196,25 @@ pub past_at_post : (script : Plan) (past : List Entry) (seat task runner delay :
 past_at_post script past seat task runner delay false fits declared known new =
     let e : Entry = record { seat = seat; kind = kinds.Post task runner delay false } in
     past_still script past e (runs_no_more past e refl) (λ t. (refl, refl))
-    (rw (posts_same past e refl) fits.in_order) tt (omega arith) fits.moment_fits (λ t h. refl) refl
+    (rw (posts_same past e refl) fits.in_order) tt (omega arith) fits.moment_fits (λ t h. refl) (inside_kept script past e refl refl fits.inside)
     (keys_at_post past seat task runner delay false (new_is_not_taken script past task fits new).0 fits.taken_have_keys) fits
 past_at_post script past seat task runner delay true fits declared known new =
     let e : Entry = record { seat = seat; kind = kinds.Post task runner delay true } in
     past_still script past e (runs_no_more past e refl) (λ t. (refl, refl))
     (posts_in_order past e task runner delay refl new fits.in_order) ((declared, known), tt) (omega arith) fits.moment_fits
-    (λ t h. refl) refl (keys_at_post past seat task runner delay true (new_is_not_taken script past task fits new).0 fits.taken_have_keys) fits
+    (λ t h. refl) (inside_kept script past e refl refl fits.inside) (keys_at_post past seat task runner delay true (new_is_not_taken script past task fits new).0 fits.taken_have_keys) fits
 
 pub past_at_tick : (script : Plan) (past : List Entry) (seat moment : ℕ) → IsPoolPast script past → now_of past ≤ moment → moment ≤ LAST_MOMENT
     → IsPoolPast script (after_tick past seat moment)
 past_at_tick script past seat moment fits later last =
     let e : Entry = record { seat = seat; kind = kinds.Tick moment } in
     past_still script past e (runs_no_more past e refl) (λ t. (refl, refl))
-    (rw (posts_same past e refl) fits.in_order) tt later last (λ t h. refl) refl (keys_kept past e refl (λ t. refl) fits.taken_have_keys) fits
+    (rw (posts_same past e refl) fits.in_order) tt later last (λ t h. refl) (inside_kept script past e refl refl fits.inside) (keys_kept past e refl (λ t. refl) fits.taken_have_keys) fits
 
 pub past_at_take : (script : Plan) (past : List Entry) (seat s found : ℕ) (head : Ready) → IsPoolPast script past → 1 ≤ seat → seat ≤ script.workers
-    → head_of script past s ≡ Some head → runs_sequence script past s ≡ false
+    → holding past seat ≡ None → head_of script past s ≡ Some head → runs_sequence script past s ≡ false
     → IsPoolPast script (next past seat (kinds.Take head.posted.task head.posted.home found))
-past_at_take script past seat s found head fits worker known is_head idle = past_next script past e (Some taken) (record {
+past_at_take script past seat s found head fits worker known nothing is_head idle = past_next script past e (Some taken) (record {
   in_order = rw (posts_same past e refl) fits.in_order;
   declared = tt;
   was_accepted = λ t same. (head.posted, ap (post_of past) (sym (eqb-true task t same)) ∙ accepted);
@@ -230,7 +227,7 @@ past_at_take script past seat s found head fits worker known is_head idle = past
   later = omega arith;
   fits = fits.moment_fits;
   scopes = λ t h. refl;
-  items = refl;
+  inside = inside_at_task script past e refl (λ h is. absurd (none-some h (sym nothing ∙ is))) fits.inside;
   keys = keys_at_take script past seat s found head fits.arrivals_are_ready (λ p among. one_post past p fits.in_order among) is_head fits.taken_have_keys;
 }) fits
   where
@@ -280,7 +277,7 @@ past_at_end script past seat left w fits runs pool = past_next script past e Non
   later = omega arith;
   fits = fits.moment_fits;
   scopes = λ t h. refl;
-  items = refl;
+  inside = inside_at_task script past e refl (λ h is. refl) fits.inside;
   keys = keys_kept past e refl (λ t. refl) fits.taken_have_keys;
 }) fits
   where
@@ -305,14 +302,14 @@ past_at_enter script past seat scope w fits runs pool =
     past_still script past e (runs_no_more past e refl) (λ t. (refl, refl))
     (rw (posts_same past e refl) fits.in_order) tt (omega arith) fits.moment_fits
     (λ t free. rw (ne_eqb w.task t
-    (λ same. both_ways (is_taken past t) free (ap (is_taken past) (sym same) ∙ (fits.runs seat w runs pool).taken))) refl) refl
+    (λ same. both_ways (is_taken past t) free (ap (is_taken past) (sym same) ∙ (fits.runs seat w runs pool).taken))) refl) (inside_kept script past e refl refl fits.inside)
     (keys_kept past e refl (λ t. refl) fits.taken_have_keys) fits
 
 pub past_at_leave : (script : Plan) (past : List Entry) (seat : ℕ) (w : Running) → IsPoolPast script past → IsPoolPast script (after_leave past seat w.task)
 past_at_leave script past seat w fits =
     let e : Entry = record { seat = seat; kind = kinds.Leave w.task } in
     past_still script past e (runs_no_more past e refl) (λ t. (refl, refl))
-    (rw (posts_same past e refl) fits.in_order) tt (omega arith) fits.moment_fits (λ t free. closed (w.task == t) None refl) refl
+    (rw (posts_same past e refl) fits.in_order) tt (omega arith) fits.moment_fits (λ t free. closed (w.task == t) None refl) (inside_kept script past e refl refl fits.inside)
     (keys_kept past e refl (λ t. refl) fits.taken_have_keys) fits
   where
     closed : (b : Bool) (o : Option OpenScope) → o ≡ None → cond b None o ≡ None
@@ -321,8 +318,13 @@ past_at_leave script past seat w fits =
 
 pub past_kept : (script : Plan) (past : List Entry) (e : Entry) → is_quiet e.kind ≡ true → IsPoolPast script past → IsPoolPast script (past ++ e ∷ [])
 past_kept script past e quiet fits = past_beside script past e (or_left (is_quiet e.kind) (moves_main e.kind) quiet)
-    (runs_no_more past e (still e.kind quiet)) fits
+    (runs_no_more past e (still e.kind quiet)) (inside_kept script past e (no_holding e.kind quiet) (still e.kind quiet) fits.inside) fits
   where
+    no_holding : (kind : Kind) → is_quiet kind ≡ true → moves_holding kind ≡ false
+    no_holding (kinds.JobTake job id item) h = absurd (true≢false (sym h))
+    no_holding (kinds.JobStep job id item value next) h = absurd (true≢false (sym h))
+    no_holding kind h = refl
+
     still : (kind : Kind) → is_quiet kind ≡ true → moves_running kind ≡ false
     still (kinds.Take task runner found) h = absurd (true≢false (sym h))
     still (kinds.End task left) h = absurd (true≢false (sym h))
@@ -330,11 +332,16 @@ past_kept script past e quiet fits = past_beside script past e (or_left (is_quie
     still (kinds.MainEnd task left) h = absurd (true≢false (sym h))
     still kind h = refl
 
-pub past_at_main : (script : Plan) (past : List Entry) (e : Entry) → moves_main e.kind ≡ true → IsPoolPast script past
+pub past_at_main : (script : Plan) (past : List Entry) (e : Entry) → moves_main e.kind ≡ true → e.seat ≡ 0 → IsPoolPast script past
     → IsPoolPast script (past ++ e ∷ [])
-past_at_main script past e main fits = past_beside script past e (or_right (is_quiet e.kind) (moves_main e.kind) main)
-    (λ s w h pool. before s w pool (runs_behind past e s w h)) fits
+past_at_main script past e main driver fits = past_beside script past e (or_right (is_quiet e.kind) (moves_main e.kind) main)
+    (λ s w h pool. before s w pool (runs_behind past e s w h)) (inside_at_driver script past e (no_holding e.kind main) driver fits.inside) fits
   where
+    no_holding : (kind : Kind) → moves_main kind ≡ true → moves_holding kind ≡ false
+    no_holding (kinds.JobTake job id item) h = absurd (true≢false (sym h))
+    no_holding (kinds.JobStep job id item value next) h = absurd (true≢false (sym h))
+    no_holding kind h = refl
+
     no_pool : (kind : Kind) → moves_main kind ≡ true → (o : Option Running) (w : Running) → running_after o kind ≡ Some w → w.is_main ≡ true
     no_pool (kinds.MainTake task queue found) h o w is = ap (λ x. x.is_main) (sym (same_Some _ w is))
     no_pool (kinds.MainEnd task left) h o w is = absurd (none-some w is)
@@ -343,3 +350,32 @@ past_at_main script past e main fits = past_beside script past e (or_right (is_q
     before : (s : ℕ) (w : Running) → w.is_main ≡ false → RunsBehind past e s w → running past s ≡ Some w
     before s w pool (inl h) = h.0
     before s w pool (inr h) = absurd (both_ways w.is_main pool (no_pool e.kind main (running past e.seat) w h.1))
+
+-- the entries of a job
+pub past_at_job_post : (script : Plan) (past : List Entry) (seat job : ℕ) (ok : Bool) → IsPoolPast script past
+    → IsPoolPast script (next past seat (kinds.JobPost job ok))
+past_at_job_post script past seat job ok fits =
+    let e : Entry = record { seat = seat; kind = kinds.JobPost job ok } in
+    past_still script past e (runs_no_more past e refl) (λ t. (refl, refl)) (rw (posts_same past e refl) fits.in_order) tt (omega arith) fits.moment_fits
+    (λ t h. refl) (inside_kept script past e refl refl fits.inside) (keys_kept past e refl (λ t. refl) fits.taken_have_keys) fits
+
+pub past_at_job_cancel : (script : Plan) (past : List Entry) (seat job : ℕ) → IsPoolPast script past → IsPoolPast script (next past seat (kinds.JobCancel job))
+past_at_job_cancel script past seat job fits =
+    let e : Entry = record { seat = seat; kind = kinds.JobCancel job } in
+    past_still script past e (runs_no_more past e refl) (λ t. (refl, refl)) (rw (posts_same past e refl) fits.in_order) tt (omega arith) fits.moment_fits
+    (λ t h. refl) (inside_kept script past e refl refl fits.inside) (keys_kept past e refl (λ t. refl) fits.taken_have_keys) fits
+
+pub past_at_job_take : (script : Plan) (past : List Entry) (seat job id item : ℕ) → AreInside script (next past seat (kinds.JobTake job id item))
+    → IsPoolPast script past → IsPoolPast script (next past seat (kinds.JobTake job id item))
+past_at_job_take script past seat job id item inside fits =
+    let e : Entry = record { seat = seat; kind = kinds.JobTake job id item } in
+    past_still script past e (runs_no_more past e refl) (λ t. (refl, refl)) (rw (posts_same past e refl) fits.in_order) tt (omega arith) fits.moment_fits
+    (λ t h. refl) inside (keys_kept past e refl (λ t. refl) fits.taken_have_keys) fits
+
+pub past_at_step : (script : Plan) (past : List Entry) (seat job id item value : ℕ) (goes_on : Option ℕ)
+    → AreInside script (next past seat (kinds.JobStep job id item value goes_on)) → IsPoolPast script past
+    → IsPoolPast script (next past seat (kinds.JobStep job id item value goes_on))
+past_at_step script past seat job id item value goes_on inside fits =
+    let e : Entry = record { seat = seat; kind = kinds.JobStep job id item value goes_on } in
+    past_still script past e (runs_no_more past e refl) (λ t. (refl, refl)) (rw (posts_same past e refl) fits.in_order) tt (omega arith) fits.moment_fits
+    (λ t h. refl) inside (keys_kept past e refl (λ t. refl) fits.taken_have_keys) fits

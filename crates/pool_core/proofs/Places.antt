@@ -2,9 +2,11 @@
 use Rattle.list_laws.proofs.Values.{some-injective}
 use Rattle.pool_core.proofs.Accepted.{is_declared, post_in}
 use Rattle.pool_core.proofs.Following.{has_place, runner_is}
+use Rattle.pool_core.proofs.JobQueues.{job_made}
 use Rattle.pool_core.proofs.Lines.{sequence_there}
 use Rattle.pool_core.proofs.Lists.{same_inside}
 use Rattle.pool_core.proofs.Queues.{apart_refreshed, follows_refreshed, others_follow, roomy_refreshed, shape_kept}
+use Rattle.pool_core.specs.JobState.{HasJobPlace, HaveJobPlaces, job_of}
 use Rattle.pool_core.specs.Pasts.{IsPoolPast}
 use Rattle.pool_core.specs.Queues.{queue_of, with_source}
 use Rattle.pool_core.specs.Refreshes.{AllDeclared, ArePlaced, HavePlaces, placed, refreshed_below, with_place}
@@ -20,6 +22,7 @@ use Rattle.std.proofs.lemmas.Bool.{cases_eq}
 use Rattle.std.proofs.lemmas.List.{length-set}
 use Rattle.std.proofs.lemmas.Option.{get_or_from_slice_get, none-some, slice_get-get_or, slice_get_read, slice_get_within}
 use Rattle.std.specs.Prelude.{Contains, slice_get, slice_index_or}
+use Rattle.task_base.specs.Groups.{is_best_effort}
 use Rattle.task_base.specs.Plan.{Plan}
 use Rattle.task_base.specs.Runners.{sequence_count, sequence_of}
 use Rattle.task_base.specs.declared.entry.Entry.{Entry}
@@ -132,25 +135,27 @@ all_declared script past postings fits are t posting is =
 
 -- The places while the queues change.
 
--- the queues are as many, and made for the same sequences
-placed_shape : (pool : Pool) (n lane : ℕ) (best : Bool) → (length (placed pool.runners pool.postings.items pool.sequences pool.lanes n) ≡ length pool.lanes)
-    × ((queue_of (placed pool.runners pool.postings.items pool.sequences pool.lanes n) lane best).sequences ≡ (queue_of pool.lanes lane best).sequences)
-placed_shape pool zero lane best = (refl, refl)
+-- the queues are as many, and this one is made for as many sequences and jobs
+abbrev SameShape : List Lane → List Lane → ℕ → Bool → Type 0
+SameShape now before lane best = (length now ≡ length before) × ((queue_of now lane best).sequences ≡ (queue_of before lane best).sequences)
+    × ((queue_of now lane best).jobs ≡ (queue_of before lane best).jobs)
+
+placed_shape : (pool : Pool) (n lane : ℕ) (best : Bool)
+    → SameShape (placed pool.runners pool.postings.items pool.sequences pool.lanes n) pool.lanes lane best
+placed_shape pool zero lane best = (refl, refl, refl)
 placed_shape pool (suc n) lane best = by (slice_index_or pool.postings.items n None) (placed_shape pool n lane best)
   where
     below : List Lane
     below = placed pool.runners pool.postings.items pool.sequences pool.lanes n
 
-    by : (o : Option Posting) → (length below ≡ length pool.lanes) × ((queue_of below lane best).sequences ≡ (queue_of pool.lanes lane best).sequences)
-        → (length (with_place pool.runners pool.sequences below n o) ≡ length pool.lanes)
-        × ((queue_of (with_place pool.runners pool.sequences below n o) lane best).sequences ≡ (queue_of pool.lanes lane best).sequences)
+    by : (o : Option Posting) → SameShape below pool.lanes lane best
+        → SameShape (with_place pool.runners pool.sequences below n o) pool.lanes lane best
     by None same = same
-    by (Some posting) same = (
-      length-set below (lane_by pool.runners posting.runner) _ ∙ same.0,
-      (shape_kept below (lane_by pool.runners posting.runner) (is_best_by pool.runners posting.runner)
-          (Sequence (sequence_of pool.runners posting.runner n))
-          (rank_by pool.runners posting.runner (sequence_at pool.sequences (sequence_of pool.runners posting.runner n))) lane best).0 ∙ same.1,
-    )
+    by (Some posting) same =
+        let kept = shape_kept below (lane_by pool.runners posting.runner) (is_best_by pool.runners posting.runner)
+        (Sequence (sequence_of pool.runners posting.runner n))
+        (rank_by pool.runners posting.runner (sequence_at pool.sequences (sequence_of pool.runners posting.runner n))) lane best in
+        (length-set below (lane_by pool.runners posting.runner) _ ∙ same.0, kept.0 ∙ same.1, kept.1 ∙ same.2)
 
 -- so what had a place has one still
 pub place_kept : (pool : Pool) (n s runner : ℕ) → HasPlace pool s runner → HasPlace (refreshed_below pool n) s runner
@@ -201,3 +206,17 @@ have_places script past pool tracker held stands same_length task posting known 
       rw stands.runners (has_place script _ posting.runner task stands.script_fits refl (same_length ∙ stands.lines.all) stands.queues.roomy
           declared.0 declared.1),
     )
+
+-- and so does each job
+pub job_place_kept : (pool : Pool) (n j : ℕ) → HasJobPlace pool j → HasJobPlace (refreshed_below pool n) j
+job_place_kept pool n j place =
+    let shape = placed_shape pool n 0 (is_best_effort (job_of pool j).priority) in
+    record { there = place.there; lane_there = rw shape.0 place.lane_there; made = rw shape.2 place.made }
+
+pub have_job_places : (script : Plan) (past : List Entry) (pool : Pool) (tracker : Tracked) (held : Held) → StandsFor script past pool
+    → HaveJobPlaces (record pool { tracker = tracker; sequences = held })
+have_job_places script past pool tracker held stands j there = record {
+  there = there;
+  lane_there = omega (arith, stands.queues.roomy.all);
+  made = job_made script pool.lanes (is_best_effort (job_of pool j).priority) j stands.queues.roomy (omega (arith, there, stands.jobs.all));
+}

@@ -1,4 +1,6 @@
 -- A post keeps what the pool stands for.
+use Rattle.pool_core.proofs.JobTables.{holders_kept, jobs_kept}
+use Rattle.pool_core.proofs.JobQueues.{jobs_held, jobs_stay}
 use Rattle.list_laws.proofs.Places.{slice_get-set_same}
 use Rattle.list_laws.proofs.Rises.{length-insert_by}
 use Rattle.delayed_manager.specs.Delayed.{ripens_before, with_held}
@@ -6,7 +8,7 @@ use Rattle.list_laws.proofs.Values.{some-injective}
 use Rattle.list_laws.specs.Sorts.{Rises, insert_by}
 use Rattle.pool_core.proofs.Accepted.{new_is_not_taken, posts_leave_room}
 use Rattle.pool_core.proofs.Delays.{unripe_at_delayed_post, unripe_at_post}
-use Rattle.pool_core.proofs.Following.{follow_at_post, follow_in, has_place, hold_from, hold_refreshed, runner_is}
+use Rattle.pool_core.proofs.Following.{follow_at_post, follow_in, has_place, hold_from, hold_refreshed, runner_is, sequence_made}
 use Rattle.pool_core.proofs.GroupGrowth.{groups_kept}
 use Rattle.pool_core.proofs.Kept.{stands_kept}
 use Rattle.pool_core.proofs.LineGrowth.{lines_kept}
@@ -126,12 +128,14 @@ stands_at_delayed_post script past pool seat place task runner delay can later =
       runners = s.runners;
       lines = lines;
       queues = hold_from script (past ++ e ∷ []) pool.sequences pool.lanes (slice_set pool.postings.items task (Some (posted_as script runner delay)))
-          s.script_fits fits lines known s.queues.roomy new;
+          s.script_fits fits lines known s.queues.roomy new (jobs_stay script past e pool.lanes refl (jobs_held script past pool.lanes s.queues));
       groups = groups_kept script past e pool.groups refl s.groups;
       delayed = rw (unripe_at_delayed_post past seat task runner delay later s.past_fits.no_tick_ahead, s.delayed, s.moment, can.place_is) refl;
       tracker = rw (tracked_at_post script past seat task runner delay s.past_fits can.is_new, s.tracker) refl;
       postings = known;
       seats = seats_kept script past e pool.seats.items refl s.seats;
+      jobs = jobs_kept script past e pool.jobs.items refl s.jobs;
+      holders = holders_kept script past e pool.holders.items refl s.holders;
       moment = rw (now_of_push past e) s.moment;
       room = rw (
         one_more past seat task runner delay,
@@ -156,12 +160,16 @@ stands_at_post script past pool seat place task runner delay can now allowed =
       runners = refl;
       lines = lines;
       queues = hold_refreshed script (past ++ e ∷ []) pool.sequences held pool.lanes table home runner s.script_fits fits lines known s.queues.roomy runs new
-          (λ other another. other_sequence pool.sequences home other _ another);
+          (λ other another. other_sequence pool.sequences home other _ another)
+          (sequence_made script pool.lanes runner task s.script_fits s.queues.roomy can.runner_declared can.task_declared)
+          (jobs_stay script past e pool.lanes refl (jobs_held script past pool.lanes s.queues));
       groups = groups_kept script past e pool.groups refl s.groups;
       delayed = rw (unripe_at_post past seat task runner delay now) s.delayed;
       tracker = rw (tracked_at_post script past seat task runner delay s.past_fits can.is_new, s.tracker) refl;
       postings = known;
       seats = seats_kept script past e pool.seats.items refl s.seats;
+      jobs = jobs_kept script past e pool.jobs.items refl s.jobs;
+      holders = holders_kept script past e pool.holders.items refl s.holders;
       moment = rw (now_of_push past e) s.moment;
       room = rw (one_more past seat task runner delay) (omega (arith, s.room, few));
     })

@@ -28,7 +28,7 @@ beside false true queue lane = inl refl
 beside false false queue lane = inr (refl, refl)
 
 -- each queue stays, or it is the one in which the source is given its place
-queue_cases : (lanes : List Lane) (lane : ℕ) (best : Bool) (source : TaskSource) (rank : Option Rank) (l : ℕ) (b : Bool)
+pub queue_cases : (lanes : List Lane) (lane : ℕ) (best : Bool) (source : TaskSource) (rank : Option Rank) (l : ℕ) (b : Bool)
     → (queue_of (with_source lanes lane best source rank) l b ≡ queue_of lanes l b)
     ⊎ ((l ≡ lane) × (b ≡ best) × (queue_of (with_source lanes lane best source rank) l b ≡ with_rank (queue_of lanes lane best) source rank))
 queue_cases lanes lane best source rank l b = elim (cases_eq l lane) [
@@ -75,7 +75,7 @@ own_rank lanes lane false s rank there made = rw (get_or-set_same lanes lane _ n
 -- The queue of a sequence.
 
 -- the queue of a lane that has the sequence is the one that its runner names
-owns_is : (lane best_lane : ℕ) (best own : Bool) → (best_lane == lane && same own best) ≡ true → (lane ≡ best_lane) × (best ≡ own)
+pub owns_is : (lane best_lane : ℕ) (best own : Bool) → (best_lane == lane && same own best) ≡ true → (lane ≡ best_lane) × (best ≡ own)
 owns_is lane best_lane best own is =
     let parts = and_parts (best_lane == lane) (same own best) is in
     (sym (eqb-true best_lane lane parts.0), alike own best parts.1)

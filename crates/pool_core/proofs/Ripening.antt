@@ -1,4 +1,6 @@
 -- One delayed task ripens in the course of a tick: it goes to the end of its sequence, if it may start.
+use Rattle.pool_core.proofs.JobQueues.{jobs_beside}
+use Rattle.sequence_queue.specs.Ranked.{IsMadeFor}
 use Rattle.list_laws.proofs.Rises.{rises_front}
 use Rattle.delayed_manager.specs.Delayed.{Waiting, with_held}
 use Rattle.list_laws.proofs.Elements.{AllByRecursion-append, AllByRecursion-at, AllByRecursion-both, AllByRecursion-contains_itself, AllByRecursion-filter}
@@ -7,13 +9,13 @@ use Rattle.list_laws.proofs.Sorts.{AllByRecursion-sort_by}
 use Rattle.list_laws.specs.Sorts.{Rises}
 use Rattle.pool_core.proofs.Accepted.{is_declared, posts_fit}
 use Rattle.pool_core.proofs.Delays.{ripe_at_tick}
-use Rattle.pool_core.proofs.Following.{has_place, runner_is}
+use Rattle.pool_core.proofs.Following.{has_place, runner_is, sequence_made}
 use Rattle.pool_core.proofs.Lines.{line_below, lines_at_arrival, lines_at_barred, sequence_there}
 use Rattle.pool_core.proofs.Queues.{AllFollow, all_refreshed, other_sequence, roomy_refreshed}
 use Rattle.pool_core.specs.Calls.{after_tick}
 use Rattle.pool_core.specs.Lines.{AreLines, waiting_of}
 use Rattle.pool_core.specs.Pasts.{IsDeclared, IsPoolPast, IsPoolScript}
-use Rattle.pool_core.specs.Queues.{AreRoomy, with_source}
+use Rattle.pool_core.specs.Queues.{AreRoomy, HoldJobs, queue_of, with_source}
 use Rattle.pool_core.specs.Ripens.{IsInTick, Ripens}
 use Rattle.pool_core.specs.State.{CanArrive, CanRipen, HasPlace, arrived, is_barred, is_best_by, lane_by, pushed, rank_by, ripe_key, ripened, runner_of}
 use Rattle.pool_core.specs.Tables.{is_unripe, posting_of, ripening_of, unripe}
@@ -182,9 +184,9 @@ ripe_push moment front p ripe is = AllByRecursion-append (λ q. nat_le q.ripe mo
 ripens_with : (script : Plan) (past : List Entry) (moment : ℕ) (front : List Posted) (p : Posted) (rest : List Posted) (pool : Pool) (held : Held)
     (lanes : List Lane) → Ripens script past moment front (p ∷ rest) pool → nat_le p.ripe moment ≡ true
     → AreLines script past (known past front ++ ripe_behind past p ∷ []) held → AreRoomy script lanes → AllFollow script pool.postings.items held lanes
-    → pool.sequences.room ≤ held.room + 1 → Ripens script past moment (front ++ p ∷ []) rest
+    → HoldJobs script past lanes → pool.sequences.room ≤ held.room + 1 → Ripens script past moment (front ++ p ∷ []) rest
     (record pool { sequences = held; lanes = lanes; delayed = with_held pool.delayed (drop 1 pool.delayed.held) })
-ripens_with script past moment front p rest pool held lanes ripens is lines roomy all enough = record {
+ripens_with script past moment front p rest pool held lanes ripens is lines roomy all waiting_jobs enough = record {
   parts = ripens.parts ∙ sym (append_assoc front (p ∷ []) rest);
   ripe = ripe_push moment front p ripens.ripe is;
   runners = ripens.runners;
@@ -196,7 +198,10 @@ ripens_with script past moment front p rest pool held lanes ripens is lines room
   delayed = dropped pool p rest (length script.tasks) ripens.delayed;
   tracker = ripens.tracker;
   postings = ripens.postings;
+  waiting_jobs = waiting_jobs;
   seats = ripens.seats;
+  jobs = ripens.jobs;
+  holders = ripens.holders;
   moment_is = ripens.moment_is;
   room =
       let before : length script.tasks + length pool.delayed.held ≤ pool.sequences.room + length (posts past) = ripens.room in
@@ -212,7 +217,7 @@ barred_step script past moment front p rest pool ripens is forbidden =
     ripens_with script past moment front p rest pool pool.sequences pool.lanes ripens is
     (lines_at_barred script past (known past front) pool.sequences (ripe_behind past p) ripens.lines
     (and_right (not (is_taken past p.task)) (not (is_forbidden script past p)) (ap not forbidden)))
-    ripens.roomy (ripens.apart, ripens.follows) (omega arith)
+    ripens.roomy (ripens.apart, ripens.follows) ripens.waiting_jobs (omega arith)
 
 -- the pool with the task at the end of its sequence, by a table of the runners
 abbrev placed : Plan → List Entry → Pool → Posted → Waiting → Plan → Pool
@@ -227,14 +232,16 @@ placed script past pool p delayed table = record pool {
 -- it may start: it goes to the end of its sequence
 arrived_step : (script : Plan) (past : List Entry) (moment : ℕ) (front : List Posted) (p : Posted) (rest : List Posted) (pool : Pool)
     → Ripens script past moment front (p ∷ rest) pool → nat_le p.ripe moment ≡ true → IsUntaken script past p → is_forbidden script past p ≡ false
+    → IsMadeFor (queue_of pool.lanes (lane_by script p.home) (is_best_by script p.home)) (Sequence (sequence_of script p.home p.task))
     → Ripens script past moment (front ++ p ∷ []) rest
     (placed script past pool p (with_held pool.delayed (drop 1 pool.delayed.held)) (table_of script.runners script.background))
-arrived_step script past moment front p rest pool ripens is next allowed =
+arrived_step script past moment front p rest pool ripens is next allowed made =
     ripens_with script past moment front p rest pool held _ ripens is
     (lines_at_arrival script past (known past front) pool.sequences (ripe_behind past p) ripens.lines there may)
     (roomy_refreshed script pool.lanes (lane_by script p.home) (is_best_by script p.home) (Sequence s) _ ripens.roomy)
     (all_refreshed script pool.postings.items pool.sequences held pool.lanes s p.home ripens.roomy runs (ripens.apart, ripens.follows)
-    (λ other another. other_sequence pool.sequences s other _ another)) (omega arith)
+    (λ other another. other_sequence pool.sequences s other _ another))
+    (jobs_beside script past pool.lanes (lane_by script p.home) (is_best_by script p.home) s _ made ripens.waiting_jobs) (omega arith)
   where
     s : ℕ
     s = sequence_of script p.home p.task
@@ -262,6 +269,9 @@ ripens_on script past moment place front p rest entry pool tick ripens is =
     later : Pool
     later = record pool { delayed = with_held pool.delayed (drop 1 pool.delayed.held) }
 
+    next : IsUntaken script past p
+    next = next_untaken script past front p rest tick.can.stands.past_fits ripens.parts
+
     barred : is_barred later (posting_of script p) ≡ is_forbidden script past p
     barred = ap (λ t. forbids t.phase (effective_at script p.home p.delay)) ripens.tracker
 
@@ -275,4 +285,4 @@ ripens_on script past moment place front p rest entry pool tick ripens is =
         (subst (λ table. Ripens script past moment (front ++ p ∷ []) rest
         (placed script past pool p (with_held pool.delayed (drop 1 pool.delayed.held)) table)) (sym ripens.runners)
         (arrived_step script past moment front p rest pool ripens is
-        (next_untaken script past front p rest tick.can.stands.past_fits ripens.parts) allowed))
+        next allowed (sequence_made script pool.lanes p.home p.task tick.can.stands.script_fits ripens.roomy next.declared.0 next.declared.1)))

@@ -29,7 +29,7 @@ stands_at_enter {script = script} {past = past} {pool = pool} {seat = seat} {w =
     stands_kept script past pool e groups pool.tracker stands refl
     (past_at_enter script past seat scope w stands.past_fits can.runs can.is_pool)
     (rw (is, group) (groups_at_enter script past pool.groups seat scope w stands.script_fits stands.past_fits stands.groups can.runs can.is_pool can.closed))
-    (stands.tracker ∙ sym (tracked_kept script past e stands.script_fits refl))
+    (stands.tracker ∙ sym (tracked_kept script past e refl))
 
 pub stands_at_leave : {script : Plan} {past : List Entry} {pool : Pool} {seat : ℕ} {w : Running} {opened : OpenScope} {background : Bool} (groups : Groups)
     → RunsOpen script past pool seat w opened → background ≡ in_background script (priority_of script w.home)
@@ -41,4 +41,4 @@ stands_at_leave {script = script} {past = past} {pool = pool} {seat = seat} {w =
     stands_kept script past pool e groups pool.tracker stands refl
     (past_at_leave script past seat w stands.past_fits)
     (rw (is, group) (groups_at_leave script past pool.groups seat w opened stands.script_fits stands.past_fits stands.groups can.runs can.is_pool can.opens))
-    (stands.tracker ∙ sym (tracked_kept script past e stands.script_fits refl))
+    (stands.tracker ∙ sym (tracked_kept script past e refl))

@@ -1,9 +1,11 @@
 -- A take keeps what the pool stands for.
+use Rattle.pool_core.proofs.JobTables.{holders_kept, jobs_kept}
+use Rattle.pool_core.proofs.JobQueues.{jobs_held, jobs_stay}
 use Rattle.list_laws.proofs.Values.{some-injective}
 use Rattle.pool_core.proofs.Accepted.{head_accepted, is_declared}
-use Rattle.pool_core.proofs.Choosing.{best_is_sequence, best_offer}
+use Rattle.pool_core.proofs.Choosing.{best_is_job, best_is_sequence, best_offer}
 use Rattle.pool_core.proofs.Delays.{unripe_kept}
-use Rattle.pool_core.proofs.Following.{follow_in, has_place, hold_refreshed, runner_is}
+use Rattle.pool_core.proofs.Following.{follow_in, has_place, hold_refreshed, runner_is, sequence_made}
 use Rattle.pool_core.proofs.GroupGrowth.{groups_at_take}
 use Rattle.pool_core.proofs.GroupWorks.{with_seat}
 use Rattle.pool_core.proofs.LineGrowth.{lines_at_take}
@@ -14,18 +16,19 @@ use Rattle.pool_core.proofs.Queues.{AllFollow, other_sequence}
 use Rattle.pool_core.proofs.Tables.{postings_kept, seats_at_take}
 use Rattle.pool_core.proofs.Tracking.{tracked_at_take}
 use Rattle.pool_core.specs.Calls.{CanTake, IsChosen, next}
+use Rattle.pool_core.specs.JobCalls.{IsJobChosen}
 use Rattle.pool_core.specs.Choice.{IsBestOf, IsOffer}
 use Rattle.pool_core.specs.Lines.{AreLines}
 use Rattle.pool_core.specs.Pasts.{IsDeclared, IsPoolPast}
-use Rattle.pool_core.specs.Queues.{rank_as}
+use Rattle.pool_core.specs.Queues.{queue_of, rank_as}
 use Rattle.pool_core.specs.StandsFor.{StandsFor}
-use Rattle.pool_core.specs.State.{HasPlace, refreshed, runner_of}
+use Rattle.pool_core.specs.State.{HasPlace, is_best_by, lane_by, refreshed, runner_of}
 use Rattle.pool_core.specs.Tables.{ArePostings, posting_of}
 use Rattle.pool_core.specs.declared.groups.Groups.{Groups}
 use Rattle.pool_core.specs.declared.pool.Pool.{Pool}
 use Rattle.pool_core.specs.declared.posting.Posting.{Posting}
 use Rattle.pool_laws.proofs.Keys.Posts.{posts_same}
-use Rattle.sequence_queue.specs.Ranked.{number_in}
+use Rattle.sequence_queue.specs.Ranked.{IsMadeFor}
 use Rattle.sequence_queue.specs.declared.rank.Rank.{Rank}
 use Rattle.std.proofs.Common.{List, None, Option, Some, [], ap, arith, refl, subst, sym, ℕ, ◌++◌, ◌+◌, ◌∙◌, ◌∷◌, ◌≡◌}
 use Rattle.std.proofs.lemmas.List.{length-set}
@@ -38,7 +41,7 @@ use Rattle.task_base.specs.Runners.{sequence_of}
 use Rattle.task_base.specs.declared.entry.Entry.{Entry}
 use Rattle.task_base.specs.declared.script.Runner.{Runner}
 use Rattle.task_base.specs.declared.source.TaskSource.{TaskSource}
-use Rattle.task_base.specs.declared.source.TaskSource.TheVariants.{Sequence}
+use Rattle.task_base.specs.declared.source.TaskSource.TheVariants.{Job, Sequence}
 use Rattle.task_model.proofs.Growth.{now_of_push}
 use Rattle.task_model.specs.Capacity.{priority_of}
 use Rattle.task_model.specs.Cells.{cell_of}
@@ -59,9 +62,6 @@ use Rattle.task_base.specs.declared.entry.Kind.TheVariants as kinds
 abbrev chosen_as : Candidate → TaskSource × Rank
 chosen_as c = (c.source, rank_as c)
 
-sequence-injective : {a b : ℕ} → Sequence a ≡ Sequence b → a ≡ b
-sequence-injective is = ap (number_in 0) is
-
 -- what the pool chooses for a seat is a sequence
 pub chosen_is : (script : Plan) (past : List Entry) (pool : Pool) (seat s : ℕ) (rank : Rank) → CanTake script past pool seat
     → IsBestOf (IsOffer pool seat) (Some (Sequence s, rank)) → IsChosen script past pool seat s
@@ -72,22 +72,50 @@ chosen_is script past pool seat s rank can best =
         → IsChosen script past pool seat s
     by None is none = absurd (none-some (Sequence s, rank) (sym none))
     by (Some c) is some =
-        let known = best_is_sequence script past seat c can.stands.script_fits is in
-        let same : known.0 ≡ s = sequence-injective (ap (λ c. c.source) known.5 ∙ ap (λ p. p.0) (sym (some-injective some))) in
-        subst (λ n. IsChosen script past pool seat n) same (record {
+        let named : c.source ≡ Sequence s = ap (λ p. p.0) (sym (some-injective some)) in
+        let known = best_is_sequence script past seat s c is named in
+        record {
           can = can;
-          there = known.2;
-          idle = known.3;
-          head = known.1;
-          is_head = known.4;
-          is_best = is ∙ ap (λ c. Some c) (sym known.5);
-        })
+          there = known.1;
+          idle = known.2;
+          head = known.0;
+          is_head = known.3;
+          is_best = is ∙ ap (λ c. Some c) (sym known.4);
+        }
 
 -- also by its parts
 pub chosen_from : {script : Plan} {past : List Entry} {pool : Pool} {seat s : ℕ} {rank : Rank} {result : Option (TaskSource × Rank)} {source : TaskSource}
     → CanTake script past pool seat → IsBestOf (IsOffer pool seat) result → ◌≡◌ {A = Option (TaskSource × Rank)} result (Some (source, rank))
     → source ≡ Sequence s → IsChosen script past pool seat s
 chosen_from {script = script} {past = past} {pool = pool} {seat = seat} {s = s} {rank = rank} can best is named = chosen_is script past pool seat s rank can
+    (subst (λ n. IsBestOf (IsOffer pool seat) (Some (n, rank))) named (subst (IsBestOf (IsOffer pool seat)) is best))
+
+-- or it is a job
+pub job_chosen_is : (script : Plan) (past : List Entry) (pool : Pool) (seat j : ℕ) (rank : Rank) → CanTake script past pool seat
+    → IsBestOf (IsOffer pool seat) (Some (Job j, rank)) → IsJobChosen script past pool seat j
+job_chosen_is script past pool seat j rank can best =
+    by (best_of script past seat) refl (best_offer script past pool seat (Some (Job j, rank)) can.stands can.known best)
+  where
+    by : (o : Option Candidate) → best_of script past seat ≡ o → ◌≡◌ {A = Option (TaskSource × Rank)} (Some (Job j, rank)) (option_map chosen_as o)
+        → IsJobChosen script past pool seat j
+    by None is none = absurd (none-some (Job j, rank) (sym none))
+    by (Some c) is some =
+        let named : c.source ≡ Job j = ap (λ p. p.0) (sym (some-injective some)) in
+        let known = best_is_job script past seat j c is named in
+        record {
+          can = can;
+          declared = known.1;
+          enters = known.2;
+          post = known.0;
+          is_post = known.3;
+          is_best = is ∙ ap (λ c. Some c) (sym known.4);
+        }
+
+pub job_chosen_from : {script : Plan} {past : List Entry} {pool : Pool} {seat j : ℕ} {rank : Rank} {result : Option (TaskSource × Rank)} {source : TaskSource}
+    → CanTake script past pool seat → IsBestOf (IsOffer pool seat) result → ◌≡◌ {A = Option (TaskSource × Rank)} result (Some (source, rank))
+    → source ≡ Job j → IsJobChosen script past pool seat j
+job_chosen_from {script = script} {past = past} {pool = pool} {seat = seat} {j = j} {rank = rank} can best is named =
+    job_chosen_is script past pool seat j rank can
     (subst (λ n. IsBestOf (IsOffer pool seat) (Some (n, rank))) named (subst (IsBestOf (IsOffer pool seat)) is best))
 
 -- where it chooses nothing, the seat may take nothing
@@ -177,13 +205,15 @@ stands_at_take script past pool seat s chosen = rw stands.runners (record {
   lines = lines;
   queues = hold_refreshed script later pool.sequences (taken_out pool.sequences s) pool.lanes pool.postings.items s runner stands.script_fits fits lines known
       stands.queues.roomy runs old
-      (λ other another. other_sequence pool.sequences s other _ another);
-  groups = groups_at_take script past pool.groups seat task runner found stands.script_fits stands.groups can.known can.free
+      (λ other another. other_sequence pool.sequences s other _ another) made (jobs_stay script past e pool.lanes refl (jobs_held script past pool.lanes stands.queues));
+  groups = groups_at_take script past pool.groups seat task runner found stands.script_fits stands.groups can.known can.free can.holds_nothing
       (stands.past_fits.scopes_of_taken task (head_accepted script past s chosen.head chosen.is_head).2);
   delayed = rw (unripe_kept past e refl) stands.delayed;
   tracker = rw (tracked_at_take script past seat s found chosen.head stands.past_fits chosen.is_head, stands.tracker) refl;
   postings = known;
   seats = seats_at_take script past seat task runner found pool.seats.items stands.seats can.known;
+  jobs = jobs_kept script past e pool.jobs.items refl stands.jobs;
+  holders = holders_kept script past e pool.holders.items refl stands.holders;
   moment = rw (now_of_push past e) stands.moment;
   room = rw (posts_same past e refl) (omega (arith, stands.room));
 })
@@ -210,7 +240,7 @@ stands_at_take script past pool seat s chosen = rw stands.runners (record {
     later = past ++ e ∷ []
 
     fits : IsPoolPast script later
-    fits = past_at_take script past seat s found chosen.head stands.past_fits can.worker can.known chosen.is_head chosen.idle
+    fits = past_at_take script past seat s found chosen.head stands.past_fits can.worker can.known can.holds_nothing chosen.is_head chosen.idle
 
     lines : AreLines script later (arrivals later) (taken_out pool.sequences s)
     lines = lines_at_take script past pool.sequences seat s found chosen.head stands.past_fits stands.lines can.known can.free chosen.there chosen.is_head
@@ -220,6 +250,12 @@ stands_at_take script past pool seat s chosen = rw stands.runners (record {
 
     old : AllFollow script pool.postings.items pool.sequences pool.lanes
     old = follow_in script past pool stands
+
+    made : IsMadeFor (queue_of pool.lanes (lane_by script runner) (is_best_by script runner)) (Sequence s)
+    made =
+        let accepted = taken_accepted chosen in
+        subst (λ n. IsMadeFor (queue_of pool.lanes (lane_by script runner) (is_best_by script runner)) (Sequence n)) accepted.2
+        (sequence_made script pool.lanes runner task stands.script_fits stands.queues.roomy accepted.1.0 accepted.1.1)
 
     runs : runner_of script pool.postings.items s ≡ Some runner
     runs =

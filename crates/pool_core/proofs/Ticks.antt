@@ -1,5 +1,7 @@
 -- A tick: at its start no delayed task has ripened, each step ripens one, and once none is left that is ripe the pool stands
 -- for the past with the tick.
+use Rattle.pool_core.proofs.JobTables.{holders_kept, jobs_kept}
+use Rattle.pool_core.proofs.JobQueues.{jobs_held, jobs_stay}
 use Rattle.delayed_manager.specs.Delayed.{Waiting, is_ripe, with_held}
 use Rattle.delayed_manager.specs.declared.ripening.Ripening.{Ripening}
 use Rattle.list_laws.proofs.Elements.{AllByRecursion-map, AllByRecursion-unmapped}
@@ -53,7 +55,10 @@ ripens_at_start script past pool place moment tick = subst (Ripens script past m
   delayed = stands.delayed;
   tracker = stands.tracker;
   postings = stands.postings;
+  waiting_jobs = jobs_held script past tick.before.lanes stands.queues;
   seats = stands.seats;
+  jobs = stands.jobs;
+  holders = stands.holders;
   moment_is = refl;
   room = stands.room;
 })
@@ -176,14 +181,17 @@ stands_at_tick script past seat moment place front rest entry pool tick ripens n
   past_fits = later_fits;
   runners = ripens.runners;
   lines = lines;
-  queues = hold_from script later pool.sequences pool.lanes pool.postings.items limits later_fits lines postings ripens.roomy (ripens.apart, ripens.follows);
+  queues = hold_from script later pool.sequences pool.lanes pool.postings.items limits later_fits lines postings ripens.roomy (ripens.apart, ripens.follows)
+      (jobs_stay script past e pool.lanes refl ripens.waiting_jobs);
   groups = ripens.groups seat;
   delayed = ripens.delayed
       ∙ ap (λ ps. record { held = map ripening_of ps; room = length script.tasks })
       (sym (unripe_at_tick past seat moment ∙ unripe_parts moment (unripe past) front rest ripens.parts ripens.ripe still));
-  tracker = ripens.tracker ∙ sym (tracked_kept script past e limits refl);
+  tracker = ripens.tracker ∙ sym (tracked_kept script past e refl);
   postings = postings;
   seats = seats_kept script past e pool.seats.items refl ripens.seats;
+  jobs = jobs_kept script past e pool.jobs.items refl ripens.jobs;
+  holders = holders_kept script past e pool.holders.items refl ripens.holders;
   moment = ripens.moment_is ∙ sym (now_of_push past e);
   room = subst (λ ps. length script.tasks + length pool.delayed.held ≤ pool.sequences.room + length ps) (sym (posts_same past e refl)) ripens.room;
 }

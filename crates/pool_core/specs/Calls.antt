@@ -1,5 +1,5 @@
 -- What each call of the pool asks of its caller, and answers.
-use Rattle.std.specs.Prelude.{◌≡◌, ℕ, ◌<◌, ◌≤◌, Bool, false, List, [], ◌∷◌, ◌++◌, length, Some, None, is_some}
+use Rattle.std.specs.Prelude.{◌≡◌, ℕ, ◌<◌, ◌≤◌, Bool, false, List, [], ◌∷◌, ◌++◌, length, Some, None, is_some, ◌||◌}
 use Rattle.std.specs.List.{list_any}
 use Rattle.task_base.specs.Plan.{Plan}
 use Rattle.task_base.specs.Runners.{sequence_of, sequence_count}
@@ -17,14 +17,15 @@ use Rattle.task_model.specs.Time.{now_of}
 use Rattle.task_model.specs.Keys.{Ready}
 use Rattle.task_model.specs.Sequences.{head_of}
 use Rattle.task_model.specs.Cells.{cell_of}
-use Rattle.task_model.specs.Seats.{Running, running, worker_seats, runs_sequence}
+use Rattle.task_model.specs.Seats.{Running, running, holding, worker_seats, runs_sequence}
 use Rattle.task_model.specs.Capacity.{OpenScope, open_scope}
-use Rattle.task_model.specs.Sources.{best_of, sequence_candidate}
+use Rattle.task_model.specs.Sources.{best_of, sequence_candidate, job_candidate}
+use Rattle.task_model.specs.Jobs.{JobPosted, claimed, free_id, job_post_of}
 use Rattle.pool_laws.specs.Seats.{runs_pool_task}
 use Rattle.pool_core.specs.StandsFor.{StandsFor}
 use Rattle.pool_core.specs.declared.pool.Pool.{Pool}
 use Rattle.pool_core.specs.declared.pool_take.PoolTake.{PoolTake}
-use Rattle.pool_core.specs.declared.pool_take.PoolTake.TheVariants.{Task, Nothing}
+use Rattle.pool_core.specs.declared.pool_take.PoolTake.TheVariants.{Task, Item, Nothing}
 
 -- the past with one more entry
 abbrev pub next : List Entry → ℕ → Kind → List Entry
@@ -39,6 +40,7 @@ after_tick past seat moment = next past seat (kinds.Tick moment)
 
 abbrev pub after_take : List Entry → ℕ → PoolTake → List Entry
 after_take past seat (Task task runner cell) = next past seat (kinds.Take task runner cell)
+after_take past seat (Item job id item) = next past seat (kinds.JobTake job id item)
 after_take past seat Nothing = past
 
 abbrev pub after_end : List Entry → ℕ → ℕ → ℕ → List Entry
@@ -75,12 +77,13 @@ pub record CanTick (script : Plan) (past : List Entry) (pool : Pool) (place mome
   pub later : now_of past ≤ moment
   pub fits : moment ≤ LAST_MOMENT
 
--- the seat is a worker's and runs nothing
+-- the seat is a worker's, runs nothing, and is inside no job
 pub record CanTake (script : Plan) (past : List Entry) (pool : Pool) (seat : ℕ) : Type 0 where
   pub stands : StandsFor script past pool
   pub worker : 1 ≤ seat
   pub known : seat ≤ script.workers
   pub free : running past seat ≡ None
+  pub holds_nothing : holding past seat ≡ None
 
 -- the seat's best source is this sequence, with its head
 pub record IsChosen (script : Plan) (past : List Entry) (pool : Pool) (seat s : ℕ) : Type 0 where
@@ -119,14 +122,28 @@ pub record IsTaken (script : Plan) (past : List Entry) (seat task runner found :
   pub runner_is : head.posted.home ≡ runner
   pub found_is : found ≡ cell_of script past (sequence_of script runner task)
 
--- what a take answers: the head of the best source, with its cell, or nothing where the seat may take nothing
+-- the seat's best source is this job, and these are the least number that nobody inside has and the least unclaimed item
+pub record IsEntered (script : Plan) (past : List Entry) (seat job id item : ℕ) : Type 0 where
+  pub post : JobPosted
+  pub is_post : job_post_of past job ≡ Some post
+  pub is_best : best_of script past seat ≡ Some (job_candidate script past job post)
+  pub id_is : free_id script past job ≡ Some id
+  pub item_is : item ≡ claimed past job
+
+-- what a take answers: the head of the best source, with its cell, or the number and the item where that is a job, or nothing
+-- where the seat may take nothing
 abbrev pub TakeAnswers : Plan → List Entry → ℕ → PoolTake → Type 0
 TakeAnswers script past seat (Task task runner cell) = IsTaken script past seat task runner cell
+TakeAnswers script past seat (Item job id item) = IsEntered script past seat job id item
 TakeAnswers script past seat Nothing = best_of script past seat ≡ None
 
--- how many workers run tasks of the pool
+-- the seat runs a task of the pool, or is inside a job
+abbrev pub is_working : List Entry → ℕ → Bool
+is_working past seat = runs_pool_task past seat || is_some (holding past seat)
+
+-- how many workers run tasks of the pool, or are inside jobs
 abbrev pub running_tasks : Plan → List Entry → ℕ
-running_tasks script past = count (runs_pool_task past) (worker_seats script)
+running_tasks script past = count (is_working past) (worker_seats script)
 
 -- some worker may take a source
 abbrev pub is_any_ready : Plan → List Entry → Bool

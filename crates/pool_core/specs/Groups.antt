@@ -1,6 +1,6 @@
 -- What the two groups stand for.
 use Rattle.std.specs.Prelude.{◌≡◌, ℕ, ◌+◌, ◌<◌, Bool, true, false, List, length, replicate, Option, None}
-use Rattle.std.specs.Option.{option_map}
+use Rattle.std.specs.Option.{option_map, option_or}
 use Rattle.task_base.specs.Plan.{Plan}
 use Rattle.task_base.specs.Groups.{Group, Foreground, Background, group_of, same_group}
 use Rattle.task_traits.specs.declared.traits.Priority.{Priority}
@@ -9,11 +9,13 @@ use Rattle.task_base.specs.declared.limits.TheConstants.{MOST_WORKERS}
 use Rattle.list_laws.specs.Lists.{keep}
 use Rattle.task_model.specs.Time.{now_of}
 use Rattle.task_model.specs.Capacity as capacities
-use Rattle.task_model.specs.Capacity.{priority_of, is_in, limit, best_limit, open_scope}
+use Rattle.task_model.specs.Capacity.{priority_of, priority_of_job, is_in, limit, best_limit, open_scope}
+use Rattle.task_model.specs.Seats.{Running, Holding}
 use Rattle.thread_group.specs.Group.{GroupWork, work_at}
 use Rattle.thread_group.specs.declared.work.Work.{Work}
 use Rattle.thread_group.specs.declared.work.OpenScope.{OpenScope}
 use Rattle.pool_core.specs.Pasts.{pool_running}
+use Rattle.pool_core.specs.Holdings.{worker_holding}
 use Rattle.pool_core.specs.declared.groups.Groups.{Groups}
 
 -- the background group, or the foreground group
@@ -58,12 +60,18 @@ in_background script priority = same_group (group_of script priority) Background
 abbrev pub opened_as : capacities.OpenScope → OpenScope
 opened_as opened = record { scope = opened.scope; since = opened.since }
 
--- the pool's work that the seat does: its task's priority, and the scope that the task has open
+-- a task as work of the pool: its priority, and the scope that it has open
+abbrev pub task_work : Plan → List Entry → Running → Work
+task_work script past w = record { priority = priority_of script w.home; scope = option_map opened_as (open_scope past w.task) }
+
+-- an item of a job as work of the pool; no scope opens in it
+abbrev pub item_work : Plan → Holding → Work
+item_work script h = record { priority = priority_of_job script h.job; scope = None }
+
+-- the pool's work that the seat does: its task, or the item that it holds as a worker
 abbrev pub pool_work : Plan → List Entry → ℕ → Option Work
-pool_work script past seat = option_map (λ w. record {
-  priority = priority_of script w.home;
-  scope = option_map opened_as (open_scope past w.task);
-}) (pool_running past seat)
+pool_work script past seat =
+    option_or (option_map (task_work script past) (pool_running past seat)) (option_map (item_work script) (worker_holding past seat))
 
 -- each seat does, of the group's work, what it does in the past; the limits and the threshold are the script's, and the
 -- moment is the past's

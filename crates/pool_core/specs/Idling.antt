@@ -5,9 +5,9 @@ use Rattle.task_base.specs.Plan.{Plan}
 use Rattle.task_base.specs.declared.entry.Entry.{Entry}
 use Rattle.list_laws.specs.Lists.{count}
 use Rattle.task_model.specs.Sources.{best_of}
-use Rattle.pool_laws.specs.Seats.{runs_pool_task}
+use Rattle.pool_core.specs.Calls.{is_working}
 
--- so many of the workers below a seat run tasks of the pool, and whether some of them may take a source
+-- so many of the workers below a seat run tasks of the pool or are inside jobs, and whether some of them may take a source
 pub record IsCounted (script : Plan) (past : List Entry) (seat running : ℕ) (ready : Bool) : Type 0 where
-  pub running_is : running ≡ count (runs_pool_task past) (range_with_len 1 (seat - 1))
+  pub running_is : running ≡ count (is_working past) (range_with_len 1 (seat - 1))
   pub ready_is : ready ≡ list_any (λ worker. is_some (best_of script past worker)) (range_with_len 1 (seat - 1))

@@ -1,12 +1,17 @@
+pub mod Holdings
 pub mod Pasts
 pub mod Lines
 pub mod Queues
 pub mod Groups
 pub mod Tables
+pub mod PoolJobs
+pub mod Jobs
 pub mod StandsFor
 pub mod State
 pub mod Choice
 pub mod Calls
+pub mod JobCalls
+pub mod JobState
 pub mod Others
 pub mod Played
 pub mod Ripens

@@ -3,7 +3,7 @@ use Rattle.std.specs.Prelude.{Bool, true, false}
 use Rattle.task_base.specs.declared.entry.Kind.{Kind}
 use Rattle.task_base.specs.declared.entry.Kind.TheVariants as kinds
 
--- an entry of the main queues, of jobs, or of the driver alone, other than those at which a seat takes or ends
+-- an entry of the main queues, other than those at which the driver takes or ends, or one that only reports
 abbrev pub is_still : Kind → Bool
 is_still (kinds.Main task queue delay ok) = true
 is_still (kinds.Fence queue at) = true
@@ -12,8 +12,6 @@ is_still (kinds.Vote queue voter on) = true
 is_still (kinds.Rank queue class) = true
 is_still (kinds.Close queue) = true
 is_still kinds.MainNone = true
-is_still (kinds.JobPost job ok) = true
-is_still (kinds.JobCancel job) = true
 is_still (kinds.Cancelled job) = true
 is_still (kinds.Joined job reply) = true
 is_still kinds.Idle = true
@@ -26,9 +24,11 @@ is_quiet kinds.Shutdown = true
 is_quiet kinds.Done = true
 is_quiet kind = is_still kind
 
--- a post to the pool
+-- a post to the pool, of a task or of a job, or the cancel of a job
 abbrev pub posts_to_pool : Kind → Bool
 posts_to_pool (kinds.Post task runner delay ok) = true
+posts_to_pool (kinds.JobPost job ok) = true
+posts_to_pool (kinds.JobCancel job) = true
 posts_to_pool kind = false
 
 -- an entry that changes neither the phase, nor the policy, nor what shutdown waits for: a tick, a scope, a main task

@@ -7,6 +7,7 @@ use Rattle.task_base.specs.Groups.{is_best_effort}
 use Rattle.task_base.specs.Runners.{sequence_count, seat_of_kind}
 use Rattle.task_base.specs.declared.entry.Entry.{Entry}
 use Rattle.task_base.specs.declared.source.TaskSource.{TaskSource}
+use Rattle.task_base.specs.declared.source.TaskSource.TheVariants.{Job, Sequence}
 use Rattle.list_laws.specs.Lists.{keep, holds_of}
 use Rattle.task_model.specs.Sources.{Candidate}
 use Rattle.pool_laws.specs.Choice.{source_waiting}
@@ -99,3 +100,12 @@ pub record HoldWaiting (script : Plan) (past : List Entry) (lanes : List Lane) :
   pub roomy : AreRoomy script lanes
   pub ranks : (lane : ℕ) (best : Bool) (source : TaskSource) → lane < script.workers + 1 → IsMadeFor (queue_of lanes lane best) source
       → rank_of (queue_of lanes lane best) source ≡ option_map rank_as (keep (belongs lane best) (source_waiting script past source))
+
+-- of that, what is said of the sequences, and of the jobs
+abbrev pub HoldSequences : Plan → List Entry → List Lane → Type 0
+HoldSequences script past lanes = (lane : ℕ) (best : Bool) (s : ℕ) → lane < script.workers + 1 → IsMadeFor (queue_of lanes lane best) (Sequence s)
+    → rank_of (queue_of lanes lane best) (Sequence s) ≡ option_map rank_as (keep (belongs lane best) (source_waiting script past (Sequence s)))
+
+abbrev pub HoldJobs : Plan → List Entry → List Lane → Type 0
+HoldJobs script past lanes = (lane : ℕ) (best : Bool) (j : ℕ) → lane < script.workers + 1 → IsMadeFor (queue_of lanes lane best) (Job j)
+    → rank_of (queue_of lanes lane best) (Job j) ≡ option_map rank_as (keep (belongs lane best) (source_waiting script past (Job j)))

@@ -10,7 +10,8 @@ use Rattle.task_runners.specs.Table.{table_of}
 use Rattle.pool_core.specs.Calls.{CanTick, after_tick}
 use Rattle.pool_core.specs.Groups.{AreGroups, ticked}
 use Rattle.pool_core.specs.Lines.{AreLines}
-use Rattle.pool_core.specs.Queues.{AreRoomy}
+use Rattle.pool_core.specs.Jobs.{AreJobs, AreHolders}
+use Rattle.pool_core.specs.Queues.{AreRoomy, HoldJobs}
 use Rattle.pool_core.specs.State.{AreApart, Follows}
 use Rattle.pool_core.specs.Tables.{unripe, ripening_of, tracked, ArePostings, AreSeats}
 use Rattle.pool_core.specs.declared.pool.Pool.{Pool}
@@ -35,6 +36,9 @@ pub record Ripens (script : Plan) (past : List Entry) (moment : ℕ) (front rest
   pub delayed : pool.delayed ≡ record { held = map ripening_of rest; room = length script.tasks }
   pub tracker : pool.tracker ≡ tracked script past
   pub postings : ArePostings script past pool.postings.items
+  pub waiting_jobs : HoldJobs script past pool.lanes
   pub seats : AreSeats script past pool.seats.items
+  pub jobs : AreJobs script past pool.jobs.items
+  pub holders : AreHolders script past pool.holders.items
   pub moment_is : pool.moment ≡ moment
   pub room : length script.tasks + length pool.delayed.held ≤ pool.sequences.room + length (posts past)

@@ -10,6 +10,7 @@ use Rattle.pool_core.specs.Pasts.{IsPoolScript, IsPoolPast}
 use Rattle.pool_core.specs.Lines.{AreLines}
 use Rattle.pool_core.specs.Queues.{HoldWaiting}
 use Rattle.pool_core.specs.Groups.{AreGroups}
+use Rattle.pool_core.specs.Jobs.{AreJobs, AreHolders}
 use Rattle.pool_core.specs.Tables.{unripe, ripening_of, tracked, ArePostings, AreSeats}
 use Rattle.pool_core.specs.declared.pool.Pool.{Pool}
 
@@ -23,7 +24,7 @@ pub record StandsFor (script : Plan) (past : List Entry) (pool : Pool) : Type 0 
   pub lines : AreLines script past (arrivals past) pool.sequences
   -- the sources that would wait under the policy `all`, with their ranks
   pub queues : HoldWaiting script past pool.lanes
-  -- what each seat runs of the groups' work, with its scope
+  -- what each worker does of the groups' work: a task with its scope, or an item of a job
   pub groups : AreGroups script past pool.groups
   -- the delayed tasks that are not ripe
   pub delayed : pool.delayed ≡ record { held = map ripening_of (unripe past); room = length script.tasks }
@@ -33,6 +34,10 @@ pub record StandsFor (script : Plan) (past : List Entry) (pool : Pool) : Type 0 
   pub postings : ArePostings script past pool.postings.items
   -- the task that each seat runs
   pub seats : AreSeats script past pool.seats.items
+  -- the items of each job, and how it was posted
+  pub jobs : AreJobs script past pool.jobs.items
+  -- the job that each seat is inside
+  pub holders : AreHolders script past pool.holders.items
   -- the moment of the last tick
   pub moment : pool.moment ≡ now_of past
   -- room for each task that has no key yet

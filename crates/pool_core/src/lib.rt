@@ -6,6 +6,7 @@ mod groups;
 mod lanes;
 mod laws;
 mod pool;
+mod pool_job;
 mod pool_take;
 mod posting;
 

@@ -15,10 +15,12 @@ ghost use Rattle.pool_core.specs.Groups.{in_background};
 ghost use Rattle.pool_core.specs.State.{CanArrive, CanRipen, arrived, ripened};
 ghost use Rattle.pool_core.specs.declared.posting.Posting.{Posting};
 
+mod jobs;
 mod sources;
 
 use crate::groups::Groups;
 use crate::lanes::Lanes;
+use crate::pool_job::{Holder, PoolJob, fresh_jobs};
 use crate::pool_take::PoolTake;
 use crate::posting::Posting;
 use delayed_manager::{Delayed, Ripening};
@@ -53,6 +55,10 @@ pub struct Pool {
     postings: Vec<Option<Posting>>,
     /// The task that each seat runs.
     seats: Vec<Option<TaskId>>,
+    /// The items of each job, and how it was posted.
+    jobs: Vec<PoolJob>,
+    /// The job that each seat is inside.
+    holders: Vec<Option<Holder>>,
     /// The moment of the last tick.
     moment: u64,
 }
@@ -74,6 +80,8 @@ impl Pool {
             tracker: Tracker::new(),
             postings: vec![in alloc; None; tasks as usize]?,
             seats: vec![in alloc; None; script.workers as usize + 1]?,
+            jobs: fresh_jobs(alloc, script)?,
+            holders: vec![in alloc; None; script.workers as usize + 1]?,
             moment: 0,
         })
     }
@@ -118,7 +126,7 @@ impl Pool {
         self.ripen_all(place, moment);
     }
 
-    /// Takes the head of the best source for a worker, unless the worker may take nothing.
+    /// Takes the head of the best source for a worker, or enters it where it is a job, unless the worker may take nothing.
     pub fn take(&mut self, seat: SeatNo) -> PoolTake
         requires { (script : Plan) × (past : List Entry) × CanTake script past self.old seat }
         ensures answer { (script : Plan) (past : List Entry) → CanTake script past self.old seat → TakeAnswers script past seat result }
@@ -126,7 +134,7 @@ impl Pool {
     {
         match self.best(seat) {
             Some((TaskSource::Sequence(seq), _)) => self.start(seat, seq),
-            Some((TaskSource::Job(_), _)) => unreachable!(),
+            Some((TaskSource::Job(job), _)) => self.start_item(seat, job),
             None => PoolTake::Nothing,
         }
     }
@@ -177,7 +185,8 @@ impl Pool {
         self.tracker.set_policy(policy);
     }
 
-    /// Whether no worker runs a task, and none may take one. The error says how many run, and whether one may take more.
+    /// Whether no worker runs a task or is inside a job, and none may take a source. The error says how many do, and
+    /// whether one may take more.
     pub fn idle(&self) -> Result<(), NotYet>
         requires { (script : Plan) × (past : List Entry) × StandsFor script past self.now }
         ensures ok { (script : Plan) (past : List Entry) → StandsFor script past self.now
@@ -190,7 +199,7 @@ impl Pool {
             ready: false,
         };
         for seat in 1..self.seats.len() {
-            not_yet.running += u32::from(self.seats[seat].is_some());
+            not_yet.running += u32::from(self.is_working(seat));
             not_yet.ready |= self.best(seat as SeatNo).is_some();
         }
         if not_yet.running > 0 || not_yet.ready {
@@ -223,6 +232,7 @@ impl Pool {
         self.tracker.start_shutdown();
         self.sequences.purge(Phase::Started);
         self.refresh_all();
+        self.refresh_jobs();
     }
 
     /// Ends shutdown, unless something still blocks it.

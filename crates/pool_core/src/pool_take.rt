@@ -1,4 +1,4 @@
-use task_base::{Cell, RunnerId, TaskId};
+use task_base::{Cell, JobId, RunnerId, TaskId};
 
 /// What a worker's take gives.
 #[derive(Debug, Drop)]
@@ -8,6 +8,13 @@ pub enum PoolTake {
         task: TaskId,
         runner: RunnerId,
         cell: Cell,
+    },
+    /// The best source is a job, and the seat is inside it from now on: the number that it has there, and the item that
+    /// it holds.
+    Item {
+        job: JobId,
+        id: u32,
+        item: u32,
     },
     /// The seat may take nothing now.
     Nothing,

@@ -1,3 +1,4 @@
+mod jobs;
 mod limits;
 mod mix;
 mod order;

@@ -1,3 +1,4 @@
 pub mod Progress
 pub mod Bodies
 pub mod Kinds
+pub mod Passes

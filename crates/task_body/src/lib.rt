@@ -1,5 +1,6 @@
 //! Bodies of tasks, which do a task's steps on a cell that they are lent, and assignments, which own a body and a cell
-//! until the last step is done. Contracts see a body as all its steps and those still to do.
+//! until the last step is done; and passes, by which a seat holds an item of a job. Contracts see a body as all its steps
+//! and those still to do.
 #![tactic(auto)]
 
 mod act;
@@ -7,6 +8,7 @@ mod assignment;
 mod body;
 mod kinds;
 mod once_body;
+mod pass;
 mod script_body;
 mod taken;
 mod work;
@@ -16,6 +18,7 @@ pub use assignment::Assignment;
 pub use body::TaskBody;
 pub use kinds::Body;
 pub use once_body::OnceBody;
+pub use pass::JobPass;
 pub use script_body::ScriptBody;
 pub use taken::Taken;
 pub use work::Work;

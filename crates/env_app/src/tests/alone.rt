@@ -1,6 +1,6 @@
 //! Runs in which no worker has a thread: the caller serves each of them at a spare desk.
 ghost use Rattle.std.specs.Prelude.{◌≡◌, ◌<◌, ◌≤◌, ◌^◌, [], length, IfOk};
-ghost use Rattle.env_core.specs.Built.{IsBuilt};
+ghost use Rattle.script_model.specs.Laws.Sound.{IsSound};
 ghost use Rattle.env_core.specs.Calls.{AreFresh};
 ghost use Rattle.env_app.specs.Crew.{AreSpare, ArePromised, AreWorkers, refused};
 
@@ -52,7 +52,7 @@ fn run_alone<R: Threads + Wait, B: TaskBody, C: Clock>(
     bodies: Vec<Box<B>>,
     clock: &mut C,
 ) -> Result<Env<B>, AllocError>
-    requires plan { IsBuilt script.now }
+    requires plan { IsSound script.now }
     requires bodies { AreFresh bodies.items (λ body. B.whole body.value) (λ body. B.rest body.value) script.now }
     ensures bounded { IfOk result (λ env. length env.history < 2 ^ 32) }
 {

@@ -39,31 +39,6 @@ fn script_faults(rt: HostRuntime) -> Result<(), Fail> {
     Ok(())
 }
 
-// Scripts of the grammar that do not run today: those that declare a job.
-#[test]
-fn scripts_not_built(rt: HostRuntime) -> Result<(), Fail> {
-    let rows = [
-        "job 0 user_visible skip 1 1\n",
-        "job 0 user_visible skip 1 1\nstartjob 0\n",
-    ];
-    for script in rows {
-        let outcome = run_of(&rt, script)?;
-        assert_eq!(rt;
-            outcome.told(),
-            (3, "", "bad script: not built\n"),
-            "at {script}"
-        );
-    }
-    // All that a script can say of the pool and of main queues runs.
-    let outcome = run_of(
-        &rt,
-        "workers 64\ngroups 1 1 1\nthreshold 7\nrunner 0 single:64 best_effort block mayblock\nqueue 0 7 16\n\
-        task 0 block may ; unblock\ntask 1 post 0 0 9\ntask 2 main 1 0 9\n",
-    )?;
-    assert_eq!(rt; outcome.told(), (0, "", ""));
-    Ok(())
-}
-
 /// A script that declares so many tasks.
 fn tasks_alone(alloc: Global, count: u32) -> Result<String, AllocError> {
     let mut script = String::new(alloc);

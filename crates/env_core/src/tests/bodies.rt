@@ -1,6 +1,6 @@
-//! Scripts without jobs, and bodies whose runs and lives a test counts.
+//! Scripts, and bodies whose runs and lives a test counts.
 ghost use Rattle.std.specs.Prelude.{◌≡◌, ◌∷◌, [], false, true, length, slice_get, IfOk, Some};
-ghost use Rattle.env_core.specs.Built.{IsBuilt};
+ghost use Rattle.script_model.specs.Laws.Sound.{IsSound};
 ghost use Rattle.env_core.specs.Calls.{AreFresh};
 ghost use Rattle.task_base.specs.Steps.{is_act};
 ghost use Rattle.task_body.specs.Kinds.{view_of};
@@ -31,9 +31,9 @@ impl Work for Counted {
     }
 }
 
-/// The script of a text, which has two workers and no jobs.
+/// The script of a text, which has two workers.
 pub fn script_of(rt: &impl Abort, alloc: Global, text: &str) -> Script
-    ensures plan { IsBuilt result }
+    ensures plan { IsSound result }
     ensures two { result.workers ≡ 2 }
 {
     assert!(rt; text.len() <= 4_294_967_294);
@@ -41,7 +41,6 @@ pub fn script_of(rt: &impl Abort, alloc: Global, text: &str) -> Script
         panic!(rt; "the text is no script")
     };
     assert!(rt; script.workers == 2);
-    assert!(rt; script.jobs.is_empty());
     script
 }
 

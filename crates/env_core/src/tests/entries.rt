@@ -1,5 +1,5 @@
 //! Entries of a history, each in one word.
-use task_base::{Entry, Kind, QueueId, RunnerId, Scope, SeatNo, TaskId};
+use task_base::{Entry, JobId, Kind, QueueId, RunnerId, Scope, SeatNo, TaskId};
 
 /// A post, and whether it is accepted.
 pub fn post(seat: SeatNo, task: TaskId, runner: RunnerId, delay: u64, ok: bool) -> Entry {
@@ -73,6 +73,32 @@ pub fn end(seat: SeatNo, task: TaskId, left: u64) -> Entry {
         seat,
         kind: Kind::End { task, left },
     }
+}
+
+/// The take of an item under a number.
+pub fn job_take(seat: SeatNo, job: JobId, id: u32, item: u32) -> Entry {
+    Entry {
+        seat,
+        kind: Kind::JobTake { job, id, item },
+    }
+}
+
+/// The end of an item, with its value, and the item that the seat goes on with.
+pub fn job_step(
+    seat: SeatNo,
+    job: JobId,
+    id: u32,
+    (item, value): (u32, u64),
+    next: Option<u32>,
+) -> Entry {
+    let kind = Kind::JobStep {
+        job,
+        id,
+        item,
+        value,
+        next,
+    };
+    Entry { seat, kind }
 }
 
 /// An entry of the driver alone.

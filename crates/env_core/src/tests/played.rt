@@ -1,19 +1,22 @@
 //! An environment with what a test knows of its history, so that a test is a list of calls.
 ghost use Rattle.std.specs.Prelude.{◌≡◌, ◌≤◌, slice_get, slice_set, Some, None, true, false};
-ghost use Rattle.env_core.specs.Built.{IsBuilt};
+ghost use Rattle.script_model.specs.Laws.Sound.{IsSound};
 ghost use Rattle.env_core.specs.Calls.{AreFresh, EntersAct, IsNextAct};
 ghost use Rattle.env_core.specs.Played.{makes_entry};
 ghost use Rattle.task_body.specs.Kinds.{view_of};
 
+mod jobs;
+
 use crate::agenda::Agenda;
 use crate::env::Env;
 use crate::tests::bodies::Counted;
+pub use jobs::JobCall;
 use shutdown_phase::StillBlocked;
 use std::alloc::{AllocError, Global};
 use std::marker::Model;
 use std::process::Abort;
 use task_base::{Action, Entry, NotYet, Rows, Script, SeatNo, TaskId};
-use task_body::{Act, Assignment, Body, Taken};
+use task_body::{Act, Assignment, Body, JobPass, Taken};
 
 /// A call of the environment, and its answer. The calls of the driver are those that its script names.
 #[derive(Clone, Copy, Debug)]
@@ -42,6 +45,7 @@ pub enum Call {
     Shutdown,
     /// How much blocks the end of shutdown; it ends where nothing does.
     Done(u32),
+    Job(JobCall),
 }
 
 /// An environment, and what a test knows of its history.
@@ -53,6 +57,8 @@ pub struct Played {
     agenda: Agenda,
     // The assignment of each seat.
     seats: Vec<Option<Assignment<Body<Counted>>>>,
+    // The item that each seat holds.
+    passes: Vec<Option<JobPass>>,
 }
 
 impl Model for Played {
@@ -63,7 +69,7 @@ impl Model for Played {
 
     ghost view = { λ p. p.env };
 
-    ghost invariant = { λ p. IsPlayed p.env p.script p.agenda p.seats.items };
+    ghost invariant = { λ p. IsPlayed p.env p.script p.agenda p.seats.items p.passes.items };
 }
 
 impl Played {
@@ -73,12 +79,13 @@ impl Played {
         script: Script,
         bodies: Vec<Box<Body<Counted>>>,
     ) -> Result<Played, AllocError>
-        requires plan { IsBuilt script }
+        requires plan { IsSound script }
         requires two { script.workers ≡ 2 }
         requires bodies { AreFresh bodies.items (λ body. (view_of body.value).whole) (λ body. (view_of body.value).rest) script }
     {
         let copied = script.copy(alloc)?;
         let env = Env::open(alloc, copied, bodies)?;
+        let passes = vec![in alloc; None, None, None]?;
         let mut seats = Vec::with_capacity(alloc, 3)?;
         seats.push_reserved(None);
         seats.push_reserved(None);
@@ -88,6 +95,7 @@ impl Played {
             script,
             agenda: Agenda { place: 0, made: 0 },
             seats,
+            passes,
         })
     }
 
@@ -140,6 +148,7 @@ impl Played {
                 };
                 assert_eq!(rt; self.try_done(rt), done, "call {at}");
             }
+            Call::Job(call) => self.job_call(rt, at, call),
         }
     }
 
@@ -228,13 +237,14 @@ impl Played {
 
     /// A seat that has no assignment takes one: its task, or none; nothing where there will be none any more.
     pub fn take(&mut self, rt: &impl Abort, seat: SeatNo) -> Option<Option<TaskId>> {
-        assert_free(rt, &self.seats, seat);
+        assert_free(rt, &self.seats, &self.passes, seat);
         match self.env.take(seat) {
             Taken::Task(work) => {
                 let task = work.task();
                 put(rt, &mut self.seats, seat, work);
                 Some(Some(task))
             }
+            Taken::Item(_pass) => panic!(rt; "seat {seat} gets an item"),
             Taken::Nothing => Some(None),
             Taken::Over => None,
         }
@@ -242,6 +252,7 @@ impl Played {
 
     /// One step of a seat's task, which is entered if it is an act: what the body answers, and whether it is let in.
     pub fn step(&mut self, rt: &impl Abort, seat: SeatNo) -> (Act, bool) {
+        assert!(rt; seat >= 1);
         let mut work = lift(rt, &mut self.seats, seat);
         let act = work.step();
         let let_in = enter(&mut self.env, seat, act);
@@ -251,6 +262,7 @@ impl Played {
 
     /// A seat ends its task, which has no step left.
     pub fn end(&mut self, rt: &impl Abort, seat: SeatNo) {
+        assert!(rt; seat >= 1);
         let mut work = lift(rt, &mut self.seats, seat);
         let Act::Finished = work.step() else {
             panic!(rt; "seat {seat} has more steps")
@@ -289,13 +301,14 @@ impl Played {
         Ok(())
     }
 
-    /// The history. No seat has an assignment, and what bodies are left are dropped.
+    /// The history. No seat has an assignment or an item, and what bodies are left are dropped.
     pub fn into_log(self, rt: &impl Abort) -> Rows<Entry> {
         let Played {
             env,
             script: _,
             agenda: _,
             mut seats,
+            passes,
         } = self;
         while let Some(slot) = seats.pop() {
             match slot {
@@ -304,6 +317,7 @@ impl Played {
             }
         }
         seats.destroy_empty();
+        assert!(rt; passes.iter().all(|pass| pass.is_none()));
         env.into_log()
     }
 }
@@ -330,46 +344,50 @@ fn enter(env: &mut Env<Body<Counted>>, seat: SeatNo, act: Act) -> bool
     }
 }
 
-// The seat is that of a worker, and has no assignment.
-fn assert_free(rt: &impl Abort, seats: &Vec<Option<Assignment<Body<Counted>>>>, seat: SeatNo)
+// The seat is that of a worker, and has no assignment and no item.
+fn assert_free(
+    rt: &impl Abort,
+    seats: &Vec<Option<Assignment<Body<Counted>>>>,
+    passes: &Vec<Option<JobPass>>,
+    seat: SeatNo,
+)
     ensures worker { 1 ≤ seat }
     ensures free { slice_get seats.now.items seat ≡ Some None }
+    ensures empty_handed { slice_get passes.now.items seat ≡ Some None }
 {
     assert!(rt; seat >= 1);
     assert!(rt; (seat as usize) < seats.len());
     assert!(rt; seats[seat as usize].is_none());
+    assert_empty_handed(rt, passes, seat);
 }
 
-// Takes the assignment of a seat out of the table.
-fn lift(
-    rt: &impl Abort,
-    seats: &mut Vec<Option<Assignment<Body<Counted>>>>,
-    seat: SeatNo,
-) -> Assignment<Body<Counted>>
-    ensures worker { 1 ≤ seat }
-    ensures here { slice_get seats.old.items seat ≡ Some (Some result) }
-    ensures taken { seats.new.items ≡ slice_set seats.old.items seat None }
+// The seat has no item.
+fn assert_empty_handed(rt: &impl Abort, passes: &Vec<Option<JobPass>>, seat: SeatNo)
+    ensures { slice_get passes.now.items seat ≡ Some None }
 {
-    assert!(rt; seat >= 1);
-    assert!(rt; (seat as usize) < seats.len());
-    match seats[seat as usize].take() {
-        Some(work) => work,
-        None => panic!(rt; "seat {seat} runs nothing"),
+    assert!(rt; (seat as usize) < passes.len());
+    assert!(rt; passes[seat as usize].is_none());
+}
+
+// Takes what a seat has out of its table.
+fn lift<T>(rt: &impl Abort, slots: &mut Vec<Option<T>>, seat: SeatNo) -> T
+    ensures here { slice_get slots.old.items seat ≡ Some (Some result) }
+    ensures taken { slots.new.items ≡ slice_set slots.old.items seat None }
+{
+    assert!(rt; (seat as usize) < slots.len());
+    match slots[seat as usize].take() {
+        Some(held) => held,
+        None => panic!(rt; "seat {seat} has nothing"),
     }
 }
 
-// Puts the assignment of a seat that has none into the table.
-fn put(
-    rt: &impl Abort,
-    seats: &mut Vec<Option<Assignment<Body<Counted>>>>,
-    seat: SeatNo,
-    work: Assignment<Body<Counted>>,
-)
-    ensures { seats.new.items ≡ slice_set seats.old.items seat (Some work) }
+// Puts what a seat has got into its table, where it has nothing.
+fn put<T>(rt: &impl Abort, slots: &mut Vec<Option<T>>, seat: SeatNo, held: T)
+    ensures { slots.new.items ≡ slice_set slots.old.items seat (Some held) }
 {
-    assert!(rt; (seat as usize) < seats.len());
-    match seats[seat as usize].replace(work) {
+    assert!(rt; (seat as usize) < slots.len());
+    match slots[seat as usize].replace(held) {
         None => {}
-        Some(_work) => panic!(rt; "seat {seat} has an assignment"),
+        Some(_held) => panic!(rt; "seat {seat} has something"),
     }
 }

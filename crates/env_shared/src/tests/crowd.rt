@@ -40,6 +40,7 @@ fn ask<R: Wait + Abort>(
             Given::Nothing => none += 1,
             Given::Over => {}
             Given::Task(_work) => panic!(rt; "a task that nobody posted"),
+            Given::Item(_) => panic!(rt; "the script has no job"),
         }
     }
     (worker.into_seat(), none)

@@ -125,6 +125,7 @@ fn pass_by<R: Wait + Abort>(
         Given::Nothing => {}
         Given::Over => panic!(rt; "there is nothing any more"),
         Given::Task(_work) => panic!(rt; "a task that nobody posted"),
+        Given::Item(_) => panic!(rt; "the script has no job"),
     }
     (worker.into_seat(), count)
 }

@@ -23,6 +23,7 @@ fn take_one<D: Desk, R: Wait + Abort>(rt: &R, desk: &mut D) -> D::Work
 {
     match desk.take(rt) {
         Given::Task(work) => work,
+        Given::Item(_) => panic!(rt; "the script has no job"),
         Given::Nothing => panic!(rt; "there is nothing to take"),
         Given::Over => panic!(rt; "there is nothing any more"),
     }

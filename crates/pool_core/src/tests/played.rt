@@ -1,6 +1,10 @@
 //! A pool with what a test knows of its past, so that a test is a list of calls.
-ghost use Rattle.std.specs.Prelude.{◌≡◌, length, slice_get, Some, true, IfOk};
+ghost use Rattle.std.specs.Prelude.{◌≡◌, ◌≤◌, [], length, replicate, slice_get, Some, None, true, false, IfOk};
+ghost use Rattle.task_base.specs.Plan.{Plan};
+ghost use Rattle.task_base.specs.declared.limits.TheConstants.{MOST_WORKERS};
+ghost use Rattle.pool_core.specs.StandsFor.{StandsFor};
 ghost use Rattle.std.specs.List.{AllByRecursion};
+ghost use Rattle.pool_core.specs.Pasts.{IsPoolScript};
 ghost use Rattle.pool_core.specs.Played.{IsSeated};
 
 use crate::{Pool, PoolTake};
@@ -9,9 +13,9 @@ use std::alloc::{AllocError, Global};
 use std::marker::Model;
 use std::process::Abort;
 use task_base::{
-    Behaviour, Cell, LAST_MOMENT, MOST_MICROSECONDS, MOST_RUNNERS, MOST_TASKS, MOST_WORKERS,
-    NotYet, Phase, Place, Policy, Priority, Rows, Runner, RunnerId, RunnerKind, Scope, Script,
-    SeatNo, Task, TaskId, Traits,
+    Behaviour, Cell, Job, JobId, JobReply, LAST_MOMENT, MOST_JOBS, MOST_MICROSECONDS, MOST_RUNNERS,
+    MOST_TASKS, MOST_WORKERS, NotYet, Phase, Place, Policy, Priority, Rows, Runner, RunnerId,
+    RunnerKind, Scope, Script, SeatNo, Task, TaskId, Traits,
 };
 
 /// How many entries a test makes at most.
@@ -56,6 +60,28 @@ pub enum Call {
     Shutdown,
     /// How much blocks the end of shutdown; it ends where nothing does.
     Done(u32),
+    /// The job, and whether the post is accepted.
+    JobPost(JobId, bool),
+    /// The seat, and the job that it enters as its best source, with its number and item.
+    TakeItem(SeatNo, (JobId, u32, u32)),
+    /// The job that the driver joins, and the number and item that it gets.
+    Join(JobId, Option<(u32, u32)>),
+    /// The seat, the value of its item, and the item with which it goes on.
+    Step(SeatNo, u64, Option<u32>),
+    Cancel(JobId),
+    /// The job, and what its join is told.
+    Joined(JobId, Result<JobReply, NotYet>),
+    /// The job, and how many are inside.
+    Cancelled(JobId, u32),
+}
+
+/// What a test declares of a job.
+#[derive(Clone, Copy, Debug)]
+pub struct Declared {
+    pub priority: Priority,
+    pub behaviour: Behaviour,
+    pub items: u32,
+    pub cap: u32,
 }
 
 /// A runner whose tasks may open blocking scopes.
@@ -82,6 +108,10 @@ pub struct Played {
     blocked: Vec<bool>,
     // The task that each seat runs.
     seats: Vec<Option<TaskId>>,
+    // Which jobs were posted.
+    started: Vec<bool>,
+    // Whether each seat is inside a job.
+    inside: Vec<bool>,
     // How many runners there are.
     runners: u32,
     // The moment of the last tick.
@@ -97,7 +127,9 @@ impl Model for Played {
 
     ghost view = { λ p. p.place };
 
-    ghost invariant = { λ p. IsPlayed p.pool p.place p.posted.items p.blocked.items p.seats.items p.runners p.moment p.phase };
+    ghost invariant = { λ p. IsPlayed p.pool p.place
+        (record { posted = p.posted.items; blocked = p.blocked.items; seats = p.seats.items; started = p.started.items; inside = p.inside.items })
+        p.runners p.moment p.phase };
 }
 
 impl Played {
@@ -109,29 +141,58 @@ impl Played {
         runners: &[Runner],
         tasks: u32,
     ) -> Result<Played, AllocError> {
+        Played::with_jobs(rt, alloc, limits, runners, tasks, &[])
+    }
+
+    /// A pool of these runners for so many tasks and these jobs.
+    pub fn with_jobs(
+        rt: &impl Abort,
+        alloc: Global,
+        limits: Limits,
+        runners: &[Runner],
+        tasks: u32,
+        jobs: &[Declared],
+    ) -> Result<Played, AllocError> {
         assert!(rt; limits.workers <= MOST_WORKERS);
         assert!(rt; runners.len() <= MOST_RUNNERS);
         assert!(rt; tasks as usize <= MOST_TASKS);
+        assert!(rt; jobs.len() <= MOST_JOBS);
         assert!(rt; are_seated(runners, limits.workers));
-        let script = Script {
-            workers: limits.workers,
-            foreground: limits.foreground,
-            foreground_best: limits.foreground_best,
-            background: limits.background,
-            threshold: limits.threshold,
-            runners: Rows::from_vec(Vec::from_slice(alloc, runners)?),
-            queues: Rows::new(alloc),
-            tasks: idle_tasks(alloc, tasks)?,
-            jobs: Rows::new(alloc),
-            actions: Rows::new(alloc),
-        };
+        let script = script_of(alloc, limits, runners, tasks, jobs)?;
+        let pool = Pool::new(alloc, &script)?;
+        let workers = limits.workers as usize;
+        Played::fresh(
+            alloc,
+            pool,
+            runners.len() as u32,
+            tasks as usize,
+            workers,
+            jobs.len(),
+        )
+    }
+
+    // A pool of so many runners, tasks, workers and jobs, of which nothing has happened.
+    fn fresh(
+        alloc: Global,
+        pool: Pool,
+        runners: u32,
+        tasks: usize,
+        workers: usize,
+        jobs: usize,
+    ) -> Result<Played, AllocError>
+        requires stands { (script : Plan) × StandsFor script [] pool × (length script.runners ≡ runners) × (length script.tasks ≡ tasks)
+            × (script.workers ≡ workers) × (length script.jobs ≡ jobs) }
+        requires few { workers ≤ MOST_WORKERS }
+    {
         Ok(Played {
-            pool: Pool::new(alloc, &script)?,
+            pool,
             place: 0,
-            posted: vec![in alloc; false; tasks as usize]?,
-            blocked: vec![in alloc; false; tasks as usize]?,
-            seats: vec![in alloc; None; limits.workers as usize + 1]?,
-            runners: runners.len() as u32,
+            posted: marks(alloc, tasks)?,
+            blocked: marks(alloc, tasks)?,
+            seats: places(alloc, workers + 1)?,
+            started: marks(alloc, jobs)?,
+            inside: marks(alloc, workers + 1)?,
+            runners,
             moment: 0,
             phase: Phase::Running,
         })
@@ -178,6 +239,40 @@ impl Played {
                 };
                 assert_eq!(rt; self.try_done(rt), done, "call {at}");
             }
+            call => self.job_call(rt, at, call),
+        }
+    }
+
+    fn job_call(&mut self, rt: &impl Abort, at: usize, call: Call) {
+        match call {
+            Call::JobPost(job, accepted) => {
+                assert_eq!(rt; self.job_post(rt, job), accepted, "call {at}");
+            }
+            Call::TakeItem(seat, taken) => {
+                assert_eq!(rt; self.take_item(rt, seat), Some(taken), "call {at}");
+            }
+            Call::Join(job, taken) => {
+                assert_eq!(rt; self.job_take(rt, job), taken, "call {at}");
+            }
+            Call::Step(seat, value, next) => {
+                assert_eq!(rt; self.job_step(rt, seat, value), next, "call {at}");
+            }
+            Call::Cancel(job) => self.job_cancel(rt, job),
+            Call::Joined(job, reply) => {
+                assert_eq!(rt; self.joined(rt, job), reply, "call {at}");
+            }
+            Call::Cancelled(job, running) => {
+                let cancelled = if running > 0 {
+                    Err(NotYet {
+                        running,
+                        ready: false,
+                    })
+                } else {
+                    Ok(())
+                };
+                assert_eq!(rt; self.cancelled(rt, job), cancelled, "call {at}");
+            }
+            _ => panic!(rt; "call {at} is of no job"),
         }
     }
 
@@ -205,19 +300,94 @@ impl Played {
 
     /// Takes a task for a seat that runs none: the task, its runner, and what it found in its cell.
     pub fn take(&mut self, rt: &impl Abort, seat: SeatNo) -> Option<(TaskId, RunnerId, u64)> {
+        match self.take_any(rt, seat) {
+            PoolTake::Task { task, runner, cell } => Some((task, runner, cell.value())),
+            PoolTake::Item { job, .. } => panic!(rt; "seat {seat} enters job {job}"),
+            PoolTake::Nothing => None,
+        }
+    }
+
+    /// Takes an item of a job for a seat that runs nothing: the job, its number there, and the item.
+    pub fn take_item(&mut self, rt: &impl Abort, seat: SeatNo) -> Option<(JobId, u32, u32)> {
+        match self.take_any(rt, seat) {
+            PoolTake::Task { task, .. } => panic!(rt; "seat {seat} takes task {task}"),
+            PoolTake::Item { job, id, item } => Some((job, id, item)),
+            PoolTake::Nothing => None,
+        }
+    }
+
+    // Takes for a seat that runs nothing and is inside no job.
+    fn take_any(&mut self, rt: &impl Abort, seat: SeatNo) -> PoolTake {
         assert!(rt; self.place < MOST_ENTRIES);
         assert!(rt; seat >= 1);
         let None = run_at(rt, &self.seats, seat) else {
             panic!(rt; "seat {seat} runs a task")
         };
-        match self.pool.take(seat) {
-            PoolTake::Task { task, runner, cell } => {
+        assert!(rt; !flag(rt, &self.inside, seat));
+        let taken = self.pool.take(seat);
+        match &taken {
+            PoolTake::Task { task, .. } => {
                 self.place += 1;
-                self.seats[seat as usize] = Some(task);
-                Some((task, runner, cell.value()))
+                self.seats[seat as usize] = Some(*task);
             }
-            PoolTake::Nothing => None,
+            PoolTake::Item { .. } => {
+                self.place += 1;
+                self.inside[seat as usize] = true;
+            }
+            PoolTake::Nothing => {}
         }
+        taken
+    }
+
+    /// Posts a job, and says whether it was accepted.
+    pub fn job_post(&mut self, rt: &impl Abort, job: JobId) -> bool {
+        assert!(rt; self.place < MOST_ENTRIES);
+        assert!(rt; !flag(rt, &self.started, job));
+        let accepted = self.pool.job_post(self.place, job);
+        self.place += 1;
+        self.started[job as usize] = true;
+        accepted
+    }
+
+    /// Takes an item of a job for the driver, which joins it.
+    pub fn job_take(&mut self, rt: &impl Abort, job: JobId) -> Option<(u32, u32)> {
+        assert!(rt; self.place < MOST_ENTRIES);
+        assert!(rt; (job as usize) < self.started.len());
+        assert!(rt; !flag(rt, &self.inside, 0));
+        let taken = self.pool.job_take(job)?;
+        self.place += 1;
+        self.inside[0] = true;
+        Some(taken)
+    }
+
+    /// Ends the item of a seat with a value, and says with which one it goes on.
+    pub fn job_step(&mut self, rt: &impl Abort, seat: SeatNo, value: u64) -> Option<u32> {
+        assert!(rt; self.place < MOST_ENTRIES);
+        assert!(rt; flag(rt, &self.inside, seat));
+        let next = self.pool.job_step(seat, value);
+        self.place += 1;
+        self.inside[seat as usize] = next.is_some();
+        next
+    }
+
+    /// Cancels a job.
+    pub fn job_cancel(&mut self, rt: &impl Abort, job: JobId) {
+        assert!(rt; self.place < MOST_ENTRIES);
+        assert!(rt; (job as usize) < self.started.len());
+        self.pool.job_cancel(job);
+        self.place += 1;
+    }
+
+    /// What a join of a job is told.
+    pub fn joined(&self, rt: &impl Abort, job: JobId) -> Result<JobReply, NotYet> {
+        assert!(rt; (job as usize) < self.started.len());
+        self.pool.joined(job)
+    }
+
+    /// Whether nobody is inside a job.
+    pub fn cancelled(&self, rt: &impl Abort, job: JobId) -> Result<(), NotYet> {
+        assert!(rt; (job as usize) < self.started.len());
+        self.pool.cancelled(job)
     }
 
     /// Takes a task for a seat and ends it, with the value that it found.
@@ -311,6 +481,47 @@ fn are_seated(runners: &[Runner], workers: u32) -> bool
     })
 }
 
+// A script of these runners, for so many tasks and these jobs, without steps.
+fn script_of(
+    alloc: Global,
+    limits: Limits,
+    runners: &[Runner],
+    tasks: u32,
+    jobs: &[Declared],
+) -> Result<Script, AllocError>
+    ensures workers { IfOk result (λ script. script.workers ≡ limits.workers) }
+    ensures runners { IfOk result (λ script. script.runners ≡ runners.now) }
+    ensures tasks { IfOk result (λ script. length script.tasks ≡ tasks) }
+    ensures jobs { IfOk result (λ script. length script.jobs ≡ length jobs.now) }
+{
+    Ok(Script {
+        workers: limits.workers,
+        foreground: limits.foreground,
+        foreground_best: limits.foreground_best,
+        background: limits.background,
+        threshold: limits.threshold,
+        runners: Rows::from_vec(Vec::from_slice(alloc, runners)?),
+        queues: Rows::new(alloc),
+        tasks: idle_tasks(alloc, tasks)?,
+        jobs: declared_jobs(alloc, jobs)?,
+        actions: Rows::new(alloc),
+    })
+}
+
+// A table of so many marks, of which none is set.
+fn marks(alloc: Global, count: usize) -> Result<Vec<bool>, AllocError>
+    ensures { IfOk result (λ table. table.items ≡ replicate count false) }
+{
+    Ok(vec![in alloc; false; count]?)
+}
+
+// A table of so many places, of which each is empty.
+fn places(alloc: Global, count: usize) -> Result<Vec<Option<TaskId>>, AllocError>
+    ensures { IfOk result (λ table. table.items ≡ replicate count None) }
+{
+    Ok(vec![in alloc; None; count]?)
+}
+
 // So many tasks without steps.
 fn idle_tasks(alloc: Global, count: u32) -> Result<Rows<Task>, AllocError>
     ensures { IfOk result (λ tasks. length tasks.items ≡ count) }
@@ -322,6 +533,23 @@ fn idle_tasks(alloc: Global, count: u32) -> Result<Rows<Task>, AllocError>
         })?;
     }
     Ok(Rows::from_vec(tasks))
+}
+
+// These jobs, without steps.
+fn declared_jobs(alloc: Global, declared: &[Declared]) -> Result<Rows<Job>, AllocError>
+    ensures { IfOk result (λ jobs. length jobs.items ≡ length declared.now) }
+{
+    let mut jobs = Vec::with_capacity(alloc, declared.len())?;
+    for job in declared {
+        jobs.push(Job {
+            priority: job.priority,
+            behaviour: job.behaviour,
+            items: job.items,
+            cap: job.cap,
+            steps: Rows::new(alloc),
+        })?;
+    }
+    Ok(Rows::from_vec(jobs))
 }
 
 // What a table says of a task.

@@ -15,7 +15,7 @@ returns-clause-whole g c =
 pub returns-clause-bounded : goal.returns-clause-bounded
 returns-clause-bounded g c =
     let script = c.in_ok-shared.ensures.script ∙ c.in_ok-copy.ensures in
-    entries_within_limit c.args.script.now c.close.result.0.history c.requires.plan.sound (subst (λ p. IsLegal p c.close.result.0.history) script c.close.ensures.legal)
+    entries_within_limit c.args.script.now c.close.result.0.history c.requires.plan (subst (λ p. IsLegal p c.close.result.0.history) script c.close.ensures.legal)
 
 pub returns-clause-moments : goal.returns-clause-moments
 returns-clause-moments g c =

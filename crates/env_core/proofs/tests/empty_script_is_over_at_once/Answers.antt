@@ -22,3 +22,9 @@ unreachable-requires-in-Task g c =
     let opened = c.in_ok-env.ensures in
     let taken = c.in-Task.ensures in
     false≢true (sym taken.unfinished ∙ empty_is_finished c.in_ok-env.env (opened.script ∙ c.empty_script-script.ensures))
+
+pub unreachable-requires-in-Item : goal.unreachable-requires-in-Item
+unreachable-requires-in-Item g c =
+    let opened = c.in_ok-env.ensures in
+    let taken = c.in-Item.ensures in
+    false≢true (sym taken.unfinished ∙ empty_is_finished c.in_ok-env.env (opened.script ∙ c.empty_script-script.ensures))

@@ -1,7 +1,6 @@
 use Rattle.std.proofs.Common.{◌≡◌, ◌+◌, [], drop, ap, subst, ◌∙◌}
 use Rattle.std.proofs.lemmas.List.{drop_all}
 use Rattle.std.proofs.lemmas.List.Elements.{All-from_recursion, All-get_or}
-use Rattle.task_base.specs.Plan.{Plan}
 use Rattle.task_base.specs.declared.script.Action.TheVariants as actions
 use Rattle.script_model.specs.Laws.Sound.{IsActionSound}
 use Rattle.env_crew.specs.Driving.{IsAt}
@@ -29,17 +28,13 @@ perform-requires-clause-at g c κs within =
     let i = c.loop-action.action-index in
     (drop (i + 1) items, at_action (g.D.Desk.desk c.loop-action.desk) items i (actions.Post 0 0 0) c.loop-action-test.true c.loop-action.invariant.1)
 
-pub perform-requires-clause-no_jobs : goal.perform-requires-clause-no_jobs
-perform-requires-clause-no_jobs g c κs within =
-    ap (λ (p : Plan). p.jobs) (c.loop-action.invariant.0.script_is ∙ c.requires.script) ∙ c.requires.plan.no_jobs
-
 pub perform-requires-clause-sound : goal.perform-requires-clause-sound
 perform-requires-clause-sound g c κs within =
     let script = c.args.script.now in
     let items = c.as_slice-action-items.result.now in
     let same : items ≡ script.actions = c.as_slice-action-items.ensures ∙ ap (λ p. p.actions) c.script.view_is in
     rw (c.loop-action.invariant.0.script_is, c.requires.script) (All-get_or (IsActionSound script) items c.loop-action.action-index
-    (actions.Post 0 0 0) c.loop-action-test.true (All-from_recursion (IsActionSound script) items (rw same c.requires.plan.sound.actions.each_sound)))
+    (actions.Post 0 0 0) c.loop-action-test.true (All-from_recursion (IsActionSound script) items (rw same c.requires.plan.actions.each_sound)))
 
 pub loop-action-preserved : goal.loop-action-preserved
 loop-action-preserved g c =

@@ -186,3 +186,61 @@ returns-in-Shutdown-clause-done g c =
     (later_trans f h k (later_entered start.holds kinds.Shutdown start.answered) c.finish_shutdown.ensures.later)
     (c.finish_shutdown.ensures.entered ∙ ap (λ own. own ++ d ∷ []) (mine_entered start.holds kinds.Shutdown start.answered)
     ∙ append_assoc (mine f) (e ∷ []) (d ∷ [])) ((λ now. refl, λ now. refl, refl), ((λ now. refl, λ now. refl, refl), tt)) refl c.requires.rests)
+
+-- A job is posted.
+
+pub job_post-requires : goal.job_post-requires
+job_post-requires g c ok =
+    let a = c.in-StartJob in
+    wanted_first (g.D.Desk.desk c.args.desk.now) c.args.action (actions.StartJob a.job) (kinds.JobPost a.job ok) c.requires.driver a.is c.requires.at refl
+    (eqb-same a.job)
+
+pub returns-in-StartJob-clause-done : goal.returns-in-StartJob-clause-done
+returns-in-StartJob-clause-done g c =
+    let a = c.in-StartJob in
+    let made = c.job_post.ensures in
+    rw a.is (done_by_call (actions.StartJob a.job) _ made.holds made.answered.enters (λ now. refl, λ now. refl, refl) refl c.requires.rests)
+
+-- A join.
+
+pub join-requires-clause-at : goal.join-requires-clause-at
+join-requires-clause-at g c κs within = rw c.in-Join.is at c.requires.at
+
+pub join-requires-clause-sound : goal.join-requires-clause-sound
+join-requires-clause-sound g c κs within = rw c.in-Join.is at c.requires.sound
+
+pub returns-in-Join-clause-done : goal.returns-in-Join-clause-done
+returns-in-Join-clause-done g c = rw c.in-Join.is (c.join.ensures.done (g.C.Clock.readings c.args.clock.now))
+
+-- A job is cancelled.
+
+pub job_cancel-requires : goal.job_cancel-requires
+job_cancel-requires g c =
+    let a = c.in-Cancel in
+    wanted_first (g.D.Desk.desk c.args.desk.now) c.args.action (actions.Cancel a.job) (kinds.JobCancel a.job) c.requires.driver a.is c.requires.at refl
+    (rw (eqb-same a.job) refl)
+
+pub finish_cancel-requires-clause-wanted : goal.finish_cancel-requires-clause-wanted
+finish_cancel-requires-clause-wanted g c κs within =
+    let f = g.D.Desk.desk c.args.desk.now in
+    let h = g.D.Desk.desk c.job_cancel.new.self in
+    let hold = c.job_cancel.ensures.holds in
+    let job = c.in-Cancel.job in
+    let e : Entry = record { seat = f.seat; kind = kinds.JobCancel job } in
+    wanted_at h (actions.Cancel job) c.requires.at.0 (e ∷ []) (kinds.Cancelled job) (hold.seat_is ∙ c.requires.driver)
+    (at_more f h (actions.Cancel job ∷ c.requires.at.0) [] (e ∷ []) hold.script_is
+    (mine_entered hold (kinds.JobCancel job) c.job_cancel.ensures.answered) (rw c.in-Cancel.is at c.requires.at.1)) refl (rw (eqb-same job) refl)
+
+pub returns-in-Cancel-clause-done : goal.returns-in-Cancel-clause-done
+returns-in-Cancel-clause-done g c =
+    let f = g.D.Desk.desk c.args.desk.now in
+    let h = g.D.Desk.desk c.job_cancel.new.self in
+    let k = g.D.Desk.desk c.finish_cancel.new.desk in
+    let start = c.job_cancel.ensures in
+    let job = c.in-Cancel.job in
+    let e : Entry = record { seat = f.seat; kind = kinds.JobCancel job } in
+    let d : Entry = record { seat = h.seat; kind = kinds.Cancelled job } in
+    rw c.in-Cancel.is (done_by (actions.Cancel job) _ (e ∷ d ∷ [])
+    (later_trans f h k (later_entered start.holds (kinds.JobCancel job) start.answered) c.finish_cancel.ensures.later)
+    (c.finish_cancel.ensures.entered ∙ ap (λ own. own ++ d ∷ []) (mine_entered start.holds (kinds.JobCancel job) start.answered)
+    ∙ append_assoc (mine f) (e ∷ []) (d ∷ [])) ((λ now. refl, λ now. refl, refl), ((λ now. refl, λ now. refl, refl), tt)) refl c.requires.rests)

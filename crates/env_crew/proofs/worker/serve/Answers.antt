@@ -1,6 +1,9 @@
 use Rattle.std.proofs.Common.{refl}
 use Rattle.env_crew.proofs.Tasks.{has_worked, longer_behind_work, may_end, rests_behind_work, still_free, still_pool, under_way_behind_take}
+use Rattle.env_crew.proofs.Visits.{free_behind_visit, gone_in, has_visited, longer_behind_visit}
 use Rattle.env_crew.proofs.worker.serve.Goals as goal
+
+-- A task.
 
 pub do_steps-work-requires : goal.do_steps-work-requires
 do_steps-work-requires g c =
@@ -14,8 +17,8 @@ end-requires g c =
     (still_pool (g.D.Desk.desk c.args.desk.now) (g.D.Desk.desk c.take.new.self) (g.D.Desk.desk c.do_steps-work.new.desk) took.past
     (g.D.Work.Assigned.work c.in-Task.work) (g.D.Work.Assigned.work c.do_steps-work.result) took.holds took.answered did.acts did.under_way) did.none_left
 
-pub returns : goal.returns
-returns g c =
+pub returns-in-Task : goal.returns-in-Task
+returns-in-Task g c =
     let old = g.D.Desk.desk c.args.desk.now in
     let new = g.D.Desk.desk c.end.new.self in
     let took = c.in-Task.ensures in
@@ -28,4 +31,35 @@ returns g c =
       later = worked.later;
       turned = worked.turned;
       served = longer_behind_work worked;
+    }
+
+-- Items of a job.
+
+pub do_items-requires-clause-held : goal.do_items-requires-clause-held
+do_items-requires-clause-held g c =
+    let took = c.in-Item.ensures in
+    (gone_in _ _ took.past c.in-Item.pass c.requires.free.known c.requires.free.free took.holds took.answered.goes_in).holds.0
+
+pub do_items-requires-clause-declared : goal.do_items-requires-clause-declared
+do_items-requires-clause-declared g c =
+    let took = c.in-Item.ensures in
+    (gone_in _ _ took.past c.in-Item.pass c.requires.free.known c.requires.free.free took.holds took.answered.goes_in).holds.1
+
+pub do_items-requires-clause-idle : goal.do_items-requires-clause-idle
+do_items-requires-clause-idle g c =
+    let took = c.in-Item.ensures in
+    (gone_in _ _ took.past c.in-Item.pass c.requires.free.known c.requires.free.free took.holds took.answered.goes_in).idle
+
+pub returns-in-Item : goal.returns-in-Item
+returns-in-Item g c =
+    let old = g.D.Desk.desk c.args.desk.now in
+    let new = g.D.Desk.desk c.do_items.new.desk in
+    let took = c.in-Item.ensures in
+    let did = c.do_items.ensures in
+    let visit = has_visited old (g.D.Desk.desk c.take.new.self) new took.past c.in-Item.pass took.holds took.answered.goes_in did.done in
+    record {
+      free = still_free old new c.requires.free visit.later.script_is visit.later.seat_is (free_behind_visit visit did.free);
+      later = visit.later;
+      turned = visit.turned;
+      served = longer_behind_visit visit;
     }

@@ -39,7 +39,7 @@ invariant_of-self g c =
     c.self.invariant.legal
     (rw c.self.view_is c.requires) (sym c.split_up-cell.ensures.cell ∙ c.split_up-cell.ensures.left))
     (rw (c.task-task.ensures, c.value-left.ensures, c.split_up-cell.ensures.cell) at c.push_spare.ensures.items) c.push_spare.ensures.spare
-    (pool_at_driver e c.self.invariant refl (rw (runs.0, runs.1, can.is_main) refl))
+    (pool_at_driver e c.self.invariant refl runs.0)
     (subst (λ s. MainStandsFor c.self.inside.script (past ++ (record { seat = s; kind = e.kind }) ∷ []) c.end.new.self) (sym runs.0) stands)
     (bodies_kept c.self.inside.bodies.items _ _ c.self.inside.script past e (λ t. refl) c.self.invariant.drawer)
     (rw c.entered.ensures (driver_ends c.self.inside.script past e c.self.inside.agenda can.seats.now c.self.invariant.plan c.self.invariant.legal

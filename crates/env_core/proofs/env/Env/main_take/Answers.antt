@@ -1,7 +1,7 @@
 use Rattle.env_core.proofs.Bodies.{bodies_at_main_take, bodies_kept}
 use Rattle.env_core.proofs.Driver.{driver_passes, driver_takes}
 use Rattle.env_core.proofs.Entries.{enters_is, has_room, holds_next, pool_at_driver, pool_still}
-use Rattle.env_core.proofs.Taking.{body_at, can_main_take, main_taken_body, none_of_pool, slot_is}
+use Rattle.env_core.proofs.Taking.{body_at, can_main_take, main_taken_body, slot_is}
 use Rattle.env_core.proofs.Wanted.{main_none_allowed, main_take_allowed, wanted_by_script, wants_take}
 use Rattle.env_core.specs.Calls.{IsWantedNext}
 use Rattle.env_core.specs.Views.{EnvView}
@@ -84,7 +84,7 @@ invariant_of-self-in-Some g c =
     c.in-Some.cell taken.front
     (rw c.self.view_is c.requires) taken.chosen taken.task_is taken.queue_is taken.cell_is)
     (rw (← c.value.ensures) c.push_spare-in-Some.ensures.items) c.push_spare-in-Some.ensures.spare
-    (pool_at_driver e c.self.invariant refl (none_of_pool c.args.seat kinds.MainNone c.self.invariant wanted))
+    (pool_at_driver e c.self.invariant refl wanted.driver)
     (subst (λ s. MainStandsFor view.script (view.history ++ (record { seat = s; kind = e.kind }) ∷ []) c.take.new.self) (sym wanted.driver)
     (c.in-Some.ensures.stands view.script view.history can))
     (rw c.take-in-Some.ensures.after (bodies_at_main_take c.self.inside.bodies.items _ _ c.self.inside.script c.self.inside.log.items c.args.seat

@@ -1,7 +1,7 @@
 use Rattle.env_core.proofs.Bodies.{bodies_at_start}
 use Rattle.env_core.proofs.Driver.{driver_at_start}
 use Rattle.env_core.proofs.Queues.{main_script}
-use Rattle.env_core.specs.Built.{IsBuilt}
+use Rattle.script_model.specs.Laws.Sound.{IsSound}
 use Rattle.env_core.specs.Calls.{AreFresh}
 use Rattle.env_core.specs.Holds.{Holds}
 use Rattle.hist_model.proofs.Laws.Legal.{nothing_is_legal}
@@ -20,7 +20,7 @@ use Rattle.env_core.proofs.env.Env.open.Goals as goal
 
 -- everything holds at the start, with a body for each task and room for each entry
 holds_at_start : {X : Type 0} (bodies : List X) (drawer : List (Option X)) (whole rest : X → List Step) (script : Plan) (log : Listed Entry) (pool : Pool)
-    (manager : Manager) → IsBuilt script → AreFresh bodies whole rest script → drawer ≡ map Some bodies → log.items ≡ [] → events_bound_of script ≤ log.spare
+    (manager : Manager) → IsSound script → AreFresh bodies whole rest script → drawer ≡ map Some bodies → log.items ≡ [] → events_bound_of script ≤ log.spare
     → StandsFor script [] pool → MainStandsFor script [] manager → Holds drawer whole rest script log pool manager 0 0
 holds_at_start bodies drawer whole rest script log pool manager plan fresh held empty room stands main = record {
   plan = plan;
@@ -33,7 +33,7 @@ holds_at_start bodies drawer whole rest script log pool manager plan fresh held 
 }
 
 pub events_bound-requires : goal.events_bound-requires
-events_bound-requires g c = sound_is_valid c.args.script c.requires.plan.sound
+events_bound-requires g c = sound_is_valid c.args.script c.requires.plan
 
 pub new-requires-2 : goal.new-requires-2
 new-requires-2 g c = main_script c.args.script c.requires.plan

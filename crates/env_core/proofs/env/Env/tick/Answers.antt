@@ -31,7 +31,7 @@ pub overflow_cast-len : goal.overflow_cast-len
 overflow_cast-len g c = omega (
   arith,
   c.len.ensures.count,
-  entries_within_limit c.self.inside.script c.self.inside.log.items c.self.invariant.plan.sound c.self.invariant.legal,
+  entries_within_limit c.self.inside.script c.self.inside.log.items c.self.invariant.plan c.self.invariant.legal,
 )
 
 -- the main queues' condition

@@ -1,7 +1,7 @@
 use Rattle.env_core.proofs.Bodies.{bodies_kept}
 use Rattle.env_core.proofs.Entries.{driver_at, enters_is, few_of_action, has_room, holds_next, main_still}
 use Rattle.env_core.proofs.Wanted.{done_allowed, done_while_started}
-use Rattle.env_core.specs.Built.{IsBuilt}
+use Rattle.script_model.specs.Laws.Sound.{IsSound}
 use Rattle.env_core.specs.Calls.{IsWantedNext}
 use Rattle.env_core.specs.Views.{EnvView}
 use Rattle.hist_model.specs.Legal.{IsLegal}
@@ -16,7 +16,7 @@ use Rattle.task_traits.specs.declared.phase.Phase.TheVariants as phases
 use Rattle.env_core.proofs.env.Env.try_done.Goals as goal
 
 -- the script wants the end of shutdown only where shutdown has started
-ends : (view : EnvView) (pool : Pool) (seat : ℕ) → IsBuilt view.script → IsLegal view.script view.history → IsWantedNext view seat kinds.Done
+ends : (view : EnvView) (pool : Pool) (seat : ℕ) → IsSound view.script → IsLegal view.script view.history → IsWantedNext view seat kinds.Done
     → StandsFor view.script view.history pool → IsInPhase view.script view.history pool phases.Started
 ends view pool seat plan legal wanted stands = record { stands = stands; phase_is = done_while_started view seat plan legal wanted }
 

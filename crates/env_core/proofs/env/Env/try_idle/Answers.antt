@@ -16,7 +16,7 @@ push_spare-requires g c =
     let view : EnvView = record { script = c.self.inside.script; history = c.self.inside.log.items } in
     let idle : IsIdle view = (c.in_ok-idle.ensures.ok view.script view.history c.self.invariant.stands).0 (refl {a = true}) in
     has_room (record { seat = c.args.seat; kind = kinds.Idle }) c.self.invariant
-    (idle_allowed view c.args.seat c.self.invariant.plan c.self.invariant.legal (rw c.self.view_is c.requires) idle)
+    (idle_allowed view c.args.seat c.self.invariant.legal (rw c.self.view_is c.requires) idle)
 
 pub invariant_of-self : goal.invariant_of-self
 invariant_of-self g c =
@@ -26,7 +26,7 @@ invariant_of-self g c =
     let e : Entry = record { seat = c.args.seat; kind = kinds.Idle } in
     holds_next e c.self.inside.bodies.items c.push_spare.new.self c.self.inside.pool c.self.inside.main c.entered.new.self.place c.entered.new.self.made
     c.self.invariant
-    (idle_allowed view c.args.seat c.self.invariant.plan c.self.invariant.legal wanted idle) c.push_spare.ensures.items c.push_spare.ensures.spare
+    (idle_allowed view c.args.seat c.self.invariant.legal wanted idle) c.push_spare.ensures.items c.push_spare.ensures.spare
     (pool_still e c.self.invariant refl) (main_still e c.self.invariant refl)
     (bodies_kept c.self.inside.bodies.items _ _ c.self.inside.script c.self.inside.log.items e (λ t. refl) c.self.invariant.drawer)
     (driver_at c.args.seat kinds.Idle c.entered.new.self c.self.invariant wanted refl c.entered.ensures)
@@ -36,4 +36,4 @@ returns-clause-enters g c =
     let view : EnvView = record { script = c.self.inside.script; history = c.self.inside.log.items } in
     let idle : IsIdle view = (c.in_ok-idle.ensures.ok view.script view.history c.self.invariant.stands).0 (refl {a = true}) in
     rw (← c.self.view_is) (enters_is c.args.seat kinds.Idle c.push_spare.new.self c.self.invariant
-    (idle_allowed view c.args.seat c.self.invariant.plan c.self.invariant.legal (rw c.self.view_is c.requires) idle) c.push_spare.ensures.items)
+    (idle_allowed view c.args.seat c.self.invariant.legal (rw c.self.view_is c.requires) idle) c.push_spare.ensures.items)

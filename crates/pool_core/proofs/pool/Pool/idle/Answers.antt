@@ -1,8 +1,7 @@
 use Rattle.pool_core.proofs.Idling.{counted_all, counted_more}
 use mir.Val.{bool_byte}
-use Rattle.std.proofs.Common.{◌≡◌, ◌≤◌, Bool, true, false, cond, refl, sym, ap, ◌∙◌, arith}
+use Rattle.std.proofs.Common.{◌≡◌, ◌≤◌, Bool, true, false, cond, refl, sym, ◌∙◌, arith}
 use Rattle.std.proofs.lemmas.Bool.{false≢true}
-use Rattle.std.proofs.lemmas.Option.{slice_get_read}
 use Rattle.pool_core.proofs.pool.Pool.idle.Goals.{then-not_yet-gt0-via-then-not_yet-gt0, then-not_yet-gt0-via-else-not_yet-gt0+then-not_yet}
 use Rattle.pool_core.proofs.pool.Pool.idle.Goals as goal
 
@@ -21,7 +20,7 @@ pub overflow_add-not_yet : goal.overflow_add-not_yet
 overflow_add-not_yet c = omega (
   arith,
   c.loop-seat.invariant.0,
-  byte_small c.is_some.result,
+  byte_small c.is_working.result,
   c.requires.2.seats.all,
   c.requires.2.script_fits.workers_fit,
   c.args.self.now.seats.ok.0,
@@ -29,14 +28,12 @@ overflow_add-not_yet c = omega (
 
 pub loop-seat-preserved : goal.loop-seat-preserved
 loop-seat-preserved c = (
-  omega (arith, c.loop-seat.invariant.0, byte_small c.is_some.result),
+  omega (arith, c.loop-seat.invariant.0, byte_small c.is_working.result),
   (λ script past stands.
       counted_more script past c.args.self.now c.loop-seat.seat c.loop-seat.not_yet.running c.from.result c.loop-seat.not_yet.ready
-      c.is_some-in-loop-seat.result c.index.result.now c.best.result stands (omega arith) (omega (arith, stands.seats.all, c.args.self.now.seats.ok.0))
+      c.is_some.result c.is_working.result c.best.result stands (omega arith) (omega (arith, stands.seats.all, c.args.self.now.seats.ok.0))
       (c.loop-seat.invariant.1 script past stands)
-      (slice_get_read c.args.self.now.seats.items c.len-seat-end.result c.loop-seat.seat c.index.result.now
-      (omega (arith, c.args.self.now.seats.ok.0)) c.loop-seat-test.true c.index.ensures)
-      (c.from.ensures ∙ byte_is c.is_some.result ∙ ap (λ b. cond b 1 0) c.is_some.ensures) c.best.ensures c.is_some-in-loop-seat.ensures),
+      c.is_working.ensures (c.from.ensures ∙ byte_is c.is_working.result) c.best.ensures c.is_some.ensures),
 )
 
 pub returns-then-not_yet-gt0-clause-ok : goal.returns-then-not_yet-gt0-clause-ok

@@ -14,6 +14,8 @@ returns c =
     let postings : c.in_ok-vec.field-0.items ≡ replicate c.len-tasks.result None = c.in_ok-vec.ensures.items_if_clones_equal (λ y k. search rules) in
     let seats : c.in_ok-vec-2.field-0.items ≡ replicate (c.script.inside.workers + 1) None =
     c.in_ok-vec-2.ensures.items_if_clones_equal (λ y k. search rules) in
+    let holders : c.in_ok-vec-3.field-0.items ≡ replicate (c.script.inside.workers + 1) None =
+    c.in_ok-vec-3.ensures.items_if_clones_equal (λ y k. search rules) in
     stands_at_start c.args.script.now _ c.requires c.in_ok-new.ensures (c.in_ok-new-2.ensures ∙ rw (runners, tasks) refl) c.in_ok-new-3.ensures
     c.new-4.ensures (c.in_ok-new-4.ensures ∙ rw tasks refl) c.new-6.ensures (postings ∙ ap (λ n. replicate n None) tasks)
-    (seats ∙ ap (λ n. replicate (n + 1) None) workers) refl
+    (seats ∙ ap (λ n. replicate (n + 1) None) workers) c.in_ok-fresh_jobs.ensures (holders ∙ ap (λ n. replicate (n + 1) None) workers) refl

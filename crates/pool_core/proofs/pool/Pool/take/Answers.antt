@@ -1,4 +1,4 @@
-use Rattle.pool_core.proofs.Takes.{chosen_from, nothing_chosen}
+use Rattle.pool_core.proofs.Takes.{chosen_from, job_chosen_from, nothing_chosen}
 use Rattle.pool_core.specs.Choice.{IsBestOf, IsOffer}
 use Rattle.std.proofs.Common.{arith, subst}
 use Rattle.pool_core.proofs.pool.Pool.take.Goals as goal
@@ -25,3 +25,18 @@ returns-in-Some-Sequence-default-clause-stands c script past can = c.start.ensur
 pub returns-in-None-clause-answer : goal.returns-in-None-clause-answer
 returns-in-None-clause-answer c script past can =
     nothing_chosen script past c.args.self.now c.args.seat can (subst (IsBestOf (IsOffer c.args.self.now c.args.seat)) c.in-None.is c.best.ensures)
+
+pub start_item-requires : goal.start_item-requires
+start_item-requires c = (
+  c.requires.0,
+  c.requires.1,
+  job_chosen_from c.requires.2 c.best.ensures c.in-Some-Job-default.is c.in-Some-Job-default.field-0-0-is,
+)
+
+pub returns-in-Some-Job-default-clause-answer : goal.returns-in-Some-Job-default-clause-answer
+returns-in-Some-Job-default-clause-answer c script past can = c.start_item.ensures.answer script past
+    (job_chosen_from can c.best.ensures c.in-Some-Job-default.is c.in-Some-Job-default.field-0-0-is)
+
+pub returns-in-Some-Job-default-clause-stands : goal.returns-in-Some-Job-default-clause-stands
+returns-in-Some-Job-default-clause-stands c script past can = c.start_item.ensures.stands script past
+    (job_chosen_from can c.best.ensures c.in-Some-Job-default.is c.in-Some-Job-default.field-0-0-is)

@@ -1,0 +1,9 @@
+use Rattle.env_crew.specs.Driving.{AllFree, SameDesks}
+use Rattle.env_crew.proofs.Joins.{Joining}
+use Rattle.env_crew.proofs.waits.join.Given as goal
+
+abbrev pub invariant-loop : goal.invariant-loop
+invariant-loop g l =
+    (goal.iterator-loop g).can_next l.iterator' × (goal.iterator-loop g).is_finite l.iterator'
+    × AllFree g.D.Desk.desk l.spare.items × SameDesks g.D.Desk.desk l.fn.spare.items l.spare.items
+    × Joining (g.D.Desk.desk l.fn.desk) (g.D.Desk.desk l.desk)
