@@ -1,7 +1,6 @@
 -- The exit status and the note of each fault.
-use Rattle.std.specs.Prelude.{ℕ, ◌==◌, if◌then◌else◌, List, [], ◌∷◌, ◌++◌, codes, decimal, slice_index_or}
+use Rattle.std.specs.Prelude.{ℕ, List, [], ◌∷◌, ◌++◌, codes, decimal, slice_index_or}
 use Rattle.task_base.specs.declared.fault.Fault.{Fault}
-use Rattle.task_base.specs.declared.fault.TheConstants.{NOT_BUILT}
 use Rattle.task_base.specs.declared.fault.Fault.TheVariants.{NotLegal, BadWords, BadScript, ReadFault, WriteFault, NoMemory, TooLarge}
 
 -- the status that a fault ends a run with (this project's own rule)
@@ -42,7 +41,7 @@ bad_script_note line reason = codes "bad script: line " ++ decimal line ++ codes
 abbrev pub note_of : Fault → List ℕ
 note_of (NotLegal line) = codes "not legal: line " ++ decimal line
 note_of BadWords = codes "bad words"
-note_of (BadScript line reason) = if reason == NOT_BUILT then codes "bad script: not built" else bad_script_note line reason
+note_of (BadScript line reason) = bad_script_note line reason
 note_of ReadFault = codes "read fault"
 note_of WriteFault = codes "write fault"
 note_of (NoMemory error) = codes "no memory"

@@ -13,8 +13,7 @@ pub enum Fault {
     NotLegal { line: u32 },
     /// The words of the command line are none of the accepted ones.
     BadWords,
-    /// The input is no script. `line` counts from 1, and `reason` is the number of the rule that it breaks. A script
-    /// that this program does not run yet has line 0 and the reason `NOT_BUILT`.
+    /// The input is no script. `line` counts from 1, and `reason` is the number of the rule that it breaks.
     BadScript { line: u32, reason: u8 },
     /// Reading failed.
     ReadFault,
@@ -25,9 +24,6 @@ pub enum Fault {
     /// The input is longer than the limit.
     TooLarge,
 }
-
-/// The reason of a script that breaks no rule, and that this program does not run yet (this project's own).
-pub const NOT_BUILT: u8 = 15;
 
 impl fmt::Display for Fault {
     fn fmt<W: fmt::Write>(&self, f: &mut fmt::Formatter<W>) -> fmt::Result {
@@ -66,10 +62,6 @@ impl Fault {
                 add_decimal(&mut note, u64::from(line));
             }
             Fault::BadWords => add(&mut note, b"bad words"),
-            Fault::BadScript {
-                reason: NOT_BUILT,
-                ..
-            } => add(&mut note, b"bad script: not built"),
             Fault::BadScript { line, reason } => add_rule(&mut note, line, reason),
             Fault::ReadFault => add(&mut note, b"read fault"),
             Fault::WriteFault => add(&mut note, b"write fault"),

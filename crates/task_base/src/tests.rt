@@ -146,14 +146,6 @@ fn faults(rt: HostRuntime) -> Result<(), Fail> {
             3,
             "bad script: line 4: reason 9 DeclarationLate",
         ),
-        (
-            Fault::BadScript {
-                line: 0,
-                reason: NOT_BUILT,
-            },
-            3,
-            "bad script: not built",
-        ),
         (Fault::ReadFault, 4, "read fault"),
         (Fault::WriteFault, 5, "write fault"),
         (Fault::NoMemory(AllocError), 6, "no memory"),
