@@ -1,7 +1,8 @@
-pub mod Steps
+pub mod Numbers
 pub mod Parses
-pub mod Fresh
+pub mod Passed
 pub mod Seats
+pub mod Verdicts
 pub mod Outcomes
 pub mod Causes
 pub mod Worked

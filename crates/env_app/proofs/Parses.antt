@@ -1,6 +1,6 @@
 -- What clap's answers say of the command that the words are.
 use Rattle.std.proofs.Common.{◌≡◌, ℕ, true, List, [], ◌∷◌, codes, refl, sym, ap, ap₂, subst, ◌∙◌, inl, inr, Option, None}
-use Rattle.clap.specs.Walk.{Row, first_of, rows_of}
+use Rattle.clap.specs.Walk.{Row, rows_of}
 use Rattle.clap.specs.Simple.{App, HasMatchesOf, is_simple, matches_of}
 use Rattle.clap.specs.Kinds.{Kinds, HasKind, IsAmong}
 use Rattle.clap.specs.Faults.{fault_of, is_simple_and_free}
@@ -12,7 +12,7 @@ use Rattle.clap.specs.declared.error.kind.ErrorKind.TheVariants.{OutOfMemory}
 use Rattle.clap.specs.declared.parser.matches.ArgMatches.{ArgMatches}
 use Rattle.clap.proofs.OnLiterals.{clap_on_literals}
 use Rattle.clap.proofs.WalkLemmas.{first_value-rows}
-use Rattle.env_app.specs.CommandLine.{taskenv, command_with, command_unless, command_of}
+use Rattle.env_app.specs.CommandLine.{taskenv, command_by, command_unless, command_of}
 
 -- the command is one of those of which clap says exactly what it makes of words
 simple : is_simple taskenv ≡ true
@@ -39,17 +39,20 @@ refused app words e is fails found =
     ]
 
 -- words that it takes are the command that its matches make
-pub taken : (app : App) (words : List (List ℕ)) (m : ArgMatches) (mode step json : Option (List ℕ)) → app ≡ taskenv
+pub taken : (app : App) (words : List (List ℕ)) (m : ArgMatches) (mode step json number size : Option (List ℕ)) → app ≡ taskenv
     → (is_simple_and_free app ≡ true → fault_of app words ≡ []) → HasMatchesOf app words m
     → mode ≡ first_value (found_of m) (codes "MODE") → step ≡ first_value (found_of m) (codes "step") → json ≡ first_value (found_of m) (codes "json")
-    → command_with mode step json ≡ command_of words
+    → number ≡ first_value (found_of m) (codes "number") → size ≡ first_value (found_of m) (codes "size")
+    → command_by mode step json number size ≡ command_of words
 unfolding command_of
-taken app words m mode step json is free matches mode_is step_is json_is =
+taken app words m mode step json number size is free matches mode_is step_is json_is number_is size_is =
     let rows : rows_of (found_of m) ≡ matches_of taskenv words = (matches (ap is_simple is ∙ simple)).0 ∙ ap (λ (a : App). matches_of a words) is in
     let none : fault_of taskenv words ≡ [] = ap (λ (a : App). fault_of a words) (sym is) ∙ free (ap is_simple_and_free is ∙ simple_and_free) in
-    let mode_in : mode ≡ first_of (codes "MODE") (rows_of (found_of m)) = mode_is ∙ first_value-rows (found_of m) (codes "MODE") in
-    let step_in : step ≡ first_of (codes "step") (rows_of (found_of m)) = step_is ∙ first_value-rows (found_of m) (codes "step") in
-    let json_in : json ≡ first_of (codes "json") (rows_of (found_of m)) = json_is ∙ first_value-rows (found_of m) (codes "json") in
-    ap (λ (o : Option (List ℕ)). command_with o step json) mode_in
-    ∙ ap₂ (λ (s j : Option (List ℕ)). command_with (first_of (codes "MODE") (rows_of (found_of m))) s j) step_in json_in
-    ∙ ap₂ command_unless (sym none) rows
+    let in_rows = λ (name : List ℕ). first_value-rows (found_of m) name in
+    rw (
+      mode_is ∙ in_rows (codes "MODE"),
+      step_is ∙ in_rows (codes "step"),
+      json_is ∙ in_rows (codes "json"),
+      number_is ∙ in_rows (codes "number"),
+      size_is ∙ in_rows (codes "size"),
+    ) (ap₂ command_unless (sym none) rows)

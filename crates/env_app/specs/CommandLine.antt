@@ -1,5 +1,5 @@
 -- What the words of a command line ask for.
-use Rattle.std.specs.Prelude.{ℕ, ◌&&◌, nat_le, Bool, true, false, if◌then◌else◌, List, [], ◌∷◌, codes, Option, Some, None, option_map}
+use Rattle.std.specs.Prelude.{ℕ, ◌-◌, ◌^◌, ◌≤◌, ◌&&◌, nat_le, Bool, true, false, if◌then◌else◌, List, [], ◌∷◌, codes, Option, Some, None, option_map}
 use Rattle.std.specs.Fmt.{decimal}
 use Rattle.task_base.specs.declared.limits.TheConstants.{MOST_MICROSECONDS}
 use Rattle.script_model.specs.Words.{is_word, number_of}
@@ -9,8 +9,10 @@ use Rattle.clap.specs.Kinds.{Kinds}
 use Rattle.clap.specs.Faults.{fault_of}
 use Rattle.clap.specs.declared.builder.action.ArgAction.TheVariants.{SetTrue}
 use Rattle.env_app.specs.declared.words.Command.{Command}
+use Rattle.env_app.specs.declared.words.Command.TheVariants.{Run, Check, Generate, Bench}
 use Rattle.env_app.specs.declared.words.Mode.{Mode}
-use Rattle.env_app.specs.declared.words.Mode.TheVariants.{Run}
+use Rattle.env_app.specs.declared.words.Mode.TheVariants as modes
+use Rattle.env_app.specs.declared.words.TheConstants.{USUAL_SIZE, MOST_SIZE}
 
 infixl 10 ◌>>=◌
 -- the second, made of the value of the first, if there is one
@@ -24,49 +26,80 @@ None >>= f = None
 abbrev pub mode_argument : Rule
 mode_argument = record (new_rule (codes "MODE")) { required = true }
 
--- `--step N` (this project's own)
-abbrev pub step_argument : Rule
-step_argument = record (new_rule (codes "step")) { long = Some (codes "step") }
+-- an option of this name, with a value (this project's own)
+abbrev pub value_argument : List ℕ → Rule
+value_argument name = record (new_rule name) { long = Some name }
 
 -- `--json` (this project's own)
 abbrev pub json_argument : Rule
 json_argument = record (new_rule (codes "json")) { long = Some (codes "json"); action = Some SetTrue }
 
--- `taskenv MODE [--step N] [--json]` (this project's own)
+-- `taskenv MODE [--step N] [--json] [--number N] [--size N]` (this project's own)
 abbrev pub taskenv : App
-taskenv = with_rule (with_rule (with_rule (new_app (codes "taskenv")) mode_argument) step_argument) json_argument
+taskenv =
+    with_rule (with_rule (with_rule (with_rule (with_rule (new_app (codes "taskenv")) mode_argument) (value_argument (codes "step"))) json_argument)
+    (value_argument (codes "number"))) (value_argument (codes "size"))
 
 -- ---- the values of its arguments
 
 -- the mode that a word names (this project's own)
 abbrev pub mode_named : List ℕ → Option Mode
-mode_named word = if is_word word (codes "run") then Some Run else None
+mode_named word =
+    if is_word word (codes "run") then Some modes.Run
+    else (if is_word word (codes "check") then Some modes.Check
+    else (if is_word word (codes "gen") then Some modes.Generate
+    else (if is_word word (codes "bench") then Some modes.Bench
+    else None)))
 
--- the microseconds of a step: from 1 to 10^12, in decimal digits without a sign and without zeros in front (this
--- project's own rule)
-unfoldable pub step_named : List ℕ → Option ℕ
-step_named word = number_of word >>= λ n. if is_word (decimal n) word && nat_le 1 n && nat_le n MOST_MICROSECONDS then Some n else None
+-- the number from low to high that a word writes, in decimal digits without a sign and without zeros in front (this project's
+-- own rule)
+unfoldable pub number_named : ℕ → ℕ → List ℕ → Option ℕ
+number_named low high word = number_of word >>= λ n. if is_word (decimal n) word && nat_le low n && nat_le n high then Some n else None
 
--- the step that may be left out: `None` where it is there and no step
+-- the microseconds of a step: from 1 to 10^12. It may be left out, and is `None` where it is there and no step
 abbrev pub step_given : Option (List ℕ) → Option (Option ℕ)
 step_given None = Some None
-step_given (Some word) = option_map (λ n. Some n) (step_named word)
+step_given (Some word) = option_map (λ n. Some n) (number_named 1 MOST_MICROSECONDS word)
+
+-- the number that a script is made from: 0 where it is left out
+abbrev pub seed_given : Option (List ℕ) → Option ℕ
+seed_given None = Some 0
+seed_given (Some word) = number_named 0 (2 ^ 64 - 1) word
+
+-- how many tasks it has: the usual number where that is left out
+abbrev pub size_given : Option (List ℕ) → Option ℕ
+size_given None = Some USUAL_SIZE
+size_given (Some word) = number_named 1 MOST_SIZE word
 
 -- the flag is there: clap gives it the text `true` then, and `false` where it is not
 abbrev pub is_set : Option (List ℕ) → Bool
 is_set None = false
 is_set (Some text) = is_word text (codes "true")
 
+-- a command for a script that is made from a number, by the words of the number and the size
+abbrev pub made_with : (ℕ → ℕ → Command) → Option (List ℕ) → Option (List ℕ) → Option Command
+made_with command number size = do
+  n ← seed_given number
+  s ← size_given size
+  Some (command n s)
+
+-- the command of a mode with the words of its options: `run` takes `--step` and `--json`, `check` takes none, and `gen` and
+-- `bench` take `--number` and `--size`; an option that the mode does not take makes it none (this project's own rule)
+abbrev pub command_with : Mode → Option (List ℕ) → Bool → Option (List ℕ) → Option (List ℕ) → Option Command
+command_with modes.Run step json None None = option_map (λ s. Run s json) (step_given step)
+command_with modes.Check None false None None = Some Check
+command_with modes.Generate None false number size = made_with Generate number size
+command_with modes.Bench None false number size = made_with Bench number size
+command_with mode step json number size = None
+
 -- the command that these values of its arguments make, if each is one
-abbrev pub command_with : Option (List ℕ) → Option (List ℕ) → Option (List ℕ) → Option Command
-command_with mode step json = do
-  m ← mode >>= mode_named
-  s ← step_given step
-  Some (record { mode = m; step = s; json = is_set json })
+abbrev pub command_by : Option (List ℕ) → Option (List ℕ) → Option (List ℕ) → Option (List ℕ) → Option (List ℕ) → Option Command
+command_by mode step json number size = mode >>= mode_named >>= λ m. command_with m step (is_set json) number size
 
 -- the command that these matches of clap's command make, if their values are right
 abbrev pub command_matched : List Row → Option Command
-command_matched rows = command_with (first_of (codes "MODE") rows) (first_of (codes "step") rows) (first_of (codes "json") rows)
+command_matched rows = command_by (first_of (codes "MODE") rows) (first_of (codes "step") rows) (first_of (codes "json") rows) (first_of (codes "number") rows)
+    (first_of (codes "size") rows)
 
 -- the same, unless clap finds a fault
 abbrev pub command_unless : Kinds → List Row → Option Command
@@ -77,12 +110,26 @@ command_unless (kind ∷ kinds) rows = None
 unfoldable pub command_of : List (List ℕ) → Option Command
 command_of words = command_unless (fault_of taskenv words) (matches_of taskenv words)
 
--- the command asks for the JSON form
-abbrev pub asks_json : Option Command → Bool
-asks_json None = false
-asks_json (Some command) = command.json
+-- a script that is to be made has from 1 to 8,192 tasks
+abbrev pub IsSized : Command → Type 0
+IsSized (Run step json) = Unit {0}
+IsSized Check = Unit {0}
+IsSized (Generate number size) = (1 ≤ size) × (size ≤ MOST_SIZE)
+IsSized (Bench number size) = (1 ≤ size) × (size ≤ MOST_SIZE)
 
--- the command asks for readings this far apart
-abbrev pub asks_step : Option Command → Option ℕ
-asks_step None = None
-asks_step (Some command) = command.step
+-- the command reads the source: a script, and in `check` a log behind it
+abbrev pub TakesInput : Option Command → Type 0
+TakesInput None = ⊥
+TakesInput (Some (Run step json)) = Unit {0}
+TakesInput (Some Check) = Unit {0}
+TakesInput (Some (Generate number size)) = ⊥
+TakesInput (Some (Bench number size)) = ⊥
+
+-- the command reads the clock
+abbrev pub ReadsClock : Option Command → Type 0
+ReadsClock None = ⊥
+ReadsClock (Some (Run None json)) = Unit {0}
+ReadsClock (Some (Run (Some step) json)) = ⊥
+ReadsClock (Some Check) = ⊥
+ReadsClock (Some (Generate number size)) = ⊥
+ReadsClock (Some (Bench number size)) = ⊥

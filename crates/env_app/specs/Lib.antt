@@ -1,3 +1,6 @@
 pub mod CommandLine
 pub mod Crew
+pub mod Input
+pub mod Judged
+pub mod Totals
 pub mod Outcome

@@ -1,15 +1,21 @@
-//! The program behind the command line: from words and bytes to the log of a run.
+//! The program behind the command line: from words and bytes to the log of a run, the verdict on a log, a script that is
+//! made from a number, or what such a script's run adds up to.
 //!
-//! A run is seen by its words, its status, and what the outside tells before and after it: the bytes that the source
+//! A call is seen by its words, its status, and what the outside tells before and after it: the bytes that the source
 //! has left, the bytes that the sink and the notes hold, and the count of failures of each.
 #![tactic(auto)]
 
+mod bench;
 mod bodies;
+mod check;
 mod crew;
+mod generate;
 mod input;
 mod load;
 mod notes;
+mod parts;
 mod run;
+mod runs;
 mod words;
 mod workers;
 mod written;

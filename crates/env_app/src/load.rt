@@ -1,5 +1,8 @@
-ghost use Rattle.std.specs.Prelude.{◌≡◌, ◌≢◌, Err};
-ghost use Rattle.env_app.specs.Outcome.{ends, LoadsScript, TookMore, TookWithin};
+ghost use Rattle.std.specs.Prelude.{◌≡◌, ◌≢◌, ◌≤◌, Err, IfOk, IfErr, length};
+ghost use Rattle.task_base.specs.declared.limits.TheConstants.{MOST_BYTES};
+ghost use Rattle.script_model.specs.Grammar.{Reads};
+ghost use Rattle.script_model.specs.Laws.Sound.{IsSound};
+ghost use Rattle.env_app.specs.Outcome.{ends, IsNoScript, IsNotTaken, TookAll, TookMore, TookWithin};
 
 use crate::input::{InputFault, read_input};
 use env_io::Source;
@@ -7,20 +10,30 @@ use std::alloc::Global;
 use task_base::{Fault, Script};
 use task_script::{ScriptFault, read_script};
 
-/// Reads a script from a source, to its end.
-pub fn load<S: Source>(alloc: Global, source: &mut S) -> Result<Script, Fault>
-    ensures outcome { LoadsScript (ends (S.left source.old) (S.left source.new) (S.faults source.old) (S.faults source.new)) result }
+/// Takes the bytes of a source, to its end.
+pub fn take_all<S: Source>(alloc: Global, source: &mut S) -> Result<Vec<u8>, Fault>
+    ensures whole { IfOk result (λ bytes. TookAll (ends (S.left source.old) (S.left source.new) (S.faults source.old) (S.faults source.new)) bytes.items) }
+    ensures failed { IfErr result (IsNotTaken (ends (S.left source.old) (S.left source.new) (S.faults source.old) (S.faults source.new))) }
     ensures took_more { result ≡ Err Fault.TooLarge → TookMore (ends (S.left source.old) (S.left source.new) (S.faults source.old) (S.faults source.new)) }
     ensures took_within { result ≢ Err Fault.TooLarge → TookWithin (ends (S.left source.old) (S.left source.new) (S.faults source.old) (S.faults source.new)) }
     ensures steady { result ≢ Err Fault.ReadFault → S.faults source.new ≡ S.faults source.old }
 {
-    let bytes = match read_input(alloc, source) {
-        Ok(bytes) => bytes,
-        Err(InputFault::Read) => return Err(Fault::ReadFault),
-        Err(InputFault::Memory(error)) => return Err(Fault::NoMemory(error)),
-        Err(InputFault::TooLarge) => return Err(Fault::TooLarge),
-    };
-    match read_script(alloc, &bytes) {
+    match read_input(alloc, source) {
+        Ok(bytes) => Ok(bytes),
+        Err(InputFault::Read) => Err(Fault::ReadFault),
+        Err(InputFault::Memory(error)) => Err(Fault::NoMemory(error)),
+        Err(InputFault::TooLarge) => Err(Fault::TooLarge),
+    }
+}
+
+/// Reads a script.
+pub fn script_of(alloc: Global, bytes: &[u8]) -> Result<Script, Fault>
+    requires { length bytes.now ≤ MOST_BYTES }
+    ensures read { IfOk result (λ script. Reads bytes.now script) }
+    ensures sound { IfOk result IsSound }
+    ensures bad { IfErr result (IsNoScript bytes.now) }
+{
+    match read_script(alloc, bytes) {
         Ok(script) => Ok(script),
         Err(ScriptFault::Bad { line, reason }) => Err(Fault::BadScript { line, reason }),
         Err(ScriptFault::Memory(error)) => Err(Fault::NoMemory(error)),

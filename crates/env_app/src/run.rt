@@ -1,48 +1,56 @@
-ghost use Rattle.std.specs.Prelude.{◌≡◌, ◌≢◌, ◌≤◌, ◌⊎◌, ℕ, List, length, map, string_bytes, alloc_error, Some, None, Err, IfOk, IfErr};
-ghost use Rattle.task_base.specs.declared.limits.TheConstants.{MOST_EVENTS};
-ghost use Rattle.hist_model.specs.Legal.{IsLegal};
-ghost use Rattle.hist_model.specs.Script.{IsWhole};
-ghost use Rattle.script_model.specs.Laws.Sound.{IsSound};
+ghost use Rattle.std.specs.Prelude.{◌≡◌, ◌≢◌, ◌⊎◌, ℕ, List, Option, Bool, map, string_bytes, alloc_error, Some, None, Err, IfErr};
+ghost use Rattle.task_base.specs.Fault.{status_of};
+ghost use Rattle.script_model.specs.Canonical.{canonical};
+ghost use Rattle.task_script.specs.Generated.{generated};
+ghost use Rattle.run_summary.specs.Summary.{generated_totals};
 ghost use Rattle.env_io.specs.Bytes.{Gains, Rose};
-ghost use Rattle.env_app.specs.CommandLine.{asks_json, asks_step, command_of};
-ghost use Rattle.env_crew.specs.Driving.{HasMomentsOf};
-ghost use Rattle.env_app.specs.Outcome.{ends, HasRun, WroteAll, WroteFront, TookMore, TookWithin, RunsTo, HasCause, IsFaultAt, note_of_status, readings_of};
+ghost use Rattle.env_app.specs.declared.words.Command.TheVariants.{Run, Check, Generate, Bench};
+ghost use Rattle.env_app.specs.CommandLine.{IsSized, ReadsClock, TakesInput, command_of};
+ghost use Rattle.env_app.specs.Judged.{HasChecked, HasLegalLog};
+ghost use Rattle.env_app.specs.Totals.{summary_text};
+ghost use Rattle.env_app.specs.Outcome.{ends, HasRun, WroteAll, WroteFront, IsWritten, TookMore, TookWithin, RunsTo, HasCause, IsFaultAt, note_of_status, readings_of};
 
-use crate::bodies::bodies_of;
-use crate::crew::run_crew;
-use crate::load::load;
+use crate::bench::run_generated;
+use crate::check::judge;
+use crate::generate::write_generated;
 use crate::notes::tell;
-use crate::words::command_of;
-use crate::written::write;
-use env_io::{Clock, Gate, Sink, Source, StepClock};
-use std::alloc::{AllocError, Global};
+use crate::runs::run_script;
+use crate::words::{Command, command_of};
+use env_io::{Clock, Gate, Sink, Source};
+use std::alloc::Global;
 use std::sync::Wait;
 use std::thread::Threads;
-use task_base::{Entry, Fault, Rows, Script};
+use task_base::Fault;
 
-/// The log of a script's run, by readings a step apart where there is one, and else by the clock. The error is want of
-/// memory, and comes before the first entry.
-fn log_of_run<R: Threads + Wait + Sync, C: Clock, G: Gate>(
+/// Does what a command asks for.
+fn execute<R: Threads + Wait + Sync, S: Source, K: Sink, C: Clock, G: Gate>(
     rt: &R,
     alloc: Global,
-    script: &Script,
-    step: Option<u64>,
+    command: Command,
+    source: &mut S,
+    sink: &mut K,
     clock: &mut C,
     gate: &G,
-) -> Result<Rows<Entry>, AllocError>
-    requires { IsSound script.now }
-    ensures legal { IfOk result (λ log. IsLegal script.now log.items) }
-    ensures whole { IfOk result (λ log. IsWhole script.now log.items) }
-    ensures bounded { IfOk result (λ log. length log.items ≤ MOST_EVENTS) }
-    ensures moments { IfOk result (λ log. HasMomentsOf (readings_of step (C.readings clock.old)) log.items) }
-    ensures unread { step ≢ None → clock.new ≡ clock.old }
+) -> Result<(), Fault>
+    requires { IsSized command }
+    ensures outcome { RunsTo (Some command) (C.readings clock.old)
+        (ends (S.left source.old) (S.left source.new) (S.faults source.old) (S.faults source.new))
+        (ends (K.holds sink.old) (K.holds sink.new) (K.faults sink.old) (K.faults sink.new)) result }
+    ensures sink_kept { IfErr result (λ fault. status_of fault ≢ 1 → status_of fault ≢ 5 → sink.new ≡ sink.old) }
+    ensures took_more { result ≡ Err Fault.TooLarge → TookMore (ends (S.left source.old) (S.left source.new) (S.faults source.old) (S.faults source.new)) }
+    ensures took_within { result ≢ Err Fault.TooLarge → TookWithin (ends (S.left source.old) (S.left source.new) (S.faults source.old) (S.faults source.new)) }
+    ensures source_kept { ¬ TakesInput (Some command) → source.new ≡ source.old }
+    ensures source_steady { result ≢ Err Fault.ReadFault → S.faults source.new ≡ S.faults source.old }
+    ensures sink_steady { result ≢ Err Fault.WriteFault → K.faults sink.new ≡ K.faults sink.old }
+    ensures clock_unread { ¬ ReadsClock (Some command) → clock.new ≡ clock.old }
+    ensures clock_kept { IfErr result (λ fault. status_of fault ≢ 5 → status_of fault ≢ 6 → clock.new ≡ clock.old) }
 {
-    let bodies = bodies_of(alloc, script)?;
-    let env = match step {
-        Some(step) => run_crew(rt, alloc, script, bodies, &mut StepClock::new(step), gate)?,
-        None => run_crew(rt, alloc, script, bodies, clock, gate)?,
-    };
-    Ok(env.into_log())
+    match command {
+        Command::Run { step, json } => run_script(rt, alloc, step, json, source, sink, clock, gate),
+        Command::Check => judge(alloc, source, sink),
+        Command::Generate { number, size } => write_generated(alloc, number, size, sink),
+        Command::Bench { number, size } => run_generated(rt, alloc, number, size, sink, gate),
+    }
 }
 
 /// Does what the words ask for.
@@ -58,39 +66,73 @@ fn run<R: Threads + Wait + Sync, S: Source, K: Sink, C: Clock, G: Gate>(
     ensures outcome { RunsTo (command_of (map string_bytes words.now)) (C.readings clock.old)
         (ends (S.left source.old) (S.left source.new) (S.faults source.old) (S.faults source.new))
         (ends (K.holds sink.old) (K.holds sink.new) (K.faults sink.old) (K.faults sink.new)) result }
-    ensures sink_kept { IfErr result (λ fault. fault ≢ Fault.WriteFault → sink.new ≡ sink.old) }
+    ensures sink_kept { IfErr result (λ fault. status_of fault ≢ 1 → status_of fault ≢ 5 → sink.new ≡ sink.old) }
     ensures took_more { result ≡ Err Fault.TooLarge → TookMore (ends (S.left source.old) (S.left source.new) (S.faults source.old) (S.faults source.new)) }
     ensures took_within { result ≢ Err Fault.TooLarge → TookWithin (ends (S.left source.old) (S.left source.new) (S.faults source.old) (S.faults source.new)) }
-    ensures source_kept { command_of (map string_bytes words.now) ≡ None → source.new ≡ source.old }
+    ensures source_kept { ¬ TakesInput (command_of (map string_bytes words.now)) → source.new ≡ source.old }
     ensures source_steady { result ≢ Err Fault.ReadFault → S.faults source.new ≡ S.faults source.old }
     ensures sink_steady { result ≢ Err Fault.WriteFault → K.faults sink.new ≡ K.faults sink.old }
-    ensures clock_unread { asks_step (command_of (map string_bytes words.now)) ≢ None → clock.new ≡ clock.old }
-    ensures clock_kept { IfErr result (λ fault. fault ≢ Fault.WriteFault → fault ≢ Fault.NoMemory alloc_error → clock.new ≡ clock.old) }
+    ensures clock_unread { ¬ ReadsClock (command_of (map string_bytes words.now)) → clock.new ≡ clock.old }
+    ensures clock_kept { IfErr result (λ fault. status_of fault ≢ 5 → status_of fault ≢ 6 → clock.new ≡ clock.old) }
 {
-    let command = match command_of(alloc, words) {
-        Ok(Some(command)) => command,
-        Ok(None) => return Err(Fault::BadWords),
-        Err(error) => return Err(Fault::NoMemory(error)),
-    };
-    let script = load(alloc, source)?;
-    let log = match log_of_run(rt, alloc, &script, command.step, clock, gate) {
-        Ok(log) => log,
-        Err(error) => return Err(Fault::NoMemory(error)),
-    };
-    write(alloc, sink, &log, command.json)
+    match command_of(alloc, words) {
+        Ok(Some(command)) => execute(rt, alloc, command, source, sink, clock, gate),
+        Ok(None) => Err(Fault::BadWords),
+        Err(error) => Err(Fault::NoMemory(error)),
+    }
+}
+
+/// Does what the words ask for, tells its fault, and answers the exit status.
+fn run_and_tell<R: Threads + Wait + Sync, S: Source, K: Sink, N: Sink, C: Clock, G: Gate>(
+    rt: &R,
+    alloc: Global,
+    words: &[String],
+    source: &mut S,
+    sink: &mut K,
+    notes: &mut N,
+    clock: &mut C,
+    gate: &G,
+) -> u8
+    ensures cause { HasCause (command_of (map string_bytes words.now)) (C.readings clock.old)
+        (ends (S.left source.old) (S.left source.new) (S.faults source.old) (S.faults source.new))
+        (ends (K.holds sink.old) (K.holds sink.new) (K.faults sink.old) (K.faults sink.new)) result }
+    ensures nothing_written { result ≢ 0 → result ≢ 1 → result ≢ 5 → sink.new ≡ sink.old }
+    ensures nothing_taken { ¬ TakesInput (command_of (map string_bytes words.now)) → source.new ≡ source.old }
+    ensures clock_unread { ¬ ReadsClock (command_of (map string_bytes words.now)) → clock.new ≡ clock.old }
+    ensures clock_kept { result ≢ 0 → result ≢ 5 → result ≢ 6 → clock.new ≡ clock.old }
+    ensures quiet { (result ≡ 0) ⊎ (result ≡ 1) → notes.new ≡ notes.old }
+    ensures note { (at : ℕ × ℕ) × IsFaultAt (command_of (map string_bytes words.now)) (S.left source.old) result at
+        × (Rose (N.faults notes.old) (N.faults notes.new) ⊎ Gains (N.holds notes.old) (note_of_status at result) (N.holds notes.new)) }
+    ensures note_front { (at : ℕ × ℕ) × IsFaultAt (command_of (map string_bytes words.now)) (S.left source.old) result at
+        × WroteFront (N.holds notes.old) (N.holds notes.new) (note_of_status at result) }
+{
+    match run(rt, alloc, words, source, sink, clock, gate) {
+        Ok(()) => 0,
+        Err(fault) => {
+            tell(notes, &fault);
+            fault.status()
+        }
+    }
 }
 
 /// Does what the words ask for, and answers the exit status (this project's own rule).
 ///
-/// The one command is `taskenv run [--step N] [--json]`, the program's name first: it reads a script from the source, to
-/// its end, runs it, and writes the run's log to the sink, as text or with `--json` as JSON. A status above 0 is that of a
-/// `Fault`, whose note goes to the notes. Want of memory comes before the first byte is written. The gate is called
-/// between each take of a task and the task's first step. The clock is read once for each tick, or with `--step` not at
-/// all: its readings are then N, 2N, 3N and so on, in microseconds.
+/// The command is `taskenv MODE [--step N] [--json] [--number N] [--size N]`, the program's name first. The modes are:
 ///
-/// The driver is the caller's thread, and each worker has a thread of its own, as far as the system gives them: what a
-/// worker without one would do, the caller does while it waits. It may wait for the threads for ever; nothing is promised
-/// of time.
+/// - `run` reads a script from the source, to its end, runs it, and writes the run's log to the sink, as text or with
+///   `--json` as JSON.
+/// - `check` reads a script, the line `%%` and a log from the source, to its end, and writes whether the log is that of a
+///   whole run of the script, which is status 0, or at which line it is not, which is status 1.
+/// - `gen` writes the script that is made from `--number`, of `--size` tasks, and reads nothing.
+/// - `bench` runs that script, and writes what the log of the run adds up to. It reads nothing.
+///
+/// A status above 1 is that of a `Fault`, whose note goes to the notes. Want of memory comes before the first byte is
+/// written. The gate is called between each take of a task and the task's first step. The clock is read by `run` alone,
+/// once for each tick, or with `--step` not at all: its readings are then N, 2N, 3N and so on, in microseconds.
+///
+/// The driver is the caller's thread, and in `run` and `bench` each worker has a thread of its own, as far as the system
+/// gives them: what a worker without one would do, the caller does while it waits. It may wait for the threads for ever;
+/// nothing is promised of time.
 pub fn run_words<R: Threads + Wait + Sync, S: Source, K: Sink, N: Sink, C: Clock, G: Gate>(
     rt: &R,
     alloc: Global,
@@ -104,35 +146,47 @@ pub fn run_words<R: Threads + Wait + Sync, S: Source, K: Sink, N: Sink, C: Clock
     // The run theorem: the bytes that came are a script, and what was added to the sink is the text of one history that is
     // legal and whole for it, or with `--json` its JSON form and a line feed. The moments of the history's ticks are those of
     // as many first readings: with `--step` always, and else where the clock tells its readings.
-    ensures run_theorem { result ≡ 0 → (bytes : List ℕ) → S.left source.old ≡ Some bytes →
-        HasRun bytes (asks_json (command_of (map string_bytes words.now)))
-        (readings_of (asks_step (command_of (map string_bytes words.now))) (C.readings clock.old)) (WroteAll (K.holds sink.old) (K.holds sink.new)) }
+    ensures run_theorem { (step : Option ℕ) (json : Bool) → command_of (map string_bytes words.now) ≡ Some (Run step json) → result ≡ 0
+        → (bytes : List ℕ) → S.left source.old ≡ Some bytes
+        → HasRun bytes json (readings_of step (C.readings clock.old)) (WroteAll (K.holds sink.old) (K.holds sink.new)) }
+
+    // `check` answers 0 or 1 by the line at which the log behind the script is found wrong, and writes that line. 0 comes only
+    // where the log is a legal, whole one of the script, and 1 only where there is none.
+    ensures verdict { command_of (map string_bytes words.now) ≡ Some Check → (result ≡ 0) ⊎ (result ≡ 1)
+        → (bytes : List ℕ) → S.left source.old ≡ Some bytes
+        → HasChecked bytes (λ status text. (result ≡ status) × WroteAll (K.holds sink.old) (K.holds sink.new) text) }
+    ensures legal_log { command_of (map string_bytes words.now) ≡ Some Check → result ≡ 0
+        → (bytes : List ℕ) → S.left source.old ≡ Some bytes → HasLegalLog bytes }
+    ensures no_legal_log { command_of (map string_bytes words.now) ≡ Some Check → result ≡ 1
+        → (bytes : List ℕ) → S.left source.old ≡ Some bytes → ¬ HasLegalLog bytes }
+
+    // `gen` writes the script of its number and size, and `bench` what every run of that script adds up to.
+    ensures generated { (number size : ℕ) → command_of (map string_bytes words.now) ≡ Some (Generate number size) → result ≡ 0
+        → WroteAll (K.holds sink.old) (K.holds sink.new) (canonical (generated number size)) }
+    ensures totals { (number size : ℕ) → command_of (map string_bytes words.now) ≡ Some (Bench number size) → result ≡ 0
+        → WroteAll (K.holds sink.old) (K.holds sink.new) (summary_text (generated_totals number size)) }
 
     // Each status has its cause.
     ensures cause { HasCause (command_of (map string_bytes words.now)) (C.readings clock.old)
         (ends (S.left source.old) (S.left source.new) (S.faults source.old) (S.faults source.new))
         (ends (K.holds sink.old) (K.holds sink.new) (K.faults sink.old) (K.faults sink.new)) result }
 
-    // Under any other status nothing is put to the sink, and words that are no command take nothing from the source.
-    ensures nothing_written { result ≢ 0 → result ≢ 5 → sink.new ≡ sink.old }
-    ensures nothing_taken { (result ≡ 2) ⊎ (command_of (map string_bytes words.now) ≡ None) → source.new ≡ source.old }
+    // Under any other status nothing is put to the sink; and what is no command, or reads nothing, takes nothing from the
+    // source.
+    ensures nothing_written { result ≢ 0 → result ≢ 1 → result ≢ 5 → sink.new ≡ sink.old }
+    ensures nothing_taken { (result ≡ 2) ⊎ (¬ TakesInput (command_of (map string_bytes words.now))) → source.new ≡ source.old }
 
-    // With `--step` the clock is as it was, and so it is where nothing is run.
-    ensures clock_unread { asks_step (command_of (map string_bytes words.now)) ≢ None → clock.new ≡ clock.old }
+    // The clock is as it was in each mode but `run`, with `--step`, and where nothing is run.
+    ensures clock_unread { ¬ ReadsClock (command_of (map string_bytes words.now)) → clock.new ≡ clock.old }
     ensures clock_kept { result ≢ 0 → result ≢ 5 → result ≢ 6 → clock.new ≡ clock.old }
 
     // The notes get the status's note, where they do not fail, and else a front of it. Under 3 that is the note of the
-    // fault that the bytes have as a script.
-    ensures note { (at : ℕ × ℕ) × IsFaultAt (S.left source.old) result at
+    // fault that the script has; under 0 and 1 there is none.
+    ensures quiet { (result ≡ 0) ⊎ (result ≡ 1) → notes.new ≡ notes.old }
+    ensures note { (at : ℕ × ℕ) × IsFaultAt (command_of (map string_bytes words.now)) (S.left source.old) result at
         × (Rose (N.faults notes.old) (N.faults notes.new) ⊎ Gains (N.holds notes.old) (note_of_status at result) (N.holds notes.new)) }
-    ensures note_front { (at : ℕ × ℕ) × IsFaultAt (S.left source.old) result at
+    ensures note_front { (at : ℕ × ℕ) × IsFaultAt (command_of (map string_bytes words.now)) (S.left source.old) result at
         × WroteFront (N.holds notes.old) (N.holds notes.new) (note_of_status at result) }
 {
-    match run(rt, alloc, words, source, sink, clock, gate) {
-        Ok(()) => 0,
-        Err(fault) => {
-            tell(notes, &fault);
-            fault.status()
-        }
-    }
+    run_and_tell(rt, alloc, words, source, sink, notes, clock, gate)
 }

@@ -1,6 +1,8 @@
 mod alone;
+mod checks;
 mod faults;
 mod gates;
+mod generated;
 mod jobs;
 mod main_queues;
 mod outside;
@@ -40,6 +42,11 @@ impl Outcome {
     /// The status, the log and the note.
     fn told(&self) -> (u8, &str, &str) {
         (self.status, text(&self.sink), text(&self.notes))
+    }
+
+    /// Whether these are the status, what was written, and the note.
+    fn is(&self, status: u8, written: &str, note: &str) -> bool {
+        self.status == status && text(&self.sink) == written && text(&self.notes) == note
     }
 }
 

@@ -1,8 +1,9 @@
-ghost use Rattle.std.specs.Prelude.{◌≡◌, ◌≢◌, ◌&&◌, nat_le, None, map, string_bytes, IfOk, option_map, decimal};
+ghost use Rattle.std.specs.Prelude.{◌≡◌, ◌≢◌, ◌≤◌, ◌<◌, ◌^◌, ◌&&◌, nat_le, false, None, map, string_bytes, IfOk, IfSome, option_map, decimal};
 ghost use Rattle.script_model.specs.Words.{is_word};
-ghost use Rattle.clap.specs.Simple.{app_of};
+ghost use Rattle.clap.specs.Simple.{app_of, with_rule};
 ghost use Rattle.clap.specs.Values.{kind_of};
-ghost use Rattle.env_app.specs.CommandLine.{command_of, command_with, is_set, mode_named, step_given, step_named, taskenv};
+ghost use Rattle.clap.specs.Walk.{rule_of};
+ghost use Rattle.env_app.specs.CommandLine.{IsSized, command_by, command_of, command_with, is_set, json_argument, mode_argument, mode_named, number_named, seed_given, size_given, step_given, taskenv, value_argument};
 
 use clap::error::ErrorKind;
 use clap::{Arg, ArgAction};
@@ -10,36 +11,64 @@ use itoa::Buffer;
 use std::alloc::{AllocError, Global};
 use task_base::MOST_MICROSECONDS;
 
-/// What the program does (this project's own).
-#[derive(Clone, Copy, Debug, PartialEq, Eq)]
-pub enum Mode {
-    /// Runs a script, and writes the log of the run.
-    Run,
-}
+/// The most tasks of a script that is made from a number.
+pub const MOST_SIZE: u32 = 8192;
+
+/// How many tasks it has where nothing is said.
+pub const USUAL_SIZE: u32 = 16;
 
 /// What the words of a command line ask for (this project's own).
 #[derive(Clone, Copy, Debug, PartialEq, Eq)]
-pub struct Command {
-    /// What to do.
-    pub mode: Mode,
-    /// How many microseconds each reading is behind the one before it, in place of what the clock reads.
-    pub step: Option<u64>,
-    /// Whether the log is written as JSON, and not as text.
-    pub json: bool,
+pub enum Command {
+    /// Runs a script, and writes the log of the run.
+    Run {
+        /// How many microseconds each reading is behind the one before it, in place of what the clock reads.
+        step: Option<u64>,
+        /// Whether the log is written as JSON, and not as text.
+        json: bool,
+    },
+    /// Judges the log behind a script.
+    Check,
+    /// Writes the script that is made from a number.
+    Generate {
+        /// The number that it is made from.
+        number: u64,
+        /// How many tasks it has: 1 to 8,192.
+        size: u32,
+    },
+    /// Runs the script that is made from a number, and writes what its log adds up to.
+    Bench {
+        /// The number that it is made from.
+        number: u64,
+        /// How many tasks it has: 1 to 8,192.
+        size: u32,
+    },
+}
+
+/// The word that says what to do (this project's own).
+#[derive(Clone, Copy)]
+enum Mode {
+    Run,
+    Check,
+    Generate,
+    Bench,
 }
 
 /// The command that the words are, if they are one. The error is want of memory.
 pub fn command_of(alloc: Global, words: &[String]) -> Result<Option<Command>, AllocError>
-    ensures { IfOk result (λ command. command ≡ command_of (map string_bytes words.now)) }
+    ensures command { IfOk result (λ command. command ≡ command_of (map string_bytes words.now)) }
+    ensures sized { IfOk result (λ command. IfSome command IsSized) }
 {
     let matches = match taskenv(alloc)?.try_get_matches_from(words) {
         Ok(matches) => matches,
         Err(error) => return refusal(&error),
     };
-    Ok(command_with(
+    Ok(command_by(
         matches.get_str("MODE"),
         matches.get_str("step"),
         matches.get_str("json"),
+        matches.get_str("number"),
+        matches.get_str("size"),
     ))
 }
 
@@ -53,30 +82,96 @@ fn refusal(error: &clap::Error) -> Result<Option<Command>, AllocError>
     }
 }
 
-/// The command `taskenv MODE [--step N] [--json]`.
+/// The command `taskenv MODE [--step N] [--json] [--number N] [--size N]`.
 fn taskenv<'a>(alloc: Global) -> Result<clap::Command<'a>, AllocError>
     ensures { IfOk result (λ command. app_of command ≡ taskenv) }
 {
-    let mode = Arg::new(alloc, "MODE").required(true);
-    let step = Arg::new(alloc, "step").long("step");
-    let json = Arg::new(alloc, "json")
+    let command = with_argument(clap::Command::new(alloc, "taskenv"), mode_argument(alloc))?;
+    let command = with_argument(command, value_argument(alloc, "step"))?;
+    let command = with_argument(command, json_argument(alloc))?;
+    let command = with_argument(command, value_argument(alloc, "number"))?;
+    with_argument(command, value_argument(alloc, "size"))
+}
+
+/// The command with one argument more.
+fn with_argument<'a>(
+    command: clap::Command<'a>,
+    argument: Arg<'a>,
+) -> Result<clap::Command<'a>, AllocError>
+    requires { argument.global ≡ false }
+    ensures { IfOk result (λ more. app_of more ≡ with_rule (app_of command.entry) (rule_of argument.entry)) }
+{
+    command.arg(argument)
+}
+
+/// The word that says what to do.
+fn mode_argument<'a>(alloc: Global) -> Arg<'a>
+    ensures rule { rule_of result ≡ mode_argument }
+    ensures local { result.global ≡ false }
+{
+    Arg::new(alloc, "MODE").required(true)
+}
+
+/// An option of this name, with a value.
+fn value_argument<'a>(alloc: Global, name: &'a str) -> Arg<'a>
+    ensures rule { rule_of result ≡ value_argument name.entry.now }
+    ensures local { result.global ≡ false }
+{
+    Arg::new(alloc, name).long(name)
+}
+
+/// The flag `--json`.
+fn json_argument<'a>(alloc: Global) -> Arg<'a>
+    ensures rule { rule_of result ≡ json_argument }
+    ensures local { result.global ≡ false }
+{
+    Arg::new(alloc, "json")
         .long("json")
-        .action(ArgAction::SetTrue);
-    clap::Command::new(alloc, "taskenv")
-        .arg(mode)?
-        .arg(step)?
-        .arg(json)
+        .action(ArgAction::SetTrue)
 }
 
 /// The command that the values of its arguments make, if each is right.
-fn command_with(mode: Option<&str>, step: Option<&str>, json: Option<&str>) -> Option<Command>
-    ensures { result ≡ command_with (option_map (λ s. s.now) mode.entry) (option_map (λ s. s.now) step.entry) (option_map (λ s. s.now) json.entry) }
+fn command_by(
+    mode: Option<&str>,
+    step: Option<&str>,
+    json: Option<&str>,
+    number: Option<&str>,
+    size: Option<&str>,
+) -> Option<Command>
+    ensures command { result ≡ command_by (option_map (λ s. s.now) mode.entry) (option_map (λ s. s.now) step.entry) (option_map (λ s. s.now) json.entry)
+        (option_map (λ s. s.now) number.entry) (option_map (λ s. s.now) size.entry) }
+    ensures sized { IfSome result IsSized }
 {
-    Some(Command {
-        mode: mode_named(mode?)?,
-        step: step_given(step)?,
-        json: is_set(json),
-    })
+    command_with(mode_named(mode?)?, step, is_set(json), number, size)
+}
+
+/// The command of a mode with these options, if it takes each of them.
+fn command_with(
+    mode: Mode,
+    step: Option<&str>,
+    json: bool,
+    number: Option<&str>,
+    size: Option<&str>,
+) -> Option<Command>
+    ensures command { result ≡ command_with mode (option_map (λ s. s.now) step.entry) json (option_map (λ s. s.now) number.entry) (option_map (λ s. s.now) size.entry) }
+    ensures sized { IfSome result IsSized }
+{
+    match (mode, step, json, number, size) {
+        (Mode::Run, step, json, None, None) => Some(Command::Run {
+            step: step_given(step)?,
+            json,
+        }),
+        (Mode::Check, None, false, None, None) => Some(Command::Check),
+        (Mode::Generate, None, false, number, size) => Some(Command::Generate {
+            number: seed_given(number)?,
+            size: size_given(size)?,
+        }),
+        (Mode::Bench, None, false, number, size) => Some(Command::Bench {
+            number: seed_given(number)?,
+            size: size_given(size)?,
+        }),
+        _ => None,
+    }
 }
 
 fn mode_named(word: &str) -> Option<Mode>
@@ -84,6 +179,9 @@ fn mode_named(word: &str) -> Option<Mode>
 {
     match word {
         "run" => Some(Mode::Run),
+        "check" => Some(Mode::Check),
+        "gen" => Some(Mode::Generate),
+        "bench" => Some(Mode::Bench),
         _ => None,
     }
 }
@@ -93,24 +191,48 @@ fn step_given(word: Option<&str>) -> Option<Option<u64>>
     ensures { result ≡ step_given (option_map (λ s. s.now) word.entry) }
 {
     match word {
-        Some(word) => Some(Some(step_named(word)?)),
+        Some(word) => Some(Some(number_named(1, MOST_MICROSECONDS, word)?)),
         None => Some(None),
     }
 }
 
-/// The number from 1 to 10^12 that the word writes without a sign and without zeros in front.
-fn step_named(word: &str) -> Option<u64>
-    ensures { result ≡ step_named word.now }
+/// The number that a script is made from. It may be left out.
+fn seed_given(word: Option<&str>) -> Option<u64>
+    ensures { result ≡ seed_given (option_map (λ s. s.now) word.entry) }
 {
-    let number = word.parse::<u64>().ok()?;
-    is_step(word, number).then_some(number)
+    match word {
+        Some(word) => number_named(0, u64::MAX, word),
+        None => Some(0),
+    }
 }
 
-/// Whether the number is a step, and the word is its decimal form.
-fn is_step(word: &str, number: u64) -> bool
-    ensures { result ≡ (is_word (decimal number) word.now && nat_le 1 number && nat_le number MOST_MICROSECONDS) }
+/// The number of tasks that a script is to have. It may be left out.
+fn size_given(word: Option<&str>) -> Option<u32>
+    ensures size { result ≡ size_given (option_map (λ s. s.now) word.entry) }
+    ensures some { IfSome result (λ size. 1 ≤ size) }
+    ensures few { IfSome result (λ size. size ≤ MOST_SIZE) }
 {
-    Buffer::new().format(number) == word && number >= 1 && number <= MOST_MICROSECONDS
+    match word {
+        Some(word) => Some(number_named(1, u64::from(MOST_SIZE), word)? as u32),
+        None => Some(USUAL_SIZE),
+    }
+}
+
+/// The number from low to high that the word writes without a sign and without zeros in front.
+fn number_named(low: u64, high: u64, word: &str) -> Option<u64>
+    ensures number { result ≡ number_named low high word.now }
+    ensures above { IfSome result (λ number. low ≤ number) }
+    ensures below { IfSome result (λ number. number ≤ high) }
+{
+    let number = word.parse::<u64>().ok()?;
+    is_number(low, high, word, number).then_some(number)
+}
+
+/// Whether the number is from low to high, and the word is its decimal form.
+fn is_number(low: u64, high: u64, word: &str, number: u64) -> bool
+    ensures { result ≡ (is_word (decimal number) word.now && nat_le low number && nat_le number high) }
+{
+    Buffer::new().format(number) == word && number >= low && number <= high
 }
 
 /// Whether the flag was given: its text is `true` then.

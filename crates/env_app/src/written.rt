@@ -1,11 +1,13 @@
 ghost use Rattle.std.specs.Prelude.{◌≡◌, ◌≢◌, ◌<◌, ◌^◌, ◌⊎◌, Err, IfErr, OnOk, alloc_error, length};
 ghost use Rattle.env_io.specs.Bytes.{Rose};
+ghost use Rattle.script_model.specs.Canonical.{canonical};
 ghost use Rattle.env_app.specs.Outcome.{WroteAll, WroteFront, output_of};
 
-use env_io::Sink;
+use env_io::{Sink, put_all};
 use run_log::{JsonFault, write_json, write_log};
 use std::alloc::Global;
-use task_base::{Entry, Fault, Rows};
+use task_base::{Entry, Fault, Rows, Script};
+use task_script::write_script;
 
 /// Writes a log: its text, or its JSON form and a line feed. Want of memory comes before the first byte.
 pub fn write<K: Sink>(
@@ -32,5 +34,33 @@ pub fn write<K: Sink>(
         Ok(()) => Ok(()),
         Err(JsonFault::Sink(_)) => Err(Fault::WriteFault),
         Err(JsonFault::Memory(error)) => Err(Fault::NoMemory(error)),
+    }
+}
+
+/// Writes the canonical text of a script.
+pub fn write_plan<K: Sink>(sink: &mut K, script: &Script) -> Result<(), Fault>
+    ensures written { OnOk result (WroteAll (K.holds sink.old) (K.holds sink.new) (canonical script.now)) }
+    ensures cut { result ≡ Err Fault.WriteFault → WroteFront (K.holds sink.old) (K.holds sink.new) (canonical script.now) }
+    ensures failed { result ≡ Err Fault.WriteFault → Rose (K.faults sink.old) (K.faults sink.new) }
+    ensures faults { IfErr result (λ fault. fault ≡ Fault.WriteFault) }
+    ensures steady { result ≢ Err Fault.WriteFault → K.faults sink.new ≡ K.faults sink.old }
+{
+    match write_script(sink, script) {
+        Ok(()) => Ok(()),
+        Err(_) => Err(Fault::WriteFault),
+    }
+}
+
+/// Writes a text.
+pub fn write_text<K: Sink>(sink: &mut K, text: &[u8]) -> Result<(), Fault>
+    ensures written { OnOk result (WroteAll (K.holds sink.old) (K.holds sink.new) text.now) }
+    ensures cut { result ≡ Err Fault.WriteFault → WroteFront (K.holds sink.old) (K.holds sink.new) text.now }
+    ensures failed { result ≡ Err Fault.WriteFault → Rose (K.faults sink.old) (K.faults sink.new) }
+    ensures faults { IfErr result (λ fault. fault ≡ Fault.WriteFault) }
+    ensures steady { result ≢ Err Fault.WriteFault → K.faults sink.new ≡ K.faults sink.old }
+{
+    match put_all(sink, text) {
+        Ok(()) => Ok(()),
+        Err(_) => Err(Fault::WriteFault),
     }
 }

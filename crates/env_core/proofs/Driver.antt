@@ -24,8 +24,8 @@ use Rattle.std.proofs.Common.{◌+◌, ◌-◌, ◌++◌, ◌<◌, ◌^◌, ◌�
 use Rattle.std.proofs.lemmas.Bool.{eq-eqb, eqb-true}
 use Rattle.std.proofs.lemmas.Option.{none-some, same_Some}
 use Rattle.std.specs.List.{AllByRecursion}
-use Rattle.std.specs.Option.{option_map_or}
-use Rattle.std.specs.Prelude.{◌==◌, ◌&&◌, ◌||◌, filter, is_none, slice_get}
+use Rattle.std.specs.Option.{option_map, option_map_or}
+use Rattle.std.specs.Prelude.{◌==◌, ◌&&◌, ◌||◌, IfSome, filter, is_none, slice_get}
 use Rattle.task_base.specs.Plan.{Plan}
 use Rattle.task_base.specs.declared.entry.Entry.{Entry}
 use Rattle.task_base.specs.declared.entry.Kind.{Kind}
@@ -470,3 +470,33 @@ finished_is script past place made at = rw (current_is_first script (own_entries
     none_from (x ∷ xs) zero front h = grind arith
     none_from (x ∷ xs) (suc n) front h =
         let same : eqb (suc n) (suc (length xs)) ≡ eqb n (length xs) = grind arith in rw same (none_from xs n front (omega (arith, h)))
+
+-- the driver is at the action of its place
+pub action_at : (script : Plan) (past : List Entry) (place made : ℕ) → IsAt script past place made
+    → slice_get script.actions place ≡ option_map (λ (c : Current). c.action) (current script (own_entries 0 past))
+action_at script past place made at = rw (current_is_first script (own_entries 0 past), at.actions_are)
+    (first_from script.actions place (agenda script (own_entries 0 past)).made)
+  where
+    first_from : (xs : List Action) (n : ℕ) (front : List Entry) → slice_get xs n ≡ option_map (λ (c : Current). c.action) (first_of (drop n xs) front)
+    first_from [] n front = by n
+      where
+        by : (k : ℕ) → slice_get [] k ≡ option_map (λ (c : Current). c.action) (first_of (drop k []) front)
+        by zero = refl
+        by (suc k) = refl
+    first_from (x ∷ xs) zero front = refl
+    first_from (x ∷ xs) (suc n) front = first_from xs n front
+
+-- and that action has made so many entries that count
+pub made_at : (script : Plan) (past : List Entry) (place made : ℕ) → IsAt script past place made
+    → IfSome (current script (own_entries 0 past)) (λ c. made ≡ counted (c.action ∷ []) c.made)
+made_at script past place made at = rw (current_is_first script (own_entries 0 past))
+    (by (agenda script (own_entries 0 past)).actions (agenda script (own_entries 0 past)).made at.made_is)
+  where
+    first_counts : (x : Action) (rest : List Action) (front : List Entry) → counted (x ∷ rest) front ≡ counted (x ∷ []) front
+    first_counts (actions.Pump n) rest front = refl
+    first_counts (actions.Join job) rest front = refl
+    first_counts x rest front = refl
+
+    by : (xs : List Action) (front : List Entry) → counted xs front ≡ made → IfSome (first_of xs front) (λ c. made ≡ counted (c.action ∷ []) c.made)
+    by [] front is = tt
+    by (x ∷ rest) front is = sym is ∙ first_counts x rest front

@@ -1,10 +1,14 @@
-ghost use Rattle.std.specs.Prelude.{◌≡◌, ℕ, ◌<◌, ◌↔◌, [], map, length, not, Bool, true, IsOk, IfOk, IfErr, OnOk, OnErr, Some};
+ghost use Rattle.std.specs.Prelude.{◌≡◌, ℕ, ◌<◌, ◌↔◌, [], ◌∷◌, map, length, not, Bool, true, IsOk, IfOk, IfErr, IfSome, OnOk, OnErr, Some};
+ghost use Rattle.std.specs.Option.{option_map};
 ghost use Rattle.script_model.specs.Laws.Sound.{IsSound};
+ghost use Rattle.env_core.specs.Agenda.{counted};
 ghost use Rattle.env_core.specs.Calls.{IsWantedNext, IsFreeWorker, IsNextAct, CanEnd, CanEndMain};
 ghost use Rattle.env_core.specs.Calls.{MainTakeGives, EntersAct, lets_in};
 ghost use Rattle.env_core.specs.Drawer.{kept_if};
 ghost use Rattle.env_core.specs.Views.{Enters};
 ghost use Rattle.hist_model.specs.Moments.{moment_behind};
+ghost use Rattle.hist_model.specs.Script.{current};
+ghost use Rattle.hist_model.specs.Views.{own_entries};
 ghost use Rattle.pool_core.specs.Calls.{running_tasks, is_any_ready};
 ghost use Rattle.task_model.specs.Blockers.{blockers_of};
 ghost use Rattle.task_model.specs.Phase.{phase_of};
@@ -22,8 +26,8 @@ use shutdown_phase::StillBlocked;
 use std::alloc::{AllocError, Global};
 use std::marker::Model;
 use task_base::{
-    Entry, FenceAt, Kind, LAST_MOMENT, NotYet, Policy, QueueId, Rows, RunnerId, Scope, Script,
-    SeatNo, TaskId,
+    Action, Entry, FenceAt, Kind, LAST_MOMENT, NotYet, Policy, QueueId, Rows, RunnerId, Scope,
+    Script, SeatNo, TaskId,
 };
 use task_body::{Act, Assignment, JobPass, Taken, TaskBody};
 use task_script::events_bound;
@@ -392,6 +396,23 @@ impl<B: TaskBody> Env<B> {
             kind: Kind::Done,
         });
         Ok(())
+    }
+
+    /// The action that the driver is at. None where the script is finished.
+    #[tactic(auto, using(crate::proofs::Driver::action_at))]
+    pub fn action(&self) -> Option<Action>
+        ensures { result ≡ option_map (λ c. c.action) (current self.now.script (own_entries 0 self.now.history)) }
+    {
+        self.script.actions.at(self.agenda.place).copied()
+    }
+
+    /// How many entries that count the driver's action has made: of a pump those at which a main task ended, of a join its
+    /// reply, and of each other action all.
+    #[tactic(auto, using(crate::proofs::Driver::made_at))]
+    pub fn made(&self) -> u32
+        ensures { IfSome (current self.now.script (own_entries 0 self.now.history)) (λ c. result ≡ counted (c.action ∷ []) c.made) }
+    {
+        self.agenda.made
     }
 
     /// The history. What bodies are left are dropped.

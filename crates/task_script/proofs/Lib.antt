@@ -1,6 +1,8 @@
 pub mod Flags
+pub mod Generated
 pub mod LinesOfText
 pub mod ReadLines
 pub mod Puts
 pub mod Texts
 pub mod Bounds
+pub mod Worked

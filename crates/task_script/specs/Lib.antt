@@ -1,3 +1,4 @@
+pub mod Generated
 pub mod Added
 pub mod Marks
 pub mod Scopes

@@ -9,6 +9,7 @@ mod bound;
 mod config;
 mod declare;
 mod fault;
+mod generator;
 mod groups;
 mod lines;
 mod posts;
@@ -22,10 +23,13 @@ mod write_lines;
 
 pub use bound::events_bound;
 pub use fault::ScriptFault;
+pub use generator::generate;
 pub use read::read_script;
 pub use write::write_script;
 
 #[cfg(test)]
 mod tests;
+#[cfg(test)]
+mod tests_generate;
 #[cfg(test)]
 mod tests_write;

@@ -9,7 +9,7 @@ mod long_texts;
 mod scripts;
 
 /// The script of a text, if it is one.
-fn script(alloc: Global, text: &[u8]) -> Option<Script> {
+pub(crate) fn script(alloc: Global, text: &[u8]) -> Option<Script> {
     if text.len() > 4_294_967_294 {
         return None;
     }

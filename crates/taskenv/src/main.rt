@@ -2,7 +2,7 @@
 //! through a buffer, and ends with what it answers.
 #![tactic(auto)]
 
-ghost use Rattle.std.specs.Prelude.{◌≡◌, ◌≢◌, ◌⊎◌};
+ghost use Rattle.std.specs.Prelude.{◌≡◌, ◌≢◌, ◌≤◌, ◌⊎◌};
 ghost use Rattle.env_io.specs.Bytes.{Rose};
 
 use env_app::{run_words, tell};
@@ -30,14 +30,14 @@ fn words_of<R: Env + AllocGlobal>(rt: &R) -> Result<Vec<String>, AllocError> {
     }
 }
 
-/// Hands on what the output still keeps back of a run that succeeded, and answers the exit status: that of the run, or
-/// that of a write fault, whose note goes to the notes then.
+/// Hands on what the output still keeps back of what was written whole, under the statuses 0 and 1, and answers the exit
+/// status: that of the call, or that of a write fault, whose note goes to the notes then.
 fn close<W: Write, N: Sink>(status: u8, output: &mut StdSink<W>, notes: &mut N) -> u8
-    ensures status { (result ≡ status) ⊎ ((status ≡ 0) × (result ≡ 5)) }
+    ensures status { (result ≡ status) ⊎ ((status ≤ 1) × (result ≡ 5)) }
     ensures failed { result ≢ status → Rose output.old.faults output.new.faults }
-    ensures kept { status ≢ 0 → (output.new ≡ output.old) × (notes.new ≡ notes.old) }
+    ensures kept { 2 ≤ status → (output.new ≡ output.old) × (notes.new ≡ notes.old) }
 {
-    if status == 0 && output.flush().is_err() {
+    if status <= 1 && output.flush().is_err() {
         let fault = Fault::WriteFault;
         tell(notes, &fault);
         return fault.status();

@@ -7,18 +7,18 @@ ghost use Rattle.env_app.specs.Crew.{AreSpare, ArePromised, AreWorkers, refused}
 use super::sink;
 use crate::bodies::bodies_of;
 use crate::crew::perform;
-use crate::load::load;
+use crate::load::script_of;
 use crate::workers::{Start, split_all, with_room};
 use crate::written::write;
 use env_core::Env;
-use env_io::{Clock, MemSink, OpenGate, StepClock, SureSource};
+use env_io::{Clock, MemSink, OpenGate, StepClock};
 use env_shared::{EnvSeat, Shared, SharedDesk};
 use std::alloc::{AllocError, Global};
 use std::process::Abort;
 use std::sync::Wait;
 use std::test::Fail;
 use std::thread::Threads;
-use task_base::{Rows, Script};
+use task_base::{MOST_BYTES, Rows, Script};
 use task_body::TaskBody;
 
 /// Gives each worker a spare desk, the last one first, as if each start were refused.
@@ -77,8 +77,9 @@ pub fn log_alone<R: Threads + Wait + AllocGlobal + Abort>(
     step: u64,
 ) -> Result<MemSink, Fail> {
     let alloc = rt.alloc();
-    let bytes = script.as_bytes().to_vec(alloc)?;
-    let Ok(script) = load(alloc, &mut SureSource::new(bytes)) else {
+    let bytes = script.as_bytes();
+    assert!(rt; bytes.len() <= MOST_BYTES);
+    let Ok(script) = script_of(alloc, bytes) else {
         panic!(rt; "the script is not read")
     };
     let bodies = bodies_of(alloc, &script)?;

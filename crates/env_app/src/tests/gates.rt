@@ -4,7 +4,7 @@ ghost use Rattle.env_core.specs.Calls.{AreFresh};
 
 use super::{FIRST_SCRIPT, run_on};
 use crate::crew::run_crew;
-use crate::load::load;
+use crate::load::script_of;
 use env_io::{Gate, ListClock, SureSource};
 use std::alloc::{AllocError, Global};
 use std::marker::Model;
@@ -125,8 +125,7 @@ impl Gate for LookingGate {
 #[test]
 fn gate_is_passed_before_the_first_step(rt: HostRuntime) -> Result<(), Fail> {
     let alloc = rt.alloc();
-    let mut source = SureSource::new(FIRST_SCRIPT.as_bytes().to_vec(alloc)?);
-    let Ok(script) = load(alloc, &mut source) else {
+    let Ok(script) = script_of(alloc, FIRST_SCRIPT.as_bytes()) else {
         panic!(rt; "the script is not read")
     };
     let steps = Arc::new(alloc, AtomicU64::new(0))?;

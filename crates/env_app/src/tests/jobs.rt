@@ -85,7 +85,7 @@ fn four_workers_share_many_items(rt: HostRuntime) -> Result<(), Fail> {
 }
 
 /// A page load: tasks of each kind, main queues, and a job.
-const PAGE_LOAD: &str = "# a page load\nworkers 4\ngroups 4 2 1\nthreshold 1000\n\
+pub const PAGE_LOAD: &str = "# a page load\nworkers 4\ngroups 4 2 1\nthreshold 1000\n\
     runner 0 parallel user_visible skip mayblock\nrunner 1 sequenced user_blocking block\n\
     runner 2 single:2 best_effort continue\nqueue 0 1 1\nqueue 1 4 0\ntask 0 add 1\ntask 1 add 2\n\
     task 2 block may ; add 3 ; unblock ; main 0 0 0\ntask 3 add 4 ; post 1 1 0\ntask 4 set 9\ntask 5 mul 2\n\

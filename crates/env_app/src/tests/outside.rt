@@ -2,6 +2,7 @@
 use super::{FIRST_JSON, FIRST_LOG, FIRST_SCRIPT, Outcome, run_into, run_on, sink};
 use env_io::{MemSource, OpenGate, SureSource};
 use std::alloc::AllocError;
+use std::process::Abort;
 use std::rt::Clock;
 use std::sync::Wait;
 use std::test::Fail;
@@ -66,25 +67,67 @@ fn write_faults_in_json(rt: HostRuntime) -> Result<(), Fail> {
     Ok(())
 }
 
-/// What a run does whose input is one comment of so many bytes.
-fn run_of_comment<R: Threads + Wait + Sync + Clock + AllocGlobal>(
+// The verdict and the totals are put in one piece, and the script is put piece by piece.
+#[test]
+fn write_faults_in_other_modes(rt: HostRuntime) -> Result<(), Fail> {
+    let check: &[&str] = &["taskenv", "check"];
+    let generate: &[&str] = &["taskenv", "gen", "--size", "2"];
+    let bench: &[&str] = &["taskenv", "bench", "--size", "2"];
+    let head = "workers 4\ngroups 4 2 2\nthreshold 1000000\n";
+    for (words, at_source, at_sink, told) in [
+        (check, 1, 0, (4, "", "read fault\n")),
+        (check, 0, 1, (5, "", "write fault\n")),
+        (check, 0, 2, (1, "illegal 1\n", "")),
+        (generate, 0, 1, (5, "", "write fault\n")),
+        (generate, 0, 2, (5, head, "write fault\n")),
+        (bench, 0, 1, (5, "", "write fault\n")),
+        (
+            bench,
+            1,
+            2,
+            (0, "tasks 2\nitems 16\ncells 345\nsums 376\n", ""),
+        ),
+    ] {
+        let outcome = run_failing(&rt, words, at_source, at_sink, 0)?;
+        assert_eq!(rt; outcome.told(), told, "at {words:?} {at_source} {at_sink}");
+    }
+    Ok(())
+}
+
+/// What a mode does whose input is one comment of so many bytes.
+fn read_comment<R: Threads + Wait + Sync + Clock + AllocGlobal>(
     rt: &R,
+    mode: &str,
     length: usize,
 ) -> Result<Outcome, AllocError> {
     let bytes = vec![in rt.alloc(); b'#'; length]?;
     run_on(
         rt,
-        &["taskenv", "run"],
+        &["taskenv", mode],
         &mut SureSource::new(bytes),
         &OpenGate,
     )
 }
 
-#[test]
-fn size_limit(rt: HostRuntime) -> Result<(), Fail> {
-    let largest = run_of_comment(&rt, 8_388_608)?;
-    assert_eq!(rt; largest.told(), (0, "", ""));
-    let larger = run_of_comment(&rt, 8_388_609)?;
+/// The most bytes of input are read by this mode, which writes this of them, and one byte more are too many.
+fn assert_size_limit<R: Threads + Wait + Sync + Clock + AllocGlobal + Abort>(
+    rt: &R,
+    mode: &str,
+    text: &str,
+) -> Result<(), Fail> {
+    let largest = read_comment(rt, mode, 8_388_608)?;
+    assert!(rt; largest.is(0, text, ""));
+    let larger = read_comment(rt, mode, 8_388_609)?;
     assert_eq!(rt; larger.told(), (7, "", "too large\n"));
     Ok(())
+}
+
+#[test]
+fn size_limit(rt: HostRuntime) -> Result<(), Fail> {
+    assert_size_limit(&rt, "run", "")
+}
+
+#[test]
+fn size_limit_of_a_check(rt: HostRuntime) -> Result<(), Fail> {
+    assert_size_limit(&rt, "check", "legal\n")
 }

@@ -5,7 +5,7 @@ use std::alloc::{AllocError, Global};
 use std::test::Fail;
 
 /// Two tasks that two workers may run at once.
-const TWO_TASKS: &str = "runner 0 parallel user_visible skip\ntask 0 add 1\ntask 1 add 2\n\
+pub const TWO_TASKS: &str = "runner 0 parallel user_visible skip\ntask 0 add 1\ntask 1 add 2\n\
     post 0 0 0\npost 1 0 0\nflush\n";
 
 // The worker of task 0 waits before its first step, and goes on in time only where another worker takes task 1 meanwhile:

@@ -5,15 +5,22 @@ use std::test::Fail;
 
 #[test]
 fn bad_words(rt: HostRuntime) -> Result<(), Fail> {
-    let rows: [&[&str]; 24] = [
+    let rows: [&[&str]; 31] = [
         &[],
         &["taskenv"],
         &["run"],
-        &["taskenv", "check"],
         &["taskenv", "runs"],
         &["taskenv", "Run"],
         &["taskenv", "run", "run"],
         &["taskenv", "run", "--size", "3"],
+        &["taskenv", "check", "--json"],
+        &["taskenv", "check", "--number", "0"],
+        &["taskenv", "gen", "--step", "1"],
+        &["taskenv", "bench", "--json"],
+        &["taskenv", "gen", "--number", "18446744073709551616"],
+        &["taskenv", "gen", "--size", "0"],
+        &["taskenv", "gen", "--size", "016"],
+        &["taskenv", "bench", "--size", "8193"],
         &["taskenv", "--json"],
         &["taskenv", "run", "--json", "--json"],
         &["taskenv", "run", "--json=true"],

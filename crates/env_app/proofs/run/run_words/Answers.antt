@@ -1,29 +1,14 @@
-use Rattle.std.proofs.Common.{◌⊎◌, List, ℕ, inr, arith}
-use Rattle.env_io.specs.Bytes.{Gains, Rose}
-use Rattle.env_app.specs.Outcome.{WroteFront}
-use Rattle.env_app.proofs.Outcomes.{gains_nothing, note_told}
-use Rattle.env_app.proofs.Causes.{cause_of_fault}
+use Rattle.std.proofs.Common.{sym, inl, inr, ◌∙◌}
+use Rattle.env_app.proofs.Causes.{check_done}
+use Rattle.env_app.proofs.Verdicts.{has_legal_log, has_no_legal_log}
 use Rattle.env_app.proofs.run.run_words.Goals as goal
 
-pub returns-in-Ok-clause-note : goal.returns-in-Ok-clause-note
-returns-in-Ok-clause-note g c = ((0, 0), λ three. absurd (omega arith), inr (gains_nothing (g.N.Sink.holds c.args.notes.now)))
+pub returns-clause-legal_log : goal.returns-clause-legal_log
+returns-clause-legal_log g c is zero bytes told =
+    let checked = check_done _ _ _ _ c.run_and_tell.result c.run_and_tell.ensures.cause is (inl zero) bytes told in
+    has_legal_log bytes checked (sym zero ∙ checked.holds.0)
 
-pub returns-in-Ok-clause-note_front : goal.returns-in-Ok-clause-note_front
-returns-in-Ok-clause-note_front g c = ((0, 0), λ three. absurd (omega arith), (0, gains_nothing (g.N.Sink.holds c.args.notes.now)))
-
-pub returns-in-Err-clause-cause : goal.returns-in-Err-clause-cause
-returns-in-Err-clause-cause g c =
-    rw c.status.ensures (cause_of_fault _ _ _ _ c.in-Err.fault c.in-Err.ensures.outcome c.in-Err.ensures.source_steady c.in-Err.ensures.sink_steady
-    c.in-Err.ensures.took_more c.in-Err.ensures.took_within)
-
-pub returns-in-Err-clause-note : goal.returns-in-Err-clause-note
-returns-in-Err-clause-note g c =
-    note_told _ _ _ _ c.in-Err.fault c.status.result
-    (λ (note : List ℕ). Rose (g.N.Sink.faults c.args.notes.now) (g.N.Sink.faults c.tell.new.notes)
-    ⊎ Gains (g.N.Sink.holds c.args.notes.now) note (g.N.Sink.holds c.tell.new.notes))
-    c.in-Err.ensures.outcome c.status.ensures c.tell.ensures.written
-
-pub returns-in-Err-clause-note_front : goal.returns-in-Err-clause-note_front
-returns-in-Err-clause-note_front g c =
-    note_told _ _ _ _ c.in-Err.fault c.status.result (WroteFront (g.N.Sink.holds c.args.notes.now) (g.N.Sink.holds c.tell.new.notes))
-    c.in-Err.ensures.outcome c.status.ensures c.tell.ensures.front
+pub returns-clause-no_legal_log : goal.returns-clause-no_legal_log
+returns-clause-no_legal_log g c is one bytes told =
+    let checked = check_done _ _ _ _ c.run_and_tell.result c.run_and_tell.ensures.cause is (inr one) bytes told in
+    has_no_legal_log bytes checked (sym one ∙ checked.holds.0)

@@ -1,6 +1,6 @@
 use Rattle.std.proofs.Common.{rules, ◌≡◌, ◌+◌, ◌<◌, length, get_or, ap, sym, ◌∙◌}
 use Rattle.task_model.specs.Seats.{steps_of}
-use Rattle.env_app.proofs.Fresh.{one_more, steps_at}
+use Rattle.env_check.proofs.Fresh.{one_more, steps_at}
 use Rattle.env_app.proofs.tests.gates.counted_bodies.Goals as goal
 
 pub loop-task-preserved : goal.loop-task-preserved

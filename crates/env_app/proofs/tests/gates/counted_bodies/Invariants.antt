@@ -1,5 +1,5 @@
 use Rattle.std.proofs.Common.{◌≡◌, length}
-use Rattle.env_app.proofs.Fresh.{AreFirst}
+use Rattle.env_check.proofs.Fresh.{AreFirst}
 use Rattle.env_app.proofs.tests.gates.counted_bodies.Given as goal
 
 abbrev pub invariant-loop-task : goal.invariant-loop-task

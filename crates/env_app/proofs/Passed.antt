@@ -1,0 +1,114 @@
+-- The lines of an input before the one that parts it.
+use Rattle.std.proofs.Common.{◌≡◌, ◌<◌, ◌≤◌, ◌+◌, ℕ, true, false, cond, List, [], ◌∷◌, ◌++◌, length, take, drop, get_or, refl, sym, ap, ◌∙◌, arith, append_assoc, append-nil}
+use Rattle.std.specs.List.{concat}
+use Rattle.std.proofs.lemmas.List.{drop_all, drop_at, drop_more, length-append, take-append-drop, take_all, take_at, take_more}
+use Rattle.run_log.specs.TextLines.{text_lines}
+use Rattle.run_log.proofs.LinesOfText.{concat-text_lines}
+use Rattle.env_app.specs.Input.{is_mark, before_mark, behind_mark, script_part, log_part}
+
+concat_append : (xs ys : List (List ℕ)) → concat (xs ++ ys) ≡ concat xs ++ concat ys
+concat_append [] ys = refl
+concat_append (x ∷ xs) ys = rw (concat_append xs ys) (sym (append_assoc x (concat xs) (concat ys)))
+
+-- so many lines were passed, up to this byte, and none of them is the mark
+pub record IsPassed (text : List ℕ) (n end : ℕ) : Type 0 where
+  pub end_is : end ≡ length (concat (take n (text_lines text)))
+  pub before : before_mark (text_lines text) ≡ take n (text_lines text) ++ before_mark (drop n (text_lines text))
+  pub behind : behind_mark (text_lines text) ≡ behind_mark (drop n (text_lines text))
+
+pub none_passed : (text : List ℕ) → IsPassed text 0 0
+none_passed text = record { end_is = refl; before = refl; behind = refl }
+
+-- the text is the lines that were passed, the next one, and those behind it
+parts_at : (text : List ℕ) (n : ℕ) (line : List ℕ) → n < length (text_lines text) → line ≡ get_or (text_lines text) n line
+    → text ≡ concat (take n (text_lines text)) ++ (line ++ concat (drop (n + 1) (text_lines text)))
+parts_at text n line within is =
+    let lines : List (List ℕ) = text_lines text in
+    let rest : concat (drop n lines) ≡ line ++ concat (drop (n + 1) lines) = ap concat (drop_more lines n line within) ∙ ap (λ l. l ++ concat (drop (n + 1) lines)) (sym is) in
+    sym (concat-text_lines text) ∙ ap concat (sym (take-append-drop n lines)) ∙ concat_append (take n lines) (drop n lines)
+    ∙ ap (λ r. concat (take n lines) ++ r) rest
+
+-- the next line ends within the text
+pub line_within : (text : List ℕ) (n end : ℕ) (line : List ℕ) → n < length (text_lines text) → line ≡ get_or (text_lines text) n line → IsPassed text n end
+    → end + length line ≤ length text
+line_within text n end line within is passed =
+    let whole = ap length (parts_at text n line within is) in
+    let rest : List ℕ = concat (drop (n + 1) (text_lines text)) in
+    omega (arith, whole, passed.end_is, length-append (concat (take n (text_lines text))) (line ++ rest), length-append line rest)
+
+-- it is passed too, where it is not the mark
+pub one_more : (text : List ℕ) (n end : ℕ) (line : List ℕ) → n < length (text_lines text) → line ≡ get_or (text_lines text) n line → is_mark line ≡ false
+    → IsPassed text n end → IsPassed text (n + 1) (end + length line)
+one_more text n end line within is other passed =
+    let lines : List (List ℕ) = text_lines text in
+    let more : take (n + 1) lines ≡ take n lines ++ line ∷ [] = take_more lines n line within ∙ ap (λ l. take n lines ++ l ∷ []) (sym is) in
+    let rest : drop n lines ≡ line ∷ drop (n + 1) lines = drop_more lines n line within ∙ ap (λ l. l ∷ drop (n + 1) lines) (sym is) in
+    record {
+      end_is = rw (more, concat_append, append-nil, length-append, passed.end_is) refl;
+      before = passed.before ∙ rw (rest, other, more) (sym (append_assoc (take n lines) (line ∷ []) (before_mark (drop (n + 1) lines))));
+      behind = passed.behind ∙ rw (rest, other) refl;
+    }
+
+-- where it is the mark, the script ends before it
+pub script_before : (text : List ℕ) (n end : ℕ) (line : List ℕ) → n < length (text_lines text) → line ≡ get_or (text_lines text) n line → is_mark line ≡ true
+    → IsPassed text n end → take end text ≡ script_part text
+unfolding script_part
+script_before text n end line within is mark passed =
+    let lines : List (List ℕ) = text_lines text in
+    let rest : drop n lines ≡ line ∷ drop (n + 1) lines = drop_more lines n line within ∙ ap (λ l. l ∷ drop (n + 1) lines) (sym is) in
+    let before : before_mark lines ≡ take n lines = passed.before ∙ rw (rest, mark) (append-nil (take n lines)) in
+    ap (take end) (parts_at text n line within is) ∙ take_at (concat (take n lines)) (line ++ concat (drop (n + 1) lines)) end (sym passed.end_is)
+    ∙ ap concat (sym before)
+
+-- and the log begins behind it
+pub log_behind : (text : List ℕ) (n end : ℕ) (line : List ℕ) → n < length (text_lines text) → line ≡ get_or (text_lines text) n line → is_mark line ≡ true
+    → IsPassed text n end → drop (end + length line) text ≡ log_part text
+unfolding log_part
+log_behind text n end line within is mark passed =
+    let lines : List (List ℕ) = text_lines text in
+    let rest : drop n lines ≡ line ∷ drop (n + 1) lines = drop_more lines n line within ∙ ap (λ l. l ∷ drop (n + 1) lines) (sym is) in
+    let behind : behind_mark lines ≡ drop (n + 1) lines = passed.behind ∙ rw (rest, mark) refl in
+    let front : List ℕ = concat (take n lines) in
+    let size : length (front ++ line) ≡ end + length line = rw (length-append front line, passed.end_is) refl in
+    ap (drop (end + length line)) (parts_at text n line within is ∙ sym (append_assoc front line (concat (drop (n + 1) lines))))
+    ∙ drop_at (front ++ line) (concat (drop (n + 1) lines)) (end + length line) size ∙ ap concat (sym behind)
+
+-- where all lines were passed, all is script
+pub all_script : (text : List ℕ) (n end : ℕ) → length (text_lines text) ≤ n → IsPassed text n end → text ≡ script_part text
+unfolding script_part
+all_script text n end all passed =
+    let lines : List (List ℕ) = text_lines text in
+    let before : before_mark lines ≡ lines = passed.before ∙ rw (drop_all n lines all, take_all n lines all) (append-nil lines) in
+    sym (concat-text_lines text) ∙ ap concat (sym before)
+
+-- and there is no log
+pub no_log : (text : List ℕ) (n end : ℕ) → length (text_lines text) ≤ n → IsPassed text n end → [] ≡ log_part text
+unfolding log_part
+no_log text n end all passed =
+    let lines : List (List ℕ) = text_lines text in
+    let behind : behind_mark lines ≡ [] = passed.behind ∙ rw (drop_all n lines all) refl in
+    ap concat (sym behind)
+
+-- ---- the parts are no longer than the input
+
+few_before : (lines : List (List ℕ)) → length (concat (before_mark lines)) ≤ length (concat lines)
+few_before [] = omega arith
+few_before (line ∷ lines) = elim (is_mark line) as (λ b. length (concat (cond b [] (line ∷ before_mark lines))) ≤ length (line ++ concat lines)) [
+  | true ↦ omega arith
+  | false ↦ omega (arith, few_before lines, length-append line (concat (before_mark lines)), length-append line (concat lines))
+]
+
+few_behind : (lines : List (List ℕ)) → length (concat (behind_mark lines)) ≤ length (concat lines)
+few_behind [] = omega arith
+few_behind (line ∷ lines) = elim (is_mark line) as (λ b. length (concat (cond b lines (behind_mark lines))) ≤ length (line ++ concat lines)) [
+  | true ↦ omega (arith, length-append line (concat lines))
+  | false ↦ omega (arith, few_behind lines, length-append line (concat lines))
+]
+
+pub script_within : (text : List ℕ) → length (script_part text) ≤ length text
+unfolding script_part
+script_within text = rw concat-text_lines at (few_before (text_lines text))
+
+pub log_within : (text : List ℕ) → length (log_part text) ≤ length text
+unfolding log_part
+log_within text = rw concat-text_lines at (few_behind (text_lines text))

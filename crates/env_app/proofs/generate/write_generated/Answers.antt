@@ -1,0 +1,11 @@
+use Rattle.std.proofs.Common.{subst}
+use Rattle.script_model.specs.Canonical.{canonical}
+use Rattle.env_app.specs.declared.words.Command.TheVariants.{Generate}
+use Rattle.env_app.proofs.Outcomes.{ends_written, put_text}
+use Rattle.env_app.proofs.generate.write_generated.Goals as goal
+
+pub returns-clause-outcome : goal.returns-clause-outcome
+returns-clause-outcome g c told source =
+    ends_written (Generate c.args.number c.args.size) told source _ (canonical c.in-Ok.script) c.write_plan.result (λ takes. absurd takes)
+    (λ Holds holds. subst (λ p. Holds 0 (canonical p)) c.in-Ok.ensures.script holds)
+    (put_text _ _ c.write_plan.result c.write_plan.ensures.written c.write_plan.ensures.cut c.write_plan.ensures.failed c.write_plan.ensures.faults)

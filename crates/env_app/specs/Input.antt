@@ -1,0 +1,29 @@
+-- The input of `check`: a script, and behind the line `%%` a log (this project's own form).
+use Rattle.std.specs.Prelude.{ℕ, Bool, if◌then◌else◌, List, [], ◌∷◌, codes}
+use Rattle.std.specs.List.{concat}
+use Rattle.std.specs.Str.Lines.{strip_carriage_return}
+use Rattle.std.specs.Io.BufRead.{strip_last}
+use Rattle.script_model.specs.Words.{is_word}
+use Rattle.run_log.specs.TextLines.{text_lines}
+
+-- the line is `%%`, without its line feed and without one carriage return before that
+abbrev pub is_mark : List ℕ → Bool
+is_mark line = is_word (strip_carriage_return (strip_last 10 line)) (codes "%%")
+
+-- the lines before the first that is the mark, or all where none is
+abbrev pub before_mark : List (List ℕ) → List (List ℕ)
+before_mark [] = []
+before_mark (line ∷ lines) = if is_mark line then [] else line ∷ before_mark lines
+
+-- the lines behind it
+abbrev pub behind_mark : List (List ℕ) → List (List ℕ)
+behind_mark [] = []
+behind_mark (line ∷ lines) = if is_mark line then lines else behind_mark lines
+
+-- the bytes of the script
+unfoldable pub script_part : List ℕ → List ℕ
+script_part bytes = concat (before_mark (text_lines bytes))
+
+-- the bytes of the log
+unfoldable pub log_part : List ℕ → List ℕ
+log_part bytes = concat (behind_mark (text_lines bytes))

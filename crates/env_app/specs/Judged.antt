@@ -1,0 +1,58 @@
+-- What `check` says of a log (this project's own rule).
+use Rattle.std.specs.Prelude.{◌≡◌, ◌⊎◌, ℕ, ◌+◌, List, ◌++◌, All, codes, decimal, Option, Some, None}
+use Rattle.task_base.specs.Plan.{Plan}
+use Rattle.task_base.specs.declared.entry.Entry.{Entry}
+use Rattle.script_model.specs.Grammar.{Reads}
+use Rattle.log_model.specs.Fits.{Fits}
+use Rattle.log_model.specs.LogText.{log_text}
+use Rattle.hist_model.specs.Legal.{IsLegal}
+use Rattle.hist_model.specs.Script.{IsWhole}
+use Rattle.run_log.specs.TextLines.{IsBadLine}
+use Rattle.env_check.specs.declared.verdict.Verdict.{Verdict}
+use Rattle.env_check.specs.declared.verdict.Verdict.TheVariants.{Legal, Illegal}
+use Rattle.env_check.specs.Verdicts.{verdict_of}
+use Rattle.env_app.specs.Input.{script_part, log_part}
+
+-- the text is that of this log
+pub record IsTextOf (text : List ℕ) (log : List Entry) : Type 0 where
+  pub fits : All Fits log
+  pub same : log_text log ≡ text
+
+-- the input is a script, and behind it the text of a legal, whole log of that script
+pub record HasLegalLog (bytes : List ℕ) : Type 0 where
+  pub script : Plan
+  pub log : List Entry
+  pub reads : Reads (script_part bytes) script
+  pub text : IsTextOf (log_part bytes) log
+  pub legal : IsLegal script log
+  pub whole : IsWhole script log
+
+-- the line of a log, counted from 1, that a verdict names: that of the entry at its place
+abbrev pub line_in : Verdict → Option ℕ
+line_in Legal = None
+line_in (Illegal place) = Some (place + 1)
+
+-- the line at which the text is found to be no legal, whole log of the script, or none: where it is the text of a log, that of
+-- the verdict on this log; else the first line that is no log line of its place
+abbrev pub IsFoundAt : Plan → List ℕ → Option ℕ → Type 0
+IsFoundAt script text line =
+    ((log : List Entry) × IsTextOf text log × (line ≡ line_in (verdict_of script log))) ⊎ ((bad : ℕ) × IsBadLine text bad × (line ≡ Some bad))
+
+-- what is written of that line
+abbrev pub verdict_text : Option ℕ → List ℕ
+verdict_text None = codes "legal\n"
+verdict_text (Some line) = codes "illegal " ++ decimal line ++ codes "\n"
+
+-- the status that goes with it
+abbrev pub verdict_status : Option ℕ → ℕ
+verdict_status None = 0
+verdict_status (Some line) = 1
+
+-- the input begins with a script, and this holds of the status of the line at which the log behind it is found wrong, and of
+-- what is written of that line
+pub record HasChecked (bytes : List ℕ) (Holds : ℕ → List ℕ → Type 0) : Type 0 where
+  pub script : Plan
+  pub line : Option ℕ
+  pub reads : Reads (script_part bytes) script
+  pub found : IsFoundAt script (log_part bytes) line
+  pub holds : Holds (verdict_status line) (verdict_text line)

@@ -1,0 +1,38 @@
+ghost use Rattle.std.specs.Prelude.{◌≡◌};
+ghost use Rattle.std.specs.Io.BufRead.{strip_last};
+ghost use Rattle.env_app.specs.Input.{is_mark, log_part, script_part};
+
+use script_lines::without_return;
+
+/// The bytes of the script and those of the log, which the first line that is `%%` parts.
+pub fn parts_of(bytes: &[u8]) -> (&[u8], &[u8])
+    ensures script { result.0.now ≡ script_part bytes.now }
+    ensures log { result.1.now ≡ log_part bytes.now }
+{
+    let mut end = 0;
+    for line in bytes.split_inclusive(|byte| *byte == b'\n') {
+        let next = end + line.len();
+        if is_mark(line) {
+            return (&bytes[..end], &bytes[next..]);
+        }
+        end = next;
+    }
+    (bytes, &[])
+}
+
+/// Whether the line parts the script from the log.
+fn is_mark(line: &[u8]) -> bool
+    ensures { result ≡ is_mark line.now }
+{
+    without_return(without_feed(line)) == b"%%".as_slice()
+}
+
+/// A line without the line feed at its end.
+fn without_feed(line: &[u8]) -> &[u8]
+    ensures { result.now ≡ strip_last 10 line.now }
+{
+    match line {
+        [rest @ .., b'\n'] => rest,
+        _ => line,
+    }
+}

@@ -1,0 +1,14 @@
+pub mod Ends
+pub mod Fresh
+pub mod Hands
+pub mod Judged
+pub mod Passes
+pub mod Posts
+pub mod Replies
+pub mod Scripted
+pub mod Takes
+pub mod UnderWay
+pub mod Verdicts
+pub mod Waited
+pub mod Whole
+pub mod Wishes

@@ -1,0 +1,177 @@
+ghost use Rattle.std.specs.Prelude.{◌≡◌, ◌≤◌, ℕ, true};
+ghost use Rattle.std.specs.List.{list_any};
+ghost use Rattle.hist_model.specs.Allowed.{by_task, enters};
+ghost use Rattle.env_core.specs.Views.{Enters};
+ghost use Rattle.env_check.specs.Hands.{told_by};
+ghost use Rattle.env_check.specs.Follows.{Follows, entry_by, with_reply};
+
+use crate::hand::{AtTask, Hand, advance, take_task};
+use crate::replay::Replay;
+use task_base::{Kind, QueueId, RunnerId, Scope, SeatNo, Step, TaskId};
+use task_body::Act;
+
+impl AtTask {
+    /// Whether the next act step makes this entry.
+    pub(crate) fn makes(&self, kind: &Kind) -> bool
+        ensures { result ≡ list_any (λ step. enters self.now.work.task step kind.now) (told_by self.now.next) }
+    {
+        match self.next {
+            Act::Post {
+                task,
+                runner,
+                delay,
+            } => is_post(kind, task, runner, delay),
+            Act::Main { task, queue, delay } => is_main_post(kind, task, queue, delay),
+            Act::Enter(scope) => is_enter(kind, self.work.task(), scope),
+            Act::Leave => is_leave(kind, self.work.task()),
+            Act::Did(_) | Act::Finished => false,
+        }
+    }
+}
+
+/// Whether it is a post of this task, with any reply.
+fn is_post(kind: &Kind, task: TaskId, runner: RunnerId, delay: u64) -> bool
+    ensures { (t : ℕ) → result ≡ enters t (Step.Post task runner delay) kind.now }
+{
+    match *kind {
+        Kind::Post {
+            task: t,
+            runner: r,
+            delay: d,
+            ok: _,
+        } => t == task && r == runner && d == delay,
+        _ => false,
+    }
+}
+
+/// Whether it is a post of this task to a main queue, with any reply.
+fn is_main_post(kind: &Kind, task: TaskId, queue: QueueId, delay: u64) -> bool
+    ensures { (t : ℕ) → result ≡ enters t (Step.Main task queue delay) kind.now }
+{
+    match *kind {
+        Kind::Main {
+            task: t,
+            queue: q,
+            delay: d,
+            ok: _,
+        } => t == task && q == queue && d == delay,
+        _ => false,
+    }
+}
+
+/// Whether this task opens a scope of this type.
+fn is_enter(kind: &Kind, task: TaskId, scope: Scope) -> bool
+    ensures { result ≡ enters task (Step.Block scope) kind.now }
+{
+    match *kind {
+        Kind::Enter { task: t, scope: s } => t == task && s == scope,
+        _ => false,
+    }
+}
+
+/// Whether this task closes its scope.
+fn is_leave(kind: &Kind, task: TaskId) -> bool
+    ensures { result ≡ enters task Step.Unblock kind.now }
+{
+    match *kind {
+        Kind::Leave { task: t } => t == task,
+        _ => false,
+    }
+}
+
+// Posts, which the driver makes by its script and tasks by their steps, and the other act steps of tasks.
+impl Replay {
+    /// A task was posted to a runner, with this reply.
+    pub(crate) fn post(
+        &mut self,
+        seat: SeatNo,
+        task: TaskId,
+        runner: RunnerId,
+        delay: u64,
+        ok: bool,
+    ) -> bool
+        requires { seat ≤ self.old.script.workers }
+        ensures { Follows self.old self.new (entry_by seat (Kind.Post task runner delay ok)) result }
+    {
+        let kind = Kind::Post {
+            task,
+            runner,
+            delay,
+            ok,
+        };
+        if self.is_by_script(seat, &kind) {
+            return self.env.post(seat, task, runner, delay) == ok;
+        }
+        if !self.is_by_task(seat, &kind) {
+            return false;
+        }
+        self.act(seat, &kind) == ok
+    }
+
+    /// A task was posted to a main queue, with this reply.
+    pub(crate) fn main_post(
+        &mut self,
+        seat: SeatNo,
+        task: TaskId,
+        queue: QueueId,
+        delay: u64,
+        ok: bool,
+    ) -> bool
+        requires { seat ≤ self.old.script.workers }
+        ensures { Follows self.old self.new (entry_by seat (Kind.Main task queue delay ok)) result }
+    {
+        let kind = Kind::Main {
+            task,
+            queue,
+            delay,
+            ok,
+        };
+        if self.is_by_script(seat, &kind) {
+            return self.env.main_post(seat, task, queue, delay) == ok;
+        }
+        if !self.is_by_task(seat, &kind) {
+            return false;
+        }
+        self.act(seat, &kind) == ok
+    }
+
+    /// A task opened a blocking scope.
+    pub(crate) fn enter(&mut self, seat: SeatNo, task: TaskId, scope: Scope) -> bool
+        requires { seat ≤ self.old.script.workers }
+        ensures { Follows self.old self.new (entry_by seat (Kind.Enter task scope)) result }
+    {
+        let kind = Kind::Enter { task, scope };
+        if !self.is_by_task(seat, &kind) {
+            return false;
+        }
+        self.act(seat, &kind);
+        true
+    }
+
+    /// A task closed its blocking scope.
+    pub(crate) fn leave(&mut self, seat: SeatNo, task: TaskId) -> bool
+        requires { seat ≤ self.old.script.workers }
+        ensures { Follows self.old self.new (entry_by seat (Kind.Leave task)) result }
+    {
+        let kind = Kind::Leave { task };
+        if !self.is_by_task(seat, &kind) {
+            return false;
+        }
+        self.act(seat, &kind);
+        true
+    }
+
+    /// The task that the seat runs does its next act step, which makes this entry but for the reply, and goes on to the one
+    /// behind it. Answers the reply.
+    fn act(&mut self, seat: SeatNo, kind: &Kind) -> bool
+        requires known { seat ≤ self.old.script.workers }
+        requires due { by_task self.old.script self.old.history seat kind.now ≡ true }
+        ensures { Enters self.old self.new seat (with_reply kind.now result) }
+    {
+        let _kind = kind;
+        let (work, next) = take_task(&mut self.hands, seat).into_parts();
+        let ok = self.env.act(seat, next);
+        self.hands[seat as usize] = Hand::Task(advance(work));
+        ok
+    }
+}

@@ -1,0 +1,21 @@
+//! The judge of logs: whether a log is one that a run of the script may write. It follows the log entry by entry in an
+//! environment of its own, and so takes about as long as the run.
+#![tactic(auto)]
+
+mod act;
+mod asks;
+mod check;
+mod driver;
+mod follow;
+mod hand;
+mod items;
+mod replay;
+mod tasks;
+mod verdict;
+mod waits;
+
+pub use check::check_log;
+pub use verdict::Verdict;
+
+#[cfg(test)]
+mod tests;
