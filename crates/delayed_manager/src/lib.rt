@@ -7,6 +7,3 @@ mod ripening;
 
 pub use delayed::Delayed;
 pub use ripening::Ripening;
-
-#[cfg(test)]
-mod tests;

@@ -23,6 +23,3 @@ mod written;
 pub use crew::run_crew;
 pub use notes::tell;
 pub use run::run_words;
-
-#[cfg(test)]
-mod tests;

@@ -11,7 +11,8 @@ use Rattle.task_base.specs.declared.script.Action.{Action}
 use Rattle.task_base.specs.declared.script.Action.TheVariants as actions
 use Rattle.task_model.specs.Jobs.{claimed, free_id, item_value, may_enter}
 use Rattle.task_model.specs.Seats.{Holding, holding, is_free, running}
-use Rattle.hist_model.specs.Allowed.{by_script, enters_job, may_come, next_item, same_number}
+use Rattle.task_model.specs.Sources.{next_item}
+use Rattle.hist_model.specs.Allowed.{by_script, enters_job, may_come, same_number}
 use Rattle.hist_model.specs.Script.{wants}
 use Rattle.hist_model.specs.Views.{own_entries}
 use Rattle.hist_model.proofs.Laws.Choice.{found}

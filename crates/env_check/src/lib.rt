@@ -16,6 +16,3 @@ mod waits;
 
 pub use check::check_log;
 pub use verdict::Verdict;
-
-#[cfg(test)]
-mod tests;

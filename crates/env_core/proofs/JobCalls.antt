@@ -11,7 +11,7 @@ use Rattle.env_core.specs.Drawer.{empties}
 use Rattle.env_core.specs.Holds.{Holds, IsAt}
 use Rattle.env_core.specs.Jobs.{CanEndItem, held_by}
 use Rattle.env_core.specs.Views.{EnvView}
-use Rattle.hist_model.specs.Allowed.{IsAllowed, next_item}
+use Rattle.hist_model.specs.Allowed.{IsAllowed}
 use Rattle.pool_core.specs.JobCalls.{CanJoin, CanPostJob, CanStep, KnowsJob, entering, joined_of}
 use Rattle.pool_core.specs.StandsFor.{StandsFor}
 use Rattle.pool_core.specs.declared.pool.Pool.{Pool}
@@ -29,7 +29,7 @@ use Rattle.task_base.specs.declared.entry.Kind.{Kind}
 use Rattle.task_base.specs.declared.step.Step.{Step}
 use Rattle.task_body.specs.Passes.{PassView}
 use Rattle.task_model.specs.Jobs.{claimed, free_id, is_empty, may_enter, reply_of}
-use Rattle.task_model.specs.Sources.{leaves}
+use Rattle.task_model.specs.Sources.{leaves, next_item}
 use Rattle.task_base.specs.declared.entry.Kind.TheVariants as kinds
 
 -- What the pool asks.

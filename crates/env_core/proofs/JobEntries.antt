@@ -12,7 +12,7 @@ use Rattle.hist_model.proofs.Laws.EntriesJobs.{claimed_within}
 use Rattle.hist_model.proofs.Laws.Legal.{legal_induction}
 use Rattle.hist_model.proofs.Laws.OneThing.{legal_does_one_thing, wanted_by}
 use Rattle.hist_model.proofs.Laws.Own.{holding_own, own_entries_push}
-use Rattle.hist_model.specs.Allowed.{IsAllowed, by_script, is_job, is_ready_worker, may_come, next_item, same_number, same_reply, is_reply}
+use Rattle.hist_model.specs.Allowed.{IsAllowed, by_script, is_job, is_ready_worker, may_come, same_number, same_reply, is_reply}
 use Rattle.hist_model.specs.Laws.Agenda.{completes}
 use Rattle.hist_model.specs.Legal.{IsLegal}
 use Rattle.hist_model.specs.Script.{Current, current, current_from, wants}
@@ -37,7 +37,7 @@ use Rattle.task_model.proofs.Growth.{is_cancelled_push}
 use Rattle.task_model.specs.Jobs.{cancels, cap_of, claimed, concurrency, done, free_id, is_cancelled, is_empty, is_finished_job}
 use Rattle.task_model.specs.Jobs.{is_job_accepted, items_of, job_post_of, job_sum, may_enter, reply_of}
 use Rattle.task_model.specs.Refusal.{is_job_forbidden}
-use Rattle.task_model.specs.Sources.{best_of}
+use Rattle.task_model.specs.Sources.{best_of, next_item}
 use Rattle.task_model.specs.Seats.{holding, inside}
 use Rattle.task_base.specs.declared.entry.JobReply.TheVariants as replies
 use Rattle.task_base.specs.declared.entry.Kind.TheVariants as kinds

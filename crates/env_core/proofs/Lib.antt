@@ -8,10 +8,6 @@ pub mod Wanted
 pub mod Entries
 pub mod Taking
 pub mod Acts
-pub mod Small
-pub mod Tested
-pub mod TestedCalls
-pub mod TestedJobs
 pub mod Starts
 pub mod JobEntries
 pub mod JobCalls

@@ -4,7 +4,8 @@ use Rattle.hist_model.proofs.Laws.Consistent.{legal_is_consistent}
 use Rattle.hist_model.proofs.Laws.OneThing.{legal_does_one_thing, wanted_by}
 use Rattle.hist_model.proofs.Laws.Own.{holding_own, running_own}
 use Rattle.hist_model.specs.Allowed.{by_script, by_task, enters}
-use Rattle.hist_model.specs.Laws.Consistent.{RunsAs, RunsMainTask, RunsPoolTask, is_join, is_pump}
+use Rattle.pool_laws.specs.Seats.{RunsPoolTask}
+use Rattle.hist_model.specs.Laws.Consistent.{RunsAs, RunsMainTask, is_join, is_pump}
 use Rattle.hist_model.specs.Legal.{IsLegal}
 use Rattle.hist_model.specs.Script.{Current, behind_action, current, current_from, wants}
 use Rattle.hist_model.specs.Views.{own_entries}

@@ -10,7 +10,7 @@ use Rattle.hist_model.proofs.Laws.LegalPast.{legal_past}
 use Rattle.hist_model.proofs.Laws.PostingCounts.{counted, posted_at_most_once}
 use Rattle.hist_model.proofs.Laws.Takes.{by_driver, take_is}
 use Rattle.list_laws.proofs.Finds.{contained_counts}
-use Rattle.hist_model.proofs.Laws.Whose.{runs_behind}
+use Rattle.pool_laws.proofs.Seats.Whose.{runs_behind}
 use Rattle.list_laws.proofs.Values.{eqb-same}
 use Rattle.pool_laws.proofs.Room.Capacity.{scope_kept}
 use Rattle.pool_laws.proofs.Seats.Running.{acts_other}

@@ -5,4 +5,3 @@ pub mod Drawer
 pub mod Holds
 pub mod Jobs
 pub mod Calls
-pub mod Played

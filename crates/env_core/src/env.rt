@@ -21,6 +21,7 @@ mod jobs;
 use crate::agenda::Agenda;
 use hist_model::Chronicle;
 use pool_core::{Pool, PoolTake};
+use script_bound::events_bound;
 use sequence_manager::Manager;
 use shutdown_phase::StillBlocked;
 use std::alloc::{AllocError, Global};
@@ -30,7 +31,6 @@ use task_base::{
     Script, SeatNo, TaskId,
 };
 use task_body::{Act, Assignment, JobPass, Taken, TaskBody};
-use task_script::events_bound;
 
 /// The environment of one run (Chromium's `base/task` as a browser holds it): the script, the bodies of the tasks, the
 /// pool, the main queues, and the history.
@@ -496,11 +496,7 @@ fn drawer<B: TaskBody>(
 ) -> Result<Vec<Option<Box<B>>>, AllocError>
     ensures { IfOk result (λ drawer. drawer.items ≡ map Some bodies.items) }
 {
-    let mut drawer = Vec::with_capacity(alloc, bodies.len())?;
-    for body in bodies {
-        drawer.push(Some(body))?;
-    }
-    Ok(drawer)
+    bodies.into_iter().map(Some).collect(alloc)
 }
 
 // Drops the body of a task whose post was refused.

@@ -6,6 +6,3 @@ mod agenda;
 mod env;
 
 pub use env::Env;
-
-#[cfg(test)]
-mod tests;

@@ -8,4 +8,3 @@ pub mod Time
 pub mod Done
 pub mod Pump
 pub mod Joins
-pub mod Tested

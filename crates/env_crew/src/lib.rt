@@ -14,6 +14,3 @@ pub use assigned::Assigned;
 pub use desk::{Desk, Given};
 pub use driver::drive;
 pub use worker::{Served, serve, work};
-
-#[cfg(test)]
-mod tests;

@@ -1,13 +1,8 @@
 -- What follows from the words on bytes and counts.
-use Rattle.std.proofs.Common.{◌≡◌, ◌≤◌, ◌+◌, ◌-◌, ℕ, List, [], ◌++◌, length, take, drop, Option, None, Some, refl, sym, ◌∙◌, ap, inl, inr, append_assoc, append-nil, take-add, arith}
+use Rattle.std.proofs.Common.{◌≡◌, ◌+◌, ◌-◌, ℕ, List, [], ◌++◌, length, take, drop, Option, None, Some, refl, sym, ◌∙◌, ap, append_assoc, append-nil, take-add}
 use Rattle.std.proofs.lemmas.List.{take_rest}
 use Rattle.std.specs.Option.{option_map}
-use Rattle.env_io.specs.Bytes.{Gives, Gains, Rose}
-
--- no piece came, and nothing changed
-pub Gives-nil : (a : Option (List ℕ)) → Gives a [] a
-Gives-nil None = refl
-Gives-nil (Some x) = refl
+use Rattle.env_io.specs.Bytes.{Gives, Gains}
 
 -- two pieces that came one after the other are one piece
 pub Gives-trans : (a b c : Option (List ℕ)) (p q : List ℕ) → Gives a p b → Gives b q c → Gives a (p ++ q) c
@@ -32,8 +27,3 @@ pub gains_more : (a b c : Option (List ℕ)) (piece : List ℕ) (done n : ℕ) �
     → Gains b (take n (take (length piece - done) (drop done piece))) c → Gains a (take (done + n) piece) c
 gains_more a b c piece done n first second =
     rw (take-add done n piece) (Gains-trans a b c (take done piece) (take n (drop done piece)) first (rw (take_rest piece done) at second))
-
--- what rose in the last of some calls rose in all of them together
-pub Rose-after : (a b c : ℕ) → a ≤ b → Rose b c → Rose a c
-Rose-after a b c before (inl above) = inl (omega arith)
-Rose-after a b c before (inr last) = inr last

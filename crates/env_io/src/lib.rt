@@ -21,6 +21,3 @@ pub use gate::{Gate, HoldGate, OpenGate};
 pub use real::{RealClock, StdSink, StdSource};
 pub use sink::{CountSink, MemSink, Sink, put_all};
 pub use source::{MemSource, Source, SureSource};
-
-#[cfg(test)]
-mod tests;

@@ -1,4 +1,2 @@
 pub mod Sits
 pub mod Refusals
-pub mod Tested
-pub mod Crossing

@@ -1,3 +1,3 @@
 pub mod Sits
-pub mod Samples
+pub mod Holds
 pub mod Workers

@@ -6,6 +6,7 @@ ghost use Rattle.hist_model.specs.Views.{IsPrefix};
 ghost use Rattle.turn_table.specs.Shutdowns.{IsShutdownAt};
 ghost use Rattle.env_shared.specs.Sits.{Seated};
 
+use crate::hold::Hold;
 use crate::shared::{EnvSeat, Shared};
 use env_crew::{Desk, Given};
 use shutdown_phase::StillBlocked;
@@ -99,253 +100,173 @@ impl<'a, B: TaskBody> Desk for SharedDesk<'a, B> {
     }
 
     fn post<R: Wait>(&mut self, rt: &R, task: TaskId, runner: RunnerId, delay: u64) -> bool {
-        let shared = self.shared;
-        let turnstile = &shared.turnstile;
-        let seat = self.seat.take().unwrap();
-        let number = seat.number();
-        let (mut env, holding) = turnstile.turn(rt, seat);
-        let ok = env.post(number, task, runner, delay);
-        self.seat = Some(turnstile.enter(env, holding));
+        let (mut env, hold) = Hold::begin(rt, self.shared, &mut self.seat);
+        let ok = env.post(hold.number(), task, runner, delay);
+        self.seat = Some(hold.enter(env));
         ok
     }
 
     fn main_post<R: Wait>(&mut self, rt: &R, task: TaskId, queue: QueueId, delay: u64) -> bool {
-        let shared = self.shared;
-        let turnstile = &shared.turnstile;
-        let seat = self.seat.take().unwrap();
-        let number = seat.number();
-        let (mut env, holding) = turnstile.turn(rt, seat);
-        let ok = env.main_post(number, task, queue, delay);
-        self.seat = Some(turnstile.enter(env, holding));
+        let (mut env, hold) = Hold::begin(rt, self.shared, &mut self.seat);
+        let ok = env.main_post(hold.number(), task, queue, delay);
+        self.seat = Some(hold.enter(env));
         ok
     }
 
     fn tick<R: Wait>(&mut self, rt: &R, reading: u64) -> u64 {
-        let shared = self.shared;
-        let turnstile = &shared.turnstile;
-        let seat = self.seat.take().unwrap();
-        let number = seat.number();
-        let (mut env, holding) = turnstile.turn(rt, seat);
-        let now = env.tick(number, reading);
-        self.seat = Some(turnstile.enter(env, holding));
+        let (mut env, hold) = Hold::begin(rt, self.shared, &mut self.seat);
+        let now = env.tick(hold.number(), reading);
+        self.seat = Some(hold.enter(env));
         now
     }
 
     fn policy<R: Wait>(&mut self, rt: &R, policy: Policy) {
-        let shared = self.shared;
-        let turnstile = &shared.turnstile;
-        let seat = self.seat.take().unwrap();
-        let number = seat.number();
-        let (mut env, holding) = turnstile.turn(rt, seat);
-        env.policy(number, policy);
-        self.seat = Some(turnstile.enter(env, holding));
+        let (mut env, hold) = Hold::begin(rt, self.shared, &mut self.seat);
+        env.policy(hold.number(), policy);
+        self.seat = Some(hold.enter(env));
     }
 
     fn fence<R: Wait>(&mut self, rt: &R, queue: QueueId, at: FenceAt) {
-        let shared = self.shared;
-        let turnstile = &shared.turnstile;
-        let seat = self.seat.take().unwrap();
-        let number = seat.number();
-        let (mut env, holding) = turnstile.turn(rt, seat);
-        env.fence(number, queue, at);
-        self.seat = Some(turnstile.enter(env, holding));
+        let (mut env, hold) = Hold::begin(rt, self.shared, &mut self.seat);
+        env.fence(hold.number(), queue, at);
+        self.seat = Some(hold.enter(env));
     }
 
     fn unfence<R: Wait>(&mut self, rt: &R, queue: QueueId) {
-        let shared = self.shared;
-        let turnstile = &shared.turnstile;
-        let seat = self.seat.take().unwrap();
-        let number = seat.number();
-        let (mut env, holding) = turnstile.turn(rt, seat);
-        env.unfence(number, queue);
-        self.seat = Some(turnstile.enter(env, holding));
+        let (mut env, hold) = Hold::begin(rt, self.shared, &mut self.seat);
+        env.unfence(hold.number(), queue);
+        self.seat = Some(hold.enter(env));
     }
 
     fn vote<R: Wait>(&mut self, rt: &R, queue: QueueId, voter: u8, on: bool) {
-        let shared = self.shared;
-        let turnstile = &shared.turnstile;
-        let seat = self.seat.take().unwrap();
-        let number = seat.number();
-        let (mut env, holding) = turnstile.turn(rt, seat);
-        env.vote(number, queue, voter, on);
-        self.seat = Some(turnstile.enter(env, holding));
+        let (mut env, hold) = Hold::begin(rt, self.shared, &mut self.seat);
+        env.vote(hold.number(), queue, voter, on);
+        self.seat = Some(hold.enter(env));
     }
 
     fn rank<R: Wait>(&mut self, rt: &R, queue: QueueId, class: u8) {
-        let shared = self.shared;
-        let turnstile = &shared.turnstile;
-        let seat = self.seat.take().unwrap();
-        let number = seat.number();
-        let (mut env, holding) = turnstile.turn(rt, seat);
-        env.rank(number, queue, class);
-        self.seat = Some(turnstile.enter(env, holding));
+        let (mut env, hold) = Hold::begin(rt, self.shared, &mut self.seat);
+        env.rank(hold.number(), queue, class);
+        self.seat = Some(hold.enter(env));
     }
 
     fn close_queue<R: Wait>(&mut self, rt: &R, queue: QueueId) {
-        let shared = self.shared;
-        let turnstile = &shared.turnstile;
-        let seat = self.seat.take().unwrap();
-        let number = seat.number();
-        let (mut env, holding) = turnstile.turn(rt, seat);
-        env.close_queue(number, queue);
-        self.seat = Some(turnstile.enter(env, holding));
+        let (mut env, hold) = Hold::begin(rt, self.shared, &mut self.seat);
+        env.close_queue(hold.number(), queue);
+        self.seat = Some(hold.enter(env));
     }
 
     fn main_take<R: Wait>(&mut self, rt: &R) -> Option<Assignment<B>> {
-        let shared = self.shared;
-        let turnstile = &shared.turnstile;
-        let seat = self.seat.take().unwrap();
-        let number = seat.number();
-        let (mut env, holding) = turnstile.turn(rt, seat);
-        match env.main_take(number) {
+        let (mut env, hold) = Hold::begin(rt, self.shared, &mut self.seat);
+        match env.main_take(hold.number()) {
             Some(work) => {
-                self.seat = Some(turnstile.enter(env, holding));
+                self.seat = Some(hold.enter(env));
                 Some(work)
             }
             None => {
-                self.seat = Some(turnstile.enter(env, holding));
+                self.seat = Some(hold.enter(env));
                 None
             }
         }
     }
 
     fn main_end<R: Wait>(&mut self, rt: &R, work: Assignment<B>) {
-        let shared = self.shared;
-        let turnstile = &shared.turnstile;
-        let seat = self.seat.take().unwrap();
-        let number = seat.number();
-        let (mut env, holding) = turnstile.turn(rt, seat);
-        env.main_end(number, work);
-        self.seat = Some(turnstile.enter(env, holding));
+        let (mut env, hold) = Hold::begin(rt, self.shared, &mut self.seat);
+        env.main_end(hold.number(), work);
+        self.seat = Some(hold.enter(env));
     }
 
     fn take<R: Wait>(&mut self, rt: &R) -> Given<Assignment<B>> {
-        let shared = self.shared;
-        let turnstile = &shared.turnstile;
-        let seat = self.seat.take().unwrap();
-        let number = seat.number();
-        let (mut env, holding) = turnstile.turn(rt, seat);
-        match env.take(number) {
+        let (mut env, hold) = Hold::begin(rt, self.shared, &mut self.seat);
+        match env.take(hold.number()) {
             Taken::Task(work) => {
-                self.seat = Some(turnstile.enter(env, holding));
+                self.seat = Some(hold.enter(env));
                 Given::Task(work)
             }
             Taken::Item(pass) => {
-                self.seat = Some(turnstile.enter(env, holding));
+                self.seat = Some(hold.enter(env));
                 Given::Item(pass)
             }
             Taken::Nothing => {
-                self.seat = Some(turnstile.back(env, holding));
+                self.seat = Some(hold.back(env));
                 Given::Nothing
             }
             Taken::Over => {
-                self.seat = Some(turnstile.back(env, holding));
+                self.seat = Some(hold.back(env));
                 Given::Over
             }
         }
     }
 
     fn act<R: Wait>(&mut self, rt: &R, act: Act) -> bool {
-        let shared = self.shared;
-        let turnstile = &shared.turnstile;
-        let seat = self.seat.take().unwrap();
-        let number = seat.number();
-        let (mut env, holding) = turnstile.turn(rt, seat);
-        let ok = env.act(number, act);
-        self.seat = Some(turnstile.enter(env, holding));
+        let (mut env, hold) = Hold::begin(rt, self.shared, &mut self.seat);
+        let ok = env.act(hold.number(), act);
+        self.seat = Some(hold.enter(env));
         ok
     }
 
     fn end<R: Wait>(&mut self, rt: &R, work: Assignment<B>) {
-        let shared = self.shared;
-        let turnstile = &shared.turnstile;
-        let seat = self.seat.take().unwrap();
-        let number = seat.number();
-        let (mut env, holding) = turnstile.turn(rt, seat);
-        env.end(number, work);
-        self.seat = Some(turnstile.enter(env, holding));
+        let (mut env, hold) = Hold::begin(rt, self.shared, &mut self.seat);
+        env.end(hold.number(), work);
+        self.seat = Some(hold.enter(env));
     }
 
     fn job_post<R: Wait>(&mut self, rt: &R, job: JobId) -> bool {
-        let shared = self.shared;
-        let turnstile = &shared.turnstile;
-        let seat = self.seat.take().unwrap();
-        let number = seat.number();
-        let (mut env, holding) = turnstile.turn(rt, seat);
-        let ok = env.job_post(number, job);
-        self.seat = Some(turnstile.enter(env, holding));
+        let (mut env, hold) = Hold::begin(rt, self.shared, &mut self.seat);
+        let ok = env.job_post(hold.number(), job);
+        self.seat = Some(hold.enter(env));
         ok
     }
 
     fn job_take<R: Wait>(&mut self, rt: &R, job: JobId) -> Option<JobPass> {
-        let shared = self.shared;
-        let turnstile = &shared.turnstile;
-        let seat = self.seat.take().unwrap();
-        let number = seat.number();
-        let (mut env, holding) = turnstile.turn(rt, seat);
-        let Some(pass) = env.job_take(number, job) else {
-            self.seat = Some(turnstile.back(env, holding));
+        let (mut env, hold) = Hold::begin(rt, self.shared, &mut self.seat);
+        let Some(pass) = env.job_take(hold.number(), job) else {
+            self.seat = Some(hold.back(env));
             return None;
         };
-        self.seat = Some(turnstile.enter(env, holding));
+        self.seat = Some(hold.enter(env));
         Some(pass)
     }
 
     fn job_step<R: Wait>(&mut self, rt: &R, pass: JobPass, value: u64) -> Option<JobPass> {
-        let shared = self.shared;
-        let turnstile = &shared.turnstile;
-        let seat = self.seat.take().unwrap();
-        let number = seat.number();
-        let (mut env, holding) = turnstile.turn(rt, seat);
-        let Some(next) = env.job_step(number, pass, value) else {
-            self.seat = Some(turnstile.enter(env, holding));
+        let (mut env, hold) = Hold::begin(rt, self.shared, &mut self.seat);
+        let Some(next) = env.job_step(hold.number(), pass, value) else {
+            self.seat = Some(hold.enter(env));
             return None;
         };
-        self.seat = Some(turnstile.enter(env, holding));
+        self.seat = Some(hold.enter(env));
         Some(next)
     }
 
     fn job_cancel<R: Wait>(&mut self, rt: &R, job: JobId) {
-        let shared = self.shared;
-        let turnstile = &shared.turnstile;
-        let seat = self.seat.take().unwrap();
-        let number = seat.number();
-        let (mut env, holding) = turnstile.turn(rt, seat);
-        env.job_cancel(number, job);
-        self.seat = Some(turnstile.enter(env, holding));
+        let (mut env, hold) = Hold::begin(rt, self.shared, &mut self.seat);
+        env.job_cancel(hold.number(), job);
+        self.seat = Some(hold.enter(env));
     }
 
     fn try_cancelled<R: Wait>(&mut self, rt: &R, job: JobId) -> Result<(), NotYet> {
-        let shared = self.shared;
-        let turnstile = &shared.turnstile;
-        let seat = self.seat.take().unwrap();
-        let number = seat.number();
-        let (mut env, holding) = turnstile.turn(rt, seat);
-        match env.try_cancelled(number, job) {
+        let (mut env, hold) = Hold::begin(rt, self.shared, &mut self.seat);
+        match env.try_cancelled(hold.number(), job) {
             Ok(()) => {
-                self.seat = Some(turnstile.enter(env, holding));
+                self.seat = Some(hold.enter(env));
                 Ok(())
             }
             Err(not_yet) => {
-                self.seat = Some(turnstile.back(env, holding));
+                self.seat = Some(hold.back(env));
                 Err(not_yet)
             }
         }
     }
 
     fn try_joined<R: Wait>(&mut self, rt: &R, job: JobId) -> Result<JobReply, NotYet> {
-        let shared = self.shared;
-        let turnstile = &shared.turnstile;
-        let seat = self.seat.take().unwrap();
-        let number = seat.number();
-        let (mut env, holding) = turnstile.turn(rt, seat);
-        match env.try_joined(number, job) {
+        let (mut env, hold) = Hold::begin(rt, self.shared, &mut self.seat);
+        match env.try_joined(hold.number(), job) {
             Ok(reply) => {
-                self.seat = Some(turnstile.enter(env, holding));
+                self.seat = Some(hold.enter(env));
                 Ok(reply)
             }
             Err(not_yet) => {
-                self.seat = Some(turnstile.back(env, holding));
+                self.seat = Some(hold.back(env));
                 Err(not_yet)
             }
         }
@@ -358,46 +279,34 @@ impl<'a, B: TaskBody> Desk for SharedDesk<'a, B> {
     }
 
     fn try_idle<R: Wait>(&mut self, rt: &R) -> Result<(), NotYet> {
-        let shared = self.shared;
-        let turnstile = &shared.turnstile;
-        let seat = self.seat.take().unwrap();
-        let number = seat.number();
-        let (mut env, holding) = turnstile.turn(rt, seat);
-        match env.try_idle(number) {
+        let (mut env, hold) = Hold::begin(rt, self.shared, &mut self.seat);
+        match env.try_idle(hold.number()) {
             Ok(()) => {
-                self.seat = Some(turnstile.enter(env, holding));
+                self.seat = Some(hold.enter(env));
                 Ok(())
             }
             Err(not_yet) => {
-                self.seat = Some(turnstile.back(env, holding));
+                self.seat = Some(hold.back(env));
                 Err(not_yet)
             }
         }
     }
 
     fn start_shutdown<R: Wait>(&mut self, rt: &R) {
-        let shared = self.shared;
-        let turnstile = &shared.turnstile;
-        let seat = self.seat.take().unwrap();
-        let number = seat.number();
-        let (mut env, holding) = turnstile.turn(rt, seat);
-        env.start_shutdown(number);
-        self.seat = Some(turnstile.enter_shutdown(env, holding));
+        let (mut env, hold) = Hold::begin(rt, self.shared, &mut self.seat);
+        env.start_shutdown(hold.number());
+        self.seat = Some(hold.enter_shutdown(env));
     }
 
     fn try_done<R: Wait>(&mut self, rt: &R) -> Result<(), StillBlocked> {
-        let shared = self.shared;
-        let turnstile = &shared.turnstile;
-        let seat = self.seat.take().unwrap();
-        let number = seat.number();
-        let (mut env, holding) = turnstile.turn(rt, seat);
-        match env.try_done(number) {
+        let (mut env, hold) = Hold::begin(rt, self.shared, &mut self.seat);
+        match env.try_done(hold.number()) {
             Ok(()) => {
-                self.seat = Some(turnstile.enter(env, holding));
+                self.seat = Some(hold.enter(env));
                 Ok(())
             }
             Err(blocked) => {
-                self.seat = Some(turnstile.back(env, holding));
+                self.seat = Some(hold.back(env));
                 Err(blocked)
             }
         }

@@ -3,11 +3,9 @@
 #![tactic(auto)]
 
 mod desk;
+mod hold;
 mod shared;
 mod workers;
 
 pub use desk::SharedDesk;
 pub use shared::{EnvSeat, Shared};
-
-#[cfg(test)]
-mod tests;

@@ -18,7 +18,7 @@ use task_body::TaskBody;
 use turn_table::{Seat, Turnstile};
 
 /// A seat of an environment that is shared.
-pub type EnvSeat<B> = Seat<Env<B>>;
+pub type EnvSeat<B> = Seat<Box<Env<B>>>;
 
 /// An environment that many threads share (this project's own rule; a browser's threads share Chromium's
 /// `base/task/thread_pool` through its locks). Threads borrow it in a scope, or hold it by an `Arc`.
@@ -26,7 +26,8 @@ pub type EnvSeat<B> = Seat<Env<B>>;
 /// Contracts see which turnstile it stands under, with the script that it was opened with.
 #[derive(Drop)]
 pub struct Shared<B: TaskBody> {
-    pub(crate) turnstile: Turnstile<Env<B>>,
+    // In a box, so that a hold moves a pointer and not the whole environment.
+    pub(crate) turnstile: Turnstile<Box<Env<B>>>,
     /// The work of each job, which no call of the environment touches.
     workers: Rows<StepsWorker>,
 }
@@ -59,7 +60,7 @@ impl<B: TaskBody> Shared<B> {
         ensures seat { IfOk result (λ made. made.1 ≡ record { of = made.0; number = 0; seen = []; mine = []; made = 1; loads = 0; last = 0; turns = 0; told = false }) }
     {
         let workers = workers_of(alloc, &script)?;
-        let env = Env::open(alloc, script, bodies)?;
+        let env = Box::new(alloc, Env::open(alloc, script, bodies)?)?;
         match Turnstile::new(alloc, env) {
             Ok((turnstile, seat)) => Ok((Shared { turnstile, workers }, seat)),
             Err((_env, error)) => Err(error),
@@ -110,6 +111,7 @@ impl<B: TaskBody> Shared<B> {
         ensures rest { AllByRecursion (Tells result.0.history) rest.items }
         ensures seat { result.1 ≡ record first { of = closed self } }
     {
-        self.turnstile.close(first, rest)
+        let (env, spent) = self.turnstile.close(first, rest);
+        (Box::into_inner(env), spent)
     }
 }

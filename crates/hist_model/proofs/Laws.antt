@@ -2,7 +2,6 @@
 pub mod Legal
 pub mod Choice
 pub mod Takes
-pub mod Whose
 pub mod Consistent
 pub mod Own
 pub mod Shutdown

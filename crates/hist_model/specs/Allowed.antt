@@ -23,7 +23,7 @@ use Rattle.task_model.specs.Sequences.{head_of}
 use Rattle.task_model.specs.Seats.{Running, running, holding, worker_seats, is_free, is_quiet, steps_of, acts_done, next_act}
 use Rattle.task_model.specs.Cells.{cell_of, main_cell_of}
 use Rattle.task_model.specs.Jobs.{is_cancelled, is_empty, claimed, item_value, may_enter, free_id, reply_of}
-use Rattle.task_model.specs.Sources.{best_of, leaves}
+use Rattle.task_model.specs.Sources.{best_of, next_item}
 use Rattle.task_model.specs.Blockers.{blockers_of}
 use Rattle.task_model.specs.MainQueues.{Front, open_fronts, chosen_of}
 use Rattle.hist_model.specs.Views.{own_entries}
@@ -79,10 +79,6 @@ abbrev pub enters_job : Plan → List Entry → ℕ → ℕ → Kind → Bool
 enters_job script past seat job kind =
     (is_ready_worker script past seat && holds_of (λ c. is_job job c.source) (best_of script past seat))
     || (by_script script past seat kind && may_enter script past job)
-
--- the next item: none where the seat leaves the job, else the least unclaimed one
-abbrev pub next_item : Plan → List Entry → ℕ → ℕ → Option ℕ
-next_item script past seat job = if leaves script past seat job then None else Some (claimed past job)
 
 -- both have no number, or the same one
 abbrev pub same_number : Option ℕ → Option ℕ → Bool

@@ -9,3 +9,10 @@ pub trait Chronicle {
     // The script that is run.
     ghost basis: { Self → Plan };
 }
+
+/// A box keeps the history of what is in it.
+impl<V: Chronicle> Chronicle for Box<V> {
+    ghost history = { λ b. V.history b.value };
+
+    ghost basis = { λ b. V.basis b.value };
+}

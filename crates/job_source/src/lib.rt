@@ -7,6 +7,3 @@ mod worker;
 
 pub use source::{JobSource, MOST_INSIDE};
 pub use worker::{JobWorker, StepsWorker};
-
-#[cfg(test)]
-mod tests;

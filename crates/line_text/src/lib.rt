@@ -4,6 +4,3 @@
 mod line;
 
 pub use line::{Line, add, add_decimal, add_number, add_word};
-
-#[cfg(test)]
-mod tests;

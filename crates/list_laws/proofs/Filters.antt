@@ -3,7 +3,6 @@ use Rattle.std.proofs.Common.{◌≡◌, Bool, true, false, cond, List, [], ◌�
 use Rattle.std.specs.Prelude.{◌&&◌, filter}
 use Rattle.std.specs.Option.{option_map}
 use Rattle.std.specs.List.{filter_map, cons_option, AllByRecursion}
-use Rattle.list_laws.specs.Lists.{keep}
 
 pub filter_congr : {A : Type 0} (p q : A → Bool) (xs : List A) → ((x : A) → p x ≡ q x) → filter p xs ≡ filter q xs
 filter_congr p q [] h = refl
@@ -121,16 +120,3 @@ filter-filter_map {A = A} {B = B} r s f (x ∷ xs) h = by (f x) refl (filter-fil
         ∙ ap (λ b. cond b (y ∷ filter_map f (filter s xs)) (filter_map f (filter s xs))) (sym (h x y is))
         ∙ ap (λ ys. cond (r y) (y ∷ ys) ys) rest
         ∙ ap (λ o. filter r (cons_option o (filter_map f xs))) (sym is)
-
-pub filter-keep : {A B : Type 0} (test : B → Bool) (f : A → Option B) (xs : List A) → filter test (filter_map f xs) ≡ filter_map (λ x. keep test (f x)) xs
-filter-keep test f [] = refl
-filter-keep {B = B} test f (x ∷ xs) = by (f x) (filter-keep test f xs)
-  where
-    pick : (b : Bool) (y : B) (ys : List B) → cond b (y ∷ ys) ys ≡ cons_option (cond b (Some y) None) ys
-    pick true y ys = refl
-    pick false y ys = refl
-
-    by : (o : Option B) → filter test (filter_map f xs) ≡ filter_map (λ z. keep test (f z)) xs
-        → filter test (cons_option o (filter_map f xs)) ≡ cons_option (keep test o) (filter_map (λ z. keep test (f z)) xs)
-    by None rest = rest
-    by (Some y) rest = ap (λ ys. cond (test y) (y ∷ ys) ys) rest ∙ pick (test y) y (filter_map (λ z. keep test (f z)) xs)

@@ -1,7 +1,7 @@
 -- The least of a list: one of it, and none of it goes before it.
-use Rattle.std.proofs.Common.{◌≡◌, Bool, true, false, cond, List, [], ◌∷◌, ◌++◌, map, refl, sym, ap, ◌∙◌, Some, None, subst}
+use Rattle.std.proofs.Common.{◌≡◌, Bool, true, false, cond, List, [], ◌∷◌, map, refl, sym, ap, ◌∙◌, Some, None, subst}
 use Rattle.std.specs.Prelude.{Contains}
-use Rattle.std.specs.Option.{option_map, option_or}
+use Rattle.std.specs.Option.{option_map}
 use Rattle.std.specs.List.{AllByRecursion}
 use Rattle.std.proofs.lemmas.List.Elements.{All-from_recursion, recursion_from_All, All-contains_itself}
 use Rattle.std.proofs.lemmas.Option.{none-some}
@@ -41,37 +41,6 @@ least_is_least below ranks (y ∷ ys) x is =
 pub no_least : {A : Type 0} (below : A → A → Bool) (xs : List A) → least below xs ≡ None → xs ≡ []
 no_least below [] is = refl
 no_least below (x ∷ xs) is = absurd (none-some (least_from below x xs) (sym is))
-
-least_stays : {A : Type 0} (below : A → A → Bool) (p : A) (ys : List A) → AllByRecursion (λ y. below y p ≡ false) ys → least_from below p ys ≡ p
-least_stays below p [] h = refl
-least_stays below p (y ∷ ys) h = rw (h.0) (least_stays below p ys h.1)
-
-least_wins : {A : Type 0} (below : A → A → Bool) (x p : A) (xs ys : List A) → below p x ≡ true → AllByRecursion (λ z. below p z ≡ true) xs
-    → AllByRecursion (λ y. below y p ≡ false) ys → least_from below x (xs ++ p ∷ ys) ≡ p
-least_wins below x p [] ys now h k = ap (λ (b : Bool). least_from below (cond b p x) ys) now ∙ least_stays below p ys k
-least_wins below x p (z ∷ xs) ys now h k = elim (below z x) as (λ b. least_from below (cond b z x) (xs ++ p ∷ ys) ≡ p) [
-  | true ↦ least_wins below z p xs ys h.0 h.1 k
-  | false ↦ least_wins below x p xs ys now h.1 k
-]
-
--- what is below all before it, and has none behind it that is below it, is the least
-pub least_split : {A : Type 0} (below : A → A → Bool) (xs : List A) (p : A) (ys : List A) → AllByRecursion (λ x. below p x ≡ true) xs
-    → AllByRecursion (λ y. below y p ≡ false) ys → least below (xs ++ p ∷ ys) ≡ Some p
-least_split below [] p ys h k = ap Some (least_stays below p ys k)
-least_split below (x ∷ xs) p ys h k = ap Some (least_wins below x p xs ys h.0 h.1 k)
-
--- the least of a list with one more element
-least_from-push : {A : Type 0} (below : A → A → Bool) (x : A) (xs : List A) (y : A)
-    → least_from below x (xs ++ y ∷ []) ≡ cond (below y (least_from below x xs)) y (least_from below x xs)
-least_from-push below x [] y = refl
-least_from-push below x (z ∷ xs) y = least_from-push below (cond (below z x) z x) xs y
-
--- one more element that is below none leaves the least one
-pub least-push : {A : Type 0} (below : A → A → Bool) (xs : List A) (y : A) → AllByRecursion (λ x. below y x ≡ false) xs
-    → least below (xs ++ y ∷ []) ≡ option_or (least below xs) (Some y)
-least-push below [] y h = refl
-least-push below (x ∷ xs) y h =
-    ap Some (least_from-push below x xs y ∙ ap (λ (b : Bool). cond b y (least_from below x xs)) (least_from-is (λ z. below y z ≡ false) below x xs h.0 h.1))
 
 -- the least of a list whose elements are all changed, in a way that the order does not see
 least_from-map : {A B : Type 0} (below : A → A → Bool) (above : B → B → Bool) (g : A → B) (x : A) (xs : List A) → ((a b : A) → above (g a) (g b) ≡ below a b)

@@ -1,17 +1,17 @@
 -- What is in a filtered list, in what is made of a list, and in a row of numbers.
-use Rattle.std.proofs.Common.{false, ◌≡◌, ℕ, ◌+◌, ◌-◌, ◌<◌, Bool, true, List, [], ◌∷◌, ◌++◌, length, refl, sym, ap, ◌∙◌, Option, Some, None, arith, inl, inr, suc, zero}
+use Rattle.std.proofs.Common.{false, ◌≡◌, ℕ, ◌<◌, Bool, true, List, [], ◌∷◌, length, refl, ap, ◌∙◌, Option, Some, None, arith, inl, inr, suc, zero}
 use Rattle.std.specs.Prelude.{filter, Contains, not, ◌&&◌, ◌⊎◌}
 use Rattle.std.specs.Option.{IfSome}
-use Rattle.std.specs.List.{filter_map, cons_option, range_with_len}
-use Rattle.std.proofs.lemmas.List.Elements.{All-from_recursion, recursion_from_All, All-contains, All-contains_itself, All-filter, filter_passes, filter_map-append}
+use Rattle.std.specs.List.{filter_map, range_with_len}
+use Rattle.std.proofs.lemmas.List.Elements.{All-from_recursion, recursion_from_All, All-contains, All-contains_itself, All-filter, filter_passes}
 use Rattle.std.proofs.lemmas.List.FromFn.{length-range_with_len, get_or-range_with_len}
 use Rattle.std.proofs.lemmas.Bool.{not_from_false, and_right}
 use Rattle.std.proofs.lemmas.List.Filters.{length-filter_both}
 use Rattle.list_laws.specs.Lists.{count}
 use Rattle.list_laws.proofs.Finds.{contained_counts}
 use Rattle.list_laws.proofs.Elements.{AllByRecursion-made, AllByRecursion-filter_map, AllByRecursion-map, unfiltered}
-use Rattle.list_laws.proofs.Filters.{filter-filter, filter_congr, filter_map_congr_in}
-use Rattle.list_laws.proofs.Ranges.{AllByRecursion-range, range_split}
+use Rattle.list_laws.proofs.Filters.{filter-filter, filter_congr}
+use Rattle.list_laws.proofs.Ranges.{AllByRecursion-range}
 
 -- an element of a list is its first, or one of the rest
 pub contains_cases : {A : Type 0} (y : A) (ys : List A) (x : A) → Contains (y ∷ ys) x → (y ≡ x) ⊎ Contains ys x
@@ -64,32 +64,6 @@ contains_range n i less = (i, rw (length-range_with_len 0 n) less, omega (arith,
 pub range_contains : (n i : ℕ) → Contains (range_with_len 0 n) i → i < n
 range_contains n i h = All-contains (λ k. k < n) (range_with_len 0 n) i
     (All-from_recursion (λ k. k < n) (range_with_len 0 n) (AllByRecursion-range (λ k. k < n) 0 n (λ k from to. omega (arith, to)))) h
-
--- what is made of the first n numbers in two ways that differ at one number only
-pub filter_map_at : {B : Type 0} (f g : ℕ → Option B) (n i : ℕ) → i < n → ((k : ℕ) → k < n → (k ≡ i → ⊥) → f k ≡ g k)
-    → (front : List B) × (back : List B) × (filter_map f (range_with_len 0 n) ≡ front ++ cons_option (f i) back)
-    × (filter_map g (range_with_len 0 n) ≡ front ++ cons_option (g i) back)
-filter_map_at {B = B} f g n i less same = (
-  filter_map f (range_with_len 0 i),
-  filter_map f rest,
-  parted f,
-  parted g ∙ sym (ap (λ ys. ys ++ cons_option (g i) (filter_map g rest)) front)
-      ∙ sym (ap (λ ys. filter_map f (range_with_len 0 i) ++ cons_option (g i) ys) back),
-)
-  where
-    rest : List ℕ
-    rest = range_with_len (i + 1) (n - (i + 1))
-
-    parted : (h : ℕ → Option B) → filter_map h (range_with_len 0 n) ≡ filter_map h (range_with_len 0 i) ++ cons_option (h i) (filter_map h rest)
-    parted h = rw (range_split 0 i (n - (i + 1)) n i (omega (arith, less)) (omega arith)) (filter_map-append h (range_with_len 0 i) (i ∷ rest))
-
-    front : filter_map f (range_with_len 0 i) ≡ filter_map g (range_with_len 0 i)
-    front = filter_map_congr_in f g (range_with_len 0 i) (AllByRecursion-range (λ k. f k ≡ g k) 0 i
-        (λ k from to. same k (omega (arith, to, less)) (λ is. omega (arith, to, is))))
-
-    back : filter_map f rest ≡ filter_map g rest
-    back = filter_map_congr_in f g rest (AllByRecursion-range (λ k. f k ≡ g k) (i + 1) (n - (i + 1))
-        (λ k from to. same k (omega (arith, to, less)) (λ is. omega (arith, from, is))))
 
 -- a list with something in it is not empty
 pub contains_not_empty : {A : Type 0} (xs : List A) (x : A) → Contains xs x → xs ≡ [] → ⊥

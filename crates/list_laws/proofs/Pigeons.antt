@@ -1,10 +1,10 @@
 -- The pigeonhole: where each pigeon is in some hole, and no hole has two of them, there are no more pigeons than holes.
 -- So, where an element has at most one number, and there are fewer elements than numbers, the first number that no
 -- element has is found.
-use Rattle.std.proofs.Common.{◌≡◌, ℕ, zero, suc, ◌+◌, ◌<◌, ◌≤◌, Bool, true, false, cond, List, [], ◌∷◌, length, refl, sym, ap, ◌∙◌, Option, Some, None, inl, inr, arith}
+use Rattle.std.proofs.Common.{◌≡◌, ℕ, zero, suc, ◌+◌, ◌<◌, ◌≤◌, Bool, true, false, cond, List, [], ◌∷◌, length, refl, ap, ◌∙◌, Option, Some, None, inl, inr, arith}
 use Rattle.std.specs.Prelude.{not, ◌||◌, ◌&&◌, ◌⊎◌, filter, find}
 use Rattle.std.specs.List.{list_any, list_all, range_with_len, AllByRecursion}
-use Rattle.std.proofs.lemmas.Bool.{true≢false, false≢true, not-true, not-false, false_from_ne_true, cases_eq, cases_order, and_parts}
+use Rattle.std.proofs.lemmas.Bool.{false≢true, not-true, not-false, false_from_ne_true, cases_eq, and_parts}
 use Rattle.std.proofs.lemmas.Option.{none-some}
 use Rattle.std.proofs.lemmas.List.Filters.{length-filter_both}
 use Rattle.std.proofs.lemmas.List.FromFn.{length-range_with_len}
@@ -96,15 +96,6 @@ found_in_range p start (suc len) n found = by (p start) refl found (found_in_ran
         at : (m : ℕ) → start ≤ m → (m ≡ start) ⊎ (m ≡ start → ⊥) → (start + 1 ≤ m → p m ≡ false) → p m ≡ false
         at m from (inl same) later = ap p same ∙ other
         at m from (inr another) later = later (omega arith)
-
--- there is at most one first number that passes
-pub first_is_one : (p : ℕ → Bool) (m n : ℕ) → IsFirst p m → IsFirst p n → m ≡ n
-first_is_one p m n first also = by (cases_order m n)
-  where
-    by : (m ≡ n) ⊎ ((m < n) ⊎ (n < m)) → m ≡ n
-    by (inl same) = same
-    by (inr (inl less)) = absurd (true≢false (sym first.passes ∙ also.none_lesser m less))
-    by (inr (inr more)) = absurd (true≢false (sym also.passes ∙ first.none_lesser n more))
 
 -- where an element has at most one number, some number that no element has is found among one more than there are elements,
 -- and it is the first one

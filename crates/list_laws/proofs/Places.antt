@@ -84,6 +84,11 @@ slice_get-replicate (suc n) (suc i) x less = slice_get-replicate n i x (omega (a
 pub slice_get-set_same : {A : Type 0} (xs : List A) (i : ℕ) (x : A) → i < length xs → slice_get (slice_set xs i x) i ≡ Some x
 slice_get-set_same xs i x within = slice_get-get_or (slice_set xs i x) i x (rw (length-set xs i x) within) ∙ ap Some (get_or-set_same xs i x x within)
 
+pub slice_set-twice : {A : Type 0} (xs : List A) (i : ℕ) (x y : A) → slice_set (slice_set xs i x) i y ≡ slice_set xs i y
+slice_set-twice [] i x y = refl
+slice_set-twice (z ∷ zs) zero x y = refl
+slice_set-twice (z ∷ zs) (suc i) x y = ap (λ rest. z ∷ rest) (slice_set-twice zs i x y)
+
 pub slice_get-set_other : {A : Type 0} (xs : List A) (i j : ℕ) (x : A) → (i ≡ j → ⊥) → slice_get (slice_set xs i x) j ≡ slice_get xs j
 slice_get-set_other [] i j x other = refl
 slice_get-set_other (y ∷ ys) zero zero x other = absurd (other refl)

@@ -55,14 +55,6 @@ ranks_then_by {A = A} f below ranks = record { itself = itself; one_way = one_wa
         by (inr (inr more)) (inl equal) = by_more f below a c (omega (arith, more, equal))
         by (inr (inr more)) (inr (inr less)) = by_more f below a c (omega (arith, more, less))
 
--- a test with the same answers
-pub ranks_same : {A : Type 0} (p q : A → A → Bool) → ((a b : A) → q a b ≡ p a b) → Ranks p → Ranks q
-ranks_same p q same ranks = record {
-  itself = λ a. same a a ∙ ranks.itself a;
-  one_way = λ a b h. same b a ∙ ranks.one_way a b (sym (same a b) ∙ h);
-  through = λ a b c h k. same a c ∙ ranks.through a b c (sym (same a b) ∙ h) (sym (same b c) ∙ k);
-}
-
 -- what goes before one goes before all that this one goes before
 pub ranks-trans : {A : Type 0} (below : A → A → Bool) → Ranks below → (a b c : A) → below a b ≡ true → below b c ≡ true → below a c ≡ true
 ranks-trans {A = A} below ranks a b c ab bc = by (below a c) refl

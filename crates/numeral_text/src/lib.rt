@@ -4,6 +4,3 @@
 mod numeral;
 
 pub use numeral::{is_numeral, value_of};
-
-#[cfg(test)]
-mod tests;

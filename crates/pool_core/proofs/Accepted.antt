@@ -1,5 +1,5 @@
 -- What a past of the pool says of the tasks that were accepted.
-use Rattle.hist_model.proofs.Laws.Choice.{head_is}
+use Rattle.pool_laws.proofs.Choice.Least.{head_is}
 use Rattle.list_laws.proofs.Elements.{AllByRecursion-append, AllByRecursion-contains, AllByRecursion-map}
 use Rattle.list_laws.proofs.Finds.{find_contains, find_passes}
 use Rattle.list_laws.proofs.Pigeons.{pigeons_fit}

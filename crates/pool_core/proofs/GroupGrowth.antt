@@ -25,7 +25,6 @@ use Rattle.task_base.specs.declared.limits.TheConstants.{MOST_WORKERS}
 use Rattle.task_base.specs.declared.step.Scope.{Scope}
 use Rattle.task_model.proofs.Growth.{now_of_push, open_scope_push}
 use Rattle.task_model.specs.Capacity.{best_limit, limit, open_scope, priority_of, priority_of_job}
-use Rattle.task_traits.specs.declared.traits.Priority.{Priority}
 use Rattle.task_model.specs.Seats.{Holding, Running, holding, running, running_after}
 use Rattle.task_model.specs.Time.{now_after, now_of}
 use Rattle.thread_group.specs.Group.{GroupWork, scoped, with_scope, work_at}
@@ -300,11 +299,3 @@ pub item_works : (script : Plan) (past : List Entry) (groups : Groups) (seat : �
 item_works script past groups seat h limits known are worker free held =
     (group_stands script past groups (priority_of_job script h.job) are).seats seat (seat_there script seat limits known)
     ∙ rw (work_of_item script past seat h worker free held, same_itself (group_of script (priority_of_job script h.job))) refl
-
--- and of a worker that is free
-pub free_works : (script : Plan) (past : List Entry) (groups : Groups) (seat : ℕ) (priority : Priority) → IsPoolScript script → seat ≤ script.workers
-    → AreGroups script past groups → running past seat ≡ None → holding past seat ≡ None
-    → work_at (group_in groups (in_background script priority)) seat ≡ None
-free_works script past groups seat priority limits known are free nothing =
-    (group_stands script past groups priority are).seats seat (seat_there script seat limits known)
-    ∙ ap (part script (group_of script priority)) (no_work script past seat free nothing)

@@ -5,7 +5,6 @@ use Rattle.list_laws.proofs.Values.{some-injective}
 use Rattle.list_laws.specs.Lists.{holds_of, keep}
 use Rattle.pool_core.proofs.HeldItems.{free_by_under, held_at, held_is_inside}
 use Rattle.pool_core.specs.Holdings.{AreInside}
-use Rattle.hist_model.specs.Allowed.{next_item}
 use Rattle.pool_core.specs.JobCalls.{entering, has_to_leave, joined_of}
 use Rattle.pool_core.specs.Jobs.{job_as, post_as, view_of}
 use Rattle.pool_core.specs.PoolJobs.{entered_in, is_accepted, is_open, is_refused, joined_in, may_enter_in, rank_in}
@@ -25,7 +24,7 @@ use Rattle.task_model.specs.Jobs.{JobPosted, claimed, concurrency, done, free_id
 use Rattle.task_model.specs.Phase.{phase_of}
 use Rattle.task_model.specs.Refusal.{is_job_forbidden}
 use Rattle.task_model.specs.Seats.{inside}
-use Rattle.task_model.specs.Sources.{Candidate, job_candidate, job_waiting, leaves, makes_way}
+use Rattle.task_model.specs.Sources.{Candidate, job_candidate, job_waiting, leaves, makes_way, next_item}
 use Rattle.std.proofs.Math.Bool.{or-true}
 
 -- as many are inside

@@ -34,4 +34,3 @@ pub mod Places
 pub mod Shutdown
 pub mod Others
 pub mod Idling
-pub mod Played

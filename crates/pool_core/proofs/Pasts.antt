@@ -1,6 +1,5 @@
 -- What the pool knows of a past stays true with one more entry.
-use Rattle.hist_model.proofs.Laws.Whose.{RunsBehind, runs_behind}
-use Rattle.hist_model.specs.Laws.Consistent.{RunsPoolTask}
+use Rattle.pool_laws.proofs.Seats.Whose.{RunsBehind, runs_behind}
 use Rattle.list_laws.proofs.Elements.{AllByRecursion-append}
 use Rattle.list_laws.proofs.Values.{eqb-same}
 use Rattle.pool_core.proofs.Accepted.{head_accepted, new_is_not_taken, one_post, runs_accepted}
@@ -17,7 +16,7 @@ use Rattle.pool_laws.proofs.Keys.Ready.{no_tick_ahead_at_start, no_tick_ahead_gr
 use Rattle.pool_laws.proofs.Seats.Running.{running_same, seat_runs}
 use Rattle.pool_laws.specs.Keys.{moves_posts}
 use Rattle.pool_laws.specs.Room.{scopes}
-use Rattle.pool_laws.specs.Seats.{moves_holding, moves_main, moves_running}
+use Rattle.pool_laws.specs.Seats.{moves_holding, moves_main, moves_running, RunsPoolTask}
 use Rattle.std.proofs.Common.{Bool, List, None, Option, Some, [], ap, arith, cond, false, inl, inr, length, refl, subst, sym, true, ℕ, ◌++◌, ◌<◌, ◌∙◌, ◌∷◌, ◌≡◌, ◌≤◌}
 use Rattle.std.proofs.lemmas.Bool.{both_ways, eqb-false, eqb-true, false_from_ne_true, ne_eqb, or_cases, or_from, or_left, or_parts, or_right, true≢false}
 use Rattle.std.proofs.lemmas.List.Elements.{Contains-append_left}

@@ -16,7 +16,7 @@ use Rattle.pool_core.specs.Jobs.{job_as}
 use Rattle.pool_core.specs.PoolJobs.{rank_in}
 use Rattle.pool_core.specs.Queues.{AreRoomy, HoldJobs, HoldWaiting, belongs, rank_as}
 use Rattle.pool_laws.proofs.Choice.Candidates.{job_in}
-use Rattle.pool_laws.proofs.Choice.Entering.{shut_at_done}
+use Rattle.pool_laws.proofs.Choice.Entering.{job_waiting_at_done}
 use Rattle.list_laws.proofs.Places.{none_from_count}
 use Rattle.list_laws.proofs.Ranges.{range_any_at}
 use Rattle.task_model.specs.Blockers.{block_part, blockers_of, is_block, is_open_job}
@@ -229,7 +229,7 @@ no_jobs_at_done script past lanes seat started none hold lane best j less made =
     let declared : j < length script.jobs = job_made_within script lanes lane best j hold.roomy less made in
     hold.ranks lane best (Job j) less made
     ∙ ap (λ o. option_map rank_as (keep (belongs lane best) o)) (job_in script past j declared ∙ no_job_waits script past j started none declared
-    ∙ sym (job_in script (after_done past seat) j declared ∙ (shut_at_done script past (record { seat = seat; kind = kinds.Done }) j refl).waits))
+    ∙ sym (job_in script (after_done past seat) j declared ∙ job_waiting_at_done script past (record { seat = seat; kind = kinds.Done }) j refl))
 
 pub stands_at_done : (script : Plan) (past : List Entry) (pool : Pool) (seat : ℕ) (tracker : Tracked) → IsInPhase script past pool phases.Started
     → blockers_of script past ≡ 0 → tracker ≡ record pool.tracker { phase = phases.Done }

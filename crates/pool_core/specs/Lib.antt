@@ -13,7 +13,6 @@ pub mod Calls
 pub mod JobCalls
 pub mod JobState
 pub mod Others
-pub mod Played
 pub mod Ripens
 pub mod Idling
 pub mod Refreshes

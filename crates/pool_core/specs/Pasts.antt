@@ -13,7 +13,7 @@ use Rattle.task_model.specs.Keys.{key_of, ready, arrivals}
 use Rattle.task_model.specs.Seats.{Running, running}
 use Rattle.task_model.specs.Capacity.{open_scope}
 use Rattle.pool_laws.specs.Keys.{NoTickAhead}
-use Rattle.hist_model.specs.Laws.Consistent.{RunsPoolTask}
+use Rattle.pool_laws.specs.Seats.{RunsPoolTask}
 use Rattle.pool_core.specs.Holdings.{AreInside}
 
 -- within the limits of scripts; a single-thread runner states the seat of a worker

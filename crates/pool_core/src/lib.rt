@@ -13,6 +13,3 @@ mod posting;
 pub use laws::other_entries_keep_the_pool;
 pub use pool::Pool;
 pub use pool_take::PoolTake;
-
-#[cfg(test)]
-mod tests;

@@ -1,4 +1,4 @@
-ghost use Rattle.std.specs.Prelude.{◌≡◌, ℕ, ◌+◌, ◌<◌, ◌≤◌, ◌↔◌, not, List, [], length, slice_get, Some, None, IsOk, IfOk, IfErr, OnErr, OnOk, false};
+ghost use Rattle.std.specs.Prelude.{◌≡◌, ℕ, ◌+◌, ◌<◌, ◌≤◌, ◌↔◌, not, List, [], length, replicate, slice_get, Some, None, IsOk, IfOk, IfErr, OnErr, OnOk, false};
 ghost use Rattle.task_base.specs.Plan.{Plan};
 ghost use Rattle.task_base.specs.declared.entry.Entry.{Entry};
 ghost use Rattle.task_model.specs.Blockers.{blockers_of};
@@ -12,6 +12,9 @@ ghost use Rattle.task_model.specs.Time.{now_of};
 ghost use Rattle.pool_core.specs.Ripens.{IsInTick};
 ghost use Rattle.pool_core.specs.StandsFor.{StandsFor};
 ghost use Rattle.pool_core.specs.Groups.{in_background};
+ghost use Rattle.pool_core.specs.Queues.{empty_lanes};
+ghost use Rattle.task_runners.specs.Table.{table_of};
+ghost use Rattle.task_sequence.specs.Sequences.{fresh};
 ghost use Rattle.pool_core.specs.State.{CanArrive, CanRipen, arrived, ripened};
 ghost use Rattle.pool_core.specs.declared.posting.Posting.{Posting};
 
@@ -70,18 +73,24 @@ impl Pool {
         ensures { IfOk result (λ pool. StandsFor script.now [] pool) }
     {
         let tasks = script.tasks.len() as u32;
-        let sequences = script.runners.len() as u32 + tasks;
+        let (runners, sequences, lanes, delayed) = fresh_parts(alloc, script, tasks)?;
+        let jobs = fresh_jobs(alloc, script)?;
+        let (postings, seats, holders) = empty_places(
+            alloc,
+            tasks as usize,
+            script.workers as usize + 1,
+        )?;
         Ok(Pool {
-            runners: RunnerTable::new(alloc, script)?,
-            sequences: Sequences::new(alloc, sequences, tasks)?,
-            lanes: Lanes::new(alloc, script)?,
+            runners,
+            sequences,
+            lanes,
             groups: Groups::new(script),
-            delayed: Delayed::new(alloc, tasks)?,
+            delayed,
             tracker: Tracker::new(),
-            postings: vec![in alloc; None; tasks as usize]?,
-            seats: vec![in alloc; None; script.workers as usize + 1]?,
-            jobs: fresh_jobs(alloc, script)?,
-            holders: vec![in alloc; None; script.workers as usize + 1]?,
+            postings,
+            seats,
+            jobs,
+            holders,
             moment: 0,
         })
     }
@@ -331,4 +340,51 @@ impl Pool {
         self.runners
             .background(self.runners.traits_of(runner).priority)
     }
+}
+
+// What knows of the runners and sequences of a script of so many tasks, of what may be taken and of what is delayed, at the
+// start of its history. The error is want of memory.
+fn fresh_parts(
+    alloc: Global,
+    script: &Script,
+    tasks: u32,
+) -> Result<(RunnerTable, Sequences, Lanes, Delayed), AllocError>
+    requires fits { IsPoolScript script.now }
+    requires tasks { tasks ≡ length script.now.tasks }
+    ensures runners { IfOk result (λ parts. parts.0 ≡ table_of script.now.runners script.now.background) }
+    ensures sequences { IfOk result (λ parts. parts.1 ≡ record { sequences = replicate (length script.now.runners + tasks) fresh; room = tasks }) }
+    ensures lanes { IfOk result (λ parts. parts.2 ≡ empty_lanes script.now) }
+    ensures delayed { IfOk result (λ parts. parts.3 ≡ record { held = []; room = tasks }) }
+{
+    let sequences = script.runners.len() as u32 + tasks;
+    Ok((
+        RunnerTable::new(alloc, script)?,
+        Sequences::new(alloc, sequences, tasks)?,
+        Lanes::new(alloc, script)?,
+        Delayed::new(alloc, tasks)?,
+    ))
+}
+
+// Empty places for so many tasks, and for what so many seats run and for what they are inside. The error is want of memory.
+fn empty_places(
+    alloc: Global,
+    tasks: usize,
+    seats: usize,
+) -> Result<
+    (
+        Vec<Option<Posting>>,
+        Vec<Option<TaskId>>,
+        Vec<Option<Holder>>,
+    ),
+    AllocError,
+>
+    ensures postings { IfOk result (λ places. places.0.items ≡ replicate tasks None) }
+    ensures seats { IfOk result (λ places. places.1.items ≡ replicate seats None) }
+    ensures holders { IfOk result (λ places. places.2.items ≡ replicate seats None) }
+{
+    Ok((
+        vec![in alloc; None; tasks]?,
+        vec![in alloc; None; seats]?,
+        vec![in alloc; None; seats]?,
+    ))
 }

@@ -3,10 +3,7 @@ pub mod Waiting
 pub mod Entering
 pub mod Held
 pub mod Candidates
-pub mod Changes
 pub mod Least
 pub mod Posts
 pub mod Sources
 pub mod Best
-pub mod Heads
-pub mod Kept

@@ -2,5 +2,4 @@
 pub mod Ready
 pub mod Posts
 pub mod Sequences
-pub mod Ticks
 pub mod Arrivals

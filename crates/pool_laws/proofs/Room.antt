@@ -1,3 +1,2 @@
 -- How much work runs, and how much may.
 pub mod Capacity
-pub mod Changes

@@ -1,3 +1,4 @@
 -- What seats run and hold, and what tasks hand on.
 pub mod Running
+pub mod Whose
 pub mod Cells

@@ -1,13 +1,13 @@
 -- Words of the laws on posts, keys, and the tasks of sequences.
-use Rattle.std.specs.Prelude.{◌≡◌, ℕ, ◌<◌, Bool, true, false, if◌then◌else◌, List, length, Option, Some, None, ◌==◌, ◌&&◌, is_none}
+use Rattle.std.specs.Prelude.{◌≡◌, ℕ, ◌<◌, Bool, true, false, if◌then◌else◌, List, length, Option, Some, None, is_none, Contains}
 use Rattle.std.specs.Option.{option_map, option_or}
-use Rattle.std.specs.List.{filter_map, list_any}
+use Rattle.std.specs.List.{filter_map}
 use Rattle.task_base.specs.declared.entry.Entry.{Entry}
 use Rattle.task_base.specs.declared.entry.Kind.{Kind}
 use Rattle.task_base.specs.declared.entry.Kind.TheVariants.{Post, Tick, Main}
 use Rattle.task_base.specs.declared.source.Key.{Key}
 use Rattle.task_model.specs.Time.{now_of, is_tick_from, tick_from}
-use Rattle.task_model.specs.Posts.{Posted, is_delayed, post_behind, posts, IsDelayed}
+use Rattle.task_model.specs.Posts.{Posted, is_delayed, posts}
 use Rattle.task_model.specs.Keys.{Ready, key_of}
 use Rattle.task_base.specs.Keys.{key_below}
 use Rattle.task_base.specs.Plan.{Plan}
@@ -58,24 +58,18 @@ moves_sequences kinds.Shutdown = true
 moves_sequences kinds.Done = true
 moves_sequences kind = false
 
--- a task that is posted behind a past goes into the sequence: it is of it, and may start
-abbrev pub joins : Plan → List Entry → ℕ → ℕ → ℕ → ℕ → Bool
-joins script before s task runner delay =
-    is_of script s (post_behind before task runner delay) && may_start script before (post_behind before task runner delay)
-
--- an accepted post of the task is of the sequence
-abbrev pub is_task_of : Plan → List Entry → ℕ → ℕ → Bool
-is_task_of script past s t = list_any (λ p. p.task == t && is_of script s p) (posts past)
-
 -- an accepted task that becomes ripe at the tick behind a past, with its key
 abbrev pub ripe_at_tick_of : List Entry → ℕ → Posted → Option Ready
 ripe_at_tick_of before moment p =
     if is_none (key_of before p) then option_map (λ key. record { posted = p; key = key }) (key_by before p (kinds.Tick moment)) else None
 
--- a delayed task of the sequence that has no key is not ripe by the moment
-abbrev pub is_unripe : Plan → List Entry → ℕ → ℕ → Posted → Type 0
-is_unripe script past s moment p = IsDelayed p → is_of script s p ≡ true → tick_from past p.ripe ≡ None → moment < p.ripe
-
 -- the key of the first is below that of the second
 abbrev pub ready_below : Ready → Ready → Bool
 ready_below a b = key_below a.key b.key
+
+-- a head is an accepted task of its sequence, with its key, which has not been taken and may start in the phase
+pub record IsHead (script : Plan) (past : List Entry) (s : ℕ) (head : Ready) : Type 0 where
+  pub accepted : Contains (posts past) head.posted
+  pub keyed : key_of past head.posted ≡ Some head.key
+  pub of_sequence : is_of script s head.posted ≡ true
+  pub free : may_start script past head.posted ≡ true

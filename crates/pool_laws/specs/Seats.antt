@@ -1,10 +1,11 @@
 -- Words of the laws on what seats run and hold, and on cells.
-use Rattle.std.specs.Prelude.{ℕ, ◌==◌, Bool, true, false, List, ◌+◌, ◌<◌, not, ◌||◌, if◌then◌else◌, Option, Some, None}
+use Rattle.std.specs.Prelude.{◌≡◌, ℕ, ◌==◌, Bool, true, false, List, ◌+◌, ◌<◌, ◌≤◌, not, ◌||◌, if◌then◌else◌, Option, Some, None, Contains}
 use Rattle.task_base.specs.Plan.{Plan}
 use Rattle.task_base.specs.declared.entry.Entry.{Entry}
 use Rattle.task_base.specs.declared.entry.Kind.{Kind}
 use Rattle.task_base.specs.declared.entry.Kind.TheVariants.{End, MainEnd, Take, MainTake, JobTake, JobStep}
 use Rattle.task_traits.specs.declared.traits.Priority.{Priority}
+use Rattle.task_model.specs.Posts.{Posted, posts, is_taken, is_ended}
 use Rattle.task_model.specs.Seats.{Running, running, holding}
 use Rattle.task_model.specs.Capacity.{priority_of}
 use Rattle.list_laws.specs.Lists.{holds_of}
@@ -52,6 +53,17 @@ IsSeat script seat = seat < script.workers + 1
 -- the seat runs a task of the pool
 abbrev pub runs_pool_task : List Entry → ℕ → Bool
 runs_pool_task past seat = holds_of (λ w. not w.is_main) (running past seat)
+
+-- a worker runs a task of the pool that was accepted, was taken, and has not ended
+pub record RunsPoolTask (script : Plan) (past : List Entry) (seat : ℕ) (w : Running) : Type 0 where
+  pub accepted : Posted
+  pub posted : Contains (posts past) accepted
+  pub task_is : accepted.task ≡ w.task
+  pub home_is : accepted.home ≡ w.home
+  pub taken : is_taken past w.task ≡ true
+  pub not_ended : is_ended past w.task ≡ false
+  pub worker : 1 ≤ seat
+  pub known : seat ≤ script.workers
 
 -- the seat holds an item of the job
 abbrev pub holds_job : List Entry → ℕ → ℕ → Bool

@@ -8,17 +8,6 @@ use Rattle.task_model.specs.Refusal.{effective_at}
 use Rattle.task_model.specs.Blockers.{is_block, is_skip}
 use Rattle.pool_laws.specs.Seats.{moves_holding}
 
--- the kinds that may change what shutdown waits for: an accepted post, a take, an end, and the jobs' own
-abbrev pub moves_blockers : Kind → Bool
-moves_blockers (Post task runner delay ok) = ok
-moves_blockers (Take task runner found) = true
-moves_blockers (End task left) = true
-moves_blockers (JobPost job ok) = true
-moves_blockers (JobTake job id item) = true
-moves_blockers (JobStep job id item value next) = true
-moves_blockers (JobCancel job) = true
-moves_blockers kind = false
-
 -- the kinds that may change the open block tasks, and the skip tasks that run
 abbrev pub moves_open_blocks : Kind → Bool
 moves_open_blocks (Post task runner delay ok) = ok

@@ -7,6 +7,3 @@ mod voters;
 
 pub use fence::Fence;
 pub use voters::{MOST_VOTERS, Voters};
-
-#[cfg(test)]
-mod tests;

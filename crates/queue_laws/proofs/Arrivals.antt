@@ -36,7 +36,7 @@ use Rattle.list_laws.proofs.Sorts.{count-sort_by, length-sort_by, rises-sort_by,
 use Rattle.task_model.proofs.Growth.{main_posts_push, main_arrivals_push, draws_push}
 use Rattle.pool_laws.proofs.Keys.Arrivals.{ranks_ripens, main_posts_differ}
 use Rattle.queue_laws.proofs.Orders.{main_places, drawn, order_is, order_of_same, order_tick, order_at_post, unordered}
-use Rattle.queue_laws.proofs.Lanes.{front_is_least}
+use Rattle.queue_laws.proofs.Fronts.{front_is_least}
 
 -- What one more entry does to the main arrivals.
 

@@ -1,5 +1,4 @@
 pub mod Orders
-pub mod Lanes
 pub mod Fronts
 pub mod Arrivals
 pub mod Distinct

@@ -6,20 +6,17 @@ use Rattle.std.specs.Option.{option_or}
 use Rattle.std.specs.List.{AllByRecursion}
 use Rattle.std.proofs.lemmas.Bool.{true≢false, ltb-true}
 use Rattle.std.proofs.lemmas.Option.{none-some}
-use Rattle.std.proofs.Math.Bool.{or-false}
-use Rattle.std.proofs.lemmas.List.{append-nil, take-append-le}
+use Rattle.std.proofs.lemmas.List.{take-append-le}
 use Rattle.std.proofs.Math.Seq.{take-append_seam}
 use Rattle.task_base.specs.declared.entry.Entry.{Entry}
 use Rattle.task_base.specs.declared.entry.Kind.{Kind}
 use Rattle.task_base.specs.declared.entry.Kind.TheVariants as kinds
-use Rattle.task_model.specs.Time.{now_of, now_after, is_tick_from, tick_from}
-use Rattle.task_model.specs.Posts.{Posted, is_delayed, post_behind, main_posts, main_posted_by}
-use Rattle.task_model.specs.Refusal.{is_closed, closes}
-use Rattle.task_model.specs.Orders.{ripens, ripening, next_draw, drawn_at, moment_of, moment_at, order_of}
+use Rattle.task_model.specs.Time.{now_of, is_tick_from, tick_from}
+use Rattle.task_model.specs.Posts.{Posted, is_delayed, post_behind, main_posts}
+use Rattle.task_model.specs.Refusal.{is_closed}
+use Rattle.task_model.specs.Orders.{ripening, next_draw, drawn_at, moment_of, moment_at, order_of}
 use Rattle.pool_laws.specs.Keys.{tick_by}
-use Rattle.queue_laws.specs.Orders.{moves_ripening, moves_orders, order_at_tick_of}
-use Rattle.task_model.proofs.Growth.{now_of_push, main_posts_push, is_closed_push}
-use Rattle.list_laws.proofs.Filters.{filter_congr}
+use Rattle.queue_laws.specs.Orders.{moves_orders, order_at_tick_of}
 use Rattle.list_laws.proofs.Options.{option_or-none}
 use Rattle.list_laws.proofs.Elements.{slice_get-front, slice_get-end, AllByRecursion-map}
 use Rattle.pool_laws.proofs.Keys.Ready.{main_posts_within, tick_from_push, tick_from_stays, tick_within}
@@ -141,32 +138,6 @@ order_at_post past e task queue delay immediate =
 pub unordered : (past : List Entry) (e : Entry) (p : Posted) → moves_orders e.kind ≡ false → is_delayed p ≡ true → tick_from past p.ripe ≡ None
     → order_of (past ++ e ∷ []) p ≡ None
 unordered past e p quiet delayed unripe = rw (order_is (past ++ e ∷ []) p, delayed, tick_same past e quiet p.ripe ∙ unripe) refl
-
-pub ripening_same : (past : List Entry) (e : Entry) (moment : ℕ) → moves_ripening e.kind ≡ false → ripening (past ++ e ∷ []) moment ≡ ripening past moment
-unfolding ripening
-ripening_same past e moment quiet =
-    ap (filter (ripens (past ++ e ∷ []) moment)) (main_posts_push past e ∙ ap (λ xs. main_posts past ++ xs) (no_post e.kind quiet)
-    ∙ append-nil (main_posts past))
-    ∙ filter_congr (ripens (past ++ e ∷ []) moment) (ripens past moment) (main_posts past) same
-  where
-    no_post : (kind : Kind) → moves_ripening kind ≡ false → main_posted_by past kind ≡ []
-    no_post (kinds.Main task queue delay true) h = absurd (true≢false h)
-    no_post kind h = refl
-
-    no_close : (q : ℕ) (kind : Kind) → moves_ripening kind ≡ false → closes q kind ≡ false
-    no_close q (kinds.Close queue) h = absurd (true≢false h)
-    no_close q kind h = refl
-
-    still : (n : ℕ) (kind : Kind) → moves_ripening kind ≡ false → now_after n kind ≡ n
-    still n (kinds.Tick now) h = absurd (true≢false h)
-    still n kind h = refl
-
-    same : (p : Posted) → ripens (past ++ e ∷ []) moment p ≡ ripens past moment p
-    same p =
-        ap (λ b. is_delayed p && not b && nat_lt (now_of (past ++ e ∷ [])) p.ripe && nat_le p.ripe moment) (is_closed_push past e p.home
-        ∙ ap (λ b. is_closed past p.home || b) (no_close p.home e.kind quiet) ∙ or-false (is_closed past p.home))
-        ∙ ap (λ n. is_delayed p && not (is_closed past p.home) && nat_lt n p.ripe && nat_le p.ripe moment) (now_of_push past e
-        ∙ still (now_of past) e.kind quiet)
 
 -- an immediate task, and one whose tick has come, keeps its order
 order_same_immediate : (past rest : List Entry) (p : Posted) → p.place < length past → is_delayed p ≡ false → order_of (past ++ rest) p ≡ order_of past p

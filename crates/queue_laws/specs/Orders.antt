@@ -17,13 +17,6 @@ Distinct number (p ∷ ps) = AllByRecursion (λ q. (n : ℕ) → number p ≡ So
 abbrev pub OrdersDistinct : List Entry → Type 0
 OrdersDistinct past = Distinct (order_of past) (main_posts past)
 
--- the kinds that may change what ripens at a tick
-abbrev pub moves_ripening : Kind → Bool
-moves_ripening (kinds.Main task queue delay ok) = ok
-moves_ripening (kinds.Tick now) = true
-moves_ripening (kinds.Close queue) = true
-moves_ripening kind = false
-
 -- the kinds that may give a task of the past its order
 abbrev pub moves_orders : Kind → Bool
 moves_orders (kinds.Tick now) = true

@@ -10,6 +10,3 @@ mod selector;
 pub use front::MOST_DELAYED;
 pub use row::Row;
 pub use selector::{LAST_CLASS, Selector};
-
-#[cfg(test)]
-mod tests;

@@ -22,10 +22,3 @@ pub use json_fault::JsonFault;
 pub use lines::line;
 pub use read::read_log;
 pub use writer::write_log;
-
-#[cfg(test)]
-mod tests;
-#[cfg(test)]
-mod tests_json;
-#[cfg(test)]
-mod tests_read;

@@ -14,11 +14,11 @@ use Rattle.list_laws.specs.Lists.{count}
 use Rattle.list_laws.proofs.Places.{count-push}
 use Rattle.task_model.specs.Seats.{Holding, holding, holding_after, all_seats}
 use Rattle.task_model.specs.Jobs.{claimed, claims, done, value_by, items_of, item_value}
-use Rattle.task_model.specs.Sources.{leaves}
+use Rattle.task_model.specs.Sources.{leaves, next_item}
 use Rattle.task_model.proofs.Growth.{claimed_push, done_push}
 use Rattle.pool_laws.proofs.Seats.Running.{holding_here, holding_other}
 use Rattle.hist_model.specs.Laws.Jobs.{IsJobStep}
-use Rattle.hist_model.specs.Allowed.{next_item, may_come, is_allowed, IsAllowed}
+use Rattle.hist_model.specs.Allowed.{may_come, is_allowed, IsAllowed}
 use Rattle.hist_model.specs.Legal.{IsLegal}
 use Rattle.hist_model.proofs.Laws.Legal.{legal_induction, is_legal_push}
 use Rattle.hist_model.proofs.Laws.HoldsApart.{legal_holds_apart}

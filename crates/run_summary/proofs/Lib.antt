@@ -5,4 +5,4 @@ pub mod Items
 pub mod Tasks
 pub mod AddUp
 pub mod CellTable
-pub mod Tested
+pub mod Worked

@@ -1,3 +1,2 @@
 pub mod Summary
 pub mod Cells
-pub mod Worked

@@ -10,6 +10,3 @@ mod totals;
 pub use generated::runs_of_generated_scripts_add_up;
 pub use tally::summary;
 pub use totals::Summary;
-
-#[cfg(test)]
-mod tests;

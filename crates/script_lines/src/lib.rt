@@ -19,6 +19,3 @@ mod words;
 pub use command::Command;
 pub use fault::LineFault;
 pub use read::{read_line, without_return};
-
-#[cfg(test)]
-mod tests;

@@ -31,4 +31,3 @@ pub mod Taking
 pub mod Ends
 pub mod Posted
 pub mod Posts
-pub mod Played

@@ -27,7 +27,7 @@ use Rattle.sequence_manager.specs.Queues.{IsTable, held_in, queue_of, queued_of,
 use Rattle.sequence_manager.specs.State.{CanRefresh, HasDrawn, lets_run, open_in, queue_at, refreshed, row_by}
 use Rattle.sequence_manager.specs.declared.manager.Manager.{Manager}
 use Rattle.sequence_manager.specs.declared.task_queue.TaskQueue.{TaskQueue}
-use Rattle.list_laws.proofs.Places.{slice_get-set_same}
+use Rattle.list_laws.proofs.Places.{slice_get-set_same, slice_set-twice}
 use Rattle.sequence_manager.proofs.Tables.{table_set}
 
 -- the task that drew the order of a queued one
@@ -145,12 +145,6 @@ can_refresh script before past known arrivals unripe waiting manager q rises mor
         let long : length manager.selector.rows ≡ length script.queues = rows.all in
         absurd (none-some order (sym (ap (order_in lane) (get_or_past manager.selector.rows p closed_row (omega (arith, past_end, long))) ∙ none lane) ∙ told))
 
--- the rows of the refreshed queue
-set_twice : (rows : List Row) (q : ℕ) (x y : Row) → slice_set (slice_set rows q x) q y ≡ slice_set rows q y
-set_twice [] q x y = refl
-set_twice (row ∷ rows) zero x y = refl
-set_twice (row ∷ rows) (suc q) x y = ap (λ xs. row ∷ xs) (set_twice rows q x y)
-
 -- the selector knows the queue as it is now
 pub refreshed_rows : (script : Plan) (before past : List Entry) (known arrivals : List Ordered) (unripe waiting : List Posted) (manager : Manager) (q : ℕ)
     → IsTable (row_of script before known unripe) (length script.queues) manager.selector.rows → q < length script.queues
@@ -177,7 +171,7 @@ refreshed_rows script before past known arrivals unripe waiting manager q rows l
 
     once : (refreshed manager q).selector.rows ≡ slice_set manager.selector.rows q (with_order first Delayed (open_in Delayed queue))
     once = ap (λ row. slice_set (slice_set manager.selector.rows q first) q (with_order row Delayed (open_in Delayed queue))) first_at
-        ∙ set_twice manager.selector.rows q first (with_order first Delayed (open_in Delayed queue))
+        ∙ slice_set-twice manager.selector.rows q first (with_order first Delayed (open_in Delayed queue))
 
     told : with_order first Delayed (open_in Delayed queue) ≡ row_of script past arrivals waiting q
     told =

@@ -12,9 +12,6 @@ use Rattle.sequence_manager.specs.Queues.{IsTable}
 use Rattle.sequence_manager.specs.State.{queue_at, fresh_queue}
 use Rattle.sequence_manager.specs.declared.task_queue.TaskQueue.{TaskQueue}
 
-pub table_at : {A : Type 0} (at : ℕ → A) (n : ℕ) (xs : List A) (i : ℕ) → IsTable at n xs → i < n → slice_get xs i ≡ Some (at i)
-table_at at n xs i table less = table.each i less
-
 -- the queue at a place of a table
 pub queue_at_is : (at : ℕ → TaskQueue) (n : ℕ) (queues : List TaskQueue) (q : ℕ) → IsTable at n queues → q < n → queue_at queues q ≡ at q
 queue_at_is at n queues q table less =

@@ -8,4 +8,3 @@ pub mod StandsFor
 pub mod Calls
 pub mod Ripening
 pub mod Others
-pub mod Played

@@ -10,6 +10,3 @@ mod task_queues;
 
 pub use laws::other_entries_keep_the_main_queues;
 pub use manager::Manager;
-
-#[cfg(test)]
-mod tests;

@@ -10,6 +10,3 @@ mod rank;
 
 pub use queue::SourceQueue;
 pub use rank::Rank;
-
-#[cfg(test)]
-mod tests;

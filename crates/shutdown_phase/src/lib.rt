@@ -5,6 +5,3 @@
 mod phase_count;
 
 pub use phase_count::{MAX_BLOCKERS, PhaseCount, StillBlocked};
-
-#[cfg(test)]
-mod tests;

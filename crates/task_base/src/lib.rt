@@ -28,6 +28,3 @@ pub use script::{
 pub use source::{Key, NotYet, TaskSource};
 pub use step::{Scope, Step, apply};
 pub use task_traits::{Behaviour, Phase, Priority, Traits};
-
-#[cfg(test)]
-mod tests;

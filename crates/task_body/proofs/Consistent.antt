@@ -1,6 +1,5 @@
 -- The value of an assignment is at each moment what the steps that are done leave of the value that was found.
 use Rattle.std.proofs.Common.{◌≡◌, List, [], ◌++◌, append_assoc, sym, ap, ◌∙◌}
-use Rattle.std.proofs.lemmas.List.{append-nil}
 use Rattle.std.proofs.lemmas.List.Sums.{fold-append}
 use Rattle.task_base.specs.Steps.{after, apply_step}
 use Rattle.task_base.specs.declared.step.Step.{Step}
@@ -27,9 +26,3 @@ IsConsistent-step a b act progress whole found consistent =
     consistent_from b (done ++ does.now)
     (whole ∙ consistent.parted ∙ ap (λ r. done ++ r) does.parted ∙ sym (append_assoc done does.now b.rest))
     (does.leaves ∙ ap (after does.now) (consistent.left ∙ ap (after done) (sym found)) ∙ sym (fold-append (λ v step. apply_step step v) b.found done does.now))
-
--- at the end all steps are done
-pub IsConsistent-end : (a : AssignmentView) → IsConsistent a → a.rest ≡ [] → a.value ≡ after a.whole a.found
-IsConsistent-end a consistent none =
-    let all : done_of a.whole a.rest ≡ a.whole = sym (consistent.parted ∙ ap (λ r. done_of a.whole a.rest ++ r) none ∙ append-nil _) in
-    consistent.left ∙ ap (λ d. after d a.found) all

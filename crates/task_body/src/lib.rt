@@ -22,6 +22,3 @@ pub use pass::JobPass;
 pub use script_body::ScriptBody;
 pub use taken::Taken;
 pub use work::Work;
-
-#[cfg(test)]
-mod tests;

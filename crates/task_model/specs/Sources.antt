@@ -1,5 +1,5 @@
 -- What a worker takes next.
-use Rattle.std.specs.Prelude.{ℕ, ◌==◌, Bool, true, not, ◌&&◌, ◌||◌, nat_lt, nat_le, if◌then◌else◌, List, ◌++◌, length, filter, Option, None, is_none, IsTrue, Contains}
+use Rattle.std.specs.Prelude.{ℕ, ◌==◌, Bool, true, not, ◌&&◌, ◌||◌, nat_lt, nat_le, if◌then◌else◌, List, ◌++◌, length, filter, Option, Some, None, is_none, IsTrue, Contains}
 use Rattle.std.specs.List.{list_any, filter_map, range_with_len}
 use Rattle.std.specs.Option.{option_map_or, option_map}
 use Rattle.task_base.specs.Plan.{Plan}
@@ -18,7 +18,7 @@ use Rattle.task_model.specs.Sequences.{head_of}
 use Rattle.task_model.specs.Seats.{runs_sequence, inside}
 use Rattle.task_base.specs.Groups.{importance, group_of, same_group}
 use Rattle.task_model.specs.Capacity.{priority_of, priority_of_job, load, capacity, has_room}
-use Rattle.task_model.specs.Jobs.{JobPosted, job_post_of, is_cancelled, has_unclaimed, may_enter}
+use Rattle.task_model.specs.Jobs.{JobPosted, job_post_of, is_cancelled, claimed, has_unclaimed, may_enter}
 
 -- work that waits: a source, its priority, how many are inside, its key, and the only seat that may take it, if
 -- there is one
@@ -113,3 +113,7 @@ leaves script past seat j =
 -- the fact of it
 abbrev pub Leaves : Plan → List Entry → ℕ → ℕ → Type 0
 Leaves script past seat j = IsTrue (leaves script past seat j)
+
+-- the next item: none where the seat leaves the job, else the least unclaimed one
+abbrev pub next_item : Plan → List Entry → ℕ → ℕ → Option ℕ
+next_item script past seat j = if leaves script past seat j then None else Some (claimed past j)

@@ -5,6 +5,3 @@
 mod runner_table;
 
 pub use runner_table::RunnerTable;
-
-#[cfg(test)]
-mod tests;

@@ -4,5 +4,4 @@ pub mod LinesOfText
 pub mod ReadLines
 pub mod Puts
 pub mod Texts
-pub mod Bounds
 pub mod Worked

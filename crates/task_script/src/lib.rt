@@ -5,7 +5,6 @@
 #![tactic(auto)]
 
 mod act;
-mod bound;
 mod config;
 mod declare;
 mod fault;
@@ -21,15 +20,8 @@ mod steps;
 mod write;
 mod write_lines;
 
-pub use bound::events_bound;
 pub use fault::ScriptFault;
 pub use generator::generate;
 pub use read::read_script;
+pub use script_bound::events_bound;
 pub use write::write_script;
-
-#[cfg(test)]
-mod tests;
-#[cfg(test)]
-mod tests_generate;
-#[cfg(test)]
-mod tests_write;

@@ -7,6 +7,3 @@ mod links;
 mod sequences;
 
 pub use sequences::Sequences;
-
-#[cfg(test)]
-mod tests;

@@ -5,6 +5,3 @@
 mod tracker;
 
 pub use tracker::Tracker;
-
-#[cfg(test)]
-mod tests;

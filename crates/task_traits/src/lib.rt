@@ -9,6 +9,3 @@ mod traits;
 pub use phase::Phase;
 pub use rules::{effective, forbids};
 pub use traits::{Behaviour, Priority, Traits};
-
-#[cfg(test)]
-mod tests;

@@ -35,6 +35,7 @@ fn words_of<R: Env + AllocGlobal>(rt: &R) -> Result<Vec<String>, AllocError> {
 fn close<W: Write, N: Sink>(status: u8, output: &mut StdSink<W>, notes: &mut N) -> u8
     ensures status { (result ≡ status) ⊎ ((status ≤ 1) × (result ≡ 5)) }
     ensures failed { result ≢ status → Rose output.old.faults output.new.faults }
+    ensures steady { result ≡ status → output.new.faults ≡ output.old.faults }
     ensures kept { 2 ≤ status → (output.new ≡ output.old) × (notes.new ≡ notes.old) }
 {
     if status <= 1 && output.flush().is_err() {
@@ -67,6 +68,3 @@ fn main(rt: HostRuntime) -> ExitCode {
     );
     ExitCode::from(close(status, &mut output, &mut notes))
 }
-
-#[cfg(test)]
-mod tests;

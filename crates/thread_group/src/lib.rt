@@ -8,6 +8,3 @@ mod work;
 
 pub use group::Group;
 pub use work::{OpenScope, Work};
-
-#[cfg(test)]
-mod tests;

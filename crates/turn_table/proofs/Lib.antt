@@ -5,4 +5,3 @@ pub mod Splits
 pub mod Turns
 pub mod Fronts
 pub mod Closes
-pub mod Samples

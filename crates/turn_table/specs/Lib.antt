@@ -5,4 +5,3 @@ pub mod Views
 pub mod Turn
 pub mod Plays
 pub mod Closing
-pub mod Samples

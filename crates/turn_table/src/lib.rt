@@ -14,6 +14,3 @@ pub use hist_model::Chronicle;
 pub use holding::Holding;
 pub use seat::Seat;
 pub use turnstile::Turnstile;
-
-#[cfg(test)]
-mod tests;

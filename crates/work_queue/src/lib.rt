@@ -7,6 +7,3 @@ mod queued;
 
 pub use queue::WorkQueue;
 pub use queued::Queued;
-
-#[cfg(test)]
-mod tests;

@@ -1,6 +1,6 @@
 -- What is chosen from a list is one of its elements.
 use Rattle.std.proofs.Common.{◌≡◌, ℕ, Bool, true, false, eqb, List, [], ◌∷◌, refl, subst, Option, Some, None}
-use Rattle.std.specs.Prelude.{not, length, ◌&&◌, Contains, filter, if◌then◌else◌}
+use Rattle.std.specs.Prelude.{not, length, Contains, filter, if◌then◌else◌}
 use Rattle.std.specs.List.{AllByRecursion, filter_map, cons_option, range_with_len, flat_map}
 use Rattle.std.specs.Option.{option_map, option_to_list}
 use Rattle.std.proofs.lemmas.Bool.{eqb-true, and_parts, not-true}
@@ -13,11 +13,9 @@ use Rattle.task_model.specs.Seats.{runs_sequence}
 use Rattle.task_model.specs.Jobs.{job_post_of, may_enter}
 use Rattle.task_model.specs.Sources.{would_wait, Candidate, sequence_candidate, job_candidate, sequence_waiting, job_waiting, waiting, is_takeable, goes_before, best_of}
 use Rattle.list_laws.specs.Lists.{least, holds_of}
-use Rattle.task_model.specs.Posts.{Posted, posts, main_posts, is_main_taken}
-use Rattle.task_model.specs.Keys.{Ready, ready, key_of}
-use Rattle.task_base.specs.Keys.{key_below}
+use Rattle.task_model.specs.Posts.{Posted, main_posts, is_main_taken}
 use Rattle.task_base.specs.Runners.{sequence_count}
-use Rattle.task_model.specs.Sequences.{is_of, may_start, eligible, head_of}
+use Rattle.task_model.specs.Sequences.{head_of}
 use Rattle.task_base.specs.declared.script.Lane.{Lane}
 use Rattle.task_base.specs.declared.script.Lane.TheVariants.{Immediate, Delayed}
 use Rattle.task_model.specs.Orders.{order_of}
@@ -25,7 +23,7 @@ use Rattle.task_model.specs.MainQueues.{choice_among, of_least_class, streak_of,
 use Rattle.list_laws.proofs.Least.{least_from-is}
 use Rattle.list_laws.proofs.Filters.{filter_passes}
 use Rattle.list_laws.proofs.Elements.{AllByRecursion-filter, AllByRecursion-append, AllByRecursion-both, AllByRecursion-always, AllByRecursion-map}
-use Rattle.hist_model.specs.Laws.Choice.{IsHead, IsWaitingSource, MayBeTaken, IsFront}
+use Rattle.hist_model.specs.Laws.Choice.{IsWaitingSource, MayBeTaken, IsFront}
 
 -- a value that passes the test
 pub record Found (A : Type 0) (test : A → Bool) (o : Option A) : Type 0 where
@@ -65,31 +63,6 @@ of_filter_map {A = A} {B = B} P Q f (x ∷ xs) all step = at (f x) refl (of_filt
 option_map_some : {A B : Type 0} (f : A → B) (o : Option A) (y : B) → option_map f o ≡ Some y → (x : A) × (o ≡ Some x) × (f x ≡ y)
 option_map_some f None y h = absurd (none-some y h)
 option_map_some f (Some x) y h = (x, refl, same_Some (f x) y h)
-
--- the task is accepted, and this is its key
-abbrev IsReady : List Entry → Ready → Type 0
-IsReady past r = Contains (posts past) r.posted × (key_of past r.posted ≡ Some r.key)
-
--- a ready task is accepted, and has its key
-ready_accepted : (past : List Entry) → AllByRecursion (IsReady past) (ready past)
-unfolding ready
-ready_accepted past =
-    of_filter_map (Contains (posts past)) (IsReady past) (λ p. option_map (λ key. record { posted = p; key = key }) (key_of past p)) (posts past)
-    (each_is_one (posts past))
-    (λ p r among is. let (key, has, made) = option_map_some (λ k. record { posted = p; key = k }) (key_of past p) r is in
-    subst (IsReady past) made (among, has))
-
--- what is known of a head
-pub head_is : (script : Plan) (past : List Entry) (s : ℕ) (r : Ready) → head_of script past s ≡ Some r → IsHead script past s r
-unfolding head_of eligible
-head_is script past s r is = of_least (IsHead script past s) (λ a b. key_below a.key b.key) (filter test (ready past)) r
-    (AllByRecursion-map (λ x. IsReady past x × (test x ≡ true)) (IsHead script past s) (filter test (ready past)) (λ x all.
-    let parts = and_parts (is_of script s x.posted) (may_start script past x.posted) all.1 in
-    record { accepted = all.0.0; keyed = all.0.1; of_sequence = parts.0; free = parts.1 })
-    (of_filter (IsReady past) test (ready past) (ready_accepted past))) is
-  where
-    test : Ready → Bool
-    test x = is_of script s x.posted && may_start script past x.posted
 
 sequence_waits : (script : Plan) (past : List Entry) (s : ℕ) (c : Candidate) → sequence_waiting script past s ≡ Some c → IsWaitingSource script past c.source
 sequence_waits script past s c is = at (runs_sequence script past s) refl is

@@ -16,10 +16,11 @@ use Rattle.task_model.proofs.Growth.{posts_push, main_posts_push, is_taken_push,
 use Rattle.hist_model.specs.Allowed.{may_come}
 use Rattle.hist_model.specs.Legal.{IsLegal}
 use Rattle.hist_model.specs.Laws.Choice.{IsTake, IsMainTake}
-use Rattle.hist_model.specs.Laws.Consistent.{RunsPoolTask, RunsMainTask, RunsAs, IsConsistent}
+use Rattle.pool_laws.specs.Seats.{RunsPoolTask}
+use Rattle.hist_model.specs.Laws.Consistent.{RunsMainTask, RunsAs, IsConsistent}
 use Rattle.hist_model.proofs.Laws.Legal.{entry_induction}
 use Rattle.hist_model.proofs.Laws.Takes.{take_is, main_take_is, end_is, main_end_is}
-use Rattle.hist_model.proofs.Laws.Whose.{RunsBehind, runs_behind}
+use Rattle.pool_laws.proofs.Seats.Whose.{RunsBehind, runs_behind}
 
 -- the past with one more entry
 abbrev behind : List Entry → ℕ → Kind → List Entry

@@ -18,7 +18,7 @@ use Rattle.hist_model.specs.Allowed.{may_come}
 use Rattle.hist_model.specs.Legal.{IsLegal}
 use Rattle.hist_model.specs.Laws.Consistent.{HoldsApart}
 use Rattle.hist_model.proofs.Laws.Legal.{entry_induction}
-use Rattle.hist_model.proofs.Laws.Whose.{HoldsBehind, holds_behind}
+use Rattle.pool_laws.proofs.Seats.Whose.{HoldsBehind, holds_behind}
 use Rattle.hist_model.proofs.Laws.OneThing.{job_step_holds}
 use Rattle.hist_model.proofs.Laws.JobEntries.{entering_is, job_step_is}
 

@@ -14,10 +14,10 @@ use Rattle.task_base.specs.declared.source.TaskSource.TheVariants.{Sequence, Job
 use Rattle.list_laws.specs.Lists.{holds_of}
 use Rattle.task_model.specs.Seats.{Holding, holding, inside}
 use Rattle.task_model.specs.Jobs.{claimed, item_value, MayEnter, free_id, is_empty, reply_of}
-use Rattle.task_model.specs.Sources.{best_of}
+use Rattle.task_model.specs.Sources.{best_of, next_item}
 use Rattle.hist_model.specs.Views.{own_entries}
 use Rattle.hist_model.specs.Script.{wants}
-use Rattle.hist_model.specs.Allowed.{is_job, by_script, enters_job, same_number, same_reply, next_item, may_come}
+use Rattle.hist_model.specs.Allowed.{is_job, by_script, enters_job, same_number, same_reply, may_come}
 use Rattle.hist_model.specs.Laws.Choice.{IsWaitingSource}
 use Rattle.hist_model.specs.Laws.Jobs.{IsEntering, IsJobStep, IsJoin}
 use Rattle.hist_model.proofs.Laws.Choice.{found, best_is}

@@ -23,7 +23,7 @@ use Rattle.hist_model.specs.Laws.Consistent.{is_pump, is_join, DoesOneThing}
 use Rattle.hist_model.proofs.Laws.Agenda.{current_stays}
 use Rattle.hist_model.proofs.Laws.Legal.{entry_induction}
 use Rattle.hist_model.proofs.Laws.Choice.{Found, found}
-use Rattle.hist_model.proofs.Laws.Whose.{RunsBehind, runs_behind, HoldsBehind, holds_behind}
+use Rattle.pool_laws.proofs.Seats.Whose.{RunsBehind, runs_behind, HoldsBehind, holds_behind}
 use Rattle.hist_model.proofs.Laws.Takes.{IsReadyWorker, by_driver, take_is, job_take_is}
 use Rattle.hist_model.proofs.Laws.Own.{running_own, holding_own, own_entries_push}
 

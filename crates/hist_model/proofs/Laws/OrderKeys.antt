@@ -24,16 +24,15 @@ use Rattle.task_model.specs.Keys.{Ready, key_at, key_of, ready}
 use Rattle.task_model.specs.Refusal.{is_forbidden}
 use Rattle.task_model.specs.Sequences.{is_of, may_start, eligible, head_of}
 use Rattle.task_model.specs.Sources.{Candidate, best_of}
-use Rattle.pool_laws.specs.Keys.{ready_below}
+use Rattle.pool_laws.specs.Keys.{ready_below, IsHead}
 use Rattle.pool_laws.proofs.Keys.Ready.{posts_within, key_within}
-use Rattle.pool_laws.proofs.Choice.Least.{head_is_least, keys_total}
+use Rattle.pool_laws.proofs.Choice.Least.{head_is_least, keys_total, head_is}
 use Rattle.hist_model.specs.Allowed.{is_head_of, is_ready_worker, may_come}
 use Rattle.hist_model.specs.Legal.{IsLegal}
-use Rattle.hist_model.specs.Laws.Choice.{IsHead}
 use Rattle.hist_model.specs.Laws.Places.{IsAt}
 use Rattle.hist_model.specs.Laws.Order.{HasKeyAt}
 use Rattle.hist_model.proofs.Laws.AtPlaces.{of_past, length-past, past_is_legal, may_come_at}
-use Rattle.hist_model.proofs.Laws.Choice.{Found, found, head_is}
+use Rattle.hist_model.proofs.Laws.Choice.{Found, found}
 use Rattle.hist_model.proofs.Laws.Phases.{forbidden_on}
 use Rattle.hist_model.proofs.Laws.State.{same_at}
 use Rattle.hist_model.proofs.Laws.OrderPasts.{take_take, longer_past, still_taken, taken_behind, tick_early, IsPostedAt, was_posted, posts_early, no_tick_before}

@@ -11,7 +11,7 @@ use Rattle.list_laws.proofs.Elements.{push_induction}
 use Rattle.list_laws.proofs.Places.{slice_get-more, slice_get_seam, slice_get_push}
 use Rattle.pool_laws.specs.Seats.{moves_running}
 use Rattle.hist_model.specs.Laws.Places.{IsAt}
-use Rattle.hist_model.proofs.Laws.Whose.{RunsBehind, runs_behind}
+use Rattle.pool_laws.proofs.Seats.Whose.{RunsBehind, runs_behind}
 
 -- the entry by which a seat takes a task of the pool, or a main task
 abbrev pub taking : Bool → ℕ → ℕ → ℕ → Kind

@@ -22,8 +22,10 @@ use Rattle.task_model.specs.MainQueues.{chosen_of}
 use Rattle.hist_model.specs.Views.{own_entries}
 use Rattle.hist_model.specs.Script.{is_wanted, is_finished}
 use Rattle.hist_model.specs.Allowed.{enters_job, is_job, is_head_of, is_ready_worker, is_front, has_done, by_script, may_come}
-use Rattle.hist_model.specs.Laws.Choice.{IsHead, IsWaitingSource, IsTake, IsMainTake}
-use Rattle.hist_model.proofs.Laws.Choice.{Found, found, head_is, best_is, chosen_is}
+use Rattle.pool_laws.specs.Keys.{IsHead}
+use Rattle.hist_model.specs.Laws.Choice.{IsWaitingSource, IsTake, IsMainTake}
+use Rattle.pool_laws.proofs.Choice.Least.{head_is}
+use Rattle.hist_model.proofs.Laws.Choice.{Found, found, best_is, chosen_is}
 
 -- a free worker, while the script is not finished
 pub record IsReadyWorker (script : Plan) (past : List Entry) (seat : ℕ) : Type 0 where

@@ -5,24 +5,18 @@ use Rattle.task_base.specs.declared.entry.Entry.{Entry}
 use Rattle.task_base.specs.declared.source.TaskSource.{TaskSource}
 use Rattle.task_base.specs.declared.source.TaskSource.TheVariants.{Sequence, Job}
 use Rattle.task_model.specs.Policies.{is_held}
-use Rattle.task_model.specs.Posts.{Posted, posts, main_posts, is_taken, is_main_taken}
+use Rattle.task_model.specs.Posts.{Posted, main_posts, is_taken, is_main_taken}
 use Rattle.task_model.specs.Refusal.{is_forbidden}
-use Rattle.task_model.specs.Keys.{Ready, key_of}
+use Rattle.task_model.specs.Keys.{Ready}
 use Rattle.task_base.specs.Runners.{sequence_of}
-use Rattle.task_model.specs.Sequences.{is_of, may_start, head_of}
+use Rattle.task_model.specs.Sequences.{head_of}
 use Rattle.task_model.specs.Seats.{runs_sequence, is_free}
 use Rattle.task_model.specs.Cells.{cell_of, main_cell_of}
 use Rattle.task_model.specs.Jobs.{MayEnter}
 use Rattle.task_model.specs.Sources.{Candidate, is_takeable}
 use Rattle.task_model.specs.Orders.{order_of}
+use Rattle.pool_laws.specs.Keys.{IsHead}
 use Rattle.task_model.specs.MainQueues.{Front, IsOpen}
-
--- a head is an accepted task of its sequence, with its key, which has not been taken and may start in the phase
-pub record IsHead (script : Plan) (past : List Entry) (s : ℕ) (head : Ready) : Type 0 where
-  pub accepted : Contains (posts past) head.posted
-  pub keyed : key_of past head.posted ≡ Some head.key
-  pub of_sequence : is_of script s head.posted ≡ true
-  pub free : may_start script past head.posted ≡ true
 
 -- a sequence that does not run and has a head, or a job that may be entered
 abbrev pub IsWaitingSource : Plan → List Entry → TaskSource → Type 0

@@ -2,25 +2,15 @@
 use Rattle.std.specs.Prelude.{◌≡◌, ℕ, ◌<◌, ◌≤◌, Bool, true, false, List, Some, Contains}
 use Rattle.task_base.specs.Plan.{Plan}
 use Rattle.task_base.specs.declared.entry.Entry.{Entry}
-use Rattle.task_model.specs.Posts.{Posted, posts, main_posts, is_taken, is_ended, is_main_taken, is_main_ended}
+use Rattle.task_model.specs.Posts.{Posted, main_posts, is_taken, is_ended, is_main_taken, is_main_ended}
 use Rattle.task_base.specs.Runners.{sequence_of}
 use Rattle.task_base.specs.declared.script.Action.{Action}
 use Rattle.task_base.specs.declared.script.Action.TheVariants as actions
 use Rattle.task_model.specs.Seats.{Running, Holding, running, holding}
 use Rattle.task_model.specs.Jobs.{claimed}
+use Rattle.pool_laws.specs.Seats.{RunsPoolTask}
 use Rattle.hist_model.specs.Views.{own_entries}
 use Rattle.hist_model.specs.Script.{Current, current}
-
--- a worker runs a task of the pool that was accepted, was taken, and has not ended
-pub record RunsPoolTask (script : Plan) (past : List Entry) (seat : ℕ) (w : Running) : Type 0 where
-  pub accepted : Posted
-  pub posted : Contains (posts past) accepted
-  pub task_is : accepted.task ≡ w.task
-  pub home_is : accepted.home ≡ w.home
-  pub taken : is_taken past w.task ≡ true
-  pub not_ended : is_ended past w.task ≡ false
-  pub worker : 1 ≤ seat
-  pub known : seat ≤ script.workers
 
 -- the driver runs a main task that was accepted, was taken, and has not ended
 pub record RunsMainTask (past : List Entry) (seat : ℕ) (w : Running) : Type 0 where

@@ -5,7 +5,7 @@ use Rattle.task_base.specs.declared.entry.Entry.{Entry}
 use Rattle.task_base.specs.declared.entry.JobReply.{JobReply}
 use Rattle.task_model.specs.Seats.{holding, inside}
 use Rattle.task_model.specs.Jobs.{claimed, item_value, MayEnter, free_id, reply_of}
-use Rattle.hist_model.specs.Allowed.{next_item}
+use Rattle.task_model.specs.Sources.{next_item}
 
 -- a seat that holds nothing enters a job that may be entered, under the least number that nobody inside has, at the least
 -- unclaimed item

@@ -1,12 +1,11 @@
 ghost use Rattle.std.specs.Prelude.{◌≡◌, ◌<◌, ◌↔◌, not, true, false, length, slice_get, IsOk, IfOk, IfErr, Some, None};
 ghost use Rattle.task_base.specs.Plan.{Plan};
 ghost use Rattle.task_base.specs.declared.entry.Entry.{Entry};
-ghost use Rattle.hist_model.specs.Allowed.{next_item};
 ghost use Rattle.task_model.specs.Jobs.{is_empty, may_enter};
 ghost use Rattle.task_model.specs.Refusal.{is_job_forbidden};
 ghost use Rattle.task_model.specs.Capacity.{priority_of_job};
 ghost use Rattle.task_model.specs.Seats.{Holding, inside};
-ghost use Rattle.task_model.specs.Sources.{makes_way, waiting};
+ghost use Rattle.task_model.specs.Sources.{makes_way, waiting, next_item};
 ghost use Rattle.std.specs.List.{list_any};
 ghost use Rattle.std.specs.Prelude.{ℕ, IsSomeAnd, ◌≤◌, ◌^◌, List, nat_lt, ◌&&◌};
 ghost use Rattle.list_laws.specs.Lists.{holds_of};

@@ -1,21 +1,16 @@
 -- What would wait, were nothing held back, by its sources: the candidates of the sequences and jobs that wait, one of each,
--- and no others. So it stays where each source stays, changes at the one source that an entry changes, and is empty once
--- shutdown is done.
+-- and no others. So it stays where each source stays, as at the driver's main tasks, which are no work of the pool.
 --
--- What waits is what would wait and is not held back. So it stays where both stay: at the entries of the main queues, as the
--- driver's main tasks are no work of the pool, and at the blocking scopes, refused posts, joins, and the entries that
--- only report.
+-- What waits is what would wait and is not held back. So it stays where both stay: at the entries of the main queues, the
+-- blocking scopes, refused posts, joins, and the entries that only report.
 use Rattle.std.proofs.Common.{◌≡◌, ℕ, ◌<◌, Bool, true, false, cond, List, [], ◌∷◌, ◌++◌, length, refl, sym, ap, ◌∙◌, Option, Some, None, inl, inr, arith}
-use Rattle.std.specs.Prelude.{filter, not, ◌⊎◌, nat_lt, Contains}
+use Rattle.std.specs.Prelude.{not, ◌⊎◌, nat_lt, Contains}
 use Rattle.std.specs.Option.{option_map}
 use Rattle.std.specs.List.{filter_map, range_with_len}
-use Rattle.std.proofs.lemmas.Bool.{true≢false, not-true, ltb-true, lt-ltb, or_parts}
+use Rattle.std.proofs.lemmas.Bool.{not-true, ltb-true, lt-ltb, or_parts}
 use Rattle.std.proofs.lemmas.Option.{none-some}
 use Rattle.std.proofs.lemmas.List.Elements.{Contains-append_left, Contains-append_right, Contains-append_cases}
 use Rattle.task_base.specs.Plan.{Plan}
-use Rattle.task_base.specs.Policy.{is_held_back}
-use Rattle.task_base.specs.declared.policy.Policy.{Policy}
-use Rattle.task_model.specs.Phase.{phase_of}
 use Rattle.task_base.specs.Runners.{sequence_count}
 use Rattle.task_base.specs.declared.entry.Entry.{Entry}
 use Rattle.task_base.specs.declared.entry.Kind.{Kind}
@@ -32,14 +27,13 @@ use Rattle.task_model.specs.Sources.{Candidate, sequence_candidate, sequence_wai
 use Rattle.pool_laws.specs.Seats.{moves_main, runs_pool_task}
 use Rattle.pool_laws.specs.Jobs.{moves_jobs}
 use Rattle.pool_laws.specs.Choice.{source_waiting, WouldWait, IsFree, moves_sequence_waiting, moves_held, moves_sources, moves_waiting}
-use Rattle.list_laws.proofs.Filters.{filter_congr, filter_always, filter_map_never, filter_map_congr_in}
+use Rattle.list_laws.proofs.Filters.{filter_congr, filter_map_congr_in}
 use Rattle.list_laws.proofs.Made.{filter_contains, contains_filter, filter_map_contains, contains_filter_map, contains_range, range_contains}
 use Rattle.list_laws.proofs.Ranges.{AllByRecursion-range}
 use Rattle.list_laws.proofs.Values.{some-injective}
 use Rattle.pool_laws.proofs.Jobs.Answers.{job_at_main, job_same, job_waiting_kept}
-use Rattle.pool_laws.proofs.Choice.Waiting.{sequence_waiting_same, sequence_waiting_at_main, sequence_waiting_at_done}
-use Rattle.pool_laws.proofs.Choice.Entering.{shut_at_done}
-use Rattle.pool_laws.proofs.Choice.Held.{held_same, held_at_policy, held_at_shutdown}
+use Rattle.pool_laws.proofs.Choice.Waiting.{sequence_waiting_same, sequence_waiting_at_main}
+use Rattle.pool_laws.proofs.Choice.Held.{held_same}
 
 -- The candidate of a source.
 
@@ -172,18 +166,6 @@ pub source_at_main : (script : Plan) (past : List Entry) (e : Entry) (source : T
 source_at_main script past e (Sequence s) main none = rw (sequence_waiting_at_main script past e s main none) refl
 source_at_main script past e (Job j) main none = rw (job_waiting_kept script past (past ++ e ∷ []) j (job_at_main script past e j main)) refl
 
-pub would_wait_at_main : (script : Plan) (past : List Entry) (e : Entry) → moves_main e.kind ≡ true → runs_pool_task past e.seat ≡ false
-    → would_wait script (past ++ e ∷ []) ≡ would_wait script past
-would_wait_at_main script past e main none = would_wait_by_sources script past (past ++ e ∷ []) (λ source. source_at_main script past e source main none)
-
--- once shutdown is done nothing would wait
-pub would_wait_at_done : (script : Plan) (past : List Entry) (e : Entry) → e.kind ≡ kinds.Done → would_wait script (past ++ e ∷ []) ≡ []
-unfolding would_wait
-would_wait_at_done script past e is = rw (
-  filter_map_never (sequence_waiting script (past ++ e ∷ [])) (range_with_len 0 (sequence_count script)) (λ s. sequence_waiting_at_done script past e s is),
-  filter_map_never (job_waiting script (past ++ e ∷ [])) (range_with_len 0 (length script.jobs)) (λ j. (shut_at_done script past e j is).waits),
-) refl
-
 -- What waits.
 
 -- what waits would wait, and is not held back
@@ -201,12 +183,6 @@ pub not_held_is_waiting : (script : Plan) (past : List Entry) (c : Candidate) �
 unfolding waiting
 not_held_is_waiting script past c is free = contains_filter (λ d. not (is_held past d.priority)) (would_wait script past) c is (ap not free)
 
--- where nothing is held back all that would wait waits
-pub waiting_is_all : (script : Plan) (past : List Entry) → ((priority : Priority) → is_held past priority ≡ false)
-    → waiting script past ≡ would_wait script past
-unfolding waiting
-waiting_is_all script past free = filter_always (λ c. not (is_held past c.priority)) (would_wait script past) (λ c. ap not (free c.priority))
-
 pub waiting_is_free : (script : Plan) (past : List Entry) (c : Candidate) → IsWaiting script past c → IsFree script past c
 waiting_is_free script past c is =
     let parts : WouldWait script past c × (is_held past c.priority ≡ false) = waiting_is_not_held script past c is in
@@ -221,11 +197,6 @@ waiting_kept : (script : Plan) (past later : List Entry) → would_wait script l
 unfolding waiting
 waiting_kept script past later same held = rw same
     (filter_congr (λ c. not (is_held later c.priority)) (λ c. not (is_held past c.priority)) (would_wait script past) (λ c. ap not (held c.priority)))
-
-pub waiting_by_sources : (script : Plan) (past later : List Entry)
-    → ((source : TaskSource) → source_waiting script later source ≡ source_waiting script past source)
-    → ((priority : Priority) → is_held later priority ≡ is_held past priority) → waiting script later ≡ waiting script past
-waiting_by_sources script past later sources held = waiting_kept script past later (would_wait_by_sources script past later sources) held
 
 -- what leaves what waits moves no source
 pub source_waits : (kind : Kind) → moves_waiting kind ≡ false → moves_sources kind ≡ false
@@ -252,30 +223,3 @@ waiting_same script past e quiet = waiting_kept script past (past ++ e ∷ []) (
     no_policy kinds.Shutdown h = h
     no_policy kinds.Done h = h
     no_policy kind h = refl
-
-pub waiting_at_main : (script : Plan) (past : List Entry) (e : Entry) → moves_main e.kind ≡ true → runs_pool_task past e.seat ≡ false
-    → waiting script (past ++ e ∷ []) ≡ waiting script past
-waiting_at_main script past e main none = waiting_kept script past (past ++ e ∷ []) (would_wait_at_main script past e main none)
-    (λ priority. held_same past e priority (no_policy e.kind main))
-  where
-    no_policy : (kind : Kind) → moves_main kind ≡ true → moves_held kind ≡ false
-    no_policy (kinds.MainTake task queue found) h = refl
-    no_policy (kinds.MainEnd task left) h = refl
-    no_policy kind h = absurd (true≢false (sym h))
-
-pub waiting_at_done : (script : Plan) (past : List Entry) (e : Entry) → e.kind ≡ kinds.Done → waiting script (past ++ e ∷ []) ≡ []
-unfolding waiting
-waiting_at_done script past e is = rw (would_wait_at_done script past e is) refl
-
--- a policy holds back of what would wait as it says
-pub waiting_at_policy : (script : Plan) (past : List Entry) (e : Entry) (policy : Policy) → e.kind ≡ kinds.Policy policy
-    → waiting script (past ++ e ∷ []) ≡ filter (λ c. not (is_held_back (phase_of past) policy c.priority)) (would_wait script past)
-unfolding waiting
-waiting_at_policy script past e policy is = rw (would_wait_same script past e (ap moves_sources is))
-    (filter_congr (λ c. not (is_held (past ++ e ∷ []) c.priority)) (λ c. not (is_held_back (phase_of past) policy c.priority)) (would_wait script past)
-    (λ c. ap not (held_at_policy past e policy c.priority is)))
-
--- from the start of shutdown on all that would wait waits
-pub waiting_at_shutdown : (script : Plan) (past : List Entry) (e : Entry) → e.kind ≡ kinds.Shutdown
-    → waiting script (past ++ e ∷ []) ≡ would_wait script (past ++ e ∷ [])
-waiting_at_shutdown script past e is = waiting_is_all script (past ++ e ∷ []) (λ priority. held_at_shutdown past e priority is)

@@ -1,16 +1,13 @@
--- What one more entry does to which work is held back. A policy sets it, and from the start of shutdown on nothing is
--- held back. No other kind changes it.
+-- An entry that sets no policy and leaves the phase leaves which work is held back.
 use Rattle.std.proofs.Common.{◌≡◌, false, List, [], ◌∷◌, ◌++◌, refl}
 use Rattle.std.proofs.lemmas.Bool.{true≢false}
-use Rattle.task_base.specs.Policy.{is_held_back}
 use Rattle.task_base.specs.declared.entry.Entry.{Entry}
 use Rattle.task_base.specs.declared.entry.Kind.{Kind}
 use Rattle.task_base.specs.declared.entry.Kind.TheVariants as kinds
 use Rattle.task_base.specs.declared.policy.Policy.{Policy}
 use Rattle.task_traits.specs.declared.phase.Phase.{Phase}
-use Rattle.task_traits.specs.declared.phase.Phase.TheVariants as phases
 use Rattle.task_traits.specs.declared.traits.Priority.{Priority}
-use Rattle.task_model.specs.Phase.{phase_of, phase_after, started_from}
+use Rattle.task_model.specs.Phase.{phase_of, phase_after}
 use Rattle.task_model.specs.Policies.{policy_of, policy_after, is_held}
 use Rattle.pool_laws.specs.Choice.{moves_held}
 use Rattle.task_model.proofs.Growth.{phase_of_push, policy_of_push}
@@ -32,19 +29,3 @@ held_same past e priority quiet = rw (
     no_policy : (policy : Policy) (kind : Kind) → moves_held kind ≡ false → policy_after policy kind ≡ policy
     no_policy policy (kinds.Policy new) h = absurd (true≢false h)
     no_policy policy kind h = refl
-
-pub held_at_policy : (past : List Entry) (e : Entry) (policy : Policy) (priority : Priority) → e.kind ≡ kinds.Policy policy
-    → is_held (past ++ e ∷ []) priority ≡ is_held_back (phase_of past) policy priority
-held_at_policy past e policy priority is = rw (phase_of_push past e, policy_of_push past e, is) refl
-
--- from the start of shutdown on nothing is held back
-pub held_at_shutdown : (past : List Entry) (e : Entry) (priority : Priority) → e.kind ≡ kinds.Shutdown → is_held (past ++ e ∷ []) priority ≡ false
-held_at_shutdown past e priority is = rw (phase_of_push past e, is) (by (phase_of past))
-  where
-    by : (phase : Phase) → is_held_back (started_from phase) (policy_of (past ++ record { seat = e.seat; kind = kinds.Shutdown } ∷ [])) priority ≡ false
-    by phases.Running = refl
-    by phases.Started = refl
-    by phases.Done = refl
-
-pub held_at_done : (past : List Entry) (e : Entry) (priority : Priority) → e.kind ≡ kinds.Done → is_held (past ++ e ∷ []) priority ≡ false
-held_at_done past e priority is = rw (phase_of_push past e, is) refl

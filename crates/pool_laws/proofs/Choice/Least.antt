@@ -3,23 +3,27 @@
 --
 -- The head of a sequence is one of its eligible tasks, and none of them has a key below its own. The best source waits and
 -- may be taken, and no source that may be taken goes before it. Of two keys one is below the other, or they are equal.
-use Rattle.std.proofs.Common.{◌≡◌, ℕ, Bool, true, false, eqb, List, [], ap, ◌∙◌, Some, None, arith}
+use Rattle.std.proofs.Common.{◌≡◌, ℕ, Bool, true, false, eqb, List, [], ap, refl, ◌∙◌, Option, Some, None, arith}
 use Rattle.std.specs.Prelude.{◌&&◌, ◌||◌, nat_lt, filter, Contains, All}
+use Rattle.std.specs.Option.{option_map}
 use Rattle.std.proofs.lemmas.List.Elements.{All-weaker, All-contains, All-contains_itself}
-use Rattle.std.proofs.lemmas.Bool.{false_from_ne_true}
+use Rattle.std.proofs.lemmas.Bool.{and_parts, false_from_ne_true}
+use Rattle.std.proofs.lemmas.Option.{none-some}
 use Rattle.task_base.specs.declared.source.Key.{Key}
 use Rattle.list_laws.specs.Lists.{IsLeast, Ranks, then_by}
 use Rattle.task_base.specs.Keys.{key_below}
-use Rattle.task_model.specs.Keys.{Ready}
-use Rattle.task_model.specs.Sequences.{eligible, head_of}
+use Rattle.task_model.specs.Posts.{Posted, posts}
+use Rattle.task_model.specs.Keys.{Ready, ready, key_of}
+use Rattle.task_model.specs.Sequences.{is_of, may_start, eligible, head_of}
 use Rattle.task_base.specs.Groups.{importance}
 use Rattle.task_model.specs.Sources.{Candidate, waiting, is_takeable, goes_before, best_of}
-use Rattle.pool_laws.specs.Keys.{ready_below}
+use Rattle.pool_laws.specs.Keys.{ready_below, IsHead}
 use Rattle.pool_laws.specs.Choice.{IsBest}
 use Rattle.task_base.specs.Plan.{Plan}
 use Rattle.task_base.specs.declared.entry.Entry.{Entry}
 use Rattle.list_laws.proofs.Least.{least_is_least, no_least}
-use Rattle.list_laws.proofs.Made.{filter_contains, contains_filter, contains_not_empty}
+use Rattle.list_laws.proofs.Made.{filter_contains, filter_map_contains, contains_filter, contains_not_empty}
+use Rattle.list_laws.proofs.Values.{some-injective}
 use Rattle.list_laws.proofs.Ranks.{ranks_turned, ranks_by, ranks_then_by, tied}
 
 -- by keys
@@ -42,6 +46,23 @@ ranks_goes_before = ranks_turned (then_by (λ c. importance c.priority) (λ a b.
 pub head_is_least : (script : Plan) (past : List Entry) (s : ℕ) (r : Ready) → head_of script past s ≡ Some r → IsLeast ready_below (eligible script past s) r
 unfolding head_of
 head_is_least script past s r is = least_is_least ready_below (ranks_key (λ x. x.key)) (eligible script past s) r is
+
+-- a head is an accepted task of its sequence, with its key, which may start
+pub head_is : (script : Plan) (past : List Entry) (s : ℕ) (head : Ready) → head_of script past s ≡ Some head → IsHead script past s head
+unfolding eligible ready
+head_is script past s head is =
+    let (among, passes) = filter_contains (λ r. is_of script s r.posted && may_start script past r.posted) (ready past) head
+    (head_is_least script past s head is).member in
+    let (p, posted, made) = filter_map_contains (λ p. option_map (λ key. record { posted = p; key = key }) (key_of past p)) (posts past) head among in
+    let (accepted, keyed) = named p posted (key_of past p) refl made in
+    let (of_sequence, free) = and_parts (is_of script s head.posted) (may_start script past head.posted) passes in
+    record { accepted = accepted; keyed = keyed; of_sequence = of_sequence; free = free }
+  where
+    named : (p : Posted) → Contains (posts past) p → (o : Option Key) → key_of past p ≡ o
+        → option_map (λ key. record { posted = p; key = key }) o ≡ Some head
+        → Contains (posts past) head.posted × (key_of past head.posted ≡ Some head.key)
+    named p posted None has none = absurd (none-some head none)
+    named p posted (Some key) has some = rw (← some-injective some) (posted, has)
 
 pub no_head : (script : Plan) (past : List Entry) (s : ℕ) → head_of script past s ≡ None → eligible script past s ≡ []
 unfolding head_of

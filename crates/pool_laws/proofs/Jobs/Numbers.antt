@@ -1,6 +1,6 @@
 -- The numbers that workers have inside a job. One more worker always finds a free one, the least that nobody inside has,
 -- and that is at most how many are inside.
-use Rattle.std.proofs.Common.{◌≡◌, ℕ, ◌+◌, ◌≤◌, true, false, eqb, List, [], ◌∷◌, ◌++◌, length, refl, sym, ap, ◌∙◌, Option, Some, None}
+use Rattle.std.proofs.Common.{◌≡◌, ℕ, ◌+◌, ◌≤◌, true, eqb, List, length, sym, ap, ◌∙◌, Option, Some, None}
 use Rattle.std.specs.Prelude.{not, find}
 use Rattle.std.specs.List.{list_any, range_with_len}
 use Rattle.std.proofs.lemmas.Bool.{false≢true, eqb-true, and_parts}
@@ -10,10 +10,8 @@ use Rattle.task_base.specs.declared.entry.Entry.{Entry}
 use Rattle.list_laws.specs.Lists.{IsFirst, holds_of}
 use Rattle.task_model.specs.Seats.{Holding, holding, all_seats, inside}
 use Rattle.task_model.specs.Jobs.{holds_id, is_free_id, free_id}
-use Rattle.list_laws.proofs.Pigeons.{first_free, first_is_one, list_all-not}
-use Rattle.list_laws.proofs.Tests.{find_congr, list_all_congr}
-use Rattle.pool_laws.proofs.Seats.Running.{holding_same, inside_same}
-use Rattle.pool_laws.specs.Seats.{moves_holding}
+use Rattle.list_laws.proofs.Pigeons.{first_free, list_all-not}
+use Rattle.list_laws.proofs.Tests.{find_congr}
 
 -- a seat inside has one number
 one_number : (j : ℕ) (o : Option Holding) (m n : ℕ) → holds_id j m o ≡ true → holds_id j n o ≡ true → m ≡ n
@@ -52,19 +50,3 @@ free_id_is_first script past j =
       },
       first.3,
     )
-
--- and no other number is the least free one
-pub first_is_free_id : (script : Plan) (past : List Entry) (j n : ℕ) → IsFirst (is_free_id script past j) n → free_id script past j ≡ Some n
-first_is_free_id script past j n first =
-    let found : (m : ℕ) × (free_id script past j ≡ Some m) × IsFirst (is_free_id script past j) m × (m ≤ length (inside script past j)) =
-    free_id_is_first script past j in
-    found.1 ∙ ap Some (first_is_one (is_free_id script past j) found.0 n found.2 first)
-
--- a free number stays free where no seat enters or leaves a job, or goes on to its next item
-pub free_id_same : (script : Plan) (past : List Entry) (e : Entry) (j : ℕ) → moves_holding e.kind ≡ false
-    → free_id script (past ++ e ∷ []) j ≡ free_id script past j
-free_id_same script past e j quiet =
-    rw (inside_same script past e j quiet)
-    (find_congr (is_free_id script (past ++ e ∷ []) j) (is_free_id script past j) (range_with_len 0 (length (inside script past j) + 1))
-    (λ id. list_all_congr (λ seat. not (holds_id j id (holding (past ++ e ∷ []) seat))) (λ seat. not (holds_id j id (holding past seat)))
-    (all_seats script) (λ seat. rw (holding_same past e seat quiet) refl)))

@@ -206,26 +206,6 @@ key_within past p key in_past is = by (is_delayed p) is
     by true h = late (tick_from past p.ripe) (λ place some. tick_within past p.ripe place some) h
     by false h = rw (← some-injective h) in_past
 
--- each key of the past has its place in the past
-pub keys_within : (past : List Entry) → AllByRecursion (λ r. nat_lt r.key.place (length past) ≡ true) (ready past)
-unfolding ready
-keys_within past = AllByRecursion-filter_map _ _ _ _
-    (λ p r in_past is. kept p (key_of past p) (λ key some. key_within past p key in_past some) r is) (posts_within past)
-  where
-    kept : (p : Posted) (o : Option Key) → ((key : Key) → o ≡ Some key → nat_lt key.place (length past) ≡ true) → (r : Ready)
-        → option_map (λ k. record { posted = p; key = k }) o ≡ Some r → nat_lt r.key.place (length past) ≡ true
-    kept p None f r none = absurd (none-some r none)
-    kept p (Some key) f r some = rw (← some-injective some) (f key refl)
-
--- what holds of each accepted task holds of each that has a key
-pub AllByRecursion-ready : (P : Posted → Type 0) (past : List Entry) → AllByRecursion P (posts past) → AllByRecursion (λ r. P r.posted) (ready past)
-unfolding ready
-AllByRecursion-ready P past all = AllByRecursion-filter_map P _ _ _ (λ p r is some. kept p (key_of past p) is r some) all
-  where
-    kept : (p : Posted) (o : Option Key) → P p → (r : Ready) → option_map (λ k. record { posted = p; key = k }) o ≡ Some r → P r.posted
-    kept p None is r none = absurd (none-some r none)
-    kept p (Some key) is r some = rw (← some-injective some) is
-
 pub no_tick_ahead_at_start : NoTickAhead []
 unfolding tick_from
 no_tick_ahead_at_start moment ahead = refl

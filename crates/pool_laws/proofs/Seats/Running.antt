@@ -11,17 +11,16 @@
 --
 -- All is quiet exactly where each seat is free, and a sequence runs exactly where a seat runs a task of it.
 use Rattle.std.proofs.Common.{◌≡◌, ℕ, ◌+◌, Bool, true, false, cond, eqb, List, [], ◌∷◌, ◌++◌, length, refl, sym, ◌∙◌, Option, Some, None, arith}
-use Rattle.std.specs.Prelude.{not, ◌||◌, option_and_then, fold, ◌==◌, if◌then◌else◌}
+use Rattle.std.specs.Prelude.{not, ◌||◌, option_and_then, fold, ◌==◌}
 use Rattle.std.proofs.lemmas.Bool.{true≢false, eqb-true, or_parts}
 use Rattle.std.proofs.Math.Bool.{and-true}
-use Rattle.std.proofs.lemmas.List.Sums.{fold-append}
 use Rattle.task_base.specs.Plan.{Plan}
 use Rattle.task_base.specs.declared.entry.Entry.{Entry}
 use Rattle.task_base.specs.declared.entry.Kind.{Kind}
 use Rattle.task_base.specs.declared.entry.Kind.TheVariants.{Take, End, MainTake, MainEnd, JobTake, JobStep}
 use Rattle.list_laws.specs.Lists.{count, holds_of}
 use Rattle.task_base.specs.Runners.{sequence_of}
-use Rattle.task_model.specs.Seats.{Running, Holding, running, running_after, holding, holding_after, acts_done, is_free, is_quiet, runs_of, runs_sequence, inside, all_seats, next_act}
+use Rattle.task_model.specs.Seats.{Running, Holding, running, running_after, holding, holding_after, acts_done, is_free, is_quiet, runs_of, runs_sequence, inside, all_seats}
 use Rattle.task_model.specs.Capacity.{taken_after, taken_with}
 use Rattle.pool_laws.specs.Seats.{priority_of_running, moves_main, moves_running, moves_holding, IsSeat, moves_seats, runs_pool_task, holds_job}
 use Rattle.task_model.proofs.Growth.{running_push, holding_push, acts_done_push}
@@ -52,17 +51,6 @@ holding_other past e seat other = rw (holding_push past e seat, other) refl
 
 pub acts_other : (past : List Entry) (e : Entry) (seat : ℕ) → (e.seat == seat) ≡ false → acts_done (past ++ e ∷ []) seat ≡ acts_done past seat
 acts_other past e seat other = rw (acts_done_push past e seat, other) refl
-
-pub next_act_other : (script : Plan) (past : List Entry) (e : Entry) (seat : ℕ) → (e.seat == seat) ≡ false
-    → next_act script (past ++ e ∷ []) seat ≡ next_act script past seat
-next_act_other script past e seat other = rw (running_other past e seat other, acts_other past e seat other) refl
-
--- what one more entry does to the priority that a seat's task was taken with
-pub taken_with_push : (script : Plan) (past : List Entry) (e : Entry) (seat : ℕ)
-    → taken_with script (past ++ e ∷ []) seat
-    ≡ (if e.seat == seat then taken_after script (taken_with script past seat) e.kind else taken_with script past seat)
-unfolding taken_with
-taken_with_push script past e seat = fold-append (λ now x. cond (eqb x.seat seat) (taken_after script now x.kind) now) None past (e ∷ [])
 
 -- it is the priority of the task's runner
 pub taken_with_is : (script : Plan) (past : List Entry) (seat : ℕ)
@@ -107,9 +95,6 @@ holding_same past e seat quiet = rw (holding_push past e seat, still (holding pa
     still now (JobTake job id item) h = absurd (true≢false h)
     still now (JobStep job id item value next) h = absurd (true≢false h)
     still now kind h = refl
-
-pub seats_parts : (a b : Bool) → (a || b) ≡ false → (a ≡ false) × (b ≡ false)
-seats_parts a b h = or_parts a b h
 
 pub is_free_same : (past : List Entry) (e : Entry) (seat : ℕ) → moves_seats e.kind ≡ false → is_free (past ++ e ∷ []) seat ≡ is_free past seat
 is_free_same past e seat quiet =

@@ -1,23 +1,20 @@
 -- What one more entry does to what shutdown waits for: to the block part, which counts open block tasks and open block jobs,
--- to the skip part, which counts skip tasks that run and seats inside skip jobs, and to the count of both. Each law here
--- is the sum of laws on these four counts. A kind that posts, takes and ends nothing, and is of no job, leaves them all.
+-- and to the skip part, which counts skip tasks that run and seats inside skip jobs. Each law here is the sum of laws on these
+-- four counts. A kind that posts, takes and ends nothing, and is of no job, leaves them all.
 use Rattle.std.proofs.Common.{◌≡◌, ℕ, ◌+◌, ◌<◌, Bool, true, false, List, [], ◌∷◌, ◌++◌, length, refl, ap, Some, None, arith}
-use Rattle.std.specs.Prelude.{not, ◌&&◌, ◌||◌}
+use Rattle.std.specs.Prelude.{not, ◌&&◌}
 use Rattle.std.proofs.lemmas.Bool.{or_parts}
 use Rattle.task_base.specs.Plan.{Plan}
 use Rattle.task_base.specs.declared.entry.Entry.{Entry}
-use Rattle.task_base.specs.declared.entry.Kind.{Kind}
 use Rattle.task_base.specs.declared.entry.Kind.TheVariants.{Post, Take, End, JobPost, JobTake, JobStep, JobCancel}
-use Rattle.task_traits.specs.declared.traits.Behaviour.{Behaviour}
-use Rattle.task_traits.specs.declared.traits.Behaviour.TheVariants.{ContinueOnShutdown, SkipOnShutdown, BlockShutdown}
 use Rattle.task_model.specs.Posts.{Posted, InOrder, posts, is_taken, is_ended, post_of}
 use Rattle.task_model.specs.Refusal.{effective_at, behaviour_of_job}
 use Rattle.task_model.specs.Seats.{holding}
 use Rattle.task_model.specs.Jobs.{job_post_of, is_job_accepted, is_empty, is_over}
-use Rattle.task_model.specs.Blockers.{is_block, is_skip, block_part, skip_part, blockers_of}
+use Rattle.task_model.specs.Blockers.{is_block, is_skip, block_part, skip_part}
 use Rattle.pool_laws.specs.Seats.{moves_holding, IsSeat, holds_job}
 use Rattle.pool_laws.specs.Room.{share}
-use Rattle.pool_laws.specs.Shutdown.{moves_open_blocks, moves_running_skips, moves_open_jobs, moves_block_part, moves_skip_part, moves_blockers, is_block_task, is_skip_task}
+use Rattle.pool_laws.specs.Shutdown.{moves_open_blocks, moves_running_skips, moves_open_jobs, moves_block_part, moves_skip_part, is_block_task, is_skip_task}
 use Rattle.pool_laws.proofs.Shutdown.Tasks.{open_blocks_same, open_blocks_at_post, open_blocks_at_end, running_skips_same, running_skips_at_post, running_skips_at_take, running_skips_at_end}
 use Rattle.pool_laws.proofs.Shutdown.Jobs.{open_jobs_same, open_jobs_at_post, open_jobs_at_take, open_jobs_at_step, open_jobs_at_leave, open_jobs_at_cancel, skip_seats_same, skip_seats_at_take, skip_seats_at_step, skip_seats_at_leave}
 
@@ -134,104 +131,3 @@ pub skip_part_at_leave : (script : Plan) (past : List Entry) (e : Entry) (job id
 unfolding skip_part
 skip_part_at_leave script past e job id item value is seat held =
     omega (arith, running_skips_same script past e (ap moves_running_skips is), skip_seats_at_leave script past e job id item value is seat held)
-
--- Both.
-
-pub blockers_same : (script : Plan) (past : List Entry) (e : Entry) → moves_blockers e.kind ≡ false
-    → blockers_of script (past ++ e ∷ []) ≡ blockers_of script past
-unfolding blockers_of
-blockers_same script past e quiet =
-    rw (block_part_same script past e (no_block e.kind quiet), skip_part_same script past e (no_skip e.kind quiet)) refl
-  where
-    no_block : (kind : Kind) → moves_blockers kind ≡ false → moves_block_part kind ≡ false
-    no_block (Post task runner delay ok) h = rw h refl
-    no_block (End task left) h = h
-    no_block (JobPost job ok) h = h
-    no_block (JobTake job id item) h = h
-    no_block (JobStep job id item value next) h = h
-    no_block (JobCancel job) h = h
-    no_block kind h = refl
-
-    no_skip : (kind : Kind) → moves_blockers kind ≡ false → moves_skip_part kind ≡ false
-    no_skip (Post task runner delay ok) h = rw h refl
-    no_skip (Take task runner found) h = h
-    no_skip (End task left) h = h
-    no_skip (JobTake job id item) h = h
-    no_skip (JobStep job id item value next) h = h
-    no_skip kind h = refl
-
--- a block task blocks from its post on
-pub blockers_at_post : (script : Plan) (past : List Entry) (e : Entry) (task runner delay : ℕ) → e.kind ≡ Post task runner delay true
-    → is_taken past task ≡ false → is_ended past task ≡ false
-    → blockers_of script (past ++ e ∷ []) ≡ blockers_of script past + share (is_block (effective_at script runner delay))
-unfolding blockers_of
-blockers_at_post script past e task runner delay is untaken unended =
-    omega (arith, block_part_at_post script past e task runner delay is unended, skip_part_at_post script past e task runner delay is untaken)
-
--- a skip task blocks from its start on
-pub blockers_at_take : (script : Plan) (past : List Entry) (e : Entry) (p : Posted) (task runner found : ℕ) → e.kind ≡ Take task runner found
-    → InOrder (posts past) → post_of past task ≡ Some p → is_taken past task ≡ false → is_ended past task ≡ false
-    → blockers_of script (past ++ e ∷ []) ≡ blockers_of script past + share (is_skip_task script p)
-unfolding blockers_of
-blockers_at_take script past e p task runner found is order posted untaken unended =
-    omega (arith, block_part_same script past e (ap moves_block_part is), skip_part_at_take script past e p task runner found is order posted untaken unended)
-
--- both block until their end
-pub blockers_at_end : (script : Plan) (past : List Entry) (e : Entry) (p : Posted) (task left : ℕ) → e.kind ≡ End task left
-    → InOrder (posts past) → post_of past task ≡ Some p → is_taken past task ≡ true → is_ended past task ≡ false
-    → blockers_of script past ≡ blockers_of script (past ++ e ∷ []) + share (is_block_task script p || is_skip_task script p)
-unfolding blockers_of
-blockers_at_end script past e p task left is order posted taken unended =
-    omega (
-      arith,
-      block_part_at_end script past e p task left is order posted unended,
-      skip_part_at_end script past e p task left is order posted taken unended,
-      either (effective_at script p.home p.delay),
-    )
-  where
-    either : (b : Behaviour) → share (is_block b || is_skip b) ≡ share (is_block b) + share (is_skip b)
-    either ContinueOnShutdown = refl
-    either SkipOnShutdown = refl
-    either BlockShutdown = refl
-
--- a block job that is posted blocks
-pub blockers_at_job_post : (script : Plan) (past : List Entry) (e : Entry) (job : ℕ) (ok : Bool) → e.kind ≡ JobPost job ok → job < length script.jobs
-    → job_post_of past job ≡ None
-    → blockers_of script (past ++ e ∷ []) ≡ blockers_of script past + share (is_block (behaviour_of_job script job) && ok && not (is_over script past job))
-unfolding blockers_of
-blockers_at_job_post script past e job ok is lt new =
-    omega (arith, block_part_at_job_post script past e job ok is lt new, skip_part_same script past e (ap moves_skip_part is))
-
--- a seat inside a skip job blocks from its entry on
-pub blockers_at_job_take : (script : Plan) (past : List Entry) (e : Entry) (job id item : ℕ) → e.kind ≡ JobTake job id item → IsSeat script e.seat
-    → holding past e.seat ≡ None → is_over script past job ≡ false
-    → blockers_of script (past ++ e ∷ []) ≡ blockers_of script past + share (is_skip (behaviour_of_job script job))
-unfolding blockers_of
-blockers_at_job_take script past e job id item is seat free not_over =
-    omega (arith, block_part_at_job_take script past e job id item is seat free not_over, skip_part_at_job_take script past e job id item is seat free)
-
-pub blockers_at_step : (script : Plan) (past : List Entry) (e : Entry) (job id item value next : ℕ) → e.kind ≡ JobStep job id item value (Some next)
-    → IsSeat script e.seat → holds_job past e.seat job ≡ true
-    → blockers_of script (past ++ e ∷ []) ≡ blockers_of script past
-unfolding blockers_of
-blockers_at_step script past e job id item value next is seat held =
-    rw (block_part_at_step script past e job id item value next is seat held, skip_part_at_step script past e job id item value next is seat held) refl
-
--- a seat that leaves a skip job blocks no more, nor does a block job that is then over
-pub blockers_at_leave : (script : Plan) (past : List Entry) (e : Entry) (job id item value : ℕ) → e.kind ≡ JobStep job id item value None
-    → IsSeat script e.seat → holds_job past e.seat job ≡ true → job < length script.jobs
-    → blockers_of script past
-    ≡ blockers_of script (past ++ e ∷ []) + share (is_skip (behaviour_of_job script job))
-    + share (is_block (behaviour_of_job script job) && is_job_accepted past job && is_over script (past ++ e ∷ []) job)
-unfolding blockers_of
-blockers_at_leave script past e job id item value is seat held lt =
-    omega (arith, block_part_at_leave script past e job id item value is seat held lt, skip_part_at_leave script past e job id item value is seat held)
-
--- a block job that is cancelled while nobody is inside is over, and blocks no more
-pub blockers_at_cancel : (script : Plan) (past : List Entry) (e : Entry) (job : ℕ) → e.kind ≡ JobCancel job → job < length script.jobs
-    → blockers_of script past
-    ≡ blockers_of script (past ++ e ∷ []) + share (is_block (behaviour_of_job script job) && is_job_accepted past job && is_empty script past job
-    && not (is_over script past job))
-unfolding blockers_of
-blockers_at_cancel script past e job is lt =
-    omega (arith, block_part_at_cancel script past e job is lt, skip_part_same script past e (ap moves_skip_part is))

@@ -1,5 +1,5 @@
 -- Steps that compute name nothing, post nothing and open no scope.
-use Rattle.std.proofs.Common.{◌≡◌, ℕ, true, false, List, [], ◌∷◌, refl, ◌∙◌}
+use Rattle.std.proofs.Common.{◌≡◌, ℕ, true, false, List, [], ◌∷◌, refl}
 use Rattle.std.specs.Prelude.{flat_map}
 use Rattle.std.specs.List.{list_any, list_all}
 use Rattle.std.proofs.lemmas.Bool.{or_parts}
@@ -8,7 +8,7 @@ use Rattle.task_base.specs.Steps.{is_act}
 use Rattle.task_base.specs.declared.step.Step.{Step}
 use Rattle.task_base.specs.declared.step.Step.TheVariants.{Add, Mul, Set, Post as PostStep, Main as MainStep, Block, Unblock}
 use Rattle.script_model.specs.Postings.{posts_of_step}
-use Rattle.script_model.specs.Draft.{Draft, is_block, is_declared, has_bad_scopes, is_bad_post}
+use Rattle.script_model.specs.Draft.{Draft, is_declared, is_bad_post}
 
 -- steps that compute have what each such step has
 pub computing : (P : Step → Type 0) → ((k : ℕ) → P (Add k)) → ((k : ℕ) → P (Mul k)) → ((k : ℕ) → P (Set k)) → (step : Step) → is_act step ≡ false → P step
@@ -31,19 +31,6 @@ computing_good d [] e = refl
 computing_good d (step ∷ steps) e =
     let both = or_parts (is_act step) (list_any is_act steps) e in
     rw (computing (λ x. is_bad_post d x ≡ false) (λ k. refl) (λ k. refl) (λ k. refl) step both.0) (computing_good d steps both.1)
-
-pub computing_opens : (steps : List Step) → list_any is_act steps ≡ false → list_any is_block steps ≡ false
-computing_opens [] e = refl
-computing_opens (step ∷ steps) e =
-    let both = or_parts (is_act step) (list_any is_act steps) e in
-    rw (computing (λ x. is_block x ≡ false) (λ k. refl) (λ k. refl) (λ k. refl) step both.0) (computing_opens steps both.1)
-
-pub computing_scopes : (steps : List Step) → list_any is_act steps ≡ false → has_bad_scopes false steps ≡ false
-computing_scopes [] e = refl
-computing_scopes (step ∷ steps) e =
-    let both = or_parts (is_act step) (list_any is_act steps) e in
-    computing (λ x. has_bad_scopes false (x ∷ steps) ≡ has_bad_scopes false steps) (λ k. refl) (λ k. refl) (λ k. refl) step both.0
-    ∙ computing_scopes steps both.1
 
 pub computing_posts : (steps : List Step) → list_any is_act steps ≡ false → flat_map posts_of_step steps ≡ []
 computing_posts [] e = refl

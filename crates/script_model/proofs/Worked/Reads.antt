@@ -78,7 +78,7 @@ all_actions = record default_script {
   queues = record { class = 7; voters = 16 } ∷ [];
   jobs = record { priority = BestEffort; behaviour = ContinueOnShutdown; items = 0; cap = 64; steps = [] } ∷ [];
   tasks = [] ∷ [];
-  runners = record { kind = Parallel; traits = record { priority = BestEffort; behaviour = BlockShutdown; may_block = true } } ∷ [];
+  runners = record { kind = Sequenced; traits = record { priority = BestEffort; behaviour = BlockShutdown; may_block = true } } ∷ [];
   actions =
       Post 0 0 1000000000000 ∷ Tick 65535 ∷ Policy Nothing ∷ Fence 0 Now ∷ Fence 0 Start ∷ Unfence 0 ∷ Vote 0 15 true
       ∷ Vote 0 0 false ∷ Rank 0 7 ∷ Close 0 ∷ Pump 16384 ∷ Flush ∷ StartJob 0 ∷ Join 0 ∷ Cancel 0 ∷ Shutdown ∷ [];
@@ -87,7 +87,15 @@ all_actions = record default_script {
 -- its text, with the declarations in another order than the canonical one
 abbrev all_actions_text : List ℕ
 all_actions_text =
-    codes "job 0 best_effort continue 0 64\ntask 0\nqueue 0 7 16\nrunner 0 parallel best_effort block mayblock\n"
+    codes "job 0 best_effort continue 0 64\ntask 0\nqueue 0 7 16\nrunner 0 sequenced best_effort block mayblock\n"
+    ++ codes "post 0 0 1000000000000\ntick 65535\npolicy none\nfence 0 now\nfence 0 start\nunfence 0\nvote 0 15 on\n"
+    ++ codes "vote 0 0 off\nrank 0 7\nclose 0\npump 16384\nflush\nstartjob 0\njoin 0\ncancel 0\nshutdown\n"
+
+-- its canonical text
+abbrev all_actions_written : List ℕ
+all_actions_written =
+    codes "workers 2\ngroups 4 2 0\nthreshold 1000000\nrunner 0 sequenced best_effort block mayblock\nqueue 0 7 16\ntask 0\n"
+    ++ codes "job 0 best_effort continue 0 64\n"
     ++ codes "post 0 0 1000000000000\ntick 65535\npolicy none\nfence 0 now\nfence 0 start\nunfence 0\nvote 0 15 on\n"
     ++ codes "vote 0 0 off\nrank 0 7\nclose 0\npump 16384\nflush\nstartjob 0\njoin 0\ncancel 0\nshutdown\n"
 
@@ -140,7 +148,12 @@ readings_right = refl
 
 -- scripts, and their canonical texts
 abbrev writings : List (Plan × List ℕ)
-writings = (default_script, codes "workers 2\ngroups 4 2 0\nthreshold 1000000\n") ∷ (page_load, page_load_text) ∷ (edges, edges_text) ∷ []
+writings =
+    (default_script, codes "workers 2\ngroups 4 2 0\nthreshold 1000000\n")
+    ∷ (page_load, page_load_text)
+    ∷ (all_actions, all_actions_written)
+    ∷ (edges, edges_text)
+    ∷ []
 
 writings_right : AreWritten writings
 unfolding opened

@@ -1,5 +1,5 @@
 use Rattle.env_core.specs.Calls.{EntersAct}
-use Rattle.env_core.proofs.TestedCalls.{set_twice}
+use Rattle.list_laws.proofs.Places.{slice_set-twice}
 use Rattle.env_check.specs.Hands.{AreInHand}
 use Rattle.env_check.specs.declared.hand.Hand.TheVariants.{Free, Task}
 use Rattle.env_check.proofs.Hands.{all_in_hand}
@@ -33,7 +33,7 @@ invariant_of-self c =
       stops = c.advance.ensures.stops;
       ends = c.advance.ensures.ends;
     }) in
-    rw (c.take_task.ensures.free, set_twice c.self.inside.hands.items c.args.seat Free (Task c.advance.result))
+    rw (c.take_task.ensures.free, slice_set-twice c.self.inside.hands.items c.args.seat Free (Task c.advance.result))
     (all_in_hand c.self.inside.hands.items (Task c.advance.result) are c.requires.known (enters_kind at entered c.args.kind.now c.requires.due)
     (at_acted at entered c.args.kind.now c.requires.due c.advance.result.work c.advance.result.next goes))
 

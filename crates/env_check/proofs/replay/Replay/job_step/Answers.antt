@@ -3,7 +3,7 @@ use Rattle.std.specs.Prelude.{◌↔◌}
 use Rattle.task_base.specs.declared.entry.Kind.TheVariants as kinds
 use Rattle.task_model.specs.Jobs.{item_value}
 use Rattle.env_core.specs.Jobs.{HasGoneOn, HasLeft}
-use Rattle.env_core.proofs.TestedCalls.{set_twice}
+use Rattle.list_laws.proofs.Places.{slice_set-twice}
 use Rattle.env_check.specs.Hands.{AreInHand}
 use Rattle.env_check.specs.declared.hand.Hand.TheVariants.{Free, Item}
 use Rattle.env_check.proofs.Hands.{all_in_hand}
@@ -56,7 +56,7 @@ invariant_of-self-in-Some c =
     let pass = c.take_item-pass.result in
     let next = c.in-Some.pass in
     let on : HasGoneOn view c.job_step.new.self c.args.seat pass c.args.value next = rw (← c.self.view_is) c.in-Some.ensures in
-    rw (c.take_item-pass.ensures.free, set_twice c.self.inside.hands.items c.args.seat Free (Item next))
+    rw (c.take_item-pass.ensures.free, slice_set-twice c.self.inside.hands.items c.args.seat Free (Item next))
     (all_in_hand c.self.inside.hands.items (Item next) are c.requires.known on.enters (held_on pass next c.requires.known on))
 
 pub returns-in-None : goal.returns-in-None

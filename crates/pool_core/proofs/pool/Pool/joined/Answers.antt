@@ -9,7 +9,6 @@ use Rattle.pool_core.specs.PoolJobs.{joined_in, may_enter_in}
 use Rattle.pool_core.specs.declared.pool_job.PoolJob.{PoolJob}
 use Rattle.task_base.specs.declared.entry.JobReply.{JobReply}
 use Rattle.task_base.specs.declared.source.NotYet.{NotYet}
-use Rattle.task_model.specs.Jobs.{may_enter}
 use Rattle.pool_core.proofs.pool.Pool.joined.Goals as goal
 
 -- where there is an answer it is the reply

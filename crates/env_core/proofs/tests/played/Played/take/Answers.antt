@@ -1,9 +1,0 @@
-use Rattle.env_core.proofs.TestedCalls.{can_take, played_take}
-use Rattle.env_core.proofs.tests.played.Played.take.Goals as goal
-
-pub take-requires : goal.take-requires
-take-requires g c = can_take c.self.invariant c.args.seat c.assert_free.ensures.worker c.assert_free.ensures.free c.assert_free.ensures.empty_handed
-
-pub invariant_of-self : goal.invariant_of-self
-invariant_of-self g c = rw c.put.ensures
-    (played_take c.args.seat c.in-Task.work c.self.invariant c.assert_free.ensures.worker c.assert_free.ensures.free c.in-Task.ensures)

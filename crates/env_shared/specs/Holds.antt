@@ -1,0 +1,41 @@
+-- One hold of the turn, by a seat at a desk.
+use Rattle.std.specs.Prelude.{◌≡◌, ℕ, ◌+◌, Bool, List}
+use Rattle.task_base.specs.declared.entry.Entry.{Entry}
+use Rattle.task_base.specs.declared.entry.Kind.{Kind}
+use Rattle.hist_model.specs.Legal.{IsLegal}
+use Rattle.hist_model.specs.Views.{IsPrefix, own_entries}
+use Rattle.turn_table.specs.Seats.{TurnKey, SeatView}
+use Rattle.turn_table.specs.Shutdowns.{is_shutdown}
+use Rattle.env_core.specs.Views.{EnvView, Enters}
+use Rattle.env_shared.specs.Sits.{Sits}
+
+-- a hold: the shared environment, the seat that took the turn, as it was before, and the history that it found
+pub record HoldView : Type 0 where
+  pub of : TurnKey
+  pub seat : SeatView
+  pub past : List Entry
+
+-- the environment as it was found
+abbrev pub found : HoldView → EnvView
+found h = record { script = h.of.basis; history = h.past }
+
+-- the seat, which sat at a desk, holds the turn, and has seen what it found
+pub record HasTurn (key : TurnKey) (seat held : SeatView) : Type 0 where
+  pub sits : Sits key seat
+  pub of_is : held.of ≡ key
+  pub number_is : held.number ≡ seat.number
+  pub made_is : held.made ≡ seat.made
+  pub turned : held.turns ≡ seat.turns + 1
+  pub begins : IsPrefix seat.seen held.seen
+  pub own : own_entries seat.number held.seen ≡ own_entries seat.number seat.seen
+  pub legal : IsLegal key.basis held.seen
+
+-- the environment is as it was found, with one more entry of the seat, and this says whether that is a shutdown
+pub record HasEntered (shut : Bool) (h : HoldView) (env : EnvView) : Type 0 where
+  pub before : EnvView
+  pub number : ℕ
+  pub kind : Kind
+  pub enters : Enters before env number kind
+  pub found_is : before ≡ found h
+  pub number_is : number ≡ h.seat.number
+  pub shut_is : is_shutdown kind ≡ shut

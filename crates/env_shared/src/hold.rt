@@ -1,0 +1,119 @@
+//! One hold of the turn, by a seat at a desk.
+ghost use Rattle.std.specs.Prelude.{◌≡◌, true, false};
+ghost use Rattle.hist_model.specs.Views.{own_entries};
+ghost use Rattle.env_crew.specs.Desk.{Holds, as_seen};
+ghost use Rattle.env_shared.specs.Holds.{HasEntered, found};
+ghost use Rattle.env_shared.specs.Sits.{IsSat, Sits, desk_of, seat_there};
+
+use crate::shared::{EnvSeat, Shared};
+use env_core::Env;
+use std::marker::Model;
+use std::snapshot::Snapshot;
+use std::sync::Wait;
+use task_base::SeatNo;
+use task_body::TaskBody;
+use turn_table::Holding;
+
+/// A turn that a seat holds. It is spent where the turn is given back.
+///
+/// Contracts see the shared environment, the seat as it was before, and the history that it found.
+pub struct Hold<'a, B: TaskBody> {
+    shared: &'a Shared<B>,
+    number: SeatNo,
+    holding: Holding<Box<Env<B>>>,
+    seat: Snapshot<EnvSeat<B>>,
+}
+
+impl<'a, B: TaskBody> Model for Hold<'a, B> {
+    ghost use Rattle.std.specs.Prelude.{◌≡◌};
+    ghost use Rattle.env_shared.specs.Holds.{HoldView, HasTurn};
+
+    ghost Value = { HoldView };
+
+    ghost view = { λ h. record { of = h.shared.now; seat = h.seat.value; past = h.holding.seen } };
+
+    ghost invariant = { λ h. (h.seat.value.number ≡ h.number) × HasTurn h.shared.now h.seat.value h.holding };
+}
+
+impl<'a, B: TaskBody> Hold<'a, B> {
+    /// Takes the turn for a seat, and gives the environment.
+    pub fn begin<R: Wait>(
+        rt: &R,
+        shared: &'a Shared<B>,
+        place: &mut Option<EnvSeat<B>>,
+    ) -> (Box<Env<B>>, Hold<'a, B>)
+        requires { IsSat shared.now place.old }
+        ensures hold { result.1 ≡ record { of = shared.now; seat = seat_there shared.now place.old; past = result.0.value.history } }
+        ensures found { result.0.value ≡ found result.1 }
+        ensures own { let seat = seat_there shared.now place.old in own_entries seat.number result.0.value.history ≡ own_entries seat.number seat.seen }
+    {
+        let seat = place.take().unwrap();
+        let about = Snapshot::of(&seat);
+        let number = seat.number();
+        let (env, holding) = shared.turnstile.turn(rt, seat);
+        (
+            env,
+            Hold {
+                shared,
+                number,
+                holding,
+                seat: about,
+            },
+        )
+    }
+
+    /// The seat's number.
+    pub fn number(&self) -> SeatNo
+        ensures { result ≡ self.now.seat.number }
+    {
+        self.number
+    }
+
+    /// Gives the turn back, with one more entry.
+    pub fn enter(self, env: Box<Env<B>>) -> EnvSeat<B>
+        requires { HasEntered false self env.value }
+        ensures sits { Sits self.entry.of result }
+        ensures holds { Holds (desk_of self.entry.seat) self.entry.past (desk_of result) }
+        ensures seen { as_seen (desk_of result) ≡ env.value }
+    {
+        let Hold {
+            shared,
+            number: _,
+            holding,
+            seat: _,
+        } = self;
+        shared.turnstile.enter(env, holding)
+    }
+
+    /// Gives the turn back, with one more entry, which is a shutdown.
+    pub fn enter_shutdown(self, env: Box<Env<B>>) -> EnvSeat<B>
+        requires { HasEntered true self env.value }
+        ensures sits { Sits self.entry.of result }
+        ensures holds { Holds (desk_of self.entry.seat) self.entry.past (desk_of result) }
+        ensures seen { as_seen (desk_of result) ≡ env.value }
+    {
+        let Hold {
+            shared,
+            number: _,
+            holding,
+            seat: _,
+        } = self;
+        shared.turnstile.enter_shutdown(env, holding)
+    }
+
+    /// Gives the turn back as it was found.
+    pub fn back(self, env: Box<Env<B>>) -> EnvSeat<B>
+        requires { env.value ≡ found self }
+        ensures sits { Sits self.entry.of result }
+        ensures holds { Holds (desk_of self.entry.seat) self.entry.past (desk_of result) }
+        ensures seen { as_seen (desk_of result) ≡ env.value }
+    {
+        let Hold {
+            shared,
+            number: _,
+            holding,
+            seat: _,
+        } = self;
+        shared.turnstile.back(env, holding)
+    }
+}

@@ -1,6 +1,0 @@
-mod jobs;
-mod limits;
-mod mix;
-mod order;
-mod played;
-mod shutdown;

@@ -1,5 +1,0 @@
-use Rattle.work_queue.proofs.Fills.{IsFilled}
-use Rattle.work_queue.proofs.tests.lanes_beside_plain_lists.Given as goal
-
-abbrev pub invariant-loop-number : goal.invariant-loop-number
-invariant-loop-number g l = IsFilled 1000 l.number-counter l.queue

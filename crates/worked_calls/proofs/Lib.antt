@@ -1,0 +1,6 @@
+pub mod Small
+pub mod Plans
+pub mod Known
+pub mod Seated
+pub mod Turns
+pub mod Spare

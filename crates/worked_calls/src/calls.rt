@@ -1,0 +1,157 @@
+//! Calls on one environment, with the answers that a test wants.
+ghost use Rattle.std.specs.Prelude.{◌≡◌, ℕ, [], IfOk, None, Some};
+ghost use Rattle.script_model.specs.Laws.Sound.{IsSound};
+ghost use Rattle.env_core.specs.Calls.{IsFreeWorker, IsNextAct, IsWantedNext};
+ghost use Rattle.env_core.specs.Jobs.{CanEndItem};
+ghost use Rattle.task_base.specs.Plan.{Plan};
+ghost use Rattle.task_base.specs.declared.entry.Kind.TheVariants as kinds;
+ghost use Rattle.worked_calls.specs.Known.{IsLast, IsWork, with_entry};
+
+use crate::bodies::{CountedBody, bodies_of};
+use env_core::Env;
+use std::alloc::{AllocError, Global};
+use std::process::Abort;
+use std::sync::Arc;
+use std::sync::atomic::AtomicU64;
+use task_base::{JobId, NotYet, Script, SeatNo, TaskId};
+use task_body::{Act, Assignment, JobPass, Taken};
+
+/// The environment of a script.
+pub fn open(alloc: Global, script: Script) -> Result<Env<CountedBody>, AllocError>
+    requires { IsSound script }
+    ensures { IfOk result (λ env. env ≡ record { script = script; history = [] }) }
+{
+    let word = Arc::new(alloc, AtomicU64::new(0))?;
+    let bodies = bodies_of(alloc, &script, &word)?;
+    Env::open(alloc, script, bodies)
+}
+
+/// A worker takes this task, which was posted to the first runner and finds nothing.
+pub fn take(
+    rt: &impl Abort,
+    env: &mut Env<CountedBody>,
+    seat: SeatNo,
+    task: TaskId,
+) -> Assignment<CountedBody>
+    requires { IsFreeWorker env.old seat }
+    ensures entered { env.new ≡ with_entry env.old seat (kinds.Take task 0 0) }
+    ensures work { IsWork env.old.script task result }
+{
+    match env.take(seat) {
+        Taken::Task(work) => {
+            assert!(rt; work.task() == task);
+            assert!(rt; work.home() == 0);
+            assert!(rt; work.found() == 0);
+            work
+        }
+        Taken::Item(_) => panic!(rt; "seat {seat} gets an item"),
+        Taken::Nothing => panic!(rt; "seat {seat} gets nothing"),
+        Taken::Over => panic!(rt; "there is nothing any more"),
+    }
+}
+
+/// A worker gets nothing now, and nothing is entered.
+pub fn take_nothing(rt: &impl Abort, env: &mut Env<CountedBody>, seat: SeatNo)
+    requires { IsFreeWorker env.old seat }
+    ensures { env.new ≡ env.old }
+{
+    match env.take(seat) {
+        Taken::Nothing => {}
+        Taken::Item(_) => panic!(rt; "seat {seat} gets an item"),
+        Taken::Task(_work) => panic!(rt; "seat {seat} gets a task"),
+        Taken::Over => panic!(rt; "there is nothing any more"),
+    }
+}
+
+/// A task does this step, which its seat enters if it is an act step.
+pub fn step(rt: &impl Abort, work: &mut Assignment<CountedBody>, act: Act)
+    ensures { (script : Plan) (task : ℕ) → IsWork script task work.old → IsWork script task work.new }
+{
+    assert_eq!(rt; work.step(), act);
+}
+
+/// A worker ends its task, which has no step left and leaves this value.
+pub fn end(
+    rt: &impl Abort,
+    env: &mut Env<CountedBody>,
+    seat: SeatNo,
+    task: TaskId,
+    mut work: Assignment<CountedBody>,
+    left: u64,
+)
+    requires work { IsWork env.old.script task work }
+    requires last { IsLast env.old seat task }
+    ensures { env.new ≡ with_entry env.old seat (kinds.End task left) }
+{
+    let Act::Finished = work.step() else {
+        panic!(rt; "task {task} has more steps")
+    };
+    assert!(rt; work.value() == left);
+    env.end(seat, work);
+}
+
+/// A worker takes this item of the first job, under the number 0.
+pub fn take_item(rt: &impl Abort, env: &mut Env<CountedBody>, seat: SeatNo, item: u32) -> JobPass
+    requires { IsFreeWorker env.old seat }
+    ensures entered { env.new ≡ with_entry env.old seat (kinds.JobTake 0 0 item) }
+    ensures pass { result ≡ record { job = 0; id = 0; item = item } }
+{
+    match env.take(seat) {
+        Taken::Item(pass) => {
+            assert!(rt; pass.job() == 0);
+            assert!(rt; pass.id() == 0);
+            assert!(rt; pass.item() == item);
+            pass
+        }
+        Taken::Task(_work) => panic!(rt; "seat {seat} gets a task"),
+        Taken::Nothing => panic!(rt; "seat {seat} gets nothing"),
+        Taken::Over => panic!(rt; "there is nothing any more"),
+    }
+}
+
+/// A seat ends its item and goes on with the next one.
+pub fn go_on(
+    rt: &impl Abort,
+    env: &mut Env<CountedBody>,
+    seat: SeatNo,
+    pass: JobPass,
+    value: u64,
+    next: u32,
+) -> JobPass
+    requires { CanEndItem env.old seat pass value }
+    ensures entered { env.new ≡ with_entry env.old seat (kinds.JobStep pass.job pass.id pass.item value (Some next)) }
+    ensures pass { result ≡ record pass { item = next } }
+{
+    let Some(kept) = env.job_step(seat, pass, value) else {
+        panic!(rt; "seat {seat} leaves")
+    };
+    assert!(rt; kept.item() == next);
+    kept
+}
+
+/// A seat ends its item and leaves the job.
+pub fn leave(rt: &impl Abort, env: &mut Env<CountedBody>, seat: SeatNo, pass: JobPass, value: u64)
+    requires { CanEndItem env.old seat pass value }
+    ensures { env.new ≡ with_entry env.old seat (kinds.JobStep pass.job pass.id pass.item value None) }
+{
+    let None = env.job_step(seat, pass, value) else {
+        panic!(rt; "seat {seat} goes on")
+    };
+}
+
+/// One seat is inside the job that was cancelled, and nothing is entered.
+pub fn not_cancelled(rt: &impl Abort, env: &mut Env<CountedBody>, job: JobId)
+    requires { IsWantedNext env.old 0 (kinds.Cancelled job) }
+    ensures { env.new ≡ env.old }
+{
+    match env.try_cancelled(0, job) {
+        Ok(()) => panic!(rt; "nobody is inside"),
+        Err(not_yet) => assert_eq!(rt;
+            not_yet,
+            NotYet {
+                running: 1,
+                ready: false
+            }
+        ),
+    }
+}

@@ -1,0 +1,66 @@
+//! A run on threads, with bodies and a gate of the test's own.
+use crate::bodies::{Word, bodies_of};
+use env_app::run_crew;
+use env_io::{Gate, ListClock};
+use std::sync::Arc;
+use std::sync::atomic::{AtomicU64, Ordering};
+use std::test::Fail;
+use task_script::read_script;
+
+/// A gate that numbers its calls from 1, and keeps for each of three tasks the number of its call, and how many steps
+/// were done before it.
+#[derive(Drop)]
+struct LookingGate {
+    word: Word,
+    calls: AtomicU64,
+    places: [AtomicU64; 3],
+    steps: [AtomicU64; 3],
+}
+
+impl Gate for LookingGate {
+    fn before(&self, _seat: u32, task: u32) {
+        let place = self.calls.fetch_add(1, Ordering::SeqCst).wrapping_add(1);
+        if let Some(kept) = self.places.get(task as usize) {
+            kept.fetch_add(place, Ordering::SeqCst);
+        }
+        if let Some(kept) = self.steps.get(task as usize) {
+            kept.fetch_add(self.word.load(Ordering::SeqCst), Ordering::SeqCst);
+        }
+    }
+}
+
+/// Three tasks of rising priority, under a policy that holds all work back until they are posted.
+const RISING: &str = "workers 1\n\
+    runner 0 parallel best_effort skip\n\
+    runner 1 parallel user_visible skip\n\
+    runner 2 parallel user_blocking skip\n\
+    task 0 add 1\ntask 1 add 1\ntask 2 add 1\n\
+    policy none\npost 0 0 0\npost 1 1 0\npost 2 2 0\npolicy all\nflush\n";
+
+#[test]
+fn gate_is_passed_once_a_task_before_its_first_step(rt: HostRuntime) -> Result<(), Fail> {
+    let Ok(script) = read_script(rt.alloc(), RISING.as_bytes()) else {
+        panic!(rt; "the script is not read")
+    };
+    let word = Arc::new(rt.alloc(), AtomicU64::new(0))?;
+    let bodies = bodies_of(rt.alloc(), &script, &word)?;
+    let gate = LookingGate {
+        word: Arc::try_clone(&word)?,
+        calls: AtomicU64::new(0),
+        places: [AtomicU64::new(0), AtomicU64::new(0), AtomicU64::new(0)],
+        steps: [AtomicU64::new(0), AtomicU64::new(0), AtomicU64::new(0)],
+    };
+    let mut clock = ListClock::new(Vec::new(rt.alloc()));
+    let env = run_crew(&rt, rt.alloc(), &script, bodies, &mut clock, &gate)?;
+    assert_eq!(rt; env.into_log().len(), 12);
+    assert_eq!(rt; gate.calls.load(Ordering::SeqCst), 3);
+    for (place, wanted) in gate.places.iter().zip([3, 2, 1]) {
+        assert_eq!(rt; place.load(Ordering::SeqCst), wanted);
+    }
+    // Each task is stepped once for its step, and once more to see that none is left.
+    for (steps, wanted) in gate.steps.iter().zip([4, 2, 0]) {
+        assert_eq!(rt; steps.load(Ordering::SeqCst), wanted);
+    }
+    assert_eq!(rt; word.load(Ordering::SeqCst), 6);
+    Ok(())
+}

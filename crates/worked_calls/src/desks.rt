@@ -1,0 +1,88 @@
+//! Desks of one shared environment, of which one thread goes from one to another.
+use crate::calls::step;
+use crate::desk_calls::{end, enter, leave, log_of_three, log_of_two, open, take};
+use crate::logs::assert_log;
+use crate::scripts::{closing, first, will};
+use env_crew::{Desk, Served, serve};
+use env_io::OpenGate;
+use std::test::Fail;
+use task_base::{Behaviour, Scope};
+use task_body::Act;
+
+#[test]
+fn three_desks_by_turns(rt: HostRuntime) -> Result<(), Fail> {
+    let script = will(rt.alloc())?;
+    let (shared, first) = open(rt.alloc(), script)?;
+    let (first, one) = shared.split(first);
+    let (first, two) = shared.split(first);
+    let mut driver = shared.desk(first);
+    let mut worker = shared.desk(one);
+    let mut other = shared.desk(two);
+    driver.post(&rt, 0, 0, 0);
+    driver.post(&rt, 1, 0, 0);
+    let mut long = take(&rt, &mut worker, 0);
+    step(&rt, &mut long, Act::Enter(Scope::Will));
+    enter(&rt, &mut worker, Scope::Will);
+    let mut short = take(&rt, &mut other, 1);
+    step(&rt, &mut short, Act::Did(1));
+    end(&rt, &mut other, 1, short, 2);
+    step(&rt, &mut long, Act::Did(1));
+    step(&rt, &mut long, Act::Leave);
+    leave(&rt, &mut worker);
+    end(&rt, &mut worker, 0, long, 1);
+    assert!(rt; driver.try_idle(&rt).is_ok());
+    let first = driver.into_seat();
+    let one = worker.into_seat();
+    let two = other.into_seat();
+    let log = log_of_three(rt.alloc(), shared, first, one, two)?;
+    assert_log(
+        &rt,
+        rt.alloc(),
+        &log,
+        "0 0 post 0 0 0 ok\n1 0 post 1 0 0 ok\n2 1 take 0 0 0\n3 1 block 0 will\n\
+        4 2 take 1 0 0\n5 2 end 1 2\n6 1 unblock 0\n7 1 end 0 1\n8 0 idle\n",
+    )
+}
+
+#[test]
+fn serve_answers_as_its_take(rt: HostRuntime) -> Result<(), Fail> {
+    let script = first(rt.alloc())?;
+    let (shared, first) = open(rt.alloc(), script)?;
+    let (first, second) = shared.split(first);
+    let mut driver = shared.desk(first);
+    let mut worker = shared.desk(second);
+    assert_eq!(rt; serve(&rt, &mut worker, &OpenGate), Served::Nothing);
+    assert!(rt; driver.post(&rt, 0, 0, 0));
+    assert_eq!(rt; serve(&rt, &mut worker, &OpenGate), Served::Worked);
+    assert_eq!(rt; serve(&rt, &mut worker, &OpenGate), Served::Nothing);
+    assert_eq!(rt; driver.try_idle(&rt), Ok(()));
+    assert_eq!(rt; serve(&rt, &mut worker, &OpenGate), Served::Over);
+    let first = driver.into_seat();
+    let second = worker.into_seat();
+    let log = log_of_two(rt.alloc(), shared, first, second)?;
+    assert_log(
+        &rt,
+        rt.alloc(),
+        &log,
+        "0 0 post 0 0 0 ok\n1 1 take 0 0 0\n2 1 end 0 5\n3 0 idle\n",
+    )
+}
+
+#[test]
+fn shutdown_is_seen_without_the_turn(rt: HostRuntime) -> Result<(), Fail> {
+    let script = closing(rt.alloc())?;
+    let (shared, first) = open(rt.alloc(), script)?;
+    let (first, second) = shared.split(first);
+    let mut driver = shared.desk(first);
+    let mut worker = shared.desk(second);
+    assert!(rt; driver.post(&rt, 0, 0, 5));
+    assert_eq!(rt; worker.shut_to(Behaviour::SkipOnShutdown), None);
+    assert_eq!(rt; worker.shut_to(Behaviour::BlockShutdown), None);
+    driver.start_shutdown(&rt);
+    assert_eq!(rt; worker.shut_to(Behaviour::SkipOnShutdown), Some(1));
+    assert_eq!(rt; worker.shut_to(Behaviour::BlockShutdown), None);
+    let first = driver.into_seat();
+    let second = worker.into_seat();
+    let log = log_of_two(rt.alloc(), shared, first, second)?;
+    assert_log(&rt, rt.alloc(), &log, "0 0 post 0 0 5 ok\n1 0 shutdown\n")
+}

@@ -1,0 +1,5 @@
+mod lanes;
+mod outside;
+mod sources;
+mod tracker;
+mod turns;
