@@ -38,3 +38,4 @@ pub mod OrderPasts
 pub mod OrderKeys
 pub mod OrderDraws
 pub mod Order
+pub mod Progress

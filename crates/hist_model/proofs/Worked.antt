@@ -14,3 +14,4 @@ pub mod ValueCorners
 pub mod QueueCorners
 pub mod Moments
 pub mod Broken
+pub mod Ways

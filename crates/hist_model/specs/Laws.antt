@@ -16,3 +16,4 @@ pub mod Whole
 pub mod LegalPast
 pub mod State
 pub mod Order
+pub mod Progress

@@ -15,6 +15,7 @@ mod moments;
 mod order;
 mod phases;
 mod postings;
+mod progress;
 mod readings;
 mod refusals;
 mod seats;
@@ -34,6 +35,7 @@ pub use moments::moments_and_orders_rise;
 pub use order::tasks_are_taken_in_order;
 pub use phases::phases_never_go_back;
 pub use postings::each_task_is_posted_once;
+pub use progress::{every_way_ends_whole, legal_histories_can_go_on};
 pub use readings::moments_never_fall;
 pub use refusals::refusals_are_exact;
 pub use seats::{
