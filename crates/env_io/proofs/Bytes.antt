@@ -1,6 +1,7 @@
 -- What follows from the words on bytes and counts.
-use Rattle.std.proofs.Common.{◌≡◌, ◌+◌, ◌-◌, ℕ, List, [], ◌++◌, length, take, drop, Option, None, Some, refl, sym, ◌∙◌, ap, append_assoc, append-nil, take-add}
-use Rattle.std.proofs.lemmas.List.{take_rest}
+use Rattle.std.proofs.Common.{◌≡◌, ◌≤◌, ◌+◌, ◌-◌, ℕ, List, [], ◌++◌, length, take, drop, Option, None, Some}
+use Rattle.std.proofs.Common.{refl, sym, ◌∙◌, ap, arith, append_assoc, append-nil, length-take, take-add}
+use Rattle.std.proofs.lemmas.List.{drop-append-le, take-append-drop, take_rest}
 use Rattle.std.specs.Option.{option_map}
 use Rattle.env_io.specs.Bytes.{Gives, Gains}
 
@@ -27,3 +28,11 @@ pub gains_more : (a b c : Option (List ℕ)) (piece : List ℕ) (done n : ℕ) �
     → Gains b (take n (take (length piece - done) (drop done piece))) c → Gains a (take (done + n) piece) c
 gains_more a b c piece done n first second =
     rw (take-add done n piece) (Gains-trans a b c (take done piece) (take n (drop done piece)) first (rw (take_rest piece done) at second))
+
+-- a front of a part of a slice was written: what stands behind it is as it was
+pub rest_of_slice : (written slice : List ℕ) (n most : ℕ) → n ≤ most → most ≤ length slice
+    → (written ++ drop n (take most slice)) ++ drop most slice ≡ written ++ drop n slice
+rest_of_slice written slice n most front within =
+    let inside : n ≤ length (take most slice) = omega (arith, length-take most slice) in
+    append_assoc written _ _
+    ∙ ap (λ rest. written ++ rest) (sym (drop-append-le n (take most slice) (drop most slice) inside) ∙ ap (drop n) (take-append-drop most slice))

@@ -11,13 +11,16 @@ mod clock;
 mod failed;
 mod failing;
 mod gate;
+mod piece;
 mod real;
 mod sink;
 mod source;
+mod store;
 
 pub use clock::{Clock, ListClock, StepClock};
 pub use failed::Failed;
 pub use gate::{Gate, HoldGate, OpenGate};
+pub use piece::{PieceSink, PieceSource};
 pub use real::{RealClock, StdSink, StdSource};
 pub use sink::{CountSink, MemSink, Sink, put_all};
 pub use source::{MemSource, Source, SureSource};

@@ -1,10 +1,11 @@
-ghost use Rattle.std.specs.Prelude.{◌≡◌, ◌+◌, ◌-◌, ◌^◌, ◌<◌, ◌≤◌, ◌++◌, ◌↔◌, [], ℕ, List, min, length, take, vec_len, vec_capacity, IfOk, IfSome, Option, Some, None, OnOk, OnErr, IsErr, IsTrue};
+ghost use Rattle.std.specs.Prelude.{◌≡◌, ◌+◌, ◌-◌, ◌^◌, ◌<◌, ◌≤◌, ◌↔◌, [], ℕ, List, min, length, take, IfOk, IfSome, Option, Some, None, OnOk, OnErr, IsErr, IsTrue};
 ghost use Rattle.env_io.specs.Bytes.{Gains, Rose};
-ghost use Rattle.env_io.specs.Failing.{plan_of, fails_next};
-ghost use Rattle.env_io.specs.Memory.{taken_by, with_piece, with_call};
+ghost use Rattle.env_io.specs.Failing.{plan_of, fails_next, after_call};
+ghost use Rattle.env_io.specs.Memory.{taken_by, with_piece};
 
 use crate::Failed;
 use crate::failing::Failing;
+use crate::store::Store;
 use std::alloc::{AllocError, Global};
 use std::marker::Model;
 
@@ -51,74 +52,47 @@ pub fn put_all<K: Sink>(sink: &mut K, piece: &[u8]) -> Result<(), Failed>
 
 /// Takes each piece whole and keeps what it has room for. It fails at the calls that it is told to fail at.
 ///
-/// It tells its bytes as long as it has kept all that it took. In clauses it is the bytes that it kept, whether they are
-/// all, its room, and its plan: the numbers of those calls, the calls and the failures so far.
+/// It tells its bytes as long as it has kept all that it took. In clauses it is its store of bytes, and its plan: the
+/// numbers of those calls, the calls and the failures so far.
 #[derive(Drop)]
 pub struct MemSink {
-    kept: Vec<u8>,
-    room: usize,
-    is_whole: bool,
+    store: Store,
     failing: Failing,
 }
 
 impl Model for MemSink {
-    ghost use Rattle.std.specs.Prelude.{◌≤◌, vec_len, vec_capacity};
-    ghost use Rattle.env_io.specs.Memory.{Store};
+    ghost use Rattle.env_io.specs.Memory.{FailingStore};
 
-    ghost Value = { Store };
+    ghost Value = { FailingStore };
 
-    ghost view = { λ s. record { kept = s.kept.items; is_whole = s.is_whole; room = s.room; plan = s.failing } };
-
-    ghost invariant = { λ s. (vec_len s.kept ≤ s.room) × (s.room ≤ vec_capacity s.kept) };
+    ghost view = { λ s. record { store = s.store; plan = s.failing } };
 }
 
 impl MemSink {
     /// The calls with a piece that is not empty are numbered from 1. Those whose numbers stand in `fails` fail.
     /// The sink keeps up to `room` bytes, and reserves the memory for them here.
     pub fn new(alloc: Global, fails: Vec<u32>, room: u32) -> Result<MemSink, AllocError>
-        ensures empty { IfOk result (λ sink. taken_by sink ≡ Some []) }
-        ensures room { IfOk result (λ sink. sink.room ≡ room) }
+        ensures empty { IfOk result (λ sink. taken_by sink.store ≡ Some []) }
+        ensures room { IfOk result (λ sink. sink.store.room ≡ room) }
         ensures plan { IfOk result (λ sink. sink.plan ≡ plan_of fails.items) }
     {
-        let room = room as usize;
         Ok(MemSink {
-            kept: Vec::with_capacity(alloc, room)?,
-            room,
-            is_whole: true,
+            store: Store::new(alloc, room)?,
             failing: Failing::new(fails),
         })
     }
 
     /// The bytes that were kept: the first that were taken, as many as there was room for.
     pub fn bytes(&self) -> &[u8]
-        ensures kept { result.now ≡ self.now.kept }
-        ensures told { IfSome (taken_by self.now) (λ taken. result.now ≡ taken) }
+        ensures kept { result.now ≡ self.now.store.kept }
+        ensures told { IfSome (taken_by self.now.store) (λ taken. result.now ≡ taken) }
     {
-        &self.kept
+        self.store.bytes()
     }
-
-    // Keeps of the piece what there is room for.
-    fn keep(&mut self, piece: &[u8])
-        ensures kept { self.new ≡ with_piece self.old piece.now }
-        ensures taken { Gains (taken_by self.old) piece.now (taken_by self.new) }
-    {
-        let free = self.room - self.kept.len();
-        self.is_whole &= piece.len() <= free;
-        append_reserved(&mut self.kept, &piece[..free.min(piece.len())]);
-    }
-}
-
-// Appends to a vector that has room for the piece, so it takes no memory.
-fn append_reserved(bytes: &mut Vec<u8>, piece: &[u8])
-    requires { vec_len bytes.old + length piece.now ≤ vec_capacity bytes.old }
-    ensures items { bytes.new.items ≡ bytes.old.items ++ piece.now }
-    ensures capacity { vec_capacity bytes.old ≤ vec_capacity bytes.new }
-{
-    let _ = bytes.extend_from_slice(piece);
 }
 
 impl Sink for MemSink {
-    ghost holds = { taken_by };
+    ghost holds = { λ s. taken_by s.store };
 
     ghost faults = { λ s. s.plan.faults };
 
@@ -126,11 +100,12 @@ impl Sink for MemSink {
         ensures empty { piece.now ≡ [] → (result ≡ Ok 0) × (self.new ≡ self.old) }
         ensures all { IfOk result (λ n. n ≡ length piece.now) }
         ensures listed { 0 < length piece.now → (IsErr result ↔ IsTrue (fails_next self.old.plan)) }
-        ensures stored { 0 < length piece.now → OnOk result (self.new ≡ with_call (with_piece self.old piece.now)) }
-        ensures kept { OnErr result (self.new ≡ with_call self.old) }
+        ensures counted { 0 < length piece.now → self.new.plan ≡ after_call self.old.plan }
+        ensures stored { IfOk result (λ n. self.new.store ≡ with_piece self.old.store piece.now) }
+        ensures kept { OnErr result (self.new.store ≡ self.old.store) }
 
         // What of the trait's clauses does not follow from these.
-        ensures taken { IfOk result (λ n. Gains (taken_by self.old) (take n piece.now) (taken_by self.new)) }
+        ensures taken { IfOk result (λ n. Gains (taken_by self.old.store) (take n piece.now) (taken_by self.new.store)) }
         ensures failed { OnErr result (Rose self.old.plan.faults self.new.plan.faults) }
         ensures steady { OnOk result (self.new.plan.faults ≡ self.old.plan.faults) }
         ensures faults { self.old.plan.faults ≤ self.new.plan.faults }
@@ -141,7 +116,7 @@ impl Sink for MemSink {
         if self.failing.next() {
             return Err(Failed);
         }
-        self.keep(piece);
+        self.store.keep(piece);
         Ok(piece.len())
     }
 }
