@@ -1,3 +1,4 @@
+mod blockers;
 mod lanes;
 mod outside;
 mod sources;
