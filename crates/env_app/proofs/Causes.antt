@@ -1,17 +1,15 @@
--- The status of a fault that ends a command has its cause.
-use Rattle.std.proofs.Common.{◌≡◌, ◌≢◌, ℕ, List, refl, sym, subst, inl, inr, Option, Some, None, arith}
-use Rattle.std.specs.Prelude.{◌⊎◌, IsSome, Result, Err}
-use Rattle.task_base.specs.Plan.{Plan}
-use Rattle.task_base.specs.declared.fault.Fault.{Fault}
+-- The status of a failure that ends a command has its cause.
+use Rattle.std.proofs.Common.{◌≡◌, ◌≢◌, ℕ, List, length, refl, sym, ap, subst, inl, inr, Option, Some, None, arith}
+use Rattle.std.specs.Prelude.{◌⊎◌, IsSome, Result, Err, option_map}
 use Rattle.task_base.specs.declared.fault.Fault.TheVariants.{NotLegal, BadWords, BadScript, ReadFault, WriteFault, NoMemory, TooLarge}
-use Rattle.task_base.specs.Fault.{status_of}
-use Rattle.script_model.specs.Grammar.{Reads, first_fault}
+use Rattle.env_app.specs.declared.failure.Failure.{Failure}
+use Rattle.env_app.specs.declared.failure.Failure.TheVariants.{Common, NotTraced, BadReplies, BadNest}
 use Rattle.env_app.specs.declared.words.Command.{Command}
-use Rattle.env_app.specs.declared.words.Command.TheVariants.{Run, Check, Generate, Bench}
-use Rattle.env_app.specs.CommandLine.{TakesInput}
-use Rattle.env_app.specs.Judged.{HasChecked}
-use Rattle.env_app.specs.Outcome.{Ends, Does, HasCause, IsDone, IsSteady, IsWithin, IsWritten, OfBytes, RunsTo, TookMore, TookWithin, script_in}
-use Rattle.env_app.proofs.Outcomes.{no_fault}
+use Rattle.env_app.specs.declared.words.Command.TheVariants.{Run, Check, Reply, Trace, Nest, Generate, Bench}
+use Rattle.env_app.specs.CommandLine.{IsJudge, TakesInput}
+use Rattle.env_app.specs.Failures.{failure_status}
+use Rattle.env_app.specs.Outcome.{Ends, Does, EndsIn, HasCause, IsDone, IsReadToEnd, IsRefused, IsSteady, IsWithin, IsWritten, OfBytes, OfTaken, TookAll, TookMore, TookWithin, refusal_of}
+use Rattle.env_app.proofs.Verdicts.{SaysLegal, check_says, trace_says}
 
 -- ---- what can not be
 
@@ -40,62 +38,117 @@ none_of_four s a b c d p q r t (inr h) = none_of_three s b c d q r t h
 
 -- ---- what a command does
 
--- 1 says that `check` did its work
-done_at_one : (command : Option Command) → command ≡ Some Check → IsDone command 1
-done_at_one command is = subst (λ (c : Option Command). IsDone c 1) (sym is) (inr refl)
+-- a command that judges a log
+abbrev Judges : Option Command → Type 0
+Judges command = (command ≡ Some Check) ⊎ (command ≡ Some Trace)
 
--- a command that reads the source does what it does with a script that the bytes, within the limit, have
-record HasScript (command : Option Command) (bytes : List ℕ) : Type 0 where
+-- 1 says that it did its work
+done_at_one : (command : Option Command) → Judges command → IsDone command 1
+done_at_one command (inl is) = subst (λ (c : Option Command). IsDone c 1) (sym is) (inr refl)
+done_at_one command (inr is) = subst (λ (c : Option Command). IsDone c 1) (sym is) (inr refl)
+
+judge_takes : (command : Option Command) → Judges command → TakesInput command
+judge_takes command (inl is) = subst TakesInput (sym is) tt
+judge_takes command (inr is) = subst TakesInput (sym is) tt
+
+-- a command that reads the source does what it does with bytes, within the limit, that are not refused
+record IsTaken (command : Option Command) (bytes : List ℕ) : Type 0 where
   pub within : IsWithin bytes
-  pub script : Plan
-  pub reads : Reads (script_in command bytes) script
+  pub accepted : refusal_of command bytes ≡ None
 
-reads_script : (Holds : ℕ → List ℕ → Type 0) (command : Option Command) (told : ℕ → Option ℕ) (source : Ends) → TakesInput command
-    → Does command told source Holds → OfBytes source (HasScript command)
-reads_script Holds None told source takes does bytes is = absurd takes
-reads_script Holds (Some (Run step json)) told source takes does bytes is =
-    let done = does bytes is in
-    record { within = done.0; script = done.1.script; reads = done.1.reads }
-reads_script Holds (Some Check) told source takes does bytes is =
-    let done = does bytes is in
-    record { within = done.0; script = done.1.script; reads = done.1.reads }
-reads_script Holds (Some (Generate number size)) told source takes does bytes is = absurd takes
-reads_script Holds (Some (Bench number size)) told source takes does bytes is = absurd takes
+of_told : (command : Option Command) (source : Ends) (bytes : List ℕ) → TookAll source bytes → refusal_of command bytes ≡ None
+    → OfBytes source (IsTaken command)
+of_told command source bytes took accepted told is =
+    subst (IsTaken command) (took.all told is) (record { within = took.within; accepted = accepted })
 
-no_bad_script : {P : Type 0} (command : Option Command) (bytes : List ℕ) → HasScript command bytes → IsSome (first_fault (script_in command bytes)) → P
-no_bad_script command bytes has bad = absurd (some_not_none (first_fault (script_in command bytes)) bad (no_fault (script_in command bytes) has.script has.reads))
+taken : (Holds : ℕ → List ℕ → Type 0) (command : Option Command) (told : ℕ → Option ℕ) (source : Ends) → TakesInput command → Does command told source Holds
+    → OfBytes source (IsTaken command)
+taken Holds None told source takes does = absurd takes
+taken Holds (Some (Run step json)) told source takes does = of_told (Some (Run step json)) source does.bytes does.took (rw does.holds.reads refl)
+taken Holds (Some Check) told source takes does = of_told (Some Check) source does.bytes does.took (rw does.holds.reads refl)
+taken Holds (Some Reply) told source takes does =
+    of_told (Some Reply) source does.bytes does.took (rw (does.holds.reads, does.holds.elaborates.said) refl)
+taken Holds (Some Trace) told source takes does = of_told (Some Trace) source does.bytes does.took (rw does.holds.found.reads refl)
+taken Holds (Some Nest) told source takes does = of_told (Some Nest) source does.bytes does.took (rw does.holds.reads refl)
+taken Holds (Some (Generate number size)) told source takes does = absurd takes
+taken Holds (Some (Bench number size)) told source takes does = absurd takes
+
+not_refused : {P : Type 0} (command : Option Command) (bytes : List ℕ) → IsTaken command bytes → IsSome (refusal_of command bytes) → P
+not_refused command bytes taken refused = absurd (some_not_none (refusal_of command bytes) refused taken.accepted)
 
 -- ---- the causes
 
-abbrev ended : Fault → Result (Unit {0}) Fault
-ended fault = Err fault
+-- how a command left its sides, where its status is this
+record IsLeft (source sink : Ends) (status : ℕ) : Type 0 where
+  pub source_steady : status ≢ 4 → IsSteady source
+  pub sink_steady : status ≢ 5 → IsSteady sink
+  pub took_more : status ≡ 7 → TookMore source
+  pub took_within : status ≢ 7 → TookWithin source
 
-pub cause_of_fault : (command : Option Command) (told : ℕ → Option ℕ) (source sink : Ends) (fault : Fault) → RunsTo command told source sink (Err fault)
-    → (ended fault ≢ ended ReadFault → IsSteady source) → (ended fault ≢ ended WriteFault → IsSteady sink)
-    → (ended fault ≡ ended TooLarge → TookMore source) → (ended fault ≢ ended TooLarge → TookWithin source)
-    → HasCause command told source sink (status_of fault)
-cause_of_fault command told source sink (NotLegal line) runs source_steady sink_steady more within = record {
+-- a log was judged, and is not legal
+judged_cause : (command : Option Command) (told : ℕ → Option ℕ) (source sink : Ends) → Judges command → IsReadToEnd source
+    → Does command told source (IsWritten sink 1) → IsLeft source sink 1 → HasCause command told source sink 1
+judged_cause command told source sink judges end does left =
+    let takes = judge_takes command judges in record {
+      known = omega arith;
+      judged = λ e. judges;
+      bad_words = λ e. absurd (omega arith);
+      no_command = λ none. absurd (takes_not_none command takes none);
+      of_input = none_of_three 1 3 4 7 (λ e. omega arith) (λ e. omega arith) (λ e. omega arith);
+      read_to_end = λ input at. end;
+      done = λ at. does;
+      bad_input = λ e. absurd (omega arith);
+      refused = λ input bytes is few bad. not_refused command bytes (taken _ command told source takes does bytes is) bad;
+      read_fault = λ e. absurd (omega arith);
+      write_fault = λ e. absurd (omega arith);
+      source_steady = left.source_steady;
+      sink_steady = left.sink_steady;
+      too_large = λ e. absurd (omega arith);
+      took_more = left.took_more;
+      took_within = left.took_within;
+      large = λ input bytes is many. let few = (taken _ command told source takes does bytes is).within in absurd (omega arith);
+      good_input = λ input bytes is few good calm quiet. inl (done_at_one command judges);
+      no_input = λ there not quiet. absurd (not takes);
+    }
+
+-- the input was refused
+refused_cause : (command : Option Command) (told : ℕ → Option ℕ) (source sink : Ends) (failure : Failure) → TakesInput command
+    → IsRefused command source failure → IsLeft source sink 3 → HasCause command told source sink 3
+refused_cause command told source sink failure takes refused left = record {
   known = omega arith;
-  judged = λ e. runs.0;
+  judged = λ e. absurd (omega arith);
   bad_words = λ e. absurd (omega arith);
-  no_command = λ none. let check : command ≡ Some Check = runs.0 in absurd cc;
-  of_input = none_of_three 1 3 4 7 (λ e. omega arith) (λ e. omega arith) (λ e. omega arith);
-  read_to_end = λ takes at. runs.1;
-  done = λ at. runs.2;
-  bad_script = λ e. absurd (omega arith);
-  no_script = λ takes bytes is few bad. no_bad_script command bytes (reads_script _ command told source takes runs.2 bytes is) bad;
+  no_command = λ none. absurd (takes_not_none command takes none);
+  of_input = λ at. takes;
+  read_to_end = λ input at. refused.took.end;
+  done = neither 3 0 1 (λ e. omega arith) (λ e. omega arith);
+  bad_input = λ e. record { bytes = refused.bytes; took = refused.took; holds = is_there (refusal_of command refused.bytes) failure refused.holds };
+  refused = λ input bytes is few bad. inl refl;
   read_fault = λ e. absurd (omega arith);
   write_fault = λ e. absurd (omega arith);
-  source_steady = λ not. source_steady (λ same. absurd cc);
-  sink_steady = λ not. sink_steady (λ same. absurd cc);
+  source_steady = left.source_steady;
+  sink_steady = left.sink_steady;
   too_large = λ e. absurd (omega arith);
-  took_more = λ e. absurd (omega arith);
-  took_within = λ not. within (λ same. absurd cc);
-  large = λ takes bytes is many. let few = (reads_script _ command told source takes runs.2 bytes is).within in absurd (omega arith);
-  good_input = λ takes bytes is script few reads calm quiet. inl (done_at_one command runs.0);
-  no_input = λ there not quiet. absurd (not (subst TakesInput (sym runs.0) tt));
+  took_more = left.took_more;
+  took_within = left.took_within;
+  large = λ input bytes is many. let few = refused.took.within in let same = ap length (refused.took.all bytes is) in absurd (omega arith);
+  good_input = λ input bytes is few good calm quiet.
+      let bad = subst (λ (b : List ℕ). refusal_of command b ≡ Some failure) (refused.took.all bytes is) refused.holds in
+      absurd (some_not_none (refusal_of command bytes) (is_there (refusal_of command bytes) failure bad) good);
+  no_input = λ there not. absurd (not takes);
 }
-cause_of_fault command told source sink BadWords runs source_steady sink_steady more within = record {
+
+left_so : (command : Option Command) (told : ℕ → Option ℕ) (source sink : Ends) (failure : Failure) → EndsIn command told source sink (Err failure)
+    → IsLeft source sink (failure_status failure) → HasCause command told source sink (failure_status failure)
+left_so command told source sink (NotTraced line) runs left = judged_cause command told source sink (inr runs.0) runs.1 runs.2 left
+left_so command told source sink (BadReplies line reason) runs left =
+    refused_cause command told source sink (BadReplies line reason) (subst TakesInput (sym runs.0) tt) runs.1 left
+left_so command told source sink (BadNest line reason) runs left =
+    refused_cause command told source sink (BadNest line reason) (subst TakesInput (sym runs.0) tt) runs.1 left
+left_so command told source sink (Common (NotLegal line)) runs left = judged_cause command told source sink (inl runs.0) runs.1 runs.2 left
+left_so command told source sink (Common (BadScript line reason)) runs left =
+    refused_cause command told source sink (Common (BadScript line reason)) runs.0 runs.2 left
+left_so command told source sink (Common BadWords) runs left = record {
   known = omega arith;
   judged = λ e. absurd (omega arith);
   bad_words = λ e. runs;
@@ -103,44 +156,20 @@ cause_of_fault command told source sink BadWords runs source_steady sink_steady 
   of_input = none_of_three 2 3 4 7 (λ e. omega arith) (λ e. omega arith) (λ e. omega arith);
   read_to_end = λ takes. none_of_four 2 0 1 3 5 (λ e. omega arith) (λ e. omega arith) (λ e. omega arith) (λ e. omega arith);
   done = neither 2 0 1 (λ e. omega arith) (λ e. omega arith);
-  bad_script = λ e. absurd (omega arith);
-  no_script = λ takes. absurd (takes_not_none command takes runs);
+  bad_input = λ e. absurd (omega arith);
+  refused = λ takes. absurd (takes_not_none command takes runs);
   read_fault = λ e. absurd (omega arith);
   write_fault = λ e. absurd (omega arith);
-  source_steady = λ not. source_steady (λ same. absurd cc);
-  sink_steady = λ not. sink_steady (λ same. absurd cc);
+  source_steady = left.source_steady;
+  sink_steady = left.sink_steady;
   too_large = λ e. absurd (omega arith);
-  took_more = λ e. absurd (omega arith);
-  took_within = λ not. within (λ same. absurd cc);
+  took_more = left.took_more;
+  took_within = left.took_within;
   large = λ takes. absurd (takes_not_none command takes runs);
   good_input = λ takes. absurd (takes_not_none command takes runs);
   no_input = λ there. absurd (some_not_none command there runs);
 }
-cause_of_fault command told source sink (BadScript line reason) runs source_steady sink_steady more within = record {
-  known = omega arith;
-  judged = λ e. absurd (omega arith);
-  bad_words = λ e. absurd (omega arith);
-  no_command = λ none. absurd (takes_not_none command runs.0 none);
-  of_input = λ at. runs.0;
-  read_to_end = λ takes at. runs.1;
-  done = neither 3 0 1 (λ e. omega arith) (λ e. omega arith);
-  bad_script = λ e bytes is. let h = runs.2 bytes is in (h.0, is_there (first_fault (script_in command bytes)) (line, reason) h.1);
-  no_script = λ takes bytes is few bad. inl refl;
-  read_fault = λ e. absurd (omega arith);
-  write_fault = λ e. absurd (omega arith);
-  source_steady = λ not. source_steady (λ same. absurd cc);
-  sink_steady = λ not. sink_steady (λ same. absurd cc);
-  too_large = λ e. absurd (omega arith);
-  took_more = λ e. absurd (omega arith);
-  took_within = λ not. within (λ same. absurd cc);
-  large = λ takes bytes is many. let few = (runs.2 bytes is).0 in absurd (omega arith);
-  good_input = λ takes bytes is script few reads calm quiet.
-      let bad = (runs.2 bytes is).1 in
-      let good = no_fault (script_in command bytes) script reads in
-      absurd cc;
-  no_input = λ there not. absurd (not runs.0);
-}
-cause_of_fault command told source sink ReadFault runs source_steady sink_steady more within = record {
+left_so command told source sink (Common ReadFault) runs left = record {
   known = omega arith;
   judged = λ e. absurd (omega arith);
   bad_words = λ e. absurd (omega arith);
@@ -148,20 +177,20 @@ cause_of_fault command told source sink ReadFault runs source_steady sink_steady
   of_input = λ at. runs.0;
   read_to_end = λ takes. none_of_four 4 0 1 3 5 (λ e. omega arith) (λ e. omega arith) (λ e. omega arith) (λ e. omega arith);
   done = neither 4 0 1 (λ e. omega arith) (λ e. omega arith);
-  bad_script = λ e. absurd (omega arith);
-  no_script = λ takes bytes is few bad. inr (inl refl);
+  bad_input = λ e. absurd (omega arith);
+  refused = λ takes bytes is few bad. inr (inl refl);
   read_fault = λ e. runs.1;
   write_fault = λ e. absurd (omega arith);
-  source_steady = λ not. absurd (not refl);
-  sink_steady = λ not. sink_steady (λ same. absurd cc);
+  source_steady = left.source_steady;
+  sink_steady = left.sink_steady;
   too_large = λ e. absurd (omega arith);
-  took_more = λ e. absurd (omega arith);
-  took_within = λ not. within (λ same. absurd cc);
+  took_more = left.took_more;
+  took_within = left.took_within;
   large = λ takes bytes is many. inl refl;
-  good_input = λ takes bytes is script few reads calm quiet. absurd (calm runs.1);
+  good_input = λ takes bytes is few good calm quiet. absurd (calm runs.1);
   no_input = λ there not. absurd (not runs.0);
 }
-cause_of_fault command told source sink WriteFault runs source_steady sink_steady more within = record {
+left_so command told source sink (Common WriteFault) runs left = record {
   known = omega arith;
   judged = λ e. absurd (omega arith);
   bad_words = λ e. absurd (omega arith);
@@ -169,20 +198,20 @@ cause_of_fault command told source sink WriteFault runs source_steady sink_stead
   of_input = none_of_three 5 3 4 7 (λ e. omega arith) (λ e. omega arith) (λ e. omega arith);
   read_to_end = λ takes at. runs.1 takes;
   done = neither 5 0 1 (λ e. omega arith) (λ e. omega arith);
-  bad_script = λ e. absurd (omega arith);
-  no_script = λ takes bytes is few bad. no_bad_script command bytes (reads_script _ command told source takes runs.3 bytes is) bad;
+  bad_input = λ e. absurd (omega arith);
+  refused = λ takes bytes is few bad. not_refused command bytes (taken _ command told source takes runs.3 bytes is) bad;
   read_fault = λ e. absurd (omega arith);
   write_fault = λ e. (runs.2, runs.3);
-  source_steady = λ not. source_steady (λ same. absurd cc);
-  sink_steady = λ not. absurd (not refl);
+  source_steady = left.source_steady;
+  sink_steady = left.sink_steady;
   too_large = λ e. absurd (omega arith);
-  took_more = λ e. absurd (omega arith);
-  took_within = λ not. within (λ same. absurd cc);
-  large = λ takes bytes is many. let few = (reads_script _ command told source takes runs.3 bytes is).within in absurd (omega arith);
-  good_input = λ takes bytes is script few reads calm quiet. absurd (quiet runs.2);
+  took_more = left.took_more;
+  took_within = left.took_within;
+  large = λ takes bytes is many. let few = (taken _ command told source takes runs.3 bytes is).within in absurd (omega arith);
+  good_input = λ takes bytes is few good calm quiet. absurd (quiet runs.2);
   no_input = λ there not quiet. absurd (quiet runs.2);
 }
-cause_of_fault command told source sink (NoMemory error) runs source_steady sink_steady more within = record {
+left_so command told source sink (Common (NoMemory error)) runs left = record {
   known = omega arith;
   judged = λ e. absurd (omega arith);
   bad_words = λ e. absurd (omega arith);
@@ -190,20 +219,20 @@ cause_of_fault command told source sink (NoMemory error) runs source_steady sink
   of_input = none_of_three 6 3 4 7 (λ e. omega arith) (λ e. omega arith) (λ e. omega arith);
   read_to_end = λ takes. none_of_four 6 0 1 3 5 (λ e. omega arith) (λ e. omega arith) (λ e. omega arith) (λ e. omega arith);
   done = neither 6 0 1 (λ e. omega arith) (λ e. omega arith);
-  bad_script = λ e. absurd (omega arith);
-  no_script = λ takes bytes is few bad. inr (inr refl);
+  bad_input = λ e. absurd (omega arith);
+  refused = λ takes bytes is few bad. inr (inr refl);
   read_fault = λ e. absurd (omega arith);
   write_fault = λ e. absurd (omega arith);
-  source_steady = λ not. source_steady (λ same. absurd cc);
-  sink_steady = λ not. sink_steady (λ same. absurd cc);
+  source_steady = left.source_steady;
+  sink_steady = left.sink_steady;
   too_large = λ e. absurd (omega arith);
-  took_more = λ e. absurd (omega arith);
-  took_within = λ not. within (λ same. absurd cc);
+  took_more = left.took_more;
+  took_within = left.took_within;
   large = λ takes bytes is many. inr (inl refl);
-  good_input = λ takes bytes is script few reads calm quiet. inr refl;
+  good_input = λ takes bytes is few good calm quiet. inr refl;
   no_input = λ there not quiet. inr refl;
 }
-cause_of_fault command told source sink TooLarge runs source_steady sink_steady more within = record {
+left_so command told source sink (Common TooLarge) runs left = record {
   known = omega arith;
   judged = λ e. absurd (omega arith);
   bad_words = λ e. absurd (omega arith);
@@ -211,23 +240,76 @@ cause_of_fault command told source sink TooLarge runs source_steady sink_steady 
   of_input = λ at. runs.0;
   read_to_end = λ takes. none_of_four 7 0 1 3 5 (λ e. omega arith) (λ e. omega arith) (λ e. omega arith) (λ e. omega arith);
   done = neither 7 0 1 (λ e. omega arith) (λ e. omega arith);
-  bad_script = λ e. absurd (omega arith);
-  no_script = λ takes bytes is few bad. let many = runs.1 bytes is in absurd (omega arith);
+  bad_input = λ e. absurd (omega arith);
+  refused = λ takes bytes is few bad. let many = runs.1 bytes is in absurd (omega arith);
   read_fault = λ e. absurd (omega arith);
   write_fault = λ e. absurd (omega arith);
-  source_steady = λ not. source_steady (λ same. absurd cc);
-  sink_steady = λ not. sink_steady (λ same. absurd cc);
+  source_steady = left.source_steady;
+  sink_steady = left.sink_steady;
   too_large = λ e. runs.1;
-  took_more = λ e. more refl;
-  took_within = λ not. absurd (not refl);
+  took_more = left.took_more;
+  took_within = left.took_within;
   large = λ takes bytes is many. inr (inr refl);
-  good_input = λ takes bytes is script few reads calm quiet. let many = runs.1 bytes is in absurd (omega arith);
+  good_input = λ takes bytes is few good calm quiet. let many = runs.1 bytes is in absurd (omega arith);
   no_input = λ there not. absurd (not runs.0);
 }
 
--- under 0 and 1 `check` did its work
-pub check_done : (command : Option Command) (told : ℕ → Option ℕ) (source sink : Ends) (status : ℕ) → HasCause command told source sink status
-    → command ≡ Some Check → (status ≡ 0) ⊎ (status ≡ 1) → (bytes : List ℕ) → source.before ≡ Some bytes → HasChecked bytes (IsWritten sink status)
-check_done command told source sink status cause is judged bytes told_is =
-    let does = subst (λ (c : Option Command). Does c told source (IsWritten sink status)) is (cause.done judged) in
-    (does bytes told_is).1
+abbrev ended : Failure → Result (Unit {0}) Failure
+ended failure = Err failure
+
+-- the failures of a side have statuses of their own
+left_by : (source sink : Ends) (failure : Failure) → (ended failure ≢ ended (Common ReadFault) → IsSteady source)
+    → (ended failure ≢ ended (Common WriteFault) → IsSteady sink) → (ended failure ≡ ended (Common TooLarge) → TookMore source)
+    → (ended failure ≢ ended (Common TooLarge) → TookWithin source) → IsLeft source sink (failure_status failure)
+left_by source sink failure source_steady sink_steady more within = record {
+  source_steady = λ not. source_steady (λ same. not (by_read failure (cc same)));
+  sink_steady = λ not. sink_steady (λ same. not (by_write failure (cc same)));
+  took_more = λ is. more (ap ended (of_seven failure is));
+  took_within = λ not. within (λ same. not (by_size failure (cc same)));
+}
+  where
+    by_read : (failure : Failure) → failure ≡ Common ReadFault → failure_status failure ≡ 4
+    by_read failure is = rw is refl
+
+    by_write : (failure : Failure) → failure ≡ Common WriteFault → failure_status failure ≡ 5
+    by_write failure is = rw is refl
+
+    by_size : (failure : Failure) → failure ≡ Common TooLarge → failure_status failure ≡ 7
+    by_size failure is = rw is refl
+
+    of_seven : (failure : Failure) → failure_status failure ≡ 7 → failure ≡ Common TooLarge
+    of_seven (Common TooLarge) is = refl
+    of_seven (Common (NotLegal line)) is = absurd (omega arith)
+    of_seven (Common BadWords) is = absurd (omega arith)
+    of_seven (Common (BadScript line reason)) is = absurd (omega arith)
+    of_seven (Common ReadFault) is = absurd (omega arith)
+    of_seven (Common WriteFault) is = absurd (omega arith)
+    of_seven (Common (NoMemory error)) is = absurd (omega arith)
+    of_seven (NotTraced line) is = absurd (omega arith)
+    of_seven (BadReplies line reason) is = absurd (omega arith)
+    of_seven (BadNest line reason) is = absurd (omega arith)
+
+pub cause_of_failure : (command : Option Command) (told : ℕ → Option ℕ) (source sink : Ends) (failure : Failure) → EndsIn command told source sink (Err failure)
+    → (ended failure ≢ ended (Common ReadFault) → IsSteady source) → (ended failure ≢ ended (Common WriteFault) → IsSteady sink)
+    → (ended failure ≡ ended (Common TooLarge) → TookMore source) → (ended failure ≢ ended (Common TooLarge) → TookWithin source)
+    → HasCause command told source sink (failure_status failure)
+cause_of_failure command told source sink failure runs source_steady sink_steady more within =
+    left_so command told source sink failure runs (left_by source sink failure source_steady sink_steady more within)
+
+-- ---- what holds under 0 and 1
+
+-- the status of a command that judges a log says whether it is legal
+pub judge_says : (command : Option Command) (told : ℕ → Option ℕ) (source sink : Ends) (status : ℕ) → HasCause command told source sink status
+    → IsJudge command → (status ≡ 0) ⊎ (status ≡ 1) → OfTaken source (λ bytes. SaysLegal bytes status)
+judge_says (Some Check) told source sink status cause judges done =
+    let does = cause.done done in
+    record { bytes = does.bytes; took = does.took; holds = check_says does.bytes sink status does.holds }
+judge_says (Some Trace) told source sink status cause judges done =
+    let does = cause.done done in
+    record { bytes = does.bytes; took = does.took; holds = trace_says does.bytes sink status does.holds }
+judge_says None told source sink status cause judges done = absurd judges
+judge_says (Some (Run step json)) told source sink status cause judges done = absurd judges
+judge_says (Some Reply) told source sink status cause judges done = absurd judges
+judge_says (Some Nest) told source sink status cause judges done = absurd judges
+judge_says (Some (Generate number size)) told source sink status cause judges done = absurd judges
+judge_says (Some (Bench number size)) told source sink status cause judges done = absurd judges

@@ -1,8 +1,7 @@
 -- What the answers of the parts of a command say together.
-use Rattle.std.proofs.Common.{◌≡◌, ◌≢◌, ◌≤◌, ◌+◌, ℕ, Bool, List, [], ◌++◌, length, take, codes, Option, Some, None, refl, sym, ap, subst, ◌∙◌, inl, inr, append-nil, arith}
+use Rattle.std.proofs.Common.{◌≡◌, ◌≢◌, ◌≤◌, ◌+◌, ℕ, Bool, true, false, List, [], ◌++◌, length, take, codes, Option, Some, None, refl, sym, ap, subst, ◌∙◌, inl, inr, append-nil, arith}
 use Rattle.std.specs.Prelude.{◌⊎◌, alloc_error, IfErr, IfSome, OnOk, OnErr, Result, Ok, Err}
 use Rattle.std.proofs.lemmas.List.{take_all, length-append, length-take}
-use Rattle.task_base.specs.Fault.{note_of, status_of}
 use Rattle.task_base.specs.declared.fault.Fault.{Fault}
 use Rattle.task_base.specs.declared.fault.Fault.TheVariants.{NotLegal, BadWords, BadScript, ReadFault, WriteFault, NoMemory, TooLarge}
 use Rattle.task_base.specs.Plan.{Plan}
@@ -11,9 +10,14 @@ use Rattle.hist_model.specs.Legal.{IsLegal}
 use Rattle.hist_model.specs.Script.{IsWhole}
 use Rattle.script_model.specs.Grammar.{Reads, first_fault}
 use Rattle.env_app.specs.declared.words.Command.{Command}
-use Rattle.env_app.specs.declared.words.Command.TheVariants.{Run}
+use Rattle.env_app.specs.declared.words.Command.TheVariants.{Run, Check, Reply, Trace, Nest}
+use Rattle.env_app.specs.declared.failure.Failure.{Failure}
+use Rattle.env_app.specs.declared.failure.Failure.TheVariants.{Common, NotTraced, BadReplies, BadNest}
+use Rattle.env_app.specs.Failures.{is_verdict, failure_note, failure_status, note_line}
 use Rattle.env_app.specs.CommandLine.{TakesInput}
-use Rattle.env_app.specs.Outcome.{Ends, Does, Failed, IsFaultAt, IsReadToEnd, IsWithin, RunsTo, TookAll, WroteAll, WroteFront, note_line, note_of_status, output_of, readings_of}
+use Rattle.env_app.specs.Input.{script_part, part_behind}
+use Rattle.env_app.specs.Judged.{IsFoundAt, verdict_status, verdict_text}
+use Rattle.env_app.specs.Outcome.{Ends, Does, EndsIn, Failed, HasSaid, IsCutOff, IsEnd, IsFailureOf, IsOfBytes, IsReadToEnd, IsVerdictOf, IsWritten, RunsTo, TookAll, WroteAll, WroteFront, in_common}
 use Rattle.env_crew.specs.Driving.{HasMomentsOf}
 use Rattle.env_io.specs.Bytes.{Gives, Gains}
 use Rattle.env_io.proofs.Bytes.{Gives-trans}
@@ -87,69 +91,111 @@ pub ends_written : (command : Command) (told : ℕ → Option ℕ) (source sink 
 ends_written command told source sink text (Ok done) end does put = (refl, end, does _ (refl, put.all))
 ends_written command told source sink text (Err fault) end does put = ends_cut command told source sink 0 text fault end does put
 
--- what `run` does of a script that was read and of its log
-pub run_does : (step : Option ℕ) (json : Bool) (told : ℕ → Option ℕ) (source : Ends) (bytes : List ℕ) (script : Plan) (log : List Entry)
-    → TookAll source bytes → Reads bytes script → IsLegal script log → IsWhole script log → HasMomentsOf (readings_of step told) log
-    → (Holds : ℕ → List ℕ → Type 0) → Holds 0 (output_of json log) → Does (Some (Run step json)) told source Holds
-run_does step json told source bytes script log took reads legal whole moments Holds holds all is =
-    let same = took.all all is in (
-      subst IsWithin same took.within,
-      record { script = script; log = log; reads = subst (λ (b : List ℕ). Reads b script) same reads; legal = legal; whole = whole; moments = moments; written = holds },
-    )
+-- what `check` does of a script that was read, and of the line at which the log behind it is found wrong
+check_does : (told : ℕ → Option ℕ) (source : Ends) (bytes text log : List ℕ) (script : Plan) (line : Option ℕ) → TookAll source bytes
+    → text ≡ script_part bytes → log ≡ part_behind bytes → Reads text script → IsFoundAt script log line → (Holds : ℕ → List ℕ → Type 0)
+    → Holds (verdict_status line) (verdict_text line) → Does (Some Check) told source Holds
+check_does told source bytes text log script line took text_is log_is reads found Holds holds = record {
+  bytes = bytes;
+  took = took;
+  holds = record {
+    script = script;
+    line = line;
+    reads = subst (λ (t : List ℕ). Reads t script) text_is reads;
+    found = subst (λ (t : List ℕ). IsFoundAt script t line) log_is found;
+    holds = holds;
+  };
+}
 
--- ---- notes
-
--- the line and the reason of a fault, where it has them
-abbrev place_of : Fault → ℕ × ℕ
-place_of (BadScript line reason) = (line, reason)
-place_of (NotLegal line) = (0, 0)
-place_of BadWords = (0, 0)
-place_of ReadFault = (0, 0)
-place_of WriteFault = (0, 0)
-place_of (NoMemory error) = (0, 0)
-place_of TooLarge = (0, 0)
-
--- a fault of another status than 1 has its note and a line feed
-pub note_line-other : (fault : Fault) → status_of fault ≢ 1 → note_of fault ++ codes "\n" ≡ note_line fault
-note_line-other (NotLegal line) other = absurd (other refl)
-note_line-other BadWords other = refl
-note_line-other (BadScript line reason) other = refl
-note_line-other ReadFault other = refl
-note_line-other WriteFault other = refl
-note_line-other (NoMemory error) other = refl
-note_line-other TooLarge other = refl
-
--- the line of the fault that ends a run is the note of its status
-pub note_line-of_run : (command : Option Command) (told : ℕ → Option ℕ) (source sink : Ends) (fault : Fault) → RunsTo command told source sink (Err fault)
-    → note_line fault ≡ note_of_status (place_of fault) (status_of fault)
-note_line-of_run command told source sink (NotLegal line) runs = refl
-note_line-of_run command told source sink BadWords runs = refl
-note_line-of_run command told source sink (BadScript line reason) runs = refl
-note_line-of_run command told source sink ReadFault runs = refl
-note_line-of_run command told source sink WriteFault runs = refl
-note_line-of_run command told source sink (NoMemory error) runs = refl
-note_line-of_run command told source sink TooLarge runs = refl
-
--- and its line and reason are those of the bytes
-pub fault_at-of_run : (command : Option Command) (told : ℕ → Option ℕ) (source sink : Ends) (fault : Fault) → RunsTo command told source sink (Err fault)
-    → IsFaultAt command source.before (status_of fault) (place_of fault)
-fault_at-of_run command told source sink (NotLegal line) runs = λ three. absurd (omega arith)
-fault_at-of_run command told source sink BadWords runs = λ three. absurd (omega arith)
-fault_at-of_run command told source sink (BadScript line reason) runs = λ three bytes told. (runs.2 bytes told).1
-fault_at-of_run command told source sink ReadFault runs = λ three. absurd (omega arith)
-fault_at-of_run command told source sink WriteFault runs = λ three. absurd (omega arith)
-fault_at-of_run command told source sink (NoMemory error) runs = λ three. absurd (omega arith)
-fault_at-of_run command told source sink TooLarge runs = λ three. absurd (omega arith)
-
--- so what holds of the fault's line holds of the note that goes with its status
-pub note_told : (command : Option Command) (told : ℕ → Option ℕ) (source sink : Ends) (fault : Fault) (status : ℕ) (P : List ℕ → Type 0)
-    → RunsTo command told source sink (Err fault)
-    → status ≡ status_of fault → P (note_line fault) → (at : ℕ × ℕ) × IsFaultAt command source.before status at × P (note_of_status at status)
-note_told command told source sink fault status P runs is written = (
-  place_of fault,
-  λ three. fault_at-of_run command told source sink fault runs (sym is ∙ three),
-  subst P (note_line-of_run command told source sink fault runs ∙ ap (note_of_status (place_of fault)) (sym is)) written,
+-- and how it ends, where what is found was said
+pub check_ends : (told : ℕ → Option ℕ) (source sink : Ends) (bytes text log : List ℕ) (script : Plan) (line : Option ℕ) (result : Result (Unit {0}) Fault)
+    → TookAll source bytes → text ≡ script_part bytes → log ≡ part_behind bytes → Reads text script → IsFoundAt script log line
+    → HasSaid line sink result → RunsTo (Some Check) told source sink result
+check_ends told source sink bytes text log script line (Ok done) took text_is log_is reads found said = (
+  refl,
+  λ takes. took.end,
+  check_does told source bytes text log script line took text_is log_is reads found (IsWritten sink 0)
+      (sym (ap verdict_status said.0), said.1),
 )
+check_ends told source sink bytes text log script line (Err (NotLegal at)) took text_is log_is reads found said = (
+  refl,
+  took.end,
+  check_does told source bytes text log script line took text_is log_is reads found (IsWritten sink 1)
+      (sym (ap verdict_status said.0), said.1),
+)
+check_ends told source sink bytes text log script line (Err WriteFault) took text_is log_is reads found said =
+    (refl, λ takes. took.end, said.0, check_does told source bytes text log script line took text_is log_is reads found (IsCutOff sink) said.1)
+check_ends told source sink bytes text log script line (Err BadWords) took text_is log_is reads found said = absurd said
+check_ends told source sink bytes text log script line (Err (BadScript at reason)) took text_is log_is reads found said = absurd said
+check_ends told source sink bytes text log script line (Err ReadFault) took text_is log_is reads found said = absurd said
+check_ends told source sink bytes text log script line (Err (NoMemory error)) took text_is log_is reads found said = absurd said
+check_ends told source sink bytes text log script line (Err TooLarge) took text_is log_is reads found said = absurd said
+
+-- ---- failures
+
+-- the end of a command, where any fault may be one
+pub ends_in_common : (command : Option Command) (told : ℕ → Option ℕ) (source sink : Ends) (end : Result (Unit {0}) Fault) → RunsTo command told source sink end
+    → EndsIn command told source sink (in_common end)
+ends_in_common command told source sink (Ok done) runs = runs
+ends_in_common command told source sink (Err fault) runs = runs
+
+-- the note of a failure that is no verdict has its line feed
+pub note_line-other : (failure : Failure) → is_verdict failure ≡ false → failure_note failure ++ codes "\n" ≡ note_line failure
+note_line-other (Common (NotLegal line)) other = absurd cc
+note_line-other (Common BadWords) other = refl
+note_line-other (Common (BadScript line reason)) other = refl
+note_line-other (Common ReadFault) other = refl
+note_line-other (Common WriteFault) other = refl
+note_line-other (Common (NoMemory error)) other = refl
+note_line-other (Common TooLarge) other = refl
+note_line-other (NotTraced line) other = refl
+note_line-other (BadReplies line reason) other = refl
+note_line-other (BadNest line reason) other = refl
+
+-- a verdict is one of `check`
+pub no_verdict : (command : Option Command) (told : ℕ → Option ℕ) (source sink : Ends) (failure : Failure) → EndsIn command told source sink (Err failure)
+    → (IsVerdictOf command (failure_status failure) → ⊥) → is_verdict failure ≡ false
+no_verdict command told source sink (Common (NotLegal line)) runs none = absurd (none (refl, runs.0))
+no_verdict command told source sink (Common BadWords) runs none = refl
+no_verdict command told source sink (Common (BadScript line reason)) runs none = refl
+no_verdict command told source sink (Common ReadFault) runs none = refl
+no_verdict command told source sink (Common WriteFault) runs none = refl
+no_verdict command told source sink (Common (NoMemory error)) runs none = refl
+no_verdict command told source sink (Common TooLarge) runs none = refl
+no_verdict command told source sink (NotTraced line) runs none = refl
+no_verdict command told source sink (BadReplies line reason) runs none = refl
+no_verdict command told source sink (BadNest line reason) runs none = refl
+
+-- and where `check` ends with status 1, its failure is one
+pub verdict_is : (command : Option Command) (told : ℕ → Option ℕ) (source sink : Ends) (failure : Failure) → EndsIn command told source sink (Err failure)
+    → IsVerdictOf command (failure_status failure) → is_verdict failure ≡ true
+verdict_is command told source sink (Common (NotLegal line)) runs is = refl
+verdict_is command told source sink (Common BadWords) runs is = absurd (omega (arith, is.0))
+verdict_is command told source sink (Common (BadScript line reason)) runs is = absurd (omega (arith, is.0))
+verdict_is command told source sink (Common ReadFault) runs is = absurd (omega (arith, is.0))
+verdict_is command told source sink (Common WriteFault) runs is = absurd (omega (arith, is.0))
+verdict_is command told source sink (Common (NoMemory error)) runs is = absurd (omega (arith, is.0))
+verdict_is command told source sink (Common TooLarge) runs is = absurd (omega (arith, is.0))
+verdict_is command told source sink (NotTraced line) runs is = absurd (cc (runs.0, is.1))
+verdict_is command told source sink (BadReplies line reason) runs is = absurd (omega (arith, is.0))
+verdict_is command told source sink (BadNest line reason) runs is = absurd (omega (arith, is.0))
+
+-- the failure of a command is the end that its note tells of
+pub is_end : (command : Option Command) (told : ℕ → Option ℕ) (source sink : Ends) (failure : Failure) (status : ℕ) → EndsIn command told source sink (Err failure)
+    → status ≡ failure_status failure → IsEnd command source status failure
+is_end command told source sink failure status runs is = let of = is_of failure runs in record { status_is = is; kind = of.0; of_bytes = of.1 }
+  where
+    is_of : (failure : Failure) → EndsIn command told source sink (Err failure) → IsFailureOf command failure × IsOfBytes command source failure
+    is_of (Common (NotLegal line)) runs = (runs.0, tt)
+    is_of (Common (BadScript line reason)) runs = (runs.1, runs.2)
+    is_of (Common BadWords) runs = (tt, tt)
+    is_of (Common ReadFault) runs = (tt, tt)
+    is_of (Common WriteFault) runs = (tt, tt)
+    is_of (Common (NoMemory error)) runs = (tt, tt)
+    is_of (Common TooLarge) runs = (tt, tt)
+    is_of (NotTraced line) runs = (runs.0, runs.3)
+    is_of (BadReplies line reason) runs = runs
+    is_of (BadNest line reason) runs = runs
 
 -- nothing was added to what is as it was
 pub gains_nothing : (held : Option (List ℕ)) → Gains held [] held

@@ -4,7 +4,7 @@ use Rattle.std.specs.List.{concat}
 use Rattle.std.proofs.lemmas.List.{drop_all, drop_at, drop_more, length-append, take-append-drop, take_all, take_at, take_more}
 use Rattle.run_log.specs.TextLines.{text_lines}
 use Rattle.run_log.proofs.LinesOfText.{concat-text_lines}
-use Rattle.env_app.specs.Input.{is_mark, before_mark, behind_mark, script_part, log_part}
+use Rattle.env_app.specs.Input.{is_mark, before_mark, behind_mark, script_part, part_behind}
 
 concat_append : (xs ys : List (List ℕ)) → concat (xs ++ ys) ≡ concat xs ++ concat ys
 concat_append [] ys = refl
@@ -60,11 +60,11 @@ script_before text n end line within is mark passed =
     ap (take end) (parts_at text n line within is) ∙ take_at (concat (take n lines)) (line ++ concat (drop (n + 1) lines)) end (sym passed.end_is)
     ∙ ap concat (sym before)
 
--- and the log begins behind it
-pub log_behind : (text : List ℕ) (n end : ℕ) (line : List ℕ) → n < length (text_lines text) → line ≡ get_or (text_lines text) n line → is_mark line ≡ true
-    → IsPassed text n end → drop (end + length line) text ≡ log_part text
-unfolding log_part
-log_behind text n end line within is mark passed =
+-- and the rest begins behind it
+pub rest_behind : (text : List ℕ) (n end : ℕ) (line : List ℕ) → n < length (text_lines text) → line ≡ get_or (text_lines text) n line → is_mark line ≡ true
+    → IsPassed text n end → drop (end + length line) text ≡ part_behind text
+unfolding part_behind
+rest_behind text n end line within is mark passed =
     let lines : List (List ℕ) = text_lines text in
     let rest : drop n lines ≡ line ∷ drop (n + 1) lines = drop_more lines n line within ∙ ap (λ l. l ∷ drop (n + 1) lines) (sym is) in
     let behind : behind_mark lines ≡ drop (n + 1) lines = passed.behind ∙ rw (rest, mark) refl in
@@ -81,10 +81,10 @@ all_script text n end all passed =
     let before : before_mark lines ≡ lines = passed.before ∙ rw (drop_all n lines all, take_all n lines all) (append-nil lines) in
     sym (concat-text_lines text) ∙ ap concat (sym before)
 
--- and there is no log
-pub no_log : (text : List ℕ) (n end : ℕ) → length (text_lines text) ≤ n → IsPassed text n end → [] ≡ log_part text
-unfolding log_part
-no_log text n end all passed =
+-- and nothing is behind it
+pub nothing_behind : (text : List ℕ) (n end : ℕ) → length (text_lines text) ≤ n → IsPassed text n end → [] ≡ part_behind text
+unfolding part_behind
+nothing_behind text n end all passed =
     let lines : List (List ℕ) = text_lines text in
     let behind : behind_mark lines ≡ [] = passed.behind ∙ rw (drop_all n lines all) refl in
     ap concat (sym behind)
@@ -109,6 +109,6 @@ pub script_within : (text : List ℕ) → length (script_part text) ≤ length t
 unfolding script_part
 script_within text = rw concat-text_lines at (few_before (text_lines text))
 
-pub log_within : (text : List ℕ) → length (log_part text) ≤ length text
-unfolding log_part
-log_within text = rw concat-text_lines at (few_behind (text_lines text))
+pub behind_within : (text : List ℕ) → length (part_behind text) ≤ length text
+unfolding part_behind
+behind_within text = rw concat-text_lines at (few_behind (text_lines text))

@@ -13,8 +13,9 @@ use Rattle.run_log.proofs.LogLines.{bad_is_no_log}
 use Rattle.env_check.specs.declared.verdict.Verdict.{Verdict}
 use Rattle.env_check.specs.declared.verdict.Verdict.TheVariants.{Legal, Illegal}
 use Rattle.env_check.specs.Verdicts.{verdict_at, verdict_of}
-use Rattle.env_app.specs.Input.{log_part}
-use Rattle.env_app.specs.Judged.{HasLegalLog, HasChecked, line_in, verdict_status}
+use Rattle.env_app.specs.Input.{part_behind}
+use Rattle.env_app.specs.Judged.{HasLegalLog, HasChecked, HasTraced, IsFoundIn, IsTraced, line_in, verdict_status}
+use Rattle.env_app.specs.Outcome.{Ends, IsWritten}
 
 -- ---- legal and whole
 
@@ -78,30 +79,45 @@ no_line Legal is = refl
 no_line (Illegal place) is = absurd cc
 
 -- where no line is wrong, the log is a legal, whole one
-pub has_legal_log : {Holds : ℕ → List ℕ → Type 0} (bytes : List ℕ) (h : HasChecked bytes Holds) → 0 ≡ verdict_status h.line → HasLegalLog bytes
-has_legal_log bytes h zero = by h.line zero refl
-  where
-    by : (line : Option ℕ) → 0 ≡ verdict_status line → h.line ≡ line → HasLegalLog bytes
-    by (Some line) zero is = absurd (omega arith)
-    by None zero is = elim h.found [
-      | inl found ↦
-          let judged = legal_from_verdict h.script found.0 (no_line _ (sym is ∙ found.2)) in
-          record { script = h.script; log = found.0; reads = h.reads; text = found.1; legal = judged.0; whole = judged.1 }
-      | inr found ↦ let other : None ≡ Some found.0 = sym is ∙ found.2 in absurd cc
-    ]
+pub is_legal_log : (bytes : List ℕ) → IsFoundIn bytes None → HasLegalLog bytes
+is_legal_log bytes h = elim h.found [
+  | inl found ↦
+      let judged = legal_from_verdict h.script found.0 (no_line _ found.2) in
+      record { script = h.script; log = found.0; reads = h.reads; text = found.1; legal = judged.0; whole = judged.1 }
+  | inr found ↦ let other : None ≡ Some found.0 = found.2 in absurd cc
+]
 
 -- where one is, there is none
-pub has_no_legal_log : {Holds : ℕ → List ℕ → Type 0} (bytes : List ℕ) (h : HasChecked bytes Holds) → 1 ≡ verdict_status h.line → HasLegalLog bytes → ⊥
-has_no_legal_log bytes h one there = by h.line one refl
-  where
-    by : (line : Option ℕ) → 1 ≡ verdict_status line → h.line ≡ line → ⊥
-    by None one is = omega arith
-    by (Some line) one is = elim h.found [
-      | inl found ↦
-          let same : found.0 ≡ there.log = same_history found.0 there.log found.1.fits there.text.fits (found.1.same ∙ sym there.text.same) in
-          let script : h.script ≡ there.script = cc (h.reads, there.reads) in
-          let legal = legal_verdict there.script there.log there.legal there.whole in
-          let other : Some line ≡ None = sym is ∙ found.2 ∙ rw (script, same, legal) refl in
-          absurd cc
-      | inr found ↦ bad_is_no_log (log_part bytes) found.0 found.1 there.log there.text.fits there.text.same
-    ]
+pub is_no_legal_log : (bytes : List ℕ) (line : ℕ) → IsFoundIn bytes (Some line) → HasLegalLog bytes → ⊥
+is_no_legal_log bytes line h there = elim h.found [
+  | inl found ↦
+      let same : found.0 ≡ there.log = same_history found.0 there.log found.1.fits there.text.fits (found.1.same ∙ sym there.text.same) in
+      let script : h.script ≡ there.script = cc (h.reads, there.reads) in
+      let legal = legal_verdict there.script there.log there.legal there.whole in
+      let other : Some line ≡ None = found.2 ∙ rw (script, same, legal) refl in
+      absurd cc
+  | inr found ↦ bad_is_no_log (part_behind bytes) found.0 found.1 there.log there.text.fits there.text.same
+]
+
+-- ---- what `check` and `trace` say with their status
+
+-- 0 says that the log is legal, and 1 that it is not
+pub record SaysLegal (bytes : List ℕ) (status : ℕ) : Type 0 where
+  pub legal : status ≡ 0 → HasLegalLog bytes
+  pub not_legal : status ≡ 1 → HasLegalLog bytes → ⊥
+
+says_of : (bytes : List ℕ) (status : ℕ) (line : Option ℕ) → IsFoundIn bytes line → status ≡ verdict_status line → SaysLegal bytes status
+says_of bytes status None found is =
+    record { legal = λ zero. is_legal_log bytes found; not_legal = λ one. absurd (omega (arith, is)) }
+says_of bytes status (Some line) found is =
+    record { legal = λ zero. absurd (omega (arith, is)); not_legal = λ one. is_no_legal_log bytes line found }
+
+pub check_says : (bytes : List ℕ) (sink : Ends) (status : ℕ) → HasChecked bytes (IsWritten sink status) → SaysLegal bytes status
+check_says bytes sink status h = says_of bytes status h.line (record { script = h.script; reads = h.reads; found = h.found }) h.holds.0
+
+traced_status : (text : List ℕ) (sink : Ends) (status : ℕ) (line : Option ℕ) → IsTraced text (IsWritten sink status) line → status ≡ verdict_status line
+traced_status text sink status None traced = traced.2.0
+traced_status text sink status (Some line) traced = traced.0
+
+pub trace_says : (bytes : List ℕ) (sink : Ends) (status : ℕ) → HasTraced bytes (IsWritten sink status) → SaysLegal bytes status
+trace_says bytes sink status h = says_of bytes status h.line h.found (traced_status (part_behind bytes) sink status h.line h.holds)

@@ -9,7 +9,7 @@ use Rattle.clap.specs.Kinds.{Kinds}
 use Rattle.clap.specs.Faults.{fault_of}
 use Rattle.clap.specs.declared.builder.action.ArgAction.TheVariants.{SetTrue}
 use Rattle.env_app.specs.declared.words.Command.{Command}
-use Rattle.env_app.specs.declared.words.Command.TheVariants.{Run, Check, Generate, Bench}
+use Rattle.env_app.specs.declared.words.Command.TheVariants.{Run, Check, Reply, Trace, Nest, Generate, Bench}
 use Rattle.env_app.specs.declared.words.Mode.{Mode}
 use Rattle.env_app.specs.declared.words.Mode.TheVariants as modes
 use Rattle.env_app.specs.declared.words.TheConstants.{USUAL_SIZE, MOST_SIZE}
@@ -47,9 +47,12 @@ abbrev pub mode_named : List ℕ → Option Mode
 mode_named word =
     if is_word word (codes "run") then Some modes.Run
     else (if is_word word (codes "check") then Some modes.Check
+    else (if is_word word (codes "reply") then Some modes.Reply
+    else (if is_word word (codes "trace") then Some modes.Trace
+    else (if is_word word (codes "nest") then Some modes.Nest
     else (if is_word word (codes "gen") then Some modes.Generate
     else (if is_word word (codes "bench") then Some modes.Bench
-    else None)))
+    else None))))))
 
 -- the number from low to high that a word writes, in decimal digits without a sign and without zeros in front (this project's
 -- own rule)
@@ -83,11 +86,14 @@ made_with command number size = do
   s ← size_given size
   Some (command n s)
 
--- the command of a mode with the words of its options: `run` takes `--step` and `--json`, `check` takes none, and `gen` and
--- `bench` take `--number` and `--size`; an option that the mode does not take makes it none (this project's own rule)
+-- the command of a mode with the words of its options: `run` takes `--step` and `--json`, `gen` and `bench` take `--number` and
+-- `--size`, and the others take none; an option that the mode does not take makes it none (this project's own rule)
 abbrev pub command_with : Mode → Option (List ℕ) → Bool → Option (List ℕ) → Option (List ℕ) → Option Command
 command_with modes.Run step json None None = option_map (λ s. Run s json) (step_given step)
 command_with modes.Check None false None None = Some Check
+command_with modes.Reply None false None None = Some Reply
+command_with modes.Trace None false None None = Some Trace
+command_with modes.Nest None false None None = Some Nest
 command_with modes.Generate None false number size = made_with Generate number size
 command_with modes.Bench None false number size = made_with Bench number size
 command_with mode step json number size = None
@@ -114,14 +120,20 @@ command_of words = command_unless (fault_of taskenv words) (matches_of taskenv w
 abbrev pub IsSized : Command → Type 0
 IsSized (Run step json) = Unit {0}
 IsSized Check = Unit {0}
+IsSized Reply = Unit {0}
+IsSized Trace = Unit {0}
+IsSized Nest = Unit {0}
 IsSized (Generate number size) = (1 ≤ size) × (size ≤ MOST_SIZE)
 IsSized (Bench number size) = (1 ≤ size) × (size ≤ MOST_SIZE)
 
--- the command reads the source: a script, and in `check` a log behind it
+-- the command reads the source: a script, behind which `check` and `trace` have a log and `reply` has replies, or a nest script
 abbrev pub TakesInput : Option Command → Type 0
 TakesInput None = ⊥
 TakesInput (Some (Run step json)) = Unit {0}
 TakesInput (Some Check) = Unit {0}
+TakesInput (Some Reply) = Unit {0}
+TakesInput (Some Trace) = Unit {0}
+TakesInput (Some Nest) = Unit {0}
 TakesInput (Some (Generate number size)) = ⊥
 TakesInput (Some (Bench number size)) = ⊥
 
@@ -131,5 +143,19 @@ ReadsClock None = ⊥
 ReadsClock (Some (Run None json)) = Unit {0}
 ReadsClock (Some (Run (Some step) json)) = ⊥
 ReadsClock (Some Check) = ⊥
+ReadsClock (Some Reply) = Unit {0}
+ReadsClock (Some Trace) = ⊥
+ReadsClock (Some Nest) = ⊥
 ReadsClock (Some (Generate number size)) = ⊥
 ReadsClock (Some (Bench number size)) = ⊥
+
+-- the command judges a log
+abbrev pub IsJudge : Option Command → Type 0
+IsJudge None = ⊥
+IsJudge (Some (Run step json)) = ⊥
+IsJudge (Some Check) = Unit {0}
+IsJudge (Some Reply) = ⊥
+IsJudge (Some Trace) = Unit {0}
+IsJudge (Some Nest) = ⊥
+IsJudge (Some (Generate number size)) = ⊥
+IsJudge (Some (Bench number size)) = ⊥

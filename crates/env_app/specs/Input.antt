@@ -1,4 +1,4 @@
--- The input of `check`: a script, and behind the line `%%` a log (this project's own form).
+-- An input of two parts: a script, and behind the line `%%` a log or replies (this project's own form).
 use Rattle.std.specs.Prelude.{ℕ, Bool, if◌then◌else◌, List, [], ◌∷◌, codes}
 use Rattle.std.specs.List.{concat}
 use Rattle.std.specs.Str.Lines.{strip_carriage_return}
@@ -24,6 +24,6 @@ behind_mark (line ∷ lines) = if is_mark line then lines else behind_mark lines
 unfoldable pub script_part : List ℕ → List ℕ
 script_part bytes = concat (before_mark (text_lines bytes))
 
--- the bytes of the log
-unfoldable pub log_part : List ℕ → List ℕ
-log_part bytes = concat (behind_mark (text_lines bytes))
+-- the bytes of what is behind it
+unfoldable pub part_behind : List ℕ → List ℕ
+part_behind bytes = concat (behind_mark (text_lines bytes))

@@ -1,5 +1,5 @@
--- What `check` says of a log (this project's own rule).
-use Rattle.std.specs.Prelude.{◌≡◌, ◌⊎◌, ℕ, ◌+◌, List, ◌++◌, All, codes, decimal, Option, Some, None}
+-- What `check` and `trace` say of a log (this project's own rule).
+use Rattle.std.specs.Prelude.{◌≡◌, ◌⊎◌, ℕ, ◌+◌, List, [], ◌++◌, All, codes, decimal, Option, Some, None}
 use Rattle.task_base.specs.Plan.{Plan}
 use Rattle.task_base.specs.declared.entry.Entry.{Entry}
 use Rattle.script_model.specs.Grammar.{Reads}
@@ -11,7 +11,11 @@ use Rattle.run_log.specs.TextLines.{IsBadLine}
 use Rattle.env_check.specs.declared.verdict.Verdict.{Verdict}
 use Rattle.env_check.specs.declared.verdict.Verdict.TheVariants.{Legal, Illegal}
 use Rattle.env_check.specs.Verdicts.{verdict_of}
-use Rattle.env_app.specs.Input.{script_part, log_part}
+use Rattle.trace_json.specs.Trace.{trace_of}
+use Rattle.trace_json.specs.Text.{trace_text}
+use Rattle.env_app.specs.declared.judged.Judged.{Judged}
+use Rattle.env_app.specs.declared.judged.Judged.TheVariants.{Whole, Wrong}
+use Rattle.env_app.specs.Input.{script_part, part_behind}
 
 -- the text is that of this log
 pub record IsTextOf (text : List ℕ) (log : List Entry) : Type 0 where
@@ -23,7 +27,7 @@ pub record HasLegalLog (bytes : List ℕ) : Type 0 where
   pub script : Plan
   pub log : List Entry
   pub reads : Reads (script_part bytes) script
-  pub text : IsTextOf (log_part bytes) log
+  pub text : IsTextOf (part_behind bytes) log
   pub legal : IsLegal script log
   pub whole : IsWhole script log
 
@@ -38,6 +42,11 @@ abbrev pub IsFoundAt : Plan → List ℕ → Option ℕ → Type 0
 IsFoundAt script text line =
     ((log : List Entry) × IsTextOf text log × (line ≡ line_in (verdict_of script log))) ⊎ ((bad : ℕ) × IsBadLine text bad × (line ≡ Some bad))
 
+-- what the text is found to be: that of a legal, whole log, or wrong at a line
+abbrev pub IsJudged : Plan → List ℕ → Judged → Type 0
+IsJudged script text (Whole log) = IsTextOf text log.items × (verdict_of script log.items ≡ Legal)
+IsJudged script text (Wrong line) = IsFoundAt script text (Some line)
+
 -- what is written of that line
 abbrev pub verdict_text : Option ℕ → List ℕ
 verdict_text None = codes "legal\n"
@@ -48,11 +57,28 @@ abbrev pub verdict_status : Option ℕ → ℕ
 verdict_status None = 0
 verdict_status (Some line) = 1
 
+-- the input begins with a script, and the log behind it is found wrong at this line, or nowhere
+pub record IsFoundIn (bytes : List ℕ) (line : Option ℕ) : Type 0 where
+  pub script : Plan
+  pub reads : Reads (script_part bytes) script
+  pub found : IsFoundAt script (part_behind bytes) line
+
 -- the input begins with a script, and this holds of the status of the line at which the log behind it is found wrong, and of
--- what is written of that line
+-- what `check` writes of that line
 pub record HasChecked (bytes : List ℕ) (Holds : ℕ → List ℕ → Type 0) : Type 0 where
   pub script : Plan
   pub line : Option ℕ
   pub reads : Reads (script_part bytes) script
-  pub found : IsFoundAt script (log_part bytes) line
+  pub found : IsFoundAt script (part_behind bytes) line
   pub holds : Holds (verdict_status line) (verdict_text line)
+
+-- this holds of the status of a line, and of what `trace` writes: where no line is wrong the trace of the log, and else nothing
+abbrev pub IsTraced : List ℕ → (ℕ → List ℕ → Type 0) → Option ℕ → Type 0
+IsTraced text Holds None = (log : List Entry) × IsTextOf text log × Holds 0 (trace_text (trace_of log))
+IsTraced text Holds (Some line) = Holds 1 []
+
+-- the same of what `trace` writes
+pub record HasTraced (bytes : List ℕ) (Holds : ℕ → List ℕ → Type 0) : Type 0 where
+  pub line : Option ℕ
+  pub found : IsFoundIn bytes line
+  pub holds : IsTraced (part_behind bytes) Holds line

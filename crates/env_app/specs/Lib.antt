@@ -1,5 +1,6 @@
 pub mod CommandLine
 pub mod Crew
+pub mod Failures
 pub mod Input
 pub mod Judged
 pub mod Totals

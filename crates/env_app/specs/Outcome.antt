@@ -1,8 +1,6 @@
 -- What a command did, by what it read and what it wrote.
-use Rattle.std.specs.Prelude.{alloc_error, ◌≡◌, ◌≢◌, ◌⊎◌, ◌<◌, ◌≤◌, ℕ, Bool, ◌==◌, if◌then◌else◌, List, [], ◌∷◌, ◌++◌, length, take, find, codes, Option, Some, None, IfSome, IsSome, Result, Ok, Err}
-use Rattle.std.specs.Option.{option_map_or}
+use Rattle.std.specs.Prelude.{◌≡◌, ◌≢◌, ◌⊎◌, ◌<◌, ◌≤◌, ℕ, Bool, if◌then◌else◌, List, [], ◌++◌, length, take, codes, Option, Some, None, IfSome, IsSome, option_map, Result, Ok, Err}
 use Rattle.task_base.specs.Plan.{Plan}
-use Rattle.task_base.specs.Fault.{status_of, note_of}
 use Rattle.task_base.specs.declared.limits.TheConstants.{MOST_BYTES}
 use Rattle.task_base.specs.declared.entry.Entry.{Entry}
 use Rattle.task_base.specs.declared.fault.Fault.{Fault}
@@ -10,16 +8,26 @@ use Rattle.task_base.specs.declared.fault.Fault.TheVariants.{NotLegal, BadWords,
 use Rattle.env_io.specs.Bytes.{Gives, Gains, Rose}
 use Rattle.env_io.specs.Readings.{no_step, step_readings}
 use Rattle.script_model.specs.Canonical.{canonical}
-use Rattle.script_model.specs.Grammar.{Reads, first_fault}
+use Rattle.script_model.specs.Grammar.{Reads, first_fault, script_read}
 use Rattle.log_model.specs.LogText.{log_json, log_text}
 use Rattle.hist_model.specs.Legal.{IsLegal}
 use Rattle.hist_model.specs.Script.{IsWhole}
 use Rattle.env_crew.specs.Driving.{HasMomentsOf}
+use Rattle.task_reply.specs.Elaborated.{IsElaboratedBy}
+use Rattle.task_reply.specs.Replies.{reply_fault}
+use Rattle.nested_loop.specs.Plan.{NestPlan}
+use Rattle.nested_loop.specs.NestGrammar.{ReadsNest, nest_fault}
+use Rattle.nested_loop.specs.NestText.{nest_text}
+use Rattle.nested_loop.specs.Nest.{IsLegalNest}
+use Rattle.nested_loop.specs.declared.event.Event.{Event}
 use Rattle.env_app.specs.declared.words.Command.{Command}
-use Rattle.env_app.specs.declared.words.Command.TheVariants.{Run, Check, Generate, Bench}
+use Rattle.env_app.specs.declared.words.Command.TheVariants.{Run, Check, Reply, Trace, Nest, Generate, Bench}
+use Rattle.env_app.specs.declared.failure.Failure.{Failure}
+use Rattle.env_app.specs.declared.failure.Failure.TheVariants.{Common, NotTraced, BadReplies, BadNest}
+use Rattle.env_app.specs.Failures.{failure_status}
 use Rattle.env_app.specs.CommandLine.{TakesInput}
-use Rattle.env_app.specs.Input.{script_part}
-use Rattle.env_app.specs.Judged.{HasChecked}
+use Rattle.env_app.specs.Input.{script_part, part_behind}
+use Rattle.env_app.specs.Judged.{HasChecked, HasTraced, IsFoundIn, verdict_text}
 use Rattle.env_app.specs.Totals.{summary_text}
 use Rattle.run_summary.specs.Summary.{generated_totals}
 use Rattle.task_script.specs.Generated.{generated}
@@ -43,6 +51,27 @@ pub record HasRun (bytes : List ℕ) (json : Bool) (told : ℕ → Option ℕ) (
   pub whole : IsWhole script log
   pub moments : HasMomentsOf told log
   pub written : Written (output_of json log)
+
+-- the bytes are a script and replies to its tasks, and this holds of what is written of one legal, whole history of the script
+-- with the replies, whose ticks are the moments of these readings
+pub record HasReplied (bytes : List ℕ) (told : ℕ → Option ℕ) (Written : List ℕ → Type 0) : Type 0 where
+  pub script : Plan
+  pub elaborated : Plan
+  pub log : List Entry
+  pub reads : Reads (script_part bytes) script
+  pub elaborates : IsElaboratedBy script (part_behind bytes) elaborated
+  pub legal : IsLegal elaborated log
+  pub whole : IsWhole elaborated log
+  pub moments : HasMomentsOf told log
+  pub written : Written (log_text log)
+
+-- the bytes are a nest script, and this holds of the text of its log
+pub record HasNested (bytes : List ℕ) (Written : List ℕ → Type 0) : Type 0 where
+  pub nest : NestPlan
+  pub log : List Event
+  pub reads : ReadsNest bytes nest
+  pub legal : IsLegalNest nest log
+  pub written : Written (nest_text log)
 
 -- the whole text was added to what the sink holds
 abbrev pub WroteAll : Option (List ℕ) → Option (List ℕ) → List ℕ → Type 0
@@ -90,11 +119,17 @@ Failed side = Rose side.faults_before side.faults_after
 abbrev pub IsSteady : Ends → Type 0
 IsSteady side = side.faults_after ≡ side.faults_before
 
--- what was taken from a source to its end, within the limit
+-- these bytes were taken from a source to its end, within the limit: those that it told, where it tells them
 pub record TookAll (source : Ends) (bytes : List ℕ) : Type 0 where
   pub end : IsReadToEnd source
   pub within : IsWithin bytes
   pub all : OfBytes source (λ told. bytes ≡ told)
+
+-- and this holds of those bytes
+pub record OfTaken (source : Ends) (P : List ℕ → Type 0) : Type 0 where
+  pub bytes : List ℕ
+  pub took : TookAll source bytes
+  pub holds : P bytes
 
 -- the fault is why a source could not be read to its end
 abbrev pub IsNotTaken : Ends → Fault → Type 0
@@ -116,20 +151,47 @@ IsNoScript bytes ReadFault = ⊥
 IsNoScript bytes WriteFault = ⊥
 IsNoScript bytes TooLarge = ⊥
 
--- the bytes that a command reads as a script, of all that come
-abbrev pub script_in : Option Command → List ℕ → List ℕ
-script_in None bytes = bytes
-script_in (Some (Run step json)) bytes = bytes
-script_in (Some Check) bytes = script_part bytes
-script_in (Some (Generate number size)) bytes = bytes
-script_in (Some (Bench number size)) bytes = bytes
+-- the failure is why replies gave no script
+abbrev pub IsNotElaborated : Plan → List ℕ → Failure → Type 0
+IsNotElaborated script replies (BadReplies line reason) = reply_fault script replies ≡ Some (line, reason)
+IsNotElaborated script replies (Common (NoMemory error)) = Unit {0}
+IsNotElaborated script replies failure = ⊥
+
+-- the failure is why bytes gave no nest
+abbrev pub IsNoNest : List ℕ → Failure → Type 0
+IsNoNest bytes (BadNest line reason) = nest_fault bytes ≡ Some (line, reason)
+IsNoNest bytes (Common (NoMemory error)) = Unit {0}
+IsNoNest bytes failure = ⊥
+
+-- what is wrong with bytes that are to be a script
+abbrev pub script_refusal : List ℕ → Option Failure
+script_refusal bytes = option_map (λ at. Common (BadScript at.0 at.1)) (first_fault bytes)
+
+-- what is wrong with replies behind a script that was read, or with the script
+abbrev pub reply_refusal : Result Plan (ℕ × ℕ) → List ℕ → Option Failure
+reply_refusal (Err at) replies = Some (Common (BadScript at.0 at.1))
+reply_refusal (Ok script) replies = option_map (λ at. BadReplies at.0 at.1) (reply_fault script replies)
+
+-- what is wrong with the bytes that come as the input of a command, if anything is
+abbrev pub refusal_of : Option Command → List ℕ → Option Failure
+refusal_of None bytes = None
+refusal_of (Some (Run step json)) bytes = script_refusal bytes
+refusal_of (Some Check) bytes = script_refusal (script_part bytes)
+refusal_of (Some Reply) bytes = reply_refusal (script_read (script_part bytes)) (part_behind bytes)
+refusal_of (Some Trace) bytes = script_refusal (script_part bytes)
+refusal_of (Some Nest) bytes = option_map (λ at. BadNest at.0 at.1) (nest_fault bytes)
+refusal_of (Some (Generate number size)) bytes = None
+refusal_of (Some (Bench number size)) bytes = None
 
 -- what a command does, where its clock tells these readings: this holds of the status that it ends with where no write fails,
 -- and of the text that it writes
 abbrev pub Does : Option Command → (ℕ → Option ℕ) → Ends → (ℕ → List ℕ → Type 0) → Type 0
 Does None told source Holds = ⊥
-Does (Some (Run step json)) told source Holds = OfBytes source (λ bytes. IsWithin bytes × HasRun bytes json (readings_of step told) (Holds 0))
-Does (Some Check) told source Holds = OfBytes source (λ bytes. IsWithin bytes × HasChecked bytes Holds)
+Does (Some (Run step json)) told source Holds = OfTaken source (λ bytes. HasRun bytes json (readings_of step told) (Holds 0))
+Does (Some Check) told source Holds = OfTaken source (λ bytes. HasChecked bytes Holds)
+Does (Some Reply) told source Holds = OfTaken source (λ bytes. HasReplied bytes told (Holds 0))
+Does (Some Trace) told source Holds = OfTaken source (λ bytes. HasTraced bytes Holds)
+Does (Some Nest) told source Holds = OfTaken source (λ bytes. HasNested bytes (Holds 0))
 Does (Some (Generate number size)) told source Holds = Holds 0 (canonical (generated number size))
 Does (Some (Bench number size)) told source Holds = Holds 0 (summary_text (generated_totals number size))
 
@@ -141,6 +203,10 @@ IsWritten sink status due text = (status ≡ due) × WroteAll sink.before sink.a
 abbrev pub IsCutOff : Ends → ℕ → List ℕ → Type 0
 IsCutOff sink due text = WroteFront sink.before sink.after text
 
+-- the bytes that were taken are refused for this
+abbrev pub IsRefused : Option Command → Ends → Failure → Type 0
+IsRefused command source failure = OfTaken source (λ bytes. refusal_of command bytes ≡ Some failure)
+
 -- what the answer of a command says: its words are a command or none, its clock told these readings, and its source and its
 -- sink were left so
 abbrev pub RunsTo : Option Command → (ℕ → Option ℕ) → Ends → Ends → Result (Unit {0}) Fault → Type 0
@@ -149,26 +215,54 @@ RunsTo command told source sink (Err (NotLegal line)) = (command ≡ Some Check)
 RunsTo command told source sink (Err BadWords) = command ≡ None
 RunsTo command told source sink (Err WriteFault) =
     IsSome command × (TakesInput command → IsReadToEnd source) × Failed sink × Does command told source (IsCutOff sink)
-RunsTo command told source sink (Err (BadScript line reason)) = TakesInput command × IsReadToEnd source
-    × OfBytes source (λ bytes. IsWithin bytes × (first_fault (script_in command bytes) ≡ Some (line, reason)))
+RunsTo command told source sink (Err (BadScript line reason)) =
+    TakesInput command × (command ≢ Some Nest) × IsRefused command source (Common (BadScript line reason))
 RunsTo command told source sink (Err ReadFault) = TakesInput command × Failed source
 RunsTo command told source sink (Err TooLarge) = TakesInput command × OfBytes source (λ bytes. MOST_BYTES < length bytes)
 RunsTo command told source sink (Err (NoMemory error)) = Unit {0}
 
--- the status says that the command did its work: 0, and in `check` 1 too
+-- what is found of this line was written, and the answer goes with it
+abbrev pub HasSaid : Option ℕ → Ends → Result (Unit {0}) Fault → Type 0
+HasSaid line sink (Ok done) = (line ≡ None) × WroteAll sink.before sink.after (verdict_text line)
+HasSaid line sink (Err (NotLegal at)) = (line ≡ Some at) × WroteAll sink.before sink.after (verdict_text line)
+HasSaid line sink (Err WriteFault) = Failed sink × WroteFront sink.before sink.after (verdict_text line)
+HasSaid line sink (Err fault) = ⊥
+
+-- the end of a command, where any fault may be one
+abbrev pub in_common : Result (Unit {0}) Fault → Result (Unit {0}) Failure
+in_common (Ok done) = Ok done
+in_common (Err fault) = Err (Common fault)
+
+-- the same, where the command may also end in a failure of its own
+abbrev pub EndsIn : Option Command → (ℕ → Option ℕ) → Ends → Ends → Result (Unit {0}) Failure → Type 0
+EndsIn command told source sink (Ok done) = RunsTo command told source sink (Ok done)
+EndsIn command told source sink (Err (Common fault)) = RunsTo command told source sink (Err fault)
+EndsIn command told source sink (Err (NotTraced line)) =
+    (command ≡ Some Trace) × IsReadToEnd source × Does command told source (IsWritten sink 1) × OfTaken source (λ bytes. IsFoundIn bytes (Some line))
+EndsIn command told source sink (Err (BadReplies line reason)) = (command ≡ Some Reply) × IsRefused command source (BadReplies line reason)
+EndsIn command told source sink (Err (BadNest line reason)) = (command ≡ Some Nest) × IsRefused command source (BadNest line reason)
+
+-- the status says that the command did its work: 0, and in `check` and `trace` 1 too
 abbrev pub IsDone : Option Command → ℕ → Type 0
 IsDone None status = status ≡ 0
 IsDone (Some (Run step json)) status = status ≡ 0
 IsDone (Some Check) status = (status ≡ 0) ⊎ (status ≡ 1)
+IsDone (Some Reply) status = status ≡ 0
+IsDone (Some Trace) status = (status ≡ 0) ⊎ (status ≡ 1)
+IsDone (Some Nest) status = status ≡ 0
 IsDone (Some (Generate number size)) status = status ≡ 0
 IsDone (Some (Bench number size)) status = status ≡ 0
+
+-- the status is a verdict that `check` writes of a log that is not legal
+abbrev pub IsVerdictOf : Option Command → ℕ → Type 0
+IsVerdictOf command status = (status ≡ 1) × (command ≡ Some Check)
 
 -- each status has its cause
 pub record HasCause (command : Option Command) (told : ℕ → Option ℕ) (source sink : Ends) (status : ℕ) : Type 0 where
   -- nothing above 7 is answered
   pub known : status ≤ 7
-  -- 1 comes only in `check`
-  pub judged : status ≡ 1 → command ≡ Some Check
+  -- 1 comes only in `check` and `trace`
+  pub judged : status ≡ 1 → (command ≡ Some Check) ⊎ (command ≡ Some Trace)
   -- 2 comes only where the words are no command
   pub bad_words : status ≡ 2 → command ≡ None
   -- and where they are none, nothing but 2 and want of memory comes
@@ -179,11 +273,10 @@ pub record HasCause (command : Option Command) (told : ℕ → Option ℕ) (sour
   pub read_to_end : TakesInput command → (status ≡ 0) ⊎ (status ≡ 1) ⊎ (status ≡ 3) ⊎ (status ≡ 5) → IsReadToEnd source
   -- under 0 and 1 the whole of what the command writes was written, and this status goes with it
   pub done : (status ≡ 0) ⊎ (status ≡ 1) → Does command told source (IsWritten sink status)
-  -- 3 comes only where the script's bytes, within the limit, have a fault as a script
-  pub bad_script : status ≡ 3 → OfBytes source (λ bytes. IsWithin bytes × IsSome (first_fault (script_in command bytes)))
-  -- and where they have one, nothing but 3, a failed source and want of memory comes
-  pub no_script : TakesInput command
-      → OfBytes source (λ bytes. IsWithin bytes → IsSome (first_fault (script_in command bytes)) → (status ≡ 3) ⊎ (status ≡ 4) ⊎ (status ≡ 6))
+  -- 3 comes only where the bytes, within the limit, are refused
+  pub bad_input : status ≡ 3 → OfTaken source (λ bytes. IsSome (refusal_of command bytes))
+  -- and where they are, nothing but 3, a failed source and want of memory comes
+  pub refused : TakesInput command → OfBytes source (λ bytes. IsWithin bytes → IsSome (refusal_of command bytes) → (status ≡ 3) ⊎ (status ≡ 4) ⊎ (status ≡ 6))
   -- 4 comes only where the source failed
   pub read_fault : status ≡ 4 → Failed source
   -- 5 comes only where the sink failed, and a front of what the command writes was written
@@ -198,25 +291,32 @@ pub record HasCause (command : Option Command) (told : ℕ → Option ℕ) (sour
   pub took_within : status ≢ 7 → TookWithin source
   -- and where more came, nothing but 7, a failed source and want of memory comes
   pub large : TakesInput command → OfBytes source (λ bytes. MOST_BYTES < length bytes → (status ≡ 4) ⊎ (status ≡ 6) ⊎ (status ≡ 7))
-  -- good input gives no fault: where neither side fails, the work is done, or memory is wanting
-  pub good_input : TakesInput command → OfBytes source (λ bytes. (script : Plan) → IsWithin bytes → Reads (script_in command bytes) script
+  -- good input gives no fault: where it is not refused and neither side fails, the work is done, or memory is wanting
+  pub good_input : TakesInput command → OfBytes source (λ bytes. IsWithin bytes → refusal_of command bytes ≡ None
       → ¬ Failed source → ¬ Failed sink → IsDone command status ⊎ (status ≡ 6))
   -- and so it is where no input is read
   pub no_input : IsSome command → ¬ TakesInput command → ¬ Failed sink → (status ≡ 0) ⊎ (status ≡ 6)
 
--- the note of a fault, with its line feed. A log that is not legal has none: its verdict is written to the sink
-abbrev pub note_line : Fault → List ℕ
-note_line (NotLegal line) = []
-note_line fault = note_of fault ++ codes "\n"
+-- a failure of this kind ends commands of these modes
+abbrev pub IsFailureOf : Option Command → Failure → Type 0
+IsFailureOf command (Common (NotLegal line)) = command ≡ Some Check
+IsFailureOf command (Common (BadScript line reason)) = command ≢ Some Nest
+IsFailureOf command (Common fault) = Unit {0}
+IsFailureOf command (NotTraced line) = command ≡ Some Trace
+IsFailureOf command (BadReplies line reason) = command ≡ Some Reply
+IsFailureOf command (BadNest line reason) = command ≡ Some Nest
 
--- the faults that a run may end with, where a bad script has this line and reason
-abbrev pub run_faults : ℕ × ℕ → List Fault
-run_faults at = BadWords ∷ BadScript at.0 at.1 ∷ ReadFault ∷ WriteFault ∷ NoMemory alloc_error ∷ TooLarge ∷ []
+-- the bytes that were taken are why a command ended with this failure: under 3 they are refused for it, and in `trace` under 1
+-- their log is found wrong at its line
+abbrev pub IsOfBytes : Option Command → Ends → Failure → Type 0
+IsOfBytes command source (Common (BadScript line reason)) = IsRefused command source (Common (BadScript line reason))
+IsOfBytes command source (Common fault) = Unit {0}
+IsOfBytes command source (NotTraced line) = OfTaken source (λ bytes. IsFoundIn bytes (Some line))
+IsOfBytes command source (BadReplies line reason) = IsRefused command source (BadReplies line reason)
+IsOfBytes command source (BadNest line reason) = IsRefused command source (BadNest line reason)
 
--- the note that goes with a status, with its line feed: that of the fault that ends a run with it, and nothing where none does
-abbrev pub note_of_status : ℕ × ℕ → ℕ → List ℕ
-note_of_status at status = option_map_or note_line (find (λ fault. status_of fault == status) (run_faults at)) []
-
--- under the status of a bad script, this is the line and the reason of the fault that the command's script has
-abbrev pub IsFaultAt : Option Command → Option (List ℕ) → ℕ → ℕ × ℕ → Type 0
-IsFaultAt command left status at = status ≡ 3 → (bytes : List ℕ) → left ≡ Some bytes → first_fault (script_in command bytes) ≡ Some at
+-- this failure ended a command with the status
+pub record IsEnd (command : Option Command) (source : Ends) (status : ℕ) (failure : Failure) : Type 0 where
+  pub status_is : status ≡ failure_status failure
+  pub kind : IsFailureOf command failure
+  pub of_bytes : IsOfBytes command source failure

@@ -10,7 +10,7 @@ use crate::runs::log_of_run;
 use crate::written::write_text;
 use env_io::{Gate, Sink, StepClock};
 use line_text::{Line, add, add_number};
-use run_summary::{Summary, runs_of_generated_scripts_add_up, summary};
+use run_summary::{Cells, Summary, runs_of_generated_scripts_add_up, summary};
 use std::alloc::{AllocError, Global};
 use std::sync::Wait;
 use std::thread::Threads;
@@ -42,7 +42,7 @@ pub fn run_generated<R: Threads + Wait + Sync, K: Sink, G: Gate>(
 }
 
 /// What the log of a run of that script adds up to. The script has no ticks, so its clock is never read. The error is want
-/// of memory.
+/// of memory, and comes before the first entry.
 fn totals_of_run<R: Threads + Wait + Sync, G: Gate>(
     rt: &R,
     alloc: Global,
@@ -55,9 +55,10 @@ fn totals_of_run<R: Threads + Wait + Sync, G: Gate>(
     ensures { IfOk result (λ totals. totals ≡ generated_totals number size) }
 {
     let script = generate(alloc, number, size)?;
+    let cells = Cells::new(alloc, &script)?;
     let log = log_of_run(rt, alloc, &script, None, &mut StepClock::new(1), gate)?;
     runs_of_generated_scripts_add_up();
-    summary(alloc, &script, &log)
+    Ok(summary(cells, &script, &log))
 }
 
 /// The four lines of a summary.

@@ -5,15 +5,14 @@ ghost use Rattle.task_base.specs.Fault.{status_of};
 ghost use Rattle.script_model.specs.Laws.Sound.{IsSound};
 ghost use Rattle.env_app.specs.Judged.{IsFoundAt, verdict_text};
 ghost use Rattle.env_app.specs.declared.words.Command.TheVariants.{Check};
-ghost use Rattle.env_app.specs.Outcome.{ends, RunsTo, TookMore, TookWithin};
+ghost use Rattle.env_app.specs.Outcome.{ends, HasSaid, RunsTo, TookMore, TookWithin};
 
+use crate::judged::{Judged, judge_log};
 use crate::load::{script_of, take_all};
 use crate::parts::parts_of;
 use crate::written::write_text;
-use env_check::{Verdict, check_log};
 use env_io::{Sink, Source};
 use line_text::{Line, add, add_decimal};
-use run_log::{LogFault, read_log};
 use std::alloc::{AllocError, Global};
 use task_base::{Fault, Script};
 
@@ -36,6 +35,14 @@ pub fn judge<S: Source, K: Sink>(alloc: Global, source: &mut S, sink: &mut K) ->
         Ok(line) => line,
         Err(error) => return Err(Fault::NoMemory(error)),
     };
+    write_verdict(sink, line)
+}
+
+/// Writes what is found of that line, and answers whether there is one.
+fn write_verdict<K: Sink>(sink: &mut K, line: Option<u32>) -> Result<(), Fault>
+    ensures said { HasSaid line (ends (K.holds sink.old) (K.holds sink.new) (K.faults sink.old) (K.faults sink.new)) result }
+    ensures steady { result ≢ Err Fault.WriteFault → K.faults sink.new ≡ K.faults sink.old }
+{
     write_text(sink, &verdict_text(line))?;
     match line {
         None => Ok(()),
@@ -43,21 +50,15 @@ pub fn judge<S: Source, K: Sink>(alloc: Global, source: &mut S, sink: &mut K) ->
     }
 }
 
-/// The line, counted from 1, at which the text is found to be no log of a whole run of the script. The error is want of
-/// memory.
+/// The line at which the text is found to be no log of a whole run of the script. The error is want of memory.
 fn wrong_line(alloc: Global, script: &Script, text: &[u8]) -> Result<Option<u32>, AllocError>
     requires plan { IsSound script.now }
     requires short { length text.now ≤ MOST_BYTES }
     ensures { IfOk result (IsFoundAt script.now text.now) }
 {
-    let log = match read_log(alloc, text) {
-        Ok(log) => log,
-        Err(LogFault::Bad { line }) => return Ok(Some(line)),
-        Err(LogFault::Memory(error)) => return Err(error),
-    };
-    match check_log(alloc, script, &log)? {
-        Verdict::Legal => Ok(None),
-        Verdict::Illegal { place } => Ok(Some(place + 1)),
+    match judge_log(alloc, script, text)? {
+        Judged::Whole(_) => Ok(None),
+        Judged::Wrong { line } => Ok(Some(line)),
     }
 }
 

@@ -1,5 +1,5 @@
-//! The program behind the command line: from words and bytes to the log of a run, the verdict on a log, a script that is
-//! made from a number, or what such a script's run adds up to.
+//! The program behind the command line: from words and bytes to the log of a run, the verdict on a log or its trace, a
+//! script that is made from a number, or what such a script's run adds up to.
 //!
 //! A call is seen by its words, its status, and what the outside tells before and after it: the bytes that the source
 //! has left, the bytes that the sink and the notes hold, and the count of failures of each.
@@ -9,17 +9,23 @@ mod bench;
 mod bodies;
 mod check;
 mod crew;
+mod failure;
 mod generate;
 mod input;
+mod judged;
 mod load;
+mod nests;
 mod notes;
 mod parts;
+mod replies;
 mod run;
 mod runs;
+mod trace;
 mod words;
 mod workers;
 mod written;
 
 pub use crew::run_crew;
+pub use failure::Failure;
 pub use notes::tell;
 pub use run::run_words;

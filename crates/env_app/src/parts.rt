@@ -1,13 +1,13 @@
 ghost use Rattle.std.specs.Prelude.{◌≡◌};
 ghost use Rattle.std.specs.Io.BufRead.{strip_last};
-ghost use Rattle.env_app.specs.Input.{is_mark, log_part, script_part};
+ghost use Rattle.env_app.specs.Input.{is_mark, part_behind, script_part};
 
 use script_lines::without_return;
 
-/// The bytes of the script and those of the log, which the first line that is `%%` parts.
+/// The bytes of the script and those of what is behind it, which the first line that is `%%` parts.
 pub fn parts_of(bytes: &[u8]) -> (&[u8], &[u8])
     ensures script { result.0.now ≡ script_part bytes.now }
-    ensures log { result.1.now ≡ log_part bytes.now }
+    ensures behind { result.1.now ≡ part_behind bytes.now }
 {
     let mut end = 0;
     for line in bytes.split_inclusive(|byte| *byte == b'\n') {
@@ -20,7 +20,7 @@ pub fn parts_of(bytes: &[u8]) -> (&[u8], &[u8])
     (bytes, &[])
 }
 
-/// Whether the line parts the script from the log.
+/// Whether the line parts the script from what is behind it.
 fn is_mark(line: &[u8]) -> bool
     ensures { result ≡ is_mark line.now }
 {

@@ -1,26 +1,40 @@
-ghost use Rattle.std.specs.Prelude.{◌≡◌, ◌≢◌, ◌⊎◌, ℕ, List, Option, Bool, map, string_bytes, alloc_error, Some, None, Err, IfErr};
-ghost use Rattle.task_base.specs.Fault.{status_of};
+ghost use Rattle.std.specs.Prelude.{◌≡◌, ◌≢◌, ◌⊎◌, ℕ, List, Option, Bool, false, map, string_bytes, alloc_error, Some, None, Err, IfErr};
 ghost use Rattle.script_model.specs.Canonical.{canonical};
 ghost use Rattle.task_script.specs.Generated.{generated};
 ghost use Rattle.run_summary.specs.Summary.{generated_totals};
 ghost use Rattle.env_io.specs.Bytes.{Gains, Rose};
-ghost use Rattle.env_app.specs.declared.words.Command.TheVariants.{Run, Check, Generate, Bench};
-ghost use Rattle.env_app.specs.CommandLine.{IsSized, ReadsClock, TakesInput, command_of};
-ghost use Rattle.env_app.specs.Judged.{HasChecked, HasLegalLog};
+ghost use Rattle.env_app.specs.declared.words.Command.TheVariants.{Run, Check, Reply, Trace, Nest, Generate, Bench};
+ghost use Rattle.env_app.specs.CommandLine.{IsJudge, IsSized, ReadsClock, TakesInput, command_of};
+ghost use Rattle.env_app.specs.Failures.{failure_status, is_verdict, note_line};
+ghost use Rattle.env_app.specs.Judged.{HasChecked, HasLegalLog, HasTraced};
 ghost use Rattle.env_app.specs.Totals.{summary_text};
-ghost use Rattle.env_app.specs.Outcome.{ends, HasRun, WroteAll, WroteFront, IsWritten, TookMore, TookWithin, RunsTo, HasCause, IsFaultAt, note_of_status, readings_of};
+ghost use Rattle.env_app.specs.Outcome.{ends, HasNested, HasReplied, HasRun, in_common, WroteAll, WroteFront, IsEnd, IsVerdictOf, IsWritten, OfTaken, TookMore, TookWithin, EndsIn, HasCause, readings_of};
 
 use crate::bench::run_generated;
 use crate::check::judge;
+use crate::failure::Failure;
 use crate::generate::write_generated;
+use crate::nests::run_nest_script;
 use crate::notes::tell;
+use crate::replies::run_replies;
 use crate::runs::run_script;
+use crate::trace::trace;
 use crate::words::{Command, command_of};
 use env_io::{Clock, Gate, Sink, Source};
 use std::alloc::Global;
 use std::sync::Wait;
 use std::thread::Threads;
 use task_base::Fault;
+
+/// The same end of a command, where any fault may be one.
+fn common(end: Result<(), Fault>) -> Result<(), Failure>
+    ensures { result ≡ in_common end }
+{
+    match end {
+        Ok(()) => Ok(()),
+        Err(fault) => Err(Failure::Common(fault)),
+    }
+}
 
 /// Does what a command asks for.
 fn execute<R: Threads + Wait + Sync, S: Source, K: Sink, C: Clock, G: Gate>(
@@ -31,25 +45,32 @@ fn execute<R: Threads + Wait + Sync, S: Source, K: Sink, C: Clock, G: Gate>(
     sink: &mut K,
     clock: &mut C,
     gate: &G,
-) -> Result<(), Fault>
+) -> Result<(), Failure>
     requires { IsSized command }
-    ensures outcome { RunsTo (Some command) (C.readings clock.old)
+    ensures outcome { EndsIn (Some command) (C.readings clock.old)
         (ends (S.left source.old) (S.left source.new) (S.faults source.old) (S.faults source.new))
         (ends (K.holds sink.old) (K.holds sink.new) (K.faults sink.old) (K.faults sink.new)) result }
-    ensures sink_kept { IfErr result (λ fault. status_of fault ≢ 1 → status_of fault ≢ 5 → sink.new ≡ sink.old) }
-    ensures took_more { result ≡ Err Fault.TooLarge → TookMore (ends (S.left source.old) (S.left source.new) (S.faults source.old) (S.faults source.new)) }
-    ensures took_within { result ≢ Err Fault.TooLarge → TookWithin (ends (S.left source.old) (S.left source.new) (S.faults source.old) (S.faults source.new)) }
+    ensures sink_kept { IfErr result (λ failure. is_verdict failure ≡ false → failure_status failure ≢ 5 → sink.new ≡ sink.old) }
+    ensures took_more { result ≡ Err (Failure.Common Fault.TooLarge) → TookMore (ends (S.left source.old) (S.left source.new) (S.faults source.old) (S.faults source.new)) }
+    ensures took_within { result ≢ Err (Failure.Common Fault.TooLarge) → TookWithin (ends (S.left source.old) (S.left source.new) (S.faults source.old) (S.faults source.new)) }
     ensures source_kept { ¬ TakesInput (Some command) → source.new ≡ source.old }
-    ensures source_steady { result ≢ Err Fault.ReadFault → S.faults source.new ≡ S.faults source.old }
-    ensures sink_steady { result ≢ Err Fault.WriteFault → K.faults sink.new ≡ K.faults sink.old }
+    ensures source_steady { result ≢ Err (Failure.Common Fault.ReadFault) → S.faults source.new ≡ S.faults source.old }
+    ensures sink_steady { result ≢ Err (Failure.Common Fault.WriteFault) → K.faults sink.new ≡ K.faults sink.old }
     ensures clock_unread { ¬ ReadsClock (Some command) → clock.new ≡ clock.old }
-    ensures clock_kept { IfErr result (λ fault. status_of fault ≢ 5 → status_of fault ≢ 6 → clock.new ≡ clock.old) }
+    ensures clock_kept { IfErr result (λ failure. failure_status failure ≢ 5 → failure_status failure ≢ 6 → clock.new ≡ clock.old) }
 {
     match command {
-        Command::Run { step, json } => run_script(rt, alloc, step, json, source, sink, clock, gate),
-        Command::Check => judge(alloc, source, sink),
-        Command::Generate { number, size } => write_generated(alloc, number, size, sink),
-        Command::Bench { number, size } => run_generated(rt, alloc, number, size, sink, gate),
+        Command::Run { step, json } => common(run_script(
+            rt, alloc, step, json, source, sink, clock, gate,
+        )),
+        Command::Check => common(judge(alloc, source, sink)),
+        Command::Reply => run_replies(rt, alloc, source, sink, clock, gate),
+        Command::Trace => trace(alloc, source, sink),
+        Command::Nest => run_nest_script(alloc, source, sink),
+        Command::Generate { number, size } => common(write_generated(alloc, number, size, sink)),
+        Command::Bench { number, size } => {
+            common(run_generated(rt, alloc, number, size, sink, gate))
+        }
     }
 }
 
@@ -62,23 +83,23 @@ fn run<R: Threads + Wait + Sync, S: Source, K: Sink, C: Clock, G: Gate>(
     sink: &mut K,
     clock: &mut C,
     gate: &G,
-) -> Result<(), Fault>
-    ensures outcome { RunsTo (command_of (map string_bytes words.now)) (C.readings clock.old)
+) -> Result<(), Failure>
+    ensures outcome { EndsIn (command_of (map string_bytes words.now)) (C.readings clock.old)
         (ends (S.left source.old) (S.left source.new) (S.faults source.old) (S.faults source.new))
         (ends (K.holds sink.old) (K.holds sink.new) (K.faults sink.old) (K.faults sink.new)) result }
-    ensures sink_kept { IfErr result (λ fault. status_of fault ≢ 1 → status_of fault ≢ 5 → sink.new ≡ sink.old) }
-    ensures took_more { result ≡ Err Fault.TooLarge → TookMore (ends (S.left source.old) (S.left source.new) (S.faults source.old) (S.faults source.new)) }
-    ensures took_within { result ≢ Err Fault.TooLarge → TookWithin (ends (S.left source.old) (S.left source.new) (S.faults source.old) (S.faults source.new)) }
+    ensures sink_kept { IfErr result (λ failure. is_verdict failure ≡ false → failure_status failure ≢ 5 → sink.new ≡ sink.old) }
+    ensures took_more { result ≡ Err (Failure.Common Fault.TooLarge) → TookMore (ends (S.left source.old) (S.left source.new) (S.faults source.old) (S.faults source.new)) }
+    ensures took_within { result ≢ Err (Failure.Common Fault.TooLarge) → TookWithin (ends (S.left source.old) (S.left source.new) (S.faults source.old) (S.faults source.new)) }
     ensures source_kept { ¬ TakesInput (command_of (map string_bytes words.now)) → source.new ≡ source.old }
-    ensures source_steady { result ≢ Err Fault.ReadFault → S.faults source.new ≡ S.faults source.old }
-    ensures sink_steady { result ≢ Err Fault.WriteFault → K.faults sink.new ≡ K.faults sink.old }
+    ensures source_steady { result ≢ Err (Failure.Common Fault.ReadFault) → S.faults source.new ≡ S.faults source.old }
+    ensures sink_steady { result ≢ Err (Failure.Common Fault.WriteFault) → K.faults sink.new ≡ K.faults sink.old }
     ensures clock_unread { ¬ ReadsClock (command_of (map string_bytes words.now)) → clock.new ≡ clock.old }
-    ensures clock_kept { IfErr result (λ fault. status_of fault ≢ 5 → status_of fault ≢ 6 → clock.new ≡ clock.old) }
+    ensures clock_kept { IfErr result (λ failure. failure_status failure ≢ 5 → failure_status failure ≢ 6 → clock.new ≡ clock.old) }
 {
     match command_of(alloc, words) {
         Ok(Some(command)) => execute(rt, alloc, command, source, sink, clock, gate),
-        Ok(None) => Err(Fault::BadWords),
-        Err(error) => Err(Fault::NoMemory(error)),
+        Ok(None) => Err(Failure::Common(Fault::BadWords)),
+        Err(error) => Err(Failure::Common(Fault::NoMemory(error))),
     }
 }
 
@@ -96,21 +117,23 @@ fn run_and_tell<R: Threads + Wait + Sync, S: Source, K: Sink, N: Sink, C: Clock,
     ensures cause { HasCause (command_of (map string_bytes words.now)) (C.readings clock.old)
         (ends (S.left source.old) (S.left source.new) (S.faults source.old) (S.faults source.new))
         (ends (K.holds sink.old) (K.holds sink.new) (K.faults sink.old) (K.faults sink.new)) result }
-    ensures nothing_written { result ≢ 0 → result ≢ 1 → result ≢ 5 → sink.new ≡ sink.old }
+    ensures nothing_written { result ≢ 0 → ¬ IsVerdictOf (command_of (map string_bytes words.now)) result → result ≢ 5 → sink.new ≡ sink.old }
     ensures nothing_taken { ¬ TakesInput (command_of (map string_bytes words.now)) → source.new ≡ source.old }
     ensures clock_unread { ¬ ReadsClock (command_of (map string_bytes words.now)) → clock.new ≡ clock.old }
     ensures clock_kept { result ≢ 0 → result ≢ 5 → result ≢ 6 → clock.new ≡ clock.old }
-    ensures quiet { (result ≡ 0) ⊎ (result ≡ 1) → notes.new ≡ notes.old }
-    ensures note { (at : ℕ × ℕ) × IsFaultAt (command_of (map string_bytes words.now)) (S.left source.old) result at
-        × (Rose (N.faults notes.old) (N.faults notes.new) ⊎ Gains (N.holds notes.old) (note_of_status at result) (N.holds notes.new)) }
-    ensures note_front { (at : ℕ × ℕ) × IsFaultAt (command_of (map string_bytes words.now)) (S.left source.old) result at
-        × WroteFront (N.holds notes.old) (N.holds notes.new) (note_of_status at result) }
+    ensures quiet { (result ≡ 0) ⊎ IsVerdictOf (command_of (map string_bytes words.now)) result → notes.new ≡ notes.old }
+    ensures note { result ≢ 0 → (failure : Failure) × IsEnd (command_of (map string_bytes words.now))
+        (ends (S.left source.old) (S.left source.new) (S.faults source.old) (S.faults source.new)) result failure
+        × (Rose (N.faults notes.old) (N.faults notes.new) ⊎ Gains (N.holds notes.old) (note_line failure) (N.holds notes.new)) }
+    ensures note_front { result ≢ 0 → (failure : Failure) × IsEnd (command_of (map string_bytes words.now))
+        (ends (S.left source.old) (S.left source.new) (S.faults source.old) (S.faults source.new)) result failure
+        × WroteFront (N.holds notes.old) (N.holds notes.new) (note_line failure) }
 {
     match run(rt, alloc, words, source, sink, clock, gate) {
         Ok(()) => 0,
-        Err(fault) => {
-            tell(notes, &fault);
-            fault.status()
+        Err(failure) => {
+            tell(notes, &failure);
+            failure.status()
         }
     }
 }
@@ -123,16 +146,22 @@ fn run_and_tell<R: Threads + Wait + Sync, S: Source, K: Sink, N: Sink, C: Clock,
 ///   `--json` as JSON.
 /// - `check` reads a script, the line `%%` and a log from the source, to its end, and writes whether the log is that of a
 ///   whole run of the script, which is status 0, or at which line it is not, which is status 1.
+/// - `reply` reads a script, the line `%%` and replies from the source, to its end, and does what `run` does of the script
+///   whose tasks post their replies.
+/// - `trace` reads what `check` reads, and writes the log as trace events, which is status 0, where it is that of a whole
+///   run of the script, and else nothing, which is status 1.
+/// - `nest` reads a nest script from the source, to its end, runs it, and writes its log.
 /// - `gen` writes the script that is made from `--number`, of `--size` tasks, and reads nothing.
 /// - `bench` runs that script, and writes what the log of the run adds up to. It reads nothing.
 ///
-/// A status above 1 is that of a `Fault`, whose note goes to the notes. Want of memory comes before the first byte is
-/// written. The gate is called between each take of a task and the task's first step. The clock is read by `run` alone,
-/// once for each tick, or with `--step` not at all: its readings are then N, 2N, 3N and so on, in microseconds.
+/// A status above 0 is that of a `Failure`, whose note goes to the notes, but for the verdict of `check`. Want of memory
+/// comes before the first byte is written. The gate is called between each take of a task and the task's first step. The
+/// clock is read by `run` and `reply` alone, once for each tick, or with `--step` not at all: its readings are then N, 2N,
+/// 3N and so on, in microseconds.
 ///
-/// The driver is the caller's thread, and in `run` and `bench` each worker has a thread of its own, as far as the system
-/// gives them: what a worker without one would do, the caller does while it waits. It may wait for the threads for ever;
-/// nothing is promised of time.
+/// The driver is the caller's thread, and in `run`, `reply` and `bench` each worker has a thread of its own, as far as the
+/// system gives them: what a worker without one would do, the caller does while it waits. It may wait for the threads for
+/// ever; nothing is promised of time.
 pub fn run_words<R: Threads + Wait + Sync, S: Source, K: Sink, N: Sink, C: Clock, G: Gate>(
     rt: &R,
     alloc: Global,
@@ -143,22 +172,36 @@ pub fn run_words<R: Threads + Wait + Sync, S: Source, K: Sink, N: Sink, C: Clock
     clock: &mut C,
     gate: &G,
 ) -> u8
-    // The run theorem: the bytes that came are a script, and what was added to the sink is the text of one history that is
-    // legal and whole for it, or with `--json` its JSON form and a line feed. The moments of the history's ticks are those of
-    // as many first readings: with `--step` always, and else where the clock tells its readings.
+    // The run theorem: the bytes that were taken from the source, to its end, are a script, and what was added to the sink is the
+    // text of one history that is legal and whole for it, or with `--json` its JSON form and a line feed. Where the source tells
+    // its bytes, they are these. The moments of the history's ticks are those of as many first readings: with `--step` always,
+    // and else where the clock tells its readings.
     ensures run_theorem { (step : Option ℕ) (json : Bool) → command_of (map string_bytes words.now) ≡ Some (Run step json) → result ≡ 0
-        → (bytes : List ℕ) → S.left source.old ≡ Some bytes
-        → HasRun bytes json (readings_of step (C.readings clock.old)) (WroteAll (K.holds sink.old) (K.holds sink.new)) }
+        → OfTaken (ends (S.left source.old) (S.left source.new) (S.faults source.old) (S.faults source.new))
+        (λ bytes. HasRun bytes json (readings_of step (C.readings clock.old)) (WroteAll (K.holds sink.old) (K.holds sink.new))) }
 
-    // `check` answers 0 or 1 by the line at which the log behind the script is found wrong, and writes that line. 0 comes only
-    // where the log is a legal, whole one of the script, and 1 only where there is none.
+    // `check` answers 0 or 1 by the line at which the log behind the script is found wrong, and writes that line; `trace` writes
+    // the log's trace under 0, and nothing under 1. 0 comes only where the log is a legal, whole one of the script, and 1 only
+    // where there is none.
     ensures verdict { command_of (map string_bytes words.now) ≡ Some Check → (result ≡ 0) ⊎ (result ≡ 1)
-        → (bytes : List ℕ) → S.left source.old ≡ Some bytes
-        → HasChecked bytes (λ status text. (result ≡ status) × WroteAll (K.holds sink.old) (K.holds sink.new) text) }
-    ensures legal_log { command_of (map string_bytes words.now) ≡ Some Check → result ≡ 0
-        → (bytes : List ℕ) → S.left source.old ≡ Some bytes → HasLegalLog bytes }
-    ensures no_legal_log { command_of (map string_bytes words.now) ≡ Some Check → result ≡ 1
-        → (bytes : List ℕ) → S.left source.old ≡ Some bytes → ¬ HasLegalLog bytes }
+        → OfTaken (ends (S.left source.old) (S.left source.new) (S.faults source.old) (S.faults source.new))
+        (λ bytes. HasChecked bytes (λ status text. (result ≡ status) × WroteAll (K.holds sink.old) (K.holds sink.new) text)) }
+    ensures traced { command_of (map string_bytes words.now) ≡ Some Trace → (result ≡ 0) ⊎ (result ≡ 1)
+        → OfTaken (ends (S.left source.old) (S.left source.new) (S.faults source.old) (S.faults source.new))
+        (λ bytes. HasTraced bytes (λ status text. (result ≡ status) × WroteAll (K.holds sink.old) (K.holds sink.new) text)) }
+    ensures legal_log { IsJudge (command_of (map string_bytes words.now)) → result ≡ 0
+        → OfTaken (ends (S.left source.old) (S.left source.new) (S.faults source.old) (S.faults source.new)) HasLegalLog }
+    ensures no_legal_log { IsJudge (command_of (map string_bytes words.now)) → result ≡ 1
+        → OfTaken (ends (S.left source.old) (S.left source.new) (S.faults source.old) (S.faults source.new))
+        (λ bytes. ¬ HasLegalLog bytes) }
+
+    // `reply` does what `run` does of the script whose tasks post their replies, and `nest` writes the log of a nest script.
+    ensures replied { command_of (map string_bytes words.now) ≡ Some Reply → result ≡ 0
+        → OfTaken (ends (S.left source.old) (S.left source.new) (S.faults source.old) (S.faults source.new))
+        (λ bytes. HasReplied bytes (C.readings clock.old) (WroteAll (K.holds sink.old) (K.holds sink.new))) }
+    ensures nested { command_of (map string_bytes words.now) ≡ Some Nest → result ≡ 0
+        → OfTaken (ends (S.left source.old) (S.left source.new) (S.faults source.old) (S.faults source.new))
+        (λ bytes. HasNested bytes (WroteAll (K.holds sink.old) (K.holds sink.new))) }
 
     // `gen` writes the script of its number and size, and `bench` what every run of that script adds up to.
     ensures generated { (number size : ℕ) → command_of (map string_bytes words.now) ≡ Some (Generate number size) → result ≡ 0
@@ -171,22 +214,25 @@ pub fn run_words<R: Threads + Wait + Sync, S: Source, K: Sink, N: Sink, C: Clock
         (ends (S.left source.old) (S.left source.new) (S.faults source.old) (S.faults source.new))
         (ends (K.holds sink.old) (K.holds sink.new) (K.faults sink.old) (K.faults sink.new)) result }
 
-    // Under any other status nothing is put to the sink; and what is no command, or reads nothing, takes nothing from the
-    // source.
-    ensures nothing_written { result ≢ 0 → result ≢ 1 → result ≢ 5 → sink.new ≡ sink.old }
+    // Under any other status, and under 1 in `trace`, nothing is put to the sink; and what is no command, or reads nothing, takes
+    // nothing from the source.
+    ensures nothing_written { result ≢ 0 → ¬ IsVerdictOf (command_of (map string_bytes words.now)) result → result ≢ 5 → sink.new ≡ sink.old }
     ensures nothing_taken { (result ≡ 2) ⊎ (¬ TakesInput (command_of (map string_bytes words.now))) → source.new ≡ source.old }
 
-    // The clock is as it was in each mode but `run`, with `--step`, and where nothing is run.
+    // The clock is as it was in each mode but `run` and `reply`, with `--step`, and where nothing is run.
     ensures clock_unread { ¬ ReadsClock (command_of (map string_bytes words.now)) → clock.new ≡ clock.old }
     ensures clock_kept { result ≢ 0 → result ≢ 5 → result ≢ 6 → clock.new ≡ clock.old }
 
-    // The notes get the status's note, where they do not fail, and else a front of it. Under 3 that is the note of the
-    // fault that the script has; under 0 and 1 there is none.
-    ensures quiet { (result ≡ 0) ⊎ (result ≡ 1) → notes.new ≡ notes.old }
-    ensures note { (at : ℕ × ℕ) × IsFaultAt (command_of (map string_bytes words.now)) (S.left source.old) result at
-        × (Rose (N.faults notes.old) (N.faults notes.new) ⊎ Gains (N.holds notes.old) (note_of_status at result) (N.holds notes.new)) }
-    ensures note_front { (at : ℕ × ℕ) × IsFaultAt (command_of (map string_bytes words.now)) (S.left source.old) result at
-        × WroteFront (N.holds notes.old) (N.holds notes.new) (note_of_status at result) }
+    // The notes get the note of the failure that ends the command with this status, where they do not fail, and else a front of
+    // it. Under 3 that is what is wrong with the input, and under 1 in `trace` the line at which the log is found wrong; under 1
+    // in `check` there is none, and so under 0.
+    ensures quiet { (result ≡ 0) ⊎ IsVerdictOf (command_of (map string_bytes words.now)) result → notes.new ≡ notes.old }
+    ensures note { result ≢ 0 → (failure : Failure) × IsEnd (command_of (map string_bytes words.now))
+        (ends (S.left source.old) (S.left source.new) (S.faults source.old) (S.faults source.new)) result failure
+        × (Rose (N.faults notes.old) (N.faults notes.new) ⊎ Gains (N.holds notes.old) (note_line failure) (N.holds notes.new)) }
+    ensures note_front { result ≢ 0 → (failure : Failure) × IsEnd (command_of (map string_bytes words.now))
+        (ends (S.left source.old) (S.left source.new) (S.faults source.old) (S.faults source.new)) result failure
+        × WroteFront (N.holds notes.old) (N.holds notes.new) (note_line failure) }
 {
     run_and_tell(rt, alloc, words, source, sink, notes, clock, gate)
 }

@@ -29,6 +29,12 @@ pub enum Command {
     },
     /// Judges the log behind a script.
     Check,
+    /// Runs a script whose tasks post the replies behind it, and writes the log of the run.
+    Reply,
+    /// Writes the trace of the log behind a script.
+    Trace,
+    /// Runs a nest script, and writes its log.
+    Nest,
     /// Writes the script that is made from a number.
     Generate {
         /// The number that it is made from.
@@ -50,6 +56,9 @@ pub enum Command {
 enum Mode {
     Run,
     Check,
+    Reply,
+    Trace,
+    Nest,
     Generate,
     Bench,
 }
@@ -162,6 +171,9 @@ fn command_with(
             json,
         }),
         (Mode::Check, None, false, None, None) => Some(Command::Check),
+        (Mode::Reply, None, false, None, None) => Some(Command::Reply),
+        (Mode::Trace, None, false, None, None) => Some(Command::Trace),
+        (Mode::Nest, None, false, None, None) => Some(Command::Nest),
         (Mode::Generate, None, false, number, size) => Some(Command::Generate {
             number: seed_given(number)?,
             size: size_given(size)?,
@@ -180,6 +192,9 @@ fn mode_named(word: &str) -> Option<Mode>
     match word {
         "run" => Some(Mode::Run),
         "check" => Some(Mode::Check),
+        "reply" => Some(Mode::Reply),
+        "trace" => Some(Mode::Trace),
+        "nest" => Some(Mode::Nest),
         "gen" => Some(Mode::Generate),
         "bench" => Some(Mode::Bench),
         _ => None,

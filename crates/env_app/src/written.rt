@@ -1,13 +1,18 @@
 ghost use Rattle.std.specs.Prelude.{◌≡◌, ◌≢◌, ◌<◌, ◌^◌, ◌⊎◌, Err, IfErr, OnOk, alloc_error, length};
 ghost use Rattle.env_io.specs.Bytes.{Rose};
 ghost use Rattle.script_model.specs.Canonical.{canonical};
+ghost use Rattle.trace_json.specs.Text.{trace_text};
+ghost use Rattle.trace_json.specs.Trace.{trace_of};
+ghost use Rattle.nested_loop.specs.NestText.{nest_text};
 ghost use Rattle.env_app.specs.Outcome.{WroteAll, WroteFront, output_of};
 
 use env_io::{Sink, put_all};
+use nested_loop::{Event, write_nest};
 use run_log::{JsonFault, write_json, write_log};
 use std::alloc::Global;
 use task_base::{Entry, Fault, Rows, Script};
 use task_script::write_script;
+use trace_json::{TraceFault, write_trace};
 
 /// Writes a log: its text, or its JSON form and a line feed. Want of memory comes before the first byte.
 pub fn write<K: Sink>(
@@ -34,6 +39,36 @@ pub fn write<K: Sink>(
         Ok(()) => Ok(()),
         Err(JsonFault::Sink(_)) => Err(Fault::WriteFault),
         Err(JsonFault::Memory(error)) => Err(Fault::NoMemory(error)),
+    }
+}
+
+/// Writes the trace of a log. Want of memory comes before the first byte.
+pub fn write_events<K: Sink>(alloc: Global, sink: &mut K, log: &Rows<Entry>) -> Result<(), Fault>
+    ensures written { OnOk result (WroteAll (K.holds sink.old) (K.holds sink.new) (trace_text (trace_of log.now.items))) }
+    ensures cut { result ≡ Err Fault.WriteFault → WroteFront (K.holds sink.old) (K.holds sink.new) (trace_text (trace_of log.now.items)) }
+    ensures failed { result ≡ Err Fault.WriteFault → Rose (K.faults sink.old) (K.faults sink.new) }
+    ensures kept { result ≡ Err (Fault.NoMemory alloc_error) → sink.new ≡ sink.old }
+    ensures faults { IfErr result (λ fault. (fault ≡ Fault.WriteFault) ⊎ (fault ≡ Fault.NoMemory alloc_error)) }
+    ensures steady { result ≢ Err Fault.WriteFault → K.faults sink.new ≡ K.faults sink.old }
+{
+    match write_trace(alloc, sink, log) {
+        Ok(()) => Ok(()),
+        Err(TraceFault::Sink(_)) => Err(Fault::WriteFault),
+        Err(TraceFault::Memory(error)) => Err(Fault::NoMemory(error)),
+    }
+}
+
+/// Writes the log of a nest.
+pub fn write_nest_log<K: Sink>(sink: &mut K, log: &Rows<Event>) -> Result<(), Fault>
+    ensures written { OnOk result (WroteAll (K.holds sink.old) (K.holds sink.new) (nest_text log.now.items)) }
+    ensures cut { result ≡ Err Fault.WriteFault → WroteFront (K.holds sink.old) (K.holds sink.new) (nest_text log.now.items) }
+    ensures failed { result ≡ Err Fault.WriteFault → Rose (K.faults sink.old) (K.faults sink.new) }
+    ensures faults { IfErr result (λ fault. fault ≡ Fault.WriteFault) }
+    ensures steady { result ≢ Err Fault.WriteFault → K.faults sink.new ≡ K.faults sink.old }
+{
+    match write_nest(sink, log) {
+        Ok(()) => Ok(()),
+        Err(_) => Err(Fault::WriteFault),
     }
 }
 

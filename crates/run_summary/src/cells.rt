@@ -16,7 +16,8 @@ pub enum Home {
     Queue(usize),
 }
 
-/// The cells of all sequences and main queues, and what the task of each seat belongs to.
+/// The cells of all sequences and main queues of a script, and what the task of each seat belongs to: all the memory that a
+/// summary of its log takes.
 #[derive(Drop)]
 pub struct Cells {
     /// What the task of each seat belongs to, by the seat's number.
@@ -43,7 +44,7 @@ impl Cells {
     }
 
     /// What one more entry does to the cells.
-    pub fn enter(&mut self, script: &Script, entry: &Entry)
+    pub(crate) fn enter(&mut self, script: &Script, entry: &Entry)
         ensures homes { self.new.homes.items ≡ homes_after script.now self.old.homes.items entry.now.seat entry.now.kind }
         ensures sequences { self.new.sequences.items ≡ sequences_after (home_at self.old.homes.items entry.now.seat) self.old.sequences.items entry.now.kind }
         ensures queues { self.new.queues.items ≡ queues_after (home_at self.old.homes.items entry.now.seat) self.old.queues.items entry.now.kind }
@@ -70,7 +71,7 @@ impl Cells {
     }
 
     /// The sum of all cells, modulo 2^64.
-    pub fn sum(&self) -> u64
+    pub(crate) fn sum(&self) -> u64
         ensures { result ≡ (sum self.now.sequences.items + sum self.now.queues.items) % 2 ^ 64 }
     {
         wrapping_sum(&self.sequences).wrapping_add(wrapping_sum(&self.queues))

@@ -7,6 +7,7 @@ mod generated;
 mod tally;
 mod totals;
 
+pub use cells::{Cells, Home};
 pub use generated::runs_of_generated_scripts_add_up;
 pub use tally::summary;
 pub use totals::Summary;

@@ -1,4 +1,4 @@
-ghost use Rattle.std.specs.Prelude.{◌≡◌, ◌+◌, ◌%◌, ◌^◌, ◌<◌, length, sum_by, IfOk};
+ghost use Rattle.std.specs.Prelude.{◌≡◌, ◌+◌, ◌%◌, ◌^◌, ◌<◌, [], length, sum_by};
 ghost use Rattle.list_laws.specs.Lists.{count};
 ghost use Rattle.script_model.specs.Laws.Sound.{IsSound};
 ghost use Rattle.hist_model.specs.Legal.{IsLegal};
@@ -7,35 +7,35 @@ ghost use Rattle.run_summary.specs.Summary.{ends_task, ends_item, value_in, cell
 
 use crate::cells::Cells;
 use crate::totals::Summary;
-use std::alloc::{AllocError, Global};
 use task_base::{Entry, Kind, Rows, Script};
 
-/// The summary of a legal log of the script. The error is want of memory.
-pub fn summary(alloc: Global, script: &Script, log: &Rows<Entry>) -> Result<Summary, AllocError>
+/// The summary of a legal log of the script, reckoned in the cells that were made for it. It takes no memory.
+pub fn summary(cells: Cells, script: &Script, log: &Rows<Entry>) -> Summary
     requires plan { IsSound script.now }
     requires legal { IsLegal script.now log.now.items }
-    ensures { IfOk result (λ summary. summary ≡ summary_of script.now log.now.items) }
+    requires cells { AreCells script.now [] cells }
+    ensures { result ≡ summary_of script.now log.now.items }
 {
     let entries = log.as_slice();
-    let cells = cells_behind(alloc, script, entries)?;
-    Ok(Summary {
+    let cells = cells_behind(cells, script, entries);
+    Summary {
         tasks: ended_tasks(entries),
         items: ended_items(entries),
         cells: cells.sum(),
         sums: sum_of_values(entries),
-    })
+    }
 }
 
-/// The cells behind a legal log. The error is want of memory.
-fn cells_behind(alloc: Global, script: &Script, log: &[Entry]) -> Result<Cells, AllocError>
-    requires { IsLegal script.now log.now }
-    ensures { IfOk result (λ cells. AreCells script.now log.now cells) }
+/// The cells behind a legal log.
+fn cells_behind(mut cells: Cells, script: &Script, log: &[Entry]) -> Cells
+    requires legal { IsLegal script.now log.now }
+    requires cells { AreCells script.now [] cells }
+    ensures { AreCells script.now log.now result }
 {
-    let mut cells = Cells::new(alloc, script)?;
     for entry in log {
         cells.enter(script, entry);
     }
-    Ok(cells)
+    cells
 }
 
 /// How many tasks ended.

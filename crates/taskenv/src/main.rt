@@ -5,7 +5,7 @@
 ghost use Rattle.std.specs.Prelude.{◌≡◌, ◌≢◌, ◌≤◌, ◌⊎◌};
 ghost use Rattle.env_io.specs.Bytes.{Rose};
 
-use env_app::{run_words, tell};
+use env_app::{Failure, run_words, tell};
 use env_io::{OpenGate, RealClock, Sink, StdSink, StdSource};
 use std::alloc::AllocError;
 use std::env;
@@ -39,9 +39,9 @@ fn close<W: Write, N: Sink>(status: u8, output: &mut StdSink<W>, notes: &mut N) 
     ensures kept { 2 ≤ status → (output.new ≡ output.old) × (notes.new ≡ notes.old) }
 {
     if status <= 1 && output.flush().is_err() {
-        let fault = Fault::WriteFault;
-        tell(notes, &fault);
-        return fault.status();
+        let failure = Failure::Common(Fault::WriteFault);
+        tell(notes, &failure);
+        return failure.status();
     }
     status
 }

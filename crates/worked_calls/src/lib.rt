@@ -1,14 +1,11 @@
-//! Tests of the crates below that are lists of calls, with bodies, gates and threads of their own.
+//! Tests of the crates below that are lists of calls, with gates and threads of their own, and the bodies that they run.
 #![tactic(auto)]
 
 #[cfg(test)]
 mod alone;
-#[cfg(test)]
 mod bodies;
 #[cfg(test)]
 mod calls;
-#[cfg(test)]
-mod crew;
 #[cfg(test)]
 mod desk_calls;
 #[cfg(test)]
@@ -27,3 +24,5 @@ mod one_env;
 mod scripts;
 #[cfg(test)]
 mod threads;
+
+pub use bodies::{CountedBody, Word, bodies_of};

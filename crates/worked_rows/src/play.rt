@@ -4,7 +4,9 @@ use crate::frame::framed;
 use crate::row::{Form, Row, Want};
 use crate::short::{ShortSink, ShortSource};
 use env_app::run_words;
-use env_io::{Clock, HoldGate, ListClock, MemSink, MemSource, Source};
+use env_io::{
+    Clock, HoldGate, ListClock, MemSink, MemSource, PieceSink, PieceSource, Sink, Source,
+};
 use std::alloc::{AllocError, Global};
 use std::sync::Wait;
 use std::thread::Threads;
@@ -16,7 +18,7 @@ const ROOM: u32 = 4_194_304;
 #[derive(Drop)]
 struct Told {
     status: u8,
-    sink: MemSink,
+    output: Vec<u8>,
     notes: MemSink,
     left: usize,
     next_reading: u64,
@@ -49,7 +51,7 @@ fn words_of(alloc: Global, row: &Row<'_>) -> Result<Vec<String>, AllocError> {
 }
 
 /// How many bytes a source has left.
-fn left_in(source: &mut MemSource) -> usize {
+fn left_in<S: Source>(source: &mut S) -> usize {
     let mut left = 0usize;
     for _ in 0..u32::MAX {
         match source.take(&mut [0; 4096]) {
@@ -61,16 +63,14 @@ fn left_in(source: &mut MemSource) -> usize {
     left
 }
 
-/// What the program's call does by this row.
-fn told_by<R: AllocGlobal + Threads + Wait + Sync>(
+/// What the program's call does by this row over a source and a sink. The sink has the output.
+fn told_over<S: Source, K: Sink, R: AllocGlobal + Threads + Wait + Sync>(
     rt: &R,
     row: &Row<'_>,
+    source: &mut S,
+    sink: &mut K,
 ) -> Result<Told, AllocError> {
     let alloc = rt.alloc();
-    let most = |place: usize| row.pieces.get(place).copied().unwrap_or(u32::MAX);
-    let source = MemSource::new(row.input.clone()?, row.source_fails.clone()?);
-    let mut source = ShortSource::new(source, most(0));
-    let mut sink = ShortSink::new(failing_sink(alloc, &row.sink_fails)?, most(1));
     let mut notes = failing_sink(alloc, &row.notes_fail)?;
     let mut clock = ListClock::new(row.clock.clone()?);
     let gate = gate_of(&row.gate);
@@ -78,20 +78,58 @@ fn told_by<R: AllocGlobal + Threads + Wait + Sync>(
         rt,
         alloc,
         &words_of(alloc, row)?,
-        &mut source,
-        &mut sink,
+        source,
+        sink,
         &mut notes,
         &mut clock,
         &gate,
     );
     Ok(Told {
         status,
-        sink: sink.sink,
+        output: Vec::new(alloc),
         notes,
-        left: left_in(&mut source.source),
+        left: left_in(source),
         next_reading: clock.now(),
         gate_fails: gate.failed(),
     })
+}
+
+/// What the program's call does by a row that has pieces and no failures of the input and the output.
+fn told_in_pieces<R: AllocGlobal + Threads + Wait + Sync>(
+    rt: &R,
+    row: &Row<'_>,
+) -> Result<Told, AllocError> {
+    let mut source = PieceSource::new(row.input.clone()?, row.piece(0));
+    let mut sink = PieceSink::new(rt.alloc(), row.piece(1), ROOM)?;
+    let mut told = told_over(rt, row, &mut source, &mut sink)?;
+    told.output.extend_from_slice(sink.bytes())?;
+    Ok(told)
+}
+
+/// What the program's call does by a row whose input and output may fail.
+fn told_with_failures<R: AllocGlobal + Threads + Wait + Sync>(
+    rt: &R,
+    row: &Row<'_>,
+) -> Result<Told, AllocError> {
+    let source = MemSource::new(row.input.clone()?, row.source_fails.clone()?);
+    let mut source = ShortSource::new(source, row.piece(0));
+    let mut sink = ShortSink::new(failing_sink(rt.alloc(), &row.sink_fails)?, row.piece(1));
+    let mut told = told_over(rt, row, &mut source, &mut sink)?;
+    told.output.extend_from_slice(sink.sink.bytes())?;
+    Ok(told)
+}
+
+/// What the program's call does by this row.
+fn told_by<R: AllocGlobal + Threads + Wait + Sync>(
+    rt: &R,
+    row: &Row<'_>,
+) -> Result<Told, AllocError> {
+    let fails = !row.source_fails.is_empty() || !row.sink_fails.is_empty();
+    if row.pieces.is_empty() || fails {
+        told_with_failures(rt, row)
+    } else {
+        told_in_pieces(rt, row)
+    }
 }
 
 /// The complaint where `check` does not find that this is the log of a whole run of this script.
@@ -103,7 +141,7 @@ fn unless_legal<R: AllocGlobal + Threads + Wait + Sync>(
     let mut row = Row::named(rt.alloc(), "");
     row.words = Some("check");
     row.input = framed(rt.alloc(), script, log)?;
-    unless_same(rt.alloc(), b"legal\n", told_by(rt, &row)?.sink.bytes())
+    unless_same(rt.alloc(), b"legal\n", &told_by(rt, &row)?.output)
 }
 
 /// What of the output is not as this wants it.
@@ -165,7 +203,7 @@ fn complaint_about<R: AllocGlobal + Threads + Wait + Sync>(
     row: &Row<'_>,
     told: &Told,
 ) -> Result<Option<String>, AllocError> {
-    let (alloc, output) = (rt.alloc(), told.sink.bytes());
+    let (alloc, output) = (rt.alloc(), told.output.as_slice());
     if let Some(complaint) = unless_ended(alloc, row, told)? {
         return Ok(Some(complaint));
     }
@@ -190,9 +228,10 @@ pub fn play<R: AllocGlobal + Threads + Wait + Sync>(
 ) -> Result<Option<String>, AllocError> {
     for _ in 0..row.times {
         let told = told_by(rt, row)?;
-        row.output = told.sink.bytes().to_vec(rt.alloc())?;
-        if let Some(complaint) = complaint_about(rt, row, &told)? {
-            return Ok(Some(complaint));
+        let complaint = complaint_about(rt, row, &told)?;
+        row.output = told.output;
+        if complaint.is_some() {
+            return Ok(complaint);
         }
     }
     Ok(None)

@@ -1,3 +1,5 @@
+ghost use Rattle.std.specs.Prelude.{◌<◌};
+
 use std::alloc::Global;
 
 /// What is wanted of the output.
@@ -83,5 +85,12 @@ impl<'t> Row<'t> {
             in_output: false,
             output: Vec::new(alloc),
         }
+    }
+
+    /// The most bytes that a call of the source gives, at place 0, or that one of the sink takes, at place 1.
+    pub fn piece(&self, place: usize) -> u32
+        ensures { 0 < result }
+    {
+        self.pieces.get(place).copied().unwrap_or(u32::MAX).max(1)
     }
 }

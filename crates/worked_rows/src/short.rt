@@ -3,17 +3,19 @@ ghost use Rattle.env_io.specs.Memory.{taken_by};
 
 use env_io::{Failed, MemSink, MemSource, Sink, Source};
 
-/// A source that gives only so many bytes a call.
+/// A source that may fail, and gives only so many bytes a call.
 #[derive(Drop)]
 pub struct ShortSource {
-    pub source: MemSource,
+    source: MemSource,
     most: usize,
     ghost some: { 0 < most },
 }
 
 impl ShortSource {
-    pub fn new(source: MemSource, most: u32) -> ShortSource {
-        let most = (most as usize).max(1);
+    pub fn new(source: MemSource, most: u32) -> ShortSource
+        requires { 0 < most }
+    {
+        let most = most as usize;
         ShortSource { source, most }
     }
 }
@@ -29,7 +31,7 @@ impl Source for ShortSource {
     }
 }
 
-/// A sink that takes only so many bytes a call.
+/// A sink that may fail, and takes only so many bytes a call.
 #[derive(Drop)]
 pub struct ShortSink {
     pub sink: MemSink,
@@ -38,14 +40,16 @@ pub struct ShortSink {
 }
 
 impl ShortSink {
-    pub fn new(sink: MemSink, most: u32) -> ShortSink {
-        let most = (most as usize).max(1);
+    pub fn new(sink: MemSink, most: u32) -> ShortSink
+        requires { 0 < most }
+    {
+        let most = most as usize;
         ShortSink { sink, most }
     }
 }
 
 impl Sink for ShortSink {
-    ghost holds = { λ s. taken_by s.sink };
+    ghost holds = { λ s. taken_by s.sink.store };
 
     ghost faults = { λ s. s.sink.plan.faults };
 

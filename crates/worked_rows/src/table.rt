@@ -93,18 +93,32 @@ fn add_digits(bytes: &mut Vec<u8>, text: &str) -> Result<()> {
     Ok(())
 }
 
-/// Adds what an earlier row was given or wrote: `output of NAME`.
+/// The first lines of a text, at most so many.
+fn first_lines(text: &[u8], lines: usize) -> &[u8] {
+    let mut end = 0usize;
+    for line in text.split_inclusive(|byte| *byte == b'\n').take(lines) {
+        end = end.saturating_add(line.len());
+    }
+    text.get(..end).unwrap_or(text)
+}
+
+/// Adds what an earlier row was given or wrote: `input of NAME`, `output of NAME`, or `first 3 of NAME`, its first lines.
 fn add_earlier(bytes: &mut Vec<u8>, rows: &[Row<'_>], text: &str) -> Result<()> {
     let (what, name) = text.split_once(" of ").context("no row is named")?;
     let row = rows
         .iter()
         .rfind(|row| row.name == name)
         .context("no earlier row has this name")?;
-    bytes.extend_from_slice(match what {
-        "input" => &row.input,
-        "output" => &row.output,
-        _ => bail!("neither the input nor the output"),
-    })?;
+    let all = match what {
+        "input" => row.input.as_slice(),
+        _ => row.output.as_slice(),
+    };
+    let lines = match what.split_once(" ") {
+        Some(("first", lines)) => number_of(lines)?,
+        None if what == "input" || what == "output" => usize::MAX,
+        _ => bail!("neither the input, nor the output or its first lines"),
+    };
+    bytes.extend_from_slice(first_lines(all, lines))?;
     Ok(())
 }
 

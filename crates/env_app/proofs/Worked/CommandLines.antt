@@ -3,7 +3,7 @@ use Rattle.std.proofs.Common.{◌≡◌, ℕ, true, false, List, [], ◌∷◌, 
 use Rattle.std.specs.Fmt.{digits}
 use Rattle.clap.proofs.OnLiterals.{clap_on_literals}
 use Rattle.env_app.specs.declared.words.Command.{Command}
-use Rattle.env_app.specs.declared.words.Command.TheVariants.{Run, Check, Generate, Bench}
+use Rattle.env_app.specs.declared.words.Command.TheVariants.{Run, Check, Reply, Trace, Nest, Generate, Bench}
 use Rattle.env_app.specs.CommandLine.{number_named, command_of}
 
 -- the words behind the program's name, and the command that they are, if they are one
@@ -32,6 +32,9 @@ commands =
     ∷ good (codes "run" ∷ codes "--step" ∷ codes "1000000000000" ∷ codes "--json" ∷ []) (Run (Some 1000000000000) true)  -- the greatest step
     ∷ good (codes "--" ∷ codes "run" ∷ []) (Run None false)  -- behind `--`, which ends the options
     ∷ good (codes "check" ∷ []) Check
+    ∷ good (codes "reply" ∷ []) Reply
+    ∷ good (codes "trace" ∷ []) Trace
+    ∷ good (codes "nest" ∷ []) Nest
     ∷ []
 
 commands_right : AreRight commands
@@ -61,6 +64,8 @@ bad_modes =
     ∷ bad (codes "run" ∷ codes "run" ∷ [])
     ∷ bad (codes "run" ∷ codes "check" ∷ [])
     ∷ bad (codes "generate" ∷ [])
+    ∷ bad (codes "replies" ∷ [])
+    ∷ bad (codes "nest" ∷ codes "trace" ∷ [])
     ∷ bad (codes "help" ∷ [])
     ∷ []
 
@@ -111,6 +116,12 @@ others_options =
     ∷ bad (codes "check" ∷ codes "--json" ∷ [])
     ∷ bad (codes "check" ∷ codes "--step" ∷ codes "1" ∷ [])
     ∷ bad (codes "check" ∷ codes "--size" ∷ codes "3" ∷ [])
+    ∷ bad (codes "reply" ∷ codes "--json" ∷ [])
+    ∷ bad (codes "reply" ∷ codes "--step" ∷ codes "1" ∷ [])
+    ∷ bad (codes "trace" ∷ codes "--json" ∷ [])
+    ∷ bad (codes "trace" ∷ codes "--number" ∷ codes "0" ∷ [])
+    ∷ bad (codes "nest" ∷ codes "--step" ∷ codes "1" ∷ [])
+    ∷ bad (codes "nest" ∷ codes "--size" ∷ codes "3" ∷ [])
     ∷ bad (codes "gen" ∷ codes "--step" ∷ codes "1" ∷ [])
     ∷ bad (codes "gen" ∷ codes "--json" ∷ [])
     ∷ bad (codes "bench" ∷ codes "--json" ∷ [])

@@ -4,7 +4,7 @@ use Rattle.std.proofs.lemmas.List.{take_rest}
 use Rattle.run_log.specs.TextLines.{text_lines}
 use Rattle.run_log.proofs.SplitLines.{YieldsList-from_lines}
 use Rattle.run_log.proofs.Turns.{turn_of, end_of}
-use Rattle.env_app.proofs.Passed.{all_script, line_within, log_behind, no_log, one_more, script_before}
+use Rattle.env_app.proofs.Passed.{all_script, line_within, rest_behind, nothing_behind, one_more, script_before}
 use Rattle.env_app.proofs.parts.parts_of.Goals as goal
 
 pub overflow_add-next : goal.overflow_add-next
@@ -47,13 +47,13 @@ returns-then-is_mark-clause-script c =
     script_before c.args.bytes.now (length c.loop-line.yielded) c.loop-line.end c.in-Some.line.now here.0 here.1 (sym c.is_mark.ensures ∙ c.if-is_mark.true)
     c.loop-line.invariant.passed
 
-pub returns-then-is_mark-clause-log : goal.returns-then-is_mark-clause-log
-returns-then-is_mark-clause-log c =
+pub returns-then-is_mark-clause-behind : goal.returns-then-is_mark-clause-behind
+returns-then-is_mark-clause-behind c =
     let here = turn_of _ (text_lines c.args.bytes.now) c.loop-line.yielded _ c.loop-line.yielded_by _ _ c.in-Some.line c.in-Some.is c.next.ensures.steps
     (YieldsList-at c.into_iter-line-iterator.ensures.into_iter_gives (YieldsList-from_lines _ c.args.bytes.now c.split_inclusive-line-items.ensures.rest
     c.split_inclusive-line-items.ensures.closure (λ x b q k. search (rules, tests)))) in
     take_rest c.args.bytes.now (c.loop-line.end + length c.in-Some.line.now)
-    ∙ log_behind c.args.bytes.now (length c.loop-line.yielded) c.loop-line.end c.in-Some.line.now here.0 here.1 (sym c.is_mark.ensures ∙ c.if-is_mark.true)
+    ∙ rest_behind c.args.bytes.now (length c.loop-line.yielded) c.loop-line.end c.in-Some.line.now here.0 here.1 (sym c.is_mark.ensures ∙ c.if-is_mark.true)
     c.loop-line.invariant.passed
 
 pub loop-line-preserved : goal.loop-line-preserved
@@ -75,9 +75,9 @@ returns-clause-script c =
     c.split_inclusive-line-items.ensures.closure (λ x b q k. search (rules, tests)))) in
     all_script c.args.bytes.now (length c.loop-line.yielded) c.loop-line.end (omega (arith, end.1)) c.loop-line.invariant.passed
 
-pub returns-clause-log : goal.returns-clause-log
-returns-clause-log c =
+pub returns-clause-behind : goal.returns-clause-behind
+returns-clause-behind c =
     let end = end_of _ (text_lines c.args.bytes.now) c.loop-line.yielded _ c.loop-line.yielded_by _ _ c.in-None.is c.next.ensures.steps
     (YieldsList-at c.into_iter-line-iterator.ensures.into_iter_gives (YieldsList-from_lines _ c.args.bytes.now c.split_inclusive-line-items.ensures.rest
     c.split_inclusive-line-items.ensures.closure (λ x b q k. search (rules, tests)))) in
-    no_log c.args.bytes.now (length c.loop-line.yielded) c.loop-line.end (omega (arith, end.1)) c.loop-line.invariant.passed
+    nothing_behind c.args.bytes.now (length c.loop-line.yielded) c.loop-line.end (omega (arith, end.1)) c.loop-line.invariant.passed

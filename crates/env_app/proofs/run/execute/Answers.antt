@@ -1,15 +1,38 @@
+use Rattle.std.proofs.Common.{Some}
+use Rattle.env_app.specs.declared.words.Command.TheVariants.{Check, Generate, Bench}
 use Rattle.env_app.specs.Outcome.{ends}
+use Rattle.env_app.proofs.Outcomes.{ends_in_common}
 use Rattle.env_app.proofs.run.execute.Goals as goal
 
 pub returns-in-Check-clause-outcome : goal.returns-in-Check-clause-outcome
-returns-in-Check-clause-outcome g c = rw c.in-Check.is (c.judge.ensures.outcome (g.C.Clock.readings c.args.clock.now))
+returns-in-Check-clause-outcome g c =
+    let told = g.C.Clock.readings c.args.clock.now in
+    rw (c.in-Check.is, c.common-in-Check.ensures)
+    (ends_in_common (Some Check) told
+    (ends (g.S.Source.left c.args.source.now) (g.S.Source.left c.judge.new.source) (g.S.Source.faults c.args.source.now) (g.S.Source.faults c.judge.new.source))
+    (ends (g.K.Sink.holds c.args.sink.now) (g.K.Sink.holds c.judge.new.sink) (g.K.Sink.faults c.args.sink.now) (g.K.Sink.faults c.judge.new.sink))
+    c.judge.result (c.judge.ensures.outcome told))
+
+pub returns-in-Trace-clause-outcome : goal.returns-in-Trace-clause-outcome
+returns-in-Trace-clause-outcome g c = rw c.in-Trace.is (c.trace.ensures.outcome (g.C.Clock.readings c.args.clock.now))
+
+pub returns-in-Nest-clause-outcome : goal.returns-in-Nest-clause-outcome
+returns-in-Nest-clause-outcome g c = rw c.in-Nest.is (c.run_nest_script.ensures.outcome (g.C.Clock.readings c.args.clock.now))
 
 pub returns-in-Generate-clause-outcome : goal.returns-in-Generate-clause-outcome
 returns-in-Generate-clause-outcome g c =
+    let told = g.C.Clock.readings c.args.clock.now in
     let left = g.S.Source.left c.args.source.now in let count = g.S.Source.faults c.args.source.now in
-    rw c.in-Generate.is (c.write_generated.ensures.outcome (g.C.Clock.readings c.args.clock.now) (ends left left count count))
+    rw (c.in-Generate.is, c.common-in-Generate.ensures)
+    (ends_in_common (Some (Generate c.in-Generate.number c.in-Generate.size)) told (ends left left count count)
+    (ends (g.K.Sink.holds c.args.sink.now) (g.K.Sink.holds c.write_generated.new.sink) (g.K.Sink.faults c.args.sink.now) (g.K.Sink.faults c.write_generated.new.sink))
+    c.write_generated.result (c.write_generated.ensures.outcome told (ends left left count count)))
 
 pub returns-in-Bench-clause-outcome : goal.returns-in-Bench-clause-outcome
 returns-in-Bench-clause-outcome g c =
+    let told = g.C.Clock.readings c.args.clock.now in
     let left = g.S.Source.left c.args.source.now in let count = g.S.Source.faults c.args.source.now in
-    rw c.in-Bench.is (c.run_generated.ensures.outcome (g.C.Clock.readings c.args.clock.now) (ends left left count count))
+    rw (c.in-Bench.is, c.common-in-Bench.ensures)
+    (ends_in_common (Some (Bench c.in-Bench.number c.in-Bench.size)) told (ends left left count count)
+    (ends (g.K.Sink.holds c.args.sink.now) (g.K.Sink.holds c.run_generated.new.sink) (g.K.Sink.faults c.args.sink.now) (g.K.Sink.faults c.run_generated.new.sink))
+    c.run_generated.result (c.run_generated.ensures.outcome told (ends left left count count)))

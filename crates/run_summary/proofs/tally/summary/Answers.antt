@@ -13,6 +13,6 @@ ended_items-requires c = rw c.as_slice-entries.ensures
     (omega (arith, entries_within_limit c.args.script.now c.args.log.now.items c.requires.plan c.requires.legal))
 
 pub returns : goal.returns
-returns c = rw (← c.as_slice-entries.ensures) (figures c.args.script.now c.as_slice-entries.result.now c.in_ok-cells.cells c.ended_tasks.result
-    c.ended_items.result c.sum.result c.sum_of_values.result c.in_ok-cells.ensures c.ended_tasks.ensures c.ended_items.ensures c.sum.ensures
+returns c = rw (← c.as_slice-entries.ensures) (figures c.args.script.now c.as_slice-entries.result.now c.cells_behind-cells.result c.ended_tasks.result
+    c.ended_items.result c.sum.result c.sum_of_values.result c.cells_behind-cells.ensures c.ended_tasks.ensures c.ended_items.ensures c.sum.ensures
     c.sum_of_values.ensures)

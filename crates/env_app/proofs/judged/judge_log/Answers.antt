@@ -1,6 +1,6 @@
 use Rattle.std.proofs.Common.{arith, sym, ◌∙◌}
 use Rattle.env_app.proofs.Verdicts.{few_entries, place_within}
-use Rattle.env_app.proofs.check.wrong_line.Goals as goal
+use Rattle.env_app.proofs.judged.judge_log.Goals as goal
 
 pub overflow_add-result : goal.overflow_add-result
 overflow_add-result c =

@@ -1,11 +1,12 @@
-//! A run on threads, with bodies and a gate of the test's own.
-use crate::bodies::{Word, bodies_of};
+//! Runs on threads, with bodies and gates of the tests' own.
 use env_app::run_crew;
 use env_io::{Gate, ListClock};
+use std::hint;
 use std::sync::Arc;
 use std::sync::atomic::{AtomicU64, Ordering};
 use std::test::Fail;
 use task_script::read_script;
+use worked_calls::{Word, bodies_of};
 
 /// A gate that numbers its calls from 1, and keeps for each of three tasks the number of its call, and how many steps
 /// were done before it.
@@ -62,5 +63,58 @@ fn gate_is_passed_once_a_task_before_its_first_step(rt: HostRuntime) -> Result<(
         assert_eq!(rt; steps.load(Ordering::SeqCst), wanted);
     }
     assert_eq!(rt; word.load(Ordering::SeqCst), 6);
+    Ok(())
+}
+
+/// A gate at which each worker waits until three have come, and that counts those that saw it.
+#[derive(Drop)]
+struct MeetingGate {
+    came: AtomicU64,
+    met: AtomicU64,
+}
+
+impl MeetingGate {
+    /// Looks so long that only a worker without a thread can be missing.
+    fn sees_three(&self) -> bool {
+        for _ in 0..2_000_000_000u64 {
+            if self.came.load(Ordering::SeqCst) >= 3 {
+                return true;
+            }
+            hint::spin_loop();
+        }
+        false
+    }
+}
+
+impl Gate for MeetingGate {
+    fn before(&self, _seat: u32, _task: u32) {
+        self.came.fetch_add(1, Ordering::SeqCst);
+        if self.sees_three() {
+            self.met.fetch_add(1, Ordering::SeqCst);
+        }
+    }
+}
+
+/// Three tasks that may run side by side.
+const SIDE_BY_SIDE: &str = "workers 3\n\
+    runner 0 parallel user_visible skip\n\
+    task 0 add 1\ntask 1 add 1\ntask 2 add 1\n\
+    post 0 0 0\npost 1 0 0\npost 2 0 0\nflush\n";
+
+#[test]
+fn each_worker_has_a_thread_of_its_own(rt: HostRuntime) -> Result<(), Fail> {
+    let Ok(script) = read_script(rt.alloc(), SIDE_BY_SIDE.as_bytes()) else {
+        panic!(rt; "the script is not read")
+    };
+    let word = Arc::new(rt.alloc(), AtomicU64::new(0))?;
+    let bodies = bodies_of(rt.alloc(), &script, &word)?;
+    let gate = MeetingGate {
+        came: AtomicU64::new(0),
+        met: AtomicU64::new(0),
+    };
+    let mut clock = ListClock::new(Vec::new(rt.alloc()));
+    let env = run_crew(&rt, rt.alloc(), &script, bodies, &mut clock, &gate)?;
+    assert_eq!(rt; env.into_log().len(), 10);
+    assert_eq!(rt; gate.met.load(Ordering::SeqCst), 3);
     Ok(())
 }

@@ -1,0 +1,36 @@
+//! What a log is found to be: judged by its text, for the modes `check` and `trace`.
+ghost use Rattle.std.specs.Prelude.{◌≤◌, IfOk, length};
+ghost use Rattle.task_base.specs.declared.limits.TheConstants.{MOST_BYTES};
+ghost use Rattle.script_model.specs.Laws.Sound.{IsSound};
+ghost use Rattle.env_app.specs.Judged.{IsJudged};
+
+use env_check::{Verdict, check_log};
+use run_log::{LogFault, read_log};
+use std::alloc::{AllocError, Global};
+use task_base::{Entry, Rows, Script};
+
+/// What the text of a log is found to be.
+#[derive(Drop)]
+pub enum Judged {
+    /// The text of this log, which is that of a whole run.
+    Whole(Rows<Entry>),
+    /// No such text, by this line, which counts from 1.
+    Wrong { line: u32 },
+}
+
+/// Judges whether the text is the log of a whole run of the script. The error is want of memory.
+pub fn judge_log(alloc: Global, script: &Script, text: &[u8]) -> Result<Judged, AllocError>
+    requires plan { IsSound script.now }
+    requires short { length text.now ≤ MOST_BYTES }
+    ensures { IfOk result (IsJudged script.now text.now) }
+{
+    let log = match read_log(alloc, text) {
+        Ok(log) => log,
+        Err(LogFault::Bad { line }) => return Ok(Judged::Wrong { line }),
+        Err(LogFault::Memory(error)) => return Err(error),
+    };
+    match check_log(alloc, script, &log)? {
+        Verdict::Legal => Ok(Judged::Whole(log)),
+        Verdict::Illegal { place } => Ok(Judged::Wrong { line: place + 1 }),
+    }
+}

@@ -1,0 +1,24 @@
+mod Worked
+pub mod Comes
+pub mod WorkedReads
+pub mod Numerals
+pub mod Pieces
+pub mod Posted
+pub mod Ranges
+pub mod SoundNests
+pub mod LinesOfText
+pub mod Taken
+pub mod Unique
+pub mod Growth
+pub mod Chosen
+pub mod Left
+pub mod Known
+pub mod Plain
+pub mod Choice
+pub mod Front
+pub mod Deferrals
+pub mod MainScript
+pub mod Kept
+pub mod Parts
+pub mod LegalNests
+pub mod Made

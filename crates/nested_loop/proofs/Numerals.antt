@@ -1,0 +1,26 @@
+-- The number that a word writes: the text of digits, their value, and the range that it must lie in.
+use Rattle.std.proofs.Common.{◌≡◌, ℕ, ◌<◌, ◌^◌, true, false, cond, ltb, leb, List, Some, None, refl, sym, inl, inr, arith}
+use Rattle.std.specs.Str.Parse.{digits_value}
+use Rattle.std.proofs.lemmas.Bool.{cases_lt, lt-ltb, le-ltb, lt-leb}
+use Rattle.std.proofs.Math.Bool.{and-false}
+use Rattle.numeral_text.specs.Numeral.{value_of}
+use Rattle.nested_loop.specs.NestWords.{within, number_in}
+use Rattle.nested_loop.specs.Texts.{has_form}
+
+-- a word of another form is no number
+pub number_in-no_numeral : (low high : ℕ) (word : List ℕ) → has_form word ≡ false → number_in low high word ≡ None
+unfolding number_in
+number_in-no_numeral low high word h = rw h refl
+
+-- a number that 64 bits do not hold is in no range that they hold
+wide : (low high n : ℕ) → high < 2 ^ 64 → within low high (cond (ltb n (2 ^ 64)) (Some n) None) ≡ within low high (Some n)
+wide low high n fits =
+    elim (cases_lt n (2 ^ 64)) [
+      | inl lt ↦ rw (lt-ltb n (2 ^ 64) lt) refl
+      | inr le ↦ rw (le-ltb n (2 ^ 64) le, lt-leb n high (omega arith), and-false (leb low n)) refl
+    ]
+
+-- a word of the form of a number is the number that it writes
+pub number_in-numeral : (low high : ℕ) (word : List ℕ) → high < 2 ^ 64 → has_form word ≡ true → number_in low high word ≡ within low high (value_of word)
+unfolding number_in
+number_in-numeral low high word fits h = rw h (sym (wide low high (digits_value 10 word) fits))

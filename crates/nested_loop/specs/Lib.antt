@@ -1,0 +1,16 @@
+pub mod Plan
+pub mod Sound
+pub mod Texts
+pub mod NestReasons
+pub mod NestWords
+pub mod NestLines
+pub mod NestGrammar
+pub mod NestText
+pub mod Nest
+pub mod Reader
+pub mod NestLaws
+pub mod Room
+pub mod Waiting
+pub mod Keeping
+pub mod Ended
+pub mod Stands

@@ -1,0 +1,12 @@
+pub mod FewWords
+pub mod Growing
+pub mod StaysSound
+pub mod MarkedTasks
+pub mod Reasons
+pub mod Standing
+pub mod LinesSoFar
+pub mod OnePosting
+pub mod Runs
+pub mod RepliesOfLogs
+pub mod OneScript
+pub mod Worked

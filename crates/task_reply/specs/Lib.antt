@@ -1,0 +1,5 @@
+pub mod Replies
+pub mod Elaborated
+pub mod Fault
+pub mod Laws
+pub mod Tables

@@ -1,0 +1,5 @@
+mod Worked
+mod Texts
+mod Events
+mod Turns
+mod Sequences

@@ -1,0 +1,5 @@
+//! Tests of the program's run on threads as a call, with bodies and gates of their own.
+#![tactic(auto)]
+
+#[cfg(test)]
+mod crew;
