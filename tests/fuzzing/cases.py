@@ -1,0 +1,186 @@
+"""The kinds of input that are tried. A case has lines, which may be cut down, and judges what the program makes of them."""
+import re
+
+import damage
+import logs
+import promises
+from program import REASONS, Wrong
+from scripts import spelled_anew, text_of
+
+MARK = b"%%\n"
+BYTES = b" \t\r\n;#%-0123456789abc\x00\x80\xff"
+
+
+def script_fault(told):
+    """The line and the reason of a bad script."""
+    line, reason = re.findall(rb"\d+", told.notes)
+    return int(line), int(reason)
+
+
+def want(told, status, output=b""):
+    """Refuses another status than this, and other output."""
+    if told.status != status or told.output != output:
+        raise Wrong(f"not status {status}, {output}", f"status {told.status}, {told.output[:200]}, {told.notes}")
+
+
+class Case:
+    """Lines of a script, and the random choices of this input, which are the same each time it is judged."""
+
+    def __init__(self, program, lines, choices):
+        self.program = program
+        self.lines = lines
+        self.choices = choices
+
+    def line(self, line):
+        """How a line is shown."""
+        return line
+
+    def run_words(self, rng):
+        """The words of a run, with or without a step, and the step."""
+        step = rng.choice([None, 1, 7, 10**12])
+        return (["run"] if step is None else ["run", "--step", str(step)]), step
+
+    def run_good(self, words, lines):
+        """The output of a run of a good script."""
+        told = self.program.run(words, text_of(lines))
+        if told.status == 3:
+            line, reason = script_fault(told)
+            raise Wrong(f"a good script is refused: reason {reason}: {lines[line - 1 : line]}", told.notes)
+        if told.status != 0:
+            raise Wrong(f"a good script ends with status {told.status}")
+        return told.output
+
+
+class GoodScript(Case):
+    """A run of a good script writes a log that is legal, in whatever spelling, and in JSON too."""
+
+    def judge(self, lines):
+        rng = self.choices()
+        words, step = self.run_words(rng)
+        script = text_of(lines)
+        log = self.run_good(words, lines)
+        self.look_at(lines, logs.entries_of(log), step)
+        want(self.program.run(["check"], script + MARK + log), 0, b"legal\n")
+        spelling = spelled_anew(rng, lines)
+        entries = logs.entries_of_json(self.run_good(words + ["--json"], spelling))
+        self.look_at(lines, entries, step)
+        want(self.program.run(["check"], text_of(spelling) + MARK + logs.text_of(entries)), 0, b"legal\n")
+
+    def look_at(self, lines, entries, step):
+        """Refuses a log that breaks a promise. With a step, the moments are its multiples, as far as a moment may go."""
+        promises.look_at(lines, entries)
+        moments = [int(entry[2]) for entry in entries if entry[1] == "tick"]
+        if step and moments != [min(step * (place + 1), 2**62) for place in range(len(moments))]:
+            raise Wrong("other moments than those of the step", moments)
+
+
+class EditedLog(Case):
+    """A log with one edit is judged at the line that the edit made bad, or no earlier one."""
+
+    def judge(self, lines):
+        rng = self.choices()
+        log = self.run_good(["run"], lines)
+        entries = logs.entries_of(log)
+        busy = logs.busy_seats(entries)
+        for edit in rng.sample(logs.EXACT + logs.EARLIEST, 5):
+            places = [edit(rng, entries, place, busy) for place in range(len(entries))]
+            places = [edited for edited in places if edited]
+            if places:
+                self.judge_edit(lines, edit, *rng.choice(places))
+        if log:
+            last = b"illegal %d\n" % log.count(b"\n")
+            want(self.program.run(["check"], text_of(lines) + MARK + log[:-1]), 1, last)
+
+    def judge_edit(self, lines, edit, edited, place):
+        log = "".join(line + "\n" for line in edited).encode()
+        told = self.program.run(["check"], text_of(lines) + MARK + log)
+        found = int(told.output.split()[1]) if told.status == 1 else 0
+        if found <= place or edit in logs.EXACT and found != place + 1:
+            raise Wrong(f"an edit is not found: {edit.__name__}", f"line {place + 1}, {told.output}\n{log.decode()}")
+
+
+class DamagedScript(Case):
+    """Of a script with one bad line, this line is told, with its reason. Its lines are numbered, to know the bad one."""
+
+    def __init__(self, program, lines, choices):
+        super().__init__(program, list(enumerate(lines)), choices)
+        rng = choices()
+        self.bad = rng.randrange(len(lines)) if lines else None
+        self.damage = rng.choice(damage.KINDS)
+
+    def line(self, line):
+        return line[1]
+
+    def judge(self, lines):
+        rng = self.choices()
+        place = next((place for place, (number, _) in enumerate(lines) if number == self.bad), None)
+        lines = [line for _, line in lines]
+        damaged = place is not None and self.damage(rng, lines, place)
+        if not damaged or self.program.run(["run"], text_of(lines)).status != 0:
+            return
+        parts, offset, reason = damaged
+        lines[place : place + 1] = parts
+        told = self.program.run(rng.choice([["run"], ["check"], ["run", "--json"]]), text_of(lines))
+        note = f"bad script: line {place + offset + 1}: reason {reason} {REASONS[reason - 1]}\n".encode()
+        if told.status != 3 or told.notes != note:
+            raise Wrong(f"{self.damage.__name__}: {parts}: not {note}", f"status {told.status}, {told.notes}")
+
+
+class AnyBytes(Case):
+    """Whatever bytes are broken: the first bad line is none before them, and what is a script still runs."""
+
+    def judge(self, lines):
+        rng = self.choices()
+        good = text_of(lines)
+        script = bytearray(good + rng.choice([b"", MARK, MARK + b"0 0 idle\n"]))
+        first = len(good)
+        for _ in range(rng.choice([1, 1, 3])):
+            at, length = rng.randrange(len(script) + 1), rng.choice([0, 1, 1, 10])
+            script[at : at + length] = bytes(rng.choices(BYTES, k=rng.choice([0, 1, 2])))
+            first = min(first, at)
+        words, _ = self.run_words(rng)
+        told = self.program.run(words, bytes(script))
+        if told.status == 0:
+            told = self.program.run(["check"], bytes(script) + b"\n" + MARK + told.output)
+            want(told, 0, b"legal\n")
+        elif told.status != 3 or script_fault(told)[0] <= script[:first].count(b"\n"):
+            raise Wrong("broken bytes", f"status {told.status}, {told.notes}, of {bytes(script)}")
+        told = self.program.run(["check"], bytes(script))
+        if told.status not in (0, 1, 3):
+            raise Wrong(f"a check ends with status {told.status}")
+
+
+class FullDevice(Case):
+    """Where the output can't be written the status says so."""
+
+    def judge(self, lines):
+        rng = self.choices()
+        words, _ = self.run_words(rng)
+        words += rng.choice([[], ["--json"]])
+        if self.run_good(words, lines):
+            with open("/dev/full", "wb") as full:
+                want(self.program.run(words, text_of(lines), full), 5)
+
+
+class Words(Case):
+    """Words are accepted or not, whatever the input is."""
+
+    def judge(self, lines):
+        rng = self.choices()
+        mode = rng.choice(["gen", "bench", "run"])
+        options = [("--number", str(rng.randrange(2**64))), ("--size", str(rng.choice([1, 2, rng.randint(1, 300)])))]
+        if mode == "run":
+            options = [("--step", str(rng.randint(1, 10**12)))]
+        options = rng.sample(options, rng.randint(0, len(options)))
+        words = [rng.choice([[name, value], [f"{name}={value}"]]) for name, value in options] + [[mode]]
+        rng.shuffle(words)
+        told = self.program.run(sum(words, []), text_of(lines))
+        if told.status != 0:
+            raise Wrong(f"good words: {words}", f"status {told.status}")
+        if mode == "gen":
+            self.run_good(["run"], told.output.decode().splitlines())
+        bad = rng.choice([["run"], ["--step", "0"], ["--size", "8193"], ["--help"], ["--fast"], [""], ["--number", "1x"]])
+        want(self.program.run(sum(words, bad), text_of(lines)), 2)
+
+
+KINDS = [GoodScript] * 4 + [EditedLog] * 3 + [DamagedScript] * 3 + [AnyBytes] * 2 + [FullDevice, Words]
