@@ -1,14 +1,14 @@
 -- The order of a heap: how it is lost at one place, and won back by exchanges.
 use Rattle.std.proofs.Common.{◌≡◌, ℕ, zero, suc, ◌+◌, ◌<◌, ◌≤◌, Bool, true, false, eqb, Option, Some, None, refl, sym, subst, ◌∙◌, inl, inr, arith}
-use Rattle.std.specs.Prelude.{◌≢◌, ◌⊎◌, nat_lt, ◌&&◌, ◌||◌}
-use Rattle.std.proofs.lemmas.Bool.{true≢false, cases_order}
+use Rattle.std.specs.Prelude.{◌≢◌, ◌⊎◌, nat_lt, ◌&&◌, ◌||◌, is_some}
+use Rattle.std.proofs.lemmas.Bool.{true≢false, cases_lt, le-ltb}
 use Rattle.list_laws.specs.Lists.{Ranks, then_by}
 use Rattle.list_laws.proofs.Ranks.{ranks_by, ranks_then_by, ranks_turned}
 use Rattle.task_base.specs.Groups.{importance}
 use Rattle.task_base.specs.Keys.{key_below}
 use Rattle.sequence_queue.specs.declared.rank.Rank.{Rank}
 use Rattle.sequence_queue.specs.Ranked.{rank_below}
-use Rattle.sequence_queue.specs.Heap.{before, IsChild, IsOrdered, IsLoosely, IsAbove, IsBelow, Exchanged}
+use Rattle.sequence_queue.specs.Heap.{before, HasFirst, IsChild, IsOrdered, IsLoosely, IsAbove, IsBelow, Changed, Exchanged}
 
 -- ranks are ranked
 ranks_rank_below : Ranks rank_below
@@ -32,6 +32,11 @@ pub one_way : (a b : Option Rank) → before a b ≡ true → before b a ≡ fal
 one_way None b h = absurd (true≢false (sym h))
 one_way (Some a) None h = refl
 one_way (Some a) (Some b) h = ranks_rank_below.one_way a b h
+
+-- nothing goes before itself
+pub itself : (a : Option Rank) → before a a ≡ false
+itself None = refl
+itself (Some a) = ranks_rank_below.itself a
 
 -- a change at one place
 pub loosened : (f g : ℕ → Option Rank) (n k : ℕ) → IsOrdered f n → ((i : ℕ) → i < n → i ≢ k → g i ≡ f i) → IsLoosely g n k
@@ -57,12 +62,7 @@ one_above c i j first second = grind arith
 
 -- where none below a place goes before it, and it doesn't go before the one above it, the order is whole
 pub whole : (f : ℕ → Option Rank) (n k : ℕ) → IsLoosely f n k → IsAbove f n k → IsBelow f k → IsOrdered f n
-whole f n k loose above below i c child lt = by (cases_order c k) (cases_order i k)
-  where
-    by : (c ≡ k) ⊎ ((c < k) ⊎ (k < c)) → (i ≡ k) ⊎ ((i < k) ⊎ (k < i)) → before (f c) (f i) ≡ false
-    by (inl is) up = subst (λ (x : ℕ). before (f x) (f i) ≡ false) (sym is) (below i (subst (λ (x : ℕ). IsChild x i) is child))
-    by (inr other) (inl is) = subst (λ (x : ℕ). before (f c) (f x) ≡ false) (sym is) (above c (subst (λ (x : ℕ). IsChild c x) is child) lt)
-    by (inr other) (inr up) = loose.elsewhere i c child lt (λ is. grind arith) (λ is. grind arith)
+whole f n k loose above below i c child lt = grind (arith, loose.elsewhere i c child lt, above c, below i)
 
 -- a number that goes before the one above it goes before those below it
 pub is_above : (f : ℕ → Option Rank) (n k i : ℕ) → IsLoosely f n k → IsChild k i → before (f k) (f i) ≡ true → IsAbove f n k
@@ -74,40 +74,17 @@ pub risen : (f g : ℕ → Option Rank) (n k p : ℕ) → IsLoosely f n k → Is
 risen f g n k p loose high child lt goes exchanged = (record { elsewhere = elsewhere; around = around }, above)
   where
     elsewhere : (i c : ℕ) → IsChild c i → c < n → c ≢ p → i ≢ p → before (g c) (g i) ≡ false
-    elsewhere i c below less other up = by (cases_order i k)
-      where
-        by : (i ≡ k) ⊎ ((i < k) ⊎ (k < i)) → before (g c) (g i) ≡ false
-        by (inl is) = rw (is, exchanged.first, exchanged.others c (λ same. apart c i below (same ∙ sym is)) other)
-            (loose.around p c child (subst (λ (x : ℕ). IsChild c x) is below) less)
-        by (inr not_k) = rw (
-          exchanged.others c (λ same. up (one_above k i p (subst (λ (x : ℕ). IsChild x i) same below) child)) other,
-          exchanged.others i (λ same. grind arith) up,
-        )
-            (loose.elsewhere i c below less (λ same. up (one_above k i p (subst (λ (x : ℕ). IsChild x i) same below) child)) (λ same. grind arith))
+    elsewhere i c below less other up =
+        grind (arith, exchanged.others c, exchanged.others i, loose.around p c child, loose.elsewhere i c below less)
 
     above : IsAbove g n p
-    above c below less = by (cases_order c k)
-      where
-        by : (c ≡ k) ⊎ ((c < k) ⊎ (k < c)) → before (g c) (g p) ≡ false
-        by (inl is) = rw (is, exchanged.first, exchanged.second) (one_way (f k) (f p) goes)
-        by (inr not_k) = rw (exchanged.second, exchanged.others c (λ same. grind arith) (apart c p below))
-            (through (f c) (f p) (f k) (loose.elsewhere p c below less (λ same. grind arith) (λ same. apart k p child (sym same)))
-            (one_way (f k) (f p) goes))
+    above c below less =
+        let turned = one_way (f k) (f p) goes in
+        grind (arith, exchanged.others c, loose.elsewhere p c below less, through (f c) (f p) (f k))
 
     around : (i c : ℕ) → IsChild p i → IsChild c p → c < n → before (g c) (g i) ≡ false
-    around i c up below less = by (cases_order c k)
-      where
-        old_above : before (f p) (f i) ≡ false
-        old_above = loose.elsewhere i p up (grind arith) (λ same. apart k p child (sym same)) (λ same. grind arith)
-
-        by : (c ≡ k) ⊎ ((c < k) ⊎ (k < c)) → before (g c) (g i) ≡ false
-        by (inl is) = rw (is, exchanged.first, exchanged.others i (λ same. grind arith) (λ same. apart p i up (sym same))) old_above
-        by (inr not_k) = rw (
-          exchanged.others c (λ same. grind arith) (apart c p below),
-          exchanged.others i (λ same. grind arith)
-              (λ same. apart p i up (sym same)),
-        )
-            (through (f c) (f p) (f i) (loose.elsewhere p c below less (λ same. grind arith) (λ same. apart k p child (sym same))) old_above)
+    around i c up below less =
+        grind (arith, exchanged.others c, exchanged.others i, loose.elsewhere i p up, loose.elsewhere p c below less, through (f c) (f p) (f i))
 
 -- an exchange with the place below that goes before the other
 pub sunk : (f g : ℕ → Option Rank) (n k b : ℕ) → IsLoosely f n k → IsBelow f k → IsChild b k → b < n
@@ -115,22 +92,63 @@ pub sunk : (f g : ℕ → Option Rank) (n k b : ℕ) → IsLoosely f n k → IsB
 sunk f g n k b loose low child lt least goes exchanged = (record { elsewhere = elsewhere; around = around }, below_it)
   where
     elsewhere : (i c : ℕ) → IsChild c i → c < n → c ≢ b → i ≢ b → before (g c) (g i) ≡ false
-    elsewhere i c below less other up = by (cases_order c k) (cases_order i k)
-      where
-        by : (c ≡ k) ⊎ ((c < k) ⊎ (k < c)) → (i ≡ k) ⊎ ((i < k) ⊎ (k < i)) → before (g c) (g i) ≡ false
-        by (inl is) not_k = rw (is, exchanged.first, exchanged.others i (λ same. apart c i below (is ∙ sym same)) up)
-            (loose.around i b (subst (λ (x : ℕ). IsChild x i) is below) child lt)
-        by (inr not_k) (inl is) = rw (is, exchanged.first, exchanged.others c (λ same. grind arith) other)
-            (least c (subst (λ (x : ℕ). IsChild c x) is below) less)
-        by (inr not_k) (inr up_not_k) = rw (exchanged.others c (λ same. grind arith) other, exchanged.others i (λ same. grind arith) up)
-            (loose.elsewhere i c below less (λ same. grind arith) (λ same. grind arith))
+    elsewhere i c below less other up =
+        grind (arith, exchanged.others c, exchanged.others i, loose.around i b, least c, loose.elsewhere i c below less)
 
     around : (i c : ℕ) → IsChild b i → IsChild c b → c < n → before (g c) (g i) ≡ false
-    around i c up below less = rw (one_above b i k up child, exchanged.first, exchanged.others c (λ same. grind arith) (apart c b below))
-        (loose.elsewhere b c below less (λ same. grind arith) (apart b k child))
+    around i c up below less = rw (one_above b i k up child) (grind (arith, exchanged.others c, loose.elsewhere b c below less))
 
     below_it : IsBelow g b
     below_it i up = rw (one_above b i k up child, exchanged.first, exchanged.second) (one_way (f b) (f k) goes)
+
+-- an exchange among the first places
+pub first_exchanged : (f g : ℕ → Option Rank) (n m p q : ℕ) → HasFirst f n m → n ≤ m → p < n → q < n → Exchanged f g p q → HasFirst g n m
+first_exchanged f g n m p q first le p_lt q_lt exchanged i lt =
+    grind (arith, first i lt, first p (omega arith), first q (omega arith), exchanged.others i)
+
+-- what has no rank is behind the first places
+pub behind : (f : ℕ → Option Rank) (n m p : ℕ) → HasFirst f n m → p < m → f p ≡ None → n ≤ p
+behind f n m p first lt none = grind (arith, first p lt)
+
+-- what has a rank is among the first places
+pub among : (f : ℕ → Option Rank) (n m p : ℕ) → HasFirst f n m → p < m → is_some (f p) ≡ true → p < n
+among f n m p first lt some = grind (arith, first p lt)
+
+-- a rank behind the first places, brought to the first of them
+pub inserted : (f e g : ℕ → Option Rank) (n m p : ℕ) (r : Rank) → HasFirst f n m → n ≤ p → p < m → Changed f e m p (Some r) → Exchanged e g p n
+    → HasFirst g (n + 1) m
+inserted f e g n m p r first le lt changed exchanged i within =
+    grind (arith, first i within, first n (omega arith), changed.others i within, changed.others n (omega arith), exchanged.others i)
+
+-- there is no place below it
+pub end_is_loose : (f e g : ℕ → Option Rank) (n m p : ℕ) (r : Rank) → IsOrdered f n → n ≤ p → p < m → Changed f e m p (Some r) → Exchanged e g p n
+    → IsLoosely g (n + 1) n × IsAbove g (n + 1) n
+end_is_loose f e g n m p r ordered le lt changed exchanged = (
+  record { elsewhere = λ i c below less other up. rw (kept c (grind arith), kept i (grind arith)) (ordered i c below (grind arith)); around = λ i c up below less. grind arith },
+  λ c below less. grind arith,
+)
+  where
+    kept : (i : ℕ) → i < n → g i ≡ f i
+    kept i less = grind (arith, exchanged.others i, changed.others i)
+
+-- a rank of the first places taken away, and the last of them brought to its place
+pub removed : (f e g : ℕ → Option Rank) (n m p : ℕ) → HasFirst f (n + 1) m → n < m → p < n + 1 → Changed f e m p None → Exchanged e g p n
+    → HasFirst g n m
+removed f e g n m p first le lt changed exchanged i within =
+    grind (arith, first i within, first n (omega arith), changed.others i within, changed.others n (omega arith), exchanged.others i)
+
+-- the order is lost at that place alone
+pub gap_is_loose : (f e g : ℕ → Option Rank) (n m p : ℕ) → IsOrdered f (n + 1) → n < m → Changed f e m p None → Exchanged e g p n → IsLoosely g n p
+gap_is_loose f e g n m p ordered le changed exchanged =
+    loosened f g n p (λ i c child lt. ordered i c child (omega arith)) (λ i lt other. grind (arith, exchanged.others i other, changed.others i))
+
+-- it isn't lost where that place is the end
+pub end_is_whole : (f : ℕ → Option Rank) (n : ℕ) → IsLoosely f n n → IsOrdered f n
+end_is_whole f n loose i c child lt = grind (arith, loose.elsewhere i c child lt)
+
+-- another rank at one of the first places
+pub first_changed : (f g : ℕ → Option Rank) (n m p : ℕ) (r : Rank) → HasFirst f n m → p < n → Changed f g m p (Some r) → HasFirst g n m
+first_changed f g n m p r first lt changed i within = grind (arith, first i within, changed.others i within)
 
 -- each place but the first is below another
 pub parent : (i : ℕ) → (p : ℕ) × IsChild (i + 1) p × (p ≤ i)
@@ -141,16 +159,25 @@ parent (suc i) = by (parent i)
     by (p, inl left, le) = (p, inr (omega (arith, left)), omega (arith, le))
     by (p, inr right, le) = (p + 1, inl (omega (arith, right)), omega (arith, le))
 
--- nothing goes before the first place
-pub first_is_least : (f : ℕ → Option Rank) (n m i : ℕ) → IsOrdered f n → i < m → i < n → before (f i) (f 0) ≡ false
-first_is_least f n zero i ordered less lt = absurd (omega (arith, less))
-first_is_least f n (suc m) zero ordered less lt = through_itself (f 0)
-  where
-    through_itself : (a : Option Rank) → before a a ≡ false
-    through_itself None = refl
-    through_itself (Some a) = ranks_rank_below.itself a
-first_is_least f n (suc m) (suc i) ordered less lt =
+-- what has no rank
+pub is_none : (a : Option Rank) → is_some a ≡ false → a ≡ None
+is_none None h = refl
+is_none (Some a) h = absurd (true≢false h)
+
+-- no place of a heap goes before its first
+first_in_heap : (f : ℕ → Option Rank) (n m i : ℕ) → IsOrdered f n → i < m → i < n → before (f i) (f 0) ≡ false
+first_in_heap f n zero i ordered less lt = absurd (omega (arith, less))
+first_in_heap f n (suc m) zero ordered less lt = itself (f 0)
+first_in_heap f n (suc m) (suc i) ordered less lt =
     let up = parent i in
     let child : IsChild (suc i) up.0 = subst (λ (x : ℕ). IsChild x up.0) (omega arith) up.1 in
     through (f (suc i)) (f up.0) (f 0) (ordered up.0 (suc i) child lt)
-    (first_is_least f n m up.0 ordered (omega (arith, less, up.2)) (omega (arith, lt, up.2)))
+    (first_in_heap f n m up.0 ordered (omega (arith, less, up.2)) (omega (arith, lt, up.2)))
+
+-- no place at all does
+pub first_is_least : (f : ℕ → Option Rank) (n m i : ℕ) → IsOrdered f n → HasFirst f n m → i < m → before (f i) (f 0) ≡ false
+first_is_least f n m i ordered first lt = by (cases_lt i n)
+  where
+    by : (i < n) ⊎ (n ≤ i) → before (f i) (f 0) ≡ false
+    by (inl less) = first_in_heap f n (suc i) i ordered (omega arith) less
+    by (inr le) = rw (is_none (f i) (first i lt ∙ le-ltb i n le)) refl

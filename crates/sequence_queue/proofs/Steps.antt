@@ -1,78 +1,223 @@
 -- What the steps of a heap's methods keep.
-use Rattle.std.proofs.Common.{◌≡◌, ℕ, zero, suc, ◌+◌, ◌<◌, Bool, true, false, List, [], ◌∷◌, length, Option, Some, None, refl, sym, ap, subst, ◌∙◌, get_or, set, arith}
-use Rattle.std.specs.Prelude.{◌≢◌, ◌&&◌, nat_lt, slice_index, slice_index_or, slice_get, replicate}
-use Rattle.std.proofs.lemmas.Bool.{lt-ltb, true≢false}
+use Rattle.std.proofs.Common.{◌≡◌, ℕ, zero, suc, ◌+◌, ◌-◌, ◌*◌, ◌<◌, ◌≤◌, Bool, true, false, length, Option, Some, None, refl, sym, ap, subst, ◌∙◌, get_or, inl, inr, arith}
+use Rattle.std.specs.Prelude.{◌&&◌, nat_lt, slice_index, slice_index_or, replicate, is_some}
+use Rattle.std.proofs.lemmas.Bool.{lt-ltb, le-ltb, true≢false}
 use Rattle.std.proofs.lemmas.List.{get_or-set_other, length-set, get_or-replicate, length-replicate}
-use Rattle.std.proofs.lemmas.Grind.{get_or_default_zero}
+use Rattle.std.proofs.lemmas.Grind.{get_or_default_zero, get_or-set_at}
 use Rattle.std.specs.Vec.{with_item}
 use Rattle.sequence_queue.specs.declared.heap.Heap.{Heap}
 use Rattle.sequence_queue.specs.declared.rank.Rank.{Rank}
-use Rattle.sequence_queue.specs.Heap.{before, CountsUp, rank_at, size, goes_before, IsChild, IsPaired, IsLoosely, IsAbove, IsBelow, IsFirst, IsFirstBelow, IsHeap, Exchanged}
-use Rattle.sequence_queue.proofs.Order.{first_is_least, is_above, loosened, one_above, parent, risen, sunk, through, whole}
+use Rattle.sequence_queue.specs.Heap.{before, Changed, CountsUp, HasFirst, rank_at, rank_of_number, size, goes_before, IsChild, IsExchanged, HasPlaces, IsPlaced, IsLoosely, IsOrdered, IsAbove, IsBelow, IsFirst, IsFirstBelow, IsHeap, IsHeapBut}
+use Rattle.sequence_queue.proofs.Order.{among, behind, end_is_loose, end_is_whole, first_changed, first_exchanged, first_is_least, gap_is_loose, inserted, is_above, is_none, itself, loosened, one_above, one_way, parent, removed, risen, sunk, through, whole}
+
+-- behind an exchange of two that are held
+exchanged_placed : (h g : Heap) (p q : ℕ) → IsPlaced h → p < h.held → q < h.held → IsExchanged h g p q → IsPlaced g
+exchanged_placed h g p q placed p_lt q_lt exchange = record {
+  paired = exchange.paired;
+  within = rw (exchange.held, same_size) placed.within;
+  held_first = rw (exchange.held, same_size)
+      (first_exchanged (rank_at h) (rank_at g) h.held (size h) p q placed.held_first placed.within p_lt q_lt exchange.exchanged);
+}
+  where
+    same_size : size g ≡ size h
+    same_size = ap (λ r. length r.items) exchange.ranks
 
 -- behind an exchange with the place above
-pub rise_step : (h g : Heap) (k p : ℕ) (up : Bool) → IsLoosely (rank_at h) (size h) k → IsAbove (rank_at h) (size h) k → IsChild k p → k < size h
-    → up ≡ goes_before h k p → up ≡ true → g.ranks ≡ h.ranks → Exchanged (rank_at h) (rank_at g) k p
-    → IsLoosely (rank_at g) (size g) p × IsAbove (rank_at g) (size g) p
-rise_step h g k p up loose high child lt says goes same exchanged =
-    subst (λ (n : ℕ). IsLoosely (rank_at g) n p × IsAbove (rank_at g) n p) (ap (λ r. length r.items) (sym same))
-    (risen (rank_at h) (rank_at g) (size h) k p loose high child lt (sym says ∙ goes) exchanged)
+pub climb_step : (h g : Heap) (k p : ℕ) (up : Bool) → IsHeapBut h k → IsAbove (rank_at h) h.held k → IsChild k p → up ≡ goes_before h k p → up ≡ true
+    → IsExchanged h g k p → IsHeapBut g p × IsAbove (rank_at g) g.held p
+climb_step h g k p up but high child says goes exchange =
+    let within : p < h.held = grind (arith, but.within) in
+    let step = risen (rank_at h) (rank_at g) h.held k p but.loose high child but.within (sym says ∙ goes) exchange.exchanged in (
+      record {
+        placed = exchanged_placed h g k p but.placed but.within within exchange;
+        loose = subst (λ (n : ℕ). IsLoosely (rank_at g) n p) (sym exchange.held) step.0;
+        within = rw exchange.held within;
+      },
+      subst (λ (n : ℕ). IsAbove (rank_at g) n p) (sym exchange.held) step.1,
+    )
 
 -- where a number does not go before the one above it
-pub rise_ends : (h : Heap) (k : ℕ) (up : Bool) → IsPaired h → IsLoosely (rank_at h) (size h) k → IsAbove (rank_at h) (size h) k
-    → ((i : ℕ) → IsChild k i → up ≡ goes_before h k i) → up ≡ false → IsHeap h
-rise_ends h k up paired loose high says not_up =
-    record { paired = paired; ordered = whole (rank_at h) (size h) k loose high (λ i child. sym (says i child) ∙ not_up) }
+pub climb_ends : (h : Heap) (k : ℕ) (up : Bool) → IsHeapBut h k → IsAbove (rank_at h) h.held k → ((i : ℕ) → IsChild k i → up ≡ goes_before h k i)
+    → up ≡ false → IsHeap h
+climb_ends h k up but high says not_up =
+    record { placed = but.placed; ordered = whole (rank_at h) h.held k but.loose high (λ i child. sym (says i child) ∙ not_up) }
 
 -- behind an exchange with the first of the places below
-pub sink_step : (h g : Heap) (k b : ℕ) → IsLoosely (rank_at h) (size h) k → IsBelow (rank_at h) k → IsFirstBelow h k b
-    → (nat_lt b (size h) && goes_before h b k) ≡ true → g.ranks ≡ h.ranks → Exchanged (rank_at h) (rank_at g) k b
-    → IsLoosely (rank_at g) (size g) b × IsBelow (rank_at g) b
-sink_step h g k b loose low first goes same exchanged =
-    subst (λ (n : ℕ). IsLoosely (rank_at g) n b × IsBelow (rank_at g) b) (ap (λ r. length r.items) (sym same))
-    (sunk (rank_at h) (rank_at g) (size h) k b loose low first.child (grind arith) (λ d child lt. (first.least d child lt).1) (grind arith)
-    exchanged)
+pub sink_step : (h g : Heap) (k b : ℕ) → IsHeapBut h k → IsBelow (rank_at h) k → IsFirstBelow h k b → (nat_lt b h.held && goes_before h b k) ≡ true
+    → IsExchanged h g k b → IsHeapBut g b × IsBelow (rank_at g) b
+sink_step h g k b but low first goes exchange =
+    let within : b < h.held = grind arith in
+    let step = sunk (rank_at h) (rank_at g) h.held k b but.loose low first.child within (λ d child lt. (first.least d child lt).1) (grind arith)
+    exchange.exchanged in (
+      record {
+        placed = exchanged_placed h g k b but.placed but.within within exchange;
+        loose = subst (λ (n : ℕ). IsLoosely (rank_at g) n b) (sym exchange.held) step.0;
+        within = rw exchange.held within;
+      },
+      step.1,
+    )
+
+-- of the two places below one, the one at the right where its number goes before that at the left
+pub right_first : (h : Heap) (k : ℕ) → (nat_lt (2 * k + 1 + 1) h.held && goes_before h (2 * k + 1 + 1) (2 * k + 1)) ≡ true
+    → IsFirstBelow h k (2 * k + 1 + 1)
+right_first h k goes = record { child = inr (omega arith); least = least }
+  where
+    least : (d : ℕ) → IsChild d k → d < h.held → (2 * k + 1 + 1 < h.held) × (goes_before h d (2 * k + 1 + 1) ≡ false)
+    least d (inl left) lt = (grind arith, rw left (one_way (rank_at h (2 * k + 1 + 1)) (rank_at h (2 * k + 1)) (grind arith)))
+    least d (inr right) lt = (grind arith, rw (let same : d ≡ 2 * k + 1 + 1 = omega arith in same) (itself (rank_at h (2 * k + 1 + 1))))
 
 -- where the first of the places below does not go before it
-pub sink_ends : (h : Heap) (k b : ℕ) → IsPaired h → IsLoosely (rank_at h) (size h) k → IsBelow (rank_at h) k → IsFirstBelow h k b
-    → (nat_lt b (size h) && goes_before h b k) ≡ false → IsHeap h
-sink_ends h k b paired loose low first stays = record { paired = paired; ordered = whole (rank_at h) (size h) k loose high low }
+pub sink_ends : (h : Heap) (k b : ℕ) → IsHeapBut h k → IsBelow (rank_at h) k → IsFirstBelow h k b → (nat_lt b h.held && goes_before h b k) ≡ false → IsHeap h
+sink_ends h k b but low first stays = record { placed = but.placed; ordered = whole (rank_at h) h.held k but.loose high low }
   where
-    high : IsAbove (rank_at h) (size h) k
+    high : IsAbove (rank_at h) h.held k
     high c child lt =
         let least = first.least c child lt in
-        through (rank_at h c) (rank_at h b) (rank_at h k) least.1 (sym (ap (λ t. t && goes_before h b k) (lt-ltb b (size h) least.0)) ∙ stays)
+        through (rank_at h c) (rank_at h b) (rank_at h k) least.1 (sym (ap (λ t. t && goes_before h b k) (lt-ltb b h.held least.0)) ∙ stays)
 
 -- a number that goes up goes before those below it
-pub goes_high : (h : Heap) (k : ℕ) (up : Bool) → IsLoosely (rank_at h) (size h) k → ((i : ℕ) → IsChild k i → up ≡ goes_before h k i)
-    → (k ≡ 0 → up ≡ false) → up ≡ true → IsAbove (rank_at h) (size h) k
-goes_high h zero up loose says first goes = absurd (true≢false (sym goes ∙ first refl))
-goes_high h (suc k) up loose says first goes =
+pub goes_high : (h : Heap) (k : ℕ) (up : Bool) → IsHeapBut h k → ((i : ℕ) → IsChild k i → up ≡ goes_before h k i) → (k ≡ 0 → up ≡ false) → up ≡ true
+    → IsAbove (rank_at h) h.held k
+goes_high h zero up but says first goes = absurd (true≢false (sym goes ∙ first refl))
+goes_high h (suc k) up but says first goes =
     let p = parent k in
     let child : IsChild (suc k) p.0 = subst (λ (x : ℕ). IsChild x p.0) (omega arith) p.1 in
-    is_above (rank_at h) (size h) (suc k) p.0 loose child (sym (says p.0 child) ∙ goes)
+    is_above (rank_at h) h.held (suc k) p.0 but.loose child (sym (says p.0 child) ∙ goes)
 
 -- a place is below one place alone
-pub only_above : (h : Heap) (k p : ℕ) (up : Bool) → IsChild k p → k < size h → up ≡ (nat_lt k (size h) && goes_before h k p) → (i : ℕ) → IsChild k i
+pub only_above : (h : Heap) (k p : ℕ) (up : Bool) → IsChild k p → k < h.held → up ≡ (nat_lt k h.held && goes_before h k p) → (i : ℕ) → IsChild k i
     → up ≡ goes_before h k i
 only_above h k p up child lt says i other =
-    says ∙ ap (λ t. t && goes_before h k p) (lt-ltb k (size h) lt) ∙ ap (goes_before h k) (one_above k p i child other)
+    says ∙ ap (λ t. t && goes_before h k p) (lt-ltb k h.held lt) ∙ ap (goes_before h k) (one_above k p i child other)
 
 -- a heap in which one number has another rank
-pub set_loosens : (h : Heap) (n : ℕ) (rank : Option Rank) (place : ℕ) → IsHeap h → n < size h → place ≡ slice_index_or h.places.items n place
-    → IsLoosely (rank_at (record h { ranks = with_item h.ranks n rank })) (size (record h { ranks = with_item h.ranks n rank })) place
-set_loosens h n rank place heap lt is =
-    subst (λ (m : ℕ). IsLoosely (rank_at (record h { ranks = with_item h.ranks n rank })) m place) (sym (length-set h.ranks.items n rank))
-    (loosened (rank_at h) (rank_at (record h { ranks = with_item h.ranks n rank })) (size h) place heap.ordered others)
+abbrev ranked : Heap → ℕ → Option Rank → Heap
+ranked h n rank = record h { ranks = with_item h.ranks n rank }
+
+-- the place of a number has that number
+at_place : (h : Heap) (n place : ℕ) → HasPlaces h → n < size h → place ≡ slice_index_or h.places.items n place
+    → (place < size h) × (slice_index h.order.items place ≡ n)
+at_place h n place paired lt is =
+    let found : place ≡ slice_index h.places.items n = is ∙ get_or_default_zero h.places.items n place (rw paired.place_count lt) in
+    rw found (paired.place_within n lt, paired.back n lt)
+
+-- its place alone has another rank
+changed : (h : Heap) (n place : ℕ) (rank : Option Rank) → HasPlaces h → n < size h → place ≡ slice_index_or h.places.items n place
+    → Changed (rank_at h) (rank_at (ranked h n rank)) (size h) place rank
+changed h n place rank paired lt is = record {
+  there = get_or-set_at h.ranks.items n (slice_index h.order.items place) rank None (at_place h n place paired lt is).1 lt;
+  others = λ i less other. get_or-set_other h.ranks.items n (slice_index h.order.items i) rank None (λ same. other (sym (paired.there i less)
+      ∙ ap (slice_index h.places.items) same ∙ ap (slice_index h.places.items) (sym (at_place h n place paired lt is).1)
+      ∙ paired.there place (at_place h n place paired lt is).0));
+}
+
+-- where a number that is not held has its place
+place_behind : (h : Heap) (n place : ℕ) → IsPlaced h → n < size h → rank_of_number h n ≡ None → place ≡ slice_index_or h.places.items n place
+    → (h.held ≤ place) × (place < size h)
+place_behind h n place placed lt none is =
+    let there = at_place h n place placed.paired lt is in
+    (behind (rank_at h) h.held (size h) place placed.held_first there.0 (ap (rank_of_number h) there.1 ∙ none), there.0)
+
+-- where one that is held has it
+place_among : (h : Heap) (n place : ℕ) → IsPlaced h → n < size h → is_some (rank_of_number h n) ≡ true → place ≡ slice_index_or h.places.items n place
+    → place < h.held
+place_among h n place placed lt some is =
+    let there = at_place h n place placed.paired lt is in
+    among (rank_at h) h.held (size h) place placed.held_first there.0 (ap (λ m. is_some (rank_of_number h m)) there.1 ∙ some)
+
+-- a number brought to the end of the heap
+pub insert_step : (h g : Heap) (n place : ℕ) (r : Rank) → IsHeap h → n < size h → rank_of_number h n ≡ None → place ≡ slice_index_or h.places.items n place
+    → IsExchanged (ranked h n (Some r)) g place h.held
+    → IsHeapBut (record g { held = g.held + 1 }) h.held × IsAbove (rank_at g) (g.held + 1) h.held
+insert_step h g n place r heap lt none is exchange = rw (exchange.held) (record { placed = placed; loose = loose.0; within = omega arith }, loose.1)
   where
-    others : (i : ℕ) → i < size h → i ≢ place → get_or (set h.ranks.items n rank) (get_or h.order.items i 0) None ≡ rank_at h i
-    others i less not_place = get_or-set_other h.ranks.items n (get_or h.order.items i 0) rank None (λ same. not_place
-        (sym (heap.paired.there i less) ∙ ap (λ m. get_or h.places.items m 0) same ∙ sym (is ∙ get_or_default_zero h.places.items n place
-        (subst (λ (x : ℕ). n < x) (sym heap.paired.place_count) lt))))
+    there : (h.held ≤ place) × (place < size h)
+    there = place_behind h n place heap.placed lt none is
+
+    change : Changed (rank_at h) (rank_at (ranked h n (Some r))) (size h) place (Some r)
+    change = changed h n place (Some r) heap.placed.paired lt is
+
+    same_size : size g ≡ size h
+    same_size = rw exchange.ranks (length-set h.ranks.items n (Some r))
+
+    loose : IsLoosely (rank_at g) (h.held + 1) h.held × IsAbove (rank_at g) (h.held + 1) h.held
+    loose = end_is_loose (rank_at h) (rank_at (ranked h n (Some r))) (rank_at g) h.held (size h) place r heap.ordered there.0 there.1 change exchange.exchanged
+
+    placed : IsPlaced (record g { held = h.held + 1 })
+    placed = record {
+      paired = exchange.paired;
+      within = rw same_size (omega (arith, there.0, there.1));
+      held_first = rw same_size (inserted (rank_at h) (rank_at (ranked h n (Some r))) (rank_at g) h.held (size h) place r heap.placed.held_first
+          there.0 there.1 change exchange.exchanged);
+    }
+
+-- a number brought from the end of the heap to the place of one that goes
+pub remove_step : (h g : Heap) (n place : ℕ) → IsHeap h → n < size h → is_some (rank_of_number h n) ≡ true → place ≡ slice_index_or h.places.items n place
+    → IsExchanged (ranked h n None) g place (h.held - 1)
+    → IsPlaced (record g { held = h.held - 1 }) × IsLoosely (rank_at g) (h.held - 1) place × (place ≤ h.held - 1)
+remove_step h g n place heap lt some is exchange = (placed, loose, omega (arith, there))
+  where
+    there : place < h.held
+    there = place_among h n place heap.placed lt some is
+
+    end : h.held ≡ h.held - 1 + 1
+    end = omega (arith, there)
+
+    change : Changed (rank_at h) (rank_at (ranked h n None)) (size h) place None
+    change = changed h n place None heap.placed.paired lt is
+
+    same_size : size g ≡ size h
+    same_size = rw exchange.ranks (length-set h.ranks.items n None)
+
+    within : h.held - 1 < size h
+    within = omega (arith, there, heap.placed.within)
+
+    loose : IsLoosely (rank_at g) (h.held - 1) place
+    loose = gap_is_loose (rank_at h) (rank_at (ranked h n None)) (rank_at g) (h.held - 1) (size h) place
+        (subst (λ (k : ℕ). IsOrdered (rank_at h) k) end heap.ordered) within change exchange.exchanged
+
+    placed : IsPlaced (record g { held = h.held - 1 })
+    placed = record {
+      paired = exchange.paired;
+      within = rw same_size (omega (arith, within));
+      held_first = rw same_size (removed (rank_at h) (rank_at (ranked h n None)) (rank_at g) (h.held - 1) (size h) place
+          (subst (λ (k : ℕ). HasFirst (rank_at h) k (size h)) end heap.placed.held_first) within (subst (λ (k : ℕ). place < k) end there)
+          change exchange.exchanged);
+    }
+
+-- where the one that goes has the last place
+pub remove_ends : (g : Heap) (place : ℕ) → IsPlaced g → IsLoosely (rank_at g) g.held place → place ≡ g.held → IsHeap g
+remove_ends g place placed loose is =
+    record { placed = placed; ordered = end_is_whole (rank_at g) g.held (subst (λ (k : ℕ). IsLoosely (rank_at g) g.held k) is loose) }
+
+-- another rank for a number that is held
+pub rekey_step : (h : Heap) (n place : ℕ) (r : Rank) → IsHeap h → n < size h → is_some (rank_of_number h n) ≡ true
+    → place ≡ slice_index_or h.places.items n place → IsHeapBut (ranked h n (Some r)) place
+rekey_step h n place r heap lt some is = record {
+  placed = record {
+    paired = rw same_size heap.placed.paired;
+    within = rw same_size heap.placed.within;
+    held_first = rw same_size (first_changed (rank_at h) (rank_at (ranked h n (Some r))) h.held (size h) place r heap.placed.held_first there change);
+  };
+  loose = loosened (rank_at h) (rank_at (ranked h n (Some r))) h.held place heap.ordered (λ i less. change.others i (omega (arith, heap.placed.within)));
+  within = there;
+}
+  where
+    there : place < h.held
+    there = place_among h n place heap.placed lt some is
+
+    change : Changed (rank_at h) (rank_at (ranked h n (Some r))) (size h) place (Some r)
+    change = changed h n place (Some r) heap.placed.paired lt is
+
+    same_size : size (ranked h n (Some r)) ≡ size h
+    same_size = length-set h.ranks.items n (Some r)
 
 -- a heap of numbers without ranks
-pub fresh : (h : Heap) (n : ℕ) → h.ranks.items ≡ replicate n None → CountsUp h.order.items n → CountsUp h.places.items n → IsHeap h
-fresh h n ranks order places = record { paired = paired; ordered = λ i c child lt. ap (λ r. before r (rank_at h i)) (none c lt) }
+pub fresh : (h : Heap) (n : ℕ) → h.ranks.items ≡ replicate n None → CountsUp h.order.items n → CountsUp h.places.items n → h.held ≡ 0 → IsHeap h
+fresh h n ranks order places none = record {
+  placed = record { paired = paired; within = rw none (omega arith); held_first = held_first };
+  ordered = λ i c child lt. absurd (omega (arith, none, lt));
+}
   where
     size_is : size h ≡ n
     size_is = ap length ranks ∙ length-replicate n None
@@ -83,7 +228,7 @@ fresh h n ranks order places = record { paired = paired; ordered = λ i c child 
     place_of : (i : ℕ) → i < size h → slice_index h.places.items i ≡ i
     place_of i lt = places.1 i (subst (λ (x : ℕ). i < x) size_is lt)
 
-    paired : IsPaired h
+    paired : HasPlaces h
     paired = record {
       order_count = order.0 ∙ sym size_is;
       place_count = places.0 ∙ sym size_is;
@@ -93,29 +238,29 @@ fresh h n ranks order places = record { paired = paired; ordered = λ i c child 
       back = λ i lt. ap (slice_index h.order.items) (place_of i lt) ∙ number_at i lt;
     }
 
-    none : (c : ℕ) → c < size h → rank_at h c ≡ None
-    none c lt = ap (λ rs. get_or rs (slice_index h.order.items c) None) ranks
-        ∙ get_or-replicate n (slice_index h.order.items c) None None (rw (number_at c lt) (subst (λ (x : ℕ). c < x) size_is lt))
+    held_first : HasFirst (rank_at h) h.held (size h)
+    held_first i lt = ap is_some (ap (λ rs. get_or rs (slice_index h.order.items i) None) ranks
+        ∙ get_or-replicate n (slice_index h.order.items i) None None (rw (number_at i lt) (subst (λ (x : ℕ). i < x) size_is lt)))
+        ∙ sym (le-ltb i h.held (omega (arith, none)))
 
--- a list without a first element
-no_first : (xs : List ℕ) → None ≡ slice_get xs 0 → length xs ≡ 0
-no_first [] is = refl
-no_first (x ∷ xs) is = absurd (let never : None ≡ Some x = is in grind arith)
+-- nothing goes before what a heap's first place has
+pub first_of : (h : Heap) (n : ℕ) → IsHeap h → 0 < h.held → n ≡ slice_index_or h.order.items 0 n → IsFirst h (Some n)
+first_of h n heap some is = (rw found (placed.paired.number_within 0 inside), λ m lt. rw found (least m lt))
+  where
+    placed : IsPlaced h
+    placed = heap.placed
 
--- the first element of a list
-has_first : (xs : List ℕ) (n : ℕ) → Some n ≡ slice_get xs 0 → (0 < length xs) × (slice_index xs 0 ≡ n)
-has_first [] n is = absurd (let never : Some n ≡ None = is in grind arith)
-has_first (x ∷ xs) n is = (omega arith, let same : Some n ≡ Some x = is in grind arith)
+    inside : 0 < size h
+    inside = omega (arith, some, placed.within)
 
--- the first place has the number that goes before all others
-pub first_of : (h : Heap) (found : Option ℕ) → IsHeap h → found ≡ slice_get h.order.items 0 → IsFirst h found
-first_of h None heap is = sym heap.paired.order_count ∙ no_first h.order.items is
-first_of h (Some n) heap is =
-    let first = has_first h.order.items n is in
-    let some : 0 < size h = subst (λ (x : ℕ). 0 < x) heap.paired.order_count first.0 in (
-      subst (λ (x : ℕ). x < size h) first.1 (heap.paired.number_within 0 some),
-      λ m lt. subst (λ (x : ℕ). before (slice_index_or h.ranks.items m None) (slice_index_or h.ranks.items x None) ≡ false) first.1
-          (subst (λ (x : ℕ). before (slice_index_or h.ranks.items x None) (rank_at h 0) ≡ false) (heap.paired.back m lt)
-          (first_is_least (rank_at h) (size h) (slice_index h.places.items m + 1) (slice_index h.places.items m) heap.ordered (omega arith)
-          (heap.paired.place_within m lt))),
-    )
+    found : n ≡ slice_index h.order.items 0
+    found = is ∙ get_or_default_zero h.order.items 0 n (rw placed.paired.order_count inside)
+
+    least : (m : ℕ) → m < size h → before (rank_of_number h m) (rank_at h 0) ≡ false
+    least m lt = subst (λ (x : ℕ). before (rank_of_number h x) (rank_at h 0) ≡ false) (placed.paired.back m lt)
+        (first_is_least (rank_at h) h.held (size h) (slice_index h.places.items m) heap.ordered placed.held_first (placed.paired.place_within m lt))
+
+-- where no number is held
+pub none_held : (h : Heap) → IsHeap h → h.held ≡ 0 → IsFirst h None
+none_held h heap none m lt = subst (λ (x : ℕ). rank_of_number h x ≡ None) (heap.placed.paired.back m lt) (is_none (rank_at h (slice_index h.places.items m))
+    (heap.placed.held_first (slice_index h.places.items m) (heap.placed.paired.place_within m lt) ∙ le-ltb _ h.held (omega (arith, none))))

@@ -1,11 +1,11 @@
-ghost use Rattle.std.specs.Prelude.{◌≡◌, ◌<◌, ◌^◌, ◌&&◌, ℕ, false, nat_lt, slice_index_or, slice_set, replicate, None, Some, IfOk};
-ghost use Rattle.sequence_queue.specs.Heap.{before, CountsUp, Exchanged, IsAbove, IsBelow, IsChild, IsFirst, IsFirstBelow, IsHeap, IsLoosely, IsPaired, goes_before, rank_at, size};
+ghost use Rattle.std.specs.Prelude.{◌≡◌, ◌<◌, ◌^◌, ◌&&◌, ℕ, false, nat_lt, slice_index_or, slice_set, replicate, is_some, true, None, Some, IfOk};
+ghost use Rattle.sequence_queue.specs.Heap.{before, CountsUp, IsAbove, IsBelow, IsChild, IsExchanged, IsFirst, IsFirstBelow, IsHeap, IsHeapBut, HasPlaces, IsPlaced, goes_before, rank_at, rank_of_number, size};
 
 use crate::rank::Rank;
 use std::alloc::{AllocError, Global};
 
-/// A binary heap of all numbers below a bound, in which each number knows its place. The numbers that are not held
-/// have no rank, and stand behind those that have one.
+/// A binary heap of the numbers that are held, of all numbers below a bound. Each number has a place and knows it:
+/// those that are held the first ones, which are the heap, and the others those behind it, in any order.
 #[derive(Debug, Drop)]
 pub(crate) struct Heap {
     /// The rank of each number that is held.
@@ -14,10 +14,12 @@ pub(crate) struct Heap {
     order: Vec<usize>,
     /// The place of each number.
     places: Vec<usize>,
+    /// How many numbers are held.
+    held: usize,
 }
 
 impl Heap {
-    /// A heap of this many numbers, none of which is held.
+    /// A heap for this many numbers, none of which is held.
     pub(crate) fn new(alloc: Global, numbers: usize) -> Result<Heap, AllocError>
         requires { numbers < 2 ^ 62 }
         ensures heap { IfOk result IsHeap }
@@ -30,74 +32,107 @@ impl Heap {
             ranks,
             order,
             places,
+            held: 0,
         })
     }
 
-    /// The rank of a number, where it is held.
+    /// The rank of a number, where it is held. Constant time.
     pub(crate) fn rank(&self, number: usize) -> Option<Rank>
         requires { number < size self.now }
-        ensures { result ≡ slice_index_or self.now.ranks.items number None }
+        ensures { result ≡ rank_of_number self.now number }
     {
         self.ranks[number]
     }
 
-    /// The number that goes before all others.
+    /// The number that goes before all others, where one is held. Constant time.
     pub(crate) fn first(&self) -> Option<usize>
         requires { IsHeap self.now }
         ensures { IsFirst self.now result }
     {
-        self.order.first().copied()
+        if self.held == 0 {
+            return None;
+        }
+        Some(self.order[0])
     }
 
-    /// Gives a number another rank, or none.
-    pub(crate) fn set(&mut self, number: usize, rank: Option<Rank>)
+    /// Holds a number that is not held. Time logarithmic in how many are held.
+    pub(crate) fn insert(&mut self, number: usize, rank: Rank)
         requires heap { IsHeap self.old }
         requires within { number < size self.old }
+        requires new { rank_of_number self.old number ≡ None }
         ensures heap { IsHeap self.new }
-        ensures ranks { self.new.ranks.items ≡ slice_set self.old.ranks.items number rank }
+        ensures ranks { self.new.ranks.items ≡ slice_set self.old.ranks.items number (Some rank) }
     {
-        self.ranks[number] = rank;
         let place = self.places[number];
+        let last = self.held;
+        self.ranks[number] = Some(rank);
+        self.exchange(place, last);
+        self.held += 1;
+        self.climb(last);
+    }
+
+    /// Lets go of a number that is held. Time logarithmic in how many are held.
+    pub(crate) fn remove(&mut self, number: usize)
+        requires heap { IsHeap self.old }
+        requires within { number < size self.old }
+        requires held { is_some (rank_of_number self.old number) ≡ true }
+        ensures heap { IsHeap self.new }
+        ensures ranks { self.new.ranks.items ≡ slice_set self.old.ranks.items number None }
+    {
+        let place = self.places[number];
+        let last = self.held - 1;
+        self.ranks[number] = None;
+        self.exchange(place, last);
+        self.held = last;
+        if place < last {
+            self.settle(place);
+        }
+    }
+
+    /// Gives a number that is held another rank. Time logarithmic in how many are held.
+    pub(crate) fn rekey(&mut self, number: usize, rank: Rank)
+        requires heap { IsHeap self.old }
+        requires within { number < size self.old }
+        requires held { is_some (rank_of_number self.old number) ≡ true }
+        ensures heap { IsHeap self.new }
+        ensures ranks { self.new.ranks.items ≡ slice_set self.old.ranks.items number (Some rank) }
+    {
+        let place = self.places[number];
+        self.ranks[number] = Some(rank);
         self.settle(place);
     }
 
     // Moves the number at a place to where its rank belongs.
     fn settle(&mut self, place: usize)
-        requires paired { IsPaired self.old }
-        requires loose { IsLoosely (rank_at self.old) (size self.old) place }
-        requires within { place < size self.old }
+        requires { IsHeapBut self.old place }
         ensures heap { IsHeap self.new }
         ensures ranks { self.new.ranks ≡ self.old.ranks }
     {
         if self.goes_up(place) {
-            self.rise(place);
+            self.climb(place);
         } else {
             self.sink(place);
         }
     }
 
     // Moves the number at a place up, as long as it goes before the one above it.
-    fn rise(&mut self, place: usize)
-        requires paired { IsPaired self.old }
-        requires loose { IsLoosely (rank_at self.old) (size self.old) place }
-        requires high { IsAbove (rank_at self.old) (size self.old) place }
-        requires within { place < size self.old }
+    fn climb(&mut self, place: usize)
+        requires loose { IsHeapBut self.old place }
+        requires high { IsAbove (rank_at self.old) self.old.held place }
         ensures heap { IsHeap self.new }
         ensures ranks { self.new.ranks ≡ self.old.ranks }
     {
         if self.goes_up(place) {
             let above = above(place);
             self.exchange(place, above);
-            self.rise(above);
+            self.climb(above);
         }
     }
 
     // Moves the number at a place down, as long as one below it goes before it.
     fn sink(&mut self, place: usize)
-        requires paired { IsPaired self.old }
-        requires loose { IsLoosely (rank_at self.old) (size self.old) place }
+        requires loose { IsHeapBut self.old place }
         requires low { IsBelow (rank_at self.old) place }
-        requires within { place < size self.old }
         ensures heap { IsHeap self.new }
         ensures ranks { self.new.ranks ≡ self.old.ranks }
     {
@@ -110,8 +145,8 @@ impl Heap {
 
     // Of the two places below this one, the one whose number goes before the other's.
     fn first_below(&self, place: usize) -> usize
-        requires paired { IsPaired self.now }
-        requires within { place < size self.now }
+        requires placed { IsPlaced self.now }
+        requires within { place < self.now.held }
         ensures { IsFirstBelow self.now place result }
     {
         let left = 2 * place + 1;
@@ -125,26 +160,26 @@ impl Heap {
 
     // Whether the number at a place goes before the one above it.
     fn goes_up(&self, place: usize) -> bool
-        requires paired { IsPaired self.now }
-        requires within { place < size self.now }
+        requires placed { IsPlaced self.now }
+        requires within { place < self.now.held }
         ensures answer { (i : ℕ) → IsChild place i → result ≡ goes_before self.now place i }
         ensures first { place ≡ 0 → result ≡ false }
     {
         place > 0 && self.goes_before(place, above(place))
     }
 
-    // Whether there is a number at a place, and it goes before the one at another.
+    // Whether a place is in the heap, and its number goes before the one at another place.
     fn goes_before(&self, place: usize, other: usize) -> bool
-        requires paired { IsPaired self.now }
-        requires within { place < size self.now → other < size self.now }
-        ensures { result ≡ (nat_lt place (size self.now) && goes_before self.now place other) }
+        requires placed { IsPlaced self.now }
+        requires within { place < self.now.held → other < self.now.held }
+        ensures { result ≡ (nat_lt place self.now.held && goes_before self.now place other) }
     {
-        place < self.ranks.len() && before(self.rank_at(place), self.rank_at(other))
+        place < self.held && before(self.rank_at(place), self.rank_at(other))
     }
 
     // The rank of the number at a place.
     fn rank_at(&self, place: usize) -> Option<Rank>
-        requires paired { IsPaired self.now }
+        requires paired { HasPlaces self.now }
         requires within { place < size self.now }
         ensures { result ≡ rank_at self.now place }
     {
@@ -153,11 +188,9 @@ impl Heap {
 
     // Exchanges the numbers at two places.
     fn exchange(&mut self, place: usize, other: usize)
-        requires paired { IsPaired self.old }
+        requires paired { HasPlaces self.old }
         requires within { (place < size self.old) × (other < size self.old) }
-        ensures paired { IsPaired self.new }
-        ensures ranks { self.new.ranks ≡ self.old.ranks }
-        ensures exchanged { Exchanged (rank_at self.old) (rank_at self.new) place other }
+        ensures { IsExchanged self.old self.new place other }
     {
         let (first, second) = (self.order[place], self.order[other]);
         self.order.swap(place, other);

@@ -9,8 +9,8 @@ use task_base::TaskSource;
 
 /// Sources with their ranks, the best one at hand (Chromium's `PriorityQueue` of `thread_pool/priority_queue.h`).
 ///
-/// `best` takes constant time, and the other calls take time logarithmic in the number of sources that the queue was
-/// made for. After `new` no call takes memory.
+/// `best` takes constant time, and the other calls take time at most logarithmic in the number of sources that are
+/// held. After `new` no call takes memory.
 #[derive(Debug, Drop)]
 pub struct SourceQueue {
     sequences: u32,
@@ -50,10 +50,10 @@ impl SourceQueue {
         ensures { self.new ≡ with_rank self.old source (Some rank) }
     {
         let number = self.number(source);
-        self.heap.set(number, Some(rank));
+        self.heap.insert(number, rank);
     }
 
-    /// Lets go of a source, and answers whether it was held.
+    /// Lets go of a source, and answers whether it was held. Of one that was not, that look is all.
     pub fn remove(&mut self, source: TaskSource) -> bool
         requires { IsMadeFor self.old source }
         ensures answer { result ≡ is_some (rank_of self.old source) }
@@ -62,12 +62,12 @@ impl SourceQueue {
         let number = self.number(source);
         let was_held = self.heap.rank(number).is_some();
         if was_held {
-            self.heap.set(number, None);
+            self.heap.remove(number);
         }
         was_held
     }
 
-    /// Gives a source that is held another rank, and answers whether it is held.
+    /// Gives a source that is held this rank, and answers whether it is held. Where it has this rank, nothing moves.
     pub fn rekey(&mut self, source: TaskSource, rank: Rank) -> bool
         requires { IsMadeFor self.old source }
         ensures answer { result ≡ is_some (rank_of self.old source) }
@@ -75,11 +75,13 @@ impl SourceQueue {
         ensures not_held { result ≡ false → self.new ≡ self.old }
     {
         let number = self.number(source);
-        let is_held = self.heap.rank(number).is_some();
-        if is_held {
-            self.heap.set(number, Some(rank));
+        let Some(held) = self.heap.rank(number) else {
+            return false;
+        };
+        if held != rank {
+            self.heap.rekey(number, rank);
         }
-        is_held
+        true
     }
 
     /// The source of least rank, with its rank, and none where no source is held. Of several such sources it is one.
