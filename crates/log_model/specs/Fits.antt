@@ -2,7 +2,7 @@
 use Rattle.std.specs.Prelude.{ℕ, ◌<◌, ◌^◌, Option, None, Some}
 use Rattle.task_base.specs.declared.entry.Entry.{Entry}
 use Rattle.task_base.specs.declared.entry.Kind.{Kind}
-use Rattle.task_base.specs.declared.entry.Kind.TheVariants.{Post, Main, Tick, Take, End, Enter, Leave, Policy, Fence, Unfence, Vote, Rank, Close, MainTake, MainEnd, MainNone, JobPost, JobTake, JobStep, JobCancel, Cancelled, Joined, Idle, Shutdown, Done}
+use Rattle.task_base.specs.declared.entry.Kind.TheVariants.{Post, Main, Tick, Take, End, Enter, Leave, Policy, Reprio, Fence, Unfence, Vote, Rank, Close, MainTake, MainEnd, MainNone, JobPost, JobTake, JobStep, JobCancel, Cancelled, Joined, Idle, Shutdown, Done}
 use Rattle.task_base.specs.declared.entry.JobReply.{JobReply}
 use Rattle.task_base.specs.declared.entry.JobReply.TheVariants as replies
 
@@ -29,6 +29,7 @@ KindFits (End task left) = (task < 2 ^ 32) × (left < 2 ^ 64)
 KindFits (Enter task scope) = task < 2 ^ 32
 KindFits (Leave task) = task < 2 ^ 32
 KindFits (Policy policy) = Unit {0}
+KindFits (Reprio runner priority) = runner < 2 ^ 32
 KindFits (Fence queue at) = queue < 2 ^ 32
 KindFits (Unfence queue) = queue < 2 ^ 32
 KindFits (Vote queue voter on) = (queue < 2 ^ 32) × (voter < 2 ^ 8)

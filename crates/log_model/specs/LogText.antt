@@ -1,7 +1,9 @@
 -- A log as text, a line for each entry, and as JSON.
-use Rattle.std.specs.Prelude.{◌≡◌, ℕ, ◌+◌, Bool, if◌then◌else◌, Option, None, Some, List, [], ◌∷◌, ◌++◌, map, codes}
+use Rattle.std.specs.Prelude.{◌≡◌, ℕ, ◌+◌, Bool, if◌then◌else◌, Option, None, Some, List, [], ◌∷◌, ◌++◌, length, map, codes, nat_eq}
 use Rattle.std.specs.Fmt.{decimal}
-use Rattle.std.specs.List.{join_with_byte}
+use Rattle.std.specs.List.{starts_with, join_with_byte}
+use Rattle.task_traits.specs.declared.traits.Priority.{Priority}
+use Rattle.task_traits.specs.declared.traits.Priority.TheVariants.{BestEffort, UserVisible, UserBlocking}
 use Rattle.task_base.specs.declared.entry.Entry.{Entry}
 use Rattle.task_base.specs.declared.entry.Kind.{Kind}
 use Rattle.task_base.specs.declared.entry.Kind.TheVariants as kinds
@@ -14,6 +16,8 @@ use Rattle.task_base.specs.declared.script.FenceAt.TheVariants.{Now, Start}
 use Rattle.task_base.specs.declared.step.Scope.{Scope}
 use Rattle.task_base.specs.declared.step.Scope.TheVariants.{May, Will}
 use Rattle.log_model.specs.Fits.{Fits}
+use Rattle.log_model.specs.declared.version.Version.{Version}
+use Rattle.log_model.specs.declared.version.Version.TheVariants.{One, Two}
 
 -- what an entry is written as: words and numbers, in order (this project's own)
 pub data Part : Type 0 where
@@ -32,6 +36,12 @@ vote_word on = if on then codes "on" else codes "off"
 abbrev pub scope_word : Scope → List ℕ
 scope_word May = codes "may"
 scope_word Will = codes "will"
+
+-- the word of a priority (this project's own)
+abbrev pub priority_word : Priority → List ℕ
+priority_word BestEffort = codes "best_effort"
+priority_word UserVisible = codes "user_visible"
+priority_word UserBlocking = codes "user_blocking"
 
 -- the word of a policy (this project's own)
 abbrev pub policy_word : Policy → List ℕ
@@ -66,6 +76,7 @@ parts_of (kinds.End task left) = word (codes "end") ∷ number task ∷ number l
 parts_of (kinds.Enter task scope) = word (codes "block") ∷ number task ∷ word (scope_word scope) ∷ []
 parts_of (kinds.Leave task) = word (codes "unblock") ∷ number task ∷ []
 parts_of (kinds.Policy policy) = word (codes "policy") ∷ word (policy_word policy) ∷ []
+parts_of (kinds.Reprio runner priority) = word (codes "reprio") ∷ number runner ∷ word (priority_word priority) ∷ []
 parts_of (kinds.Fence queue at) = word (codes "fence") ∷ number queue ∷ word (fence_word at) ∷ []
 parts_of (kinds.Unfence queue) = word (codes "unfence") ∷ number queue ∷ []
 parts_of (kinds.Vote queue voter on) = word (codes "vote") ∷ number queue ∷ number voter ∷ word (vote_word on) ∷ []
@@ -106,15 +117,54 @@ abbrev pub text_from : ℕ → List Entry → List ℕ
 text_from place [] = []
 text_from place (e ∷ rest) = line_of place e ++ text_from (place + 1) rest
 
--- the text of a log: the lines of its entries, in order (this project's own)
+-- the lines of the entries, in order: all of a text of version 1 (this project's own)
+unfoldable pub log_lines : List Entry → List ℕ
+log_lines log = text_from 0 log
+
+-- the first line of a text of version 2 (this project's own)
+abbrev pub head_line : List ℕ
+head_line = codes "taskenv log 2\n"
+
+-- its last line: the number of entries (this project's own)
+abbrev pub total_line : ℕ → List ℕ
+total_line n = codes "total " ++ (decimal n ++ 10 ∷ [])
+
+-- what stands before the lines of the entries, and how many lines that is (this project's own)
+abbrev pub head_of : Version → List ℕ
+head_of One = []
+head_of Two = head_line
+
+abbrev pub lines_before : Version → ℕ
+lines_before One = 0
+lines_before Two = 1
+
+-- what stands behind the lines of so many entries (this project's own)
+abbrev pub end_of : Version → ℕ → List ℕ
+end_of One n = []
+end_of Two n = total_line n
+
+-- the text of a log in a version (this project's own)
+abbrev pub text_in : Version → List Entry → List ℕ
+text_in version log = head_of version ++ (log_lines log ++ end_of version (length log))
+
+-- the version that a text is read by: 2 exactly where it begins with the first line of that version (this project's own)
+unfoldable pub version_of : List ℕ → Version
+version_of text = if starts_with nat_eq text head_line then Two else One
+
+-- the text of a log, which is that of version 2 (this project's own)
 unfoldable pub log_text : List Entry → List ℕ
-log_text log = text_from 0 log
+log_text log = text_in Two log
 
 -- what a reader takes for this entry at this place: the entry's line, letter for letter, each number in the range
 -- of its type (this project's own)
 pub record IsLogLine (place : ℕ) (line : List ℕ) (e : Entry) : Type 0 where
   pub same : line ≡ line_of place e
   pub fits : Fits e
+
+-- what such a reader leaves there: however a line is cut off its front, it is that of no entry at this place (this
+-- project's own)
+abbrev pub BeginsWithNoLine : ℕ → List ℕ → Type 0
+BeginsWithNoLine place text = (line behind : List ℕ) → text ≡ line ++ behind → (e : Entry) → ¬ IsLogLine place line e
 
 -- a part in JSON: a word is a string (this project's own)
 abbrev pub shown_json : Part → List ℕ

@@ -8,6 +8,7 @@ use Rattle.serde_json.specs.Data.{Data, array}
 use Rattle.serde_json.specs.View.{items_of}
 use Rattle.serde_json.specs.Written.{compact_text, items_text, has_float, items_have_float}
 use Rattle.serde_json.proofs.OnLiterals.{serde_json_on_literals}
+use Rattle.task_traits.specs.declared.traits.Priority.TheVariants.{BestEffort, UserVisible, UserBlocking}
 use Rattle.task_base.specs.declared.entry.Entry.{Entry}
 use Rattle.task_base.specs.declared.entry.Kind.{Kind}
 use Rattle.task_base.specs.declared.entry.Kind.TheVariants as kinds
@@ -52,6 +53,9 @@ kind_plain (kinds.Leave task) = refl
 kind_plain (kinds.Policy All) = refl
 kind_plain (kinds.Policy Foreground) = refl
 kind_plain (kinds.Policy Nothing) = refl
+kind_plain (kinds.Reprio runner BestEffort) = refl
+kind_plain (kinds.Reprio runner UserVisible) = refl
+kind_plain (kinds.Reprio runner UserBlocking) = refl
 kind_plain (kinds.Fence queue Now) = refl
 kind_plain (kinds.Fence queue Start) = refl
 kind_plain (kinds.Unfence queue) = refl

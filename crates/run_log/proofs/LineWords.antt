@@ -1,11 +1,12 @@
 -- The words of the line of an entry.
-use Rattle.std.proofs.Common.{◌≡◌, ℕ, ◌-◌, List, [], ◌∷◌, length, take, All, map, eqb, false, refl, ap, ◌∙◌, arith, length-append}
+use Rattle.std.proofs.Common.{◌≡◌, ℕ, suc, ◌-◌, ◌<◌, ◌≤◌, List, [], ◌∷◌, ◌++◌, length, get_or, take, All, map, eqb, false, Option, Some, None, IfSome, refl, sym, ap, ◌∙◌, arith, length-append, drop-cons}
 use Rattle.std.specs.Fmt.{decimal}
 use Rattle.std.specs.List.{AllByRecursion, slice_split, join_with_byte}
 use Rattle.std.proofs.Math.Seq.{take-append_seam}
 use Rattle.std.proofs.lemmas.Bool.{eq-eqb, ne_eqb}
+use Rattle.std.proofs.lemmas.List.{drop_all, take-append-drop}
 use Rattle.std.proofs.lemmas.List.Elements.{All-nil, All-cons}
-use Rattle.std.proofs.lemmas.List.Splits.{slice_split_none, slice_split_at}
+use Rattle.std.proofs.lemmas.List.Splits.{slice_split_none, slice_split_at, join_with_byte-slice_split}
 use Rattle.task_base.specs.declared.entry.Entry.{Entry}
 use Rattle.log_model.specs.Fits.{Fits}
 use Rattle.log_model.specs.LogText.{IsLogLine, Part, entry_parts, shown, line_of}
@@ -47,3 +48,25 @@ front_of-line place e bytes same =
 pub words_of-front : (place : ℕ) (e : Entry) (bytes : List ℕ) → IsLogLine place bytes e
     → words_of (take (length bytes - 1) bytes) ≡ map shown (entry_parts place e)
 words_of-front place e bytes h = ap words_of (front_of-line place e bytes h.same) ∙ words_of-line place e h.fits
+
+-- what stands before the last byte, and that byte
+front_and_last : (bytes : List ℕ) (last : ℕ) → 0 < length bytes → get_or bytes (length bytes - 1) 0 ≡ last → bytes ≡ take (length bytes - 1) bytes ++ last ∷ []
+front_and_last bytes last some same =
+    let n : ℕ = length bytes - 1 in
+    let within : n < length bytes = omega arith in
+    let end : length bytes ≤ suc n = omega arith in
+    sym (take-append-drop n bytes) ∙ rw (drop-cons bytes n 0 within, same, drop_all (suc n) bytes end) refl
+
+-- bytes that are split into the parts of an entry, and end with a line feed, are its line
+line_from-words : (place : ℕ) (e : Entry) (bytes : List ℕ) → 0 < length bytes → get_or bytes (length bytes - 1) 0 ≡ 10
+    → words_of (take (length bytes - 1) bytes) ≡ map shown (entry_parts place e) → bytes ≡ line_of place e
+line_from-words place e bytes some feed words =
+    front_and_last bytes 10 some feed
+    ∙ ap (λ front. front ++ 10 ∷ []) (sym (join_with_byte-slice_split 32 (take (length bytes - 1) bytes)) ∙ ap (join_with_byte 32) words)
+
+-- so an answer whose parts these are is that of the line
+pub answers_line : (place : ℕ) (bytes : List ℕ) (words : List (List ℕ)) (o : Option Entry) → 0 < length bytes → get_or bytes (length bytes - 1) 0 ≡ 10
+    → words ≡ words_of (take (length bytes - 1) bytes) → IfSome o (λ e. words ≡ map shown (entry_parts place e)) → IfSome o Fits
+    → IfSome o (λ e. IsLogLine place bytes e)
+answers_line place bytes words None some feed same parts fits = tt
+answers_line place bytes words (Some e) some feed same parts fits = record { same = line_from-words place e bytes some feed (sym same ∙ parts); fits = fits }

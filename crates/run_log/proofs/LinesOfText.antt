@@ -1,7 +1,10 @@
 -- How a text falls into lines.
-use Rattle.std.proofs.Common.{◌≡◌, ◌≢◌, ◌<◌, ◌≤◌, ◌+◌, ℕ, zero, suc, min, Bool, eqb, List, [], ◌∷◌, ◌++◌, length, refl, inl, inr, arith}
-use Rattle.std.specs.List.{IsFirstMatchOrLen, concat, onto_first}
-use Rattle.std.proofs.lemmas.Bool.{both_ways, cases_eq, eq-eqb, ne_eqb, eqb-true}
+use Rattle.std.proofs.Common.{◌≡◌, ◌≢◌, ◌<◌, ◌+◌, ℕ, zero, suc, min, Bool, eqb, List, [], ◌∷◌, ◌++◌, length, take, drop, Some, None, refl, ◌∙◌, inl, inr, arith, length-take-le}
+use Rattle.std.specs.List.{IsFirstMatchOrLen, concat, onto_first, position, position_or_len}
+use Rattle.std.proofs.lemmas.Bool.{both_ways, cases_eq, cases_lt, eq-eqb, ne_eqb, eqb-true, lt-ltb, ltb-true}
+use Rattle.std.proofs.lemmas.List.{take-append-drop}
+use Rattle.std.proofs.lemmas.List.Sums.{fails_before_first, passes_at_first}
+use Rattle.std.proofs.lemmas.Option.{cond_some}
 use Rattle.log_model.proofs.Laws.Pieces.{Lacks}
 use Rattle.run_log.specs.TextLines.{text_lines}
 
@@ -67,17 +70,25 @@ concat-text_lines (byte ∷ text) =
       | inr other ↦ rw (ne_eqb byte 10 other, concat-onto_first byte (text_lines text), concat-text_lines text) refl
     ]
 
--- a byte more is at most a line more
-length-onto_first : (byte : ℕ) (lines : List (List ℕ)) → length (onto_first byte lines) ≤ length lines + 1
-length-onto_first byte [] = omega arith
-length-onto_first byte (line ∷ lines) = omega arith
+-- the first line ends behind the first line feed, or with the text
+pub first_line : (text : List ℕ) (end : ℕ) → end ≡ min (position_or_len is_feed text + 1) (length text) → 0 < length text
+    → text_lines text ≡ take end text ∷ text_lines (drop end text)
+first_line text end ends some =
+    let whole : take end text ++ drop end text ≡ text = take-append-drop end text in
+    let long : length (take end text) ≡ end = length-take-le end text (omega arith) in
+    let feed : IsFirstMatchOrLen is_feed text (position_or_len is_feed text) =
+    (λ k d low high. fails_before_first is_feed text k d high, λ within d. passes_at_first is_feed text d within) in
+    rw whole at (text_lines-part (take end text) (drop end text) (position_or_len is_feed text) (rw whole (long ∙ ends)) (rw whole feed) (rw whole some))
 
--- a text has at most as many lines as bytes
-pub few_lines : (text : List ℕ) → length (text_lines text) ≤ length text
-few_lines [] = omega arith
-few_lines (byte ∷ text) =
-    let few : length (text_lines text) ≤ length text = few_lines text in
-    elim (cases_eq byte 10) [
-      | inl feed ↦ rw (eq-eqb byte 10 feed) (omega arith)
-      | inr other ↦ rw (ne_eqb byte 10 other) (omega (arith, length-onto_first byte (text_lines text)))
+pub line_end-Some : (text : List ℕ) (feed : ℕ) → position is_feed text ≡ Some feed → feed + 1 ≡ min (position_or_len is_feed text + 1) (length text)
+line_end-Some text feed found =
+    let here = cond_some _ _ _ found in
+    let within : position_or_len is_feed text < length text = ltb-true _ _ here.0 in
+    omega (arith, here.1)
+
+pub line_end-None : (text : List ℕ) → position is_feed text ≡ None → length text ≡ min (position_or_len is_feed text + 1) (length text)
+line_end-None text none =
+    elim (cases_lt (position_or_len is_feed text) (length text)) [
+      | inl within ↦ let some = rw (lt-ltb _ _ within) at none in absurd cc
+      | inr beyond ↦ omega arith
     ]

@@ -3,9 +3,10 @@ use Rattle.std.proofs.Common.{◌≡◌, ◌<◌, ◌≤◌, ◌^◌, ℕ, true,
 use Rattle.std.specs.Fmt.{decimal}
 use Rattle.std.specs.Prelude.{codes}
 use Rattle.std.specs.Str.{all_ascii_digits, bytes_eq}
-use Rattle.std.proofs.lemmas.Bool.{false≢true, false_from_ne_true}
+use Rattle.std.proofs.lemmas.Bool.{eq-eqb, false≢true, false_from_ne_true}
 use Rattle.std.proofs.lemmas.Fmt.{digits_decimal}
 use Rattle.std.proofs.lemmas.Slice.Eq.{bytes_eq-Decides}
+use Rattle.task_traits.specs.declared.traits.Priority.TheVariants.{BestEffort, UserVisible, UserBlocking}
 use Rattle.task_base.specs.declared.entry.Entry.{Entry}
 use Rattle.task_base.specs.declared.entry.Kind.{Kind}
 use Rattle.task_base.specs.declared.entry.Kind.TheVariants as kinds
@@ -60,6 +61,9 @@ reads_back (kinds.Leave task) h = rw (of_32 task h) refl
 reads_back (kinds.Policy All) h = refl
 reads_back (kinds.Policy Foreground) h = refl
 reads_back (kinds.Policy Nothing) h = refl
+reads_back (kinds.Reprio runner BestEffort) h = rw (of_32 runner h) refl
+reads_back (kinds.Reprio runner UserVisible) h = rw (of_32 runner h) refl
+reads_back (kinds.Reprio runner UserBlocking) h = rw (of_32 runner h) refl
 reads_back (kinds.Fence queue Now) h = rw (of_32 queue h) refl
 reads_back (kinds.Fence queue Start) h = rw (of_32 queue h) refl
 reads_back (kinds.Unfence queue) h = rw (of_32 queue h) refl
@@ -92,10 +96,10 @@ reads_back kinds.Idle h = refl
 reads_back kinds.Shutdown h = refl
 reads_back kinds.Done h = refl
 
--- the words of an entry, whatever the place, are read as that entry
-pub entry_reads_back : (place : ℕ) (e : Entry) → Fits e → entry_of (map shown (entry_parts place e)) ≡ Some e
+-- the words of an entry at a place are read as that entry
+pub entry_reads_back : (place : ℕ) (e : Entry) → place < 2 ^ 32 → Fits e → entry_of place (map shown (entry_parts place e)) ≡ Some e
 unfolding entry_of
-entry_reads_back place e h = rw (of_32 e.seat h.seat, reads_back e.kind h.kind) refl
+entry_reads_back place e low h = rw (of_32 place low, of_32 e.seat h.seat, reads_back e.kind h.kind, eq-eqb place place refl) refl
 
 -- an entry has at most eight words
 pub few_words : (place : ℕ) (e : Entry) → length (map shown (entry_parts place e)) ≤ 8

@@ -1,8 +1,9 @@
--- The one kind that words may be of: no other kind has these words. Whether it has them is left open, since numbers are
--- taken with zeros in front.
-use Rattle.std.specs.Prelude.{ℕ, if◌then◌else◌, true, false, Bool, List, [], ◌∷◌, codes, Option, Some, None}
+-- The kind that has these words, and the entry. No two kinds have the same words.
+use Rattle.std.specs.Prelude.{ℕ, ◌==◌, if◌then◌else◌, true, false, Bool, List, [], ◌∷◌, codes, Option, Some, None}
 use Rattle.std.specs.Option.{option_and_then}
 use Rattle.std.specs.Str.{bytes_eq}
+use Rattle.task_traits.specs.declared.traits.Priority.{Priority}
+use Rattle.task_traits.specs.declared.traits.Priority.TheVariants.{BestEffort, UserVisible, UserBlocking}
 use Rattle.task_base.specs.declared.entry.Entry.{Entry}
 use Rattle.task_base.specs.declared.entry.Kind.{Kind}
 use Rattle.task_base.specs.declared.entry.Kind.TheVariants as kinds
@@ -39,6 +40,14 @@ policy_of word =
     if bytes_eq word (codes "all") then Some All
     else (if bytes_eq word (codes "foreground") then Some Foreground
     else (if bytes_eq word (codes "none") then Some Nothing
+    else None))
+
+-- the priority that a word names (this project's own)
+abbrev pub priority_of : List ℕ → Option Priority
+priority_of word =
+    if bytes_eq word (codes "best_effort") then Some BestEffort
+    else (if bytes_eq word (codes "user_visible") then Some UserVisible
+    else (if bytes_eq word (codes "user_blocking") then Some UserBlocking
     else None))
 
 -- where the fence is set that a word names (this project's own)
@@ -83,12 +92,13 @@ unfoldable pub kind_with_two : List ℕ → List ℕ → List ℕ → Option Kin
 kind_with_two name first second =
     if bytes_eq name (codes "end") then (number_of 32 first >>= λ task. number_of 64 second >>= λ left. Some (kinds.End task left))
     else (if bytes_eq name (codes "block") then (number_of 32 first >>= λ task. scope_of second >>= λ scope. Some (kinds.Enter task scope))
+    else (if bytes_eq name (codes "reprio") then (number_of 32 first >>= λ runner. priority_of second >>= λ priority. Some (kinds.Reprio runner priority))
     else (if bytes_eq name (codes "fence") then (number_of 32 first >>= λ queue. fence_of second >>= λ at. Some (kinds.Fence queue at))
     else (if bytes_eq name (codes "rank") then (number_of 32 first >>= λ queue. number_of 8 second >>= λ class. Some (kinds.Rank queue class))
     else (if bytes_eq name (codes "mainend") then (number_of 32 first >>= λ task. number_of 64 second >>= λ left. Some (kinds.MainEnd task left))
     else (if bytes_eq name (codes "startjob") then (number_of 32 first >>= λ job. reply_of second >>= λ ok. Some (kinds.JobPost job ok))
     else (if bytes_eq name (codes "joined") then (number_of 32 first >>= λ job. ending_of second >>= λ reply. Some (kinds.Joined job reply))
-    else None))))))
+    else None)))))))
 
 -- the join of a job that is done, with its sum (this project's own)
 unfoldable pub joined_of : List ℕ → List ℕ → List ℕ → Option Kind
@@ -141,10 +151,11 @@ kind_of (name ∷ first ∷ second ∷ third ∷ fourth ∷ []) = kind_with_four
 kind_of (name ∷ first ∷ second ∷ third ∷ fourth ∷ fifth ∷ []) = kind_with_five name first second third fourth fifth
 kind_of words = None
 
--- the entry, by the words of its line; the place is passed over (this project's own)
-unfoldable pub entry_of : List (List ℕ) → Option Entry
-entry_of (place ∷ seat ∷ words) = do
+-- the entry, by the words of its line at a place (this project's own)
+unfoldable pub entry_of : ℕ → List (List ℕ) → Option Entry
+entry_of place (first ∷ seat ∷ words) = do
+  written ← number_of 32 first
   number ← number_of 32 seat
   kind ← kind_of words
-  Some (record { seat = number; kind = kind })
-entry_of words = None
+  if written == place then Some (record { seat = number; kind = kind }) else None
+entry_of place words = None

@@ -1,9 +1,11 @@
 -- The words of a line, and the numbers that they write.
 use Rattle.std.specs.Prelude.{ℕ, ◌==◌, ◌&&◌, ◌^◌, nat_lt, if◌then◌else◌, List, map, Option, Some, None}
 use Rattle.std.specs.Borrow.{Bor}
+use Rattle.std.specs.Fmt.{decimal}
 use Rattle.std.specs.List.{slice_split}
+use Rattle.std.specs.Str.{all_ascii_digits, bytes_eq}
 use Rattle.std.specs.Str.Parse.{digits_value}
-use Rattle.numeral_text.specs.Numeral.{is_numeral}
+use Rattle.numeral_text.specs.Numeral.{value_of}
 
 -- the bytes of each word (this project's own)
 abbrev pub texts : List (Bor (List ℕ)) → List (List ℕ)
@@ -13,8 +15,12 @@ texts words = map (λ word. word.now) words
 abbrev pub words_of : List ℕ → List (List ℕ)
 words_of line = slice_split (λ byte. byte == 32) line
 
--- the number that a word of digits writes, if it has at most so many bits; there may be zeros in front (this project's
--- own rule)
+-- the number that digits write, if it has at most 64 bits; there may be zeros in front, and no digits write 0 (this
+-- project's own rule)
+abbrev pub sum_of : List ℕ → Option ℕ
+sum_of word = if all_ascii_digits word then value_of word else None
+
+-- the number whose text a word is, without zeros in front, if it has at most so many bits (this project's own rule)
 unfoldable pub number_of : ℕ → List ℕ → Option ℕ
 number_of bits word =
-    if is_numeral word && nat_lt (digits_value 10 word) (2 ^ bits) then Some (digits_value 10 word) else None
+    if bytes_eq word (decimal (digits_value 10 word)) && nat_lt (digits_value 10 word) (2 ^ bits) then Some (digits_value 10 word) else None

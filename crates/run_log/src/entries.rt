@@ -1,12 +1,11 @@
-ghost use Rattle.std.specs.Prelude.{◌≡◌, ℕ, ◌<◌, Some, None, MatchOption, IfSome, length};
+ghost use Rattle.std.specs.Prelude.{◌≡◌, ◌<◌, None, MatchOption, IfSome, length, map};
 ghost use Rattle.task_base.specs.declared.entry.Entry.{Entry};
 ghost use Rattle.log_model.specs.Fits.{Fits};
-ghost use Rattle.log_model.specs.LogText.{IsLogLine};
+ghost use Rattle.log_model.specs.LogText.{IsLogLine, entry_parts, shown};
 ghost use Rattle.run_log.specs.Kinds.{entry_of};
 ghost use Rattle.run_log.specs.Words.{texts, words_of};
 
 use crate::kinds::kind_of;
-use crate::lines::line;
 use crate::numerals::number_32;
 use arrayvec::ArrayVec;
 use task_base::{Entry, Place};
@@ -16,33 +15,25 @@ pub(crate) fn entry_at(place: Place, bytes: &[u8]) -> Option<Entry>
     ensures found { IfSome result (λ e. IsLogLine place bytes.now e) }
     ensures none { result ≡ None → (e : Entry) → ¬ IsLogLine place bytes.now e }
 {
-    let entry = candidate(bytes)?;
-    let expected = line(place, &entry);
-    if expected.as_slice() != bytes {
-        return None;
-    }
-    Some(entry)
-}
-
-// The one entry whose line these bytes may be. At no place are they the line of another.
-fn candidate(bytes: &[u8]) -> Option<Entry>
-    ensures only { (place : ℕ) (e : Entry) → IsLogLine place bytes.now e → result ≡ Some e }
-    ensures fits { IfSome result Fits }
-{
     let [front @ .., b'\n'] = bytes else {
         return None;
     };
-    entry_of(&words_of(front)?)
+    entry_of(place, &words_of(front)?)
 }
 
+// The entry whose words these are at this place, if there is one.
 #[tactic(auto, unfolding(crate::specs::Kinds::entry_of))]
-fn entry_of(words: &[&[u8]]) -> Option<Entry>
-    ensures same { result ≡ entry_of (texts words.now) }
+fn entry_of(place: Place, words: &[&[u8]]) -> Option<Entry>
+    ensures same { result ≡ entry_of place (texts words.now) }
+    ensures parts { IfSome result (λ e. texts words.now ≡ map shown (entry_parts place e)) }
     ensures fits { IfSome result Fits }
 {
-    let [_place, seat, words @ ..] = words else {
+    let [first, seat, words @ ..] = words else {
         return None;
     };
+    if number_32(first)? != place {
+        return None;
+    }
     let seat = number_32(seat)?;
     let kind = kind_of(words)?;
     Some(Entry { seat, kind })

@@ -6,7 +6,9 @@ use std::alloc::{AllocError, AllocFailed};
 /// Why bytes gave no log.
 #[derive(Clone, Copy, Debug, PartialEq, Eq)]
 pub enum LogFault {
-    /// The bytes are the text of no log. This line, counted from 1, is the first that is no line of its place.
+    /// The bytes are the text of no log. This line, counted from 1, is the first that is not right. Right are a first line that
+    /// says version 2, the line of an entry at its place, and in version 2 a last line that says how many entries there are.
+    /// Where that one is missing, it is the line behind the last.
     Bad { line: u32 },
     /// An allocation failed.
     Memory(AllocError),

@@ -1,11 +1,11 @@
 ghost use Rattle.std.specs.Prelude.{◌≡◌, ◌∷◌, [], map, codes, string_bytes, IfOk, OnOk};
 ghost use Rattle.serde_json.specs.View.{view};
-ghost use Rattle.log_model.specs.LogText.{word, number, json_of, parts_of, next_part, reply_parts, reply_word, vote_word, scope_word, policy_word, fence_word};
+ghost use Rattle.log_model.specs.LogText.{word, number, json_of, parts_of, next_part, reply_parts, reply_word, vote_word, scope_word, policy_word, priority_word, fence_word};
 ghost use Rattle.run_log.specs.JsonRows.{with_parts};
 
 use serde_json::Value;
 use std::alloc::{AllocError, Global};
-use task_base::{Entry, FenceAt, JobReply, Kind, Policy, Scope};
+use task_base::{Entry, FenceAt, JobReply, Kind, Policy, Priority, Scope};
 
 /// The entry in JSON: an array of its place, its seat, the word of its kind and the arguments, numbers as numbers and
 /// words as strings. The error is want of memory.
@@ -46,6 +46,9 @@ fn add_kind(alloc: Global, row: &mut Vec<Value>, kind: &Kind) -> Result<(), Allo
         Kind::Enter { task, scope } => add_flag(alloc, row, "block", task, scope_text(scope)),
         Kind::Leave { task } => add_one(alloc, row, "unblock", u64::from(task)),
         Kind::Policy { policy } => add_words(alloc, row, "policy", policy_text(policy)),
+        Kind::Reprio { runner, priority } => {
+            add_flag(alloc, row, "reprio", runner, priority_text(priority))
+        }
         Kind::Fence { queue, at } => add_flag(alloc, row, "fence", queue, fence_text(at)),
         Kind::Unfence { queue } => add_one(alloc, row, "unfence", u64::from(queue)),
         Kind::Vote { queue, voter, on } => add_vote(alloc, row, queue, voter, on),
@@ -267,6 +270,16 @@ fn policy_text(policy: Policy) -> &'static str
         Policy::All => "all",
         Policy::Foreground => "foreground",
         Policy::Nothing => "none",
+    }
+}
+
+fn priority_text(priority: Priority) -> &'static str
+    ensures { result.now ≡ priority_word priority }
+{
+    match priority {
+        Priority::BestEffort => "best_effort",
+        Priority::UserVisible => "user_visible",
+        Priority::UserBlocking => "user_blocking",
     }
 }
 

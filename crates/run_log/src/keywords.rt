@@ -1,13 +1,15 @@
-ghost use Rattle.std.specs.Prelude.{◌≡◌, IfSome};
+ghost use Rattle.std.specs.Prelude.{◌≡◌, [], ◌∷◌, IfSome, map};
 ghost use Rattle.log_model.specs.Fits.{NextFits, ReplyFits};
-ghost use Rattle.run_log.specs.Kinds.{reply_of, vote_of, scope_of, policy_of, fence_of, next_of, ending_of};
+ghost use Rattle.log_model.specs.LogText.{shown, next_part, reply_parts, reply_word, vote_word, scope_word, policy_word, priority_word, fence_word};
+ghost use Rattle.run_log.specs.Kinds.{reply_of, vote_of, scope_of, policy_of, priority_of, fence_of, next_of, ending_of};
 
 use crate::numerals::number_32;
-use task_base::{FenceAt, JobReply, Policy, Scope};
+use task_base::{FenceAt, JobReply, Policy, Priority, Scope};
 
 /// The reply of a post.
 pub(crate) fn reply_of(word: &[u8]) -> Option<bool>
-    ensures { result ≡ reply_of word.now }
+    ensures same { result ≡ reply_of word.now }
+    ensures text { IfSome result (λ ok. word.now ≡ reply_word ok) }
 {
     if word == b"ok".as_slice() {
         Some(true)
@@ -20,7 +22,8 @@ pub(crate) fn reply_of(word: &[u8]) -> Option<bool>
 
 /// A vote.
 pub(crate) fn vote_of(word: &[u8]) -> Option<bool>
-    ensures { result ≡ vote_of word.now }
+    ensures same { result ≡ vote_of word.now }
+    ensures text { IfSome result (λ on. word.now ≡ vote_word on) }
 {
     if word == b"on".as_slice() {
         Some(true)
@@ -33,7 +36,8 @@ pub(crate) fn vote_of(word: &[u8]) -> Option<bool>
 
 /// A blocking scope.
 pub(crate) fn scope_of(word: &[u8]) -> Option<Scope>
-    ensures { result ≡ scope_of word.now }
+    ensures same { result ≡ scope_of word.now }
+    ensures text { IfSome result (λ scope. word.now ≡ scope_word scope) }
 {
     if word == b"may".as_slice() {
         Some(Scope::May)
@@ -46,7 +50,8 @@ pub(crate) fn scope_of(word: &[u8]) -> Option<Scope>
 
 /// A policy.
 pub(crate) fn policy_of(word: &[u8]) -> Option<Policy>
-    ensures { result ≡ policy_of word.now }
+    ensures same { result ≡ policy_of word.now }
+    ensures text { IfSome result (λ policy. word.now ≡ policy_word policy) }
 {
     if word == b"all".as_slice() {
         Some(Policy::All)
@@ -59,9 +64,26 @@ pub(crate) fn policy_of(word: &[u8]) -> Option<Policy>
     }
 }
 
+/// A priority.
+pub(crate) fn priority_of(word: &[u8]) -> Option<Priority>
+    ensures same { result ≡ priority_of word.now }
+    ensures text { IfSome result (λ priority. word.now ≡ priority_word priority) }
+{
+    if word == b"best_effort".as_slice() {
+        Some(Priority::BestEffort)
+    } else if word == b"user_visible".as_slice() {
+        Some(Priority::UserVisible)
+    } else if word == b"user_blocking".as_slice() {
+        Some(Priority::UserBlocking)
+    } else {
+        None
+    }
+}
+
 /// Where a fence is set.
 pub(crate) fn fence_of(word: &[u8]) -> Option<FenceAt>
-    ensures { result ≡ fence_of word.now }
+    ensures same { result ≡ fence_of word.now }
+    ensures text { IfSome result (λ at. word.now ≡ fence_word at) }
 {
     if word == b"now".as_slice() {
         Some(FenceAt::Now)
@@ -75,6 +97,7 @@ pub(crate) fn fence_of(word: &[u8]) -> Option<FenceAt>
 /// The item that a seat goes on with: `-` says that there is none.
 pub(crate) fn next_of(word: &[u8]) -> Option<Option<u32>>
     ensures same { result ≡ next_of word.now }
+    ensures text { IfSome result (λ next. word.now ≡ shown (next_part next)) }
     ensures fits { IfSome result NextFits }
 {
     if word == b"-".as_slice() {
@@ -87,6 +110,7 @@ pub(crate) fn next_of(word: &[u8]) -> Option<Option<u32>>
 /// How a joined job has ended that has no sum.
 pub(crate) fn ending_of(word: &[u8]) -> Option<JobReply>
     ensures same { result ≡ ending_of word.now }
+    ensures text { IfSome result (λ reply. map shown (reply_parts reply) ≡ word.now ∷ []) }
     ensures fits { IfSome result ReplyFits }
 {
     if word == b"refused".as_slice() {

@@ -1,17 +1,20 @@
-ghost use Rattle.std.specs.Prelude.{◌≡◌, IfSome};
+ghost use Rattle.std.specs.Prelude.{◌≡◌, [], ◌∷◌, codes, IfSome};
 ghost use Rattle.log_model.specs.Fits.{KindFits};
+ghost use Rattle.log_model.specs.LogText.{kind_words};
 ghost use Rattle.run_log.specs.Kinds.{kind_of, kind_alone, kind_with_one, kind_with_two, kind_with_three, kind_with_four, kind_with_five, joined_of};
 ghost use Rattle.run_log.specs.Words.{texts};
 
-use crate::keywords::{ending_of, fence_of, next_of, policy_of, reply_of, scope_of, vote_of};
+use crate::keywords::{
+    ending_of, fence_of, next_of, policy_of, priority_of, reply_of, scope_of, vote_of,
+};
 use crate::numerals::{number_8, number_32, number_64};
 use task_base::{JobReply, Kind};
 
-/// The one kind that may have these words, its name and its arguments. Whether it has them is left open, since numbers
-/// are taken with zeros in front.
+/// The kind that has these words, its name and its arguments, if there is one.
 #[tactic(auto, unfolding(crate::specs::Kinds::kind_of))]
 pub(crate) fn kind_of(words: &[&[u8]]) -> Option<Kind>
     ensures same { result ≡ kind_of (texts words.now) }
+    ensures words { IfSome result (λ kind. kind_words kind ≡ texts words.now) }
     ensures fits { IfSome result KindFits }
 {
     match words {
@@ -32,6 +35,7 @@ pub(crate) fn kind_of(words: &[&[u8]]) -> Option<Kind>
 #[tactic(auto, unfolding(crate::specs::Kinds::kind_alone))]
 fn kind_alone(name: &[u8]) -> Option<Kind>
     ensures same { result ≡ kind_alone name.now }
+    ensures words { IfSome result (λ kind. kind_words kind ≡ name.now ∷ []) }
     ensures fits { IfSome result KindFits }
 {
     if name == b"mainnone".as_slice() {
@@ -50,6 +54,7 @@ fn kind_alone(name: &[u8]) -> Option<Kind>
 #[tactic(auto, unfolding(crate::specs::Kinds::kind_with_one))]
 fn kind_with_one(name: &[u8], first: &[u8]) -> Option<Kind>
     ensures same { result ≡ kind_with_one name.now first.now }
+    ensures words { IfSome result (λ kind. kind_words kind ≡ name.now ∷ first.now ∷ []) }
     ensures fits { IfSome result KindFits }
 {
     if name == b"tick".as_slice() {
@@ -81,6 +86,7 @@ fn kind_with_one(name: &[u8], first: &[u8]) -> Option<Kind>
 #[tactic(auto, unfolding(crate::specs::Kinds::kind_with_two))]
 fn kind_with_two(name: &[u8], first: &[u8], second: &[u8]) -> Option<Kind>
     ensures same { result ≡ kind_with_two name.now first.now second.now }
+    ensures words { IfSome result (λ kind. kind_words kind ≡ name.now ∷ first.now ∷ second.now ∷ []) }
     ensures fits { IfSome result KindFits }
 {
     if name == b"end".as_slice() {
@@ -89,6 +95,9 @@ fn kind_with_two(name: &[u8], first: &[u8], second: &[u8]) -> Option<Kind>
     } else if name == b"block".as_slice() {
         let (task, scope) = (number_32(first)?, scope_of(second)?);
         Some(Kind::Enter { task, scope })
+    } else if name == b"reprio".as_slice() {
+        let (runner, priority) = (number_32(first)?, priority_of(second)?);
+        Some(Kind::Reprio { runner, priority })
     } else if name == b"fence".as_slice() {
         let (queue, at) = (number_32(first)?, fence_of(second)?);
         Some(Kind::Fence { queue, at })
@@ -112,6 +121,7 @@ fn kind_with_two(name: &[u8], first: &[u8], second: &[u8]) -> Option<Kind>
 #[tactic(auto, unfolding(crate::specs::Kinds::kind_with_three))]
 fn kind_with_three(name: &[u8], first: &[u8], second: &[u8], third: &[u8]) -> Option<Kind>
     ensures same { result ≡ kind_with_three name.now first.now second.now third.now }
+    ensures words { IfSome result (λ kind. kind_words kind ≡ name.now ∷ first.now ∷ second.now ∷ third.now ∷ []) }
     ensures fits { IfSome result KindFits }
 {
     if name == b"take".as_slice() {
@@ -141,6 +151,7 @@ fn kind_with_three(name: &[u8], first: &[u8], second: &[u8], third: &[u8]) -> Op
 #[tactic(auto, unfolding(crate::specs::Kinds::joined_of))]
 fn joined_of(first: &[u8], second: &[u8], third: &[u8]) -> Option<Kind>
     ensures same { result ≡ joined_of first.now second.now third.now }
+    ensures words { IfSome result (λ kind. kind_words kind ≡ codes "joined" ∷ first.now ∷ second.now ∷ third.now ∷ []) }
     ensures fits { IfSome result KindFits }
 {
     if second != b"done".as_slice() {
@@ -160,6 +171,7 @@ fn kind_with_four(
     fourth: &[u8],
 ) -> Option<Kind>
     ensures same { result ≡ kind_with_four name.now first.now second.now third.now fourth.now }
+    ensures words { IfSome result (λ kind. kind_words kind ≡ name.now ∷ first.now ∷ second.now ∷ third.now ∷ fourth.now ∷ []) }
     ensures fits { IfSome result KindFits }
 {
     let (task, home) = (number_32(first)?, number_32(second)?);
@@ -193,6 +205,7 @@ fn kind_with_five(
     fifth: &[u8],
 ) -> Option<Kind>
     ensures same { result ≡ kind_with_five name.now first.now second.now third.now fourth.now fifth.now }
+    ensures words { IfSome result (λ kind. kind_words kind ≡ name.now ∷ first.now ∷ second.now ∷ third.now ∷ fourth.now ∷ fifth.now ∷ []) }
     ensures fits { IfSome result KindFits }
 {
     let (job, id, item) = (number_32(first)?, number_32(second)?, number_32(third)?);

@@ -1,7 +1,7 @@
 //! Logs as texts: the writer and the reader of a log's text, and the writer of its JSON form.
 //!
 //! What was written is a prefix of the log's text, and the whole of it where nothing failed; what is read is the log of
-//! exactly this text. Contracts see a log as the list of its entries.
+//! exactly this text, in the version that the text's first line says. Contracts see a log as the list of its entries.
 #![tactic(auto)]
 
 mod entries;
@@ -14,6 +14,7 @@ mod kinds;
 mod lines;
 mod numerals;
 mod read;
+mod versions;
 mod writer;
 
 pub use fault::LogFault;
@@ -21,4 +22,5 @@ pub use json::write_json;
 pub use json_fault::JsonFault;
 pub use lines::line;
 pub use read::read_log;
+pub use versions::{lines_before, version_of};
 pub use writer::write_log;

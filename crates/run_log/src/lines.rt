@@ -1,10 +1,10 @@
 ghost use Rattle.std.specs.Prelude.{◌≡◌, ◌+◌, ◌≤◌, [], ◌∷◌, ◌++◌, length, map, decimal};
 ghost use Rattle.task_base.specs.declared.entry.Kind.TheVariants.{Vote, JobStep, Joined};
-ghost use Rattle.log_model.specs.LogText.{kind_words, line_of, shown, next_part, reply_parts, reply_word, vote_word, scope_word, policy_word, fence_word};
+ghost use Rattle.log_model.specs.LogText.{kind_words, line_of, shown, next_part, reply_parts, reply_word, vote_word, scope_word, policy_word, priority_word, fence_word};
 ghost use Rattle.run_log.specs.Lines.{with_words};
 
 use line_text::{Line, add_decimal, add_number, add_word};
-use task_base::{Entry, FenceAt, JobId, JobReply, Kind, Place, Policy, QueueId, Scope};
+use task_base::{Entry, FenceAt, JobId, JobReply, Kind, Place, Policy, Priority, QueueId, Scope};
 
 /// The line of an entry at its place, with its line feed: decimal numbers and words, parted by single spaces (this
 /// project's own rule). The longest line, that of a job's step, has 95 bytes. It takes no memory.
@@ -48,6 +48,9 @@ fn add_kind(line: &mut Line, kind: &Kind)
         Kind::Enter { task, scope } => add_flag(line, b"block", task, scope_bytes(scope)),
         Kind::Leave { task } => add_one(line, b"unblock", u64::from(task)),
         Kind::Policy { policy } => add_words(line, b"policy", policy_bytes(policy)),
+        Kind::Reprio { runner, priority } => {
+            add_flag(line, b"reprio", runner, priority_bytes(priority))
+        }
         Kind::Fence { queue, at } => add_flag(line, b"fence", queue, fence_bytes(at)),
         Kind::Unfence { queue } => add_one(line, b"unfence", u64::from(queue)),
         Kind::Vote { queue, voter, on } => add_vote(line, queue, voter, on),
@@ -126,7 +129,7 @@ fn add_words(line: &mut Line, name: &[u8], word: &[u8])
 fn add_flag(line: &mut Line, name: &[u8], first: u32, word: &[u8])
     requires line { length line.old.items ≤ 50 }
     requires name { length name.now ≤ 9 }
-    requires word { length word.now ≤ 10 }
+    requires word { length word.now ≤ 20 }
     ensures words { line.new.items ≡ with_words line.old.items (name.now ∷ decimal first ∷ word.now ∷ []) }
     ensures short { length line.new.items ≤ 200 }
 {
@@ -247,6 +250,17 @@ fn policy_bytes(policy: Policy) -> &'static [u8]
         Policy::All => b"all",
         Policy::Foreground => b"foreground",
         Policy::Nothing => b"none",
+    }
+}
+
+fn priority_bytes(priority: Priority) -> &'static [u8]
+    ensures word { result.now ≡ priority_word priority }
+    ensures short { length result.now ≤ 20 }
+{
+    match priority {
+        Priority::BestEffort => b"best_effort",
+        Priority::UserVisible => b"user_visible",
+        Priority::UserBlocking => b"user_blocking",
     }
 }
 

@@ -1,33 +1,46 @@
-ghost use Rattle.std.specs.Prelude.{◌≡◌, ◌<◌, ◌^◌, IfSome};
-ghost use Rattle.run_log.specs.Words.{number_of};
+ghost use Rattle.std.specs.Prelude.{◌≡◌, ◌<◌, ◌^◌, IfSome, decimal};
+ghost use Rattle.run_log.specs.Words.{number_of, sum_of};
 
-use numeral_text::{is_numeral, value_of};
-
-/// The number that a word of digits writes, if it has at most 64 bits.
-#[tactic(auto, unfolding(crate::specs::Words::number_of))]
+/// The number of at most 64 bits whose text the word is, if there is one.
 pub(crate) fn number_64(word: &[u8]) -> Option<u64>
-    ensures { result ≡ number_of 64 word.now }
+    ensures same { result ≡ number_of 64 word.now }
+    ensures text { IfSome result (λ number. word.now ≡ decimal number) }
 {
-    if is_numeral(word) {
-        value_of(word)
-    } else {
-        None
+    match word {
+        [] | [b'0', _, ..] => None,
+        _ => sum_of(word),
     }
 }
 
-/// The number that a word of digits writes, if it has at most 32 bits.
+// The number of at most 64 bits that digits write, if there is one. There may be zeros in front, and no digits write 0.
+fn sum_of(digits: &[u8]) -> Option<u64>
+    ensures { result ≡ sum_of digits.now }
+{
+    let mut sum: u64 = 0;
+    for digit in digits {
+        if !digit.is_ascii_digit() {
+            return None;
+        }
+        sum = sum.checked_mul(10)?.checked_add(u64::from(*digit - b'0'))?;
+    }
+    Some(sum)
+}
+
+/// The number of at most 32 bits whose text the word is, if there is one.
 #[tactic(auto, unfolding(crate::specs::Words::number_of))]
 pub(crate) fn number_32(word: &[u8]) -> Option<u32>
     ensures same { result ≡ number_of 32 word.now }
+    ensures text { IfSome result (λ number. word.now ≡ decimal number) }
     ensures fits { IfSome result (λ number. number < 2 ^ 32) }
 {
     u32::try_from(number_64(word)?).ok()
 }
 
-/// The number that a word of digits writes, if it has at most 8 bits.
+/// The number of at most 8 bits whose text the word is, if there is one.
 #[tactic(auto, unfolding(crate::specs::Words::number_of))]
 pub(crate) fn number_8(word: &[u8]) -> Option<u8>
     ensures same { result ≡ number_of 8 word.now }
+    ensures text { IfSome result (λ number. word.now ≡ decimal number) }
     ensures fits { IfSome result (λ number. number < 2 ^ 8) }
 {
     u8::try_from(number_64(word)?).ok()

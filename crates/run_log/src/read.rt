@@ -1,36 +1,74 @@
-ghost use Rattle.std.specs.Prelude.{◌≡◌, ◌≢◌, ℕ, ◌-◌, ◌<◌, ◌^◌, List, All, IfOk, Err, length};
+ghost use Rattle.std.specs.Prelude.{◌≡◌, ◌≢◌, ℕ, ◌+◌, ◌-◌, ◌<◌, ◌≤◌, ◌==◌, ◌^◌, List, All, IfOk, Err, length, min};
+ghost use Rattle.std.specs.List.{position, position_or_len};
 ghost use Rattle.task_base.specs.declared.entry.Entry.{Entry};
+ghost use Rattle.log_model.specs.declared.version.Version.{Version};
 ghost use Rattle.log_model.specs.Fits.{Fits};
-ghost use Rattle.log_model.specs.LogText.{log_text};
-ghost use Rattle.run_log.specs.TextLines.{IsBadLine};
+ghost use Rattle.log_model.specs.LogText.{text_in, version_of};
+ghost use Rattle.run_log.specs.TextLines.{IsRead, IsBadLine};
 
 use crate::entries::entry_at;
 use crate::fault::LogFault;
-use std::alloc::Global;
+use crate::versions::{end_of, lines_before, split_head};
+use std::alloc::{AllocError, Global};
 use task_base::{Entry, Place, Rows};
 
-/// Reads the text of a log. The time that it takes grows with the number of bytes alone, and it takes memory for the
-/// entries alone.
+/// Reads the text of a log, of version 2 where its first line says so, else of version 1. The time that it takes grows
+/// with the number of bytes alone, and it takes memory for the entries alone.
 ///
 /// The errors are bytes that are the text of no log, and want of memory. Which of the two comes is open where memory
 /// runs out before the first bad line is met.
 pub fn read_log(alloc: Global, bytes: &[u8]) -> Result<Rows<Entry>, LogFault>
     // Lines are counted in 32 bits.
     requires { length bytes.now < 2 ^ 32 - 1 }
-    ensures text { IfOk result (λ log. log_text log.items ≡ bytes.now) }
+    ensures text { IfOk result (λ log. text_in (version_of bytes.now) log.items ≡ bytes.now) }
     ensures fits { IfOk result (λ log. All Fits log.items) }
     ensures bad { (line : ℕ) → result ≡ Err (LogFault.Bad line) → IsBadLine bytes.now line }
 
-    // Bytes are bad only where they are the text of no log.
-    ensures no_log { (line : ℕ) → result ≡ Err (LogFault.Bad line) → (log : List Entry) → All Fits log → log_text log ≢ bytes.now }
+    // Bytes are bad only where they are the text of no log, in either version.
+    ensures no_log { (line : ℕ) → result ≡ Err (LogFault.Bad line) → (version : Version) (log : List Entry) → All Fits log → text_in version log ≢ bytes.now }
 {
-    let mut entries = Vec::new(alloc);
-    for line in bytes.split_inclusive(|byte| *byte == b'\n') {
-        let place = entries.len() as Place;
-        let Some(entry) = entry_at(place, line) else {
-            return Err(LogFault::Bad { line: place + 1 });
-        };
-        entries.push(entry)?;
+    let (version, lines) = split_head(bytes);
+    let (entries, rest) = entries_of(alloc, lines)?;
+    let count = entries.len() as Place;
+    if rest != end_of(version, count).as_slice() {
+        return Err(LogFault::Bad {
+            line: lines_before(version) + count + 1,
+        });
     }
     Ok(Rows::from_vec(entries))
+}
+
+// The entries whose lines stand in front of the bytes, each at its place, and what stands behind them.
+fn entries_of(alloc: Global, bytes: &[u8]) -> Result<(Vec<Entry>, &[u8]), AllocError>
+    requires { length bytes.now < 2 ^ 32 }
+    ensures read { IfOk result (λ read. IsRead bytes.now read.0.items read.1.now) }
+    ensures few { IfOk result (λ read. length read.0.items ≤ length bytes.now) }
+{
+    let mut entries = Vec::new(alloc);
+    let mut rest = bytes;
+    loop {
+        let (line, behind) = rest.split_at(line_end(rest));
+        let Some(entry) = entry_at(entries.len() as Place, line) else {
+            return Ok((entries, rest));
+        };
+        entries.push(entry)?;
+        rest = behind;
+    }
+}
+
+// Where the first line ends: behind its line feed, or with the bytes.
+fn line_end(bytes: &[u8]) -> usize
+    ensures { result ≡ min (position_or_len (λ byte. byte == 10) bytes.now + 1) (length bytes.now) }
+{
+    match first_feed(bytes) {
+        Some(feed) => feed + 1,
+        None => bytes.len(),
+    }
+}
+
+// Where the first line feed stands.
+fn first_feed(bytes: &[u8]) -> Option<usize>
+    ensures { result ≡ position (λ byte. byte == 10) bytes.now }
+{
+    bytes.iter().position(|byte| *byte == b'\n')
 }

@@ -6,6 +6,8 @@ use Rattle.std.specs.Fmt.{decimal, digits, digits_onto, digit_glyph}
 use Rattle.std.specs.List.{AllByRecursion, list_all, join_with_byte}
 use Rattle.std.proofs.lemmas.Fmt.{decimal_injective}
 use Rattle.std.proofs.lemmas.List.{append_cancel_right}
+use Rattle.task_traits.specs.declared.traits.Priority.{Priority}
+use Rattle.task_traits.specs.declared.traits.Priority.TheVariants.{BestEffort, UserVisible, UserBlocking}
 use Rattle.task_base.specs.declared.entry.Kind.{Kind}
 use Rattle.task_base.specs.declared.entry.Kind.TheVariants as kinds
 use Rattle.task_base.specs.declared.entry.JobReply.{JobReply}
@@ -26,7 +28,7 @@ abbrev is_digit : ℕ → Bool
 is_digit b = nat_lt 47 b && nat_lt b 58
 
 -- plain bytes that are no number
-abbrev is_name : List ℕ → Bool
+abbrev pub is_name : List ℕ → Bool
 is_name bytes = list_all is_plain bytes && not (list_all is_digit bytes)
 
 -- a word is no number, and a number is of 64 bits
@@ -53,6 +55,10 @@ value_at parts k = value_of (get_or parts k (number 0))
 abbrev policy_read : List Part → ℕ → Policy
 policy_read parts k = if says parts k (codes "all") then All else if says parts k (codes "none") then Nothing else Foreground
 
+abbrev priority_read : List Part → ℕ → Priority
+priority_read parts k =
+    if says parts k (codes "best_effort") then BestEffort else if says parts k (codes "user_visible") then UserVisible else UserBlocking
+
 abbrev reply_read : List Part → ℕ → JobReply
 reply_read parts k = if says parts k (codes "refused") then replies.Refused else if says parts k (codes "done") then replies.Finished
     (value_at parts (k + 1)) else if says parts k (codes "cancelled") then replies.Cancelled else replies.Stopped
@@ -72,6 +78,7 @@ kind_read p =
     else if says p 0 (codes "block") then kinds.Enter (v 1) (if says p 2 (codes "may") then May else Will)
     else if says p 0 (codes "unblock") then kinds.Leave (v 1)
     else if says p 0 (codes "policy") then kinds.Policy (policy_read p 1)
+    else if says p 0 (codes "reprio") then kinds.Reprio (v 1) (priority_read p 2)
     else if says p 0 (codes "fence") then kinds.Fence (v 1) (if says p 2 (codes "now") then Now else Start)
     else if says p 0 (codes "unfence") then kinds.Unfence (v 1)
     else if says p 0 (codes "vote") then kinds.Vote (v 1) (v 2) (says p 3 (codes "on"))
@@ -105,6 +112,9 @@ reads_back (kinds.Leave task) = refl
 reads_back (kinds.Policy All) = refl
 reads_back (kinds.Policy Foreground) = refl
 reads_back (kinds.Policy Nothing) = refl
+reads_back (kinds.Reprio runner BestEffort) = refl
+reads_back (kinds.Reprio runner UserVisible) = refl
+reads_back (kinds.Reprio runner UserBlocking) = refl
 reads_back (kinds.Fence queue Now) = refl
 reads_back (kinds.Fence queue Start) = refl
 reads_back (kinds.Unfence queue) = refl
@@ -144,6 +154,9 @@ parts_fit (kinds.Enter task Will) h = search arith
 parts_fit (kinds.Policy All) h = search arith
 parts_fit (kinds.Policy Foreground) h = search arith
 parts_fit (kinds.Policy Nothing) h = search arith
+parts_fit (kinds.Reprio runner BestEffort) h = search arith
+parts_fit (kinds.Reprio runner UserVisible) h = search arith
+parts_fit (kinds.Reprio runner UserBlocking) h = search arith
 parts_fit (kinds.Fence queue Now) h = search arith
 parts_fit (kinds.Fence queue Start) h = search arith
 parts_fit (kinds.Vote queue voter true) h = search arith
@@ -219,7 +232,7 @@ shown_json_lacks c out quote (word bytes) h = (quote, Lacks-append c bytes (34 �
 shown_json_lacks c out quote (number n) h = decimal_lacks c out n
 
 -- a word is no number in text
-name_is_no_number : (bytes : List ℕ) (n : ℕ) → is_name bytes ≡ true → bytes ≢ decimal n
+pub name_is_no_number : (bytes : List ℕ) (n : ℕ) → is_name bytes ≡ true → bytes ≢ decimal n
 name_is_no_number bytes n h e =
     let named : not (list_all is_digit bytes) ≡ true = (both (list_all is_plain bytes) (not (list_all is_digit bytes)) h).1 in
     let digits : list_all is_digit bytes ≡ true = ap (list_all is_digit) e ∙ digits_pass is_digit digit_passes (decimal n) (decimal_is_digits n) in

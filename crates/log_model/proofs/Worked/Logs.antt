@@ -2,6 +2,7 @@
 use Rattle.std.proofs.Common.{◌≡◌, ℕ, true, false, None, Some, List, [], ◌∷◌, refl, arith}
 use Rattle.std.specs.Prelude.{codes, map}
 use Rattle.std.specs.Fmt.{digits}
+use Rattle.task_traits.specs.declared.traits.Priority.TheVariants.{BestEffort, UserVisible, UserBlocking}
 use Rattle.task_base.specs.declared.entry.Entry.{Entry}
 use Rattle.task_base.specs.declared.entry.Kind.{Kind}
 use Rattle.task_base.specs.declared.entry.Kind.TheVariants as kinds
@@ -9,7 +10,8 @@ use Rattle.task_base.specs.declared.entry.JobReply.TheVariants as replies
 use Rattle.task_base.specs.declared.policy.Policy.TheVariants.{All, Foreground, Nothing}
 use Rattle.task_base.specs.declared.script.FenceAt.TheVariants.{Now, Start}
 use Rattle.task_base.specs.declared.step.Scope.TheVariants.{May, Will}
-use Rattle.log_model.specs.LogText.{line_of, log_text, json_of, log_json, IsLogLine}
+use Rattle.log_model.specs.declared.version.Version.TheVariants.{One, Two}
+use Rattle.log_model.specs.LogText.{line_of, log_lines, log_text, version_of, json_of, log_json, IsLogLine}
 
 abbrev entry_of : ℕ → Kind → Entry
 entry_of seat kind = record { seat = seat; kind = kind }
@@ -39,6 +41,9 @@ rows =
     ∷ row (kinds.Policy All) (codes "12 3 policy all\n") (codes "[12,3,\"policy\",\"all\"]")
     ∷ row (kinds.Policy Foreground) (codes "12 3 policy foreground\n") (codes "[12,3,\"policy\",\"foreground\"]")
     ∷ row (kinds.Policy Nothing) (codes "12 3 policy none\n") (codes "[12,3,\"policy\",\"none\"]")
+    ∷ row (kinds.Reprio 4 BestEffort) (codes "12 3 reprio 4 best_effort\n") (codes "[12,3,\"reprio\",4,\"best_effort\"]")
+    ∷ row (kinds.Reprio 4 UserVisible) (codes "12 3 reprio 4 user_visible\n") (codes "[12,3,\"reprio\",4,\"user_visible\"]")
+    ∷ row (kinds.Reprio 4 UserBlocking) (codes "12 3 reprio 4 user_blocking\n") (codes "[12,3,\"reprio\",4,\"user_blocking\"]")
     ∷ row (kinds.Fence 4 Now) (codes "12 3 fence 4 now\n") (codes "[12,3,\"fence\",4,\"now\"]")
     ∷ row (kinds.Fence 4 Start) (codes "12 3 fence 4 start\n") (codes "[12,3,\"fence\",4,\"start\"]")
     ∷ row (kinds.Unfence 4) (codes "12 3 unfence 4\n") (codes "[12,3,\"unfence\",4]")
@@ -78,8 +83,12 @@ each_json = refl
 abbrev first_run : List Entry
 first_run = entry_of 0 (kinds.Post 0 0 0 true) ∷ entry_of 1 (kinds.Take 0 0 0) ∷ entry_of 1 (kinds.End 0 5) ∷ entry_of 0 kinds.Idle ∷ []
 
-first_run_text : log_text first_run ≡ codes "0 0 post 0 0 0 ok\n1 1 take 0 0 0\n2 1 end 0 5\n3 0 idle\n"
-unfolding log_text digits
+first_run_lines : log_lines first_run ≡ codes "0 0 post 0 0 0 ok\n1 1 take 0 0 0\n2 1 end 0 5\n3 0 idle\n"
+unfolding log_lines digits
+first_run_lines = refl
+
+first_run_text : log_text first_run ≡ codes "taskenv log 2\n0 0 post 0 0 0 ok\n1 1 take 0 0 0\n2 1 end 0 5\n3 0 idle\ntotal 4\n"
+unfolding log_text log_lines digits
 first_run_text = refl
 
 first_run_json : log_json first_run ≡ codes "[[0,0,\"post\",0,0,0,\"ok\"],[1,1,\"take\",0,0,0],[2,1,\"end\",0,5],[3,0,\"idle\"]]"
@@ -88,20 +97,45 @@ first_run_json = refl
 
 -- ---- the largest numbers of a job's step
 
-last_step : log_text (entry_of 4294967295 (kinds.JobStep 4294967295 4294967295 4294967295 18446744073709551615 (Some 4294967295)) ∷ [])
+last_step : log_lines (entry_of 4294967295 (kinds.JobStep 4294967295 4294967295 4294967295 18446744073709551615 (Some 4294967295)) ∷ [])
     ≡ codes "0 4294967295 jobstep 4294967295 4294967295 4294967295 18446744073709551615 4294967295\n"
-unfolding log_text digits
+unfolding log_lines digits
 last_step = refl
+
+-- ---- ten entries: the number of the last line has two digits
+
+abbrev ten_entries : List Entry
+ten_entries = map (λ seat. entry_of seat kinds.Idle) (0 ∷ 1 ∷ 2 ∷ 3 ∷ 4 ∷ 5 ∷ 6 ∷ 7 ∷ 8 ∷ 9 ∷ [])
+
+ten_entries_text : log_text ten_entries
+    ≡ codes "taskenv log 2\n0 0 idle\n1 1 idle\n2 2 idle\n3 3 idle\n4 4 idle\n5 5 idle\n6 6 idle\n7 7 idle\n8 8 idle\n9 9 idle\ntotal 10\n"
+unfolding log_text log_lines digits
+ten_entries_text = refl
 
 -- ---- the empty log
 
-empty_text : log_text [] ≡ []
-unfolding log_text
+empty_lines : log_lines [] ≡ []
+unfolding log_lines
+empty_lines = refl
+
+empty_text : log_text [] ≡ codes "taskenv log 2\ntotal 0\n"
+unfolding log_text log_lines digits
 empty_text = refl
 
 empty_json : log_json [] ≡ codes "[]"
 unfolding log_json
 empty_json = refl
+
+-- ---- a text is read by version 2 where its first line is the head, with its line feed
+
+two_of_head : version_of (codes "taskenv log 2\n0 0 idle\n") ≡ Two
+unfolding version_of
+two_of_head = refl
+
+one_of_others : map version_of ([] ∷ codes "0 0 idle\n" ∷ codes "taskenv log 2" ∷ codes "taskenv log 20\n" ∷ codes "0 taskenv log 2\n" ∷ [])
+    ≡ One ∷ One ∷ One ∷ One ∷ One ∷ []
+unfolding version_of
+one_of_others = refl
 
 -- ---- a class of 8 bits is a log line, a larger one is none
 

@@ -1,25 +1,30 @@
-use Rattle.std.proofs.Common.{◌≤◌, ℕ, length, take, Ok, Err, OnErr, ◌∙◌}
+use Rattle.std.proofs.Common.{◌≡◌, ℕ, take, length, Ok, Err, OnErr, ap, ◌∙◌}
+use Rattle.std.proofs.lemmas.Result.{on_ok_weaker, on_err_weaker}
 use Rattle.env_io.specs.Bytes.{Gains}
-use Rattle.log_model.specs.LogText.{log_text}
-use Rattle.log_model.proofs.Laws.LogTexts.{log_text-take_all}
-use Rattle.run_log.proofs.Taken.{gains_line, gains_cut}
+use Rattle.log_model.specs.LogText.{total_line, log_text}
+use Rattle.run_log.proofs.Taken.{gains_text, cut_in_head, cut_in_lines, cut_in_total}
 use Rattle.run_log.proofs.writer.write_log.Goals as goal
 
 pub returns-in_err-put_all-clause-cut : goal.returns-in_err-put_all-clause-cut
 returns-in_err-put_all-clause-cut g c =
-    let cut = gains_cut _ _ _ _ _ _ _ _ c.as_slice-entry-items.ensures (c.deref.ensures.0 ∙ c.line.ensures) c.loop-place-test.true c.loop-place.invariant.taken
-    c.in_err-put_all.ensures.cut in
+    let cut = cut_in_head _ _ c.args.log.now.items (rw c.head_of.ensures at c.in_err-put_all.ensures.cut) in
     elim c.from_residual.result as (λ r. OnErr r ((n : ℕ) × Gains (g.K.Sink.holds c.args.sink.now) (take n (log_text c.args.log.now.items))
     (g.K.Sink.holds c.put_all.new.sink))) [ Ok _ ↦ tt | Err _ ↦ cut ]
 
-pub loop-place-preserved : goal.loop-place-preserved
-loop-place-preserved g c = record {
-  taken = gains_line _ _ _ _ _ _ _ _ c.as_slice-entry-items.ensures (c.deref.ensures.0 ∙ c.line.ensures) c.loop-place-test.true c.loop-place.invariant.taken
-      c.in_ok-put_all.ensures.written;
-  steady = c.in_ok-put_all.ensures.steady ∙ c.loop-place.invariant.steady;
-}
+pub returns-in_err-put_lines-clause-cut : goal.returns-in_err-put_lines-clause-cut
+returns-in_err-put_lines-clause-cut g c =
+    let cut = cut_in_lines _ _ _ c.args.log.now.items (rw c.head_of.ensures at c.in_ok-put_all.ensures.written) c.in_err-put_lines.ensures.cut in
+    elim c.from_residual-in_err-put_lines.result as (λ r. OnErr r ((n : ℕ) × Gains (g.K.Sink.holds c.args.sink.now) (take n (log_text c.args.log.now.items))
+    (g.K.Sink.holds c.put_lines.new.sink))) [ Ok _ ↦ tt | Err _ ↦ cut ]
 
 pub returns-clause-written : goal.returns-clause-written
 returns-clause-written g c =
-    let all : length c.args.log.now.items ≤ c.loop-place.place = rw c.as_slice-entry-items.ensures at c.loop-place-test.false in
-    rw (← log_text-take_all c.args.log.now.items c.loop-place.place all) c.loop-place.invariant.taken
+    let total : c.deref.result.now ≡ total_line (length c.args.log.now.items) = c.deref.ensures.0 ∙ c.end_of.ensures ∙ ap total_line c.len.ensures.count in
+    on_ok_weaker c.put_all-2.result (λ written. gains_text _ _ _ _ c.args.log.now.items (rw c.head_of.ensures at c.in_ok-put_all.ensures.written)
+    c.in_ok-put_lines.ensures.written (rw total at written)) c.put_all-2.ensures.written
+
+pub returns-clause-cut : goal.returns-clause-cut
+returns-clause-cut g c =
+    let total : c.deref.result.now ≡ total_line (length c.args.log.now.items) = c.deref.ensures.0 ∙ c.end_of.ensures ∙ ap total_line c.len.ensures.count in
+    on_err_weaker c.put_all-2.result (λ cut. cut_in_total _ _ _ _ c.args.log.now.items (rw c.head_of.ensures at c.in_ok-put_all.ensures.written)
+    c.in_ok-put_lines.ensures.written (rw total at cut)) c.put_all-2.ensures.cut

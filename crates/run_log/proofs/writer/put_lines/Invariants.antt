@@ -1,7 +1,7 @@
 use Rattle.std.proofs.Common.{◌≡◌, take}
 use Rattle.env_io.specs.Bytes.{Gains}
 use Rattle.log_model.specs.LogText.{text_from}
-use Rattle.run_log.proofs.writer.write_log.Given as goal
+use Rattle.run_log.proofs.writer.put_lines.Given as goal
 
 abbrev pub invariant-loop-place : goal.invariant-loop-place
 invariant-loop-place g l = record {
