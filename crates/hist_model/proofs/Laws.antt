@@ -27,6 +27,7 @@ pub mod Since
 pub mod Starts
 pub mod Singly
 pub mod Moments
+pub mod BySound
 pub mod Whole
 pub mod EntriesSums
 pub mod EntriesDriver
@@ -34,6 +35,8 @@ pub mod EntriesTasks
 pub mod EntriesJobs
 pub mod Entries
 pub mod State
+pub mod FittingPasts
+pub mod Fitting
 pub mod OrderPasts
 pub mod OrderKeys
 pub mod OrderDraws

@@ -124,6 +124,8 @@ may_come script past seat (kinds.Leave task) = by_task script past seat (kinds.L
 -- by the script
 may_come script past seat (kinds.Policy policy) = by_script script past seat (kinds.Policy policy)
 -- by the script
+may_come script past seat (kinds.Reprio runner priority) = by_script script past seat (kinds.Reprio runner priority)
+-- by the script
 may_come script past seat (kinds.Fence queue at) = by_script script past seat (kinds.Fence queue at)
 -- by the script
 may_come script past seat (kinds.Unfence queue) = by_script script past seat (kinds.Unfence queue)

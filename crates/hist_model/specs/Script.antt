@@ -12,6 +12,7 @@ use Rattle.task_base.specs.declared.script.FenceAt.{FenceAt}
 use Rattle.task_base.specs.declared.script.FenceAt.TheVariants.{Now, Start}
 use Rattle.task_base.specs.declared.script.Action.{Action}
 use Rattle.task_base.specs.declared.script.Action.TheVariants as actions
+use Rattle.task_base.specs.Groups.{importance}
 use Rattle.list_laws.specs.Lists.{holds_of}
 use Rattle.task_model.specs.Seats.{running, holding, is_quiet}
 use Rattle.hist_model.specs.Views.{own_entries}
@@ -93,6 +94,7 @@ wants own (actions.Post t r d) made (kinds.Post task runner delay ok) = task == 
 wants own (actions.Main t q d) made (kinds.Main task queue delay ok) = task == t && queue == q && delay == d
 wants own (actions.Tick count) made (kinds.Tick now) = true
 wants own (actions.Policy p) made (kinds.Policy policy) = same_policy policy p
+wants own (actions.Reprio r p) made (kinds.Reprio runner priority) = runner == r && importance priority == importance p
 wants own (actions.Fence q a) made (kinds.Fence queue at) = queue == q && same_fence at a
 wants own (actions.Unfence q) made (kinds.Unfence queue) = queue == q
 wants own (actions.Vote q v o) made (kinds.Vote queue voter on) = queue == q && voter == v && (if o then on else not on)

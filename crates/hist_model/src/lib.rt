@@ -27,7 +27,7 @@ mod whole;
 
 pub use chronicle::Chronicle;
 pub use current::the_current_action_moves_on;
-pub use entries::entries_are_bounded;
+pub use entries::{entries_are_bounded, entries_fit_their_types};
 pub use fences::no_queue_passes_its_fence;
 pub use histories::{legal_histories_grow, the_first_illegal_place_is_told};
 pub use jobs::{claimed_items_are_done_or_held, holders_of_a_job_are_apart, job_entries_are_exact};

@@ -19,5 +19,5 @@ ghost use Rattle.hist_model.specs.Laws.Whole.{sequence_at, WaitsInSequence, IsLe
 #[tactic(auto, using(crate::proofs::Laws::Whole::loses_nothing))]
 pub fn whole_logs_lose_nothing()
     ensures loses_nothing { (script : Plan) (log : List Entry) → IsLegal script log → IsWhole script log → LosesNothing script log }
-    ensures waits_for_workers { (script : Plan) (log : List Entry) (p : Posted) → IsSound script → IsLegal script log → Contains (posts log) p → (w : WaitsInSequence script log p) → IsLeftToWorkers script log (sequence_candidate script (sequence_at script p) w.head) }
+    ensures waits_for_workers { (script : Plan) (log : List Entry) (p : Posted) → IsSound script → IsLegal script log → Contains (posts log) p → (w : WaitsInSequence script log p) → IsLeftToWorkers script log (sequence_candidate script log (sequence_at script p) w.head) }
 {}

@@ -68,9 +68,9 @@ sequence_waits : (script : Plan) (past : List Entry) (s : ℕ) (c : Candidate) �
 sequence_waits script past s c is = at (runs_sequence script past s) refl is
   where
     at : (runs : Bool) → runs_sequence script past s ≡ runs
-        → (if runs then None else option_map (sequence_candidate script s) (head_of script past s)) ≡ Some c → IsWaitingSource script past c.source
+        → (if runs then None else option_map (sequence_candidate script past s) (head_of script past s)) ≡ Some c → IsWaitingSource script past c.source
     at true runs_is e = absurd (none-some c e)
-    at false runs_is e = let (r, head_is, made) = option_map_some (sequence_candidate script s) (head_of script past s) c e in
+    at false runs_is e = let (r, head_is, made) = option_map_some (sequence_candidate script past s) (head_of script past s) c e in
         subst (λ x. IsWaitingSource script past x.source) made (r, head_is, runs_is)
 
 job_waits : (script : Plan) (past : List Entry) (j : ℕ) (c : Candidate) → job_waiting script past j ≡ Some c → IsWaitingSource script past c.source

@@ -37,7 +37,7 @@ stays_unclaimed script past seat j h = omega (arith, ltb-true (claimed past j) (
     first false b c d k = absurd cc
 
 -- an entry that claims an item of the job claims one that the job has
-claims_one : (script : Plan) (past : List Entry) (seat : ℕ) (kind : Kind) (j : ℕ) → may_come script past seat kind ≡ true → claims j kind ≡ true
+pub claims_one : (script : Plan) (past : List Entry) (seat : ℕ) (kind : Kind) (j : ℕ) → may_come script past seat kind ≡ true → claims j kind ≡ true
     → claimed past j + 1 ≤ items_of script j
 claims_one script past seat (kinds.JobTake job id item) j may h = subst (λ k. claimed past k + 1 ≤ items_of script k) (eqb-true job j h)
     (enters_unclaimed script past job (entering_is script past seat job id item may).may_be_entered)
@@ -89,7 +89,7 @@ unfolding jobs_left job_left
 jobs_left_begin script = sum_from_within (job_left []) events_of_job 0 script.jobs (λ j job. omega arith)
 
 -- the job that has items is one of the script's
-declared : (xs : List JobPlan) (j n : ℕ) → n + 1 ≤ option_map_or (λ job. job.items) (slice_get xs j) 0
+pub declared : (xs : List JobPlan) (j n : ℕ) → n + 1 ≤ option_map_or (λ job. job.items) (slice_get xs j) 0
     → (job : JobPlan) × (slice_get xs j ≡ Some job) × (n + 1 ≤ job.items)
 declared xs j n h = at (slice_get xs j) refl h
   where

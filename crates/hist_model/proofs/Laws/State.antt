@@ -56,7 +56,7 @@ same_at log i k a b m n same first second = ap (λ e. e.kind) (same_Some _ _ (sy
 -- ---- ends
 
 -- what an allowed end ends: the seat runs it, and its steps leave this value of what it found
-ends_running : (script : Plan) (past : List Entry) (seat task left : ℕ) → may_come script past seat (kinds.End task left) ≡ true
+pub ends_running : (script : Plan) (past : List Entry) (seat task left : ℕ) → may_come script past seat (kinds.End task left) ≡ true
     → (home value : ℕ) × (running past seat ≡ Some (record { task = task; home = home; found = value; is_main = false }))
     × (left ≡ after (steps_of script task) value)
 unfolding may_come
@@ -73,7 +73,7 @@ ends_running script past seat task left h =
       eqb-true left _ (and_parts _ _ parts.1).1 ∙ ap (λ t. after (steps_of script t) w.value.found) task_is,
     )
 
-main_ends_running : (script : Plan) (past : List Entry) (seat task left : ℕ) → may_come script past seat (kinds.MainEnd task left) ≡ true
+pub main_ends_running : (script : Plan) (past : List Entry) (seat task left : ℕ) → may_come script past seat (kinds.MainEnd task left) ≡ true
     → (home value : ℕ) × (running past seat ≡ Some (record { task = task; home = home; found = value; is_main = true }))
     × (left ≡ after (steps_of script task) value)
 unfolding may_come

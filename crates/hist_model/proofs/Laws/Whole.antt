@@ -1,7 +1,7 @@
 -- What a legal and whole log has done, and what it has left.
 use Rattle.std.proofs.Common.{◌≡◌, ℕ, ◌+◌, ◌<◌, ◌≤◌, Bool, true, false, cond, eqb, List, [], ◌∷◌, ◌++◌, length, refl, sym, ap, subst, ◌∙◌, Option, Some, None, inl, inr, ⊎_elim, arith}
-use Rattle.std.specs.Prelude.{◌⊎◌, ◌&&◌, ◌||◌, not, nat_lt, nat_le, filter, take, slice_get, Contains, is_none, option_and_then}
-use Rattle.std.specs.Option.{IfSome, option_map, option_map_or, option_or}
+use Rattle.std.specs.Prelude.{◌⊎◌, ◌&&◌, ◌||◌, not, nat_lt, nat_le, filter, take, slice_get, Contains, is_none}
+use Rattle.std.specs.Option.{option_map, option_or}
 use Rattle.std.specs.List.{AllByRecursion, filter_map}
 use Rattle.std.proofs.Math.Bool.{or-false}
 use Rattle.std.proofs.lemmas.List.Folds.{list_any-append}
@@ -9,7 +9,6 @@ use Rattle.std.proofs.lemmas.Bool.{and_parts, or_cases, or_left, or_right, or_pa
 use Rattle.std.proofs.lemmas.Option.{none-some, same_Some}
 use Rattle.std.proofs.lemmas.List.Elements.{All-contains}
 use Rattle.task_base.specs.Plan.{Plan}
-use Rattle.task_base.specs.Steps.{is_act}
 use Rattle.task_base.specs.Keys.{key_below}
 use Rattle.task_base.specs.Runners.{is_parallel, sequence_of, sequence_count}
 use Rattle.task_base.specs.declared.entry.Entry.{Entry}
@@ -24,7 +23,7 @@ use Rattle.task_base.specs.declared.source.TaskSource.TheVariants.{Sequence}
 use Rattle.task_base.specs.declared.step.Step.{Step}
 use Rattle.task_base.specs.declared.step.Step.TheVariants as steps
 use Rattle.list_laws.specs.Lists.{count, holds_of}
-use Rattle.list_laws.proofs.Elements.{AllByRecursion-append, AllByRecursion-both, AllByRecursion-contains, AllByRecursion-filter, AllByRecursion-map, push_induction, slice_get_all}
+use Rattle.list_laws.proofs.Elements.{AllByRecursion-append, AllByRecursion-both, AllByRecursion-contains, AllByRecursion-map, push_induction}
 use Rattle.list_laws.proofs.Least.{least_is_least, no_least}
 use Rattle.list_laws.proofs.Made.{contains_filter, contains_filter_map, contains_not_empty}
 use Rattle.list_laws.proofs.Ranks.{ranks_by}
@@ -36,7 +35,7 @@ use Rattle.task_model.specs.Policies.{is_held}
 use Rattle.task_model.specs.Refusal.{is_forbidden, is_closed, closes}
 use Rattle.task_model.specs.Keys.{Ready, key_at, key_of, ready}
 use Rattle.task_model.specs.Sequences.{is_of, may_start, eligible, head_of}
-use Rattle.task_model.specs.Seats.{Running, Holding, running, holding, holding_after, inside, all_seats, is_quiet, runs_of, runs_sequence, steps_of, acts_done, next_act}
+use Rattle.task_model.specs.Seats.{Running, Holding, running, holding, holding_after, inside, all_seats, is_quiet, runs_of, runs_sequence}
 use Rattle.task_model.specs.Jobs.{claimed, claims, done}
 use Rattle.task_model.specs.Sources.{Candidate, sequence_candidate, IsWaiting, leaves}
 use Rattle.task_model.specs.Orders.{ripens, ripening, next_draw, drawn_at, order_of}
@@ -52,7 +51,7 @@ use Rattle.pool_laws.proofs.Seats.Running.{holding_here, holding_other, quiet_is
 use Rattle.pool_laws.proofs.Choice.Least.{head_is_least, no_head, keys_total}
 use Rattle.pool_laws.proofs.Choice.Candidates.{sequence_in, candidate_would_wait, not_held_is_waiting}
 use Rattle.hist_model.specs.Views.{own_entries}
-use Rattle.hist_model.specs.Script.{Current, behind_action, current_from, current, wants, is_finished, IsWhole}
+use Rattle.hist_model.specs.Script.{wants, is_finished, IsWhole}
 use Rattle.hist_model.specs.Allowed.{by_script, by_task, enters, may_come}
 use Rattle.hist_model.specs.Legal.{IsLegal}
 use Rattle.hist_model.specs.Laws.Consistent.{RunsAs}
@@ -60,13 +59,12 @@ use Rattle.hist_model.specs.Laws.Whole.{steps_item, has_step, sequence_at, IsUnr
 use Rattle.hist_model.specs.Laws.Whole.LeftTask.{Forbidden, Unripe, Waits}
 use Rattle.hist_model.specs.Laws.Whole.LeftMainTask.{Closed, NoOrder, InLane}
 use Rattle.hist_model.proofs.Laws.Legal.{entry_induction, legal_induction}
-use Rattle.hist_model.proofs.Laws.Choice.{found}
 use Rattle.hist_model.proofs.Laws.Claims.{claimed_is}
 use Rattle.hist_model.proofs.Laws.HoldsApart.{legal_holds_apart}
 use Rattle.hist_model.proofs.Laws.Consistent.{legal_is_consistent}
 use Rattle.hist_model.proofs.Laws.OneSeat.{runs_at_one_seat, runs_at_driver}
 use Rattle.hist_model.proofs.Laws.JobEntries.{entering_is, job_step_is}
-use Rattle.hist_model.proofs.Laws.OneThing.{wanted_by}
+use Rattle.hist_model.proofs.Laws.BySound.{wanted_soundly, entered_soundly}
 use Rattle.hist_model.proofs.Laws.Rising.{legal_rises}
 
 -- Nobody is at anything.
@@ -328,17 +326,6 @@ declared script task runner t r same_task same_runner post =
     let runner_is : runner ≡ r = eqb-true runner r same_runner in
     record { task_declared = omega (arith, task_is, post.task_declared); runner_declared = omega (arith, runner_is, post.runner_declared) }
 
--- the action that the driver is at is one of the script's
-current_is_one : (P : Action → Type 0) (xs : List Action) (made : List Entry) (c : Current) → AllByRecursion P xs → current_from xs made ≡ Some c
-    → P c.action
-current_is_one P [] made c all is = absurd (none-some c is)
-current_is_one P (x ∷ rest) made c all is = at (behind_action x made) is (λ left k. current_is_one P rest left c all.1 k)
-  where
-    at : (o : Option (List Entry)) → option_map_or (λ left. current_from rest left) o (Some (record { action = x; made = made })) ≡ Some c
-        → ((left : List Entry) → current_from rest left ≡ Some c → P c.action) → P c.action
-    at None k later = subst (λ (d : Current). P d.action) (same_Some (record { action = x; made = made }) c k) all.0
-    at (Some left) k later = later left k
-
 -- an action posts what is declared
 action_posts : (script : Plan) (own : List Entry) (x : Action) (made : List Entry) (task runner delay : ℕ) (ok : Bool) → IsActionSound script x
     → wants own x made (kinds.Post task runner delay ok) ≡ true → IsDeclared script task runner
@@ -350,11 +337,9 @@ action_posts script own x made task runner delay ok sound h = absurd cc
 
 driver_posts : (script : Plan) (past : List Entry) (seat task runner delay : ℕ) (ok : Bool) → IsSound script
     → by_script script past seat (kinds.Post task runner delay ok) ≡ true → IsDeclared script task runner
-unfolding current
 driver_posts script past seat task runner delay ok sound h =
-    let c = wanted_by script past seat (kinds.Post task runner delay ok) h in
-    action_posts script (own_entries 0 past) c.value.action c.value.made task runner delay ok
-    (current_is_one (IsActionSound script) script.actions (own_entries 0 past) c.value sound.actions.each_sound c.is) c.passes
+    let by = wanted_soundly script past seat (kinds.Post task runner delay ok) sound h in
+    action_posts script (own_entries 0 past) by.action by.made task runner delay ok by.sound by.wanted
 
 -- so does a step
 step_posts : (script : Plan) (of : ℕ) (step : Step) (task runner delay : ℕ) (ok : Bool) → IsStepSound script of step
@@ -365,26 +350,11 @@ step_posts script of (steps.Post t r d) task runner delay ok sound h =
     declared script task runner t r inner.0 inner.1 sound.1
 step_posts script of step task runner delay ok sound h = absurd cc
 
-steps_are_sound : (script : Plan) (task : ℕ) → IsSound script → AllByRecursion (IsStepSound script task) (steps_of script task)
-steps_are_sound script task sound = by (slice_get script.tasks task) refl
-  where
-    by : (o : Option (List Step)) → slice_get script.tasks task ≡ o → AllByRecursion (IsStepSound script task) (option_map_or (λ xs. xs) o [])
-    by None is = tt
-    by (Some xs) is = (sound.declarations.tasks_sound task xs is).steps_sound
-
 task_posts : (script : Plan) (past : List Entry) (seat task runner delay : ℕ) (ok : Bool) → IsSound script
     → by_task script past seat (kinds.Post task runner delay ok) ≡ true → IsDeclared script task runner
-unfolding by_task
 task_posts script past seat task runner delay ok sound h =
-    let w = found (λ (x : Running). holds_of (λ step. enters x.task step (kinds.Post task runner delay ok)) (next_act script past seat))
-    (running past seat) h in
-    let step = found (λ s. enters w.value.task s (kinds.Post task runner delay ok)) (next_act script past seat) w.passes in
-    let at : slice_get (filter is_act (steps_of script w.value.task)) (acts_done past seat) ≡ Some step.value = ap
-    (option_and_then (λ (x : Running). slice_get (filter is_act (steps_of script x.task)) (acts_done past seat))) (sym w.is) ∙ step.is in
-    let acts = AllByRecursion-filter (IsStepSound script w.value.task) is_act (steps_of script w.value.task) (steps_are_sound script w.value.task sound) in
-    step_posts script w.value.task step.value task runner delay ok
-    (subst (λ o. IfSome o (IsStepSound script w.value.task)) at
-    (slice_get_all (IsStepSound script w.value.task) (filter is_act (steps_of script w.value.task)) (acts_done past seat) acts)) step.passes
+    let by = entered_soundly script past seat (kinds.Post task runner delay ok) sound h in
+    step_posts script by.now.task by.step task runner delay ok by.sound by.entered
 
 posts_declared : (script : Plan) (past : List Entry) (seat : ℕ) (kind : Kind) → IsSound script → may_come script past seat kind ≡ true
     → AllByRecursion (λ p. IsDeclared script p.task p.home) (posted_by past kind)
@@ -430,12 +400,12 @@ left_to_workers script log c would = record { would_wait = would; held_or_waits 
 
 -- the sequence of a task that waits is left to the workers, where the script is sound
 pub waits_for_workers : (script : Plan) (log : List Entry) (p : Posted) → IsSound script → IsLegal script log → Contains (posts log) p
-    → (w : WaitsInSequence script log p) → IsLeftToWorkers script log (sequence_candidate script (sequence_at script p) w.head)
+    → (w : WaitsInSequence script log p) → IsLeftToWorkers script log (sequence_candidate script log (sequence_at script p) w.head)
 waits_for_workers script log p sound legal among w =
     let known = AllByRecursion-contains (λ q. IsDeclared script q.task q.home) (posts log) p (are_declared script log sound legal) among in
     let within = sequence_within script p.task p.home known in
-    left_to_workers script log (sequence_candidate script (sequence_at script p) w.head)
-    (candidate_would_wait script log (Sequence (sequence_at script p)) (sequence_candidate script (sequence_at script p) w.head)
+    left_to_workers script log (sequence_candidate script log (sequence_at script p) w.head)
+    (candidate_would_wait script log (Sequence (sequence_at script p)) (sequence_candidate script log (sequence_at script p) w.head)
     (sequence_in script log (sequence_at script p) within ∙ w.waits))
 
 -- Main tasks that were never taken.

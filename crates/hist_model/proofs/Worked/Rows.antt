@@ -20,7 +20,7 @@ use Rattle.task_model.specs.Keys.{ready}
 use Rattle.task_model.specs.Sequences.{eligible, head_of}
 use Rattle.task_model.specs.Seats.{running, holding, is_quiet, runs_sequence, inside, acts_done}
 use Rattle.task_model.specs.Cells.{cell_of, main_cell_of}
-use Rattle.task_model.specs.Capacity.{taken_with, open_scope, load, capacity, best_load, best_capacity, has_room}
+use Rattle.task_model.specs.Capacity.{priority_of, taken_with, open_scope, load, capacity, best_load, best_capacity, has_room}
 use Rattle.task_model.specs.Jobs.{job_post_of, is_cancelled, claimed, done, job_sum, may_enter}
 use Rattle.task_model.specs.Sources.{would_wait, waiting, best_of, leaves}
 use Rattle.task_model.specs.Blockers.{block_part, skip_part, blockers_of}
@@ -30,16 +30,16 @@ use Rattle.hist_model.specs.Script.{current, is_wanted, is_finished, is_whole}
 use Rattle.hist_model.specs.Allowed.{by_script, by_task, may_come}
 use Rattle.hist_model.specs.Legal.{is_legal, first_illegal}
 use Rattle.script_model.specs.Places.{number_from, kind_named, step_said, steps_read}
-use Rattle.script_model.specs.Lines.{workers_line, groups_line, threshold_line, runner_line, queue_line, task_line, job_line, post_line, main_line, tick_line, policy_line, fence_line, unfence_line, vote_line, rank_line, close_line, pump_line, flush_line, start_job_line, join_line, cancel_line, shutdown_line, queue_command_read, action_command_read, command_read, words_read}
+use Rattle.script_model.specs.Lines.{workers_line, groups_line, threshold_line, runner_line, queue_line, task_line, job_line, post_line, main_line, tick_line, policy_line, reprio_line, fence_line, unfence_line, vote_line, rank_line, close_line, pump_line, flush_line, start_job_line, join_line, cancel_line, shutdown_line, queue_command_read, action_command_read, command_read, words_read}
 use Rattle.script_model.specs.Grammar.{lines_read, script_read}
-use Rattle.log_model.specs.LogText.{log_text}
+use Rattle.log_model.specs.LogText.{log_lines}
 use Rattle.std.specs.Fmt.{digits}
 
 -- whether the history is legal, whether it is whole, and the least place that is not allowed, with all that this
 -- takes open
 unfoldable pub judge : Plan → List Entry → Bool × Bool × Option ℕ
 unfolding fold_past now_of tick_from posts main_posts is_taken is_ended is_main_taken phase_of policy_of is_closed ready eligible head_of running holding
-    is_quiet runs_sequence inside acts_done cell_of main_cell_of taken_with open_scope load capacity best_load best_capacity has_room job_post_of is_cancelled
+    is_quiet runs_sequence inside acts_done cell_of main_cell_of priority_of taken_with open_scope load capacity best_load best_capacity has_room job_post_of is_cancelled
     claimed done
     job_sum may_enter would_wait waiting best_of leaves block_part skip_part blockers_of ripening draws order_of fence_of votes_on class_of front_of open_fronts
     of_least_class streak_of choice_among current is_wanted is_finished by_script by_task may_come is_legal first_illegal
@@ -48,16 +48,16 @@ judge script log = (is_legal script log, is_whole script log, first_illegal scri
 -- the script that the bytes are, with all that this takes open
 unfoldable pub read : List ℕ → Result Plan (ℕ × ℕ)
 unfolding number_from kind_named step_said steps_read workers_line groups_line threshold_line runner_line queue_line task_line job_line post_line main_line
-    tick_line policy_line fence_line unfence_line vote_line rank_line close_line pump_line flush_line start_job_line join_line cancel_line shutdown_line
+    tick_line policy_line reprio_line fence_line unfence_line vote_line rank_line close_line pump_line flush_line start_job_line join_line cancel_line shutdown_line
     queue_command_read action_command_read command_read words_read lines_read script_read
 read bytes = script_read bytes
 
--- the text of the log
+-- the lines of the log
 unfoldable pub written : List Entry → List ℕ
-unfolding log_text digits
-written log = log_text log
+unfolding log_lines digits
+written log = log_lines log
 
--- a history that was worked out: its script and its entries, and the text of each
+-- a history that was worked out: its script and its entries, the text of the script and the lines of the entries
 pub record Worked : Type 0 where
   pub script : Plan
   pub log : List Entry
@@ -67,7 +67,7 @@ pub record Worked : Type 0 where
 abbrev pub worked : Plan → List Entry → List ℕ → List ℕ → Worked
 worked script log text lines = record { script = script; log = log; text = text; lines = lines }
 
--- what its texts and its entries are found to be: the script of the first text, the text of the entries, and the judgement
+-- what its texts and its entries are found to be: the script of the text, the lines of the entries, and the judgement
 abbrev Findings : Type 0
 Findings = Result Plan (ℕ × ℕ) × List ℕ × (Bool × Bool × Option ℕ)
 
@@ -77,7 +77,7 @@ found w = (read w.text, written w.log, judge w.script w.log)
 abbrev wanted : Worked → Findings
 wanted w = (Ok w.script, w.lines, (true, true, None))
 
--- the first text of each is its script, the second its log, and the log is legal and whole for the script
+-- the text of each is its script, the lines are those of its log, and the log is legal and whole for the script
 abbrev pub AreRight : List Worked → Type 0
 AreRight rows = map found rows ≡ map wanted rows
 

@@ -211,7 +211,7 @@ stuck_where_a_delayed_block_task_stays_block = refl
 
 -- the entry may still come, did the policy hold back once shutdown was started too (`none_held`): a take only where it does not
 abbrev may_with_policy : Plan → List Entry → Kind → Bool
-may_with_policy script log (kinds.Take task runner found) = not (holds_back (policy_of log) (priority_of script runner))
+may_with_policy script log (kinds.Take task runner found) = not (holds_back (policy_of log) (priority_of script log runner))
 may_with_policy script log kind = true
 
 stuck_where_the_policy_holds_back_after_shutdown : of_text blocked

@@ -53,7 +53,7 @@ pub record WaitsInSequence (script : Plan) (past : List Entry) (p : Posted) : Ty
   pub at_or_below : (head.key ≡ key) ⊎ (key_below head.key key ≡ true)
   -- no seat runs a task of the sequence, so it waits, by its head
   pub not_running : runs_sequence script past (sequence_at script p) ≡ false
-  pub waits : sequence_waiting script past (sequence_at script p) ≡ Some (sequence_candidate script (sequence_at script p) head)
+  pub waits : sequence_waiting script past (sequence_at script p) ≡ Some (sequence_candidate script past (sequence_at script p) head)
 
 -- why an accepted task of the pool was never taken
 pub data LeftTask (script : Plan) (past : List Entry) (p : Posted) : Type 0 where

@@ -18,6 +18,7 @@ use Rattle.task_model.specs.Refusal.{is_refused, is_job_forbidden, is_closed}
 use Rattle.task_model.specs.Seats.{running}
 use Rattle.task_model.proofs.Growth.{now_of_push}
 use Rattle.hist_model.specs.Views.{own_entries}
+use Rattle.task_base.specs.Groups.{importance}
 use Rattle.hist_model.specs.Script.{Current, current, same_policy, same_fence, wants}
 use Rattle.hist_model.specs.Allowed.{by_script, by_task, may_come}
 use Rattle.hist_model.specs.Legal.{IsLegal}
@@ -88,6 +89,14 @@ action_goes_on script past (actions.Policy p) made legal idle is goes =
   where
     c : Current
     c = record { action = actions.Policy p; made = made }
+action_goes_on script past (actions.Reprio n p) made legal idle is goes =
+    by_it script past c (kinds.Reprio n p) wanted (wanted_now script past c (kinds.Reprio n p) is wanted)
+  where
+    c : Current
+    c = record { action = actions.Reprio n p; made = made }
+
+    wanted : wants (own_entries 0 past) c.action c.made (kinds.Reprio n p) ≡ true
+    wanted = and_from _ _ (eq-eqb n n refl) (eq-eqb (importance p) (importance p) refl)
 action_goes_on script past (actions.Fence n at) made legal idle is goes =
     by_it script past c (kinds.Fence n at) wanted (wanted_now script past c (kinds.Fence n at) is wanted)
   where

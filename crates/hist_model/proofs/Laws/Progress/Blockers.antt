@@ -146,7 +146,7 @@ task_waits script past p sound q started among open_block = record {
         (ap (λ phase. forbids phase (effective_at script p.home p.delay)) started ∙ block_is_allowed (effective_at script p.home p.delay) parts.0)
 
     c : Candidate
-    c = sequence_candidate script (sequence_at script p) w.head
+    c = sequence_candidate script past (sequence_at script p) w.head
 
 -- an open block job
 open_job_waits : (script : Plan) (past : List Entry) (j : ℕ) → IsSound script → Quiet script past → phase_of past ≡ phases.Started

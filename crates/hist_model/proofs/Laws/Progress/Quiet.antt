@@ -12,7 +12,7 @@ use Rattle.script_model.specs.Laws.Sound.{IsSound}
 use Rattle.task_model.specs.Seats.{Running, Holding, running, holding, is_quiet, worker_seats, all_seats, inside, runs_of, runs_sequence}
 use Rattle.task_model.specs.Capacity.{limit, best_limit, work_at, load_of, is_in, is_best_in, load, capacity, best_load, best_capacity, has_room}
 use Rattle.task_model.specs.Jobs.{claimed, done}
-use Rattle.pool_laws.proofs.Room.Capacity.{work_is, free_parts}
+use Rattle.pool_laws.proofs.Room.Capacity.{free_parts}
 use Rattle.pool_laws.proofs.Seats.Running.{quiet_is_free, no_seat_runs}
 use Rattle.hist_model.specs.Legal.{IsLegal}
 use Rattle.hist_model.proofs.Laws.Claims.{claimed_is}
@@ -64,7 +64,7 @@ no_load script past test q = ap length (filter_never (λ seat. holds_of test (wo
     (λ seat. ap (holds_of test) (idle seat)))
   where
     idle : (seat : ℕ) → work_at script past seat ≡ None
-    idle seat = work_is script past seat ∙ rw (q.runs seat, q.holds seat) refl
+    idle seat = rw (q.runs seat, q.holds seat) refl
 
 -- each group of a sound script may do some work
 some_limit : (script : Plan) (priority : Priority) → IsSound script
