@@ -92,3 +92,8 @@ count_change marks p q b c xs one f g h = count_change_in marks p q b c xs one f
 -- no more pass than there are
 pub count_le : {A : Type 0} (p : A → Bool) (xs : List A) → count p xs ≤ length xs
 count_le p xs = omega (arith, length-filter_both p (λ x. not (p x)) (λ x. refl) xs)
+
+-- where nothing passes both of two tests, no more pass one of them than there are
+pub count_apart : {A : Type 0} (p q : A → Bool) (xs : List A) → ((x : A) → q x ≡ true → p x ≡ false) → count p xs + count q xs ≤ length xs
+count_apart p q xs apart =
+    omega (arith, count_mono q (λ x. not (p x)) xs (λ x h. ap not (apart x h)), length-filter_both p (λ x. not (p x)) (λ x. refl) xs)

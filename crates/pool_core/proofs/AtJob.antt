@@ -1,12 +1,12 @@
 -- What the pool's tables say of an item that a seat holds.
 use Rattle.job_source.specs.Job.{held_by}
 use Rattle.list_laws.proofs.Values.{some-injective}
-use Rattle.pool_core.proofs.GroupWorks.{item_works}
+use Rattle.pool_core.proofs.GroupWorks.{seat_there as place_there, work_of_item, works_here}
 use Rattle.pool_core.proofs.HeldItems.{held_at, under_here}
 use Rattle.pool_core.proofs.JobQueues.{job_made}
 use Rattle.pool_core.proofs.JobStands.{held_is, job_is, left_share_is, stepped_job}
 use Rattle.pool_core.proofs.Tracking.{counts_at_left}
-use Rattle.pool_core.specs.Groups.{group_in, in_background}
+use Rattle.pool_core.specs.Groups.{group_at}
 use Rattle.pool_core.specs.Holdings.{HoldsItem}
 use Rattle.pool_core.specs.JobCalls.{CanStep, KnowsJob}
 use Rattle.pool_core.specs.JobState.{HasJobPlace, job_at, job_of, no_job, settled_share}
@@ -19,7 +19,6 @@ use Rattle.std.proofs.lemmas.List.{get_or-set_same, length-set}
 use Rattle.std.specs.Option.{option_map}
 use Rattle.std.specs.Prelude.{IsSome, IsSomeAnd, slice_get, slice_index_or, slice_set}
 use Rattle.std.specs.Vec.{with_item}
-use Rattle.task_base.specs.Groups.{is_best_effort}
 use Rattle.task_base.specs.Plan.{Plan}
 use Rattle.task_base.specs.declared.entry.Entry.{Entry}
 use Rattle.task_base.specs.declared.limits.TheConstants.{MOST_WORKERS}
@@ -68,18 +67,13 @@ pub job_there : {script : Plan} {past : List Entry} {pool : Pool} {seat : ℕ} {
     → h.job < length pool.jobs.items
 job_there can = omega (arith, (known_item can).declared, can.stands.jobs.all)
 
--- a job that takes its place with the same priority is the one that its holder's group works on
-pub item_work : {script : Plan} {past : List Entry} {pool : Pool} {seat : ℕ} {h : Holding} (new : PoolJob) → CanStep script past pool seat h
-    → new.priority ≡ (job_of pool h.job).priority → 1 ≤ seat
-    → IsSomeAnd (work_at (group_in pool.groups (in_background pool.runners (job_at (slice_set pool.jobs.items h.job new) h.job).priority)) seat)
-    (λ work. work.scope ≡ None)
-item_work {script = script} {past = past} {pool = pool} {seat = seat} {h = h} new can same worker = rw (
-  get_or-set_same pool.jobs.items h.job new no_job (job_there can),
-  same,
-  ap (λ (j : PoolJob). j.priority) (job_is h.job can.stands (known_item can).declared),
-  can.stands.runners,
-  item_works script past pool.groups seat h can.stands.script_fits can.stands.past_fits can.stands.groups worker can.holds,
-) refl
+-- a worker's group keeps its item, in which no scope is open
+pub item_work : {script : Plan} {past : List Entry} {pool : Pool} {seat : ℕ} {h : Holding} → CanStep script past pool seat h → 1 ≤ seat
+    → IsSomeAnd (work_at (group_at pool.groups seat) seat) (λ work. work.scope ≡ None)
+item_work {script = script} {past = past} {pool = pool} {seat = seat} {h = h} can worker =
+    let inside = can.stands.past_fits.inside in
+    rw (works_here script past pool.groups seat _ can.stands.groups (place_there script seat can.stands.script_fits (known_item can).known)
+    (work_of_item script past seat h worker (inside.one_thing seat h worker can.holds) can.holds)) refl
 
 -- the counts have its share
 pub item_counted : {script : Plan} {past : List Entry} {pool : Pool} {seat : ℕ} {h : Holding} (new : PoolJob) → CanStep script past pool seat h
@@ -106,6 +100,5 @@ pub job_place : {script : Plan} {past : List Entry} {pool : Pool} {seat : ℕ} {
 job_place {script = script} {pool = pool} {h = h} later new can lanes jobs = rw (lanes, jobs) (record {
   there = rw length-set (job_there can);
   lane_there = rw (can.stands.queues.roomy.all) (omega arith);
-  made = job_made script pool.lanes (is_best_effort (job_at (slice_set pool.jobs.items h.job new) h.job).priority) h.job
-      can.stands.queues.roomy (known_item can).declared;
+  made = λ best. job_made script pool.lanes best h.job can.stands.queues.roomy (known_item can).declared;
 })

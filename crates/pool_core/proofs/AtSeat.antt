@@ -1,23 +1,25 @@
--- The task of the pool that a seat runs: how it was posted, its sequence, its group, and what it counts for.
+-- The task of the pool that a seat runs: how it was posted, its sequence, what it counts for, and what its group keeps of it.
 use Rattle.pool_core.proofs.Accepted.{is_declared, runs_accepted}
-use Rattle.pool_core.proofs.GroupWorks.{task_works}
+use Rattle.pool_core.proofs.GroupWorks.{seat_there, task_of_pool, works_here}
 use Rattle.pool_core.proofs.Lines.{out_while_running}
 use Rattle.pool_core.proofs.Lists.{same_inside}
 use Rattle.pool_core.proofs.Tables.{seat_is}
 use Rattle.pool_core.proofs.Tracking.{counts_at_end}
 use Rattle.pool_core.specs.Calls.{RunsClosed, RunsOpen}
-use Rattle.pool_core.specs.Groups.{group_in, in_background}
+use Rattle.pool_core.specs.Groups.{group_at, opened_as, work_of}
 use Rattle.pool_core.specs.StandsFor.{StandsFor}
 use Rattle.pool_core.specs.Tables.{posting_of}
 use Rattle.pool_core.specs.declared.pool.Pool.{Pool}
 use Rattle.pool_core.specs.declared.posting.Posting.{Posting}
-use Rattle.std.proofs.Common.{Bool, List, None, Some, ap, arith, false, length, refl, subst, sym, ℕ, ◌<◌, ◌∙◌, ◌≡◌, ◌≤◌}
+use Rattle.std.proofs.Common.{List, None, Some, ap, arith, false, length, refl, subst, sym, ℕ, ◌<◌, ◌∙◌, ◌≡◌, ◌≤◌}
+use Rattle.std.specs.Option.{option_map}
 use Rattle.std.specs.Prelude.{IsSome, IsSomeAnd, slice_get}
 use Rattle.task_base.specs.Plan.{Plan}
 use Rattle.task_base.specs.Runners.{sequence_of}
 use Rattle.task_base.specs.declared.entry.Entry.{Entry}
 use Rattle.task_base.specs.declared.limits.TheConstants.{MOST_WORKERS}
-use Rattle.task_model.specs.Capacity.{OpenScope, priority_of}
+use Rattle.task_model.specs.Capacity.{OpenScope, open_scope}
+use Rattle.task_traits.specs.declared.traits.Priority.{Priority}
 use Rattle.task_model.specs.Keys.{arrivals}
 use Rattle.task_model.specs.Posts.{Posted, post_of}
 use Rattle.task_model.specs.Seats.{Running, running}
@@ -129,21 +131,17 @@ pub its_counts : {script : Plan} {past : List Entry} {pool : Pool} {seat task : 
 its_counts {script = script} {past = past} {seat = seat} {w = w} at found read = rw (posting_is at found read, at.stands.tracker)
     (counts_at_end script past seat w at.post at.stands.past_fits at.runs at.is_pool at.accepted)
 
--- the group that does its runner's work, and what the group says of it: that no scope is open, and that one is
-pub group_is : {script : Plan} {past : List Entry} {pool : Pool} {seat task : ℕ} {w : Running} {posting : Posting} {background : Bool}
-    → IsAtSeat script past pool seat w → slice_get pool.seats.items seat ≡ Some (Some task)
-    → slice_get pool.postings.items task ≡ Some (Some posting) → background ≡ in_background pool.runners (priority_of pool.runners posting.runner)
-    → background ≡ in_background script (priority_of script w.home)
-group_is at found read is = is ∙ rw (at.stands.runners, runner_is_home at found read) refl
+-- its work, as its group keeps it: no scope is open in it, and one is
+its_work : {script : Plan} {past : List Entry} {pool : Pool} {seat : ℕ} {w : Running} → IsAtSeat script past pool seat w
+    → (priority : Priority) × (work_at (group_at pool.groups seat) seat ≡ Some (work_of (option_map opened_as (open_scope past w.task)) priority))
+its_work {script = script} {past = past} {pool = pool} {seat = seat} {w = w} at =
+    let does = task_of_pool script past seat w at.stands.past_fits at.runs at.is_pool in
+    (does.0, works_here script past pool.groups seat _ at.stands.groups (seat_there script seat at.stands.script_fits at.known) does.2)
 
-pub closed_work : {script : Plan} {past : List Entry} {pool : Pool} {seat : ℕ} {w : Running} {background : Bool} → RunsClosed script past pool seat w
-    → background ≡ in_background script (priority_of script w.home)
-    → IsSomeAnd (work_at (group_in pool.groups background) seat) (λ work. work.scope ≡ None)
-closed_work {script = script} {past = past} {pool = pool} {seat = seat} {w = w} can group =
-    rw (group, task_works script past pool.groups seat w can.stands.script_fits can.stands.past_fits can.stands.groups can.runs can.is_pool, can.closed) refl
+pub closed_work : {script : Plan} {past : List Entry} {pool : Pool} {seat : ℕ} {w : Running} → RunsClosed script past pool seat w
+    → IsSomeAnd (work_at (group_at pool.groups seat) seat) (λ work. work.scope ≡ None)
+closed_work can = rw ((its_work (closed_at can)).1, can.closed) refl
 
-pub open_work : {script : Plan} {past : List Entry} {pool : Pool} {seat : ℕ} {w : Running} {opened : OpenScope} {background : Bool}
-    → RunsOpen script past pool seat w opened → background ≡ in_background script (priority_of script w.home)
-    → IsSomeAnd (work_at (group_in pool.groups background) seat) (λ work. IsSome work.scope)
-open_work {script = script} {past = past} {pool = pool} {seat = seat} {w = w} can group =
-    rw (group, task_works script past pool.groups seat w can.stands.script_fits can.stands.past_fits can.stands.groups can.runs can.is_pool, can.opens) refl
+pub open_work : {script : Plan} {past : List Entry} {pool : Pool} {seat : ℕ} {w : Running} {opened : OpenScope} → RunsOpen script past pool seat w opened
+    → IsSomeAnd (work_at (group_at pool.groups seat) seat) (λ work. IsSome work.scope)
+open_work can = rw ((its_work (open_at can)).1, can.opens) refl

@@ -4,17 +4,16 @@ use Rattle.task_model.specs.Jobs.{JobPosted, job_post_of, may_enter}
 use Rattle.pool_core.proofs.JobViews.{enters_parts}
 use Rattle.pool_core.proofs.JobQueues.{job_made}
 use Rattle.list_laws.proofs.Elements.{slice_get_all}
-use Rattle.list_laws.proofs.Values.{some-injective}
+use Rattle.list_laws.proofs.Values.{eqb-same, some-injective}
 use Rattle.list_laws.specs.Lists.{Ranks, keep}
 use Rattle.pool_core.proofs.Accepted.{head_accepted, is_declared}
 use Rattle.pool_core.proofs.Following.{lane_fits, sequence_made}
-use Rattle.pool_core.proofs.Queues.{owns_own}
 use Rattle.pool_core.proofs.Room.{groups_have_room}
 use Rattle.pool_core.specs.Choice.{IsBestOf, IsOffer, IsOffered, better_of, is_open, priority_in}
 use Rattle.pool_core.specs.Pasts.{IsPoolScript}
 use Rattle.pool_core.specs.Queues.{belongs, lane_of, queue_of, rank_as, same}
 use Rattle.pool_core.specs.StandsFor.{StandsFor}
-use Rattle.pool_core.specs.State.{is_best_by, lane_by}
+use Rattle.pool_core.specs.State.{lane_by}
 use Rattle.pool_core.specs.declared.pool.Pool.{Pool}
 use Rattle.pool_laws.proofs.Choice.Best.{only_best}
 use Rattle.pool_laws.proofs.Choice.Candidates.{candidate_names, free_is_waiting, job_within, sequence_within, waiting_is_free, waiting_job, waiting_sequence}
@@ -37,7 +36,7 @@ use Rattle.task_base.specs.declared.policy.Policy.{Policy}
 use Rattle.task_base.specs.declared.script.Runner.{Runner}
 use Rattle.task_base.specs.declared.source.TaskSource.{TaskSource}
 use Rattle.task_base.specs.declared.source.TaskSource.TheVariants.{Job, Sequence}
-use Rattle.task_model.specs.Capacity.{has_room, priority_of_job}
+use Rattle.task_model.specs.Capacity.{has_room}
 use Rattle.task_model.specs.Keys.{Ready}
 use Rattle.task_model.specs.Phase.{phase_of}
 use Rattle.task_model.specs.Policies.{is_held, policy_of}
@@ -129,11 +128,11 @@ seat_lets seat lane (Some only) above at is = elim at [
   | inr own ↦ eq-eqb only seat (eqb-true only lane is ∙ own)
 ]
 
--- the queue of a candidate's priority and seat is there and made for it, the phase lets block work start, and a seat that it
+-- the queues of a candidate's seat are there and made for it, the phase lets block work start, and a seat that it
 -- states is a worker's
 pub record HasQueue (script : Plan) (past : List Entry) (pool : Pool) (c : Candidate) : Type 0 where
   pub there : lane_of c.seat < script.workers + 1
-  pub made : IsMadeFor (queue_of pool.lanes (lane_of c.seat) (is_best_effort c.priority)) c.source
+  pub made : (best : Bool) → IsMadeFor (queue_of pool.lanes (lane_of c.seat) best) c.source
   pub lets : forbids (phase_of past) BlockShutdown ≡ false
   pub above : (only : ℕ) → c.seat ≡ Some only → 1 ≤ only
 
@@ -146,7 +145,7 @@ has_queue script past pool (Sequence s) c stands is =
     let declared = is_declared script past head.posted stands.past_fits accepted.0 in
     subst (HasQueue script past pool) waits.3 (record {
       there = lane_fits script head.posted.home stands.script_fits;
-      made = subst (λ n. IsMadeFor (queue_of pool.lanes (lane_by script head.posted.home) (is_best_by script head.posted.home)) (Sequence n)) accepted.1
+      made = subst (λ n. (best : Bool) → IsMadeFor (queue_of pool.lanes (lane_by script head.posted.home) best) (Sequence n)) accepted.1
           (sequence_made script pool.lanes head.posted.home head.posted.task stands.script_fits stands.queues.roomy declared.0 declared.1);
       lets = lets_block (phase_of past) (effective_at script head.posted.home head.posted.delay) accepted.3;
       above = λ only seated. seat_above script head.posted.home only stands.script_fits seated;
@@ -156,7 +155,7 @@ has_queue script past pool (Job j) c stands is =
     let waits = waiting_job script past j c inside.1 in
     subst (HasQueue script past pool) waits.3 (record {
       there = omega arith;
-      made = job_made script pool.lanes (is_best_effort (priority_of_job script j)) j stands.queues.roomy inside.0;
+      made = λ best. job_made script pool.lanes best j stands.queues.roomy inside.0;
       lets = lets_block (phase_of past) (behaviour_of_job script j) (enters_parts script past j waits.1).1;
       above = λ only seated. absurd (none-some only seated);
     })
@@ -166,7 +165,7 @@ offered_is : (script : Plan) (past : List Entry) (pool : Pool) (seat : ℕ) (sou
     → seat ≤ script.workers → IsOffer pool seat source rank → (c : Candidate) × IsTakeable script past seat c × (c.source ≡ source) × (rank_as c ≡ rank)
 offered_is script past pool seat source rank stands known (lane, best, at, offered) =
     let there : lane < script.workers + 1 = lane_there at in
-    let held = held_is lane best (source_waiting script past source) rank (sym (stands.queues.ranks lane best source there offered.made) ∙ offered.held) in
+    let held = held_is lane best (source_waiting script past source) rank (sym ((stands.queues.places source).ranks lane best offered.made) ∙ offered.held) in
     let c = held.0 in
     let named : c.source ≡ source = candidate_names script past source c held.1 in
     let own : ((lane_of c.seat == lane) ≡ true) × (same (is_best_effort c.priority) best ≡ true) = and_parts _ _ held.2 in
@@ -203,9 +202,9 @@ takeable_is script past pool seat c stands takeable =
             (ap not queue.lets)
             (ap not (sym (held_by_queue past c.priority (is_best_effort c.priority) (own_queue c.priority)) ∙ free.not_held)))
             (sym (room_by_queue script past c.priority (is_best_effort c.priority) (own_queue c.priority)) ∙ tests.0);
-        made = queue.made;
-        held = stands.queues.ranks (lane_of c.seat) (is_best_effort c.priority) c.source queue.there queue.made
-            ∙ rw (free.candidate, owns_own (lane_of c.seat) (is_best_effort c.priority)) refl;
+        made = queue.made (is_best_effort c.priority);
+        held = (stands.queues.places c.source).ranks (lane_of c.seat) (is_best_effort c.priority) (queue.made (is_best_effort c.priority))
+            ∙ rw (free.candidate, eqb-same (lane_of c.seat), own_queue c.priority) refl;
       },
     )
   where
@@ -241,7 +240,7 @@ best_offer script past pool seat (Some (source, rank)) stands known (offered, fi
 -- where that is a sequence, it does not run, and has a head
 pub best_is_sequence : (script : Plan) (past : List Entry) (seat s : ℕ) (c : Candidate) → best_of script past seat ≡ Some c → c.source ≡ Sequence s
     → (head : Ready) × (s < sequence_count script) × (runs_sequence script past s ≡ false) × (head_of script past s ≡ Some head)
-    × (sequence_candidate script s head ≡ c)
+    × (sequence_candidate script past s head ≡ c)
 best_is_sequence script past seat s c is named =
     let free : IsFree script past c = waiting_is_free script past c (best_is_best script past seat c is).takeable.0 in
     let inside = sequence_within script past s c (ap (source_waiting script past) (sym named) ∙ free.candidate) in

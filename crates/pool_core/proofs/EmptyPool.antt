@@ -1,43 +1,45 @@
 -- The pool of a history that has not begun.
 use Rattle.pool_core.specs.PoolJobs.{fresh_job}
-use Rattle.pool_laws.proofs.Choice.Candidates.{job_in}
 use Rattle.pool_core.proofs.JobTables.{holders_at_start}
-use Rattle.pool_core.proofs.JobQueues.{job_made_within}
 use Rattle.pool_core.specs.Jobs.{AreJobs, job_as}
 use Rattle.std.proofs.lemmas.Option.{slice_get-map}
 use Rattle.task_model.specs.Jobs.{claimed, done, is_cancelled, job_post_of, job_sum, may_enter}
 use Rattle.pool_core.proofs.HeldItems.{held_at_start}
-use Rattle.task_model.specs.Sources.{Candidate, job_waiting}
+use Rattle.task_model.specs.Sources.{Candidate}
 use Rattle.pool_core.proofs.Following.{hold_from}
 use Rattle.pool_core.proofs.GroupGrowth.{groups_at_start}
 use Rattle.pool_core.proofs.LineGrowth.{lines_at_start}
-use Rattle.pool_core.proofs.Lists.{replicated}
+use Rattle.pool_core.proofs.Lists.{get_there, replicated}
 use Rattle.pool_core.proofs.Pasts.{past_at_start}
-use Rattle.pool_core.proofs.Tables.{postings_at_start, seats_at_start}
+use Rattle.pool_core.proofs.Tables.{postings_at_start, priorities_at_start, seats_at_start}
 use Rattle.pool_core.proofs.Tracking.{tracked_at_start}
 use Rattle.pool_core.specs.Groups.{empty_groups}
 use Rattle.pool_core.specs.Pasts.{IsPoolScript}
-use Rattle.pool_core.specs.Queues.{AreRoomy, HoldJobs, HoldWaiting, belongs, empty_lane, empty_lanes, empty_queue, job_room, no_lane, queue_in, queue_of, rank_as, sequence_room}
+use Rattle.pool_core.specs.Queues.{AreRoomy, HoldWaiting, belongs, empty_lane, empty_lanes, empty_queue, job_room, no_lane, queue_in, queue_of, rank_as, sequence_room}
 use Rattle.pool_core.specs.StandsFor.{StandsFor}
-use Rattle.pool_core.specs.State.{rank_by, runner_of}
+use Rattle.pool_core.specs.State.{candidate_by, rank_by, runner_of, standing}
 use Rattle.pool_core.specs.declared.pool.Pool.{Pool}
+use Rattle.pool_core.specs.declared.lanes.Lane.{Lane}
 use Rattle.pool_core.specs.declared.posting.Posting.{Posting}
-use Rattle.sequence_queue.specs.Ranked.{rank_of}
-use Rattle.std.proofs.Common.{Bool, List, None, Option, Some, [], ap, arith, cond, false, length, refl, suc, sym, true, zero, ℕ, ◌+◌, ◌<◌, ◌∙◌, ◌∷◌, ◌≡◌}
-use Rattle.std.proofs.lemmas.List.{length-map, length-replicate}
+use Rattle.pool_laws.specs.Choice.{source_waiting}
+use Rattle.sequence_queue.specs.Ranked.{IsMadeFor, number_in, rank_of}
+use Rattle.std.proofs.Common.{Bool, List, None, Option, Some, [], ap, arith, cond, false, inl, inr, length, refl, subst, sym, true, ℕ, ◌+◌, ◌<◌, ◌∙◌, ◌≡◌}
+use Rattle.std.proofs.lemmas.List.{get_or_past, length-map, length-replicate}
 use Rattle.std.proofs.lemmas.List.FromFn.{get_or-map-range_with_len, length-map-range_with_len}
 use Rattle.list_laws.specs.Lists.{keep}
-use Rattle.std.proofs.lemmas.Bool.{false≢true}
+use Rattle.std.proofs.lemmas.Bool.{cases_lt, false≢true}
 use Rattle.std.specs.Option.{option_map}
-use Rattle.std.specs.Prelude.{is_some, map, option_and_then, replicate, slice_get}
+use Rattle.std.specs.Prelude.{is_some, map, nat_lt, option_and_then, replicate, slice_get}
 use Rattle.task_base.specs.Plan.{JobPlan, Plan}
 use Rattle.task_base.specs.Runners.{sequence_count}
+use Rattle.task_base.specs.declared.source.TaskSource.{TaskSource}
 use Rattle.task_base.specs.declared.source.TaskSource.TheVariants.{Job, Sequence}
 use Rattle.task_model.specs.Past.{fold_past}
 use Rattle.task_model.specs.Posts.{posts}
 use Rattle.task_model.specs.Time.{now_of}
 use Rattle.task_runners.specs.Table.{table_of}
 use Rattle.task_sequence.specs.Sequences.{Held, fresh, sequence_at}
+use Rattle.task_traits.specs.declared.traits.Priority.{Priority}
 use Rattle.task_base.specs.declared.policy.Policy.TheVariants as policies
 use Rattle.task_traits.specs.declared.phase.Phase.TheVariants as phases
 
@@ -61,19 +63,14 @@ empty_lanes_roomy script = record {
 }
 
 -- no job was posted
-no_candidate : (script : Plan) (j : ℕ) → job_waiting script [] j ≡ None
+no_job_waits : (script : Plan) (j : ℕ) → source_waiting script [] (Job j) ≡ None
 unfolding job_post_of fold_past
-no_candidate script j = by (may_enter script [] j)
+no_job_waits script j = by (nat_lt j (length script.jobs)) (may_enter script [] j)
   where
-    by : (b : Bool) → ◌≡◌ {A = Option Candidate} (cond b None None) None
-    by true = refl
-    by false = refl
-
--- there is an element at each place
-get_there : {A : Type 0} (xs : List A) (i : ℕ) → i < length xs → is_some (slice_get xs i) ≡ true
-get_there [] i less = absurd (omega (arith, less))
-get_there (x ∷ xs) zero less = refl
-get_there (x ∷ xs) (suc i) less = get_there xs i (omega (arith, less))
+    by : (declared may : Bool) → ◌≡◌ {A = Option Candidate} (cond declared (cond may None None) None) None
+    by false may = refl
+    by true true = refl
+    by true false = refl
 
 -- the jobs at the start
 jobs_at_start : (script : Plan) → AreJobs script [] (map fresh_job script.jobs)
@@ -87,37 +84,63 @@ jobs_at_start script = record {
     by j None is there = absurd (false≢true (sym (ap is_some is) ∙ there))
     by j (Some job) is there = rw (is, held_at_start script j) refl
 
+-- a queue that is made for a source is one of those that there are
+lane_there : (lanes : List Lane) (lane : ℕ) (best : Bool) (source : TaskSource) → IsMadeFor (queue_of lanes lane best) source → lane < length lanes
+lane_there lanes lane best source made = elim (cases_lt lane (length lanes)) [
+  | inl there ↦ there
+  | inr past ↦ absurd (none best source (subst (λ l. IsMadeFor (queue_in best l) source) (get_or_past lanes lane no_lane past) made))
+]
+  where
+    none : (b : Bool) (source : TaskSource) → IsMadeFor (queue_in b no_lane) source → ⊥
+    none true (Sequence s) made = omega (arith, made)
+    none true (Job j) made = omega (arith, made)
+    none false (Sequence s) made = omega (arith, made)
+    none false (Job j) made = omega (arith, made)
+
 -- nothing waits
 hold_at_start : (script : Plan) → IsPoolScript script → HoldWaiting script [] (empty_lanes script)
-hold_at_start script limits = hold_from script [] held (empty_lanes script) postings limits (past_at_start script) (lines_at_start script)
-    (postings_at_start script) (empty_lanes_roomy script) (
-      (λ lane best s less made owned. nothing_held lane best s less),
-      (λ s there lane best less made owned. nothing_held lane best s less ∙ sym (no_rank s (runner_of script postings s))),
-    ) no_job_waits
+hold_at_start script limits = hold_from script [] [] priorities postings held (empty_lanes script)
+    (record {
+      fits = past_at_start script;
+      lines = lines_at_start script;
+      postings_are = postings_at_start script;
+      priorities_are = priorities_at_start script;
+    }) (λ j. refl) (record {
+      roomy = empty_lanes_roomy script;
+      places = λ source. record { ranks = λ lane best made. nothing_held lane best source made ∙ sym (no_rank lane best source) };
+    })
   where
+    priorities : List Priority
+    priorities = map (λ r. r.traits.priority) script.runners
+
     held : Held
     held = record { sequences = replicate (sequence_count script) fresh; room = length script.tasks }
 
     postings : List (Option Posting)
     postings = replicate (length script.tasks) None
 
-    nothing_held : (lane : ℕ) (best : Bool) (s : ℕ) → lane < length (empty_lanes script) → rank_of (queue_of (empty_lanes script) lane best) (Sequence s) ≡ None
-    nothing_held lane best s less = ap (λ q. rank_of q (Sequence s)) (empty_queue_of script lane best (omega (arith, less, (empty_lanes_roomy script).all)))
-        ∙ replicated (sequence_room script lane + job_room script lane) s None
+    nothing_held : (lane : ℕ) (best : Bool) (source : TaskSource) → IsMadeFor (queue_of (empty_lanes script) lane best) source
+        → rank_of (queue_of (empty_lanes script) lane best) source ≡ None
+    nothing_held lane best source made =
+        let there : lane < script.workers + 1 = omega (arith, lane_there (empty_lanes script) lane best source made, (empty_lanes_roomy script).all) in
+        ap (λ q. rank_of q source) (empty_queue_of script lane best there)
+        ∙ replicated (sequence_room script lane + job_room script lane) (number_in (sequence_room script lane) source) None
 
-    no_job_waits : HoldJobs script [] (empty_lanes script)
-    no_job_waits lane best j less made =
-        ap (λ q. rank_of q (Job j)) (empty_queue_of script lane best less)
-        ∙ replicated (sequence_room script lane + job_room script lane) (sequence_room script lane + j) None
-        ∙ sym (ap (λ o. option_map rank_as (keep (belongs lane best) o)) (job_in script [] j (job_made_within script (empty_lanes script) lane best j
-        (empty_lanes_roomy script) less made) ∙ no_candidate script j))
+    no_candidate : (source : TaskSource) → standing script [] priorities postings held source ≡ None
+    no_candidate (Sequence s) = by (runner_of script postings s)
+      where
+        by : (o : Option ℕ) → option_and_then (λ r. option_map (candidate_by script s r) (rank_by priorities r (sequence_at held s))) o ≡ None
+        by None = refl
+        by (Some r) = ap (λ q. option_map (candidate_by script s r) (rank_by priorities r q)) (replicated (sequence_count script) s fresh)
+    no_candidate (Job j) = no_job_waits script j
 
-    no_rank : (s : ℕ) (o : Option ℕ) → option_and_then (λ r. rank_by script r (sequence_at held s)) o ≡ None
-    no_rank s None = refl
-    no_rank s (Some r) = ap (rank_by script r) (replicated (sequence_count script) s fresh)
+    no_rank : (lane : ℕ) (best : Bool) (source : TaskSource)
+        → option_map rank_as (keep (belongs lane best) (standing script [] priorities postings held source)) ≡ None
+    no_rank lane best source = ap (λ o. option_map rank_as (keep (belongs lane best) o)) (no_candidate source)
 
 -- a pool made of new parts stands for a history that has not begun
 pub stands_at_start : (script : Plan) (pool : Pool) → IsPoolScript script → pool.runners ≡ table_of script.runners script.background
+    → pool.priorities.items ≡ map (λ r. r.traits.priority) script.runners
     → pool.sequences ≡ record { sequences = replicate (sequence_count script) fresh; room = length script.tasks } → pool.lanes ≡ empty_lanes script
     → pool.groups ≡ empty_groups script → pool.delayed ≡ record { held = []; room = length script.tasks }
     → pool.tracker ≡ record { phase = phases.Running; policy = policies.All; block_items = 0; skip_items = 0 }
@@ -125,10 +148,11 @@ pub stands_at_start : (script : Plan) (pool : Pool) → IsPoolScript script → 
     → pool.jobs.items ≡ map fresh_job script.jobs → pool.holders.items ≡ replicate (script.workers + 1) None → pool.moment ≡ 0
     → StandsFor script [] pool
 unfolding posts now_of fold_past
-stands_at_start script pool fits runners sequences lanes groups delayed tracker postings seats jobs holders moment = record {
+stands_at_start script pool fits runners priorities sequences lanes groups delayed tracker postings seats jobs holders moment = record {
   script_fits = fits;
   past_fits = past_at_start script;
   runners = runners;
+  priorities = rw priorities (priorities_at_start script);
   lines = rw sequences (lines_at_start script);
   queues = rw lanes (hold_at_start script fits);
   groups = rw groups (groups_at_start script);

@@ -1,22 +1,18 @@
 -- The end of a task keeps what the pool stands for.
 use Rattle.pool_core.proofs.JobTables.{holders_kept, jobs_kept}
-use Rattle.pool_core.proofs.JobQueues.{jobs_held, jobs_stay}
 use Rattle.pool_core.proofs.AtSeat.{IsAtSeat}
 use Rattle.pool_core.proofs.Delays.{unripe_kept}
-use Rattle.pool_core.proofs.Following.{follow_in, hold_refreshed, runner_is, sequence_made}
+use Rattle.pool_core.proofs.Following.{Tells, hold_refreshed, hold_standing, other_sequence, runner_is, sequence_made}
 use Rattle.pool_core.proofs.GroupGrowth.{groups_at_end}
-use Rattle.pool_core.proofs.GroupWorks.{with_seat}
 use Rattle.pool_core.proofs.LineGrowth.{lines_at_end}
 use Rattle.pool_core.proofs.Pasts.{past_at_end}
-use Rattle.pool_core.proofs.Queues.{AllFollow, other_sequence}
-use Rattle.pool_core.proofs.Tables.{postings_kept, seats_at_end}
+use Rattle.pool_core.proofs.Tables.{postings_kept, priorities_kept, seats_at_end}
 use Rattle.pool_core.proofs.Tracking.{tracked_at_end}
 use Rattle.pool_core.specs.Calls.{after_end}
-use Rattle.pool_core.specs.Lines.{AreLines}
-use Rattle.pool_core.specs.Pasts.{IsPoolPast}
+use Rattle.pool_core.specs.Groups.{group_at, with_group_at}
 use Rattle.pool_core.specs.StandsFor.{StandsFor}
 use Rattle.pool_core.specs.State.{refreshed, runner_of}
-use Rattle.pool_core.specs.Tables.{ArePostings, posting_of}
+use Rattle.pool_core.specs.Tables.{posting_of}
 use Rattle.pool_core.specs.declared.pool.Pool.{Pool}
 use Rattle.pool_laws.proofs.Keys.Posts.{posts_same}
 use Rattle.std.proofs.Common.{List, None, Some, [], refl, subst, ℕ, ◌++◌, ◌-◌, ◌∷◌, ◌≡◌}
@@ -25,12 +21,11 @@ use Rattle.task_base.specs.Plan.{Plan}
 use Rattle.task_base.specs.Runners.{sequence_of}
 use Rattle.task_base.specs.declared.entry.Entry.{Entry}
 use Rattle.task_model.proofs.Growth.{now_of_push}
-use Rattle.task_model.specs.Capacity.{priority_of}
-use Rattle.task_model.specs.Keys.{arrivals}
 use Rattle.task_model.specs.Refusal.{effective_at}
 use Rattle.task_model.specs.Seats.{Running}
 use Rattle.task_sequence.specs.Sequences.{Held, sequence_at, with_sequence}
 use Rattle.task_tracker.specs.Tracked.{block_share, skip_share}
+use Rattle.thread_group.specs.Group.{with_work}
 use Rattle.task_base.specs.declared.entry.Kind.TheVariants as kinds
 
 -- the sequences with the cell of one brought home
@@ -40,7 +35,7 @@ brought_home held s value = record held { sequences = with_sequence held s (reco
 pub stands_at_end : {script : Plan} {past : List Entry} {pool : Pool} {seat : ℕ} {w : Running} (left : ℕ) (at : IsAtSeat script past pool seat w)
     → StandsFor script (after_end past seat w.task left)
     (refreshed (record pool {
-      groups = with_seat script pool.groups seat (priority_of script w.home) None;
+      groups = with_group_at pool.groups seat (with_work (group_at pool.groups seat) seat None);
       tracker = record pool.tracker {
         block_items = pool.tracker.block_items - block_share (effective_at script at.post.home at.post.delay);
         skip_items = pool.tracker.skip_items - skip_share (effective_at script at.post.home at.post.delay);
@@ -50,18 +45,18 @@ pub stands_at_end : {script : Plan} {past : List Entry} {pool : Pool} {seat : �
     }) (sequence_of script w.home w.task) w.home)
 stands_at_end {script = script} {past = past} {pool = pool} {seat = seat} {w = w} left at = rw stands.runners (record {
   script_fits = stands.script_fits;
-  past_fits = fits;
+  past_fits = tells.fits;
   runners = refl;
-  lines = lines;
-  queues = hold_refreshed script later pool.sequences (brought_home pool.sequences s left) pool.lanes pool.postings.items s w.home stands.script_fits fits
-      lines known stands.queues.roomy runs old
-      (λ other another. other_sequence pool.sequences s other _ another)
+  priorities = tells.priorities_are;
+  lines = tells.lines;
+  queues = hold_refreshed script past e pool.priorities.items pool.postings.items pool.sequences (brought_home pool.sequences s left) pool.lanes s w.home
+      stands.script_fits tells refl runs
       (sequence_made script pool.lanes w.home w.task stands.script_fits stands.queues.roomy at.runner_declared at.task_declared)
-      (jobs_stay script past e pool.lanes refl (jobs_held script past pool.lanes stands.queues));
+      (λ other another. other_sequence pool.sequences s other _ another) (hold_standing script past pool stands);
   groups = groups_at_end script past pool.groups seat left w stands.script_fits stands.past_fits stands.groups at.runs at.is_pool;
   delayed = rw (unripe_kept past e refl) stands.delayed;
   tracker = rw (tracked_at_end script past seat left w at.post stands.past_fits at.runs at.is_pool at.accepted, stands.tracker) refl;
-  postings = known;
+  postings = tells.postings_are;
   seats = seats_at_end script past seat w.task left pool.seats.items stands.seats at.known;
   jobs = jobs_kept script past e pool.jobs.items refl stands.jobs;
   holders = holders_kept script past e pool.holders.items refl stands.holders;
@@ -78,20 +73,13 @@ stands_at_end {script = script} {past = past} {pool = pool} {seat = seat} {w = w
     e : Entry
     e = record { seat = seat; kind = kinds.End w.task left }
 
-    later : List Entry
-    later = past ++ e ∷ []
-
-    fits : IsPoolPast script later
-    fits = past_at_end script past seat left w stands.past_fits at.runs at.is_pool
-
-    lines : AreLines script later (arrivals later) (brought_home pool.sequences s left)
-    lines = lines_at_end script past pool.sequences seat left w stands.past_fits stands.lines at.runs at.is_pool
-
-    known : ArePostings script later pool.postings.items
-    known = postings_kept script past e pool.postings.items refl stands.postings
-
-    old : AllFollow script pool.postings.items pool.sequences pool.lanes
-    old = follow_in script past pool stands
+    tells : Tells script (past ++ e ∷ []) pool.priorities.items pool.postings.items (brought_home pool.sequences s left)
+    tells = record {
+      fits = past_at_end script past seat left w stands.past_fits at.runs at.is_pool;
+      lines = lines_at_end script past pool.sequences seat left w stands.past_fits stands.lines at.runs at.is_pool;
+      postings_are = postings_kept script past e pool.postings.items refl stands.postings;
+      priorities_are = priorities_kept script past e pool.priorities.items refl stands.priorities;
+    }
 
     runs : runner_of script pool.postings.items s ≡ Some w.home
     runs = subst (λ r. runner_of script pool.postings.items (sequence_of script r w.task) ≡ Some r) at.home_is

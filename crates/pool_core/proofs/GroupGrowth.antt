@@ -1,33 +1,34 @@
 -- The two groups at each entry.
 use Rattle.list_laws.proofs.Values.{eqb-same}
-use Rattle.list_laws.specs.Lists.{holds_of}
-use Rattle.pool_core.proofs.GroupWorks.{group_kept, group_stands, groups_moved, moment_of, no_work, not_same_task, other_kept, part, runner_holds_nothing, same_itself, seat_there, task_works, with_seat, work_by, work_by_same, work_from, work_kept, work_of_item, work_of_task, works}
+use Rattle.pool_core.proofs.GroupWorks.{group_kept, groups_moved, groups_moved_here, moment_of, no_work, not_same_task, other_kept, part, runner_holds_nothing, seat_there, still_kept, task_of_pool, with_seat, work_of_item, work_of_task, works_here}
 use Rattle.pool_core.specs.Calls.{after_end, after_enter, after_leave, after_tick, next}
-use Rattle.pool_core.specs.Groups.{AreGroups, StandsForGroup, empty_group, empty_groups, group_in, in_background, opened_as, pool_work, ticked, with_group}
+use Rattle.pool_core.specs.Groups.{AreGroups, StandsForGroup, empty_group, empty_groups, group_at, is_background, opened_as, pool_work, ticked, with_group_at, work_of}
 use Rattle.pool_core.specs.Others.{is_quiet, posts_to_pool}
 use Rattle.pool_core.specs.Pasts.{IsPoolPast, IsPoolScript}
 use Rattle.pool_core.specs.declared.groups.Groups.{Groups}
 use Rattle.pool_laws.proofs.Room.Capacity.{scope_kept}
-use Rattle.pool_laws.proofs.Seats.Running.{holding_here, holding_same, running_here, running_same}
+use Rattle.pool_laws.proofs.Seats.Running.{holding_here, holding_same, running_here, running_same, taken_here, taken_same}
 use Rattle.pool_laws.specs.Room.{scopes as scopes_of}
-use Rattle.pool_laws.specs.Seats.{moves_holding, moves_main, moves_running, runs_pool_task}
-use Rattle.std.proofs.Common.{Bool, List, None, Option, Some, [], ap, eqb, false, refl, sym, true, ℕ, ◌++◌, ◌+◌, ◌∙◌, ◌∷◌, ◌≡◌, ◌≤◌}
-use Rattle.std.proofs.lemmas.Bool.{eqb-true, false≢true, ne_eqb, true≢false}
+use Rattle.pool_laws.specs.Seats.{moves_holding, moves_main, moves_running}
+use Rattle.std.proofs.Common.{Bool, List, None, Option, Some, [], ap, eqb, false, refl, sym, true, ℕ, ◌++◌, ◌+◌, ◌<◌, ◌∙◌, ◌∷◌, ◌≡◌, ◌≤◌}
+use Rattle.std.proofs.lemmas.Bool.{eqb-true, false≢true, ne_eqb}
 use Rattle.std.proofs.lemmas.List.{get_or-replicate}
 use Rattle.std.proofs.lemmas.Option.{unwrap_or-slice_get}
-use Rattle.std.specs.Option.{option_map, option_or}
-use Rattle.std.specs.Prelude.{not, replicate, ◌||◌}
-use Rattle.task_base.specs.Groups.{Background, Foreground, Group, group_of}
+use Rattle.std.specs.Option.{option_map}
+use Rattle.std.specs.Prelude.{replicate, ◌||◌}
+use Rattle.task_base.specs.Groups.{Background, Foreground, Group}
 use Rattle.task_base.specs.Plan.{Plan}
 use Rattle.task_base.specs.declared.entry.Entry.{Entry}
 use Rattle.task_base.specs.declared.entry.Kind.{Kind}
 use Rattle.task_base.specs.declared.limits.TheConstants.{MOST_WORKERS}
 use Rattle.task_base.specs.declared.step.Scope.{Scope}
 use Rattle.task_model.proofs.Growth.{now_of_push, open_scope_push}
-use Rattle.task_model.specs.Capacity.{best_limit, limit, open_scope, priority_of, priority_of_job}
-use Rattle.task_model.specs.Seats.{Holding, Running, holding, running, running_after}
+use Rattle.task_model.specs.Capacity.{best_limit, limit, open_scope, priority_of, priority_of_job, taken_with}
+use Rattle.task_model.specs.Seats.{Holding, Running, holding, running}
+use Rattle.task_traits.specs.declared.traits.Priority.{Priority}
 use Rattle.task_model.specs.Time.{now_after, now_of}
-use Rattle.thread_group.specs.Group.{GroupWork, scoped, with_scope, work_at}
+use Rattle.thread_group.specs.Group.{GroupWork, with_scope, with_work}
+use Rattle.thread_group.specs.declared.work.OpenScope as scopes
 use Rattle.task_base.specs.declared.entry.Kind.TheVariants as kinds
 use Rattle.task_model.specs.Capacity as capacities
 
@@ -51,78 +52,80 @@ groups_at_start script = record {
     }
 
 pub groups_at_take : (script : Plan) (past : List Entry) (groups : Groups) (seat task runner found : ℕ) → IsPoolScript script → AreGroups script past groups
-    → seat ≤ script.workers → running past seat ≡ None → holding past seat ≡ None → open_scope past task ≡ None
+    → 1 ≤ seat → seat ≤ script.workers → running past seat ≡ None → holding past seat ≡ None → open_scope past task ≡ None
     → AreGroups script (next past seat (kinds.Take task runner found))
-    (with_seat script groups seat (priority_of script runner) (Some (record { priority = priority_of script runner; scope = None })))
-groups_at_take script past groups seat task runner found limits are known free nothing closed =
+    (with_seat script groups seat (priority_of script past runner) (Some (work_of None (priority_of script past runner))))
+groups_at_take script past groups seat task runner found limits are worker known free nothing closed =
     let e : Entry = record { seat = seat; kind = kinds.Take task runner found } in
-    groups_moved script past (past ++ e ∷ []) groups seat (priority_of script runner) None (Some None) are (record {
+    groups_moved script past (past ++ e ∷ []) groups seat (priority_of script past runner) None (Some None) are (record {
       now = now_of_push past e;
       there = seat_there script seat limits known;
       was = no_work script past seat free nothing;
-      is = work_of_task script (past ++ e ∷ []) seat (record { task = task; home = runner; found = found; is_main = false })
-          (running_here past e seat (eqb-same seat)) refl ∙ rw (scope_kept past e task refl, closed) refl;
+      is = work_of_task script (past ++ e ∷ []) seat (record { task = task; home = runner; found = found; is_main = false }) (priority_of script past runner)
+          worker (running_here past e seat (eqb-same seat)) (taken_here script past e seat (eqb-same seat)) ∙ rw (scope_kept past e task refl, closed) refl;
       others = λ other another. other_kept script past e other (ne_eqb seat other (λ same. another (sym same))) (λ w runs pool. refl);
     })
 
 pub groups_at_end : (script : Plan) (past : List Entry) (groups : Groups) (seat left : ℕ) (w : Running) → IsPoolScript script → IsPoolPast script past
     → AreGroups script past groups → running past seat ≡ Some w → w.is_main ≡ false
-    → AreGroups script (after_end past seat w.task left)
-    (with_seat script groups seat (priority_of script w.home) None)
+    → AreGroups script (after_end past seat w.task left) (with_group_at groups seat (with_work (group_at groups seat) seat None))
 groups_at_end script past groups seat left w limits fits are runs pool =
     let e : Entry = record { seat = seat; kind = kinds.End w.task left } in
-    groups_moved script past (past ++ e ∷ []) groups seat (priority_of script w.home) (Some (option_map opened_as (open_scope past w.task))) None are (record {
+    let does = task_of_pool script past seat w fits runs pool in
+    groups_moved_here script past (past ++ e ∷ []) groups seat does.0 (option_map opened_as (open_scope past w.task)) None are (record {
       now = now_of_push past e;
       there = seat_there script seat limits (fits.runs seat w runs pool).known;
-      was = work_of_task script past seat w runs pool;
+      was = does.2;
       is = no_work script (past ++ e ∷ []) seat (running_here past e seat (eqb-same seat))
           (holding_same past e seat refl ∙ runner_holds_nothing script past seat w fits runs pool);
       others = λ other another. other_kept script past e other (ne_eqb seat other (λ same. another (sym same))) (λ v its main. refl);
     })
 
 -- the seat's task opens or closes a scope
-scope_moved : (script : Plan) (past : List Entry) (groups : Groups) (e : Entry) (w : Running) (before after : Option capacities.OpenScope)
+scope_moved : (script : Plan) (past : List Entry) (groups : Groups) (e : Entry) (w : Running) (after : Option capacities.OpenScope)
     → IsPoolScript script → IsPoolPast script past → AreGroups script past groups → running past e.seat ≡ Some w → w.is_main ≡ false
-    → moves_running e.kind ≡ false → moves_holding e.kind ≡ false → now_of (past ++ e ∷ []) ≡ now_of past → ((t : ℕ) → eqb w.task t ≡ false → scopes_of t e.kind ≡ false)
-    → open_scope past w.task ≡ before → open_scope (past ++ e ∷ []) w.task ≡ after
-    → AreGroups script (past ++ e ∷ []) (with_group groups (in_background script (priority_of script w.home))
-    (with_scope (group_in groups (in_background script (priority_of script w.home))) e.seat (option_map opened_as after)))
-scope_moved script past groups e w before after limits fits are runs pool still leaves now apart was is = rw shape
-    (groups_moved script past (past ++ e ∷ []) groups e.seat (priority_of script w.home)
-    (Some (option_map opened_as before)) (Some (option_map opened_as after)) are
-    (record {
+    → moves_running e.kind ≡ false → moves_holding e.kind ≡ false → now_of (past ++ e ∷ []) ≡ now_of past
+    → ((t : ℕ) → eqb w.task t ≡ false → scopes_of t e.kind ≡ false)
+    → open_scope (past ++ e ∷ []) w.task ≡ after
+    → AreGroups script (past ++ e ∷ []) (with_group_at groups e.seat (with_scope (group_at groups e.seat) e.seat (option_map opened_as after)))
+scope_moved script past groups e w after limits fits are runs pool still leaves now apart is =
+    rw (works_here script past groups e.seat (work_of before does.0) are there does.2)
+    (groups_moved_here script past (past ++ e ∷ []) groups e.seat does.0 before (Some (option_map opened_as after)) are (record {
       now = now;
-      there = seat_there script e.seat limits (fits.runs e.seat w runs pool).known;
-      was = work_of_task script past e.seat w runs pool ∙ rw was refl;
-      is = work_of_task script (past ++ e ∷ []) e.seat w (running_same past e e.seat still ∙ runs) pool ∙ rw is refl;
-      others = λ other another. work_kept script past (past ++ e ∷ []) other (running_same past e other still) (holding_same past e other leaves)
-          (λ v its main. scope_kept past e v.task (apart v.task (not_same_task script past e.seat other w v fits runs pool its main another)));
+      there = there;
+      was = does.2;
+      is = work_of_task script (past ++ e ∷ []) e.seat w does.0 (fits.runs e.seat w runs pool).worker (running_same past e e.seat still ∙ runs)
+          (taken_same script past e e.seat still ∙ does.1) ∙ rw is refl;
+      others = λ other another. still_kept script past e other still leaves
+          (λ v its main. apart v.task (not_same_task script past e.seat other w v fits runs pool its main another));
     }))
   where
-    shape : option_map (scoped (option_map opened_as after)) (work_at (group_in groups (in_background script (priority_of script w.home))) e.seat)
-        ≡ works (priority_of script w.home) (Some (option_map opened_as after))
-    shape = rw (task_works script past groups e.seat w limits fits are runs pool) refl
+    before : Option scopes.OpenScope
+    before = option_map opened_as (open_scope past w.task)
+
+    does : (priority : Priority) × (taken_with script past e.seat ≡ Some priority) × (pool_work script past e.seat ≡ Some (work_of before priority))
+    does = task_of_pool script past e.seat w fits runs pool
+
+    there : e.seat < MOST_WORKERS + 1
+    there = seat_there script e.seat limits (fits.runs e.seat w runs pool).known
 
 pub groups_at_enter : (script : Plan) (past : List Entry) (groups : Groups) (seat : ℕ) (scope : Scope) (w : Running) → IsPoolScript script
-    → IsPoolPast script past → AreGroups script past groups → running past seat ≡ Some w → w.is_main ≡ false → open_scope past w.task ≡ None
+    → IsPoolPast script past → AreGroups script past groups → running past seat ≡ Some w → w.is_main ≡ false
     → AreGroups script (after_enter past seat w.task scope)
-    (let group = group_in groups (in_background script (priority_of script w.home)) in
-    with_group groups (in_background script (priority_of script w.home)) (with_scope group seat (Some (record { scope = scope; since = group.moment }))))
-groups_at_enter script past groups seat scope w limits fits are runs pool closed =
+    (let group = group_at groups seat in
+    with_group_at groups seat (with_scope group seat (Some (record { scope = scope; since = group.moment }))))
+groups_at_enter script past groups seat scope w limits fits are runs pool =
     let e : Entry = record { seat = seat; kind = kinds.Enter w.task scope } in
-    let group = group_in groups (in_background script (priority_of script w.home)) in
-    scope_moved script past groups e w None (Some (record { scope = scope; since = group.moment })) limits fits are runs pool refl refl (now_of_push past e)
-    (λ t other. other) closed
-    (open_scope_push past e w.task ∙ rw (eqb-same w.task, moment_of script past groups (in_background script (priority_of script w.home)) are) refl)
+    scope_moved script past groups e w (Some (record { scope = scope; since = (group_at groups seat).moment })) limits fits are runs pool refl refl
+    (now_of_push past e) (λ t other. other)
+    (open_scope_push past e w.task ∙ rw (eqb-same w.task, moment_of script past groups (is_background groups seat) are) refl)
 
-pub groups_at_leave : (script : Plan) (past : List Entry) (groups : Groups) (seat : ℕ) (w : Running) (opened : capacities.OpenScope) → IsPoolScript script
-    → IsPoolPast script past → AreGroups script past groups → running past seat ≡ Some w → w.is_main ≡ false → open_scope past w.task ≡ Some opened
-    → AreGroups script (after_leave past seat w.task)
-    (with_group groups (in_background script (priority_of script w.home))
-    (with_scope (group_in groups (in_background script (priority_of script w.home))) seat None))
-groups_at_leave script past groups seat w opened limits fits are runs pool opens =
+pub groups_at_leave : (script : Plan) (past : List Entry) (groups : Groups) (seat : ℕ) (w : Running) → IsPoolScript script
+    → IsPoolPast script past → AreGroups script past groups → running past seat ≡ Some w → w.is_main ≡ false
+    → AreGroups script (after_leave past seat w.task) (with_group_at groups seat (with_scope (group_at groups seat) seat None))
+groups_at_leave script past groups seat w limits fits are runs pool =
     let e : Entry = record { seat = seat; kind = kinds.Leave w.task } in
-    scope_moved script past groups e w (Some opened) None limits fits are runs pool refl refl (now_of_push past e) (λ t other. other) opens
+    scope_moved script past groups e w None limits fits are runs pool refl refl (now_of_push past e) (λ t other. other)
     (open_scope_push past e w.task ∙ rw (eqb-same w.task) refl)
 
 pub groups_at_tick : (script : Plan) (past : List Entry) (groups : Groups) (seat moment : ℕ) → AreGroups script past groups
@@ -142,8 +145,7 @@ groups_at_tick script past groups seat moment are =
       moment_is = sym (now_of_push past e);
       places = stands.places;
       seats = λ x less. stands.seats x less
-          ∙ ap (part script group) (sym (work_kept script past (past ++ e ∷ []) x (running_same past e x refl) (holding_same past e x refl)
-          (λ w runs pool. scope_kept past e w.task refl)));
+          ∙ ap (part script group) (sym (still_kept script past e x refl refl (λ w runs pool. refl)));
     }
 
 -- each group where each seat does what it did
@@ -183,42 +185,25 @@ pub groups_kept : (script : Plan) (past : List Entry) (e : Entry) (groups : Grou
 groups_kept script past e groups still are =
     let leaves = leaves_groups e.kind still in
     groups_same script past (past ++ e ∷ []) groups (now_of_push past e ∙ leaves.scopes.now (now_of past))
-    (λ seat. work_kept script past (past ++ e ∷ []) seat (running_same past e seat leaves.runs) (holding_same past e seat leaves.holds)
-    (λ w runs pool. scope_kept past e w.task (leaves.scopes.scope w.task))) are
+    (λ seat. still_kept script past e seat leaves.runs leaves.holds (λ w runs pool. leaves.scopes.scope w.task)) are
 
--- a main task is no work of the pool
-main_is_none : (script : Plan) (past : List Entry) (kind : Kind) (run : Option Running) → moves_main kind ≡ true
-    → work_by script past (running_after run kind) ≡ None
-main_is_none script past (kinds.MainTake task queue found) run main = refl
-main_is_none script past (kinds.MainEnd task left) run main = refl
-main_is_none script past kind run main = absurd (true≢false (sym main))
-
-no_pool_work : (script : Plan) (past : List Entry) (run : Option Running) → holds_of (λ w. not w.is_main) run ≡ false → work_by script past run ≡ None
-no_pool_work script past None none = refl
-no_pool_work script past (Some w) none = rw none refl
-
-leaves_scopes : (kind : Kind) → moves_main kind ≡ true → LeavesScopes kind
-leaves_scopes (kinds.MainTake task queue found) main = record { scope = λ t. refl; now = λ moment. refl }
-leaves_scopes (kinds.MainEnd task left) main = record { scope = λ t. refl; now = λ moment. refl }
-leaves_scopes kind main = absurd (true≢false (sym main))
-
-pub groups_at_main : (script : Plan) (past : List Entry) (e : Entry) (groups : Groups) → moves_main e.kind ≡ true → runs_pool_task past e.seat ≡ false
+-- what the driver takes, enters and ends is no work of the groups
+pub groups_at_driver : (script : Plan) (past : List Entry) (e : Entry) (groups : Groups) → (moves_main e.kind || moves_holding e.kind) ≡ true → e.seat ≡ 0
     → AreGroups script past groups → AreGroups script (past ++ e ∷ []) groups
-groups_at_main script past e groups main apart are =
+groups_at_driver script past e groups moves driver are =
     groups_same script past (past ++ e ∷ []) groups (now_of_push past e ∙ leaves.now (now_of past)) (λ seat. by seat (eqb e.seat seat) refl) are
   where
-    leaves : LeavesScopes e.kind
-    leaves = leaves_scopes e.kind main
+    leaves_scopes : (kind : Kind) → (moves_main kind || moves_holding kind) ≡ true → LeavesScopes kind
+    leaves_scopes (kinds.Tick moment) h = absurd (false≢true h)
+    leaves_scopes (kinds.Enter task scope) h = absurd (false≢true h)
+    leaves_scopes (kinds.Leave task) h = absurd (false≢true h)
+    leaves_scopes kind h = record { scope = λ t. refl; now = λ moment. refl }
 
-    no_holding : (kind : Kind) → moves_main kind ≡ true → moves_holding kind ≡ false
-    no_holding (kinds.JobTake job id item) h = absurd (false≢true h)
-    no_holding (kinds.JobStep job id item value next) h = absurd (false≢true h)
-    no_holding kind h = refl
+    leaves : LeavesScopes e.kind
+    leaves = leaves_scopes e.kind moves
 
     by : (seat : ℕ) (b : Bool) → eqb e.seat seat ≡ b → pool_work script (past ++ e ∷ []) seat ≡ pool_work script past seat
-    by seat true is = work_from script past (past ++ e ∷ []) seat (ap (work_by script (past ++ e ∷ [])) (running_here past e seat is)
-        ∙ main_is_none script (past ++ e ∷ []) e.kind (running past e.seat) main ∙ sym (no_pool_work script past (running past e.seat) apart)
-        ∙ ap (λ x. work_by script past (running past x)) (eqb-true e.seat seat is)) (holding_same past e seat (no_holding e.kind main))
+    by seat true is = rw (← eqb-true e.seat seat is, driver) refl
     by seat false is = other_kept script past e seat is (λ w runs pool. leaves.scope w.task)
 
 -- Items of jobs.
@@ -227,7 +212,7 @@ groups_at_main script past e groups main apart are =
 pub groups_at_item : (script : Plan) (past : List Entry) (groups : Groups) (seat job id item : ℕ) → IsPoolScript script → AreGroups script past groups
     → 1 ≤ seat → seat ≤ script.workers → running past seat ≡ None → holding past seat ≡ None
     → AreGroups script (next past seat (kinds.JobTake job id item))
-    (with_seat script groups seat (priority_of_job script job) (Some (record { priority = priority_of_job script job; scope = None })))
+    (with_seat script groups seat (priority_of_job script job) (Some (work_of None (priority_of_job script job))))
 groups_at_item script past groups seat job id item limits are worker known free nothing =
     let e : Entry = record { seat = seat; kind = kinds.JobTake job id item } in
     groups_moved script past (past ++ e ∷ []) groups seat (priority_of_job script job) None (Some None) are (record {
@@ -242,39 +227,17 @@ groups_at_item script past groups seat job id item limits are worker known free 
 -- a worker leaves its job
 pub groups_at_item_left : (script : Plan) (past : List Entry) (groups : Groups) (seat value : ℕ) (h : Holding) → IsPoolScript script
     → AreGroups script past groups → 1 ≤ seat → seat ≤ script.workers → running past seat ≡ None → holding past seat ≡ Some h
-    → AreGroups script (next past seat (kinds.JobStep h.job h.id h.item value None)) (with_seat script groups seat (priority_of_job script h.job) None)
+    → AreGroups script (next past seat (kinds.JobStep h.job h.id h.item value None))
+    (with_group_at groups seat (with_work (group_at groups seat) seat None))
 groups_at_item_left script past groups seat value h limits are worker known free held =
     let e : Entry = record { seat = seat; kind = kinds.JobStep h.job h.id h.item value None } in
-    groups_moved script past (past ++ e ∷ []) groups seat (priority_of_job script h.job) (Some None) None are (record {
+    groups_moved_here script past (past ++ e ∷ []) groups seat (priority_of_job script h.job) None None are (record {
       now = now_of_push past e;
       there = seat_there script seat limits known;
       was = work_of_item script past seat h worker free held;
       is = no_work script (past ++ e ∷ []) seat (running_same past e seat refl ∙ free) (holding_here past e seat (eqb-same seat));
       others = λ other another. other_kept script past e other (ne_eqb seat other (λ same. another (sym same))) (λ w runs pool. refl);
     })
-
--- the driver's items are no work of the groups
-pub groups_at_driver : (script : Plan) (past : List Entry) (e : Entry) (groups : Groups) → moves_holding e.kind ≡ true → e.seat ≡ 0
-    → AreGroups script past groups → AreGroups script (past ++ e ∷ []) groups
-groups_at_driver script past e groups holds driver are =
-    groups_same script past (past ++ e ∷ []) groups (now_of_push past e ∙ leaves.now (now_of past)) (λ seat. by seat (eqb e.seat seat) refl) are
-  where
-    still : (kind : Kind) → moves_holding kind ≡ true → (moves_running kind ≡ false) × LeavesScopes kind
-    still (kinds.JobTake job id item) h = (refl, record { scope = λ t. refl; now = λ moment. refl })
-    still (kinds.JobStep job id item value next) h = (refl, record { scope = λ t. refl; now = λ moment. refl })
-    still kind h = absurd (false≢true h)
-
-    leaves : LeavesScopes e.kind
-    leaves = (still e.kind holds).1
-
-    at_driver : (seat : ℕ) → seat ≡ 0 → pool_work script (past ++ e ∷ []) seat ≡ pool_work script past seat
-    at_driver seat is = rw (is, running_same past e 0 (still e.kind holds).0)
-        (ap (λ o. option_or o None) (work_by_same script past (past ++ e ∷ []) (running past 0)
-        (λ w runs pool. scope_kept past e w.task (leaves.scope w.task))))
-
-    by : (seat : ℕ) (b : Bool) → eqb e.seat seat ≡ b → pool_work script (past ++ e ∷ []) seat ≡ pool_work script past seat
-    by seat true is = at_driver seat (sym (eqb-true e.seat seat is) ∙ driver)
-    by seat false is = other_kept script past e seat is (λ w runs pool. leaves.scope w.task)
 
 -- a worker goes on to another item of its job
 pub groups_at_goes_on : (script : Plan) (past : List Entry) (groups : Groups) (seat value goes_on : ℕ) (h : Holding) → AreGroups script past groups → 1 ≤ seat
@@ -291,11 +254,3 @@ groups_at_goes_on script past groups seat value goes_on h are worker free held =
         (work_of_item script (past ++ e ∷ []) seat (record { job = h.job; id = h.id; item = goes_on }) worker (running_same past e seat refl ∙ free)
         (holding_here past e seat (eqb-same seat)) ∙ sym (work_of_item script past seat h worker free held))
     by x false is = other_kept script past e x is (λ w runs pool. refl)
-
--- the place of a worker inside a job
-pub item_works : (script : Plan) (past : List Entry) (groups : Groups) (seat : ℕ) (h : Holding) → IsPoolScript script → seat ≤ script.workers
-    → AreGroups script past groups → 1 ≤ seat → running past seat ≡ None → holding past seat ≡ Some h
-    → work_at (group_in groups (in_background script (priority_of_job script h.job))) seat ≡ Some (record { priority = priority_of_job script h.job; scope = None })
-item_works script past groups seat h limits known are worker free held =
-    (group_stands script past groups (priority_of_job script h.job) are).seats seat (seat_there script seat limits known)
-    ∙ rw (work_of_item script past seat h worker free held, same_itself (group_of script (priority_of_job script h.job))) refl

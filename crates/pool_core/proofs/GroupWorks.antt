@@ -1,26 +1,27 @@
 -- What each group keeps of the work of a seat.
 use Rattle.list_laws.proofs.Values.{some-injective}
-use Rattle.list_laws.specs.Lists.{keep}
+use Rattle.list_laws.specs.Lists.{holds_of, keep}
 use Rattle.pool_core.proofs.Accepted.{runs_accepted}
-use Rattle.pool_core.specs.Groups.{AreGroups, StandsForGroup, group_in, in_background, item_work, opened_as, pool_work, task_work, with_group}
-use Rattle.pool_core.specs.Holdings.{worker_holding}
+use Rattle.pool_core.proofs.Lists.{kept_is_some}
+use Rattle.pool_core.specs.Groups.{AreGroups, StandsForGroup, group_at, group_in, in_background, is_background, opened_as, pool_work, scope_of, with_group, with_group_at, work_of}
 use Rattle.pool_core.specs.Pasts.{IsPoolPast, IsPoolScript}
 use Rattle.pool_core.specs.declared.groups.Groups.{Groups}
 use Rattle.pool_laws.proofs.Room.Capacity.{scope_kept}
-use Rattle.pool_laws.proofs.Seats.Running.{holding_other, running_other}
+use Rattle.pool_laws.proofs.Seats.Running.{holding_other, holding_same, running_other, running_same, taken_other, taken_same, taken_where_runs}
 use Rattle.pool_laws.specs.Room.{scopes as scopes_of}
+use Rattle.pool_laws.specs.Seats.{moves_holding, moves_running}
 use Rattle.std.proofs.Common.{Bool, List, None, Option, Some, [], ap, arith, cond, eqb, false, inl, inr, length, refl, sym, true, ℕ, ◌++◌, ◌+◌, ◌<◌, ◌∙◌, ◌∷◌, ◌≡◌, ◌≤◌}
 use Rattle.std.proofs.Math.ListN.{length-set}
-use Rattle.std.proofs.lemmas.Bool.{cases_eq, lt-ltb, ne_eqb}
+use Rattle.std.proofs.lemmas.Bool.{cases_eq, false≢true, lt-ltb, ne_eqb, not-true}
 use Rattle.std.proofs.lemmas.List.{get_or-set_other, get_or-set_same}
 use Rattle.std.proofs.lemmas.Option.{none-some, unwrap_or-slice_get}
 use Rattle.std.specs.Option.{option_map}
-use Rattle.std.specs.Prelude.{if◌then◌else◌, nat_lt, not, slice_set, ◌==◌, ◌⊎◌}
+use Rattle.std.specs.Prelude.{if◌then◌else◌, is_some, nat_lt, not, slice_set, ◌==◌, ◌⊎◌}
 use Rattle.task_base.specs.Groups.{Background, Foreground, Group, group_of, same_group}
 use Rattle.task_base.specs.Plan.{Plan}
 use Rattle.task_base.specs.declared.entry.Entry.{Entry}
 use Rattle.task_base.specs.declared.limits.TheConstants.{MOST_WORKERS}
-use Rattle.task_model.specs.Capacity.{is_in, open_scope, priority_of, priority_of_job}
+use Rattle.task_model.specs.Capacity.{is_in, open_scope, priority_of_holding, priority_of_job, taken_with}
 use Rattle.task_model.specs.Posts.{post_of}
 use Rattle.task_model.specs.Seats.{Holding, Running, holding, running}
 use Rattle.task_model.specs.Time.{now_of}
@@ -81,7 +82,7 @@ group_kept script past later group work are now same = record {
 -- work of this priority with this scope, or none
 abbrev pub works : Priority → Option (Option scopes.OpenScope) → Option Work
 works priority None = None
-works priority (Some scope) = Some (record { priority = priority; scope = scope })
+works priority (Some scope) = Some (work_of scope priority)
 
 -- the groups with other work at a seat, in the group of this priority
 abbrev pub with_seat : Plan → Groups → ℕ → Priority → Option Work → Groups
@@ -138,58 +139,59 @@ groups_moved script past later groups seat priority before after are moved = by 
 
 -- What a seat does of the pool's work.
 
--- the work of a seat that runs this, where that is a task of the pool
-abbrev pub work_by : Plan → List Entry → Option Running → Option Work
-work_by script past run = option_map (task_work script past) (keep (λ w. not w.is_main) run)
+-- the work of a worker by what it runs, the priority of its take, and what it holds
+abbrev pub works_by : Plan → List Entry → Option Running → Option Priority → Option Holding → Option Work
+works_by script past run taken held = option_map (work_of (scope_of past run)) (if is_some run then taken else priority_of_holding script held)
 
-pub work_by_same : (script : Plan) (past later : List Entry) (run : Option Running)
-    → ((w : Running) → run ≡ Some w → w.is_main ≡ false → open_scope later w.task ≡ open_scope past w.task) → work_by script later run ≡ work_by script past run
-work_by_same script past later None same = refl
-work_by_same script past later (Some w) same = by w.is_main refl
+-- a task of the pool that a seat runs counts with a priority
+taken_of : (script : Plan) (past : List Entry) (seat : ℕ) (w : Running) → running past seat ≡ Some w → w.is_main ≡ false
+    → (priority : Priority) × (taken_with script past seat ≡ Some priority)
+taken_of script past seat w runs pool = by (taken_with script past seat) refl (taken_where_runs script past seat ∙ rw (runs, pool) refl)
   where
-    by : (b : Bool) → w.is_main ≡ b → work_by script later (Some w) ≡ work_by script past (Some w)
-    by true is = rw is refl
-    by false is = rw (is, same w refl is) refl
+    by : (o : Option Priority) → taken_with script past seat ≡ o → is_some o ≡ true → (priority : Priority) × (taken_with script past seat ≡ Some priority)
+    by None is none = absurd (false≢true none)
+    by (Some priority) is some = (priority, is)
 
--- the work of a seat, by what it runs and holds
-pub work_from : (script : Plan) (past later : List Entry) (seat : ℕ)
-    → work_by script later (running later seat) ≡ work_by script past (running past seat) → holding later seat ≡ holding past seat
-    → pool_work script later seat ≡ pool_work script past seat
-work_from script past later seat tasks held = rw (tasks, held) refl
-
-pub work_kept : (script : Plan) (past later : List Entry) (seat : ℕ) → running later seat ≡ running past seat → holding later seat ≡ holding past seat
+-- a seat that does what it did, where its task's scope does not move
+work_kept : (script : Plan) (past later : List Entry) (seat : ℕ) → running later seat ≡ running past seat
+    → taken_with script later seat ≡ taken_with script past seat → holding later seat ≡ holding past seat
     → ((w : Running) → running past seat ≡ Some w → w.is_main ≡ false → open_scope later w.task ≡ open_scope past w.task)
     → pool_work script later seat ≡ pool_work script past seat
-work_kept script past later seat run held same = work_from script past later seat
-    (ap (work_by script later) run ∙ work_by_same script past later (running past seat) same) held
+work_kept script past later seat run taken held same = rw (run, taken, held) (ap (λ (work : Option Work). cond (nat_lt 0 seat) work None)
+    (by (running past seat) (taken_with script past seat) (taken_where_runs script past seat) same))
+  where
+    by : (run : Option Running) (taken : Option Priority) → is_some taken ≡ holds_of (λ w. not w.is_main) run
+        → ((w : Running) → run ≡ Some w → w.is_main ≡ false → open_scope later w.task ≡ open_scope past w.task)
+        → works_by script later run taken (holding past seat) ≡ works_by script past run taken (holding past seat)
+    by None taken counts same = refl
+    by (Some w) None counts same = refl
+    by (Some w) (Some priority) counts same = rw (same w refl (not-true w.is_main (sym counts))) refl
 
--- another seat, where the entry opens and closes no scope of its task
+-- an entry of another seat, and one that moves nothing that a seat runs or holds
 pub other_kept : (script : Plan) (past : List Entry) (e : Entry) (seat : ℕ) → (e.seat == seat) ≡ false
     → ((w : Running) → running past seat ≡ Some w → w.is_main ≡ false → scopes_of w.task e.kind ≡ false)
     → pool_work script (past ++ e ∷ []) seat ≡ pool_work script past seat
-other_kept script past e seat other quiet =
-    work_kept script past (past ++ e ∷ []) seat (running_other past e seat other) (holding_other past e seat other)
-    (λ w runs pool. scope_kept past e w.task (quiet w runs pool))
+other_kept script past e seat other quiet = work_kept script past (past ++ e ∷ []) seat (running_other past e seat other)
+    (taken_other script past e seat other) (holding_other past e seat other) (λ w runs pool. scope_kept past e w.task (quiet w runs pool))
 
--- a worker holds what it holds, and the driver's item is no work of the groups
-pub worker_holds : (past : List Entry) (seat : ℕ) → 1 ≤ seat → worker_holding past seat ≡ holding past seat
-worker_holds past seat worker = rw (lt-ltb 0 seat worker) refl
-
-holds_none : (past : List Entry) (seat : ℕ) → holding past seat ≡ None → worker_holding past seat ≡ None
-holds_none past seat none = rw none (by (nat_lt 0 seat))
-  where
-    by : (b : Bool) → ◌≡◌ {A = Option Holding} (cond b None None) None
-    by true = refl
-    by false = refl
+pub still_kept : (script : Plan) (past : List Entry) (e : Entry) (seat : ℕ) → moves_running e.kind ≡ false → moves_holding e.kind ≡ false
+    → ((w : Running) → running past seat ≡ Some w → w.is_main ≡ false → scopes_of w.task e.kind ≡ false)
+    → pool_work script (past ++ e ∷ []) seat ≡ pool_work script past seat
+still_kept script past e seat runs holds quiet = work_kept script past (past ++ e ∷ []) seat (running_same past e seat runs)
+    (taken_same script past e seat runs) (holding_same past e seat holds) (λ w its pool. scope_kept past e w.task (quiet w its pool))
 
 -- a seat that runs and holds nothing does no work
 pub no_work : (script : Plan) (past : List Entry) (seat : ℕ) → running past seat ≡ None → holding past seat ≡ None → pool_work script past seat ≡ None
-no_work script past seat runs held = rw (runs, holds_none past seat held) refl
+no_work script past seat runs held = rw (runs, held) (by (nat_lt 0 seat))
+  where
+    by : (b : Bool) → ◌≡◌ {A = Option Work} (cond b None None) None
+    by true = refl
+    by false = refl
 
 -- an item that a worker holds, which runs no task
 pub work_of_item : (script : Plan) (past : List Entry) (seat : ℕ) (h : Holding) → 1 ≤ seat → running past seat ≡ None → holding past seat ≡ Some h
-    → pool_work script past seat ≡ Some (item_work script h)
-work_of_item script past seat h worker runs held = rw (runs, worker_holds past seat worker, held) refl
+    → pool_work script past seat ≡ Some (work_of None (priority_of_job script h.job))
+work_of_item script past seat h worker runs held = rw (lt-ltb 0 seat worker, runs, held) refl
 
 -- a worker that runs a task is inside no job
 pub runner_holds_nothing : (script : Plan) (past : List Entry) (seat : ℕ) (w : Running) → IsPoolPast script past → running past seat ≡ Some w
@@ -200,10 +202,19 @@ runner_holds_nothing script past seat w fits runs pool = by (holding past seat) 
     by None is = refl
     by (Some h) is = absurd (none-some w (sym (fits.inside.one_thing seat h (fits.runs seat w runs pool).worker is) ∙ runs))
 
--- a task of the pool
-pub work_of_task : (script : Plan) (past : List Entry) (seat : ℕ) (w : Running) → running past seat ≡ Some w → w.is_main ≡ false
-    → pool_work script past seat ≡ Some (record { priority = priority_of script w.home; scope = option_map opened_as (open_scope past w.task) })
-work_of_task script past seat w runs pool = rw (runs, pool) refl
+-- a task that a worker runs, by the priority of its take
+pub work_of_task : (script : Plan) (past : List Entry) (seat : ℕ) (w : Running) (priority : Priority) → 1 ≤ seat → running past seat ≡ Some w
+    → taken_with script past seat ≡ Some priority
+    → pool_work script past seat ≡ Some (work_of (option_map opened_as (open_scope past w.task)) priority)
+work_of_task script past seat w priority worker runs taken = rw (lt-ltb 0 seat worker, runs, taken) refl
+
+-- and where it is known to be the pool's
+pub task_of_pool : (script : Plan) (past : List Entry) (seat : ℕ) (w : Running) → IsPoolPast script past → running past seat ≡ Some w → w.is_main ≡ false
+    → (priority : Priority) × (taken_with script past seat ≡ Some priority)
+    × (pool_work script past seat ≡ Some (work_of (option_map opened_as (open_scope past w.task)) priority))
+task_of_pool script past seat w fits runs pool =
+    let (priority, taken) = taken_of script past seat w runs pool in
+    (priority, taken, work_of_task script past seat w priority (fits.runs seat w runs pool).worker runs taken)
 
 -- no other seat runs this task
 pub not_same_task : (script : Plan) (past : List Entry) (seat other : ℕ) (w v : Running) → IsPoolPast script past → running past seat ≡ Some w
@@ -244,18 +255,24 @@ pub moment_of : (script : Plan) (past : List Entry) (groups : Groups) (backgroun
 moment_of script past groups true are = are.background.moment_is
 moment_of script past groups false are = are.foreground.moment_is
 
-pub task_works : (script : Plan) (past : List Entry) (groups : Groups) (seat : ℕ) (w : Running) → IsPoolScript script → IsPoolPast script past
-    → AreGroups script past groups → running past seat ≡ Some w → w.is_main ≡ false
-    → work_at (group_in groups (in_background script (priority_of script w.home))) seat
-    ≡ Some (record { priority = priority_of script w.home; scope = option_map opened_as (open_scope past w.task) })
-task_works script past groups seat w limits fits are runs pool =
-    (group_stands script past groups (priority_of script w.home) are).seats seat (seat_there script seat limits (fits.runs seat w runs pool).known)
-    ∙ rw (runs, pool, same_itself (group_of script (priority_of script w.home))) refl
+-- the group whose work a seat does is that of the work's priority
+pub group_of_work : (script : Plan) (past : List Entry) (groups : Groups) (seat : ℕ) (work : Work) → AreGroups script past groups
+    → seat < MOST_WORKERS + 1 → pool_work script past seat ≡ Some work → is_background groups seat ≡ in_background script work.priority
+group_of_work script past groups seat work are there does =
+    ap is_some (are.background.seats seat there ∙ ap (part script Background) does) ∙ kept_is_some (in_background script work.priority) work
 
-pub item_works : (script : Plan) (past : List Entry) (groups : Groups) (seat : ℕ) (h : Holding) → IsPoolScript script → IsPoolPast script past
-    → AreGroups script past groups → 1 ≤ seat → holding past seat ≡ Some h
-    → work_at (group_in groups (in_background script (priority_of_job script h.job))) seat
-    ≡ Some (record { priority = priority_of_job script h.job; scope = None })
-item_works script past groups seat h limits fits are worker held =
-    (group_stands script past groups (priority_of_job script h.job) are).seats seat (seat_there script seat limits (fits.inside.holds seat h held).known)
-    ∙ rw (work_of_item script past seat h worker (fits.inside.one_thing seat h worker held) held, same_itself (group_of script (priority_of_job script h.job))) refl
+-- so that group says what the seat does
+pub works_here : (script : Plan) (past : List Entry) (groups : Groups) (seat : ℕ) (work : Work) → AreGroups script past groups
+    → seat < MOST_WORKERS + 1 → pool_work script past seat ≡ Some work → work_at (group_at groups seat) seat ≡ Some work
+works_here script past groups seat work are there does = rw (group_of_work script past groups seat work are there does)
+    ((group_stands script past groups work.priority are).seats seat there ∙ ap (part script (group_of script work.priority)) does
+    ∙ rw (same_itself (group_of script work.priority)) refl)
+
+-- the groups where the work of a seat that did some changes, in the group that keeps it
+pub groups_moved_here : (script : Plan) (past later : List Entry) (groups : Groups) (seat : ℕ) (priority : Priority)
+    (before : Option scopes.OpenScope) (after : Option (Option scopes.OpenScope)) → AreGroups script past groups
+    → IsMoved script past later seat priority (Some before) after
+    → AreGroups script later (with_group_at groups seat (with_work (group_at groups seat) seat (works priority after)))
+groups_moved_here script past later groups seat priority before after are moved =
+    rw (group_of_work script past groups seat (work_of before priority) are moved.there moved.was)
+    (groups_moved script past later groups seat priority (Some before) after are moved)

@@ -6,8 +6,8 @@ use Rattle.pool_core.proofs.JobViews.{enters_parts, inside_is, open_is, over_is,
 use Rattle.pool_core.proofs.Tracking.{cancel_share, left_share, tracked_at_cancel, tracked_at_goes_on, tracked_at_job_post, tracked_at_job_refusal, tracked_at_job_take, tracked_at_left}
 use Rattle.pool_core.specs.Holdings.{AreInside, HoldsItem}
 use Rattle.pool_core.specs.JobCalls.{CanEnter, CanPostJob, CanStep, KnowsJob, after_job_cancel, after_job_post, after_step}
-use Rattle.pool_core.specs.JobState.{job_at, job_left, job_of, job_refreshed, no_job, settled, settled_share, with_item_work}
-use Rattle.thread_group.specs.declared.work.Work.{Work}
+use Rattle.pool_core.specs.JobState.{job_at, job_left, job_of, job_refreshed, no_job, settled, settled_share, with_item_ended, with_item_started}
+use Rattle.thread_group.specs.Group.{with_work}
 use Rattle.pool_core.specs.PoolJobs.{is_open, rank_in, with_entered_in}
 use Rattle.pool_laws.proofs.Jobs.Answers.{job_at_other_cancel, job_at_other_post, job_at_other_step, job_at_other_take, post_stays}
 use Rattle.pool_laws.proofs.Seats.Running.{inside_same}
@@ -28,9 +28,9 @@ use Rattle.pool_core.proofs.JobQueues.{hold_at_job, others_wait}
 use Rattle.pool_core.proofs.JobTables.{as_at_cancel, as_at_post, as_at_step, as_at_take, holders_at_goes_on, holders_at_left, holders_at_take, holders_kept, jobs_at_cancel, jobs_at_post, jobs_at_step, jobs_at_take}
 use Rattle.pool_core.proofs.LineGrowth.{lines_kept}
 use Rattle.pool_core.proofs.Pasts.{past_at_job_cancel, past_at_job_post, past_at_job_take, past_at_step}
-use Rattle.pool_core.proofs.Tables.{postings_kept, seats_kept}
+use Rattle.pool_core.proofs.Tables.{postings_kept, priorities_kept, seats_kept}
 use Rattle.pool_core.specs.Calls.{next}
-use Rattle.pool_core.specs.Groups.{AreGroups}
+use Rattle.pool_core.specs.Groups.{AreGroups, group_at, with_group_at, work_of}
 use Rattle.pool_core.specs.Jobs.{AreHolders, AreJobs, job_as}
 use Rattle.pool_core.specs.Pasts.{IsPoolPast}
 use Rattle.pool_core.specs.StandsFor.{StandsFor}
@@ -42,7 +42,7 @@ use Rattle.pool_core.specs.declared.pool_job.PoolJob.{PoolJob}
 use Rattle.pool_laws.proofs.Jobs.Numbers.{free_id_is_first}
 use Rattle.pool_laws.proofs.Keys.Arrivals.{arrivals_same}
 use Rattle.pool_laws.proofs.Keys.Posts.{posts_same}
-use Rattle.pool_laws.specs.Choice.{moves_sequence_waiting}
+use Rattle.pool_laws.specs.Choice.{moves_priorities, moves_sequence_waiting}
 use Rattle.pool_laws.specs.Jobs.{JobKept}
 use Rattle.pool_laws.specs.Keys.{moves_posts, moves_ready}
 use Rattle.pool_laws.specs.Seats.{moves_running}
@@ -66,16 +66,17 @@ use Rattle.task_model.specs.Seats.{Holding, inside, running}
 use Rattle.task_model.specs.Sources.{job_waiting}
 use Rattle.task_model.specs.Time.{now_after, now_of}
 use Rattle.task_traits.specs.declared.phase.Phase.{Phase}
-use Rattle.task_traits.specs.declared.traits.Priority.{Priority}
 use Rattle.pool_core.specs.Queues.{rank_as}
 
--- a kind that is a job's: it gives no task a key, is no tick, and moves neither what runs, nor the phase, nor which sequences wait
+-- a kind that is a job's: it gives no task a key and no runner a priority, is no tick, and moves neither what runs, nor the phase, nor
+-- which sequences wait
 record IsOfJob (kind : Kind) : Type 0 where
   ready : moves_ready kind ≡ false
   posts : moves_posts kind ≡ false
   now : (moment : ℕ) → now_after moment kind ≡ moment
   runs : moves_running kind ≡ false
   phase : (now : Phase) → phase_after now kind ≡ now
+  priorities : moves_priorities kind ≡ false
   sequences : moves_sequence_waiting kind ≡ false
 
 -- the pool's job of a number is the one that the rules tell of
@@ -117,9 +118,10 @@ stands_with_job script past pool e job new groups tracker holders stands declare
   script_fits = stands.script_fits;
   past_fits = fits;
   runners = stands.runners;
+  priorities = priorities_kept script past e pool.priorities.items kind.priorities stands.priorities;
   lines = rw (arrivals_same past e kind.ready) (lines_kept script past e (arrivals past) pool.sequences kind.runs kind.phase stands.lines);
   queues = hold_at_job script past (past ++ e ∷ []) pool.lanes job (job_at (slice_set pool.jobs.items job new) job) tracker.phase stands.queues declared
-      (others_wait script past e job kind.sequences others) (ap (λ j. j.priority) here) rank;
+      (others_wait script past e job kind.sequences others) rank;
   groups = are;
   delayed = rw (unripe_kept past e kind.ready) stands.delayed;
   tracker = tracks;
@@ -140,30 +142,25 @@ stands_with_job script past pool e job new groups tracker holders stands declare
 
 -- A seat enters a job.
 
--- the groups where a worker at a job does this work, by the rules
-item_work_is : {script : Plan} {past : List Entry} {pool : Pool} (seat : ℕ) (priority : Priority) (work : Option Work) → StandsFor script past pool
-    → with_item_work pool seat priority work ≡ cond (nat_lt 0 seat) (with_seat script pool.groups seat priority work) pool.groups
-item_work_is seat priority work stands = rw stands.runners refl
-
 pub stands_at_job_take : (script : Plan) (past : List Entry) (pool : Pool) (seat job id : ℕ) → CanEnter script past pool seat job
     → may_enter script past job ≡ true → free_id script past job ≡ Some id → id < MOST_INSIDE
     → StandsFor script (next past seat (kinds.JobTake job id (claimed past job)))
     (job_refreshed (record pool {
       jobs = with_item pool.jobs job (with_entered_in (job_of pool job) (Some (id, claimed past job)));
-      groups = with_item_work pool seat (priority_of_job script job) (Some (record { priority = priority_of_job script job; scope = None }));
+      groups = with_item_started pool seat (priority_of_job script job);
       tracker = record pool.tracker { skip_items = pool.tracker.skip_items + skip_share (behaviour_of_job script job) };
       holders = with_item pool.holders seat (Some (record { job = job; id = id }));
     }) job)
 stands_at_job_take script past pool seat job id can may free fits = stands_with_job script past pool e job
     (with_entered_in (job_of pool job) (Some (id, claimed past job)))
-    (with_item_work pool seat (priority_of_job script job) (Some (record { priority = priority_of_job script job; scope = None })))
+    (with_item_started pool seat (priority_of_job script job))
     (record pool.tracker { skip_items = pool.tracker.skip_items + skip_share (behaviour_of_job script job) })
     (with_item pool.holders seat (Some (record { job = job; id = id }))) stands declared
-    (record { ready = refl; posts = refl; now = λ moment. refl; runs = refl; phase = λ now. refl; sequences = refl })
+    (record { ready = refl; posts = refl; now = λ moment. refl; runs = refl; phase = λ now. refl; priorities = refl; sequences = refl })
     (past_at_job_take script past seat job id (claimed past job) inside_later stands.past_fits)
     (λ x other. job_at_other_take script past e x job id (claimed past job) refl other can.holds_nothing)
     is (jobs_at_take script past seat job id (claimed past job) pool.jobs.items _ stands.jobs declared can.holds_nothing is)
-    (subst (AreGroups script (past ++ e ∷ [])) (sym (item_work_is seat (priority_of_job script job) _ stands)) (groups (nat_lt 0 seat) refl))
+    (rw stands.runners (groups (nat_lt 0 seat) refl))
     (rw (tracked_at_job_take script past seat job id (claimed past job) can.known can.holds_nothing parts.2, stands.tracker) refl)
     (holders_at_take script past seat job id (claimed past job) pool.holders.items stands.holders can.known)
   where
@@ -192,7 +189,7 @@ stands_at_job_take script past pool seat job id can may free fits = stands_with_
         ∙ ap (λ held. with_entered_in held (Some (id, claimed past job))) (sym (job_is job stands declared))
 
     groups : (b : Bool) → nat_lt 0 seat ≡ b → AreGroups script (past ++ e ∷ [])
-        (cond b (with_seat script pool.groups seat (priority_of_job script job) (Some (record { priority = priority_of_job script job; scope = None }))) pool.groups)
+        (cond b (with_seat script pool.groups seat (priority_of_job script job) (Some (work_of None (priority_of_job script job)))) pool.groups)
     groups true worker = groups_at_item script past pool.groups seat job id (claimed past job) stands.script_fits stands.groups (ltb-true 0 seat worker)
         can.known (can.free (ltb-true 0 seat worker)) can.holds_nothing
     groups false driver = groups_at_driver script past e pool.groups refl (omega (arith, ltb-false 0 seat driver)) stands.groups
@@ -220,7 +217,7 @@ pub stands_at_job_post : (script : Plan) (past : List Entry) (pool : Pool) (seat
     }) job ok) job)
 stands_at_job_post script past pool seat place job ok can = stands_with_job script past pool e job new pool.groups
     (record tracker { block_items = tracker.block_items - settled_share (job_at (slice_set pool.jobs.items job new) job) ok }) pool.holders stands declared
-    (record { ready = refl; posts = refl; now = λ moment. refl; runs = refl; phase = λ now. refl; sequences = refl })
+    (record { ready = refl; posts = refl; now = λ moment. refl; runs = refl; phase = λ now. refl; priorities = refl; sequences = refl })
     fits
     (λ x other. job_at_other_post script past e x job ok refl other)
     is (jobs_at_post script past seat job ok pool.jobs.items new stands.jobs declared is)
@@ -283,7 +280,7 @@ pub stands_at_goes_on : (script : Plan) (past : List Entry) (pool : Pool) (seat 
     → StandsFor script (after_step past seat h value (Some goes_on))
     (job_refreshed (record pool { jobs = with_item pool.jobs h.job (stepped_job (job_of pool h.job) h.id value (Some goes_on)) }) h.job)
 stands_at_goes_on script past pool seat value goes_on h can = stands_with_job script past pool e h.job new pool.groups pool.tracker pool.holders
-    stands known.declared (record { ready = refl; posts = refl; now = λ moment. refl; runs = refl; phase = λ now. refl; sequences = refl })
+    stands known.declared (record { ready = refl; posts = refl; now = λ moment. refl; runs = refl; phase = λ now. refl; priorities = refl; sequences = refl })
     (past_at_step script past seat h.job h.id h.item value (Some goes_on)
     (inside_at_step script past seat value h (Some goes_on) can.holds stands.past_fits.inside) stands.past_fits)
     (λ x other. job_at_other_step script past e x h.job h.id h.item value (Some goes_on) refl other (rw can.holds (eqb-same h.job)))
@@ -340,7 +337,7 @@ pub stands_at_left : (script : Plan) (past : List Entry) (pool : Pool) (seat val
     → StandsFor script (after_step past seat h value None)
     (job_refreshed (record pool {
       jobs = with_item pool.jobs h.job (stepped_job (job_of pool h.job) h.id value None);
-      groups = with_item_work pool seat (priority_of_job script h.job) None;
+      groups = with_item_ended pool seat;
       tracker = record pool.tracker {
         block_items = pool.tracker.block_items - settled_share (stepped_job (job_of pool h.job) h.id value None) true;
         skip_items = pool.tracker.skip_items - skip_share (behaviour_of_job script h.job);
@@ -348,12 +345,12 @@ pub stands_at_left : (script : Plan) (past : List Entry) (pool : Pool) (seat val
       holders = with_item pool.holders seat None;
     }) h.job)
 stands_at_left script past pool seat value h can = stands_with_job script past pool e h.job new _ _ (with_item pool.holders seat None)
-    stands known.declared (record { ready = refl; posts = refl; now = λ moment. refl; runs = refl; phase = λ now. refl; sequences = refl })
+    stands known.declared (record { ready = refl; posts = refl; now = λ moment. refl; runs = refl; phase = λ now. refl; priorities = refl; sequences = refl })
     (past_at_step script past seat h.job h.id h.item value None
     (inside_at_step script past seat value h None can.holds stands.past_fits.inside) stands.past_fits)
     (λ x other. job_at_other_step script past e x h.job h.id h.item value None refl other (rw can.holds (eqb-same h.job)))
     is (jobs_at_step script past seat value h None pool.jobs.items new stands.jobs known.declared can.holds is)
-    (subst (AreGroups script (past ++ e ∷ [])) (sym (item_work_is seat (priority_of_job script h.job) None stands)) (groups (nat_lt 0 seat) refl))
+    (groups (nat_lt 0 seat) refl)
     (rw (tracked_at_left script past seat value h known.known can.holds known.declared known.accepted, stands.tracker, left_share_is value can) refl)
     (holders_at_left script past seat value h pool.holders.items stands.holders known.known)
   where
@@ -372,36 +369,36 @@ stands_at_left script past pool seat value h can = stands_with_job script past p
     is : job_as script (past ++ e ∷ []) h.job ≡ new
     is = step_is value None can
 
-    groups : (b : Bool) → nat_lt 0 seat ≡ b
-        → AreGroups script (past ++ e ∷ []) (cond b (with_seat script pool.groups seat (priority_of_job script h.job) None) pool.groups)
+    groups : (b : Bool) → nat_lt 0 seat ≡ b → AreGroups script (past ++ e ∷ [])
+        (cond b (with_group_at pool.groups seat (with_work (group_at pool.groups seat) seat None)) pool.groups)
     groups true worker = groups_at_item_left script past pool.groups seat value h stands.script_fits stands.groups (ltb-true 0 seat worker) known.known
         (stands.past_fits.inside.one_thing seat h (ltb-true 0 seat worker) can.holds) can.holds
     groups false driver = groups_at_driver script past e pool.groups refl (omega (arith, ltb-false 0 seat driver)) stands.groups
 
 -- so the pool is, whose job is read where it was put
 left_pool : {script : Plan} {past : List Entry} {pool : Pool} {seat : ℕ} {h : Holding} (new : PoolJob) → CanStep script past pool seat h
-    → new.priority ≡ priority_of_job script h.job → new.behaviour ≡ behaviour_of_job script h.job
+    → new.behaviour ≡ behaviour_of_job script h.job
     → job_left (record pool { jobs = with_item pool.jobs h.job new }) seat h.job
     ≡ record pool {
       jobs = with_item pool.jobs h.job new;
-      groups = with_item_work pool seat (priority_of_job script h.job) None;
+      groups = with_item_ended pool seat;
       tracker = record pool.tracker {
         block_items = pool.tracker.block_items - settled_share new true;
         skip_items = pool.tracker.skip_items - skip_share (behaviour_of_job script h.job);
       };
       holders = with_item pool.holders seat None;
     }
-left_pool {script = script} {past = past} {pool = pool} {seat = seat} {h = h} new can priority behaviour =
-    ap (λ (job : PoolJob). left job.priority job.behaviour job) (get_or-set_same pool.jobs.items h.job new no_job (omega (arith, declared, can.stands.jobs.all)))
-    ∙ ap (λ p. left p new.behaviour new) priority ∙ ap (λ b. left (priority_of_job script h.job) b new) behaviour
+left_pool {script = script} {past = past} {pool = pool} {seat = seat} {h = h} new can behaviour =
+    ap (λ (job : PoolJob). left job.behaviour job) (get_or-set_same pool.jobs.items h.job new no_job (omega (arith, declared, can.stands.jobs.all)))
+    ∙ ap (λ b. left b new) behaviour
   where
     declared : h.job < length script.jobs
     declared = (can.stands.past_fits.inside.holds seat h can.holds).declared
 
-    left : Priority → Behaviour → PoolJob → Pool
-    left priority behaviour job = record pool {
+    left : Behaviour → PoolJob → Pool
+    left behaviour job = record pool {
       jobs = with_item pool.jobs h.job new;
-      groups = with_item_work pool seat priority None;
+      groups = with_item_ended pool seat;
       tracker = record pool.tracker {
         block_items = pool.tracker.block_items - settled_share job true;
         skip_items = pool.tracker.skip_items - skip_share behaviour;
@@ -416,7 +413,7 @@ pub stands_at_job_left : (script : Plan) (past : List Entry) (pool : Pool) (seat
 stands_at_job_left script past pool seat value h can =
     let job = job_is h.job can.stands (can.stands.past_fits.inside.holds seat h can.holds).declared in
     subst (λ p. StandsFor script (after_step past seat h value None) (job_refreshed p h.job))
-    (sym (left_pool (stepped_job (job_of pool h.job) h.id value None) can (ap (λ (j : PoolJob). j.priority) job) (ap (λ (j : PoolJob). j.behaviour) job)))
+    (sym (left_pool (stepped_job (job_of pool h.job) h.id value None) can (ap (λ (j : PoolJob). j.behaviour) job)))
     (stands_at_left script past pool seat value h can)
 
 -- A job is cancelled.
@@ -474,7 +471,7 @@ pub stands_at_job_cancel : (script : Plan) (past : List Entry) (pool : Pool) (se
       };
     }) job)
 stands_at_job_cancel script past pool seat job can = stands_with_job script past pool e job new pool.groups _ pool.holders stands can.declared
-    (record { ready = refl; posts = refl; now = λ moment. refl; runs = refl; phase = λ now. refl; sequences = refl })
+    (record { ready = refl; posts = refl; now = λ moment. refl; runs = refl; phase = λ now. refl; priorities = refl; sequences = refl })
     (past_at_job_cancel script past seat job stands.past_fits)
     (λ x other. job_at_other_cancel script past e x job refl other)
     is (jobs_at_cancel script past seat job pool.jobs.items new stands.jobs can.declared is)

@@ -2,21 +2,19 @@
 use Rattle.job_source.specs.Job as source
 use Rattle.list_laws.proofs.Tests.{find_congr}
 use Rattle.list_laws.proofs.Values.{some-injective}
-use Rattle.list_laws.specs.Lists.{holds_of, keep}
+use Rattle.list_laws.specs.Lists.{holds_of}
 use Rattle.pool_core.proofs.HeldItems.{free_by_under, held_at, held_is_inside}
 use Rattle.pool_core.specs.Holdings.{AreInside}
 use Rattle.pool_core.specs.JobCalls.{entering, has_to_leave, joined_of}
 use Rattle.pool_core.specs.Jobs.{job_as, post_as, view_of}
 use Rattle.pool_core.specs.PoolJobs.{entered_in, is_accepted, is_open, is_refused, joined_in, may_enter_in, rank_in}
-use Rattle.pool_core.specs.Queues.{belongs, rank_as, same}
-use Rattle.sequence_queue.specs.declared.rank.Rank.{Rank}
+use Rattle.pool_core.specs.Queues.{rank_as}
 use Rattle.std.proofs.Common.{Bool, List, None, Option, Some, ap, arith, cond, false, length, refl, true, ℕ, ◌+◌, ◌<◌, ◌∙◌, ◌≡◌}
 use Rattle.std.proofs.lemmas.Bool.{and_parts, ltb-true, ne_eqb, not-true}
 use Rattle.std.proofs.lemmas.Option.{none-some}
 use Rattle.std.specs.List.{range_with_len}
 use Rattle.std.specs.Option.{option_map}
 use Rattle.std.specs.Prelude.{find, is_some, nat_lt, not, ◌&&◌, ◌==◌, ◌||◌}
-use Rattle.task_base.specs.Groups.{is_best_effort}
 use Rattle.task_base.specs.Plan.{Plan}
 use Rattle.task_base.specs.declared.entry.Entry.{Entry}
 use Rattle.task_model.specs.Capacity.{priority_of_job}
@@ -24,7 +22,7 @@ use Rattle.task_model.specs.Jobs.{JobPosted, claimed, concurrency, done, free_id
 use Rattle.task_model.specs.Phase.{phase_of}
 use Rattle.task_model.specs.Refusal.{is_job_forbidden}
 use Rattle.task_model.specs.Seats.{inside}
-use Rattle.task_model.specs.Sources.{Candidate, job_candidate, job_waiting, leaves, makes_way, next_item}
+use Rattle.task_model.specs.Sources.{job_candidate, job_waiting, leaves, makes_way, next_item}
 use Rattle.std.proofs.Math.Bool.{or-true}
 
 -- as many are inside
@@ -108,28 +106,6 @@ rank_is script past j known = rw (may_enter_is script past j known, inside_is sc
     by false o = refl
     by true None = refl
     by true (Some p) = refl
-
--- a job that waits belongs to the queue of its priority, in the lane for all seats
-pub job_belongs : (script : Plan) (past : List Entry) (j lane : ℕ) (best : Bool)
-    → option_map rank_as (keep (belongs lane best) (job_waiting script past j))
-    ≡ cond (0 == lane && same (is_best_effort (priority_of_job script j)) best) (option_map rank_as (job_waiting script past j)) None
-job_belongs script past j lane best = by (may_enter script past j) (job_post_of past j)
-  where
-    none : (b : Bool) → ◌≡◌ {A = Option Rank} None (cond b None None)
-    none true = refl
-    none false = refl
-
-    some : (b : Bool) (c : Candidate) → option_map rank_as (cond b (Some c) None) ≡ cond b (Some (rank_as c)) None
-    some true c = refl
-    some false c = refl
-
-    by : (b : Bool) (o : Option JobPosted)
-        → option_map rank_as (keep (belongs lane best) (cond b (option_map (job_candidate script past j) o) None))
-        ≡ cond (0 == lane && same (is_best_effort (priority_of_job script j)) best)
-        (option_map rank_as (cond b (option_map (job_candidate script past j) o) None)) None
-    by false o = none _
-    by true None = none _
-    by true (Some p) = some _ (job_candidate script past j p)
 
 -- its reply to a join
 pub joined_is : (script : Plan) (past : List Entry) (j : ℕ) → AreInside script past

@@ -1,7 +1,8 @@
 -- The pool at an entry that leaves the tasks where they are.
 use Rattle.pool_core.proofs.Delays.{no_post, unripe_kept}
 use Rattle.pool_core.proofs.LineGrowth.{lines_kept}
-use Rattle.pool_core.proofs.Tables.{postings_kept, seats_kept}
+use Rattle.pool_core.proofs.Queues.{hold_same}
+use Rattle.pool_core.proofs.Tables.{postings_kept, priorities_kept, seats_kept}
 use Rattle.pool_core.specs.Groups.{AreGroups}
 use Rattle.pool_core.specs.Lines.{AreLines}
 use Rattle.pool_core.specs.Pasts.{IsPoolPast}
@@ -9,11 +10,10 @@ use Rattle.pool_core.specs.Queues.{HoldWaiting}
 use Rattle.pool_core.specs.StandsFor.{StandsFor}
 use Rattle.pool_core.specs.Tables.{AreSeats, tracked}
 use Rattle.pool_core.specs.declared.groups.Groups.{Groups}
-use Rattle.pool_core.specs.declared.lanes.Lane.{Lane}
 use Rattle.pool_core.specs.declared.pool.Pool.{Pool}
 use Rattle.pool_laws.proofs.Keys.Arrivals.{arrivals_same}
 use Rattle.pool_laws.proofs.Keys.Posts.{posts_same}
-use Rattle.pool_laws.specs.Choice.{moves_sequence_waiting, moves_sources, source_waiting}
+use Rattle.pool_laws.specs.Choice.{moves_priorities, moves_sequence_waiting, moves_sources, source_waiting}
 use Rattle.pool_laws.specs.Keys.{moves_ready}
 use Rattle.pool_laws.specs.Seats.{moves_holding, moves_running}
 use Rattle.std.proofs.Common.{List, [], false, refl, sym, true, ℕ, ◌++◌, ◌∙◌, ◌∷◌, ◌≡◌}
@@ -21,7 +21,6 @@ use Rattle.std.proofs.lemmas.Bool.{or_parts, true≢false}
 use Rattle.task_base.specs.Plan.{Plan}
 use Rattle.task_base.specs.declared.entry.Entry.{Entry}
 use Rattle.task_base.specs.declared.entry.Kind.{Kind}
-use Rattle.task_base.specs.declared.source.TaskSource.{TaskSource}
 use Rattle.task_model.proofs.Growth.{now_of_push}
 use Rattle.task_model.specs.Keys.{arrivals}
 use Rattle.task_model.specs.Phase.{phase_after}
@@ -34,18 +33,10 @@ use Rattle.pool_laws.proofs.Choice.Candidates.{source_same}
 use Rattle.pool_laws.specs.Jobs.{moves_jobs}
 use Rattle.pool_laws.specs.Shutdown.{moves_open_jobs}
 
--- what the queues hold stays where each source waits as before
-pub hold_same : (script : Plan) (past later : List Entry) (lanes : List Lane)
-    → ((source : TaskSource) → source_waiting script later source ≡ source_waiting script past source) → HoldWaiting script past lanes
-    → HoldWaiting script later lanes
-hold_same script past later lanes same hold = record {
-  roomy = hold.roomy;
-  ranks = λ lane best source there made. rw (same source) (hold.ranks lane best source there made);
-}
-
--- a kind that gives no task a key, and is no tick
+-- a kind that gives no task a key and no runner a priority, and is no tick
 pub record LeavesTasks (kind : Kind) : Type 0 where
   pub ready : moves_ready kind ≡ false
+  pub priorities : moves_priorities kind ≡ false
   pub now : (moment : ℕ) → now_after moment kind ≡ moment
 
 -- the pool at such an entry, with what the entry may change
@@ -58,6 +49,7 @@ stands_with script past pool e groups tracker stands leaves fits lines hold are 
   script_fits = stands.script_fits;
   past_fits = fits;
   runners = stands.runners;
+  priorities = priorities_kept script past e pool.priorities.items leaves.priorities stands.priorities;
   lines = rw (arrivals_same past e leaves.ready) lines;
   queues = hold;
   groups = are;
@@ -91,7 +83,8 @@ stands_kept script past pool e groups tracker stands still fits are is =
     let leaves = leaves_all e.kind quiet.0 in
     stands_with script past pool e groups tracker stands leaves.tasks fits
     (lines_kept script past e (arrivals past) pool.sequences leaves.runs leaves.phase stands.lines)
-    (hold_same script past (past ++ e ∷ []) pool.lanes (λ source. source_same script past e source still) stands.queues) are is
+    (hold_same script (source_waiting script past) (source_waiting script (past ++ e ∷ [])) pool.lanes (λ source. source_same script past e source still)
+    stands.queues) are is
     (seats_kept script past e pool.seats.items leaves.runs stands.seats) (no_job e.kind quiet.1)
   where
     no_job : (kind : Kind) → moves_jobs kind ≡ false → moves_open_jobs kind ≡ false
@@ -108,6 +101,7 @@ stands_kept script past pool e groups tracker stands still fits are is =
     leaves_all (kinds.End task left) h = absurd (true≢false h)
     leaves_all (kinds.MainTake task queue found) h = absurd (true≢false h)
     leaves_all (kinds.MainEnd task left) h = absurd (true≢false h)
+    leaves_all (kinds.Reprio runner priority) h = absurd (true≢false h)
     leaves_all kinds.Shutdown h = absurd (true≢false h)
     leaves_all kinds.Done h = absurd (true≢false h)
-    leaves_all kind h = record { tasks = record { ready = refl; now = λ moment. refl }; runs = refl; phase = λ now. refl }
+    leaves_all kind h = record { tasks = record { ready = refl; priorities = refl; now = λ moment. refl }; runs = refl; phase = λ now. refl }

@@ -32,5 +32,6 @@ pub mod Ripening
 pub mod Ticks
 pub mod Places
 pub mod Shutdown
+pub mod Reprio
 pub mod Others
 pub mod Idling

@@ -11,7 +11,7 @@ use Rattle.std.proofs.lemmas.List.Folds.{list_any-append}
 use Rattle.std.proofs.lemmas.List.FromFn.{fill_by_all}
 use Rattle.std.specs.List.{list_any, range_with_len}
 use Rattle.std.specs.Option.{option_map}
-use Rattle.std.specs.Prelude.{filter, is_some, replicate, slice_index_or, ◌&&◌, ◌||◌}
+use Rattle.std.specs.Prelude.{filter, is_some, replicate, slice_get, slice_index_or, ◌&&◌, ◌||◌}
 
 -- Places.
 
@@ -21,6 +21,12 @@ replicated n i x = elim (cases_lt i n) [
   | inl less ↦ get_or-replicate n i x x less
   | inr more ↦ get_or_past (replicate n x) i x (omega (arith, more, length-replicate n x))
 ]
+
+-- there is an element at each place
+pub get_there : {A : Type 0} (xs : List A) (i : ℕ) → i < length xs → is_some (slice_get xs i) ≡ true
+get_there [] i less = absurd (omega (arith, less))
+get_there (x ∷ xs) zero less = refl
+get_there (x ∷ xs) (suc i) less = get_there xs i (omega (arith, less))
 
 -- What is found, and what is kept.
 

@@ -1,20 +1,21 @@
 -- Entries of the main queues, of the driver, and of jobs that nobody enters change nothing of the pool.
-use Rattle.pool_core.proofs.GroupGrowth.{groups_at_main, groups_kept}
-use Rattle.pool_core.proofs.Kept.{LeavesTasks, hold_same, stands_kept, stands_with}
+use Rattle.pool_core.proofs.GroupGrowth.{groups_at_driver, groups_kept}
+use Rattle.pool_core.proofs.Kept.{LeavesTasks, stands_kept, stands_with}
 use Rattle.pool_core.proofs.LineGrowth.{lines_at_main}
 use Rattle.pool_core.proofs.Pasts.{past_at_main, past_kept}
+use Rattle.pool_core.proofs.Queues.{hold_same}
 use Rattle.pool_core.proofs.Tables.{seats_at_main}
 use Rattle.pool_core.proofs.Tracking.{tracked_kept}
 use Rattle.pool_core.specs.Others.{is_quiet, is_still, keeps_counts, posts_to_pool}
 use Rattle.pool_core.specs.StandsFor.{StandsFor}
 use Rattle.pool_core.specs.declared.pool.Pool.{Pool}
 use Rattle.pool_laws.proofs.Choice.Candidates.{source_at_main}
-use Rattle.pool_laws.specs.Choice.{moves_sources}
+use Rattle.pool_laws.specs.Choice.{moves_sources, source_waiting}
 use Rattle.pool_laws.specs.Shutdown.{moves_open_jobs}
 use Rattle.pool_core.specs.Pasts.{IsPoolPast}
 use Rattle.task_model.specs.Seats.{Running, running}
 use Rattle.list_laws.specs.Lists.{holds_of}
-use Rattle.pool_laws.specs.Seats.{moves_main, runs_pool_task}
+use Rattle.pool_laws.specs.Seats.{moves_holding, moves_main, runs_pool_task}
 use Rattle.std.proofs.Common.{Bool, List, None, Option, Some, [], ap, arith, false, refl, sym, true, ◌≤◌, ◌++◌, ◌∙◌, ◌∷◌, ◌≡◌}
 use Rattle.std.proofs.lemmas.Bool.{or_left, true≢false}
 use Rattle.std.specs.Prelude.{not, ◌||◌}
@@ -37,6 +38,7 @@ stands_at_still script past e pool still stands = stands_kept script past pool e
     no_sources (kinds.Tick moment) h = absurd (true≢false (sym h))
     no_sources (kinds.Take task runner found) h = absurd (true≢false (sym h))
     no_sources (kinds.End task left) h = absurd (true≢false (sym h))
+    no_sources (kinds.Reprio runner priority) h = absurd (true≢false (sym h))
     no_sources (kinds.MainTake task queue found) h = absurd (true≢false (sym h))
     no_sources (kinds.MainEnd task left) h = absurd (true≢false (sym h))
     no_sources (kinds.JobPost job ok) h = absurd (true≢false (sym h))
@@ -49,6 +51,7 @@ stands_at_still script past e pool still stands = stands_kept script past pool e
 
     quiet : (kind : Kind) → is_still kind ≡ true → is_quiet kind ≡ true
     quiet (kinds.Policy policy) h = refl
+    quiet (kinds.Reprio runner priority) h = refl
     quiet kinds.Shutdown h = refl
     quiet kinds.Done h = refl
     quiet kind h = h
@@ -74,8 +77,9 @@ stands_at_main script past e pool main driver stands =
     stands_with script past pool e pool.groups pool.tracker stands leaves.0
     (past_at_main script past e main driver stands.past_fits)
     (lines_at_main script past e (arrivals past) pool.sequences main apart stands.lines)
-    (hold_same script past (past ++ e ∷ []) pool.lanes (λ source. source_at_main script past e source main apart) stands.queues)
-    (groups_at_main script past e pool.groups main apart stands.groups)
+    (hold_same script (source_waiting script past) (source_waiting script (past ++ e ∷ [])) pool.lanes
+    (λ source. source_at_main script past e source main apart) stands.queues)
+    (groups_at_driver script past e pool.groups (or_left (moves_main e.kind) (moves_holding e.kind) main) driver stands.groups)
     (stands.tracker ∙ sym (tracked_kept script past e leaves.1))
     (seats_at_main script past e pool.seats.items main apart stands.seats) (no_job e.kind main)
   where
@@ -85,6 +89,6 @@ stands_at_main script past e pool main driver stands =
     no_job kind h = absurd (true≢false (sym h))
 
     leaves_tasks : (kind : Kind) → moves_main kind ≡ true → LeavesTasks kind × ((is_still kind || keeps_counts kind) ≡ true)
-    leaves_tasks (kinds.MainTake task queue found) h = (record { ready = refl; now = λ moment. refl }, refl)
-    leaves_tasks (kinds.MainEnd task left) h = (record { ready = refl; now = λ moment. refl }, refl)
+    leaves_tasks (kinds.MainTake task queue found) h = (record { ready = refl; priorities = refl; now = λ moment. refl }, refl)
+    leaves_tasks (kinds.MainEnd task left) h = (record { ready = refl; priorities = refl; now = λ moment. refl }, refl)
     leaves_tasks kind h = absurd (true≢false (sym h))

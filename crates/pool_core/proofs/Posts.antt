@@ -1,6 +1,6 @@
 -- A post keeps what the pool stands for.
 use Rattle.pool_core.proofs.JobTables.{holders_kept, jobs_kept}
-use Rattle.pool_core.proofs.JobQueues.{jobs_held, jobs_stay}
+use Rattle.pool_core.proofs.JobQueues.{jobs_wait}
 use Rattle.list_laws.proofs.Places.{slice_get-set_same}
 use Rattle.list_laws.proofs.Rises.{length-insert_by}
 use Rattle.delayed_manager.specs.Delayed.{ripens_before, with_held}
@@ -8,21 +8,20 @@ use Rattle.list_laws.proofs.Values.{some-injective}
 use Rattle.list_laws.specs.Sorts.{Rises, insert_by}
 use Rattle.pool_core.proofs.Accepted.{new_is_not_taken, posts_leave_room}
 use Rattle.pool_core.proofs.Delays.{unripe_at_delayed_post, unripe_at_post}
-use Rattle.pool_core.proofs.Following.{follow_at_post, follow_in, has_place, hold_from, hold_refreshed, runner_is, sequence_made}
+use Rattle.pool_core.proofs.Following.{Tells, has_place, hold_from, hold_refreshed, hold_standing, other_sequence, runner_is, sequence_made, standing_at_post}
 use Rattle.pool_core.proofs.GroupGrowth.{groups_kept}
 use Rattle.pool_core.proofs.Kept.{stands_kept}
 use Rattle.pool_core.proofs.LineGrowth.{lines_kept}
 use Rattle.pool_core.proofs.Lines.{line_below, lines_at_arrival, sequence_there}
 use Rattle.pool_core.proofs.Pasts.{past_at_post}
-use Rattle.pool_core.proofs.Queues.{AllFollow, other_sequence}
-use Rattle.pool_core.proofs.Tables.{postings_at_post, seats_kept}
+use Rattle.pool_core.proofs.Queues.{hold_same}
+use Rattle.pool_core.proofs.Tables.{postings_at_post, priorities_kept, seats_kept}
 use Rattle.pool_core.proofs.Tracking.{tracked_at_post, tracked_at_refusal}
 use Rattle.pool_core.specs.Calls.{CanPost, after_post}
 use Rattle.pool_core.specs.Lines.{AreLines, waiting_of}
-use Rattle.pool_core.specs.Pasts.{IsPoolPast}
+use Rattle.pool_core.specs.Queues.{HoldBy}
 use Rattle.pool_core.specs.StandsFor.{StandsFor}
-use Rattle.pool_core.specs.State.{CanArrive, arrived, pushed, runner_of}
-use Rattle.pool_core.specs.Tables.{ArePostings}
+use Rattle.pool_core.specs.State.{CanArrive, arrived, pushed, runner_of, standing}
 use Rattle.pool_core.specs.declared.pool.Pool.{Pool}
 use Rattle.pool_core.specs.declared.posting.Posting.{Posting}
 use Rattle.pool_laws.proofs.Keys.Arrivals.{arrivals_at_delayed_post, arrivals_at_post, arrivals_rise}
@@ -94,7 +93,7 @@ can_arrive script past pool place task runner delay tracker can now =
     line_below script past (arrivals past) pool.sequences (ready_behind past task runner delay) (sequence_of script runner task) s.lines rises there in
     rw (can.place_is, s.runners) (record {
       fits = omega (arith, s.script_fits.runners_fit, s.script_fits.tasks_fit, can.task_declared);
-      place = has_place script _ runner task s.script_fits refl s.lines.all s.queues.roomy can.runner_declared can.task_declared;
+      place = has_place script _ runner task s.script_fits refl s.priorities.all s.lines.all s.queues.roomy can.runner_declared can.task_declared;
       room = omega (arith, few, s.room);
       above = below;
     })
@@ -103,6 +102,32 @@ can_arrive script past pool place task runner delay tracker can now =
 one_more : (past : List Entry) (seat task runner delay : ℕ) → length (posts (after_post past seat task runner delay true)) ≡ length (posts past) + 1
 one_more past seat task runner delay = rw (posts_push past (record { seat = seat; kind = kinds.Post task runner delay true }))
     (length-append (posts past) (posted_by past (kinds.Post task runner delay true)))
+
+-- what waits leaves the new task out
+hold_posted : {script : Plan} {past : List Entry} {pool : Pool} {place task runner : ℕ} (delay : ℕ) → CanPost script past pool place task runner delay
+    → HoldBy script (standing script past pool.priorities.items (slice_set pool.postings.items task (Some (posted_as script runner delay))) pool.sequences)
+    pool.lanes
+hold_posted {script = script} {past = past} {pool = pool} {task = task} {runner = runner} delay can = hold_same script
+    (standing script past pool.priorities.items pool.postings.items pool.sequences)
+    (standing script past pool.priorities.items (slice_set pool.postings.items task (Some (posted_as script runner delay))) pool.sequences) pool.lanes
+    (λ source. standing_at_post script past pool.priorities.items pool.postings.items pool.sequences task (posted_as script runner delay) source
+    (record { fits = s.past_fits; lines = s.lines; postings_are = s.postings; priorities_are = s.priorities }) can.task_declared can.is_new)
+    (hold_standing script past pool s)
+  where
+    s : StandsFor script past pool
+    s = can.stands
+
+-- with its lists, the pool tells of the past with the post
+told : {script : Plan} {past : List Entry} {pool : Pool} {place task runner : ℕ} (seat delay : ℕ) (held : Held) → CanPost script past pool place task runner delay
+    → AreLines script (after_post past seat task runner delay true) (arrivals (after_post past seat task runner delay true)) held
+    → Tells script (after_post past seat task runner delay true) pool.priorities.items
+    (slice_set pool.postings.items task (Some (posted_as script runner delay))) held
+told {script = script} {past = past} {pool = pool} {task = task} {runner = runner} seat delay held can lines = let s = can.stands in record {
+  fits = past_at_post script past seat task runner delay true s.past_fits can.runner_declared can.task_declared can.is_new;
+  lines = lines;
+  postings_are = postings_at_post script past seat task runner delay pool.postings.items s.postings s.past_fits can.task_declared can.is_new;
+  priorities_are = priorities_kept script past _ pool.priorities.items refl s.priorities;
+}
 
 -- a delayed task waits for its ripe moment
 pub stands_at_delayed_post : (script : Plan) (past : List Entry) (pool : Pool) (seat place task runner delay : ℕ)
@@ -114,25 +139,20 @@ pub stands_at_delayed_post : (script : Plan) (past : List Entry) (pool : Pool) (
     })
 stands_at_delayed_post script past pool seat place task runner delay can later =
     let s : StandsFor script past pool = can.stands in
-    let fits : IsPoolPast script (past ++ e ∷ []) =
-    past_at_post script past seat task runner delay true s.past_fits can.runner_declared can.task_declared can.is_new in
-    let lines : AreLines script (past ++ e ∷ []) (arrivals (past ++ e ∷ [])) pool.sequences = rw (arrivals_at_delayed_post past e task runner delay refl later)
-    (lines_kept script past e (arrivals past) pool.sequences refl (λ now. refl) s.lines) in
-    let known = postings_at_post script past seat task runner delay pool.postings.items s.postings s.past_fits can.task_declared can.is_new in
-    let old = follow_in script past pool s in
-    let new = follow_at_post script past pool.sequences pool.lanes pool.postings.items task (posted_as script runner delay) s.past_fits s.lines
-    s.postings can.task_declared can.is_new old in
+    let tells = told seat delay pool.sequences can (rw (arrivals_at_delayed_post past e task runner delay refl later)
+    (lines_kept script past e (arrivals past) pool.sequences refl (λ now. refl) s.lines)) in
     record {
       script_fits = s.script_fits;
-      past_fits = fits;
+      past_fits = tells.fits;
       runners = s.runners;
-      lines = lines;
-      queues = hold_from script (past ++ e ∷ []) pool.sequences pool.lanes (slice_set pool.postings.items task (Some (posted_as script runner delay)))
-          s.script_fits fits lines known s.queues.roomy new (jobs_stay script past e pool.lanes refl (jobs_held script past pool.lanes s.queues));
+      priorities = tells.priorities_are;
+      lines = tells.lines;
+      queues = hold_from script past (past ++ e ∷ []) pool.priorities.items (slice_set pool.postings.items task (Some (posted_as script runner delay)))
+          pool.sequences pool.lanes tells (λ j. jobs_wait script past e j refl) (hold_posted delay can);
       groups = groups_kept script past e pool.groups refl s.groups;
       delayed = rw (unripe_at_delayed_post past seat task runner delay later s.past_fits.no_tick_ahead, s.delayed, s.moment, can.place_is) refl;
       tracker = rw (tracked_at_post script past seat task runner delay s.past_fits can.is_new, s.tracker) refl;
-      postings = known;
+      postings = tells.postings_are;
       seats = seats_kept script past e pool.seats.items refl s.seats;
       jobs = jobs_kept script past e pool.jobs.items refl s.jobs;
       holders = holders_kept script past e pool.holders.items refl s.holders;
@@ -156,17 +176,17 @@ pub stands_at_post : (script : Plan) (past : List Entry) (pool : Pool) (seat pla
 stands_at_post script past pool seat place task runner delay can now allowed =
     rw (s.runners, can.place_is) (record {
       script_fits = s.script_fits;
-      past_fits = fits;
+      past_fits = tells.fits;
       runners = refl;
-      lines = lines;
-      queues = hold_refreshed script (past ++ e ∷ []) pool.sequences held pool.lanes table home runner s.script_fits fits lines known s.queues.roomy runs new
-          (λ other another. other_sequence pool.sequences home other _ another)
+      priorities = tells.priorities_are;
+      lines = tells.lines;
+      queues = hold_refreshed script past e pool.priorities.items table pool.sequences held pool.lanes home runner s.script_fits tells refl runs
           (sequence_made script pool.lanes runner task s.script_fits s.queues.roomy can.runner_declared can.task_declared)
-          (jobs_stay script past e pool.lanes refl (jobs_held script past pool.lanes s.queues));
+          (λ other another. other_sequence pool.sequences home other _ another) (hold_posted delay can);
       groups = groups_kept script past e pool.groups refl s.groups;
       delayed = rw (unripe_at_post past seat task runner delay now) s.delayed;
       tracker = rw (tracked_at_post script past seat task runner delay s.past_fits can.is_new, s.tracker) refl;
-      postings = known;
+      postings = tells.postings_are;
       seats = seats_kept script past e pool.seats.items refl s.seats;
       jobs = jobs_kept script past e pool.jobs.items refl s.jobs;
       holders = holders_kept script past e pool.holders.items refl s.holders;
@@ -201,12 +221,6 @@ stands_at_post script past pool seat place task runner delay can now allowed =
     there : home < sequence_count script
     there = sequence_there script runner task can.runner_declared can.task_declared
 
-    fits : IsPoolPast script (past ++ e ∷ [])
-    fits = past_at_post script past seat task runner delay true s.past_fits can.runner_declared can.task_declared can.is_new
-
-    known : ArePostings script (past ++ e ∷ []) table
-    known = postings_at_post script past seat task runner delay pool.postings.items s.postings s.past_fits can.task_declared can.is_new
-
     runs : runner_of script table home ≡ Some runner
     runs = runner_is script table task (posted_as script runner delay) can.runner_declared
         (slice_get-set_same pool.postings.items task (Some (posted_as script runner delay)) (rw s.postings.all can.task_declared))
@@ -214,13 +228,7 @@ stands_at_post script past pool seat place task runner delay can now allowed =
     may : may_start script (past ++ e ∷ []) r.posted ≡ true
     may = rw (is_taken_push past e task, phase_of_push past e, (new_is_not_taken script past task s.past_fits can.is_new).0, allowed) refl
 
-    lines : AreLines script (past ++ e ∷ []) (arrivals (past ++ e ∷ [])) held
-    lines = rw (arrivals_at_post past e task runner delay refl now) (lines_at_arrival script (past ++ e ∷ []) (arrivals past) pool.sequences r
-        (lines_kept script past e (arrivals past) pool.sequences refl (λ now. refl) s.lines) there may)
-
-    old : AllFollow script pool.postings.items pool.sequences pool.lanes
-    old = follow_in script past pool s
-
-    new : AllFollow script table pool.sequences pool.lanes
-    new = follow_at_post script past pool.sequences pool.lanes pool.postings.items task (posted_as script runner delay) s.past_fits s.lines
-        s.postings can.task_declared can.is_new old
+    tells : Tells script (past ++ e ∷ []) pool.priorities.items table held
+    tells = told seat delay held can (rw (arrivals_at_post past e task runner delay refl now)
+        (lines_at_arrival script (past ++ e ∷ []) (arrivals past) pool.sequences r
+        (lines_kept script past e (arrivals past) pool.sequences refl (λ now. refl) s.lines) there may))

@@ -1,176 +1,169 @@
--- The queues where one source is given its place: what stays, and what follows its list and its cell.
-use Rattle.list_laws.proofs.Values.{eqb-same}
-use Rattle.pool_core.specs.Queues.{AreRoomy, no_lane, queue_in, queue_of, same, with_queue, with_source}
-use Rattle.pool_core.specs.State.{AreApart, Follows, is_best_by, lane_by, rank_by, runner_of}
+-- The queues where one source is given its place: what stays, and what they hold.
+use Rattle.list_laws.specs.Lists.{keep}
+use Rattle.pool_core.specs.Queues.{AreRoomy, HoldBy, IsPlaced, belongs, fits, lane_of, no_lane, queue_in, queue_of, rank_as, with_source}
 use Rattle.pool_core.specs.declared.lanes.Lane.{Lane}
-use Rattle.pool_core.specs.declared.posting.Posting.{Posting}
-use Rattle.sequence_queue.specs.Ranked.{Ranked, number_of, rank_of, with_rank}
+use Rattle.sequence_queue.specs.Ranked.{IsMadeFor, Ranked, number_of, rank_of, with_rank}
 use Rattle.sequence_queue.specs.declared.rank.Rank.{Rank}
-use Rattle.std.proofs.Common.{Bool, List, None, Option, Some, ap, arith, false, inl, inr, length, refl, subst, sym, true, ℕ, ◌<◌, ◌∙◌, ◌≡◌}
-use Rattle.std.proofs.lemmas.Bool.{and_parts, cases_eq, cases_lt, eqb-true, false≢true, not-true}
+use Rattle.std.proofs.Common.{Bool, List, None, Option, Some, ap, arith, cond, false, inl, inr, length, refl, subst, sym, true, ℕ, ◌+◌, ◌<◌, ◌∙◌, ◌≡◌}
+use Rattle.std.proofs.lemmas.Bool.{cases_eq, cases_lt, eq-eqb, ne_eqb}
 use Rattle.std.proofs.lemmas.List.{get_or-set_other, get_or-set_same, length-set, set_past}
-use Rattle.std.specs.Prelude.{option_and_then, slice_index_or, ◌&&◌, ◌==◌, ◌⊎◌}
+use Rattle.std.specs.Option.{IfSome, option_map}
+use Rattle.std.specs.Prelude.{◌⊎◌}
 use Rattle.task_base.specs.Plan.{Plan}
-use Rattle.task_base.specs.Runners.{sequence_count}
 use Rattle.task_base.specs.declared.source.TaskSource.{TaskSource}
-use Rattle.task_base.specs.declared.source.TaskSource.TheVariants.{Sequence}
-use Rattle.task_sequence.specs.Sequences.{Held, fresh, sequence_at, with_sequence}
-use Rattle.task_sequence.specs.Sequences as sequences
+use Rattle.task_base.specs.declared.source.TaskSource.TheVariants.{Job, Sequence}
+use Rattle.task_model.specs.Sources.{Candidate}
+
+-- Sources and their numbers.
+
+pub same_source : (a b : TaskSource) → (a ≡ b) ⊎ (a ≡ b → ⊥)
+same_source (Sequence s) (Sequence t) = elim (cases_eq s t) [
+  | inl same ↦ inl (ap Sequence same)
+  | inr another ↦ inr (λ equal. another cc)
+]
+same_source (Sequence s) (Job j) = inr (λ equal. absurd cc)
+same_source (Job j) (Sequence s) = inr (λ equal. absurd cc)
+same_source (Job i) (Job j) = elim (cases_eq i j) [
+  | inl same ↦ inl (ap Job same)
+  | inr another ↦ inr (λ equal. another cc)
+]
+
+-- two sources that a queue is made for have two numbers in it
+numbers_apart : (queue : Ranked) (a b : TaskSource) → (b ≡ a → ⊥) → IsMadeFor queue a → IsMadeFor queue b → number_of queue b ≡ number_of queue a → ⊥
+numbers_apart queue (Sequence s) (Sequence t) another made its same = another (ap Sequence same)
+numbers_apart queue (Sequence s) (Job j) another made its same = omega (arith, same, made)
+numbers_apart queue (Job j) (Sequence s) another made its same = omega (arith, same, its)
+numbers_apart queue (Job i) (Job j) another made its same = let equal : j ≡ i = omega (arith, same) in another (ap Job equal)
+
+-- a queue has a place for each source that it is made for
+has_number : (script : Plan) (lanes : List Lane) (lane : ℕ) (best : Bool) (source : TaskSource) → AreRoomy script lanes → lane < script.workers + 1
+    → IsMadeFor (queue_of lanes lane best) source → number_of (queue_of lanes lane best) source < length (queue_of lanes lane best).ranks
+has_number script lanes lane best (Sequence s) roomy less made =
+    omega (arith, made, roomy.sequences lane best less, roomy.ranks lane best less)
+has_number script lanes lane best (Job j) roomy less made =
+    omega (arith, made, roomy.sequences lane best less, roomy.jobs lane best less, roomy.ranks lane best less)
 
 -- Lanes in which one source is given its place.
 
--- a lane with another queue in one of its two places has its other queue still
-beside : (best b : Bool) (queue : Ranked) (lane : Lane)
-    → (queue_in b (with_queue best queue lane) ≡ queue_in b lane) ⊎ ((b ≡ best) × (queue_in b (with_queue best queue lane) ≡ queue))
-beside true true queue lane = inr (refl, refl)
-beside true false queue lane = inl refl
-beside false true queue lane = inl refl
-beside false false queue lane = inr (refl, refl)
-
--- each queue stays, or it is the one in which the source is given its place
-pub queue_cases : (lanes : List Lane) (lane : ℕ) (best : Bool) (source : TaskSource) (rank : Option Rank) (l : ℕ) (b : Bool)
-    → (queue_of (with_source lanes lane best source rank) l b ≡ queue_of lanes l b)
-    ⊎ ((l ≡ lane) × (b ≡ best) × (queue_of (with_source lanes lane best source rank) l b ≡ with_rank (queue_of lanes lane best) source rank))
-queue_cases lanes lane best source rank l b = elim (cases_eq l lane) [
-  | inr another ↦ inl (ap (queue_in b) (get_or-set_other lanes lane l changed no_lane another))
-  | inl same ↦ elim (cases_lt lane (length lanes)) [
-    | inr past ↦ inl (ap (λ xs. queue_of xs l b) (set_past lanes lane changed past))
-    | inl there ↦ rw (same, get_or-set_same lanes lane changed no_lane there)
-        (elim (beside best b (with_rank (queue_of lanes lane best) source rank) (slice_index_or lanes lane no_lane)) [
-          | inl kept ↦ inl kept
-          | inr own ↦ inr (refl, own.0, own.1)
-        ])
-  ]
+-- both queues of its lane change, and no other does
+queue_cases : (lanes : List Lane) (lane : ℕ) (source : TaskSource) (rank : Option Rank) (l : ℕ) (b : Bool) → lane < length lanes
+    → ((l ≡ lane) × (queue_of (with_source lanes lane source rank) l b ≡ with_rank (queue_of lanes l b) source (keep (fits b) rank)))
+    ⊎ ((lane ≡ l → ⊥) × (queue_of (with_source lanes lane source rank) l b ≡ queue_of lanes l b))
+queue_cases lanes lane source rank l b there = elim (cases_eq l lane) [
+  | inl same ↦ inl (same, rw (same, get_or-set_same lanes lane changed no_lane there) (by b))
+  | inr another ↦ inr ((λ same. another (sym same)), ap (queue_in b) (get_or-set_other lanes lane l changed no_lane another))
 ]
   where
     changed : Lane
-    changed = with_queue best (with_rank (queue_of lanes lane best) source rank) (slice_index_or lanes lane no_lane)
+    changed = record {
+      best_effort = with_rank (queue_of lanes lane true) source (keep (fits true) rank);
+      others = with_rank (queue_of lanes lane false) source (keep (fits false) rank);
+    }
+
+    by : (b : Bool) → queue_in b changed ≡ with_rank (queue_of lanes lane b) source (keep (fits b) rank)
+    by true = refl
+    by false = refl
 
 -- each queue is made for the same sources
-pub shape_kept : (lanes : List Lane) (lane : ℕ) (best : Bool) (source : TaskSource) (rank : Option Rank) (l : ℕ) (b : Bool)
-    → ((queue_of (with_source lanes lane best source rank) l b).sequences ≡ (queue_of lanes l b).sequences)
-    × ((queue_of (with_source lanes lane best source rank) l b).jobs ≡ (queue_of lanes l b).jobs)
-    × (length (queue_of (with_source lanes lane best source rank) l b).ranks ≡ length (queue_of lanes l b).ranks)
-shape_kept lanes lane best source rank l b = elim (queue_cases lanes lane best source rank l b) [
-  | inl kept ↦ rw kept (refl, refl, refl)
-  | inr own ↦ rw (own.2, own.0, own.1) (refl, refl, length-set (queue_of lanes lane best).ranks (number_of (queue_of lanes lane best) source) rank)
+pub shape_kept : (lanes : List Lane) (lane : ℕ) (source : TaskSource) (rank : Option Rank) (l : ℕ) (b : Bool)
+    → ((queue_of (with_source lanes lane source rank) l b).sequences ≡ (queue_of lanes l b).sequences)
+    × ((queue_of (with_source lanes lane source rank) l b).jobs ≡ (queue_of lanes l b).jobs)
+    × (length (queue_of (with_source lanes lane source rank) l b).ranks ≡ length (queue_of lanes l b).ranks)
+shape_kept lanes lane source rank l b = elim (cases_lt lane (length lanes)) [
+  | inr past ↦ rw (set_past lanes lane _ past) (refl, refl, refl)
+  | inl there ↦ elim (queue_cases lanes lane source rank l b there) [
+    | inl own ↦ rw own.1 (refl, refl, length-set (queue_of lanes l b).ranks (number_of (queue_of lanes l b) source) (keep (fits b) rank))
+    | inr kept ↦ rw kept.1 (refl, refl, refl)
+  ]
 ]
 
--- another sequence keeps its rank
-other_rank : (lanes : List Lane) (lane : ℕ) (best : Bool) (s other : ℕ) (rank : Option Rank) (l : ℕ) (b : Bool) → (s ≡ other → ⊥)
-    → rank_of (queue_of (with_source lanes lane best (Sequence s) rank) l b) (Sequence other) ≡ rank_of (queue_of lanes l b) (Sequence other)
-other_rank lanes lane best s other rank l b another = elim (queue_cases lanes lane best (Sequence s) rank l b) [
-  | inl kept ↦ ap (λ q. rank_of q (Sequence other)) kept
-  | inr own ↦ rw (own.2, own.0, own.1) (get_or-set_other (queue_of lanes lane best).ranks s other rank None (λ e. another (sym e)))
-]
-
--- the sequence has the rank
-own_rank : (lanes : List Lane) (lane : ℕ) (best : Bool) (s : ℕ) (rank : Option Rank) → lane < length lanes
-    → s < length (queue_of lanes lane best).ranks → rank_of (queue_of (with_source lanes lane best (Sequence s) rank) lane best) (Sequence s) ≡ rank
-own_rank lanes lane true s rank there made = rw (get_or-set_same lanes lane _ no_lane there)
-    (get_or-set_same (queue_of lanes lane true).ranks s rank None made)
-own_rank lanes lane false s rank there made = rw (get_or-set_same lanes lane _ no_lane there)
-    (get_or-set_same (queue_of lanes lane false).ranks s rank None made)
-
--- The queue of a sequence.
-
--- the queue of a lane that has the sequence is the one that its runner names
-pub owns_is : (lane best_lane : ℕ) (best own : Bool) → (best_lane == lane && same own best) ≡ true → (lane ≡ best_lane) × (best ≡ own)
-owns_is lane best_lane best own is =
-    let parts = and_parts (best_lane == lane) (same own best) is in
-    (sym (eqb-true best_lane lane parts.0), alike own best parts.1)
-  where
-    alike : (a b : Bool) → same a b ≡ true → b ≡ a
-    alike true b is = is
-    alike false b is = not-true b is
-
--- a runner names its own queue
-pub owns_own : (lane : ℕ) (best : Bool) → (lane == lane && same best best) ≡ true
-owns_own lane true = rw (eqb-same lane) refl
-owns_own lane false = rw (eqb-same lane) refl
+made_before : (lanes : List Lane) (lane : ℕ) (source other : TaskSource) (rank : Option Rank) (l : ℕ) (b : Bool)
+    → IsMadeFor (queue_of (with_source lanes lane source rank) l b) other → IsMadeFor (queue_of lanes l b) other
+made_before lanes lane source (Sequence s) rank l b made = subst (λ n. s < n) (shape_kept lanes lane source rank l b).0 made
+made_before lanes lane source (Job j) rank l b made = subst (λ n. j < n) (shape_kept lanes lane source rank l b).1 made
 
 -- the room of each queue stays
-pub roomy_refreshed : (script : Plan) (lanes : List Lane) (lane : ℕ) (best : Bool) (source : TaskSource) (rank : Option Rank) → AreRoomy script lanes
-    → AreRoomy script (with_source lanes lane best source rank)
-roomy_refreshed script lanes lane best source rank roomy = record {
+pub roomy_kept : (script : Plan) (lanes : List Lane) (lane : ℕ) (source : TaskSource) (rank : Option Rank) → AreRoomy script lanes
+    → AreRoomy script (with_source lanes lane source rank)
+roomy_kept script lanes lane source rank roomy = record {
   all = length-set lanes lane _ ∙ roomy.all;
-  sequences = λ l b less. (shape_kept lanes lane best source rank l b).0 ∙ roomy.sequences l b less;
-  jobs = λ l b less. (shape_kept lanes lane best source rank l b).1 ∙ roomy.jobs l b less;
-  ranks = λ l b less. (shape_kept lanes lane best source rank l b).2 ∙ roomy.ranks l b less;
+  sequences = λ l b less. (shape_kept lanes lane source rank l b).0 ∙ roomy.sequences l b less;
+  jobs = λ l b less. (shape_kept lanes lane source rank l b).1 ∙ roomy.jobs l b less;
+  ranks = λ l b less. (shape_kept lanes lane source rank l b).2 ∙ roomy.ranks l b less;
 }
 
--- the sequence is in its runner's queue, so no sequence is in a queue that isn't its runner's
-pub apart_refreshed : (script : Plan) (postings : List (Option Posting)) (lanes : List Lane) (s runner : ℕ) (rank : Option Rank)
-    → AreApart script postings lanes → runner_of script postings s ≡ Some runner
-    → AreApart script postings (with_source lanes (lane_by script runner) (is_best_by script runner) (Sequence s) rank)
-apart_refreshed script postings lanes s runner rank apart runs lane best other less made not_owned =
-    let long : length (with_source lanes (lane_by script runner) (is_best_by script runner) (Sequence s) rank) ≡ length lanes =
-    length-set lanes (lane_by script runner) _ in
-    let within : lane < length lanes = omega (arith, long, less) in
-    let shape = shape_kept lanes (lane_by script runner) (is_best_by script runner) (Sequence s) rank lane best in
-    let before : rank_of (queue_of lanes lane best) (Sequence other) ≡ None =
-    apart lane best other within (subst (λ n. other < n) shape.0 made) not_owned in
-    elim (cases_eq s other) [
-      | inr another ↦ other_rank lanes (lane_by script runner) (is_best_by script runner) s other rank lane best another ∙ before
-      | inl is ↦ elim (queue_cases lanes (lane_by script runner) (is_best_by script runner) (Sequence s) rank lane best) [
-        | inl kept ↦ ap (λ q. rank_of q (Sequence other)) kept ∙ before
-        | inr own ↦ absurd (false≢true (sym not_owned ∙ rw (← is, runs, own.0, own.1) (owns_own (lane_by script runner) (is_best_by script runner))))
-      ]
-    ]
+-- The places of the sources.
 
--- the sequence has the rank that its list and its cell give
-pub follows_refreshed : (script : Plan) (postings : List (Option Posting)) (held : Held) (lanes : List Lane) (s runner : ℕ) → AreRoomy script lanes
-    → runner_of script postings s ≡ Some runner
-    → Follows script postings held (with_source lanes (lane_by script runner) (is_best_by script runner) (Sequence s)
-    (rank_by script runner (sequence_at held s))) s
-follows_refreshed script postings held lanes s runner roomy runs lane best less made owned =
-    let long : length (with_source lanes (lane_by script runner) (is_best_by script runner) (Sequence s) (rank_by script runner (sequence_at held s)))
-    ≡ length lanes = length-set lanes (lane_by script runner) _ in
-    let shape = shape_kept lanes (lane_by script runner) (is_best_by script runner) (Sequence s) (rank_by script runner (sequence_at held s)) lane best in
-    let within : lane < length lanes = omega (arith, long, less) in
-    let fits : s < length (queue_of lanes lane best).ranks =
-    omega (arith, roomy.all, roomy.sequences lane best (omega (arith, roomy.all)), roomy.ranks lane best (omega (arith, roomy.all)), shape.0, made) in
-    let own = owns_is lane (lane_by script runner) best (is_best_by script runner) (rw runs at owned) in
-    rw runs (rw (own.0, own.1) (own_rank lanes (lane_by script runner) (is_best_by script runner) s (rank_by script runner (sequence_at held s))
-    (subst (λ l. l < length lanes) own.0 within) (subst (λ q. s < length q.ranks) (ap (λ l. queue_of lanes l best) own.0
-    ∙ ap (queue_of lanes (lane_by script runner)) own.1) fits)))
+-- a source that is a candidate of no other lane than this one
+abbrev pub IsOfLane : ℕ → Option Candidate → Type 0
+IsOfLane lane candidate = IfSome candidate (λ c. lane_of c.seat ≡ lane)
 
--- another sequence whose list and cell stay keeps its rank
-pub others_follow : (script : Plan) (postings : List (Option Posting)) (before held : Held) (lanes : List Lane) (s other : ℕ) (lane : ℕ) (best : Bool)
-    (rank : Option Rank) → (s ≡ other → ⊥) → sequence_at held other ≡ sequence_at before other → Follows script postings before lanes other
-    → Follows script postings held (with_source lanes lane best (Sequence s) rank) other
-others_follow script postings before held lanes s other lane best rank another same follows l b less made owned =
-    let shape = shape_kept lanes lane best (Sequence s) rank l b in
-    let long : length (with_source lanes lane best (Sequence s) rank) ≡ length lanes = length-set lanes lane _ in
-    other_rank lanes lane best s other rank l b another ∙ follows l b (omega (arith, long, less)) (subst (λ n. other < n) shape.0 made) owned
-    ∙ ap (λ sequence. option_and_then (λ r. rank_by script r sequence) (runner_of script postings other)) (sym same)
-
--- no sequence is in another's queue, and each is in its own with its rank
-abbrev pub AllFollow : Plan → List (Option Posting) → Held → List Lane → Type 0
-AllFollow script postings held lanes = AreApart script postings lanes × ((s : ℕ) → s < sequence_count script → Follows script postings held lanes s)
-
--- another sequence's list and cell are as before
-pub other_sequence : (held : Held) (s other : ℕ) (sequence : sequences.Sequence) → (s ≡ other → ⊥)
-    → slice_index_or (with_sequence held s sequence) other fresh ≡ sequence_at held other
-other_sequence held s other sequence another = get_or-set_other held.sequences s other sequence fresh (λ is. another (sym is))
-
--- one sequence changes, and is given its place
-pub all_refreshed : (script : Plan) (postings : List (Option Posting)) (before held : Held) (lanes : List Lane) (s runner : ℕ) → AreRoomy script lanes
-    → runner_of script postings s ≡ Some runner → AllFollow script postings before lanes
-    → ((other : ℕ) → (s ≡ other → ⊥) → sequence_at held other ≡ sequence_at before other)
-    → AllFollow script postings held
-    (with_source lanes (lane_by script runner) (is_best_by script runner) (Sequence s) (rank_by script runner (sequence_at held s)))
-all_refreshed script postings before held lanes s runner roomy runs all others = (
-  apart_refreshed script postings lanes s runner rank all.0 runs,
-  (λ other below. elim (cases_eq s other) [
-    | inl same ↦ subst (Follows script postings held changed) same (follows_refreshed script postings held lanes s runner roomy runs)
-    | inr another ↦ others_follow script postings before held lanes s other (lane_by script runner) (is_best_by script runner) rank another
-        (others other another) (all.1 other below)
-  ]),
-)
+-- has its rank there, and none elsewhere
+rank_there : (b : Bool) (candidate : Option Candidate) (lane : ℕ) → IsOfLane lane candidate
+    → option_map rank_as (keep (belongs lane b) candidate) ≡ keep (fits b) (option_map rank_as candidate)
+rank_there b None lane at = refl
+rank_there b (Some c) lane at = rw (eq-eqb (lane_of c.seat) lane at) (by (fits b (rank_as c)))
   where
-    rank : Option Rank
-    rank = rank_by script runner (sequence_at held s)
+    by : (own : Bool) → option_map rank_as (cond own (Some c) None) ≡ cond own (Some (rank_as c)) None
+    by true = refl
+    by false = refl
 
-    changed : List Lane
-    changed = with_source lanes (lane_by script runner) (is_best_by script runner) (Sequence s) rank
+none_elsewhere : (l : ℕ) (b : Bool) (candidate : Option Candidate) (lane : ℕ) → IsOfLane lane candidate → (lane ≡ l → ⊥)
+    → option_map rank_as (keep (belongs l b) candidate) ≡ None
+none_elsewhere l b None lane at another = refl
+none_elsewhere l b (Some c) lane at another = rw (ne_eqb (lane_of c.seat) l (λ same. another (sym at ∙ same))) refl
+
+-- it is given its place in its lane
+pub record IsGiven (script : Plan) (lanes : List Lane) (lane : ℕ) (source : TaskSource) (before now : Option Candidate) (rank : Option Rank) : Type 0 where
+  pub there : lane < script.workers + 1
+  pub made : (best : Bool) → IsMadeFor (queue_of lanes lane best) source
+  pub was : IsOfLane lane before
+  pub is : IsOfLane lane now
+  pub rank_is : rank ≡ option_map rank_as now
+
+pub place_given : (script : Plan) (lanes : List Lane) (lane : ℕ) (source : TaskSource) (before now : Option Candidate) (rank : Option Rank)
+    → IsGiven script lanes lane source before now rank → AreRoomy script lanes → IsPlaced lanes source before
+    → IsPlaced (with_source lanes lane source rank) source now
+place_given script lanes lane source before now rank given roomy placed = record {
+  ranks = λ l b made. elim (queue_cases lanes lane source rank l b (omega (arith, given.there, roomy.all))) [
+    | inl own ↦ ap (λ q. rank_of q source) own.1
+        ∙ get_or-set_same (queue_of lanes l b).ranks (number_of (queue_of lanes l b) source) (keep (fits b) rank) None
+        (has_number script lanes l b source roomy (omega (arith, own.0, given.there)) (made_before lanes lane source source rank l b made))
+        ∙ ap (keep (fits b)) given.rank_is ∙ sym (rank_there b now l (rw own.0 given.is))
+    | inr kept ↦ ap (λ q. rank_of q source) kept.1 ∙ placed.ranks l b (made_before lanes lane source source rank l b made)
+        ∙ none_elsewhere l b before lane given.was kept.0 ∙ sym (none_elsewhere l b now lane given.is kept.0)
+  ];
+}
+
+-- each other source stays in its place
+pub place_beside : (script : Plan) (lanes : List Lane) (lane : ℕ) (source other : TaskSource) (candidate : Option Candidate) (rank : Option Rank)
+    → lane < script.workers + 1 → ((best : Bool) → IsMadeFor (queue_of lanes lane best) source) → AreRoomy script lanes → (other ≡ source → ⊥)
+    → IsPlaced lanes other candidate → IsPlaced (with_source lanes lane source rank) other candidate
+place_beside script lanes lane source other candidate rank there made roomy another placed = record {
+  ranks = λ l b its. let before = made_before lanes lane source other rank l b its in
+      elim (queue_cases lanes lane source rank l b (omega (arith, there, roomy.all))) [
+        | inl own ↦ ap (λ q. rank_of q other) own.1
+            ∙ get_or-set_other (queue_of lanes l b).ranks (number_of (queue_of lanes l b) source) (number_of (queue_of lanes l b) other)
+            (keep (fits b) rank) None (numbers_apart (queue_of lanes l b) source other another (subst (λ x. IsMadeFor (queue_of lanes x b) source) (sym own.0) (made b)) before)
+            ∙ placed.ranks l b before
+        | inr kept ↦ ap (λ q. rank_of q other) kept.1 ∙ placed.ranks l b before
+      ];
+}
+
+-- so the queues hold the candidates as they are with this one
+pub hold_given : (script : Plan) (before now : TaskSource → Option Candidate) (lanes : List Lane) (lane : ℕ) (source : TaskSource) (rank : Option Rank)
+    → IsGiven script lanes lane source (before source) (now source) rank → ((other : TaskSource) → (other ≡ source → ⊥) → now other ≡ before other)
+    → HoldBy script before lanes → HoldBy script now (with_source lanes lane source rank)
+hold_given script before now lanes lane source rank given others hold = record {
+  roomy = roomy_kept script lanes lane source rank hold.roomy;
+  places = λ other. elim (same_source other source) [
+    | inl same ↦ rw same (place_given script lanes lane source (before source) (now source) rank given hold.roomy (hold.places source))
+    | inr another ↦ rw (others other another)
+        (place_beside script lanes lane source other (before other) rank given.there given.made hold.roomy another (hold.places other))
+  ];
+}
+
+-- where the candidates are the same, the queues hold the same
+pub hold_same : (script : Plan) (before now : TaskSource → Option Candidate) (lanes : List Lane) → ((source : TaskSource) → now source ≡ before source)
+    → HoldBy script before lanes → HoldBy script now lanes
+hold_same script before now lanes same hold = record { roomy = hold.roomy; places = λ source. rw (same source) (hold.places source) }

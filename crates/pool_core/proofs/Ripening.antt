@@ -1,6 +1,4 @@
 -- One delayed task ripens in the course of a tick: it goes to the end of its sequence, if it may start.
-use Rattle.pool_core.proofs.JobQueues.{jobs_beside}
-use Rattle.sequence_queue.specs.Ranked.{IsMadeFor}
 use Rattle.list_laws.proofs.Rises.{rises_front}
 use Rattle.delayed_manager.specs.Delayed.{Waiting, with_held}
 use Rattle.list_laws.proofs.Elements.{AllByRecursion-append, AllByRecursion-at, AllByRecursion-both, AllByRecursion-contains_itself, AllByRecursion-filter}
@@ -9,15 +7,14 @@ use Rattle.list_laws.proofs.Sorts.{AllByRecursion-sort_by}
 use Rattle.list_laws.specs.Sorts.{Rises}
 use Rattle.pool_core.proofs.Accepted.{is_declared, posts_fit}
 use Rattle.pool_core.proofs.Delays.{ripe_at_tick}
-use Rattle.pool_core.proofs.Following.{has_place, runner_is, sequence_made}
+use Rattle.pool_core.proofs.Following.{all_refreshed, has_place, other_sequence, runner_is, sequence_made}
 use Rattle.pool_core.proofs.Lines.{line_below, lines_at_arrival, lines_at_barred, sequence_there}
-use Rattle.pool_core.proofs.Queues.{AllFollow, all_refreshed, other_sequence, roomy_refreshed}
 use Rattle.pool_core.specs.Calls.{after_tick}
 use Rattle.pool_core.specs.Lines.{AreLines, waiting_of}
 use Rattle.pool_core.specs.Pasts.{IsDeclared, IsPoolPast, IsPoolScript}
-use Rattle.pool_core.specs.Queues.{AreRoomy, HoldJobs, queue_of, with_source}
+use Rattle.pool_core.specs.Queues.{HoldBy, with_source}
 use Rattle.pool_core.specs.Ripens.{IsInTick, Ripens}
-use Rattle.pool_core.specs.State.{CanArrive, CanRipen, HasPlace, arrived, is_barred, is_best_by, lane_by, pushed, rank_by, ripe_key, ripened, runner_of}
+use Rattle.pool_core.specs.State.{CanArrive, CanRipen, HasPlace, arrived, is_barred, lane_by, pushed, rank_by, ripe_key, ripened, runner_of, standing}
 use Rattle.pool_core.specs.Tables.{is_unripe, posting_of, ripening_of, unripe}
 use Rattle.pool_core.specs.declared.lanes.Lane.{Lane}
 use Rattle.pool_core.specs.declared.pool.Pool.{Pool}
@@ -163,7 +160,8 @@ can_ripen script past moment place front p rest entry pool delayed tick ripens i
     arrives = record {
       fits = subst (λ t. length t.runners + p.task < 2 ^ 32) (sym ripens.runners) fits;
       place = subst (λ t. HasPlace (record pool { delayed = delayed }) (sequence_of t p.home p.task) p.home) (sym ripens.runners)
-          (has_place script _ p.home p.task tick.can.stands.script_fits ripens.runners ripens.lines.all ripens.roomy next.declared.0 next.declared.1);
+          (has_place script _ p.home p.task tick.can.stands.script_fits ripens.runners ripens.priorities.all ripens.lines.all ripens.queues.roomy
+          next.declared.0 next.declared.1);
       room = some_room;
       above = subst (λ t. All (λ w. key_below w.key (ripe_behind past p).key ≡ true) (sequence_at pool.sequences (sequence_of t p.home p.task)).tasks)
           (sym ripens.runners) above;
@@ -183,22 +181,21 @@ ripe_push moment front p ripe is = AllByRecursion-append (λ q. nat_le q.ripe mo
 -- the next one no longer waits for its moment, and the lists and the queues are such as they are with its key
 ripens_with : (script : Plan) (past : List Entry) (moment : ℕ) (front : List Posted) (p : Posted) (rest : List Posted) (pool : Pool) (held : Held)
     (lanes : List Lane) → Ripens script past moment front (p ∷ rest) pool → nat_le p.ripe moment ≡ true
-    → AreLines script past (known past front ++ ripe_behind past p ∷ []) held → AreRoomy script lanes → AllFollow script pool.postings.items held lanes
-    → HoldJobs script past lanes → pool.sequences.room ≤ held.room + 1 → Ripens script past moment (front ++ p ∷ []) rest
+    → AreLines script past (known past front ++ ripe_behind past p ∷ []) held
+    → HoldBy script (standing script past pool.priorities.items pool.postings.items held) lanes → pool.sequences.room ≤ held.room + 1
+    → Ripens script past moment (front ++ p ∷ []) rest
     (record pool { sequences = held; lanes = lanes; delayed = with_held pool.delayed (drop 1 pool.delayed.held) })
-ripens_with script past moment front p rest pool held lanes ripens is lines roomy all waiting_jobs enough = record {
+ripens_with script past moment front p rest pool held lanes ripens is lines queues enough = record {
   parts = ripens.parts ∙ sym (append_assoc front (p ∷ []) rest);
   ripe = ripe_push moment front p ripens.ripe is;
   runners = ripens.runners;
   lines = subst (λ rs. AreLines script past rs held) (sym (known-push past front p)) lines;
-  roomy = roomy;
-  apart = all.0;
-  follows = all.1;
+  queues = queues;
   groups = ripens.groups;
   delayed = dropped pool p rest (length script.tasks) ripens.delayed;
   tracker = ripens.tracker;
   postings = ripens.postings;
-  waiting_jobs = waiting_jobs;
+  priorities = ripens.priorities;
   seats = ripens.seats;
   jobs = ripens.jobs;
   holders = ripens.holders;
@@ -217,31 +214,29 @@ barred_step script past moment front p rest pool ripens is forbidden =
     ripens_with script past moment front p rest pool pool.sequences pool.lanes ripens is
     (lines_at_barred script past (known past front) pool.sequences (ripe_behind past p) ripens.lines
     (and_right (not (is_taken past p.task)) (not (is_forbidden script past p)) (ap not forbidden)))
-    ripens.roomy (ripens.apart, ripens.follows) ripens.waiting_jobs (omega arith)
+    ripens.queues (omega arith)
 
 -- the pool with the task at the end of its sequence, by a table of the runners
 abbrev placed : Plan → List Entry → Pool → Posted → Waiting → Plan → Pool
 placed script past pool p delayed table = record pool {
   sequences = pushed pool.sequences (sequence_of table p.home p.task) (waiting_of script (ripe_behind past p));
-  lanes = with_source pool.lanes (lane_by table p.home) (is_best_by table p.home) (Sequence (sequence_of table p.home p.task))
-      (rank_by table p.home (sequence_at (pushed pool.sequences (sequence_of table p.home p.task) (waiting_of script (ripe_behind past p)))
+  lanes = with_source pool.lanes (lane_by table p.home) (Sequence (sequence_of table p.home p.task))
+      (rank_by pool.priorities.items p.home (sequence_at (pushed pool.sequences (sequence_of table p.home p.task) (waiting_of script (ripe_behind past p)))
       (sequence_of table p.home p.task)));
   delayed = delayed;
 }
 
 -- it may start: it goes to the end of its sequence
-arrived_step : (script : Plan) (past : List Entry) (moment : ℕ) (front : List Posted) (p : Posted) (rest : List Posted) (pool : Pool)
+arrived_step : (script : Plan) (past : List Entry) (moment : ℕ) (front : List Posted) (p : Posted) (rest : List Posted) (pool : Pool) → IsPoolScript script
     → Ripens script past moment front (p ∷ rest) pool → nat_le p.ripe moment ≡ true → IsUntaken script past p → is_forbidden script past p ≡ false
-    → IsMadeFor (queue_of pool.lanes (lane_by script p.home) (is_best_by script p.home)) (Sequence (sequence_of script p.home p.task))
     → Ripens script past moment (front ++ p ∷ []) rest
     (placed script past pool p (with_held pool.delayed (drop 1 pool.delayed.held)) (table_of script.runners script.background))
-arrived_step script past moment front p rest pool ripens is next allowed made =
+arrived_step script past moment front p rest pool limits ripens is next allowed =
     ripens_with script past moment front p rest pool held _ ripens is
     (lines_at_arrival script past (known past front) pool.sequences (ripe_behind past p) ripens.lines there may)
-    (roomy_refreshed script pool.lanes (lane_by script p.home) (is_best_by script p.home) (Sequence s) _ ripens.roomy)
-    (all_refreshed script pool.postings.items pool.sequences held pool.lanes s p.home ripens.roomy runs (ripens.apart, ripens.follows)
-    (λ other another. other_sequence pool.sequences s other _ another))
-    (jobs_beside script past pool.lanes (lane_by script p.home) (is_best_by script p.home) s _ made ripens.waiting_jobs) (omega arith)
+    (all_refreshed script past pool.priorities.items pool.postings.items pool.sequences held pool.lanes s p.home limits runs
+    (sequence_made script pool.lanes p.home p.task limits ripens.queues.roomy next.declared.0 next.declared.1)
+    (λ other another. other_sequence pool.sequences s other _ another) ripens.queues) (omega arith)
   where
     s : ℕ
     s = sequence_of script p.home p.task
@@ -284,5 +279,4 @@ ripens_on script past moment place front p rest entry pool tick ripens is =
         (cond b later (arrived later p.task (posting_of script p) (ripe_behind past p).key))) (sym (barred ∙ allowed))
         (subst (λ table. Ripens script past moment (front ++ p ∷ []) rest
         (placed script past pool p (with_held pool.delayed (drop 1 pool.delayed.held)) table)) (sym ripens.runners)
-        (arrived_step script past moment front p rest pool ripens is
-        next allowed (sequence_made script pool.lanes p.home p.task tick.can.stands.script_fits ripens.roomy next.declared.0 next.declared.1)))
+        (arrived_step script past moment front p rest pool tick.can.stands.script_fits ripens is next allowed))

@@ -1,62 +1,63 @@
 -- The groups have room exactly where the rules say so.
 use Rattle.list_laws.specs.Lists.{count, holds_of}
-use Rattle.pool_core.proofs.GroupWorks.{group_stands, part, work_by, worker_holds}
+use Rattle.pool_core.proofs.GroupWorks.{group_stands, part, works_by}
 use Rattle.pool_core.proofs.Lists.{count_inside, count_places, kept_holds, kept_is_some}
-use Rattle.pool_core.specs.Groups.{AreGroups, StandsForGroup, group_in, in_background, item_work, opened_as, pool_work}
+use Rattle.pool_core.specs.Groups.{AreGroups, StandsForGroup, group_in, in_background, opened_as, pool_work, scope_of, work_of}
 use Rattle.pool_core.specs.Pasts.{IsPoolPast, IsPoolScript}
 use Rattle.pool_core.specs.declared.groups.Groups.{Groups}
-use Rattle.pool_laws.proofs.Room.Capacity.{blocked_is, work_is}
+use Rattle.pool_laws.proofs.Seats.Running.{taken_where_runs}
 use Rattle.std.proofs.Common.{Bool, List, None, Option, Some, ap, arith, cond, false, get_or, inl, inr, length, refl, suc, sym, true, ℕ, ◌+◌, ◌-◌, ◌<◌, ◌∙◌, ◌≡◌, ◌≤◌}
-use Rattle.std.proofs.lemmas.Bool.{cases_lt, ltb-true}
+use Rattle.std.proofs.lemmas.Bool.{cases_lt, lt-ltb, ltb-true, not-true}
 use Rattle.std.proofs.lemmas.List.{get_or_past}
 use Rattle.std.proofs.lemmas.Option.{unwrap_or-slice_get}
 use Rattle.std.specs.List.{range_with_len}
 use Rattle.std.specs.Option.{option_map}
-use Rattle.std.specs.Prelude.{is_some, nat_lt, ◌&&◌, ◌⊎◌}
-use Rattle.task_base.specs.Groups.{Foreground, Group, group_of, has_come, is_best_effort}
+use Rattle.std.specs.Prelude.{is_some, nat_lt, not, ◌&&◌, ◌⊎◌}
+use Rattle.task_base.specs.Groups.{Foreground, Group, group_of, is_best_effort}
 use Rattle.task_base.specs.Plan.{Plan}
 use Rattle.task_base.specs.declared.entry.Entry.{Entry}
 use Rattle.task_base.specs.declared.limits.TheConstants.{MOST_WORKERS}
-use Rattle.task_model.specs.Capacity.{is_best_in, is_in, open_scope, priority_of, priority_of_job}
+use Rattle.task_model.specs.Capacity.{is_best_in, is_in, open_scope, priority_of_holding, taken_with}
 use Rattle.task_traits.specs.declared.traits.Priority.TheVariants.{UserVisible}
-use Rattle.std.proofs.Math.Bool.{and-false, and-true}
-use Rattle.list_laws.proofs.Options.{option_or-none}
+use Rattle.std.proofs.Math.Bool.{and-false, and-true, and_assoc}
 use Rattle.task_model.specs.Seats.{Holding, Running, holding, running, worker_seats}
 use Rattle.task_model.specs.Time.{now_of}
 use Rattle.task_traits.specs.declared.traits.Priority.{Priority}
 use Rattle.thread_group.specs.Group.{GroupWork, has_room}
 use Rattle.thread_group.specs.Work.{is_best, is_best_blocked, is_blocked, scope_counts}
 use Rattle.thread_group.specs.declared.work.Work.{Work}
-use Rattle.pool_laws.proofs.Room.Capacity as capacity_laws
+use Rattle.thread_group.specs.declared.work.OpenScope as scopes
 use Rattle.task_model.specs.Capacity as capacities
 
 -- a seat that is no worker's does no work of the pool
 idle_outside : (script : Plan) (past : List Entry) (seat : ℕ) → IsPoolPast script past → (1 ≤ seat → seat ≤ script.workers → ⊥)
     → pool_work script past seat ≡ None
-idle_outside script past seat fits outside = rw (by (running past seat) refl, none (nat_lt 0 seat) (holding past seat) refl refl) refl
+idle_outside script past seat fits outside = by (nat_lt 0 seat) refl
   where
-    by_main : (w : Running) (b : Bool) → running past seat ≡ Some w → w.is_main ≡ b → work_by script past (Some w) ≡ None
-    by_main w true runs is = rw is refl
-    by_main w false runs is = absurd (outside (fits.runs seat w runs is).worker (fits.runs seat w runs is).known)
+    none : (run : Option Running) (taken : Option Priority) (held : Option Holding) → 1 ≤ seat → running past seat ≡ run
+        → is_some taken ≡ holds_of (λ w. not w.is_main) run → holding past seat ≡ held → works_by script past run taken held ≡ None
+    none None taken None worker runs counts holds = refl
+    none None taken (Some h) worker runs counts holds = absurd (outside worker (fits.inside.holds seat h holds).known)
+    none (Some w) None held worker runs counts holds = refl
+    none (Some w) (Some priority) held worker runs counts holds =
+        absurd (outside worker (fits.runs seat w runs (not-true w.is_main (sym counts))).known)
 
-    by : (run : Option Running) → running past seat ≡ run → work_by script past run ≡ None
-    by None runs = refl
-    by (Some w) runs = by_main w w.is_main runs refl
+    by : (b : Bool) → nat_lt 0 seat ≡ b
+        → cond b (works_by script past (running past seat) (taken_with script past seat) (holding past seat)) None ≡ None
+    by false driver = refl
+    by true worker = none (running past seat) (taken_with script past seat) (holding past seat) (ltb-true 0 seat worker) refl
+        (taken_where_runs script past seat) refl
 
-    none : (b : Bool) (o : Option Holding) → nat_lt 0 seat ≡ b → holding past seat ≡ o → cond b o None ≡ None
-    none false o driver is = refl
-    none true None worker is = refl
-    none true (Some h) worker is = absurd (outside (ltb-true 0 seat worker) (fits.inside.holds seat h is).known)
-
--- what passes a test of a group's places, where each seat's work passes it exactly where the seat passes another
+-- what passes a test of a group's places, where each worker's work passes it exactly where the worker passes another
 counted : (script : Plan) (past : List Entry) (group : Group) (work : GroupWork) (test : Option Work → Bool) (mine : ℕ → Bool) → IsPoolScript script
     → IsPoolPast script past → StandsForGroup script past group work → test None ≡ false
-    → ((seat : ℕ) → 1 ≤ seat → test (part script group (pool_work script past seat)) ≡ mine seat) → count test work.seats ≡ count mine (worker_seats script)
+    → ((seat : ℕ) → test (part script group (works_by script past (running past seat) (taken_with script past seat) (holding past seat))) ≡ mine seat)
+    → count test work.seats ≡ count mine (worker_seats script)
 counted script past group work test mine limits fits stands none same =
     count_places test work.seats None ∙ ap (λ n. count (λ k. test (get_or work.seats k None)) (range_with_len 0 n)) long
     ∙ count_inside (λ k. test (get_or work.seats k None)) mine script.workers (MOST_WORKERS - script.workers)
     (place 0 (omega arith) ∙ outside 0 (λ from to. omega (arith, from)))
-    (λ k from to. place k (omega (arith, to, limits.workers_fit)) ∙ same k from)
+    (λ k from to. place k (omega (arith, to, limits.workers_fit)) ∙ rw (lt-ltb 0 k from) (same k))
     (λ k from. behind k from (cases_lt k (MOST_WORKERS + 1)))
   where
     long : length work.seats ≡ suc (script.workers + (MOST_WORKERS - script.workers))
@@ -72,100 +73,43 @@ counted script past group work test mine limits fits stands none same =
     behind k from (inl less) = place k less ∙ outside k (λ one to. omega (arith, from, to))
     behind k from (inr past_end) = ap test (get_or_past work.seats k None (omega (arith, past_end, stands.places))) ∙ none
 
--- a seat's work, by what it runs: whether it is counted, and counted as blocked
-load_by : (script : Plan) (past : List Entry) (group : Group) (run : Option Running)
-    → is_some (part script group (work_by script past run)) ≡ holds_of (is_in script group) (capacity_laws.work script run None)
-load_by script past group None = refl
-load_by script past group (Some w) = by w.is_main refl
+-- work of a priority, if of any: whether it counts
+load_by : (script : Plan) (group : Group) (scope : Option scopes.OpenScope) (o : Option Priority)
+    → is_some (part script group (option_map (work_of scope) o)) ≡ holds_of (is_in script group) o
+load_by script group scope None = refl
+load_by script group scope (Some priority) = kept_is_some (is_in script group priority) (work_of scope priority)
+
+best_load_by : (script : Plan) (group : Group) (scope : Option scopes.OpenScope) (o : Option Priority)
+    → holds_of is_best (part script group (option_map (work_of scope) o)) ≡ holds_of (is_best_in script group) o
+best_load_by script group scope None = refl
+best_load_by script group scope (Some priority) = kept_holds is_best (is_in script group priority) (work_of scope priority)
+
+scope_counts_as : (script : Plan) (past : List Entry) (o : Option capacities.OpenScope)
+    → holds_of (scope_counts script.threshold (now_of past)) (option_map opened_as o) ≡ holds_of (capacities.scope_counts script past) o
+scope_counts_as script past None = refl
+scope_counts_as script past (Some opened) = refl
+
+-- and whether it counts as blocked, where it passes one more test
+abbrev is_blocked_in : Plan → List Entry → (Priority → Bool) → Work → Bool
+is_blocked_in script past more work = more work.priority && is_blocked script.threshold (now_of past) work
+
+blocked_by : (script : Plan) (past : List Entry) (group : Group) (more test : Priority → Bool)
+    → ((priority : Priority) → (is_in script group priority && more priority) ≡ test priority)
+    → (run : Option Running) (taken : Option Priority) (held : Option Holding)
+    → holds_of (is_blocked_in script past more) (part script group (works_by script past run taken held))
+    ≡ holds_of (λ w. holds_of test taken && holds_of (capacities.scope_counts script past) (open_scope past w.task)) run
+blocked_by script past group more test same None taken held = none (priority_of_holding script held)
   where
-    by : (b : Bool) → w.is_main ≡ b
-        → is_some (part script group (work_by script past (Some w))) ≡ holds_of (is_in script group) (capacity_laws.work script (Some w) None)
-    by true is = rw is refl
-    by false is = rw is (kept_is_some (is_in script group (priority_of script w.home)) _)
-
-best_load_by : (script : Plan) (past : List Entry) (group : Group) (run : Option Running)
-    → holds_of is_best (part script group (work_by script past run)) ≡ holds_of (is_best_in script group) (capacity_laws.work script run None)
-best_load_by script past group None = refl
-best_load_by script past group (Some w) = by w.is_main refl
-  where
-    by : (b : Bool) → w.is_main ≡ b
-        → holds_of is_best (part script group (work_by script past (Some w))) ≡ holds_of (is_best_in script group) (capacity_laws.work script (Some w) None)
-    by true is = rw is refl
-    by false is = rw is (kept_holds is_best (is_in script group (priority_of script w.home)) _)
-
-scope_counts_as : (threshold now : ℕ) (o : Option capacities.OpenScope) → holds_of (scope_counts threshold now) (option_map opened_as o)
-    ≡ holds_of (λ opened. has_come opened.scope (opened.since + threshold) now) o
-scope_counts_as threshold now None = refl
-scope_counts_as threshold now (Some opened) = refl
-
-blocked_by : (script : Plan) (past : List Entry) (group : Group) (now : ℕ) (run : Option Running)
-    → holds_of (is_blocked script.threshold now) (part script group (work_by script past run))
-    ≡ capacity_laws.blocked script (is_in script group) now (open_scope past) run
-blocked_by script past group now None = refl
-blocked_by script past group now (Some w) = by w.is_main refl
-  where
-    by : (b : Bool) → w.is_main ≡ b → holds_of (is_blocked script.threshold now) (part script group (work_by script past (Some w)))
-        ≡ capacity_laws.blocked script (is_in script group) now (open_scope past) (Some w)
-    by true is = rw is refl
-    by false is = rw is (kept_holds (is_blocked script.threshold now) (is_in script group (priority_of script w.home)) _
-        ∙ ap (λ b. is_in script group (priority_of script w.home) && b) (scope_counts_as script.threshold now (open_scope past w.task)))
-
-best_blocked_by : (script : Plan) (past : List Entry) (group : Group) (now : ℕ) (run : Option Running)
-    → holds_of (is_best_blocked script.threshold now) (part script group (work_by script past run))
-    ≡ capacity_laws.blocked script (is_best_in script group) now (open_scope past) run
-best_blocked_by script past group now None = refl
-best_blocked_by script past group now (Some w) = by w.is_main refl
-  where
-    its : Work
-    its = record { priority = priority_of script w.home; scope = option_map opened_as (open_scope past w.task) }
-
-    both : (a b c : Bool) → (a && (b && c)) ≡ (a && b && c)
-    both true b c = refl
-    both false b c = refl
-
-    by : (b : Bool) → w.is_main ≡ b → holds_of (is_best_blocked script.threshold now) (part script group (work_by script past (Some w)))
-        ≡ capacity_laws.blocked script (is_best_in script group) now (open_scope past) (Some w)
-    by true is = rw is refl
-    by false is = rw is (kept_holds (is_best_blocked script.threshold now) (is_in script group (priority_of script w.home)) its
-        ∙ ap (λ b. is_in script group (priority_of script w.home) && (is_best_effort (priority_of script w.home) && b))
-        (scope_counts_as script.threshold now (open_scope past w.task))
-        ∙ both (is_in script group (priority_of script w.home)) (is_best_effort (priority_of script w.home))
-        (holds_of (λ opened. has_come opened.scope (opened.since + script.threshold) now) (open_scope past w.task)))
-
--- a worker runs nothing, or holds nothing
-does_one : (script : Plan) (past : List Entry) (seat : ℕ) → IsPoolPast script past → 1 ≤ seat → (running past seat ≡ None) ⊎ (holding past seat ≡ None)
-does_one script past seat fits worker = by (holding past seat) refl
-  where
-    by : (o : Option Holding) → holding past seat ≡ o → (running past seat ≡ None) ⊎ (holding past seat ≡ None)
-    by None is = inr is
-    by (Some h) is = inl (fits.inside.one_thing seat h worker is)
-
--- what a worker's work passes, by what it passes for a task, and for an item
-worker_by : (script : Plan) (past : List Entry) (group : Group) (seat : ℕ) (test : Option Work → Bool) (value : Option Running → Option Holding → Bool)
-    → IsPoolPast script past → 1 ≤ seat → ((run : Option Running) → test (part script group (work_by script past run)) ≡ value run None)
-    → ((held : Option Holding) → test (part script group (option_map (item_work script) held)) ≡ value None held)
-    → test (part script group (pool_work script past seat)) ≡ value (running past seat) (holding past seat)
-worker_by script past group seat test value fits worker tasks items = elim (does_one script past seat fits worker) [
-  | inl none ↦ rw (none, worker_holds past seat worker) (items (holding past seat))
-  | inr none ↦ rw (worker_holds past seat worker, none, option_or-none (work_by script past (running past seat))) (tasks (running past seat))
-]
-
-load_of_item : (script : Plan) (group : Group) (held : Option Holding)
-    → is_some (part script group (option_map (item_work script) held)) ≡ holds_of (is_in script group) (capacity_laws.work script None held)
-load_of_item script group None = refl
-load_of_item script group (Some h) = kept_is_some (is_in script group (priority_of_job script h.job)) _
-
-best_load_of_item : (script : Plan) (group : Group) (held : Option Holding)
-    → holds_of is_best (part script group (option_map (item_work script) held)) ≡ holds_of (is_best_in script group) (capacity_laws.work script None held)
-best_load_of_item script group None = refl
-best_load_of_item script group (Some h) = kept_holds is_best (is_in script group (priority_of_job script h.job)) _
-
--- no scope is open in an item
-item_is_open : (script : Plan) (group : Group) (test : Work → Bool) (held : Option Holding) → ((h : Holding) → test (item_work script h) ≡ false)
-    → holds_of test (part script group (option_map (item_work script) held)) ≡ false
-item_is_open script group test None closed = refl
-item_is_open script group test (Some h) closed = kept_holds test (is_in script group (priority_of_job script h.job)) (item_work script h)
-    ∙ rw (closed h) (and-false (is_in script group (priority_of_job script h.job)))
+    none : (o : Option Priority) → holds_of (is_blocked_in script past more) (part script group (option_map (work_of None) o)) ≡ false
+    none None = refl
+    none (Some priority) = kept_holds (is_blocked_in script past more) (is_in script group priority) (work_of None priority)
+        ∙ rw (and-false (more priority)) (and-false (is_in script group priority))
+blocked_by script past group more test same (Some w) None held = refl
+blocked_by script past group more test same (Some w) (Some priority) held =
+    let counts : Bool = holds_of (capacities.scope_counts script past) (open_scope past w.task) in
+    kept_holds (is_blocked_in script past more) (is_in script group priority) (work_of (scope_of past (Some w)) priority)
+    ∙ ap (λ b. is_in script group priority && (more priority && b)) (scope_counts_as script past (open_scope past w.task))
+    ∙ sym (and_assoc (is_in script group priority) (more priority) counts) ∙ ap (λ b. b && counts) (same priority)
 
 -- a group has room where the rules say so of it
 room_is : (script : Plan) (past : List Entry) (group : Group) (work : GroupWork) (priority : Priority) → IsPoolScript script → IsPoolPast script past
@@ -173,33 +117,18 @@ room_is : (script : Plan) (past : List Entry) (group : Group) (work : GroupWork)
 unfolding capacities.load capacities.capacity capacities.best_load capacities.best_capacity
 room_is script past group work priority limits fits stands = rw (
   counted script past group work is_some (λ seat. holds_of (is_in script group) (capacities.work_at script past seat)) limits fits stands refl
-      (λ seat worker. worker_by script past group seat is_some (λ run held. holds_of (is_in script group) (capacity_laws.work script run held)) fits worker
-      (load_by script past group) (load_of_item script group) ∙ sym (work_at_is (is_in script group) seat)),
+      (λ seat. load_by script group (scope_of past (running past seat)) (capacities.work_at script past seat)),
   counted script past group work (holds_of is_best) (λ seat. holds_of (is_best_in script group) (capacities.work_at script past seat))
-      limits fits stands refl
-      (λ seat worker. worker_by script past group seat (holds_of is_best) (λ run held. holds_of (is_best_in script group) (capacity_laws.work script run held))
-      fits worker (best_load_by script past group) (best_load_of_item script group) ∙ sym (work_at_is (is_best_in script group) seat)),
+      limits fits stands refl (λ seat. best_load_by script group (scope_of past (running past seat)) (capacities.work_at script past seat)),
   counted script past group work (holds_of (is_blocked work.threshold work.moment)) (capacities.is_blocked script past (is_in script group))
-      limits fits stands refl
-      (λ seat worker. rw (stands.threshold_is, stands.moment_is) (worker_by script past group seat (holds_of (is_blocked script.threshold (now_of past)))
-      (λ run held. capacity_laws.blocked script (is_in script group) (now_of past) (open_scope past) run) fits worker
-      (blocked_by script past group (now_of past))
-      (λ held. item_is_open script group (is_blocked script.threshold (now_of past)) held (λ h. refl)))
-      ∙ sym (blocked_is script past (is_in script group) seat)),
+      limits fits stands refl (λ seat. rw (stands.threshold_is, stands.moment_is) (blocked_by script past group (λ p. true) (is_in script group)
+      (λ p. and-true (is_in script group p)) (running past seat) (taken_with script past seat) (holding past seat))),
   counted script past group work (holds_of (is_best_blocked work.threshold work.moment)) (capacities.is_blocked script past (is_best_in script group))
-      limits fits stands refl
-      (λ seat worker. rw (stands.threshold_is, stands.moment_is) (worker_by script past group seat (holds_of (is_best_blocked script.threshold (now_of past)))
-      (λ run held. capacity_laws.blocked script (is_best_in script group) (now_of past) (open_scope past) run) fits worker
-      (best_blocked_by script past group (now_of past))
-      (λ held. item_is_open script group (is_best_blocked script.threshold (now_of past)) held (λ h. and-false (is_best (item_work script h)))))
-      ∙ sym (blocked_is script past (is_best_in script group) seat)),
+      limits fits stands refl (λ seat. rw (stands.threshold_is, stands.moment_is) (blocked_by script past group is_best_effort (is_best_in script group)
+      (λ p. refl) (running past seat) (taken_with script past seat) (holding past seat))),
   stands.limit_is,
   stands.best_limit_is,
 ) refl
-  where
-    work_at_is : (test : Priority → Bool) (seat : ℕ)
-        → holds_of test (capacities.work_at script past seat) ≡ holds_of test (capacity_laws.work script (running past seat) (holding past seat))
-    work_at_is test seat = ap (holds_of test) (work_is script past seat)
 
 -- a group has room for work of any other priority exactly where it runs less than it may
 pub room_for_any : (script : Plan) (past : List Entry) (groups : Groups) → IsPoolScript script → IsPoolPast script past → AreGroups script past groups

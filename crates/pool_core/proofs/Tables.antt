@@ -2,29 +2,36 @@
 use Rattle.list_laws.proofs.Places.{slice_get-replicate, slice_get-set_other, slice_get-set_same}
 use Rattle.list_laws.specs.Lists.{holds_of, keep}
 use Rattle.pool_core.proofs.Accepted.{one_post}
+use Rattle.pool_core.proofs.Lists.{get_there}
 use Rattle.pool_core.specs.Calls.{after_end, after_post, next}
 use Rattle.pool_core.specs.Pasts.{IsPoolPast, pool_running}
-use Rattle.pool_core.specs.Tables.{ArePostings, AreSeats, posting_of}
+use Rattle.pool_core.specs.Tables.{ArePostings, ArePriorities, AreSeats, posting_of}
 use Rattle.pool_core.specs.declared.posting.Posting.{Posting}
+use Rattle.pool_laws.proofs.Choice.Waiting.{priority_same}
 use Rattle.pool_laws.proofs.Keys.Posts.{post_of_grows, posts_same}
 use Rattle.pool_laws.proofs.Seats.Running.{running_here, running_other, running_same}
+use Rattle.pool_laws.specs.Choice.{moves_priorities}
 use Rattle.pool_laws.specs.Keys.{moves_posts}
 use Rattle.pool_laws.specs.Seats.{moves_main, moves_running, runs_pool_task}
 use Rattle.std.proofs.Common.{Bool, List, None, Option, Some, [], ap, arith, false, inl, inr, length, refl, sym, true, ℕ, ◌++◌, ◌+◌, ◌<◌, ◌∙◌, ◌∷◌, ◌≡◌, ◌≤◌}
 use Rattle.std.proofs.lemmas.Bool.{eqb-false, eqb-true, true≢false}
-use Rattle.std.proofs.lemmas.List.{length-replicate, length-set}
+use Rattle.std.proofs.lemmas.List.{length-map, length-replicate, length-set}
 use Rattle.std.proofs.lemmas.List.Elements.{Contains-push_cases}
-use Rattle.std.proofs.lemmas.Option.{none-some}
-use Rattle.std.specs.Option.{option_map, option_or}
-use Rattle.std.specs.Prelude.{Contains, find, not, replicate, slice_get, slice_set, ◌==◌, ◌⊎◌}
+use Rattle.std.proofs.lemmas.Option.{none-some, slice_get-map}
+use Rattle.std.specs.Option.{option_map, option_map_or, option_or}
+use Rattle.std.specs.Prelude.{Contains, find, is_some, map, not, replicate, slice_get, slice_set, ◌==◌, ◌⊎◌}
 use Rattle.task_base.specs.Plan.{Plan}
 use Rattle.task_base.specs.declared.entry.Entry.{Entry}
 use Rattle.task_base.specs.declared.entry.Kind.{Kind}
+use Rattle.task_base.specs.declared.script.Runner.{Runner}
 use Rattle.task_model.proofs.Growth.{posts_push}
+use Rattle.task_model.specs.Capacity.{priority_of}
 use Rattle.task_model.specs.Past.{fold_past}
 use Rattle.task_model.specs.Posts.{Posted, post_behind, post_of, posts}
 use Rattle.task_model.specs.Refusal.{effective_at}
 use Rattle.task_model.specs.Seats.{Running, running, running_after}
+use Rattle.task_traits.specs.declared.traits.Priority.{Priority}
+use Rattle.task_traits.specs.declared.traits.Priority.TheVariants.{BestEffort}
 use Rattle.task_base.specs.declared.entry.Kind.TheVariants as kinds
 
 -- The postings.
@@ -82,6 +89,26 @@ postings_kept script past e postings still are = record {
   known = λ p among. are.known p (rw (posts_same past e still) at among);
   unknown = λ t less none. are.unknown t less (rw (posts_same past e still) at none);
 }
+
+-- The present priorities.
+
+pub priorities_at_start : (script : Plan) → ArePriorities script [] (map (λ r. r.traits.priority) script.runners)
+unfolding priority_of
+priorities_at_start script = record {
+  all = length-map script.runners (λ r. r.traits.priority);
+  each = λ runner less. slice_get-map (λ r. r.traits.priority) script.runners runner
+      ∙ by (slice_get script.runners runner) (get_there script.runners runner less);
+}
+  where
+    by : (o : Option Runner) → is_some o ≡ true
+        → option_map (λ r. r.traits.priority) o ≡ Some (option_map_or (λ r. r.traits.priority) o BestEffort)
+    by None none = absurd (true≢false (sym none))
+    by (Some r) some = refl
+
+pub priorities_kept : (script : Plan) (past : List Entry) (e : Entry) (priorities : List Priority) → moves_priorities e.kind ≡ false
+    → ArePriorities script past priorities → ArePriorities script (past ++ e ∷ []) priorities
+priorities_kept script past e priorities still are =
+    record { all = are.all; each = λ runner less. rw (priority_same script past e still runner) (are.each runner less) }
 
 -- The seats.
 

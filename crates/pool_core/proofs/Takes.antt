@@ -1,59 +1,53 @@
 -- A take keeps what the pool stands for.
 use Rattle.pool_core.proofs.JobTables.{holders_kept, jobs_kept}
-use Rattle.pool_core.proofs.JobQueues.{jobs_held, jobs_stay}
 use Rattle.list_laws.proofs.Values.{some-injective}
 use Rattle.pool_core.proofs.Accepted.{head_accepted, is_declared}
 use Rattle.pool_core.proofs.Choosing.{best_is_job, best_is_sequence, best_offer}
 use Rattle.pool_core.proofs.Delays.{unripe_kept}
-use Rattle.pool_core.proofs.Following.{follow_in, has_place, hold_refreshed, runner_is, sequence_made}
+use Rattle.pool_core.proofs.Following.{Tells, has_place, hold_refreshed, hold_standing, other_sequence, runner_is, sequence_made}
 use Rattle.pool_core.proofs.GroupGrowth.{groups_at_take}
 use Rattle.pool_core.proofs.GroupWorks.{with_seat}
 use Rattle.pool_core.proofs.LineGrowth.{lines_at_take}
 use Rattle.pool_core.proofs.Lines.{line_gives}
 use Rattle.pool_core.proofs.Lists.{same_inside}
 use Rattle.pool_core.proofs.Pasts.{past_at_take}
-use Rattle.pool_core.proofs.Queues.{AllFollow, other_sequence}
-use Rattle.pool_core.proofs.Tables.{postings_kept, seats_at_take}
+use Rattle.pool_core.proofs.Tables.{postings_kept, priorities_kept, seats_at_take}
 use Rattle.pool_core.proofs.Tracking.{tracked_at_take}
 use Rattle.pool_core.specs.Calls.{CanTake, IsChosen, next}
 use Rattle.pool_core.specs.JobCalls.{IsJobChosen}
 use Rattle.pool_core.specs.Choice.{IsBestOf, IsOffer}
-use Rattle.pool_core.specs.Lines.{AreLines}
-use Rattle.pool_core.specs.Pasts.{IsDeclared, IsPoolPast}
+use Rattle.pool_core.specs.Groups.{work_of}
+use Rattle.pool_core.specs.Pasts.{IsDeclared}
 use Rattle.pool_core.specs.Queues.{queue_of, rank_as}
 use Rattle.pool_core.specs.StandsFor.{StandsFor}
-use Rattle.pool_core.specs.State.{HasPlace, is_best_by, lane_by, refreshed, runner_of}
-use Rattle.pool_core.specs.Tables.{ArePostings, posting_of}
+use Rattle.pool_core.specs.State.{HasPlace, lane_by, refreshed, runner_of}
+use Rattle.pool_core.specs.Tables.{posting_of}
 use Rattle.pool_core.specs.declared.groups.Groups.{Groups}
 use Rattle.pool_core.specs.declared.pool.Pool.{Pool}
 use Rattle.pool_core.specs.declared.posting.Posting.{Posting}
 use Rattle.pool_laws.proofs.Keys.Posts.{posts_same}
 use Rattle.sequence_queue.specs.Ranked.{IsMadeFor}
 use Rattle.sequence_queue.specs.declared.rank.Rank.{Rank}
-use Rattle.std.proofs.Common.{List, None, Option, Some, [], ap, arith, refl, subst, sym, ℕ, ◌++◌, ◌+◌, ◌∙◌, ◌∷◌, ◌≡◌}
+use Rattle.std.proofs.Common.{Bool, List, None, Option, Some, [], ap, arith, refl, subst, sym, ℕ, ◌++◌, ◌+◌, ◌∙◌, ◌∷◌, ◌≡◌}
 use Rattle.std.proofs.lemmas.List.{length-set}
 use Rattle.std.proofs.lemmas.Option.{none-some}
-use Rattle.std.specs.Option.{option_map, option_map_or}
+use Rattle.std.specs.Option.{option_map}
 use Rattle.std.specs.Prelude.{Contains, slice_get}
 use Rattle.std.specs.Vec.{with_item}
 use Rattle.task_base.specs.Plan.{Plan}
 use Rattle.task_base.specs.Runners.{sequence_of}
 use Rattle.task_base.specs.declared.entry.Entry.{Entry}
-use Rattle.task_base.specs.declared.script.Runner.{Runner}
 use Rattle.task_base.specs.declared.source.TaskSource.{TaskSource}
 use Rattle.task_base.specs.declared.source.TaskSource.TheVariants.{Job, Sequence}
 use Rattle.task_model.proofs.Growth.{now_of_push}
 use Rattle.task_model.specs.Capacity.{priority_of}
 use Rattle.task_model.specs.Cells.{cell_of}
-use Rattle.task_model.specs.Keys.{arrivals}
 use Rattle.task_model.specs.Posts.{posts}
 use Rattle.task_model.specs.Refusal.{effective_at}
 use Rattle.task_model.specs.Sources.{Candidate, best_of}
-use Rattle.task_runners.specs.Table.{table_of}
 use Rattle.task_sequence.specs.Sequences.{Held, behind_first, given_of, sequence_at, with_sequence}
 use Rattle.task_tracker.specs.Tracked.{skip_share}
-use Rattle.task_traits.specs.declared.traits.Priority.TheVariants.{BestEffort}
-use Rattle.task_traits.specs.declared.traits.Traits.{Traits}
+use Rattle.task_traits.specs.declared.traits.Priority.{Priority}
 use Rattle.task_base.specs.declared.entry.Kind.TheVariants as kinds
 
 -- What is chosen.
@@ -133,10 +127,9 @@ nothing_chosen script past pool seat can best = by (best_of script past seat) (b
 abbrev pub taken_out : Held → ℕ → Held
 taken_out held s = record { sequences = with_sequence held s (record { tasks = behind_first (sequence_at held s).tasks; cell = None }); room = held.room + 1 }
 
--- the groups with work that a seat has started on
-abbrev pub working : Plan → Groups → ℕ → ℕ → Groups
-working script groups seat runner =
-    with_seat script groups seat (priority_of script runner) (Some (record { priority = priority_of script runner; scope = None }))
+-- the groups with work of a priority that a seat has started on
+abbrev pub working : Plan → Groups → ℕ → Priority → Groups
+working script groups seat priority = with_seat script groups seat priority (Some (work_of None priority))
 
 -- the head that is taken was accepted to a declared runner
 pub taken_accepted : {script : Plan} {past : List Entry} {pool : Pool} {seat s : ℕ} (chosen : IsChosen script past pool seat s)
@@ -176,23 +169,18 @@ taken_place {script = script} {pool = pool} {s = s} chosen =
     let accepted = taken_accepted chosen in
     let stands = chosen.can.stands in
     subst (λ n. HasPlace (record pool { sequences = taken_out pool.sequences s }) n chosen.head.posted.home) accepted.2
-    (has_place script _ chosen.head.posted.home chosen.head.posted.task stands.script_fits stands.runners
+    (has_place script _ chosen.head.posted.home chosen.head.posted.task stands.script_fits stands.runners stands.priorities.all
     (length-set pool.sequences.sequences s _ ∙ stands.lines.all) stands.queues.roomy accepted.1.0 accepted.1.1)
 
--- the priority of a runner's work by what the table of runners says
-pub priority_as : (script : Plan) (pool : Pool) (runner : ℕ) (traits : Traits) → pool.runners ≡ table_of script.runners script.background
-    → option_map (λ r. r.traits) (slice_get pool.runners.runners runner) ≡ Some traits → traits.priority ≡ priority_of script runner
-priority_as script pool runner traits runners is =
-    by (slice_get script.runners runner) (subst (λ table. option_map (λ r. r.traits) (slice_get table.runners runner) ≡ Some traits) runners is)
-  where
-    by : (o : Option Runner) → option_map (λ r. r.traits) o ≡ Some traits → traits.priority ≡ option_map_or (λ r. r.traits.priority) o BestEffort
-    by None none = absurd (none-some traits none)
-    by (Some r) some = ap (λ t. t.priority) (sym (some-injective some))
+-- the present priority of its runner
+pub taken_priority : {script : Plan} {past : List Entry} {pool : Pool} {seat s : ℕ} (chosen : IsChosen script past pool seat s)
+    → slice_get pool.priorities.items chosen.head.posted.home ≡ Some (priority_of script past chosen.head.posted.home)
+taken_priority chosen = chosen.can.stands.priorities.each chosen.head.posted.home (taken_accepted chosen).1.0
 
 pub stands_at_take : (script : Plan) (past : List Entry) (pool : Pool) (seat s : ℕ) (chosen : IsChosen script past pool seat s)
     → StandsFor script (next past seat (kinds.Take chosen.head.posted.task chosen.head.posted.home (cell_of script past s)))
     (record (refreshed (record pool { sequences = taken_out pool.sequences s }) s chosen.head.posted.home) {
-      groups = working script pool.groups seat chosen.head.posted.home;
+      groups = working script pool.groups seat (priority_of script past chosen.head.posted.home);
       tracker = record pool.tracker {
         skip_items = pool.tracker.skip_items + skip_share (effective_at script chosen.head.posted.home chosen.head.posted.delay);
       };
@@ -200,17 +188,17 @@ pub stands_at_take : (script : Plan) (past : List Entry) (pool : Pool) (seat s :
     })
 stands_at_take script past pool seat s chosen = rw stands.runners (record {
   script_fits = stands.script_fits;
-  past_fits = fits;
+  past_fits = tells.fits;
   runners = refl;
-  lines = lines;
-  queues = hold_refreshed script later pool.sequences (taken_out pool.sequences s) pool.lanes pool.postings.items s runner stands.script_fits fits lines known
-      stands.queues.roomy runs old
-      (λ other another. other_sequence pool.sequences s other _ another) made (jobs_stay script past e pool.lanes refl (jobs_held script past pool.lanes stands.queues));
-  groups = groups_at_take script past pool.groups seat task runner found stands.script_fits stands.groups can.known can.free can.holds_nothing
-      (stands.past_fits.scopes_of_taken task (head_accepted script past s chosen.head chosen.is_head).2);
+  priorities = tells.priorities_are;
+  lines = tells.lines;
+  queues = hold_refreshed script past e pool.priorities.items pool.postings.items pool.sequences (taken_out pool.sequences s) pool.lanes s runner
+      stands.script_fits tells refl runs made (λ other another. other_sequence pool.sequences s other _ another) (hold_standing script past pool stands);
+  groups = groups_at_take script past pool.groups seat task runner found stands.script_fits stands.groups can.worker can.known can.free
+      can.holds_nothing (stands.past_fits.scopes_of_taken task (head_accepted script past s chosen.head chosen.is_head).2);
   delayed = rw (unripe_kept past e refl) stands.delayed;
   tracker = rw (tracked_at_take script past seat s found chosen.head stands.past_fits chosen.is_head, stands.tracker) refl;
-  postings = known;
+  postings = tells.postings_are;
   seats = seats_at_take script past seat task runner found pool.seats.items stands.seats can.known;
   jobs = jobs_kept script past e pool.jobs.items refl stands.jobs;
   holders = holders_kept script past e pool.holders.items refl stands.holders;
@@ -236,25 +224,19 @@ stands_at_take script past pool seat s chosen = rw stands.runners (record {
     e : Entry
     e = record { seat = seat; kind = kinds.Take task runner found }
 
-    later : List Entry
-    later = past ++ e ∷ []
+    tells : Tells script (past ++ e ∷ []) pool.priorities.items pool.postings.items (taken_out pool.sequences s)
+    tells = record {
+      fits = past_at_take script past seat s found chosen.head stands.past_fits can.worker can.known can.holds_nothing chosen.is_head chosen.idle;
+      lines = lines_at_take script past pool.sequences seat s found chosen.head stands.past_fits stands.lines can.known can.free chosen.there
+          chosen.is_head;
+      postings_are = postings_kept script past e pool.postings.items refl stands.postings;
+      priorities_are = priorities_kept script past e pool.priorities.items refl stands.priorities;
+    }
 
-    fits : IsPoolPast script later
-    fits = past_at_take script past seat s found chosen.head stands.past_fits can.worker can.known can.holds_nothing chosen.is_head chosen.idle
-
-    lines : AreLines script later (arrivals later) (taken_out pool.sequences s)
-    lines = lines_at_take script past pool.sequences seat s found chosen.head stands.past_fits stands.lines can.known can.free chosen.there chosen.is_head
-
-    known : ArePostings script later pool.postings.items
-    known = postings_kept script past e pool.postings.items refl stands.postings
-
-    old : AllFollow script pool.postings.items pool.sequences pool.lanes
-    old = follow_in script past pool stands
-
-    made : IsMadeFor (queue_of pool.lanes (lane_by script runner) (is_best_by script runner)) (Sequence s)
+    made : (best : Bool) → IsMadeFor (queue_of pool.lanes (lane_by script runner) best) (Sequence s)
     made =
         let accepted = taken_accepted chosen in
-        subst (λ n. IsMadeFor (queue_of pool.lanes (lane_by script runner) (is_best_by script runner)) (Sequence n)) accepted.2
+        subst (λ n. (best : Bool) → IsMadeFor (queue_of pool.lanes (lane_by script runner) best) (Sequence n)) accepted.2
         (sequence_made script pool.lanes runner task stands.script_fits stands.queues.roomy accepted.1.0 accepted.1.1)
 
     runs : runner_of script pool.postings.items s ≡ Some runner

@@ -1,7 +1,7 @@
 -- A tick: at its start no delayed task has ripened, each step ripens one, and once none is left that is ripe the pool stands
 -- for the past with the tick.
 use Rattle.pool_core.proofs.JobTables.{holders_kept, jobs_kept}
-use Rattle.pool_core.proofs.JobQueues.{jobs_held, jobs_stay}
+use Rattle.pool_core.proofs.JobQueues.{jobs_wait}
 use Rattle.delayed_manager.specs.Delayed.{Waiting, is_ripe, with_held}
 use Rattle.delayed_manager.specs.declared.ripening.Ripening.{Ripening}
 use Rattle.list_laws.proofs.Elements.{AllByRecursion-map, AllByRecursion-unmapped}
@@ -9,21 +9,19 @@ use Rattle.list_laws.proofs.Filters.{filter_all, filter_none}
 use Rattle.list_laws.proofs.Values.{some-injective}
 use Rattle.list_laws.specs.Lists.{keep}
 use Rattle.pool_core.proofs.Delays.{unripe_at_tick}
-use Rattle.pool_core.proofs.Following.{follow_in, hold_from}
+use Rattle.pool_core.proofs.Following.{Tells, hold_from, hold_standing}
 use Rattle.pool_core.proofs.GroupGrowth.{groups_at_tick}
 use Rattle.pool_core.proofs.LineGrowth.{lines_kept}
 use Rattle.pool_core.proofs.Pasts.{past_at_tick}
-use Rattle.pool_core.proofs.Queues.{AllFollow}
 use Rattle.pool_core.proofs.Ripening.{arrivals_in_tick, can_ripen, known, ripens_on}
-use Rattle.pool_core.proofs.Tables.{postings_kept, seats_kept}
+use Rattle.pool_core.proofs.Tables.{postings_kept, priorities_kept, seats_kept}
 use Rattle.pool_core.proofs.Tracking.{tracked_kept}
 use Rattle.pool_core.specs.Calls.{after_tick}
 use Rattle.pool_core.specs.Lines.{AreLines}
-use Rattle.pool_core.specs.Pasts.{IsPoolPast, IsPoolScript}
 use Rattle.pool_core.specs.Ripens.{IsInTick, Ripens}
 use Rattle.pool_core.specs.StandsFor.{StandsFor}
 use Rattle.pool_core.specs.State.{CanRipen, arrived, is_barred, ripe_key, ripened}
-use Rattle.pool_core.specs.Tables.{ArePostings, posting_of, ripening_of, unripe}
+use Rattle.pool_core.specs.Tables.{posting_of, ripening_of, unripe}
 use Rattle.pool_core.specs.declared.pool.Pool.{Pool}
 use Rattle.pool_core.specs.declared.posting.Posting.{Posting}
 use Rattle.pool_laws.proofs.Keys.Posts.{posts_same}
@@ -48,14 +46,12 @@ ripens_at_start script past pool place moment tick = subst (Ripens script past m
   ripe = tt;
   runners = stands.runners;
   lines = subst (λ rs. AreLines script past rs tick.before.sequences) (sym (append-nil (arrivals past))) stands.lines;
-  roomy = stands.queues.roomy;
-  apart = all.0;
-  follows = all.1;
+  queues = hold_standing script past tick.before stands;
   groups = λ seat. groups_at_tick script past tick.before.groups seat moment stands.groups;
   delayed = stands.delayed;
   tracker = stands.tracker;
   postings = stands.postings;
-  waiting_jobs = jobs_held script past tick.before.lanes stands.queues;
+  priorities = stands.priorities;
   seats = stands.seats;
   jobs = stands.jobs;
   holders = stands.holders;
@@ -65,9 +61,6 @@ ripens_at_start script past pool place moment tick = subst (Ripens script past m
   where
     stands : StandsFor script past tick.before
     stands = tick.can.stands
-
-    all : AllFollow script tick.before.postings.items tick.before.sequences tick.before.lanes
-    all = follow_in script past tick.before stands
 
 -- One step.
 
@@ -177,18 +170,19 @@ pub stands_at_tick : (script : Plan) (past : List Entry) (seat moment place : �
     → IsInTick script past entry place moment → Ripens script past moment front rest pool → All (λ other. moment < other.ripe) pool.delayed.held
     → StandsFor script (after_tick past seat moment) pool
 stands_at_tick script past seat moment place front rest entry pool tick ripens none = record {
-  script_fits = limits;
-  past_fits = later_fits;
+  script_fits = tick.can.stands.script_fits;
+  past_fits = tells.fits;
   runners = ripens.runners;
-  lines = lines;
-  queues = hold_from script later pool.sequences pool.lanes pool.postings.items limits later_fits lines postings ripens.roomy (ripens.apart, ripens.follows)
-      (jobs_stay script past e pool.lanes refl ripens.waiting_jobs);
+  priorities = tells.priorities_are;
+  lines = tells.lines;
+  queues = hold_from script past later pool.priorities.items pool.postings.items pool.sequences pool.lanes tells (λ j. jobs_wait script past e j refl)
+      ripens.queues;
   groups = ripens.groups seat;
   delayed = ripens.delayed
       ∙ ap (λ ps. record { held = map ripening_of ps; room = length script.tasks })
       (sym (unripe_at_tick past seat moment ∙ unripe_parts moment (unripe past) front rest ripens.parts ripens.ripe still));
   tracker = ripens.tracker ∙ sym (tracked_kept script past e refl);
-  postings = postings;
+  postings = tells.postings_are;
   seats = seats_kept script past e pool.seats.items refl ripens.seats;
   jobs = jobs_kept script past e pool.jobs.items refl ripens.jobs;
   holders = holders_kept script past e pool.holders.items refl ripens.holders;
@@ -201,12 +195,6 @@ stands_at_tick script past seat moment place front rest entry pool tick ripens n
 
     later : List Entry
     later = past ++ e ∷ []
-
-    limits : IsPoolScript script
-    limits = tick.can.stands.script_fits
-
-    later_fits : IsPoolPast script later
-    later_fits = past_at_tick script past seat moment tick.can.stands.past_fits tick.can.later tick.can.fits
 
     still : AllByRecursion (λ p. moment < p.ripe) rest
     still = AllByRecursion-unmapped (λ r. moment < r.ripe) ripening_of rest
@@ -222,9 +210,11 @@ stands_at_tick script past seat moment place front rest entry pool tick ripens n
         ∙ ap (λ ps. known past (front ++ ps)) no_more
         ∙ ap (known past) (append-nil front)
 
-    lines : AreLines script later (arrivals later) pool.sequences
-    lines = subst (λ rs. AreLines script later rs pool.sequences) (sym all)
-        (lines_kept script past e (known past front) pool.sequences refl (λ now. refl) ripens.lines)
-
-    postings : ArePostings script later pool.postings.items
-    postings = postings_kept script past e pool.postings.items refl ripens.postings
+    tells : Tells script later pool.priorities.items pool.postings.items pool.sequences
+    tells = record {
+      fits = past_at_tick script past seat moment tick.can.stands.past_fits tick.can.later tick.can.fits;
+      lines = subst (λ rs. AreLines script later rs pool.sequences) (sym all)
+          (lines_kept script past e (known past front) pool.sequences refl (λ now. refl) ripens.lines);
+      postings_are = postings_kept script past e pool.postings.items refl ripens.postings;
+      priorities_are = priorities_kept script past e pool.priorities.items refl ripens.priorities;
+    }

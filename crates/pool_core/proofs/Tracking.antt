@@ -6,6 +6,7 @@ use Rattle.pool_core.specs.Calls.{after_done, after_end, after_policy, after_pos
 use Rattle.pool_core.specs.Others.{is_still, keeps_counts}
 use Rattle.pool_core.specs.Pasts.{IsPoolPast, IsPoolScript}
 use Rattle.pool_core.specs.Tables.{tracked}
+use Rattle.pool_laws.proofs.Shutdown.Tasks.{blocks_and_skips}
 use Rattle.pool_laws.proofs.Shutdown.Blockers.{block_part_at_cancel, block_part_at_end, block_part_at_job_post, block_part_at_job_take, block_part_at_leave, block_part_at_post, block_part_at_step, block_part_same, skip_part_at_end, skip_part_at_job_take, skip_part_at_leave, skip_part_at_post, skip_part_at_step, skip_part_at_take, skip_part_same}
 use Rattle.pool_laws.specs.Seats.{holds_job}
 use Rattle.list_laws.proofs.Values.{eqb-same}
@@ -208,8 +209,7 @@ few_blockers script past limits fits = omega (
   length-range_with_len 0 (length script.jobs),
   count_le (is_in_skip_job script past) (all_seats script),
   length-range_with_len 0 (script.workers + 1),
-  count_le (is_open_block script past) (posts past),
-  count_le (is_running_skip script past) (posts past),
+  blocks_and_skips script past,
   posts_fit script past fits,
   limits.tasks_fit,
   limits.jobs_fit,

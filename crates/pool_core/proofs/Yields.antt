@@ -44,7 +44,7 @@ waits_in_queue : (script : Plan) (past : List Entry) (pool : Pool) (source : Tas
     → is_held past UserVisible ≡ false → IsMadeFor (queue_of pool.lanes 0 false) source → rank_of (queue_of pool.lanes 0 false) source ≡ Some rank
     → (c : Candidate) × Contains (waiting script past) c × (c.seat ≡ None) × (rank_as c ≡ rank)
 waits_in_queue script past pool source rank stands lets made is =
-    let held = held_is 0 false (source_waiting script past source) rank (sym (stands.queues.ranks 0 false source (omega arith) made) ∙ is) in
+    let held = held_is 0 false (source_waiting script past source) rank (sym ((stands.queues.places source).ranks 0 false made) ∙ is) in
     let c = held.0 in
     let named : c.source ≡ source = candidate_names script past source c held.1 in
     let own : ((lane_of c.seat == 0) ≡ true) × (same (is_best_effort c.priority) false ≡ true) = and_parts _ _ held.2 in (
@@ -83,11 +83,10 @@ better_is_there script past pool priority c stands waits better =
     let tests : (not (is_some c.seat) ≡ true) × (nat_lt (importance priority) (importance c.priority) ≡ true) = and_parts _ _ better in
     let shared : lane_of c.seat ≡ 0 = shared_lane c.seat tests.0 in
     let lesser : is_best_effort c.priority ≡ false = not_best_effort priority c.priority tests.1 in
-    let made : IsMadeFor (queue_of pool.lanes 0 false) c.source = subst (λ l. IsMadeFor (queue_of pool.lanes l false) c.source) shared
-    (subst (λ b. IsMadeFor (queue_of pool.lanes (lane_of c.seat) b) c.source) lesser queue.made) in
+    let made : IsMadeFor (queue_of pool.lanes 0 false) c.source = subst (λ l. IsMadeFor (queue_of pool.lanes l false) c.source) shared (queue.made false) in
     record {
       made = made;
-      held = stands.queues.ranks 0 false c.source (omega arith) made ∙ rw (free.candidate, shared, lesser) refl;
+      held = (stands.queues.places c.source).ranks 0 false made ∙ rw (free.candidate, shared, lesser) refl;
       lets = queue.lets;
       free = sym (held_by_queue past c.priority false (ap (λ b. same b false) lesser)) ∙ free.not_held;
     }

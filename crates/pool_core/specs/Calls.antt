@@ -9,6 +9,7 @@ use Rattle.task_base.specs.declared.entry.Kind.TheVariants as kinds
 use Rattle.task_base.specs.declared.policy.Policy.{Policy}
 use Rattle.task_base.specs.declared.step.Scope.{Scope}
 use Rattle.task_traits.specs.declared.phase.Phase.{Phase}
+use Rattle.task_traits.specs.declared.traits.Priority.{Priority}
 use Rattle.task_base.specs.declared.limits.TheConstants.{LAST_MOMENT, MOST_MICROSECONDS}
 use Rattle.list_laws.specs.Lists.{count}
 use Rattle.task_model.specs.Phase.{phase_of}
@@ -55,6 +56,9 @@ after_leave past seat task = next past seat (kinds.Leave task)
 abbrev pub after_policy : List Entry → ℕ → Policy → List Entry
 after_policy past seat policy = next past seat (kinds.Policy policy)
 
+abbrev pub after_reprio : List Entry → ℕ → ℕ → Priority → List Entry
+after_reprio past seat runner priority = next past seat (kinds.Reprio runner priority)
+
 abbrev pub after_shutdown : List Entry → ℕ → List Entry
 after_shutdown past seat = next past seat kinds.Shutdown
 
@@ -92,7 +96,7 @@ pub record IsChosen (script : Plan) (past : List Entry) (pool : Pool) (seat s : 
   pub idle : runs_sequence script past s ≡ false
   pub head : Ready
   pub is_head : head_of script past s ≡ Some head
-  pub is_best : best_of script past seat ≡ Some (sequence_candidate script s head)
+  pub is_best : best_of script past seat ≡ Some (sequence_candidate script past s head)
 
 -- the seat runs this task of the pool, which has no scope open
 pub record RunsClosed (script : Plan) (past : List Entry) (pool : Pool) (seat : ℕ) (w : Running) : Type 0 where
@@ -108,6 +112,11 @@ pub record RunsOpen (script : Plan) (past : List Entry) (pool : Pool) (seat : �
   pub is_pool : w.is_main ≡ false
   pub opens : open_scope past w.task ≡ Some opened
 
+-- the runner is declared
+pub record KnowsRunner (script : Plan) (past : List Entry) (pool : Pool) (runner : ℕ) : Type 0 where
+  pub stands : StandsFor script past pool
+  pub declared : runner < length script.runners
+
 -- shutdown has come to this phase
 pub record IsInPhase (script : Plan) (past : List Entry) (pool : Pool) (phase : Phase) : Type 0 where
   pub stands : StandsFor script past pool
@@ -117,7 +126,7 @@ pub record IsInPhase (script : Plan) (past : List Entry) (pool : Pool) (phase : 
 pub record IsTaken (script : Plan) (past : List Entry) (seat task runner found : ℕ) : Type 0 where
   pub head : Ready
   pub is_head : head_of script past (sequence_of script runner task) ≡ Some head
-  pub is_best : best_of script past seat ≡ Some (sequence_candidate script (sequence_of script runner task) head)
+  pub is_best : best_of script past seat ≡ Some (sequence_candidate script past (sequence_of script runner task) head)
   pub task_is : head.posted.task ≡ task
   pub runner_is : head.posted.home ≡ runner
   pub found_is : found ≡ cell_of script past (sequence_of script runner task)

@@ -1,6 +1,6 @@
 -- What the two groups stand for.
-use Rattle.std.specs.Prelude.{◌≡◌, ℕ, ◌+◌, ◌<◌, Bool, true, false, List, length, replicate, Option, None}
-use Rattle.std.specs.Option.{option_map, option_or}
+use Rattle.std.specs.Prelude.{◌≡◌, ℕ, ◌+◌, ◌<◌, Bool, true, false, if◌then◌else◌, nat_lt, List, length, replicate, Option, None, is_some, option_and_then}
+use Rattle.std.specs.Option.{option_map}
 use Rattle.task_base.specs.Plan.{Plan}
 use Rattle.task_base.specs.Groups.{Group, Foreground, Background, group_of, same_group}
 use Rattle.task_traits.specs.declared.traits.Priority.{Priority}
@@ -9,13 +9,11 @@ use Rattle.task_base.specs.declared.limits.TheConstants.{MOST_WORKERS}
 use Rattle.list_laws.specs.Lists.{keep}
 use Rattle.task_model.specs.Time.{now_of}
 use Rattle.task_model.specs.Capacity as capacities
-use Rattle.task_model.specs.Capacity.{priority_of, priority_of_job, is_in, limit, best_limit, open_scope}
-use Rattle.task_model.specs.Seats.{Running, Holding}
+use Rattle.task_model.specs.Capacity.{is_in, limit, best_limit, open_scope}
+use Rattle.task_model.specs.Seats.{Running, running}
 use Rattle.thread_group.specs.Group.{GroupWork, work_at}
 use Rattle.thread_group.specs.declared.work.Work.{Work}
 use Rattle.thread_group.specs.declared.work.OpenScope.{OpenScope}
-use Rattle.pool_core.specs.Pasts.{pool_running}
-use Rattle.pool_core.specs.Holdings.{worker_holding}
 use Rattle.pool_core.specs.declared.groups.Groups.{Groups}
 
 -- the background group, or the foreground group
@@ -27,6 +25,18 @@ group_in groups false = groups.foreground
 abbrev pub with_group : Groups → Bool → GroupWork → Groups
 with_group groups true work = record groups { background = work }
 with_group groups false work = record groups { foreground = work }
+
+-- the seat does work of the background group
+abbrev pub is_background : Groups → ℕ → Bool
+is_background groups seat = is_some (work_at groups.background seat)
+
+-- the group whose work the seat does, if it does any
+abbrev pub group_at : Groups → ℕ → GroupWork
+group_at groups seat = group_in groups (is_background groups seat)
+
+-- the groups with another one in its place
+abbrev pub with_group_at : Groups → ℕ → GroupWork → Groups
+with_group_at groups seat work = with_group groups (is_background groups seat) work
 
 -- a group that runs nothing at moment 0
 abbrev pub empty_group : ℕ → ℕ → ℕ → GroupWork
@@ -60,18 +70,19 @@ in_background script priority = same_group (group_of script priority) Background
 abbrev pub opened_as : capacities.OpenScope → OpenScope
 opened_as opened = record { scope = opened.scope; since = opened.since }
 
--- a task as work of the pool: its priority, and the scope that it has open
-abbrev pub task_work : Plan → List Entry → Running → Work
-task_work script past w = record { priority = priority_of script w.home; scope = option_map opened_as (open_scope past w.task) }
+-- the scope that what a seat runs has open; none is open in an item of a job
+abbrev pub scope_of : List Entry → Option Running → Option OpenScope
+scope_of past run = option_and_then (λ w. option_map opened_as (open_scope past w.task)) run
 
--- an item of a job as work of the pool; no scope opens in it
-abbrev pub item_work : Plan → Holding → Work
-item_work script h = record { priority = priority_of_job script h.job; scope = None }
+-- work of this priority, with this scope open or none
+abbrev pub work_of : Option OpenScope → Priority → Work
+work_of scope priority = record { priority = priority; scope = scope }
 
--- the pool's work that the seat does: its task, or the item that it holds as a worker
+-- the pool's work that the seat does as a worker: its task, which counts with the priority of its take, or the item that it
+-- holds. What the driver does is no work of the groups
 abbrev pub pool_work : Plan → List Entry → ℕ → Option Work
 pool_work script past seat =
-    option_or (option_map (task_work script past) (pool_running past seat)) (option_map (item_work script) (worker_holding past seat))
+    if nat_lt 0 seat then option_map (work_of (scope_of past (running past seat))) (capacities.work_at script past seat) else None
 
 -- each seat does, of the group's work, what it does in the past; the limits and the threshold are the script's, and the
 -- moment is the past's

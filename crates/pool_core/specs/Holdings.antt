@@ -1,5 +1,5 @@
 -- What is known of who is inside a job.
-use Rattle.std.specs.Prelude.{◌≡◌, ℕ, ◌<◌, ◌≤◌, ◌==◌, true, ◌&&◌, nat_lt, if◌then◌else◌, List, map, length, Option, Some, None, slice_get}
+use Rattle.std.specs.Prelude.{◌≡◌, ℕ, ◌<◌, ◌≤◌, ◌==◌, true, ◌&&◌, List, map, length, Option, Some, None, slice_get}
 use Rattle.std.specs.List.{filter_map, range_with_len}
 use Rattle.std.specs.Option.{option_map}
 use Rattle.task_base.specs.Plan.{Plan}
@@ -33,7 +33,3 @@ pub record AreInside (script : Plan) (past : List Entry) : Type 0 where
   pub holds : (seat : ℕ) (h : Holding) → holding past seat ≡ Some h → HoldsItem script past seat h
   pub own_number : (a b : ℕ) (h k : Holding) → holding past a ≡ Some h → holding past b ≡ Some k → h.job ≡ k.job → h.id ≡ k.id → a ≡ b
   pub one_thing : (seat : ℕ) (h : Holding) → 1 ≤ seat → holding past seat ≡ Some h → running past seat ≡ None
-
--- the item that a worker holds; the driver's is no work of the groups
-abbrev pub worker_holding : List Entry → ℕ → Option Holding
-worker_holding past seat = if nat_lt 0 seat then holding past seat else None

@@ -1,8 +1,8 @@
 -- How the parts of the pool follow the jobs: each job is in the queue of its priority, with the rank that its items and its
 -- post give.
-use Rattle.std.specs.Prelude.{ℕ, zero, suc, ◌-◌, ◌<◌, Bool, true, ◌&&◌, ◌||◌, not, nat_lt, if◌then◌else◌, List, length, Option, None, is_some, slice_index_or}
+use Rattle.std.specs.Prelude.{ℕ, zero, suc, ◌-◌, ◌<◌, Bool, true, ◌&&◌, ◌||◌, not, nat_lt, if◌then◌else◌, List, length, Some, None, is_some, slice_index_or}
 use Rattle.std.specs.Vec.{with_item}
-use Rattle.task_base.specs.Groups.{importance, is_best_effort}
+use Rattle.task_base.specs.Groups.{importance}
 use Rattle.task_base.specs.declared.source.TaskSource.TheVariants.{Job}
 use Rattle.task_traits.specs.declared.phase.Phase.{Phase}
 use Rattle.task_traits.specs.declared.traits.Behaviour.TheVariants.{ContinueOnShutdown}
@@ -11,9 +11,8 @@ use Rattle.task_traits.specs.declared.traits.Priority.TheVariants.{BestEffort}
 use Rattle.task_tracker.specs.Tracked.{block_share, skip_share}
 use Rattle.task_model.specs.Sources.{Candidate}
 use Rattle.thread_group.specs.Group.{with_work}
-use Rattle.thread_group.specs.declared.work.Work.{Work}
 use Rattle.sequence_queue.specs.Ranked.{IsMadeFor}
-use Rattle.pool_core.specs.Groups.{group_in, in_background, with_group}
+use Rattle.pool_core.specs.Groups.{group_at, group_in, in_background, with_group, with_group_at, work_of}
 use Rattle.pool_core.specs.PoolJobs.{fresh_view, is_open, rank_in}
 use Rattle.pool_core.specs.Queues.{queue_of, with_source}
 use Rattle.pool_core.specs.declared.groups.Groups.{Groups}
@@ -33,19 +32,19 @@ job_at jobs j = slice_index_or jobs j no_job
 abbrev pub job_of : Pool → ℕ → PoolJob
 job_of pool j = job_at pool.jobs.items j
 
--- the queue of the job's priority has room for it
+-- the queues of the lane for all seats have room for the job
 pub record HasJobPlace (pool : Pool) (j : ℕ) : Type 0 where
   pub there : j < length pool.jobs.items
   pub lane_there : 0 < length pool.lanes
-  pub made : IsMadeFor (queue_of pool.lanes 0 (is_best_effort (job_of pool j).priority)) (Job j)
+  pub made : (best : Bool) → IsMadeFor (queue_of pool.lanes 0 best) (Job j)
 
--- and each queue for each job
+-- and so for each job
 abbrev pub HaveJobPlaces : Pool → Type 0
 HaveJobPlaces pool = (j : ℕ) → j < length pool.jobs.items → HasJobPlace pool j
 
 -- the lanes with a job in its place, by its items and its post
 abbrev pub with_job_place : Phase → List Lane → ℕ → PoolJob → List Lane
-with_job_place phase lanes j job = with_source lanes 0 (is_best_effort job.priority) (Job j) (rank_in phase job)
+with_job_place phase lanes j job = with_source lanes 0 (Job j) (rank_in phase job)
 
 -- the lanes with so many jobs in their places
 abbrev pub jobs_placed : Phase → List PoolJob → List Lane → ℕ → List Lane
@@ -69,18 +68,24 @@ abbrev pub settled : Pool → ℕ → Bool → Pool
 settled pool j was_open =
     record pool { tracker = record pool.tracker { block_items = pool.tracker.block_items - settled_share (job_of pool j) was_open } }
 
--- the groups where a worker at a job does this work, or none; the driver's item is no work of theirs
-abbrev pub with_item_work : Pool → ℕ → Priority → Option Work → Groups
-with_item_work pool seat priority work =
+-- the groups where a worker at a job of this priority has started on an item; the driver's item is no work of theirs
+abbrev pub with_item_started : Pool → ℕ → Priority → Groups
+with_item_started pool seat priority =
     if nat_lt 0 seat
-    then with_group pool.groups (in_background pool.runners priority) (with_work (group_in pool.groups (in_background pool.runners priority)) seat work)
+    then with_group pool.groups (in_background pool.runners priority)
+    (with_work (group_in pool.groups (in_background pool.runners priority)) seat (Some (work_of None priority)))
     else pool.groups
+
+-- the groups where it has ended its last one
+abbrev pub with_item_ended : Pool → ℕ → Groups
+with_item_ended pool seat =
+    if nat_lt 0 seat then with_group_at pool.groups seat (with_work (group_at pool.groups seat) seat None) else pool.groups
 
 -- the pool where a seat has left a job
 abbrev pub job_left : Pool → ℕ → ℕ → Pool
 job_left pool seat j = settled (record pool {
   holders = with_item pool.holders seat None;
-  groups = with_item_work pool seat (job_of pool j).priority None;
+  groups = with_item_ended pool seat;
   tracker = record pool.tracker { skip_items = pool.tracker.skip_items - skip_share (job_of pool j).behaviour };
 }) j true
 

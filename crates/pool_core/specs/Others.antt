@@ -17,8 +17,9 @@ is_still (kinds.Joined job reply) = true
 is_still kinds.Idle = true
 is_still kind = false
 
--- such an entry, or one that changes the policy or the phase alone
+-- such an entry, or one that changes the policy, the priority of a runner, or the phase alone
 abbrev pub is_quiet : Kind → Bool
+is_quiet (kinds.Reprio runner priority) = true
 is_quiet (kinds.Policy policy) = true
 is_quiet kinds.Shutdown = true
 is_quiet kinds.Done = true
@@ -31,8 +32,9 @@ posts_to_pool (kinds.JobPost job ok) = true
 posts_to_pool (kinds.JobCancel job) = true
 posts_to_pool kind = false
 
--- an entry that changes neither the phase, nor the policy, nor what shutdown waits for: a tick, a scope, a main task
+-- an entry that changes neither the phase, nor the policy, nor what shutdown waits for: a changed priority, a tick, a scope, a main task
 abbrev pub keeps_counts : Kind → Bool
+keeps_counts (kinds.Reprio runner priority) = true
 keeps_counts (kinds.Tick now) = true
 keeps_counts (kinds.Enter task scope) = true
 keeps_counts (kinds.Leave task) = true

@@ -7,7 +7,6 @@ use Rattle.task_base.specs.Groups.{is_best_effort}
 use Rattle.task_base.specs.Runners.{sequence_count, seat_of_kind}
 use Rattle.task_base.specs.declared.entry.Entry.{Entry}
 use Rattle.task_base.specs.declared.source.TaskSource.{TaskSource}
-use Rattle.task_base.specs.declared.source.TaskSource.TheVariants.{Job, Sequence}
 use Rattle.list_laws.specs.Lists.{keep, holds_of}
 use Rattle.task_model.specs.Sources.{Candidate}
 use Rattle.pool_laws.specs.Choice.{source_waiting}
@@ -20,11 +19,6 @@ abbrev pub queue_in : Bool → Lane → Ranked
 queue_in true lane = lane.best_effort
 queue_in false lane = lane.others
 
--- the lane with another queue
-abbrev pub with_queue : Bool → Ranked → Lane → Lane
-with_queue true queue lane = record lane { best_effort = queue }
-with_queue false queue lane = record lane { others = queue }
-
 -- a queue that was made for no source
 abbrev pub no_queue : Ranked
 no_queue = record { sequences = 0; jobs = 0; ranks = [] }
@@ -36,11 +30,6 @@ no_lane = record { best_effort = no_queue; others = no_queue }
 -- the queue of a lane's number: lane 0 has the sources that any seat may take, and each other one those of its seat alone
 abbrev pub queue_of : List Lane → ℕ → Bool → Ranked
 queue_of lanes lane best = queue_in best (slice_index_or lanes lane no_lane)
-
--- the lanes with another rank for a source in one queue, or with none
-abbrev pub with_source : List Lane → ℕ → Bool → TaskSource → Option Rank → List Lane
-with_source lanes lane best source rank =
-    slice_set lanes lane (with_queue best (with_rank (queue_of lanes lane best) source rank) (slice_index_or lanes lane no_lane))
 
 -- a single-thread runner states the seat
 abbrev pub is_stated : Plan → ℕ → Bool
@@ -79,13 +68,24 @@ abbrev pub same : Bool → Bool → Bool
 same true b = b
 same false b = not b
 
--- the source belongs to this queue
-abbrev pub belongs : ℕ → Bool → Candidate → Bool
-belongs lane best c = lane_of c.seat == lane && same (is_best_effort c.priority) best
-
 -- the rank of a source
 abbrev pub rank_as : Candidate → Rank
 rank_as c = record { priority = c.priority; inside = c.inside; key = c.key }
+
+-- a source with this rank belongs to this queue of its lane
+abbrev pub fits : Bool → Rank → Bool
+fits best rank = same (is_best_effort rank.priority) best
+
+-- the source belongs to this queue
+abbrev pub belongs : ℕ → Bool → Candidate → Bool
+belongs lane best c = lane_of c.seat == lane && fits best (rank_as c)
+
+-- the lanes with another rank for a source in the queue of its lane that it belongs to, and none in the lane's other queue
+abbrev pub with_source : List Lane → ℕ → TaskSource → Option Rank → List Lane
+with_source lanes lane source rank = slice_set lanes lane (record {
+  best_effort = with_rank (queue_of lanes lane true) source (keep (fits true) rank);
+  others = with_rank (queue_of lanes lane false) source (keep (fits false) rank);
+})
 
 -- there is a lane for each seat, made for the sources that may be in it
 pub record AreRoomy (script : Plan) (lanes : List Lane) : Type 0 where
@@ -95,17 +95,16 @@ pub record AreRoomy (script : Plan) (lanes : List Lane) : Type 0 where
   pub ranks : (lane : ℕ) (best : Bool) → lane < script.workers + 1
       → length (queue_of lanes lane best).ranks ≡ sequence_room script lane + job_room script lane
 
--- each queue holds, with their ranks, exactly the sources that belong to it and would wait under the policy `all`
-pub record HoldWaiting (script : Plan) (past : List Entry) (lanes : List Lane) : Type 0 where
+-- of the queues that are made for a source, that to which it belongs holds it, with its rank, and no other does
+pub record IsPlaced (lanes : List Lane) (source : TaskSource) (candidate : Option Candidate) : Type 0 where
+  pub ranks : (lane : ℕ) (best : Bool) → IsMadeFor (queue_of lanes lane best) source
+      → rank_of (queue_of lanes lane best) source ≡ option_map rank_as (keep (belongs lane best) candidate)
+
+-- each queue holds, with their ranks, exactly the candidates that belong to it
+pub record HoldBy (script : Plan) (candidate : TaskSource → Option Candidate) (lanes : List Lane) : Type 0 where
   pub roomy : AreRoomy script lanes
-  pub ranks : (lane : ℕ) (best : Bool) (source : TaskSource) → lane < script.workers + 1 → IsMadeFor (queue_of lanes lane best) source
-      → rank_of (queue_of lanes lane best) source ≡ option_map rank_as (keep (belongs lane best) (source_waiting script past source))
+  pub places : (source : TaskSource) → IsPlaced lanes source (candidate source)
 
--- of that, what is said of the sequences, and of the jobs
-abbrev pub HoldSequences : Plan → List Entry → List Lane → Type 0
-HoldSequences script past lanes = (lane : ℕ) (best : Bool) (s : ℕ) → lane < script.workers + 1 → IsMadeFor (queue_of lanes lane best) (Sequence s)
-    → rank_of (queue_of lanes lane best) (Sequence s) ≡ option_map rank_as (keep (belongs lane best) (source_waiting script past (Sequence s)))
-
-abbrev pub HoldJobs : Plan → List Entry → List Lane → Type 0
-HoldJobs script past lanes = (lane : ℕ) (best : Bool) (j : ℕ) → lane < script.workers + 1 → IsMadeFor (queue_of lanes lane best) (Job j)
-    → rank_of (queue_of lanes lane best) (Job j) ≡ option_map rank_as (keep (belongs lane best) (source_waiting script past (Job j)))
+-- the candidates are the sources that would wait under the policy `all`
+abbrev pub HoldWaiting : Plan → List Entry → List Lane → Type 0
+HoldWaiting script past lanes = HoldBy script (source_waiting script past) lanes

@@ -1,8 +1,7 @@
 -- How delayed tasks ripen in the course of a tick.
-use Rattle.std.specs.Prelude.{◌≡◌, ℕ, ◌+◌, ◌<◌, ◌≤◌, true, nat_le, List, ◌++◌, map, length}
+use Rattle.std.specs.Prelude.{◌≡◌, ℕ, ◌+◌, ◌≤◌, true, nat_le, List, ◌++◌, map, length}
 use Rattle.std.specs.List.{AllByRecursion}
 use Rattle.task_base.specs.Plan.{Plan}
-use Rattle.task_base.specs.Runners.{sequence_count}
 use Rattle.task_base.specs.declared.entry.Entry.{Entry}
 use Rattle.task_model.specs.Posts.{Posted, posts}
 use Rattle.task_model.specs.Keys.{arrivals, ripe_behind}
@@ -11,9 +10,9 @@ use Rattle.pool_core.specs.Calls.{CanTick, after_tick}
 use Rattle.pool_core.specs.Groups.{AreGroups, ticked}
 use Rattle.pool_core.specs.Lines.{AreLines}
 use Rattle.pool_core.specs.Jobs.{AreJobs, AreHolders}
-use Rattle.pool_core.specs.Queues.{AreRoomy, HoldJobs}
-use Rattle.pool_core.specs.State.{AreApart, Follows}
-use Rattle.pool_core.specs.Tables.{unripe, ripening_of, tracked, ArePostings, AreSeats}
+use Rattle.pool_core.specs.Queues.{HoldBy}
+use Rattle.pool_core.specs.State.{standing}
+use Rattle.pool_core.specs.Tables.{unripe, ripening_of, tracked, ArePostings, ArePriorities, AreSeats}
 use Rattle.pool_core.specs.declared.pool.Pool.{Pool}
 
 -- a pool that could read the clock has read it at a tick of this place, and no delayed task has ripened yet
@@ -23,20 +22,18 @@ pub record IsInTick (script : Plan) (past : List Entry) (pool : Pool) (place mom
   pub clock : pool ≡ record before { groups = ticked before.groups moment; moment = moment }
 
 -- of the delayed tasks those in front have got their keys at the tick behind the past, and each other part of the pool stands
--- for what it did; the sequences follow their lists
+-- for what it did; the queues hold the sequences by their lists
 pub record Ripens (script : Plan) (past : List Entry) (moment : ℕ) (front rest : List Posted) (pool : Pool) : Type 0 where
   pub parts : unripe past ≡ front ++ rest
   pub ripe : AllByRecursion (λ p. nat_le p.ripe moment ≡ true) front
   pub runners : pool.runners ≡ table_of script.runners script.background
   pub lines : AreLines script past (arrivals past ++ map (ripe_behind past) front) pool.sequences
-  pub roomy : AreRoomy script pool.lanes
-  pub apart : AreApart script pool.postings.items pool.lanes
-  pub follows : (s : ℕ) → s < sequence_count script → Follows script pool.postings.items pool.sequences pool.lanes s
+  pub queues : HoldBy script (standing script past pool.priorities.items pool.postings.items pool.sequences) pool.lanes
   pub groups : (seat : ℕ) → AreGroups script (after_tick past seat moment) pool.groups
   pub delayed : pool.delayed ≡ record { held = map ripening_of rest; room = length script.tasks }
   pub tracker : pool.tracker ≡ tracked script past
   pub postings : ArePostings script past pool.postings.items
-  pub waiting_jobs : HoldJobs script past pool.lanes
+  pub priorities : ArePriorities script past pool.priorities.items
   pub seats : AreSeats script past pool.seats.items
   pub jobs : AreJobs script past pool.jobs.items
   pub holders : AreHolders script past pool.holders.items

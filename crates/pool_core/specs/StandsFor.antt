@@ -11,7 +11,7 @@ use Rattle.pool_core.specs.Lines.{AreLines}
 use Rattle.pool_core.specs.Queues.{HoldWaiting}
 use Rattle.pool_core.specs.Groups.{AreGroups}
 use Rattle.pool_core.specs.Jobs.{AreJobs, AreHolders}
-use Rattle.pool_core.specs.Tables.{unripe, ripening_of, tracked, ArePostings, AreSeats}
+use Rattle.pool_core.specs.Tables.{unripe, ripening_of, tracked, ArePostings, ArePriorities, AreSeats}
 use Rattle.pool_core.specs.declared.pool.Pool.{Pool}
 
 -- the pool stands for the past of a script, part by part
@@ -20,6 +20,8 @@ pub record StandsFor (script : Plan) (past : List Entry) (pool : Pool) : Type 0 
   pub past_fits : IsPoolPast script past
   -- the runners that the script declares
   pub runners : pool.runners ≡ table_of script.runners script.background
+  -- the present priority of each runner
+  pub priorities : ArePriorities script past pool.priorities.items
   -- the tasks that have keys, have not been taken, and may start, sequence by sequence; the cells, at home or out
   pub lines : AreLines script past (arrivals past) pool.sequences
   -- the sources that would wait under the policy `all`, with their ranks

@@ -1,24 +1,25 @@
--- How the parts of the pool follow one another: each sequence is in the queue of its runner, with the rank that its list
--- and its cell give.
-use Rattle.std.specs.Prelude.{◌≡◌, ℕ, ◌+◌, ◌-◌, ◌^◌, ◌<◌, ◌==◌, Bool, true, false, ◌&&◌, nat_lt, if◌then◌else◌, List, ◌∷◌, ◌++◌, [], length, Option, Some, None, All, is_some, unwrap_or, slice_get, option_and_then}
+-- How the parts of the pool follow one another: each sequence is in the queue of its runner's lane and present priority, with the
+-- rank that its list and its cell give.
+use Rattle.std.specs.Prelude.{◌≡◌, ℕ, ◌+◌, ◌-◌, ◌^◌, ◌<◌, Bool, true, false, nat_lt, if◌then◌else◌, List, ◌∷◌, ◌++◌, [], length, Option, Some, None, All, is_some, unwrap_or, slice_get, slice_index_or, option_and_then}
 use Rattle.std.specs.Option.{option_map}
 use Rattle.task_base.specs.Plan.{Plan}
 use Rattle.task_base.specs.Keys.{key_below}
-use Rattle.task_base.specs.Groups.{is_best_effort}
+use Rattle.task_base.specs.declared.entry.Entry.{Entry}
+use Rattle.task_base.specs.declared.source.TaskSource.{TaskSource}
 use Rattle.task_base.specs.Runners.{seat_of, sequence_of}
 use Rattle.task_base.specs.declared.source.Key.{Key}
-use Rattle.task_base.specs.declared.source.TaskSource.TheVariants.{Sequence}
+use Rattle.task_base.specs.declared.source.TaskSource.TheVariants.{Job, Sequence}
 use Rattle.task_traits.specs.declared.traits.Priority.{Priority}
+use Rattle.task_traits.specs.declared.traits.Priority.TheVariants.{BestEffort}
 use Rattle.task_traits.specs.Behaviour.{forbids}
 use Rattle.delayed_manager.specs.declared.ripening.Ripening.{Ripening}
-use Rattle.list_laws.specs.Lists.{holds_of}
-use Rattle.task_model.specs.Capacity.{priority_of}
+use Rattle.task_model.specs.Sources.{Candidate}
+use Rattle.pool_laws.specs.Choice.{source_waiting}
 use Rattle.task_sequence.specs.Sequences as sequences
 use Rattle.task_sequence.specs.Sequences.{Waiting, Held, sequence_at, with_sequence, first_of}
-use Rattle.sequence_queue.specs.Ranked.{rank_of, IsMadeFor}
+use Rattle.sequence_queue.specs.Ranked.{IsMadeFor}
 use Rattle.sequence_queue.specs.declared.rank.Rank.{Rank}
-use Rattle.pool_core.specs.Queues.{lane_of, same, queue_of, with_source}
-use Rattle.pool_core.specs.declared.lanes.Lane.{Lane}
+use Rattle.pool_core.specs.Queues.{lane_of, queue_of, with_source}
 use Rattle.pool_core.specs.declared.posting.Posting.{Posting}
 use Rattle.pool_core.specs.declared.pool.Pool.{Pool}
 
@@ -32,9 +33,9 @@ runner_of table postings s =
 abbrev pub lane_by : Plan → ℕ → ℕ
 lane_by table runner = lane_of (seat_of table runner)
 
--- the work of a runner is best-effort work
-abbrev pub is_best_by : Plan → ℕ → Bool
-is_best_by table runner = is_best_effort (priority_of table runner)
+-- the present priority of a runner
+abbrev pub present_priority : List Priority → ℕ → Priority
+present_priority priorities runner = slice_index_or priorities runner BestEffort
 
 -- the rank of a sequence of this priority, where it doesn't run and has a head
 abbrev pub rank_of_head : Priority → sequences.Sequence → Option Rank
@@ -44,36 +45,37 @@ rank_of_head priority sequence =
     else None
 
 -- the rank of a sequence of the runner
-abbrev pub rank_by : Plan → ℕ → sequences.Sequence → Option Rank
-rank_by table runner sequence = rank_of_head (priority_of table runner) sequence
+abbrev pub rank_by : List Priority → ℕ → sequences.Sequence → Option Rank
+rank_by priorities runner sequence = rank_of_head (present_priority priorities runner) sequence
 
--- the sequence's runner has it in this queue
-abbrev pub owns : Plan → List (Option Posting) → ℕ → Bool → ℕ → Bool
-owns table postings lane best s = holds_of (λ r. lane_by table r == lane && same (is_best_by table r) best) (runner_of table postings s)
+-- a sequence of the runner that waits with this rank
+abbrev pub candidate_by : Plan → ℕ → ℕ → Rank → Candidate
+candidate_by table s runner rank =
+    record { source = Sequence s; priority = rank.priority; inside = rank.inside; key = rank.key; seat = seat_of table runner }
 
--- no sequence is in a queue that is not its runner's
-abbrev pub AreApart : Plan → List (Option Posting) → List Lane → Type 0
-AreApart table postings lanes = (lane : ℕ) (best : Bool) (s : ℕ) → lane < length lanes → IsMadeFor (queue_of lanes lane best) (Sequence s)
-    → owns table postings lane best s ≡ false → rank_of (queue_of lanes lane best) (Sequence s) ≡ None
+-- a sequence as its runner, with its present priority, its list and its cell have it
+abbrev pub sequence_standing : Plan → List Priority → List (Option Posting) → Held → ℕ → Option Candidate
+sequence_standing table priorities postings held s =
+    option_and_then (λ r. option_map (candidate_by table s r) (rank_by priorities r (sequence_at held s))) (runner_of table postings s)
 
--- the sequence is in its runner's queue, with the rank that its list and its cell give
-abbrev pub Follows : Plan → List (Option Posting) → Held → List Lane → ℕ → Type 0
-Follows table postings held lanes s = (lane : ℕ) (best : Bool) → lane < length lanes → IsMadeFor (queue_of lanes lane best) (Sequence s)
-    → owns table postings lane best s ≡ true
-    → rank_of (queue_of lanes lane best) (Sequence s) ≡ option_and_then (λ r. rank_by table r (sequence_at held s)) (runner_of table postings s)
+-- each sequence so, and each job as it waits in the past
+abbrev pub standing : Plan → List Entry → List Priority → List (Option Posting) → Held → TaskSource → Option Candidate
+standing script past priorities postings held (Sequence s) = sequence_standing script priorities postings held s
+standing script past priorities postings held (Job j) = source_waiting script past (Job j)
 
--- the runner's queue has room for the sequence
+-- the queues of the runner's lane have room for the sequence
 pub record HasPlace (pool : Pool) (s runner : ℕ) : Type 0 where
   pub declared : runner < length pool.runners.runners
+  pub ranked : runner < length pool.priorities.items
   pub there : s < length pool.sequences.sequences
   pub lane_there : lane_by pool.runners runner < length pool.lanes
-  pub made : IsMadeFor (queue_of pool.lanes (lane_by pool.runners runner) (is_best_by pool.runners runner)) (Sequence s)
+  pub made : (best : Bool) → IsMadeFor (queue_of pool.lanes (lane_by pool.runners runner) best) (Sequence s)
 
 -- the pool with the rank of a sequence as its list and its cell give it
 abbrev pub refreshed : Pool → ℕ → ℕ → Pool
 refreshed pool s runner = record pool {
-  lanes = with_source pool.lanes (lane_by pool.runners runner) (is_best_by pool.runners runner) (Sequence s)
-      (rank_by pool.runners runner (sequence_at pool.sequences s));
+  lanes = with_source pool.lanes (lane_by pool.runners runner) (Sequence s)
+      (rank_by pool.priorities.items runner (sequence_at pool.sequences s));
 }
 
 -- the sequences with one more task at the end of a list

@@ -9,7 +9,9 @@ use Rattle.task_model.specs.Time.{tick_from}
 use Rattle.task_model.specs.Phase.{phase_of}
 use Rattle.task_model.specs.Policies.{policy_of}
 use Rattle.task_model.specs.Refusal.{effective_at}
+use Rattle.task_model.specs.Capacity.{priority_of}
 use Rattle.task_model.specs.Blockers.{block_part, skip_part}
+use Rattle.task_traits.specs.declared.traits.Priority.{Priority}
 use Rattle.task_tracker.specs.Tracked.{Tracked}
 use Rattle.delayed_manager.specs.declared.ripening.Ripening.{Ripening}
 use Rattle.pool_core.specs.Pasts.{pool_running}
@@ -45,6 +47,11 @@ pub record ArePostings (script : Plan) (past : List Entry) (postings : List (Opt
   pub all : length postings ≡ length script.tasks
   pub known : (p : Posted) → Contains (posts past) p → slice_get postings p.task ≡ Some (Some (posting_of script p))
   pub unknown : (t : ℕ) → t < length script.tasks → post_of past t ≡ None → slice_get postings t ≡ Some None
+
+-- there is a place for each runner, with its priority in the past
+pub record ArePriorities (script : Plan) (past : List Entry) (priorities : List Priority) : Type 0 where
+  pub all : length priorities ≡ length script.runners
+  pub each : (runner : ℕ) → runner < length script.runners → slice_get priorities runner ≡ Some (priority_of script past runner)
 
 -- there is a place for the driver and for each worker, with the task of the pool that the seat runs
 pub record AreSeats (script : Plan) (past : List Entry) (seats : List (Option ℕ)) : Type 0 where

@@ -1,13 +1,13 @@
 ghost use Rattle.std.specs.Prelude.{◌≡◌, ◌≤◌, IsSome, IsSomeAnd, Some, None};
 ghost use Rattle.task_base.specs.declared.limits.TheConstants.{MOST_WORKERS};
 ghost use Rattle.thread_group.specs.Group.{work_at, with_work, with_scope, has_room};
-ghost use Rattle.pool_core.specs.Groups.{group_in, with_group, empty_groups, ticked};
+ghost use Rattle.pool_core.specs.Groups.{group_at, group_in, with_group, with_group_at, empty_groups, ticked};
 
 use task_base::{Priority, Scope, Script, SeatNo};
 use thread_group::Group;
 
-/// The two groups of the pool (Chromium's `thread_pool/thread_pool_impl.h`). A call says whether it is about the
-/// background group.
+/// The two groups of the pool (Chromium's `thread_pool/thread_pool_impl.h`). A call says whether new work is the
+/// background group's; the groups themselves know what each seat does until it ends.
 #[derive(Debug, Drop)]
 pub struct Groups {
     pub foreground: Group,
@@ -51,43 +51,43 @@ impl Groups {
         }
     }
 
-    /// A seat has ended its work of a group.
-    pub fn ended(&mut self, background: bool, seat: SeatNo)
+    /// A seat has ended its work.
+    pub fn ended(&mut self, seat: SeatNo)
         requires worker { 1 ≤ seat }
         requires seat { seat ≤ MOST_WORKERS }
-        requires runs { IsSomeAnd (work_at (group_in self.old background) seat) (λ work. work.scope ≡ None) }
-        ensures { self.new ≡ with_group self.old background (with_work (group_in self.old background) seat None) }
+        requires runs { IsSomeAnd (work_at (group_at self.old seat) seat) (λ work. work.scope ≡ None) }
+        ensures { self.new ≡ with_group_at self.old seat (with_work (group_at self.old seat) seat None) }
     {
-        if background {
+        if self.background.runs(seat) {
             self.background.ended(seat);
         } else {
             self.foreground.ended(seat);
         }
     }
 
-    /// A seat's work of a group has opened a scope.
-    pub fn enter_scope(&mut self, background: bool, seat: SeatNo, scope: Scope)
+    /// A seat's work has opened a scope.
+    pub fn enter_scope(&mut self, seat: SeatNo, scope: Scope)
         requires worker { 1 ≤ seat }
         requires seat { seat ≤ MOST_WORKERS }
-        requires runs { IsSomeAnd (work_at (group_in self.old background) seat) (λ work. work.scope ≡ None) }
-        ensures { let group = group_in self.old background in self.new ≡ with_group self.old background
-            (with_scope group seat (Some (record { scope = scope; since = group.moment }))) }
+        requires runs { IsSomeAnd (work_at (group_at self.old seat) seat) (λ work. work.scope ≡ None) }
+        ensures { let group = group_at self.old seat in
+            self.new ≡ with_group_at self.old seat (with_scope group seat (Some (record { scope = scope; since = group.moment }))) }
     {
-        if background {
+        if self.background.runs(seat) {
             self.background.enter_scope(seat, scope);
         } else {
             self.foreground.enter_scope(seat, scope);
         }
     }
 
-    /// A seat's work of a group has closed its scope.
-    pub fn leave_scope(&mut self, background: bool, seat: SeatNo)
+    /// A seat's work has closed its scope.
+    pub fn leave_scope(&mut self, seat: SeatNo)
         requires worker { 1 ≤ seat }
         requires seat { seat ≤ MOST_WORKERS }
-        requires open { IsSomeAnd (work_at (group_in self.old background) seat) (λ work. IsSome work.scope) }
-        ensures { self.new ≡ with_group self.old background (with_scope (group_in self.old background) seat None) }
+        requires open { IsSomeAnd (work_at (group_at self.old seat) seat) (λ work. IsSome work.scope) }
+        ensures { self.new ≡ with_group_at self.old seat (with_scope (group_at self.old seat) seat None) }
     {
-        if background {
+        if self.background.runs(seat) {
             self.background.leave_scope(seat);
         } else {
             self.foreground.leave_scope(seat);

@@ -1,11 +1,12 @@
-ghost use Rattle.std.specs.Prelude.{◌≡◌, ◌+◌, ◌<◌, ◌^◌, length, IfOk};
+ghost use Rattle.std.specs.Prelude.{◌≡◌, ◌+◌, ◌<◌, ◌^◌, Bool, length, IfOk};
+ghost use Rattle.list_laws.specs.Lists.{keep};
 ghost use Rattle.sequence_queue.specs.Ranked.{IsBest, IsMadeFor, with_rank};
-ghost use Rattle.pool_core.specs.Queues.{queue_of, with_source, empty_lane, empty_lanes, sequence_room, job_room};
+ghost use Rattle.pool_core.specs.Queues.{fits, queue_of, with_source, empty_lane, empty_lanes, sequence_room, job_room};
 
 use sequence_queue::{Rank, SourceQueue};
 use std::alloc::{AllocError, Global};
 use std::marker::Model;
-use task_base::{RunnerKind, Script, SeatNo, TaskSource};
+use task_base::{Priority, RunnerKind, Script, SeatNo, TaskSource};
 
 /// The sources that the same seats may take: the best-effort ones, and the others.
 #[derive(Debug, Drop)]
@@ -46,17 +47,14 @@ impl Lanes {
     }
 
     /// Holds a source of a lane with this rank, or doesn't hold it, whatever was before.
-    pub fn put(&mut self, lane: SeatNo, best_effort: bool, source: TaskSource, rank: Option<Rank>)
+    pub fn put(&mut self, lane: SeatNo, source: TaskSource, rank: Option<Rank>)
         requires there { lane < length self.old }
-        requires made { IsMadeFor (queue_of self.old lane best_effort) source }
-        ensures { self.new ≡ with_source self.old lane best_effort source rank }
+        requires made { (best : Bool) → IsMadeFor (queue_of self.old lane best) source }
+        ensures { self.new ≡ with_source self.old lane source rank }
     {
         let lane = &mut self.lanes[lane as usize];
-        if best_effort {
-            put_in(&mut lane.best_effort, source, rank);
-        } else {
-            put_in(&mut lane.others, source, rank);
-        }
+        put_in(&mut lane.best_effort, source, fitting(true, rank));
+        put_in(&mut lane.others, source, fitting(false, rank));
     }
 
     /// The best source of a lane, with its rank.
@@ -107,6 +105,13 @@ fn room(script: &Script, seat: SeatNo) -> (u32, u32)
         .iter()
         .any(|runner| runner.kind == RunnerKind::Single(seat));
     (if is_stated { runners } else { 0 }, 0)
+}
+
+// A rank, where its source belongs to the queue for best-effort sources, or to the other one.
+fn fitting(best_effort: bool, rank: Option<Rank>) -> Option<Rank>
+    ensures { result ≡ keep (fits best_effort) rank }
+{
+    rank.filter(|rank| (rank.priority == Priority::BestEffort) == best_effort)
 }
 
 // Holds a source with this rank, or doesn't hold it, whatever was before.

@@ -1,17 +1,16 @@
-ghost use Rattle.std.specs.Prelude.{◌≡◌, ℕ, ◌+◌, ◌<◌, ◌≤◌, ◌↔◌, not, List, [], length, replicate, slice_get, Some, None, IsOk, IfOk, IfErr, OnErr, OnOk, false};
+ghost use Rattle.std.specs.Prelude.{◌≡◌, ℕ, ◌+◌, ◌<◌, ◌≤◌, ◌↔◌, not, List, [], length, map, replicate, slice_get, Some, None, IsOk, IfOk, IfErr, OnErr, OnOk, false};
 ghost use Rattle.task_base.specs.Plan.{Plan};
 ghost use Rattle.task_base.specs.declared.entry.Entry.{Entry};
 ghost use Rattle.task_model.specs.Blockers.{blockers_of};
-ghost use Rattle.task_model.specs.Capacity.{OpenScope, priority_of};
+ghost use Rattle.task_model.specs.Capacity.{OpenScope};
 ghost use Rattle.task_model.specs.Refusal.{is_refused};
 ghost use Rattle.task_model.specs.Seats.{Running};
-ghost use Rattle.pool_core.specs.Calls.{CanPost, CanTick, CanTake, IsChosen, RunsClosed, RunsOpen, IsInPhase, TakeAnswers, running_tasks, is_any_ready, after_post, after_tick, after_take, after_end, after_enter, after_leave, after_policy, after_shutdown, after_done};
+ghost use Rattle.pool_core.specs.Calls.{CanPost, CanTick, CanTake, IsChosen, RunsClosed, RunsOpen, KnowsRunner, IsInPhase, TakeAnswers, running_tasks, is_any_ready, after_post, after_tick, after_take, after_end, after_enter, after_leave, after_policy, after_reprio, after_shutdown, after_done};
 ghost use Rattle.pool_core.specs.Pasts.{IsPoolScript, pool_running};
 ghost use Rattle.std.specs.Option.{option_map};
 ghost use Rattle.task_model.specs.Time.{now_of};
 ghost use Rattle.pool_core.specs.Ripens.{IsInTick};
 ghost use Rattle.pool_core.specs.StandsFor.{StandsFor};
-ghost use Rattle.pool_core.specs.Groups.{in_background};
 ghost use Rattle.pool_core.specs.Queues.{empty_lanes};
 ghost use Rattle.task_runners.specs.Table.{table_of};
 ghost use Rattle.task_sequence.specs.Sequences.{fresh};
@@ -45,10 +44,12 @@ use task_traits::{effective, forbids};
 ///
 /// A call stands for the entry of its kind in the history. All memory is taken by `new`. A post, a take, an end, a scope
 /// and a policy take time logarithmic in the number of runners and tasks at most; a tick besides for each task that
-/// ripens; `idle` looks at each seat once, and `start_shutdown` at each runner and task.
+/// ripens; `idle` looks at each seat once, `reprio` at each task, and `start_shutdown` at each runner and task.
 #[derive(Drop)]
 pub struct Pool {
     runners: RunnerTable,
+    /// The present priority of each runner.
+    priorities: Vec<Priority>,
     sequences: Sequences,
     lanes: Lanes,
     groups: Groups,
@@ -74,6 +75,7 @@ impl Pool {
     {
         let tasks = script.tasks.len() as u32;
         let (runners, sequences, lanes, delayed) = fresh_parts(alloc, script, tasks)?;
+        let priorities = first_priorities(alloc, script)?;
         let jobs = fresh_jobs(alloc, script)?;
         let (postings, seats, holders) = empty_places(
             alloc,
@@ -82,6 +84,7 @@ impl Pool {
         )?;
         Ok(Pool {
             runners,
+            priorities,
             sequences,
             lanes,
             groups: Groups::new(script),
@@ -156,8 +159,7 @@ impl Pool {
     {
         let task = self.task_at(seat);
         let posting = self.posting(task);
-        let background = self.in_background(posting.runner);
-        self.groups.ended(background, seat);
+        self.groups.ended(seat);
         self.tracker.ended(posting.effective);
         self.seats[seat as usize] = None;
         let seq = self.runners.seq_of(posting.runner, task);
@@ -171,9 +173,7 @@ impl Pool {
         ensures { (script : Plan) (past : List Entry) (w : Running) → RunsClosed script past self.old seat w
             → StandsFor script (after_enter past seat w.task scope) self.new }
     {
-        let runner = self.posting(self.task_at(seat)).runner;
-        let background = self.in_background(runner);
-        self.groups.enter_scope(background, seat, scope);
+        self.groups.enter_scope(seat, scope);
     }
 
     /// A worker's task has closed its blocking scope.
@@ -182,9 +182,7 @@ impl Pool {
         ensures { (script : Plan) (past : List Entry) (w : Running) (opened : OpenScope) → RunsOpen script past self.old seat w opened
             → StandsFor script (after_leave past seat w.task) self.new }
     {
-        let runner = self.posting(self.task_at(seat)).runner;
-        let background = self.in_background(runner);
-        self.groups.leave_scope(background, seat);
+        self.groups.leave_scope(seat);
     }
 
     /// Puts another policy in force, which has an effect until shutdown starts.
@@ -192,6 +190,18 @@ impl Pool {
         ensures { (script : Plan) (past : List Entry) (seat : ℕ) → StandsFor script past self.old → StandsFor script (after_policy past seat policy) self.new }
     {
         self.tracker.set_policy(policy);
+    }
+
+    /// Gives a runner another priority: those of its sequences that wait go by it from now on; what runs counts as it was
+    /// taken. It looks at each task once, and gives the sequence of each task of the runner its place again, in
+    /// logarithmic time.
+    pub fn reprio(&mut self, runner: RunnerId, priority: Priority)
+        requires { (script : Plan) × (past : List Entry) × KnowsRunner script past self.old runner }
+        ensures { (script : Plan) (past : List Entry) (seat : ℕ) → KnowsRunner script past self.old runner
+            → StandsFor script (after_reprio past seat runner priority) self.new }
+    {
+        self.priorities[runner as usize] = priority;
+        self.refresh_all(Some(runner));
     }
 
     /// Whether no worker runs a task or is inside a job, and none may take a source. The error says how many do, and
@@ -240,7 +250,7 @@ impl Pool {
     {
         self.tracker.start_shutdown();
         self.sequences.purge(Phase::Started);
-        self.refresh_all();
+        self.refresh_all(None);
         self.refresh_jobs();
     }
 
@@ -267,7 +277,7 @@ impl Pool {
         let (task, cell) = self.sequences.take_out(seq).unwrap();
         let posting = self.posting(task);
         self.refresh(seq, posting.runner);
-        let priority = self.runners.traits_of(posting.runner).priority;
+        let priority = self.priorities[posting.runner as usize];
         self.groups
             .started(self.runners.background(priority), seat, priority);
         self.tracker.started(posting.effective);
@@ -331,15 +341,6 @@ impl Pool {
     {
         self.postings[task as usize].unwrap()
     }
-
-    // Whether the background group does a runner's work.
-    fn in_background(&self, runner: RunnerId) -> bool
-        requires { runner < length self.now.runners.runners }
-        ensures { result ≡ in_background self.now.runners (priority_of self.now.runners runner) }
-    {
-        self.runners
-            .background(self.runners.traits_of(runner).priority)
-    }
 }
 
 // What knows of the runners and sequences of a script of so many tasks, of what may be taken and of what is delayed, at the
@@ -363,6 +364,17 @@ fn fresh_parts(
         Lanes::new(alloc, script)?,
         Delayed::new(alloc, tasks)?,
     ))
+}
+
+// The priority that each runner has at first. The error is want of memory.
+fn first_priorities(alloc: Global, script: &Script) -> Result<Vec<Priority>, AllocError>
+    ensures { IfOk result (λ priorities. priorities.items ≡ map (λ r. r.traits.priority) script.now.runners) }
+{
+    let mut priorities = Vec::with_capacity(alloc, script.runners.len())?;
+    for runner in script.runners.as_slice() {
+        priorities.push(runner.traits.priority)?;
+    }
+    Ok(priorities)
 }
 
 // Empty places for so many tasks, and for what so many seats run and for what they are inside. The error is want of memory.

@@ -49,6 +49,7 @@ moves_waiting (kinds.Tick now) = true
 moves_waiting (kinds.Take task runner found) = true
 moves_waiting (kinds.End task left) = true
 moves_waiting (kinds.Policy policy) = true
+moves_waiting (kinds.Reprio runner priority) = true
 moves_waiting (kinds.MainTake task queue found) = true
 moves_waiting (kinds.MainEnd task left) = true
 moves_waiting (kinds.JobPost job ok) = true
@@ -59,9 +60,14 @@ moves_waiting kinds.Shutdown = true
 moves_waiting kinds.Done = true
 moves_waiting kind = false
 
--- the kinds that may change whether a sequence waits
+-- the kind that changes the priority of a runner
+abbrev pub moves_priorities : Kind → Bool
+moves_priorities (kinds.Reprio runner priority) = true
+moves_priorities kind = false
+
+-- the kinds that may change whether a sequence waits, and with which priority
 abbrev pub moves_sequence_waiting : Kind → Bool
-moves_sequence_waiting kind = moves_sequences kind || moves_running kind
+moves_sequence_waiting kind = moves_sequences kind || (moves_running kind || moves_priorities kind)
 
 -- the candidate of a source, where it is one of the script's and waits
 abbrev pub source_waiting : Plan → List Entry → TaskSource → Option Candidate

@@ -1,13 +1,11 @@
 -- Words of the laws on what seats run and hold, and on cells.
-use Rattle.std.specs.Prelude.{◌≡◌, ℕ, ◌==◌, Bool, true, false, List, ◌+◌, ◌<◌, ◌≤◌, not, ◌||◌, if◌then◌else◌, Option, Some, None, Contains}
+use Rattle.std.specs.Prelude.{◌≡◌, ℕ, ◌==◌, Bool, true, false, List, ◌+◌, ◌<◌, ◌≤◌, not, ◌||◌, Contains}
 use Rattle.task_base.specs.Plan.{Plan}
 use Rattle.task_base.specs.declared.entry.Entry.{Entry}
 use Rattle.task_base.specs.declared.entry.Kind.{Kind}
 use Rattle.task_base.specs.declared.entry.Kind.TheVariants.{End, MainEnd, Take, MainTake, JobTake, JobStep}
-use Rattle.task_traits.specs.declared.traits.Priority.{Priority}
 use Rattle.task_model.specs.Posts.{Posted, posts, is_taken, is_ended}
 use Rattle.task_model.specs.Seats.{Running, running, holding}
-use Rattle.task_model.specs.Capacity.{priority_of}
 use Rattle.list_laws.specs.Lists.{holds_of}
 
 -- the kinds that leave a value in the cell of a sequence, and in that of a main queue
@@ -41,10 +39,6 @@ moves_holding kind = false
 
 abbrev pub moves_seats : Kind → Bool
 moves_seats kind = moves_running kind || moves_holding kind
-
--- the priority that a task which runs was taken with, by its runner; a main task is no work of the pool
-abbrev pub priority_of_running : Plan → Running → Option Priority
-priority_of_running script w = if w.is_main then None else Some (priority_of script w.home)
 
 -- the seat is one of the script's
 abbrev pub IsSeat : Plan → ℕ → Type 0

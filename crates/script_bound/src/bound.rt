@@ -78,6 +78,7 @@ fn events_of_action(action: &Action) -> u32
         Action::Post { .. }
         | Action::Main { .. }
         | Action::Policy { .. }
+        | Action::Reprio { .. }
         | Action::Fence { .. }
         | Action::Unfence { .. }
         | Action::Vote { .. }

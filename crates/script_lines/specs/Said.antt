@@ -2,7 +2,7 @@
 -- give. (The lines are this project's own.)
 use Rattle.std.specs.Prelude.{ℕ, not, nat_lt, if◌then◌else◌, List, [], ◌∷◌, drop, codes, Result, Ok, Err}
 use Rattle.task_base.specs.declared.script.Action.{Action}
-use Rattle.task_base.specs.declared.script.Action.TheVariants.{Post, Main, Tick, Policy, Fence, Unfence, Vote, Rank, Close, Pump, Flush, StartJob, Join, Cancel, Shutdown}
+use Rattle.task_base.specs.declared.script.Action.TheVariants.{Post, Main, Tick, Policy, Reprio, Fence, Unfence, Vote, Rank, Close, Pump, Flush, StartJob, Join, Cancel, Shutdown}
 use Rattle.task_base.specs.declared.limits.TheConstants.{MOST_WORKERS}
 use Rattle.script_model.specs.Words.{words_of, is_word, begins_comment, is_all_ascii}
 use Rattle.script_model.specs.Reasons.{◌>>=◌, ◌>>◌, ◌&◌, refuse, not_ascii, unknown_word, out_of_range}
@@ -95,6 +95,12 @@ policy_said words = do
   (policy, _) ← said_at policy_named words 0 & ends_at words 1
   Ok (commands.Act (Policy policy))
 
+-- `reprio R PRIORITY`
+unfoldable pub reprio_said : List (List ℕ) → Result Command ℕ
+reprio_said words = do
+  (runner, (priority, _)) ← id_at words 0 & said_at priority_named words 1 & ends_at words 2
+  Ok (commands.Act (Reprio runner priority))
+
 -- `fence Q now`, `fence Q start`
 unfoldable pub fence_said : List (List ℕ) → Result Command ℕ
 fence_said words = do
@@ -133,12 +139,13 @@ action_command_said name words =
     if is_word name (codes "post") then post_said words
     else (if is_word name (codes "main") then main_said words
     else (if is_word name (codes "policy") then policy_said words
+    else (if is_word name (codes "reprio") then reprio_said words
     else (if is_word name (codes "flush") then bare_said Flush words
     else (if is_word name (codes "startjob") then id_said StartJob words
     else (if is_word name (codes "join") then id_said Join words
     else (if is_word name (codes "cancel") then id_said Cancel words
     else (if is_word name (codes "shutdown") then bare_said Shutdown words
-    else queue_command_said name words)))))))
+    else queue_command_said name words))))))))
 
 -- a line, by its command and the words behind it
 unfoldable pub command_said : List ℕ → List (List ℕ) → Result Command ℕ

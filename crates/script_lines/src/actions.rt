@@ -1,6 +1,6 @@
 ghost use Rattle.std.specs.Prelude.{◌≡◌};
 ghost use Rattle.task_base.specs.declared.script.Action.TheVariants as actions;
-ghost use Rattle.script_lines.specs.Said.{post_said, main_said, number_said, id_said, bare_said, policy_said, fence_said, vote_said, rank_said};
+ghost use Rattle.script_lines.specs.Said.{post_said, main_said, number_said, id_said, bare_said, policy_said, reprio_said, fence_said, vote_said, rank_said};
 
 use crate::command::Command;
 use crate::posting::posting;
@@ -50,6 +50,18 @@ pub(crate) fn policy(mut words: Words<'_>) -> Result<Command, Reason>
     let policy = words.policy();
     let (policy, ()) = both(policy, words.end())?;
     let action = Action::Policy { policy };
+    Ok(Command::Act { action })
+}
+
+/// `reprio R PRIORITY`
+#[tactic(auto, unfolding(crate::specs::Said::reprio_said))]
+pub(crate) fn reprio(mut words: Words<'_>) -> Result<Command, Reason>
+    ensures { result ≡ reprio_said words.entry }
+{
+    let runner = words.id();
+    let priority = words.priority();
+    let (runner, (priority, ())) = both(runner, both(priority, words.end()))?;
+    let action = Action::Reprio { runner, priority };
     Ok(Command::Act { action })
 }
 

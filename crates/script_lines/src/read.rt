@@ -105,6 +105,8 @@ fn action(name: &[u8], words: Words<'_>) -> Result<Command, Reason>
         actions::main_task(words)
     } else if name == b"policy".as_slice() {
         actions::policy(words)
+    } else if name == b"reprio".as_slice() {
+        actions::reprio(words)
     } else if name == b"flush".as_slice() {
         actions::flush(words)
     } else if name == b"startjob".as_slice() {

@@ -2,8 +2,6 @@
 use Rattle.std.specs.Prelude.{ℕ, ◌+◌, Bool, if◌then◌else◌, List, [], ◌∷◌, ◌++◌, drop, map, codes, decimal, flat_map}
 use Rattle.std.specs.List.{join_with_byte}
 use Rattle.task_base.specs.Plan.{Plan, JobPlan}
-use Rattle.task_traits.specs.declared.traits.Priority.{Priority}
-use Rattle.task_traits.specs.declared.traits.Priority.TheVariants.{BestEffort, UserVisible, UserBlocking}
 use Rattle.task_traits.specs.declared.traits.Behaviour.{Behaviour}
 use Rattle.task_traits.specs.declared.traits.Behaviour.TheVariants.{ContinueOnShutdown, SkipOnShutdown, BlockShutdown}
 use Rattle.task_base.specs.declared.step.Step.{Step}
@@ -13,15 +11,9 @@ use Rattle.task_base.specs.declared.script.RunnerKind.{RunnerKind}
 use Rattle.task_base.specs.declared.script.RunnerKind.TheVariants.{Parallel, Sequenced, Single}
 use Rattle.task_base.specs.declared.script.MainQueue.{MainQueue}
 use Rattle.task_base.specs.declared.script.Action.{Action}
-use Rattle.task_base.specs.declared.script.Action.TheVariants.{Post, Main, Tick, Policy, Fence, Unfence, Vote, Rank, Close, Pump, Flush, StartJob, Join, Cancel, Shutdown}
-use Rattle.log_model.specs.LogText.{policy_word, scope_word, fence_word, vote_word}
+use Rattle.task_base.specs.declared.script.Action.TheVariants.{Post, Main, Tick, Policy, Reprio, Fence, Unfence, Vote, Rank, Close, Pump, Flush, StartJob, Join, Cancel, Shutdown}
+use Rattle.log_model.specs.LogText.{priority_word, policy_word, scope_word, fence_word, vote_word}
 use Rattle.script_model.specs.Grammar.{Reads}
-
--- the word of a priority
-abbrev pub priority_word : Priority → List ℕ
-priority_word BestEffort = codes "best_effort"
-priority_word UserVisible = codes "user_visible"
-priority_word UserBlocking = codes "user_blocking"
 
 -- the word of a behaviour at shutdown
 abbrev pub behaviour_word : Behaviour → List ℕ
@@ -77,6 +69,7 @@ action_words (Post task runner delay) = codes "post" ∷ decimal task ∷ decima
 action_words (Main task queue delay) = codes "main" ∷ decimal task ∷ decimal queue ∷ decimal delay ∷ []
 action_words (Tick count) = codes "tick" ∷ decimal count ∷ []
 action_words (Policy policy) = codes "policy" ∷ policy_word policy ∷ []
+action_words (Reprio runner priority) = codes "reprio" ∷ decimal runner ∷ priority_word priority ∷ []
 action_words (Fence queue place) = codes "fence" ∷ decimal queue ∷ fence_word place ∷ []
 action_words (Unfence queue) = codes "unfence" ∷ decimal queue ∷ []
 action_words (Vote queue voter on) = codes "vote" ∷ decimal queue ∷ decimal voter ∷ vote_word on ∷ []

@@ -78,6 +78,10 @@ is_declared d (PostStep task runner delay) = nat_lt task (length d.tasks) && nat
 is_declared d (MainStep task queue delay) = nat_lt task (length d.tasks) && nat_lt queue (length d.queues)
 is_declared d step = true
 
+-- the runner was declared
+abbrev pub has_runner : Draft → ℕ → Bool
+has_runner d runner = nat_lt runner (length d.runners)
+
 -- the queue was declared
 abbrev pub has_queue : Draft → ℕ → Bool
 has_queue d queue = nat_lt queue (length d.queues)

@@ -7,12 +7,12 @@ use Rattle.task_base.specs.Steps.{is_act}
 use Rattle.task_base.specs.declared.step.Step.{Step}
 use Rattle.task_base.specs.declared.step.Step.TheVariants.{Post as PostStep, Main as MainStep}
 use Rattle.task_base.specs.declared.script.Action.{Action}
-use Rattle.task_base.specs.declared.script.Action.TheVariants.{Post, Main, Tick, Policy, Fence, Unfence, Vote, Rank, Close, Pump, Flush, StartJob, Join, Cancel, Shutdown}
+use Rattle.task_base.specs.declared.script.Action.TheVariants.{Post, Main, Tick, Policy, Reprio, Fence, Unfence, Vote, Rank, Close, Pump, Flush, StartJob, Join, Cancel, Shutdown}
 use Rattle.task_base.specs.declared.limits.TheConstants.{MOST_WORKERS, MOST_RUNNERS, MOST_QUEUES, MOST_TASKS, MOST_JOBS, MOST_ITEMS, MOST_STEPS, MOST_TICKS, MOST_EVENTS}
 use Rattle.script_model.specs.Words.{words_of, is_word, begins_comment, is_all_ascii}
 use Rattle.script_model.specs.Reasons.{◌>>=◌, ◌>>◌, ◌&◌, refuse, not_ascii, unknown_word, out_of_range, out_of_order, undeclared, posted_twice, declaration_late, bad_block, job_use, shutdown_twice, config_twice, too_many}
 use Rattle.script_model.specs.Bound.{events_of_task, events_of_job, events_of_action}
-use Rattle.script_model.specs.Draft.{Draft, has_no_actions, is_bare, is_above_workers, is_declared, has_queue, has_voter, has_job, posted_in, is_any_posted, has_bad_scopes, is_bad_post, is_started, has_shutdown, ticks_of, items_in, steps_in, ticks_in, events_in}
+use Rattle.script_model.specs.Draft.{Draft, has_no_actions, is_bare, is_above_workers, is_declared, has_runner, has_queue, has_voter, has_job, posted_in, is_any_posted, has_bad_scopes, is_bad_post, is_started, has_shutdown, ticks_of, items_in, steps_in, ticks_in, events_in}
 use Rattle.script_model.specs.Postings.{posts_of_step}
 use Rattle.script_model.specs.Places.{said_at, ends_at, number_at, id_at, time_at, priority_named, behaviour_named, policy_named, fence_named, vote_named, kind_named, may_block_at, steps_read}
 
@@ -140,6 +140,13 @@ policy_line d words = do
   (policy, _) ← said_at policy_named words 0 & ends_at words 1
   acted d (Policy policy)
 
+-- `reprio R PRIORITY`: from here on the runner has this priority
+unfoldable pub reprio_line : Draft → List (List ℕ) → Result Draft ℕ
+reprio_line d words = do
+  (runner, (priority, _)) ← id_at words 0 & said_at priority_named words 1 & ends_at words 2
+  refuse (not (has_runner d runner)) undeclared
+  acted d (Reprio runner priority)
+
 -- `fence Q now`, `fence Q start`
 unfoldable pub fence_line : Draft → List (List ℕ) → Result Draft ℕ
 fence_line d words = do
@@ -238,12 +245,13 @@ action_command_read d name words =
     if is_word name (codes "post") then post_line d words
     else (if is_word name (codes "main") then main_line d words
     else (if is_word name (codes "policy") then policy_line d words
+    else (if is_word name (codes "reprio") then reprio_line d words
     else (if is_word name (codes "flush") then flush_line d words
     else (if is_word name (codes "startjob") then start_job_line d words
     else (if is_word name (codes "join") then join_line d words
     else (if is_word name (codes "cancel") then cancel_line d words
     else (if is_word name (codes "shutdown") then shutdown_line d words
-    else queue_command_read d name words)))))))
+    else queue_command_read d name words))))))))
 
 -- a line, by its command and the words behind it
 unfoldable pub command_read : Draft → List ℕ → List (List ℕ) → Result Draft ℕ

@@ -9,6 +9,7 @@ is_still (kinds.Post task runner delay ok) = true
 is_still (kinds.Enter task scope) = true
 is_still (kinds.Leave task) = true
 is_still (kinds.Policy policy) = true
+is_still (kinds.Reprio runner priority) = true
 is_still kinds.MainNone = true
 is_still (kinds.JobPost job ok) = true
 is_still (kinds.JobTake job id item) = true

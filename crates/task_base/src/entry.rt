@@ -1,6 +1,7 @@
 use crate::policy::Policy;
 use crate::script::{FenceAt, JobId, QueueId, RunnerId, SeatNo, TaskId};
 use crate::step::Scope;
+use task_traits::Priority;
 
 /// How a job that is joined has ended (Chromium's `post_job.h` has the notion of a join; the replies are this
 /// project's own).
@@ -60,6 +61,11 @@ pub enum Kind {
     /// Another policy is in force.
     Policy {
         policy: Policy,
+    },
+    /// A runner was given another priority.
+    Reprio {
+        runner: RunnerId,
+        priority: Priority,
     },
     /// A fence was set on a main queue, in place of an older one.
     Fence {

@@ -165,6 +165,11 @@ pub enum Action {
     Policy {
         policy: Policy,
     },
+    /// Gives a runner another priority (Chromium's `updateable_sequenced_task_runner.h`).
+    Reprio {
+        runner: RunnerId,
+        priority: Priority,
+    },
     /// Sets a fence on a main queue.
     Fence {
         queue: QueueId,

@@ -23,7 +23,7 @@ use Rattle.task_model.specs.Policies.{policy_of, policy_after}
 use Rattle.task_model.specs.Refusal.{is_closed, closes}
 use Rattle.task_model.specs.Seats.{running, running_after, holding, holding_after, acts_done, acts_after}
 use Rattle.task_model.specs.Cells.{cell_of, cell_after, main_cell_of, main_cell_after}
-use Rattle.task_model.specs.Capacity.{open_scope, scope_after}
+use Rattle.task_model.specs.Capacity.{declared_priority, priority_of, priority_after, taken_with, taken_after, open_scope, scope_after}
 use Rattle.task_model.specs.Jobs.{job_post_of, job_post_after, is_cancelled, cancels, claimed, claims, done, value_by, job_sum}
 use Rattle.task_model.specs.Orders.{draws, drawn_by, main_arrivals, drawing_by}
 use Rattle.task_model.specs.MainQueues.{fence_of, fence_after, votes_on, vote_after, class_of, class_after, streak_of, streak_after}
@@ -126,6 +126,17 @@ cell_of_push script past e s = fold_past-push (λ before value x. cell_after scr
 pub main_cell_of_push : (past : List Entry) (e : Entry) (q : ℕ) → main_cell_of (past ++ e ∷ []) q ≡ main_cell_after q past (main_cell_of past q) e.seat e.kind
 unfolding main_cell_of
 main_cell_of_push past e q = fold_past-push (λ before value x. main_cell_after q before value x.seat x.kind) 0 past e
+
+pub priority_of_push : (script : Plan) (past : List Entry) (e : Entry) (runner : ℕ)
+    → priority_of script (past ++ e ∷ []) runner ≡ priority_after runner (priority_of script past runner) e.kind
+unfolding priority_of
+priority_of_push script past e runner = fold-append (λ now x. priority_after runner now x.kind) (declared_priority script runner) past (e ∷ [])
+
+pub taken_with_push : (script : Plan) (past : List Entry) (e : Entry) (seat : ℕ) → taken_with script (past ++ e ∷ []) seat
+    ≡ cond (eqb e.seat seat) (taken_after script past (taken_with script past seat) e.kind) (taken_with script past seat)
+unfolding taken_with
+taken_with_push script past e seat =
+    fold_past-push (λ before now x. cond (eqb x.seat seat) (taken_after script before now x.kind) now) None past e
 
 pub open_scope_push : (past : List Entry) (e : Entry) (t : ℕ) → open_scope (past ++ e ∷ []) t ≡ scope_after t past (open_scope past t) e.kind
 unfolding open_scope

@@ -4,7 +4,7 @@ use Rattle.std.specs.Option.{option_map_or}
 use Rattle.task_base.specs.Plan.{Plan}
 use Rattle.task_base.specs.declared.entry.Entry.{Entry}
 use Rattle.task_base.specs.declared.entry.Kind.{Kind}
-use Rattle.task_base.specs.declared.entry.Kind.TheVariants.{Take, End, MainTake, MainEnd, Enter, Leave}
+use Rattle.task_base.specs.declared.entry.Kind.TheVariants.{Take, End, MainTake, MainEnd, Enter, Leave, Reprio}
 use Rattle.task_base.specs.declared.step.Scope.{Scope}
 use Rattle.task_traits.specs.declared.traits.Priority.{Priority}
 use Rattle.task_traits.specs.declared.traits.Priority.TheVariants.{BestEffort}
@@ -14,9 +14,19 @@ use Rattle.task_model.specs.Time.{now_of}
 use Rattle.task_model.specs.Seats.{Holding, running, holding, worker_seats}
 use Rattle.task_base.specs.Groups.{Group, Foreground, Background, is_best_effort, group_of, same_group, has_come}
 
--- the priority of a runner's tasks
-abbrev pub priority_of : Plan → ℕ → Priority
-priority_of script runner = option_map_or (λ r. r.traits.priority) (slice_get script.runners runner) BestEffort
+-- the priority that the script declares for a runner
+abbrev pub declared_priority : Plan → ℕ → Priority
+declared_priority script runner = option_map_or (λ r. r.traits.priority) (slice_get script.runners runner) BestEffort
+
+-- the priority of a runner after an entry
+abbrev pub priority_after : ℕ → Priority → Kind → Priority
+priority_after runner now (Reprio changed priority) = if changed == runner then priority else now
+priority_after runner now kind = now
+
+-- the priority of a runner's sequences: the one that it was given last, at first the script's
+-- (`updateable_sequenced_task_runner.h`)
+unfoldable pub priority_of : Plan → List Entry → ℕ → Priority
+priority_of script past runner = fold (λ now e. priority_after runner now e.kind) (declared_priority script runner) past
 
 -- the priority of a job
 abbrev pub priority_of_job : Plan → ℕ → Priority
@@ -32,18 +42,18 @@ abbrev pub best_limit : Plan → Group → ℕ
 best_limit script Foreground = script.foreground_best
 best_limit script Background = script.background
 
--- the priority that the seat's pool task counts with after an entry of its own: the one of its runner as it is taken;
--- a main task is no work of the pool
-abbrev pub taken_after : Plan → Option Priority → Kind → Option Priority
-taken_after script now (Take task runner found) = Some (priority_of script runner)
-taken_after script now (MainTake task queue found) = None
-taken_after script now (End task left) = None
-taken_after script now (MainEnd task left) = None
-taken_after script now kind = now
+-- the priority that the seat's pool task counts with after an entry of its own: the one that its runner has as it is
+-- taken; a main task is no work of the pool
+abbrev pub taken_after : Plan → List Entry → Option Priority → Kind → Option Priority
+taken_after script before now (Take task runner found) = Some (priority_of script before runner)
+taken_after script before now (MainTake task queue found) = None
+taken_after script before now (End task left) = None
+taken_after script before now (MainEnd task left) = None
+taken_after script before now kind = now
 
 -- the priority that the pool task which the seat runs was taken with, if it runs one
 unfoldable pub taken_with : Plan → List Entry → ℕ → Option Priority
-taken_with script past seat = fold (λ now e. if e.seat == seat then taken_after script now e.kind else now) None past
+taken_with script past seat = fold_past (λ before now e. if e.seat == seat then taken_after script before now e.kind else now) None past
 
 -- the priority of the item that a seat holds, if it holds one
 abbrev pub priority_of_holding : Plan → Option Holding → Option Priority

@@ -30,10 +30,10 @@ pub record Candidate : Type 0 where
   pub seat : Option ℕ
 
 -- a sequence with a head, by its head
-abbrev pub sequence_candidate : Plan → ℕ → Ready → Candidate
-sequence_candidate script s head = record {
+abbrev pub sequence_candidate : Plan → List Entry → ℕ → Ready → Candidate
+sequence_candidate script past s head = record {
   source = Sequence s;
-  priority = priority_of script head.posted.home;
+  priority = priority_of script past head.posted.home;
   inside = 0;
   key = head.key;
   seat = seat_of script head.posted.home;
@@ -51,7 +51,7 @@ job_candidate script past j post = record {
 
 -- a sequence waits where it does not run and has a head
 abbrev pub sequence_waiting : Plan → List Entry → ℕ → Option Candidate
-sequence_waiting script past s = if runs_sequence script past s then None else option_map (sequence_candidate script s) (head_of script past s)
+sequence_waiting script past s = if runs_sequence script past s then None else option_map (sequence_candidate script past s) (head_of script past s)
 
 -- a job waits where it may be entered
 abbrev pub job_waiting : Plan → List Entry → ℕ → Option Candidate

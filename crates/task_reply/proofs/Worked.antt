@@ -117,11 +117,11 @@ block_lines_right : AreRight block_lines
 unfolding reply_said reply_of id_of home_named reason_against line_read lines_read postings
 block_lines_right = refl
 
--- reason 5: the script has 6 steps, so 65,530 replies fill it
-full_right : is_full script 65530 ≡ true
+-- reason 5: the script has 6 steps, so 262,138 replies fill it
+full_right : is_full script 262138 ≡ true
 full_right = refl
 
-not_full_right : is_full script 65529 ≡ false
+not_full_right : is_full script 262137 ≡ false
 not_full_right = refl
 
 -- ---- the script that replies make

@@ -1,21 +1,19 @@
 -- The flags of a reader, over one more task, job or action.
-use Rattle.std.proofs.Common.{◌≡◌, ℕ, zero, suc, ◌+◌, ◌<◌, ◌≤◌, ◌≢◌, Bool, true, false, cond, eqb, ltb, List, [], ◌∷◌, ◌++◌, length, map, get_or, flat_map, refl, sym, ap, subst, ◌∙◌, arith, append_assoc, length-append}
-use Rattle.std.specs.Prelude.{◌||◌, ◌&&◌, not, slice_index_or, slice_set}
+use Rattle.std.proofs.Common.{◌≡◌, ℕ, zero, suc, ◌+◌, ◌<◌, ◌≤◌, ◌≢◌, Bool, true, false, eqb, ltb, List, [], ◌∷◌, ◌++◌, length, get_or, flat_map, refl, sym, ap, subst, ◌∙◌, arith, append_assoc, length-append}
+use Rattle.std.specs.Prelude.{◌||◌, ◌&&◌, slice_index_or, slice_set}
 use Rattle.std.specs.List.{list_any, list_all, sum_by}
 use Rattle.std.proofs.lemmas.List.Sums.{sum_by-append}
 use Rattle.std.proofs.lemmas.Bool.{eqb-true, ltb-true}
 use Rattle.list_laws.proofs.Values.{eqb-same}
-use Rattle.std.proofs.lemmas.List.{get_or-set_same, get_or-set_other, length-set, append-nil, map-append}
-use Rattle.std.proofs.lemmas.Grind.{common_steps, flat_map-append}
+use Rattle.std.proofs.lemmas.List.{get_or-set_same, get_or-set_other, length-set, append-nil}
 use Rattle.task_base.specs.Plan.{JobPlan}
 use Rattle.task_base.specs.Steps.{is_act}
 use Rattle.task_base.specs.declared.limits.TheConstants.{MOST_ITEMS, MOST_STEPS, MOST_EVENTS}
 use Rattle.task_base.specs.declared.step.Step.{Step}
 use Rattle.task_base.specs.declared.step.Step.TheVariants.{Add, Mul, Set, Post as PostStep, Main as MainStep, Block, Unblock}
-use Rattle.task_base.specs.declared.script.Action.{Action}
 use Rattle.script_model.specs.Bound.{events_of_job}
 use Rattle.script_model.specs.Draft.{Draft, is_declared, posted_in, is_any_posted}
-use Rattle.script_model.specs.Postings.{posts_of_step, posts_of_action}
+use Rattle.script_model.specs.Postings.{posts_of_step}
 use Rattle.task_script.specs.Marks.{marked, is_any_marked, AreMarks}
 use Rattle.task_script.specs.Reader.{AreFlags, AreTotals}
 use Rattle.task_script.specs.declared.reader.Totals.{Totals}

@@ -1,5 +1,5 @@
 -- The script that is made from a number and a size is sound.
-use Rattle.std.proofs.Common.{◌≡◌, ℕ, zero, suc, ◌+◌, ◌-◌, ◌*◌, ◌^◌, ◌<◌, ◌≤◌, Bool, true, false, cond, eqb, List, [], ◌∷◌, ◌++◌, length, take, get_or, map, flat_map, refl, sym, ap, subst, ◌∙◌, inl, inr, Option, Some, arith, append_assoc, length-append}
+use Rattle.std.proofs.Common.{◌≡◌, ℕ, zero, suc, ◌+◌, ◌-◌, ◌*◌, ◌<◌, ◌≤◌, Bool, true, false, cond, eqb, List, [], ◌∷◌, ◌++◌, length, take, get_or, flat_map, refl, sym, ap, subst, ◌∙◌, inl, inr, Option, Some, arith, append_assoc, length-append}
 use Rattle.std.specs.Prelude.{slice_get, IfSome, sum_by}
 use Rattle.std.specs.List.{range_with_len, AllByRecursion}
 use Rattle.std.proofs.lemmas.Bool.{cases_Bool, eqb-true, eqb-false}
@@ -13,14 +13,13 @@ use Rattle.task_base.specs.declared.step.Step.{Step}
 use Rattle.task_base.specs.declared.step.Step.TheVariants.{Add}
 use Rattle.task_base.specs.declared.script.Action.{Action}
 use Rattle.task_base.specs.declared.script.Action.TheVariants.{Post, Main, Pump, Flush, StartJob, Join}
-use Rattle.list_laws.specs.Lists.{count}
 use Rattle.list_laws.proofs.Elements.{AllByRecursion-always, AllByRecursion-append, AllByRecursion-mapped, slice_get_all}
 use Rattle.list_laws.proofs.Pigeons.{count_one}
 use Rattle.list_laws.proofs.Counts.{count-cons}
 use Rattle.list_laws.proofs.Places.{count_none}
 use Rattle.list_laws.proofs.Tests.{list_any_none}
 use Rattle.script_model.specs.Bound.{events_of_task, events_of_action}
-use Rattle.script_model.specs.Postings.{posts_of_action, postings, times, IsPostedOnce}
+use Rattle.script_model.specs.Postings.{posts_of_action, times, IsPostedOnce}
 use Rattle.script_model.specs.Draft.{opens_scope, is_start_of, is_shutdown, ticks_of}
 use Rattle.script_model.specs.Laws.Sound.{IsSound, IsConfigSound, IsWithinLimits, AreDeclarationsSound, AreActionsSound, IsDoneOnce, IsTaskSound, IsActionSound, IsInOrder}
 use Rattle.script_model.proofs.Laws.Postings.{posts_of_task, posted_parts}

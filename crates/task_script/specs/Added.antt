@@ -9,12 +9,12 @@ use Rattle.task_base.specs.declared.step.Step.TheVariants.{Post as PostStep, Mai
 use Rattle.task_base.specs.declared.script.Runner.{Runner}
 use Rattle.task_base.specs.declared.script.MainQueue.{MainQueue}
 use Rattle.task_base.specs.declared.script.Action.{Action}
-use Rattle.task_base.specs.declared.script.Action.TheVariants.{Post, Main, Tick, Policy, Fence, Unfence, Vote, Rank, Close, Pump, Flush, StartJob, Join, Cancel, Shutdown}
+use Rattle.task_base.specs.declared.script.Action.TheVariants.{Post, Main, Tick, Policy, Reprio, Fence, Unfence, Vote, Rank, Close, Pump, Flush, StartJob, Join, Cancel, Shutdown}
 use Rattle.task_base.specs.declared.limits.TheConstants.{MOST_RUNNERS, MOST_QUEUES, MOST_TASKS, MOST_JOBS, MOST_ITEMS, MOST_STEPS, MOST_EVENTS}
-use Rattle.script_model.specs.Reasons.{◌>>=◌, ◌>>◌, refuse, out_of_order, undeclared, posted_twice, declaration_late, bad_block, job_use, shutdown_twice, config_twice, too_many}
+use Rattle.script_model.specs.Reasons.{◌>>◌, refuse, out_of_order, undeclared, posted_twice, declaration_late, bad_block, job_use, shutdown_twice, config_twice, too_many}
 use Rattle.script_model.specs.Bound.{events_of_task, events_of_job}
 use Rattle.script_model.specs.Postings.{posts_of_step}
-use Rattle.script_model.specs.Draft.{Draft, Groups, has_no_actions, is_bare, is_above_workers, is_declared, has_queue, has_voter, has_job, posted_in, is_any_posted, has_bad_scopes, is_bad_post, is_started, has_shutdown, items_in, steps_in, events_in}
+use Rattle.script_model.specs.Draft.{Draft, Groups, has_no_actions, is_bare, is_above_workers, is_declared, has_runner, has_queue, has_voter, has_job, posted_in, is_any_posted, has_bad_scopes, is_bad_post, is_started, has_shutdown, items_in, steps_in, events_in}
 use Rattle.script_model.specs.Lines.{acted, posted}
 use Rattle.script_lines.specs.declared.command.Command.{Command}
 use Rattle.script_lines.specs.declared.command.Command.TheVariants as commands
@@ -92,6 +92,12 @@ job_added d number job = do
 
 -- ---- actions
 
+-- an action on a runner
+unfoldable pub on_runner : Draft → ℕ → Action → Result Draft ℕ
+on_runner d runner action = do
+  refuse (not (has_runner d runner)) undeclared
+  acted d action
+
 -- an action on a main queue
 unfoldable pub on_queue : Draft → ℕ → Action → Result Draft ℕ
 on_queue d queue action = do
@@ -130,6 +136,7 @@ action_added d (Post task runner delay) = posted d (PostStep task runner delay) 
 action_added d (Main task queue delay) = posted d (MainStep task queue delay) (Main task queue delay)
 action_added d (Tick count) = acted d (Tick count)
 action_added d (Policy policy) = acted d (Policy policy)
+action_added d (Reprio runner priority) = on_runner d runner (Reprio runner priority)
 action_added d (Fence queue place) = on_queue d queue (Fence queue place)
 action_added d (Unfence queue) = on_queue d queue (Unfence queue)
 action_added d (Vote queue voter on) = on_voter d queue voter (Vote queue voter on)

@@ -1,9 +1,9 @@
 ghost use Rattle.std.specs.Prelude.{◌≡◌, ◌≤◌, ◌++◌, ◌∷◌, [], false, true, OnOk};
 ghost use Rattle.script_model.specs.Bound.{events_of_action};
-ghost use Rattle.script_model.specs.Draft.{has_queue, has_voter, has_job, is_started, ticks_of};
+ghost use Rattle.script_model.specs.Draft.{has_runner, has_queue, has_voter, has_job, is_started, ticks_of};
 ghost use Rattle.script_model.specs.Lines.{acted, posted};
 ghost use Rattle.script_model.specs.Postings.{posts_of_step, posts_of_action};
-ghost use Rattle.task_script.specs.Added.{action_added, on_queue, on_voter, on_job, job_start, shutdown_start};
+ghost use Rattle.task_script.specs.Added.{action_added, on_runner, on_queue, on_voter, on_job, job_start, shutdown_start};
 ghost use Rattle.task_script.specs.Plain.{is_plain};
 
 use crate::reader::Reader;
@@ -32,6 +32,7 @@ impl Reader {
             Action::Tick { .. } | Action::Policy { .. } | Action::Pump { .. } | Action::Flush => {
                 self.act_alone(action)
             }
+            Action::Reprio { runner, .. } => self.act_on_runner(runner, action),
             Action::Fence { queue, .. }
             | Action::Unfence { queue }
             | Action::Rank { queue, .. }
@@ -79,6 +80,22 @@ impl Reader {
         ensures { Turns result self.new (acted (draft self.old) action) }
     {
         self.push_action(action)
+    }
+
+    #[tactic(auto, unfolding(crate::specs::Added::on_runner))]
+    fn act_on_runner(&mut self, runner: RunnerId, action: Action) -> Result<(), LineFault>
+        requires tables { Tables self.old }
+        requires plain { is_plain action ≡ true }
+        ensures { Turns result self.new (on_runner (draft self.old) runner action) }
+    {
+        refuse(!self.has_runner(runner), UNDECLARED)?;
+        self.act_alone(action)
+    }
+
+    fn has_runner(&self, runner: RunnerId) -> bool
+        ensures { result ≡ has_runner (draft self.now) runner }
+    {
+        (runner as usize) < self.runners.len()
     }
 
     #[tactic(auto, unfolding(crate::specs::Added::on_queue))]

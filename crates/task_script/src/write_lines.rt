@@ -1,6 +1,6 @@
 ghost use Rattle.std.specs.Prelude.{◌≡◌, ◌+◌, ◌<◌, ◌≤◌, ◌^◌, [], ◌∷◌, ◌++◌, length, decimal, codes};
-ghost use Rattle.log_model.specs.LogText.{policy_word, scope_word, fence_word, vote_word};
-ghost use Rattle.script_model.specs.Canonical.{priority_word, behaviour_word, kind_word, may_block_words, step_words, action_words};
+ghost use Rattle.log_model.specs.LogText.{priority_word, policy_word, scope_word, fence_word, vote_word};
+ghost use Rattle.script_model.specs.Canonical.{behaviour_word, kind_word, may_block_words, step_words, action_words};
 ghost use Rattle.task_script.specs.Written.{with_words, with_line, before_step, step_text, runner_text, queue_text, job_head_text, action_text, config_text};
 
 use line_text::{Line, add, add_decimal, add_number, add_word};
@@ -166,6 +166,9 @@ fn add_action(line: &mut Line, action: &Action)
         }
         Action::Tick { count } => add_one(line, b"tick", u64::from(count)),
         Action::Policy { policy } => add_named(line, b"policy", policy_bytes(policy)),
+        Action::Reprio { runner, priority } => {
+            add_flag(line, b"reprio", runner, priority_bytes(priority))
+        }
         Action::Fence { queue, at } => add_flag(line, b"fence", queue, fence_bytes(at)),
         Action::Unfence { queue } => add_one(line, b"unfence", u64::from(queue)),
         Action::Vote { queue, voter, on } => add_vote(line, queue, voter, on),

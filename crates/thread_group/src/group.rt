@@ -1,4 +1,4 @@
-ghost use Rattle.std.specs.Prelude.{◌≡◌, ◌+◌, ◌≤◌, IsSome, IsSomeAnd, nat_le, nat_lt, replicate};
+ghost use Rattle.std.specs.Prelude.{◌≡◌, ◌+◌, ◌≤◌, IsSome, IsSomeAnd, is_some, nat_le, nat_lt, replicate};
 ghost use Rattle.task_base.specs.declared.limits.TheConstants.{MOST_WORKERS};
 ghost use Rattle.thread_group.specs.Group.{work_at, with_work, with_scope, load, capacity, has_room};
 
@@ -80,6 +80,14 @@ impl Group {
         ensures { result ≡ nat_le (capacity self.now) (load self.now) }
     {
         !is_below(self.counts.running, self.limit, self.counts.blocked)
+    }
+
+    /// Whether a seat does work here.
+    pub fn runs(&self, seat: SeatNo) -> bool
+        requires { seat ≤ MOST_WORKERS }
+        ensures { result ≡ is_some (work_at self.now seat) }
+    {
+        self.seats[seat as usize].is_some()
     }
 
     /// A seat has started on work of a priority.

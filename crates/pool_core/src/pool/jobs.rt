@@ -14,11 +14,11 @@ ghost use Rattle.task_base.specs.declared.limits.TheConstants.{MOST_WORKERS};
 ghost use Rattle.task_traits.specs.Behaviour.{forbids};
 ghost use Rattle.task_tracker.specs.Tracked.{skip_share};
 ghost use Rattle.thread_group.specs.Group.{has_room, work_at};
-ghost use Rattle.pool_core.specs.Groups.{group_in, in_background};
+ghost use Rattle.pool_core.specs.Groups.{group_at, group_in, in_background};
 ghost use Rattle.pool_core.specs.declared.pool_job.Holder.{Holder};
 ghost use Rattle.pool_core.specs.Calls.{TakeAnswers, after_take};
 ghost use Rattle.pool_core.specs.JobCalls.{CanEnter, CanJoin, CanPostJob, CanStep, IsJobChosen, KnowsJob, after_entering, after_job_cancel, after_job_post, after_step, entering, has_to_leave, joined_of};
-ghost use Rattle.pool_core.specs.JobState.{HaveJobPlaces, HasJobPlace, is_at_work, is_better, job_left, job_of, job_refreshed, jobs_refreshed_below, settled, settled_share, with_item_work};
+ghost use Rattle.pool_core.specs.JobState.{HaveJobPlaces, HasJobPlace, is_at_work, is_better, job_left, job_of, job_refreshed, jobs_refreshed_below, settled, settled_share, with_item_ended, with_item_started};
 ghost use Rattle.pool_core.specs.StandsFor.{StandsFor};
 
 use crate::pool::Pool;
@@ -156,16 +156,14 @@ impl Pool {
         requires there { job < length self.old.jobs.items }
         requires seated { seat < length self.old.holders.items }
         requires worker { seat ≤ MOST_WORKERS }
-        requires works { 1 ≤ seat → let background = in_background self.old.runners (job_of self.old job).priority in
-            IsSomeAnd (work_at (group_in self.old.groups background) seat) (λ work. work.scope ≡ None) }
+        requires works { 1 ≤ seat → IsSomeAnd (work_at (group_at self.old.groups seat) seat) (λ work. work.scope ≡ None) }
         requires counted { skip_share (job_of self.old job).behaviour ≤ self.old.tracker.skip_items }
         requires open { settled_share (job_of self.old job) true ≤ self.old.tracker.block_items }
         ensures { self.new ≡ job_left self.old seat job }
     {
-        let held = &self.jobs[job as usize];
-        let (behaviour, priority) = (held.behaviour, held.priority);
+        let behaviour = self.jobs[job as usize].behaviour;
         self.holders[seat as usize] = None;
-        self.item_ended(seat, priority);
+        self.item_ended(seat);
         self.tracker.job_left(behaviour);
         self.settle(job, true);
     }
@@ -174,7 +172,7 @@ impl Pool {
     fn item_started(&mut self, seat: SeatNo, priority: Priority)
         requires worker { seat ≤ MOST_WORKERS }
         requires free { 1 ≤ seat → work_at (group_in self.old.groups (in_background self.old.runners priority)) seat ≡ None }
-        ensures { self.new ≡ record self.old { groups = with_item_work self.old seat priority (Some (record { priority = priority; scope = None })) } }
+        ensures { self.new ≡ record self.old { groups = with_item_started self.old seat priority } }
     {
         if seat > 0 {
             self.groups
@@ -182,13 +180,13 @@ impl Pool {
         }
     }
 
-    fn item_ended(&mut self, seat: SeatNo, priority: Priority)
+    fn item_ended(&mut self, seat: SeatNo)
         requires worker { seat ≤ MOST_WORKERS }
-        requires works { 1 ≤ seat → IsSomeAnd (work_at (group_in self.old.groups (in_background self.old.runners priority)) seat) (λ work. work.scope ≡ None) }
-        ensures { self.new ≡ record self.old { groups = with_item_work self.old seat priority None } }
+        requires works { 1 ≤ seat → IsSomeAnd (work_at (group_at self.old.groups seat) seat) (λ work. work.scope ≡ None) }
+        ensures { self.new ≡ record self.old { groups = with_item_ended self.old seat } }
     {
         if seat > 0 {
-            self.groups.ended(self.runners.background(priority), seat);
+            self.groups.ended(seat);
         }
     }
 
@@ -263,10 +261,8 @@ impl Pool {
         requires { HasJobPlace self.old job }
         ensures { self.new ≡ job_refreshed self.old job }
     {
-        let held = &self.jobs[job as usize];
-        let rank = held.rank(self.tracker.phase());
-        let best_effort = held.priority == Priority::BestEffort;
-        self.lanes.put(0, best_effort, TaskSource::Job(job), rank);
+        let rank = self.jobs[job as usize].rank(self.tracker.phase());
+        self.lanes.put(0, TaskSource::Job(job), rank);
     }
 
     // Gives each job its place among the sources that wait.

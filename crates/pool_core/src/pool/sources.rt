@@ -1,10 +1,12 @@
 ghost use Rattle.std.specs.Prelude.{◌≡◌, ◌<◌, length};
+ghost use Rattle.list_laws.specs.Lists.{keep};
 ghost use Rattle.task_sequence.specs.Sequences.{sequence_at};
 ghost use Rattle.pool_core.specs.Choice.{IsBestOf, IsOffer, IsOffered, better_of, is_open};
-ghost use Rattle.pool_core.specs.Refreshes.{HavePlaces, refreshed_below};
+ghost use Rattle.pool_core.specs.Refreshes.{HavePlaces, is_meant, posted_at, refreshed_below};
 ghost use Rattle.pool_core.specs.State.{HasPlace, refreshed, rank_of_head};
 
 use crate::pool::Pool;
+use crate::posting::Posting;
 use sequence_queue::Rank;
 use task_base::{Behaviour, Priority, RunnerId, SeatNo, SeqId, TaskId, TaskSource};
 
@@ -47,33 +49,36 @@ impl Pool {
             && self.groups.has_room(background, priority)
     }
 
-    // Gives a sequence its place among the sources that wait, by its list and its cell.
+    // Gives a sequence its place among the sources that wait, by its list, its cell and its runner's present priority.
     pub(super) fn refresh(&mut self, seq: SeqId, runner: RunnerId)
         requires { HasPlace self.old seq runner }
         ensures { self.new ≡ refreshed self.old seq runner }
     {
-        let priority = self.runners.traits_of(runner).priority;
         let lane = self.runners.seat_of(runner).unwrap_or(0);
-        let rank = self.rank(seq, priority);
-        self.lanes.put(
-            lane,
-            priority == Priority::BestEffort,
-            TaskSource::Sequence(seq),
-            rank,
-        );
+        let rank = self.rank(seq, self.priorities[runner as usize]);
+        self.lanes.put(lane, TaskSource::Sequence(seq), rank);
     }
 
-    // Gives the sequence of each task that was posted its place among the sources that wait.
-    pub(super) fn refresh_all(&mut self)
+    // Gives the sequence of each task that was posted its place among the sources that wait; where a runner is named,
+    // those of its tasks alone.
+    pub(super) fn refresh_all(&mut self, only: Option<RunnerId>)
         requires { HavePlaces self.old }
-        ensures { self.new ≡ refreshed_below self.old (length self.old.postings.items) }
+        ensures { self.new ≡ refreshed_below self.old only (length self.old.postings.items) }
     {
         for task in 0..self.postings.len() {
-            if let Some(posting) = self.postings[task] {
+            if let Some(posting) = self.posted(task, only) {
                 let seq = self.runners.seq_of(posting.runner, task as TaskId);
                 self.refresh(seq, posting.runner);
             }
         }
+    }
+
+    // How a task was posted, if it was, and if it was to the runner that is named where one is.
+    fn posted(&self, task: usize, only: Option<RunnerId>) -> Option<Posting>
+        requires { task < length self.now.postings.items }
+        ensures { result ≡ posted_at only self.now.postings.items task }
+    {
+        self.postings[task].filter(|posting| only.unwrap_or(posting.runner) == posting.runner)
     }
 
     // The rank of a sequence, where it doesn't run and has a head.

@@ -39,12 +39,12 @@ use Rattle.pool_laws.proofs.Choice.Held.{held_same}
 
 -- a sequence that waits does not run, and has a head, by which it waits
 pub waiting_sequence : (script : Plan) (past : List Entry) (s : ℕ) (c : Candidate) → sequence_waiting script past s ≡ Some c
-    → (r : Ready) × (runs_sequence script past s ≡ false) × (head_of script past s ≡ Some r) × (sequence_candidate script s r ≡ c)
+    → (r : Ready) × (runs_sequence script past s ≡ false) × (head_of script past s ≡ Some r) × (sequence_candidate script past s r ≡ c)
 waiting_sequence script past s c is = by (runs_sequence script past s) (head_of script past s) refl refl is
   where
     by : (b : Bool) (o : Option Ready) → runs_sequence script past s ≡ b → head_of script past s ≡ o
-        → cond b None (option_map (sequence_candidate script s) o) ≡ Some c
-        → (r : Ready) × (runs_sequence script past s ≡ false) × (head_of script past s ≡ Some r) × (sequence_candidate script s r ≡ c)
+        → cond b None (option_map (sequence_candidate script past s) o) ≡ Some c
+        → (r : Ready) × (runs_sequence script past s ≡ false) × (head_of script past s ≡ Some r) × (sequence_candidate script past s r ≡ c)
     by true o runs head none = absurd (none-some c none)
     by false None runs head none = absurd (none-some c none)
     by false (Some r) runs head some = (r, runs, head, some-injective some)
@@ -204,6 +204,7 @@ source_waits (kinds.Post task runner delay ok) h = rw h refl
 source_waits (kinds.Tick now) h = h
 source_waits (kinds.Take task runner found) h = h
 source_waits (kinds.End task left) h = h
+source_waits (kinds.Reprio runner priority) h = h
 source_waits (kinds.MainTake task queue found) h = h
 source_waits (kinds.MainEnd task left) h = h
 source_waits (kinds.JobPost job ok) h = h

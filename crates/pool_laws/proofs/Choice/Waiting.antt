@@ -1,6 +1,7 @@
--- When a sequence waits as before: where it runs or not as before, and keeps its head. So it is at each entry that touches no
--- sequence, and at the driver's main tasks.
-use Rattle.std.proofs.Common.{◌≡◌, ℕ, Bool, true, false, cond, List, [], ◌∷◌, ◌++◌, refl, sym, Option, None}
+-- When a sequence waits as before: where it runs or not as before, and keeps its head and its priority. So it is at each entry
+-- that touches no sequence and no priority, and at the driver's main tasks.
+use Rattle.std.proofs.Common.{◌≡◌, ℕ, Bool, true, false, cond, List, [], ◌∷◌, ◌++◌, refl, sym, ◌∙◌, Option, Some, None}
+use Rattle.std.specs.Prelude.{◌||◌}
 use Rattle.std.specs.Option.{option_map}
 use Rattle.std.proofs.lemmas.Bool.{true≢false, or_parts}
 use Rattle.task_base.specs.Plan.{Plan}
@@ -10,36 +11,56 @@ use Rattle.task_base.specs.declared.entry.Kind.TheVariants as kinds
 use Rattle.task_model.specs.Keys.{Ready}
 use Rattle.task_model.specs.Sequences.{head_of}
 use Rattle.task_model.specs.Seats.{runs_sequence}
+use Rattle.task_model.specs.Capacity.{priority_of, priority_after}
 use Rattle.task_model.specs.Sources.{sequence_candidate, sequence_waiting}
 use Rattle.pool_laws.specs.Keys.{moves_sequences}
 use Rattle.pool_laws.specs.Seats.{moves_main, moves_running, runs_pool_task}
-use Rattle.pool_laws.specs.Choice.{moves_sequence_waiting}
+use Rattle.pool_laws.specs.Choice.{moves_priorities, moves_sequence_waiting}
+use Rattle.task_model.proofs.Growth.{priority_of_push}
 use Rattle.pool_laws.proofs.Keys.Sequences.{head_same}
 use Rattle.pool_laws.proofs.Seats.Running.{runs_same, runs_at_main}
 
--- a sequence by whether it runs, and its head
-waits_by : (script : Plan) (later : List Entry) (s : ℕ) (b : Bool) (o : Option Ready) → runs_sequence script later s ≡ b → head_of script later s ≡ o
-    → sequence_waiting script later s ≡ cond b None (option_map (sequence_candidate script s) o)
-waits_by script later s b o runs head = rw (runs, head) refl
+-- the priorities of the runners are the same in a later past
+abbrev PrioritiesKept : Plan → List Entry → List Entry → Type 0
+PrioritiesKept script past later = (runner : ℕ) → priority_of script later runner ≡ priority_of script past runner
 
--- a sequence that runs or not as before, and keeps its head, waits as before
+pub priority_same : (script : Plan) (past : List Entry) (e : Entry) → moves_priorities e.kind ≡ false → PrioritiesKept script past (past ++ e ∷ [])
+priority_same script past e quiet runner = priority_of_push script past e runner ∙ still e.kind quiet
+  where
+    still : (kind : Kind) → moves_priorities kind ≡ false → priority_after runner (priority_of script past runner) kind ≡ priority_of script past runner
+    still (kinds.Reprio changed priority) h = absurd (true≢false h)
+    still kind h = refl
+
+-- a sequence by whether it runs, and its head
+waits_by : (script : Plan) (past later : List Entry) (s : ℕ) (b : Bool) (o : Option Ready) → runs_sequence script later s ≡ b → head_of script later s ≡ o
+    → PrioritiesKept script past later
+    → sequence_waiting script later s ≡ cond b None (option_map (sequence_candidate script past s) o)
+waits_by script past later s b None runs head priorities = rw (runs, head) refl
+waits_by script past later s b (Some r) runs head priorities = rw (runs, head, priorities r.posted.home) refl
+
+-- a sequence that runs or not as before, and keeps its head, waits as before where the priorities are kept
 pub sequence_waiting_kept : (script : Plan) (past later : List Entry) (s : ℕ) → runs_sequence script later s ≡ runs_sequence script past s
     → head_of script later s ≡ head_of script past s
+    → PrioritiesKept script past later
     → sequence_waiting script later s ≡ sequence_waiting script past s
-sequence_waiting_kept script past later s runs head = waits_by script later s (runs_sequence script past s) (head_of script past s) runs head
+sequence_waiting_kept script past later s runs head priorities =
+    waits_by script past later s (runs_sequence script past s) (head_of script past s) runs head priorities
 
 pub sequence_waiting_same : (script : Plan) (past : List Entry) (e : Entry) (s : ℕ) → moves_sequence_waiting e.kind ≡ false
     → sequence_waiting script (past ++ e ∷ []) s ≡ sequence_waiting script past s
 sequence_waiting_same script past e s quiet =
-    let parts : (moves_sequences e.kind ≡ false) × (moves_running e.kind ≡ false) = or_parts (moves_sequences e.kind) (moves_running e.kind) quiet in
-    sequence_waiting_kept script past (past ++ e ∷ []) s (runs_same script past e s parts.1) (head_same script past e s parts.0)
+    let parts : (moves_sequences e.kind ≡ false) × ((moves_running e.kind || moves_priorities e.kind) ≡ false) =
+    or_parts (moves_sequences e.kind) (moves_running e.kind || moves_priorities e.kind) quiet in
+    let still : (moves_running e.kind ≡ false) × (moves_priorities e.kind ≡ false) = or_parts (moves_running e.kind) (moves_priorities e.kind) parts.1 in
+    sequence_waiting_kept script past (past ++ e ∷ []) s (runs_same script past e s still.0) (head_same script past e s parts.0)
+    (priority_same script past e still.1)
 
 pub sequence_waiting_at_main : (script : Plan) (past : List Entry) (e : Entry) (s : ℕ) → moves_main e.kind ≡ true → runs_pool_task past e.seat ≡ false
     → sequence_waiting script (past ++ e ∷ []) s ≡ sequence_waiting script past s
 sequence_waiting_at_main script past e s main none = sequence_waiting_kept script past (past ++ e ∷ []) s (runs_at_main script past e s main none)
-    (head_same script past e s (still e.kind main))
+    (head_same script past e s (still e.kind main).0) (priority_same script past e (still e.kind main).1)
   where
-    still : (kind : Kind) → moves_main kind ≡ true → moves_sequences kind ≡ false
-    still (kinds.MainTake task queue found) h = refl
-    still (kinds.MainEnd task left) h = refl
+    still : (kind : Kind) → moves_main kind ≡ true → (moves_sequences kind ≡ false) × (moves_priorities kind ≡ false)
+    still (kinds.MainTake task queue found) h = (refl, refl)
+    still (kinds.MainEnd task left) h = (refl, refl)
     still kind h = absurd (true≢false (sym h))

@@ -1,7 +1,7 @@
 -- What one more entry does to the seats: what they run and hold, the sequences that run, and the seats inside a job.
 --
 -- An entry of one seat leaves what the others run and hold, and a kind that takes or ends nothing leaves what all of
--- them do. A task counts with the priority that it was taken with, which is that of its runner.
+-- them do. A task counts with the priority that it was taken with.
 --
 -- After the take of a task its sequence runs; after an end, a sequence that no other seat runs does not; main tasks are
 -- of no sequence. No other kind changes which sequences run.
@@ -11,20 +11,23 @@
 --
 -- All is quiet exactly where each seat is free, and a sequence runs exactly where a seat runs a task of it.
 use Rattle.std.proofs.Common.{◌≡◌, ℕ, ◌+◌, Bool, true, false, cond, eqb, List, [], ◌∷◌, ◌++◌, length, refl, sym, ◌∙◌, Option, Some, None, arith}
-use Rattle.std.specs.Prelude.{not, ◌||◌, option_and_then, fold, ◌==◌}
+use Rattle.std.specs.Prelude.{not, ◌||◌, is_some, ◌==◌}
 use Rattle.std.proofs.lemmas.Bool.{true≢false, eqb-true, or_parts}
 use Rattle.std.proofs.Math.Bool.{and-true}
 use Rattle.task_base.specs.Plan.{Plan}
 use Rattle.task_base.specs.declared.entry.Entry.{Entry}
 use Rattle.task_base.specs.declared.entry.Kind.{Kind}
+use Rattle.task_traits.specs.declared.traits.Priority.{Priority}
 use Rattle.task_base.specs.declared.entry.Kind.TheVariants.{Take, End, MainTake, MainEnd, JobTake, JobStep}
 use Rattle.list_laws.specs.Lists.{count, holds_of}
 use Rattle.task_base.specs.Runners.{sequence_of}
+use Rattle.task_model.specs.Past.{fold_past}
 use Rattle.task_model.specs.Seats.{Running, Holding, running, running_after, holding, holding_after, acts_done, is_free, is_quiet, runs_of, runs_sequence, inside, all_seats}
 use Rattle.task_model.specs.Capacity.{taken_after, taken_with}
-use Rattle.pool_laws.specs.Seats.{priority_of_running, moves_main, moves_running, moves_holding, IsSeat, moves_seats, runs_pool_task, holds_job}
-use Rattle.task_model.proofs.Growth.{running_push, holding_push, acts_done_push}
+use Rattle.pool_laws.specs.Seats.{moves_main, moves_running, moves_holding, IsSeat, moves_seats, runs_pool_task, holds_job}
+use Rattle.task_model.proofs.Growth.{running_push, holding_push, acts_done_push, taken_with_push}
 use Rattle.list_laws.proofs.Values.{eqb-same}
+use Rattle.list_laws.proofs.Elements.{push_induction}
 use Rattle.list_laws.proofs.Filters.{filter_congr}
 use Rattle.list_laws.proofs.Tests.{list_any_congr, list_all_congr, list_any_none, any_change, list_all-from_recursion}
 use Rattle.list_laws.proofs.Counts.{count_change, any_from_count}
@@ -52,31 +55,46 @@ holding_other past e seat other = rw (holding_push past e seat, other) refl
 pub acts_other : (past : List Entry) (e : Entry) (seat : ℕ) → (e.seat == seat) ≡ false → acts_done (past ++ e ∷ []) seat ≡ acts_done past seat
 acts_other past e seat other = rw (acts_done_push past e seat, other) refl
 
--- it is the priority of the task's runner
-pub taken_with_is : (script : Plan) (past : List Entry) (seat : ℕ)
-    → taken_with script past seat ≡ option_and_then (priority_of_running script) (running past seat)
-unfolding taken_with running
-taken_with_is script past seat = from None past
+nothing_taken : (script : Plan) (seat : ℕ) → is_some (taken_with script [] seat) ≡ runs_pool_task [] seat
+unfolding taken_with running fold_past
+nothing_taken script seat = refl
+
+-- a task of the pool that a seat runs counts with a priority, and nothing else of a seat does
+pub taken_where_runs : (script : Plan) (past : List Entry) (seat : ℕ) → is_some (taken_with script past seat) ≡ runs_pool_task past seat
+taken_where_runs script past seat = push_induction (λ before. is_some (taken_with script before seat) ≡ runs_pool_task before seat)
+    (nothing_taken script seat)
+    (λ before e same. rw (taken_with_push script before e seat, running_push before e seat)
+    (step before (eqb e.seat seat) (taken_with script before seat) (running before seat) e.kind same)) past
   where
-    after : (now : Option Running) (kind : Kind)
-        → taken_after script (option_and_then (priority_of_running script) now) kind ≡ option_and_then (priority_of_running script) (running_after now kind)
-    after now (Take task runner found) = refl
-    after now (End task left) = refl
-    after now (MainTake task queue found) = refl
-    after now (MainEnd task left) = refl
-    after now kind = refl
+    step : (before : List Entry) (b : Bool) (now : Option Priority) (run : Option Running) (kind : Kind) → is_some now ≡ holds_of (λ w. not w.is_main) run
+        → is_some (cond b (taken_after script before now kind) now) ≡ holds_of (λ w. not w.is_main) (cond b (running_after run kind) run)
+    step before false now run kind same = same
+    step before true now run (Take task runner found) same = refl
+    step before true now run (End task left) same = refl
+    step before true now run (MainTake task queue found) same = refl
+    step before true now run (MainEnd task left) same = refl
+    step before true now run kind same = same
 
-    step : (now : Option Running) (b : Bool) (kind : Kind)
-        → cond b (taken_after script (option_and_then (priority_of_running script) now) kind) (option_and_then (priority_of_running script) now)
-        ≡ option_and_then (priority_of_running script) (cond b (running_after now kind) now)
-    step now true kind = after now kind
-    step now false kind = refl
+-- that priority is the one of the take, whatever comes until the end
+pub taken_here : (script : Plan) (past : List Entry) (e : Entry) (seat : ℕ) → eqb e.seat seat ≡ true
+    → taken_with script (past ++ e ∷ []) seat ≡ taken_after script past (taken_with script past e.seat) e.kind
+taken_here script past e seat is = rw (taken_with_push script past e seat, is, ← eqb-true e.seat seat is) refl
 
-    from : (now : Option Running) (rest : List Entry)
-        → fold (λ before x. cond (eqb x.seat seat) (taken_after script before x.kind) before) (option_and_then (priority_of_running script) now) rest
-        ≡ option_and_then (priority_of_running script) (fold (λ before x. cond (eqb x.seat seat) (running_after before x.kind) before) now rest)
-    from now [] = refl
-    from now (x ∷ rest) = rw (step now (eqb x.seat seat) x.kind) (from (cond (eqb x.seat seat) (running_after now x.kind) now) rest)
+pub taken_other : (script : Plan) (past : List Entry) (e : Entry) (seat : ℕ) → (e.seat == seat) ≡ false
+    → taken_with script (past ++ e ∷ []) seat ≡ taken_with script past seat
+taken_other script past e seat other = rw (taken_with_push script past e seat, other) refl
+
+pub taken_same : (script : Plan) (past : List Entry) (e : Entry) (seat : ℕ) → moves_running e.kind ≡ false
+    → taken_with script (past ++ e ∷ []) seat ≡ taken_with script past seat
+taken_same script past e seat quiet =
+    rw (taken_with_push script past e seat, still (taken_with script past seat) e.kind quiet) (both (eqb e.seat seat) (taken_with script past seat))
+  where
+    still : (now : Option Priority) (kind : Kind) → moves_running kind ≡ false → taken_after script past now kind ≡ now
+    still now (Take task runner found) h = absurd (true≢false h)
+    still now (End task left) h = absurd (true≢false h)
+    still now (MainTake task queue found) h = absurd (true≢false h)
+    still now (MainEnd task left) h = absurd (true≢false h)
+    still now kind h = refl
 
 pub running_same : (past : List Entry) (e : Entry) (seat : ℕ) → moves_running e.kind ≡ false → running (past ++ e ∷ []) seat ≡ running past seat
 running_same past e seat quiet = rw (running_push past e seat, still (running past seat) e.kind quiet) (both (eqb e.seat seat) (running past seat))

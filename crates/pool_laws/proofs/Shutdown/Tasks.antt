@@ -2,8 +2,8 @@
 -- post on, and a skip task from its start on, each until its end; a post leaves the skip tasks that run, a take leaves the
 -- open block tasks, and each other kind leaves both. The premises hold in each legal past: a task has one accepted post, is
 -- taken after it, and ends after that.
-use Rattle.std.proofs.Common.{◌≡◌, ℕ, ◌+◌, Bool, true, false, cond, eqb, List, [], ◌∷◌, ◌++◌, refl, sym, ap, ◌∙◌, Some, arith}
-use Rattle.std.specs.Prelude.{◌&&◌, find, filter}
+use Rattle.std.proofs.Common.{◌≡◌, ℕ, ◌+◌, ◌≤◌, Bool, true, false, cond, eqb, List, [], ◌∷◌, ◌++◌, length, refl, sym, ap, ◌∙◌, Some, arith}
+use Rattle.std.specs.Prelude.{◌&&◌, not, find, filter}
 use Rattle.std.proofs.Math.Bool.{or-false, and-true, and-false}
 use Rattle.std.proofs.Math.Nat.{add-zero}
 use Rattle.std.proofs.lemmas.Bool.{true≢false, eqb-true, ne_eqb, or_right}
@@ -13,6 +13,8 @@ use Rattle.task_base.specs.Plan.{Plan}
 use Rattle.task_base.specs.declared.entry.Entry.{Entry}
 use Rattle.task_base.specs.declared.entry.Kind.{Kind}
 use Rattle.task_base.specs.declared.entry.Kind.TheVariants.{Post, Take, End}
+use Rattle.task_traits.specs.declared.traits.Behaviour.{Behaviour}
+use Rattle.task_traits.specs.declared.traits.Behaviour.TheVariants.{ContinueOnShutdown, SkipOnShutdown, BlockShutdown}
 use Rattle.list_laws.specs.Lists.{count}
 use Rattle.task_model.specs.Posts.{Posted, Before, InOrder, post_behind, posted_by, posts, is_taken, takes, is_ended, ends, post_of}
 use Rattle.task_model.specs.Refusal.{effective_at}
@@ -20,7 +22,7 @@ use Rattle.task_model.specs.Blockers.{open_blocks, running_skips, is_block, is_s
 use Rattle.pool_laws.specs.Room.{share}
 use Rattle.pool_laws.specs.Shutdown.{moves_open_blocks, moves_running_skips, is_block_task, is_skip_task}
 use Rattle.task_model.proofs.Growth.{posts_push, is_taken_push, is_ended_push}
-use Rattle.list_laws.proofs.Counts.{filter_length_congr, count-cons}
+use Rattle.list_laws.proofs.Counts.{count_apart, filter_length_congr, count-cons}
 use Rattle.list_laws.proofs.Elements.{AllByRecursion-map}
 use Rattle.list_laws.proofs.Filters.{filter_congr_in}
 use Rattle.list_laws.proofs.Places.{count-push}
@@ -240,3 +242,13 @@ running_skips_at_end script past e p task left is order posted taken unended =
 
     counted : is_running_skip script past p ≡ is_skip_task script p
     counted = rw (found_task task (posts past) p posted, taken, unended, and-true (is_skip_task script p)) (and-true (is_skip_task script p))
+
+-- no task is both an open block task and a skip task that runs, so together they are no more than the accepted ones
+pub blocks_and_skips : (script : Plan) (past : List Entry) → open_blocks script past + running_skips script past ≤ length (posts past)
+blocks_and_skips script past = count_apart (is_open_block script past) (is_running_skip script past) (posts past)
+    (λ p. apart (effective_at script p.home p.delay) (is_taken past p.task) (is_ended past p.task))
+  where
+    apart : (behaviour : Behaviour) (taken ended : Bool) → (is_skip behaviour && taken && not ended) ≡ true → (is_block behaviour && not ended) ≡ false
+    apart ContinueOnShutdown taken ended h = refl
+    apart SkipOnShutdown taken ended h = refl
+    apart BlockShutdown taken ended h = absurd cc

@@ -24,7 +24,8 @@ use Rattle.script_model.specs.Draft.{Draft, empty_draft, script_of, is_above_wor
 use Rattle.task_base.specs.declared.limits.TheConstants.{MOST_WORKERS, MOST_RUNNERS, MOST_QUEUES, MOST_TASKS, MOST_JOBS, MOST_ITEMS, MOST_STEPS, MOST_EVENTS}
 use Rattle.script_model.specs.Lines.{workers_line, groups_line, threshold_line, runner_line, queue_line, task_line, job_line, command_read, words_read, line_read}
 use Rattle.script_model.specs.Grammar.{lines_read, script_read}
-use Rattle.script_model.specs.Canonical.{priority_word, behaviour_word, kind_word, may_block_words, runner_words, queue_words, task_words, job_words, config_lines, numbered}
+use Rattle.log_model.specs.LogText.{priority_word}
+use Rattle.script_model.specs.Canonical.{behaviour_word, kind_word, may_block_words, runner_words, queue_words, task_words, job_words, config_lines, numbered}
 use Rattle.script_model.specs.Laws.Sound.{IsSound, IsConfigSound, IsSeatThere, IsQueueWithin, IsStepWithin, IsStepSound, IsTaskSound, IsJobSound}
 use Rattle.list_laws.proofs.Values.{eqb-same}
 use Rattle.list_laws.proofs.Elements.{AllByRecursion-back}

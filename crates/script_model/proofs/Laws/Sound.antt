@@ -11,17 +11,17 @@ use Rattle.task_base.specs.declared.step.Step.{Step}
 use Rattle.task_base.specs.declared.step.Step.TheVariants.{Post as PostStep, Main as MainStep}
 use Rattle.task_base.specs.declared.script.MainQueue.{MainQueue}
 use Rattle.task_base.specs.declared.script.Action.{Action}
-use Rattle.task_base.specs.declared.script.Action.TheVariants.{Post, Main, Tick, Policy, Fence, Unfence, Vote, Rank, Close, Pump, Flush, StartJob, Join, Cancel, Shutdown}
+use Rattle.task_base.specs.declared.script.Action.TheVariants.{Post, Main, Tick, Policy, Reprio, Fence, Unfence, Vote, Rank, Close, Pump, Flush, StartJob, Join, Cancel, Shutdown}
 use Rattle.list_laws.specs.Lists.{count}
 use Rattle.script_model.specs.Words.{words_of, is_word, begins_comment, is_all_ascii, lines_of}
 use Rattle.script_model.specs.Reasons.{◌>>=◌, ◌>>◌, ◌&◌, refuse, not_ascii, unknown_word, undeclared, posted_twice, bad_block, job_use, shutdown_twice, too_many, word_count}
-use Rattle.script_model.specs.Places.{said_at, ends_at, number_at, id_at, time_at, policy_named, fence_named, vote_named}
+use Rattle.script_model.specs.Places.{said_at, ends_at, number_at, id_at, time_at, priority_named, policy_named, fence_named, vote_named}
 use Rattle.script_model.specs.Bound.{events_of_action}
 use Rattle.script_model.specs.Postings.{posts_of_step, posts_of_action, postings}
 use Rattle.std.proofs.lemmas.Option.{slice_get_within}
-use Rattle.script_model.specs.Draft.{Draft, empty_draft, script_of, is_declared, has_queue, has_voter, has_job, posted_in, is_any_posted, is_bad_post, is_start_of, is_started, is_shutdown, has_shutdown, ticks_of, ticks_in, events_in}
+use Rattle.script_model.specs.Draft.{Draft, empty_draft, script_of, is_declared, has_runner, has_queue, has_voter, has_job, posted_in, is_any_posted, is_bad_post, is_start_of, is_started, is_shutdown, has_shutdown, ticks_of, ticks_in, events_in}
 use Rattle.task_base.specs.declared.limits.TheConstants.{MOST_TICKS, MOST_EVENTS, MOST_MICROSECONDS}
-use Rattle.script_model.specs.Lines.{workers_line, groups_line, threshold_line, runner_line, queue_line, task_line, job_line, post_line, main_line, tick_line, policy_line, fence_line, unfence_line, vote_line, rank_line, close_line, pump_line, flush_line, start_job_line, join_line, cancel_line, shutdown_line, queue_command_read, action_command_read, command_read, words_read, line_read}
+use Rattle.script_model.specs.Lines.{workers_line, groups_line, threshold_line, runner_line, queue_line, task_line, job_line, post_line, main_line, tick_line, policy_line, reprio_line, fence_line, unfence_line, vote_line, rank_line, close_line, pump_line, flush_line, start_job_line, join_line, cancel_line, shutdown_line, queue_command_read, action_command_read, command_read, words_read, line_read}
 use Rattle.script_model.specs.Grammar.{lines_read, script_read, Reads}
 use Rattle.script_model.specs.Laws.Sound.{IsSound, IsActionSound, IsInOrder}
 use Rattle.script_model.proofs.Laws.Faults.{ok_same, first_ok}
@@ -58,6 +58,7 @@ action_stays d actions (Main task queue delay) h = (
 )
 action_stays d actions (Tick count) h = h
 action_stays d actions (Policy policy) h = h
+action_stays d actions (Reprio runner priority) h = h
 action_stays d actions (Fence queue place) h = h
 action_stays d actions (Unfence queue) h = h
 action_stays d actions (Vote queue voter on) h = h
@@ -174,6 +175,13 @@ keeps_policy : (d d' : Draft) (words : List (List ℕ)) → Keeps d → policy_l
 unfolding policy_line
 keeps_policy d d' words sound e = keeps_acted d d' (said_at policy_named words 0 & ends_at words 1) (λ p. []) (λ p. Policy p.0) sound e
     (λ p is passed. (tt, tt, refl))
+
+-- `reprio R PRIORITY`
+keeps_reprio : (d d' : Draft) (words : List (List ℕ)) → Keeps d → reprio_line d words ≡ Ok d' → Keeps d'
+unfolding reprio_line
+keeps_reprio d d' words sound e = keeps_acted d d' (id_at words 0 & said_at priority_named words 1 & ends_at words 2)
+    (λ p. (not (has_runner d p.0), undeclared) ∷ []) (λ p. Reprio p.0 p.1.0) sound e
+    (λ p is passed. (ltb-true p.0 (length d.runners) (not-false (has_runner d p.0) passed.0), tt, refl))
 
 -- the test that a queue is declared, and what it shows where it is passed
 abbrev queue_test : Draft → ℕ → List (Bool × ℕ)
@@ -293,12 +301,13 @@ keeps_action_command d d' name words sound e =
     either_way Keeps (is_word name (codes "post")) (post_line d words) _ (λ x. keeps_post d x words sound)
     (either_way Keeps (is_word name (codes "main")) (main_line d words) _ (λ x. keeps_main d x words sound)
     (either_way Keeps (is_word name (codes "policy")) (policy_line d words) _ (λ x. keeps_policy d x words sound)
+    (either_way Keeps (is_word name (codes "reprio")) (reprio_line d words) _ (λ x. keeps_reprio d x words sound)
     (either_way Keeps (is_word name (codes "flush")) (flush_line d words) _ (λ x. keeps_flush d x words sound)
     (either_way Keeps (is_word name (codes "startjob")) (start_job_line d words) _ (λ x. keeps_start_job d x words sound)
     (either_way Keeps (is_word name (codes "join")) (join_line d words) _ (λ x. keeps_join d x words sound)
     (either_way Keeps (is_word name (codes "cancel")) (cancel_line d words) _ (λ x. keeps_cancel d x words sound)
     (either_way Keeps (is_word name (codes "shutdown")) (shutdown_line d words) _ (λ x. keeps_shutdown d x words sound)
-    (λ x. keeps_queue_command d x name words sound)))))))) d' e
+    (λ x. keeps_queue_command d x name words sound))))))))) d' e
 
 keeps_command : (d d' : Draft) (name : List ℕ) (words : List (List ℕ)) → Keeps d → command_read d name words ≡ Ok d' → Keeps d'
 unfolding command_read

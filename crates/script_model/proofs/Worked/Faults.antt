@@ -32,6 +32,7 @@ unknown_word_scripts =
     ∷ bad (codes "runner 0 parallel user_visible skip block mayblock") 1 unknown_word  -- sixth word before seventh
     ∷ bad (codes "job 0 user_visible stop") 1 unknown_word  -- behaviour of job
     ∷ bad (codes "policy some") 1 unknown_word  -- policy
+    ∷ bad (codes "reprio 0 loud") 1 unknown_word  -- priority of runner
     ∷ bad (codes "fence 0 later") 1 unknown_word  -- fence
     ∷ bad (codes "vote 0 0 maybe") 1 unknown_word  -- vote
     ∷ bad (codes "task 0 block must ; unblock") 1 unknown_word  -- scope
@@ -54,6 +55,8 @@ word_count_scripts =
     ∷ bad (codes "job 0 user_visible skip 1") 1 word_count  -- job without cap
     ∷ bad (codes "post 0 0") 1 word_count  -- post without delay
     ∷ bad (codes "vote 0 0") 1 word_count  -- vote without choice
+    ∷ bad (codes "reprio 0") 1 word_count  -- change without priority
+    ∷ bad (codes "reprio 0 user_visible 1") 1 word_count  -- word behind priority
     ∷ bad (codes "task 0 add") 1 word_count  -- step without number
     ∷ bad (codes "task 0 add 1 2") 1 word_count  -- step with two numbers
     ∷ bad (codes "task 0 block") 1 word_count  -- step without scope
@@ -73,6 +76,7 @@ abbrev bad_number_scripts : List Row
 bad_number_scripts =
     bad (codes "workers one") 1 bad_number  -- letters
     ∷ bad (codes "tick +1") 1 bad_number  -- sign
+    ∷ bad (codes "reprio x user_visible") 1 bad_number  -- letter for runner
     ∷ bad (codes "task 0 add 1;") 1 bad_number  -- separator at end of word
     ∷ bad (codes "runner 0 single: user_visible skip") 1 bad_number  -- empty seat
     ∷ bad (codes "runner 0 single:x user_visible skip") 1 bad_number  -- letters for seat
@@ -99,6 +103,7 @@ out_of_range_scripts =
     ∷ bad (codes "runner 0 single:65 user_visible skip") 1 out_of_range  -- seat above 64
     ∷ bad (codes "runner 0 single:0 user_visible skip") 1 out_of_range  -- seat 0
     ∷ bad (codes "post 4294967296 0 0") 1 out_of_range  -- id above 32 bits
+    ∷ bad (codes "reprio 4294967296 user_visible") 1 out_of_range  -- runner above 32 bits
     ∷ bad (codes "post 0 0 1000000000001") 1 out_of_range  -- delay before undeclared
     ∷ bad (codes "task 0 add 18446744073709551616") 1 out_of_range  -- step above 64 bits
     ∷ good (codes "task 0 add 18446744073709551615")  -- greatest step
@@ -136,6 +141,7 @@ abbrev undeclared_scripts : List Row
 undeclared_scripts =
     bad (codes "post 0 0 0") 1 undeclared  -- task and runner
     ∷ bad (codes "task 0\npost 0 0 0") 2 undeclared  -- runner
+    ∷ bad (codes "runner 0 parallel user_visible skip\nreprio 0 user_blocking\nreprio 1 user_visible") 3 undeclared  -- runner of change
     ∷ bad (codes "runner 0 parallel user_visible skip\ntask 0\nmain 0 0 0") 3 undeclared  -- queue of main
     ∷ bad (codes "runner 0 parallel user_visible skip\ntask 0 post 0 0 0") 2 undeclared  -- own task
     ∷ bad (codes "runner 0 parallel user_visible skip\ntask 0 post 1 0 0\ntask 1\n") 2 undeclared  -- later task

@@ -24,9 +24,9 @@ with_steps n = record empty_draft { tasks = replicate n (Add 1) ∷ [] }
 abbrev job_of : ℕ → ℕ → JobPlan
 job_of items steps = record { priority = UserVisible; behaviour = SkipOnShutdown; items = items; cap = 1; steps = replicate steps (Add 1) }
 
--- one job of so many items
+-- so many jobs of 65,536 items, as many as one line declares
 abbrev with_items : ℕ → Draft
-with_items n = record empty_draft { jobs = job_of n 0 ∷ [] }
+with_items n = record empty_draft { jobs = replicate n (job_of 65536 0) }
 
 -- so many jobs of no items
 abbrev with_jobs : ℕ → Draft
@@ -46,36 +46,42 @@ with_queues n = record empty_draft { queues = replicate n (record { class = 0; v
 abbrev with_ticks : ℕ → Draft
 with_ticks n = record empty_draft { actions = Tick n ∷ [] }
 
--- 131,072 entries for the items of a job, 65,536 ticks, and two and so many more for a task
+-- 524,288 entries for the items of four jobs, 262,144 ticks, and two and so many more for a task
 abbrev with_entries : ℕ → Draft
-with_entries n = record (with_items 65536) { tasks = replicate n Unblock ∷ []; actions = Tick 65536 ∷ [] }
+with_entries n = record empty_draft {
+  tasks = replicate n Unblock ∷ [];
+  jobs = (with_items 4).jobs;
+  actions = Tick 262144 ∷ [];
+}
 
--- reason 14: too_many, one more than a limit, and as many as it allows. Task lines 0 to 16384 are one task too many:
--- that line is checked behind the draft that the 16,384 lines before it give, since to compute that draft line by line
+-- reason 14: too_many, one more than a limit, and as many as it allows. Task lines 0 to 65536 are one task too many:
+-- that line is checked behind the draft that the 65,536 lines before it give, since to compute that draft line by line
 -- takes too long here. So are the others, as line 9.
 abbrev too_many_lines : List RowBehind
 too_many_lines =
-    bad_behind 16385 (with_tasks 16384) (codes "task 16384 add 1") too_many  -- task too many
-    ∷ good_behind 9 (with_tasks 16383) (codes "task 16383 add 1")  -- last task
+    bad_behind 65537 (with_tasks 65536) (codes "task 65536 add 1") too_many  -- task too many
+    ∷ good_behind 9 (with_tasks 65535) (codes "task 65535 add 1")  -- last task
     ∷ bad_behind 9 (with_runners 4096) (codes "runner 4096 parallel user_visible skip") too_many  -- runner too many
     ∷ good_behind 9 (with_runners 4095) (codes "runner 4095 parallel user_visible skip")  -- last runner
     ∷ bad_behind 9 (with_queues 256) (codes "queue 256 0 0") too_many  -- queue too many
     ∷ bad_behind 9 (with_jobs 256) (codes "job 256 user_visible skip 0 1") too_many  -- job too many
-    ∷ bad_behind 9 (with_steps 65536) (codes "task 1 add 1") too_many  -- step too many
-    ∷ bad_behind 9 (with_steps 65536) (codes "job 0 user_visible skip 0 1 add 1") too_many  -- step of job too many
-    ∷ good_behind 9 (with_steps 65536) (codes "task 1")  -- no step more
-    ∷ bad_behind 9 (with_items 65536) (codes "job 1 user_visible skip 1 1") too_many  -- item too many
-    ∷ good_behind 9 (with_items 65536) (codes "job 1 user_visible skip 0 1")  -- no item more
-    ∷ bad_behind 9 (with_ticks 65535) (codes "tick 2") too_many  -- tick too many
-    ∷ good_behind 9 (with_ticks 65535) (codes "tick 1")  -- last tick
-    ∷ bad_behind 9 (with_entries 65534) (codes "flush") too_many  -- entry too many
-    ∷ good_behind 9 (with_entries 65533) (codes "flush")  -- last entry
-    ∷ bad_behind 9 (with_entries 65533) (codes "shutdown") too_many  -- shutdown takes two
+    ∷ bad_behind 9 (with_steps 262144) (codes "task 1 add 1") too_many  -- step too many
+    ∷ bad_behind 9 (with_steps 262144) (codes "job 0 user_visible skip 0 1 add 1") too_many  -- step of job too many
+    ∷ good_behind 9 (with_steps 262144) (codes "task 1")  -- no step more
+    ∷ bad_behind 9 (with_items 4) (codes "job 4 user_visible skip 1 1") too_many  -- item too many
+    ∷ good_behind 9 (with_items 4) (codes "job 4 user_visible skip 0 1")  -- no item more
+    ∷ bad_behind 9 (with_ticks 262143) (codes "tick 2") too_many  -- tick too many
+    ∷ good_behind 9 (with_ticks 262143) (codes "tick 1")  -- last tick
+    ∷ bad_behind 9 (with_entries 262142) (codes "flush") too_many  -- entry too many
+    ∷ good_behind 9 (with_entries 262141) (codes "flush")  -- last entry
+    ∷ bad_behind 9 (record (with_entries 262142) { runners = (with_runners 1).runners }) (codes "reprio 0 user_visible") too_many  -- change too many
+    ∷ good_behind 9 (record (with_entries 262141) { runners = (with_runners 1).runners }) (codes "reprio 0 user_visible")  -- last change
+    ∷ bad_behind 9 (with_entries 262141) (codes "shutdown") too_many  -- shutdown takes two
     -- steps of jobs count
-    ∷ bad_behind 9 (record (with_steps 32768) { jobs = job_of 0 32768 ∷ [] }) (codes "task 1 add 1") too_many
-    ∷ bad_behind 9 (record (with_entries 65532) { actions = Tick 65536 ∷ Shutdown ∷ [] }) (codes "shutdown") shutdown_twice  -- shutdown twice before too many
-    ∷ bad_behind 9 (record (with_entries 65532) { actions = Tick 65536 ∷ StartJob 0 ∷ [] }) (codes "cancel 0") too_many  -- cancel takes two
-    ∷ good_behind 9 (record (with_entries 65531) { actions = Tick 65536 ∷ StartJob 0 ∷ [] }) (codes "cancel 0")  -- last cancel
+    ∷ bad_behind 9 (record (with_steps 131072) { jobs = job_of 0 131072 ∷ [] }) (codes "task 1 add 1") too_many
+    ∷ bad_behind 9 (record (with_entries 262140) { actions = Tick 262144 ∷ Shutdown ∷ [] }) (codes "shutdown") shutdown_twice  -- shutdown twice before too many
+    ∷ bad_behind 9 (record (with_entries 262140) { actions = Tick 262144 ∷ StartJob 0 ∷ [] }) (codes "cancel 0") too_many  -- cancel takes two
+    ∷ good_behind 9 (record (with_entries 262139) { actions = Tick 262144 ∷ StartJob 0 ∷ [] }) (codes "cancel 0")  -- last cancel
     ∷ []
 
 too_many_lines_right : AreRightBehind too_many_lines

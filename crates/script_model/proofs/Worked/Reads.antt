@@ -9,7 +9,7 @@ use Rattle.task_base.specs.declared.step.Scope.TheVariants.{May, Will}
 use Rattle.task_base.specs.declared.step.Step.TheVariants.{Add, Mul, Set, Post as PostStep, Main as MainStep, Block, Unblock}
 use Rattle.task_base.specs.declared.script.RunnerKind.TheVariants.{Parallel, Sequenced, Single}
 use Rattle.task_base.specs.declared.script.FenceAt.TheVariants.{Now, Start}
-use Rattle.task_base.specs.declared.script.Action.TheVariants.{Post, Main, Tick, Policy, Fence, Unfence, Vote, Rank, Close, Pump, Flush, StartJob, Join, Cancel, Shutdown}
+use Rattle.task_base.specs.declared.script.Action.TheVariants.{Post, Main, Tick, Policy, Reprio, Fence, Unfence, Vote, Rank, Close, Pump, Flush, StartJob, Join, Cancel, Shutdown}
 use Rattle.script_model.proofs.Worked.Tables.{opened, AreRead, AreWritten, AreValid, AreBound}
 
 -- no bytes are the script that has the defaults and nothing else
@@ -80,7 +80,7 @@ all_actions = record default_script {
   tasks = [] ∷ [];
   runners = record { kind = Sequenced; traits = record { priority = BestEffort; behaviour = BlockShutdown; may_block = true } } ∷ [];
   actions =
-      Post 0 0 1000000000000 ∷ Tick 65535 ∷ Policy Nothing ∷ Fence 0 Now ∷ Fence 0 Start ∷ Unfence 0 ∷ Vote 0 15 true
+      Post 0 0 1000000000000 ∷ Tick 65535 ∷ Policy Nothing ∷ Reprio 0 UserBlocking ∷ Fence 0 Now ∷ Fence 0 Start ∷ Unfence 0 ∷ Vote 0 15 true
       ∷ Vote 0 0 false ∷ Rank 0 7 ∷ Close 0 ∷ Pump 16384 ∷ Flush ∷ StartJob 0 ∷ Join 0 ∷ Cancel 0 ∷ Shutdown ∷ [];
 }
 
@@ -88,7 +88,7 @@ all_actions = record default_script {
 abbrev all_actions_text : List ℕ
 all_actions_text =
     codes "job 0 best_effort continue 0 64\ntask 0\nqueue 0 7 16\nrunner 0 sequenced best_effort block mayblock\n"
-    ++ codes "post 0 0 1000000000000\ntick 65535\npolicy none\nfence 0 now\nfence 0 start\nunfence 0\nvote 0 15 on\n"
+    ++ codes "post 0 0 1000000000000\ntick 65535\npolicy none\nreprio 0 user_blocking\nfence 0 now\nfence 0 start\nunfence 0\nvote 0 15 on\n"
     ++ codes "vote 0 0 off\nrank 0 7\nclose 0\npump 16384\nflush\nstartjob 0\njoin 0\ncancel 0\nshutdown\n"
 
 -- its canonical text
@@ -96,7 +96,7 @@ abbrev all_actions_written : List ℕ
 all_actions_written =
     codes "workers 2\ngroups 4 2 0\nthreshold 1000000\nrunner 0 sequenced best_effort block mayblock\nqueue 0 7 16\ntask 0\n"
     ++ codes "job 0 best_effort continue 0 64\n"
-    ++ codes "post 0 0 1000000000000\ntick 65535\npolicy none\nfence 0 now\nfence 0 start\nunfence 0\nvote 0 15 on\n"
+    ++ codes "post 0 0 1000000000000\ntick 65535\npolicy none\nreprio 0 user_blocking\nfence 0 now\nfence 0 start\nunfence 0\nvote 0 15 on\n"
     ++ codes "vote 0 0 off\nrank 0 7\nclose 0\npump 16384\nflush\nstartjob 0\njoin 0\ncancel 0\nshutdown\n"
 
 -- each number at an edge of its range
@@ -114,8 +114,8 @@ edges = record {
   jobs = record { priority = BestEffort; behaviour = ContinueOnShutdown; items = 65536; cap = 64; steps = [] }
       ∷ record { priority = UserBlocking; behaviour = SkipOnShutdown; items = 0; cap = 1; steps = Add 18446744073709551615 ∷ [] } ∷ [];
   actions =
-      Post 2 0 0 ∷ Policy All ∷ Policy Foreground ∷ Rank 1 0 ∷ Vote 0 15 false ∷ Tick 65536 ∷ Pump 1 ∷ StartJob 1 ∷ Cancel 1
-      ∷ Cancel 1 ∷ Join 1 ∷ Shutdown ∷ Fence 1 Start ∷ Fence 0 Now ∷ [];
+      Post 2 0 0 ∷ Policy All ∷ Policy Foreground ∷ Reprio 1 BestEffort ∷ Reprio 0 UserVisible ∷ Rank 1 0 ∷ Vote 0 15 false ∷ Tick 65536 ∷ Pump 1 ∷ StartJob 1
+      ∷ Cancel 1 ∷ Cancel 1 ∷ Join 1 ∷ Shutdown ∷ Fence 1 Start ∷ Fence 0 Now ∷ [];
 }
 
 abbrev edges_text : List ℕ
@@ -125,8 +125,8 @@ edges_text =
     ++ codes "task 1 set 18446744073709551615 ; mul 0\n"
     ++ codes "task 2 block will ; post 0 1 1000000000000 ; unblock ; block may ; unblock ; main 1 1 1\n"
     ++ codes "job 0 best_effort continue 65536 64\njob 1 user_blocking skip 0 1 add 18446744073709551615\npost 2 0 0\n"
-    ++ codes "policy all\npolicy foreground\nrank 1 0\nvote 0 15 off\ntick 65536\npump 1\nstartjob 1\ncancel 1\ncancel 1\n"
-    ++ codes "join 1\nshutdown\nfence 1 start\nfence 0 now\n"
+    ++ codes "policy all\npolicy foreground\nreprio 1 best_effort\nreprio 0 user_visible\nrank 1 0\nvote 0 15 off\ntick 65536\npump 1\nstartjob 1\n"
+    ++ codes "cancel 1\ncancel 1\njoin 1\nshutdown\nfence 1 start\nfence 0 now\n"
 
 -- ---- the tables
 
@@ -164,7 +164,7 @@ all_valid : AreValid (default_script ∷ first_script ∷ page_load ∷ all_acti
 unfolding opened
 all_valid = refl
 
--- For `all_actions`: 2 for the task, 65,535 ticks, 2 each for `cancel` and `shutdown`, and one for each of the 13
+-- For `all_actions`: 2 for the task, 65,535 ticks, 2 each for `cancel` and `shutdown`, and one for each of the 14
 -- others.
-all_bound : AreBound ((page_load, 96) ∷ (all_actions, 65554) ∷ (edges, 196636) ∷ [])
+all_bound : AreBound ((page_load, 96) ∷ (all_actions, 65555) ∷ (edges, 196638) ∷ [])
 all_bound = refl

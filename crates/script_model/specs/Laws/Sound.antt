@@ -10,7 +10,7 @@ use Rattle.task_base.specs.declared.script.RunnerKind.{RunnerKind}
 use Rattle.task_base.specs.declared.script.RunnerKind.TheVariants.{Parallel, Sequenced, Single}
 use Rattle.task_base.specs.declared.script.MainQueue.{MainQueue}
 use Rattle.task_base.specs.declared.script.Action.{Action}
-use Rattle.task_base.specs.declared.script.Action.TheVariants.{Post, Main, Tick, Policy, Fence, Unfence, Vote, Rank, Close, Pump, Flush, StartJob, Join, Cancel, Shutdown}
+use Rattle.task_base.specs.declared.script.Action.TheVariants.{Post, Main, Tick, Policy, Reprio, Fence, Unfence, Vote, Rank, Close, Pump, Flush, StartJob, Join, Cancel, Shutdown}
 use Rattle.list_laws.specs.Lists.{count}
 use Rattle.script_model.specs.Bound.{events_bound_of}
 use Rattle.script_model.specs.Postings.{IsPostedOnce}
@@ -84,6 +84,7 @@ IsActionSound script (Post task runner delay) = IsRunnerPost script task runner 
 IsActionSound script (Main task queue delay) = IsQueuePost script task queue × (delay ≤ MOST_MICROSECONDS)
 IsActionSound script (Tick count) = (1 ≤ count) × (count ≤ 65536)
 IsActionSound script (Policy policy) = Unit {0}
+IsActionSound script (Reprio runner priority) = runner < length script.runners
 IsActionSound script (Fence queue place) = queue < length script.queues
 IsActionSound script (Unfence queue) = queue < length script.queues
 IsActionSound script (Vote queue voter on) = (queue < length script.queues) × (voter ≤ 255) × (is_voter script.queues queue voter ≡ true)

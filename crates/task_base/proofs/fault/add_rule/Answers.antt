@@ -1,4 +1,4 @@
-use Rattle.std.proofs.Common.{◌++◌, append_assoc, refl}
+use Rattle.std.proofs.Common.{append_assoc, refl}
 use Rattle.task_base.proofs.fault.add_rule.Goals as goal
 
 pub returns-clause-note : goal.returns-clause-note

@@ -1,6 +1,6 @@
-use Rattle.std.proofs.Common.{◌≡◌, sym, subst, ◌∙◌, refl, arith}
+use Rattle.std.proofs.Common.{sym, subst, ◌∙◌, refl}
 use Rattle.script_model.specs.Laws.Sound.{IsSound}
-use Rattle.task_script.specs.Generated.{numbers_behind, generated}
+use Rattle.task_script.specs.Generated.{generated}
 use Rattle.task_script.proofs.Generated.{length-numbers_behind, generated_sound}
 use Rattle.task_script.proofs.generator.generate.Goals as goal
 

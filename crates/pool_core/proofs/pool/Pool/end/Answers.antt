@@ -1,11 +1,9 @@
-use Rattle.pool_core.proofs.AtSeat.{cell_is_out, closed_at, closed_work, group_is, its_counts, posting_is, posting_there, runner_is_home, runner_there, seat_fits, sequence_is, task_is, task_there}
+use Rattle.pool_core.proofs.AtSeat.{cell_is_out, closed_at, closed_work, its_counts, posting_is, posting_there, runner_is_home, runner_there, seat_fits, sequence_is, task_is, task_there}
 use Rattle.pool_core.proofs.Ends.{stands_at_end}
 use Rattle.pool_core.proofs.Following.{has_place}
-use Rattle.pool_core.proofs.GroupWorks.{with_seat}
 use Rattle.pool_core.proofs.Lines.{sequence_there}
-use Rattle.std.proofs.Common.{None, arith, refl, ◌∙◌, ◌≡◌}
+use Rattle.std.proofs.Common.{arith, ◌∙◌}
 use Rattle.std.proofs.lemmas.List.{length-set}
-use Rattle.task_model.specs.Capacity.{priority_of}
 use Rattle.pool_core.proofs.pool.Pool.end.Goals as goal
 
 pub task_at-task-requires : goal.task_at-task-requires
@@ -13,9 +11,6 @@ task_at-task-requires c = task_there (closed_at c.requires.3)
 
 pub posting-posting-requires : goal.posting-posting-requires
 posting-posting-requires c = posting_there (closed_at c.requires.3) c.task_at-task.ensures
-
-pub in_background-background-requires : goal.in_background-background-requires
-in_background-background-requires c = runner_there (closed_at c.requires.3) c.task_at-task.ensures c.posting-posting.ensures
 
 pub ended-requires-clause-worker : goal.ended-requires-clause-worker
 ended-requires-clause-worker c = (closed_at c.requires.3).worker
@@ -25,7 +20,6 @@ ended-requires-clause-seat c = seat_fits (closed_at c.requires.3)
 
 pub ended-requires-clause-runs : goal.ended-requires-clause-runs
 ended-requires-clause-runs c = closed_work c.requires.3
-    (group_is (closed_at c.requires.3) c.task_at-task.ensures c.posting-posting.ensures c.in_background-background.ensures)
 
 pub ended-requires-2-clause-block_counted : goal.ended-requires-2-clause-block_counted
 ended-requires-2-clause-block_counted c = (its_counts (closed_at c.requires.3) c.task_at-task.ensures c.posting-posting.ensures).0
@@ -64,19 +58,17 @@ refresh-requires c =
       c.seq_of-seq.ensures,
       sequence_is at c.task_at-task.ensures c.posting-posting.ensures,
       runner_is_home at c.task_at-task.ensures c.posting-posting.ensures,
-    ) (has_place c.requires.0 _ c.requires.2.home c.requires.2.task at.stands.script_fits at.stands.runners
+    ) (has_place c.requires.0 _ c.requires.2.home c.requires.2.task at.stands.script_fits at.stands.runners at.stands.priorities.all
     (length-set c.args.self.now.sequences.sequences _ _ ∙ at.stands.lines.all) at.stands.queues.roomy at.runner_declared at.task_declared)
 
 pub returns : goal.returns
 returns c = λ script past w can.
     let at = closed_at can in
-    let groups : c.ended.new.self ≡ with_seat script c.args.self.now.groups c.args.seat (priority_of script w.home) None =
-    rw (c.ended.ensures, group_is at c.task_at-task.ensures c.posting-posting.ensures c.in_background-background.ensures) refl in
     rw (
       c.refresh.ensures,
       c.put_back.ensures,
       c.ended-2.ensures,
-      groups,
+      c.ended.ensures,
       c.seq_of-seq.ensures,
       sequence_is at c.task_at-task.ensures c.posting-posting.ensures,
       runner_is_home at c.task_at-task.ensures c.posting-posting.ensures,

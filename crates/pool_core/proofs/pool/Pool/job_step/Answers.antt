@@ -58,9 +58,7 @@ pub leave_job-requires-clause-worker : goal.leave_job-requires-clause-worker
 leave_job-requires-clause-worker c = seat_fits c.requires.3
 
 pub leave_job-requires-clause-works : goal.leave_job-requires-clause-works
-leave_job-requires-clause-works c =
-    let can = c.requires.3 in
-    rw (new_is c.args.value c.done-next.result can c.holder-job.ensures c.index_mut.ensures.value c.done-next.ensures.state, holder_is can c.holder-job.ensures) (item_work _ can refl)
+leave_job-requires-clause-works c = item_work c.requires.3
 
 pub leave_job-requires-clause-counted : goal.leave_job-requires-clause-counted
 leave_job-requires-clause-counted c =

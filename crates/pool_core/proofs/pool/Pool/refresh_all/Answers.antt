@@ -1,9 +1,9 @@
-use Rattle.pool_core.proofs.Places.{known_at, next_refreshed, place_at}
+use Rattle.pool_core.proofs.Places.{next_refreshed, place_at}
 use Rattle.pool_core.proofs.pool.Pool.refresh_all.Goals.{in-Some, in_default}
 use Rattle.pool_core.specs.Refreshes.{refreshed_below}
 use Rattle.pool_core.specs.State.{refreshed}
 use Rattle.pool_core.specs.declared.posting.Posting.{Posting}
-use Rattle.std.proofs.Common.{None, Option, Some, ap, arith, refl, ◌∙◌, ◌≡◌}
+use Rattle.std.proofs.Common.{None, Option, Some, ap, arith, refl, sym, ◌∙◌, ◌≡◌}
 use Rattle.pool_core.proofs.pool.Pool.refresh_all.Goals as goal
 
 none_by : (o : Option Posting) → ((x : Posting) → o ≡ Some x → ⊥) → o ≡ None
@@ -15,39 +15,36 @@ loop-task-init c = refl
 
 pub overflow_cast-task : goal.overflow_cast-task
 overflow_cast-task c =
-    let place = place_at c.args.self.now c.loop-task.self c.loop-task.task c.index.result.now c.in-Some.posting c.requires c.loop-task.invariant
-    (omega (arith, c.args.self.now.postings.ok.0)) c.index.ensures c.in-Some.is in
+    let place = place_at c.args.self.now c.loop-task.self c.args.only c.loop-task.task c.in-Some.posting c.requires c.loop-task.invariant
+    (sym c.posted.ensures ∙ c.in-Some.is) in
     omega (arith, place.0)
 
 pub seq_of-seq-requires-clause-declared : goal.seq_of-seq-requires-clause-declared
 seq_of-seq-requires-clause-declared c =
-    let place = place_at c.args.self.now c.loop-task.self c.loop-task.task c.index.result.now c.in-Some.posting c.requires c.loop-task.invariant
-    (omega (arith, c.args.self.now.postings.ok.0)) c.index.ensures c.in-Some.is in
+    let place = place_at c.args.self.now c.loop-task.self c.args.only c.loop-task.task c.in-Some.posting c.requires c.loop-task.invariant
+    (sym c.posted.ensures ∙ c.in-Some.is) in
     place.1.declared
 
 pub seq_of-seq-requires-clause-fits : goal.seq_of-seq-requires-clause-fits
 seq_of-seq-requires-clause-fits c =
-    let place = place_at c.args.self.now c.loop-task.self c.loop-task.task c.index.result.now c.in-Some.posting c.requires c.loop-task.invariant
-    (omega (arith, c.args.self.now.postings.ok.0)) c.index.ensures c.in-Some.is in
+    let place = place_at c.args.self.now c.loop-task.self c.args.only c.loop-task.task c.in-Some.posting c.requires c.loop-task.invariant
+    (sym c.posted.ensures ∙ c.in-Some.is) in
     place.0
 
 pub refresh-requires : goal.refresh-requires
 refresh-requires c =
-    let place = place_at c.args.self.now c.loop-task.self c.loop-task.task c.index.result.now c.in-Some.posting c.requires c.loop-task.invariant
-    (omega (arith, c.args.self.now.postings.ok.0)) c.index.ensures c.in-Some.is in
+    let place = place_at c.args.self.now c.loop-task.self c.args.only c.loop-task.task c.in-Some.posting c.requires c.loop-task.invariant
+    (sym c.posted.ensures ∙ c.in-Some.is) in
     rw c.seq_of-seq.ensures place.1
 
 pub loop-task-preserved : goal.loop-task-preserved
-loop-task-preserved c =
-    let known = known_at c.args.self.now c.loop-task.self c.loop-task.task c.index.result.now c.loop-task.invariant
-    (omega (arith, c.args.self.now.postings.ok.0)) c.index.ensures in
-    elim c.match-index.branch [
-      | in-Some w ↦ next_refreshed c.args.self.now c.loop-task.self c.match-index.self c.loop-task.task (Some w.in-Some.posting) c.loop-task.invariant
-          (known ∙ ap Some w.in-Some.is)
-          (w.self-is ∙ w.refresh.ensures ∙ ap (λ s. refreshed c.loop-task.self s w.in-Some.posting.runner) w.seq_of-seq.ensures)
-      | in_default w ↦ next_refreshed c.args.self.now c.loop-task.self c.match-index.self c.loop-task.task None c.loop-task.invariant
-          (known ∙ ap Some (none_by c.index.result.now w.in_default.not-Some)) w.self-is
-    ]
+loop-task-preserved c = elim c.match-posted.branch [
+  | in-Some w ↦ next_refreshed c.args.self.now c.loop-task.self c.match-posted.self c.args.only c.loop-task.task (Some w.in-Some.posting)
+      c.loop-task.invariant (sym w.in-Some.is ∙ c.posted.ensures)
+      (w.self-is ∙ w.refresh.ensures ∙ ap (λ s. refreshed c.loop-task.self s w.in-Some.posting.runner) w.seq_of-seq.ensures)
+  | in_default w ↦ next_refreshed c.args.self.now c.loop-task.self c.match-posted.self c.args.only c.loop-task.task None c.loop-task.invariant
+      (sym (none_by c.posted.result w.in_default.not-Some) ∙ c.posted.ensures) w.self-is
+]
 
 pub returns : goal.returns
-returns c = c.loop-task.invariant ∙ ap (refreshed_below c.args.self.now) (omega (arith, c.args.self.now.postings.ok.0))
+returns c = c.loop-task.invariant ∙ ap (refreshed_below c.args.self.now c.args.only) (omega (arith, c.args.self.now.postings.ok.0))

@@ -1,9 +1,10 @@
 use Rattle.pool_core.proofs.Accepted.{head_accepted}
-use Rattle.pool_core.proofs.Takes.{priority_as, stands_at_take, taken_accepted, taken_given, taken_is, taken_out, taken_place, taken_posting, taken_posting_is, working}
+use Rattle.pool_core.proofs.Takes.{stands_at_take, taken_accepted, taken_given, taken_is, taken_out, taken_place, taken_posting, taken_posting_is, taken_priority, working}
 use Rattle.pool_core.proofs.Tracking.{few_blockers}
 use Rattle.pool_core.specs.Tables.{posting_of}
-use Rattle.std.proofs.Common.{OnSome, Some, refl, slice_get, subst, sym, ◌∙◌, ◌≡◌}
-use Rattle.std.specs.Option.{option_map}
+use Rattle.std.proofs.Common.{arith, OnSome, refl, subst, sym, ◌∙◌, ◌≡◌}
+use Rattle.std.proofs.lemmas.Option.{get_or_from_slice_get}
+use Rattle.task_model.specs.Capacity.{priority_of}
 use Rattle.pool_core.proofs.pool.Pool.start.Goals as goal
 
 pub take_out-requires-clause-there : goal.take_out-requires-clause-there
@@ -27,11 +28,11 @@ refresh-requires c = rw (
   taken_posting_is c.requires.2 (sym c.take_out.ensures.given ∙ c.unwrap-task.ensures) c.posting-posting.ensures,
 ) (taken_place c.requires.2)
 
-pub traits_of-priority-requires : goal.traits_of-priority-requires
-traits_of-priority-requires c = rw c.refresh.ensures (record {
-  declared = rw (taken_posting_is c.requires.2 (sym c.take_out.ensures.given ∙ c.unwrap-task.ensures) c.posting-posting.ensures)
-      (taken_place c.requires.2).declared;
-})
+pub index-priority-requires : goal.index-priority-requires
+index-priority-requires c =
+    let place = taken_place c.requires.2 in
+    rw (c.refresh.ensures, taken_posting_is c.requires.2 (sym c.take_out.ensures.given ∙ c.unwrap-task.ensures) c.posting-posting.ensures)
+    (omega (arith, place.ranked, c.args.self.now.priorities.ok.0))
 
 pub started-requires-2-clause-allowed : goal.started-requires-2-clause-allowed
 started-requires-2-clause-allowed c = let chosen = c.requires.2 in rw (
@@ -65,16 +66,9 @@ returns-clause-stands c script past chosen =
     let rest : c.take_out.new.self ≡ taken_out pool.sequences c.args.seq = subst (λ o. OnSome o (c.take_out.new.self ≡ taken_out pool.sequences c.args.seq))
     c.unwrap-task.ensures c.take_out.ensures.taken in
     let posting = taken_posting_is chosen gives c.posting-posting.ensures in
-    let traits : option_map (λ r. r.traits) (slice_get pool.runners.runners chosen.head.posted.home) ≡ Some c.traits_of-priority.result =
-    subst (λ p. option_map (λ r. r.traits) (slice_get pool.runners.runners p.runner) ≡ Some c.traits_of-priority.result) posting
-    (subst (λ p. option_map (λ r. r.traits) (slice_get p.runners.runners c.posting-posting.result.runner) ≡ Some c.traits_of-priority.result)
-    c.refresh.ensures c.traits_of-priority.ensures) in
-    let groups : c.started.new.self ≡ working script pool.groups c.args.seat chosen.head.posted.home =
-    rw (
-      c.started.ensures,
-      c.background.ensures,
-      priority_as script pool chosen.head.posted.home c.traits_of-priority.result chosen.can.stands.runners traits,
-      c.refresh.ensures,
-      chosen.can.stands.runners,
-    ) refl in
+    let priority : c.index-priority.result.now ≡ priority_of script past chosen.head.posted.home = c.index-priority.ensures ∙ rw (c.refresh.ensures, posting)
+    (get_or_from_slice_get pool.priorities.items chosen.head.posted.home (priority_of script past chosen.head.posted.home) c.index-priority.result.now
+    (taken_priority chosen)) in
+    let groups : c.started.new.self ≡ working script pool.groups c.args.seat (priority_of script past chosen.head.posted.home) =
+    rw (c.started.ensures, c.background.ensures, priority, c.refresh.ensures, chosen.can.stands.runners) refl in
     rw (groups, c.started-2.ensures, c.refresh.ensures, rest, posting, taken_is chosen gives) (stands_at_take script past pool c.args.seat c.args.seq chosen)
