@@ -4,7 +4,8 @@ use Rattle.task_base.specs.Plan.{Plan}
 use Rattle.task_base.specs.declared.entry.Entry.{Entry}
 use Rattle.script_model.specs.Grammar.{Reads}
 use Rattle.log_model.specs.Fits.{Fits}
-use Rattle.log_model.specs.LogText.{log_text}
+use Rattle.log_model.specs.declared.version.Version.{Version}
+use Rattle.log_model.specs.LogText.{lines_before, text_in}
 use Rattle.hist_model.specs.Legal.{IsLegal}
 use Rattle.hist_model.specs.Script.{IsWhole}
 use Rattle.run_log.specs.TextLines.{IsBadLine}
@@ -17,30 +18,37 @@ use Rattle.env_app.specs.declared.judged.Judged.{Judged}
 use Rattle.env_app.specs.declared.judged.Judged.TheVariants.{Whole, Wrong}
 use Rattle.env_app.specs.Input.{script_part, part_behind}
 
--- the text is that of this log
+-- the text is that of this log, in one of the two versions
 pub record IsTextOf (text : List ℕ) (log : List Entry) : Type 0 where
   pub fits : All Fits log
-  pub same : log_text log ≡ text
+  pub version : Version
+  pub same : text_in version log ≡ text
 
--- the input is a script, and behind it the text of a legal, whole log of that script
-pub record HasLegalLog (bytes : List ℕ) : Type 0 where
-  pub script : Plan
-  pub log : List Entry
+-- the input is this script, and behind it the text of this log, which is legal and whole for the script
+pub record IsLegalLog (bytes : List ℕ) (script : Plan) (log : List Entry) : Type 0 where
   pub reads : Reads (script_part bytes) script
-  pub text : IsTextOf (part_behind bytes) log
+  pub version : Version
+  pub same : text_in version log ≡ part_behind bytes
   pub legal : IsLegal script log
   pub whole : IsWhole script log
 
--- the line of a log, counted from 1, that a verdict names: that of the entry at its place
-abbrev pub line_in : Verdict → Option ℕ
-line_in Legal = None
-line_in (Illegal place) = Some (place + 1)
+-- the input is a script, and behind it the text of a legal, whole log of that script, whose numbers fit
+pub record HasLegalLog (bytes : List ℕ) : Type 0 where
+  pub script : Plan
+  pub log : List Entry
+  pub fits : All Fits log
+  pub is : IsLegalLog bytes script log
+
+-- the line of a log's text, counted from 1, that a verdict names: that of the entry at its place
+abbrev pub line_in : Version → Verdict → Option ℕ
+line_in version Legal = None
+line_in version (Illegal place) = Some (place + 1 + lines_before version)
 
 -- the line at which the text is found to be no legal, whole log of the script, or none: where it is the text of a log, that of
 -- the verdict on this log; else the first line that is no log line of its place
 abbrev pub IsFoundAt : Plan → List ℕ → Option ℕ → Type 0
 IsFoundAt script text line =
-    ((log : List Entry) × IsTextOf text log × (line ≡ line_in (verdict_of script log))) ⊎ ((bad : ℕ) × IsBadLine text bad × (line ≡ Some bad))
+    ((log : List Entry) × (of : IsTextOf text log) × (line ≡ line_in of.version (verdict_of script log))) ⊎ ((bad : ℕ) × IsBadLine text bad × (line ≡ Some bad))
 
 -- what the text is found to be: that of a legal, whole log, or wrong at a line
 abbrev pub IsJudged : Plan → List ℕ → Judged → Type 0

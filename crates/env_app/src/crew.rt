@@ -1,6 +1,7 @@
 //! The run of a script on threads: one for each worker, and the caller's for the driver.
-ghost use Rattle.std.specs.Prelude.{◌≡◌, ◌≤◌, [], length, true, IfOk};
+ghost use Rattle.std.specs.Prelude.{◌≡◌, ◌≤◌, [], All, length, true, IfOk};
 ghost use Rattle.task_base.specs.declared.limits.TheConstants.{MOST_EVENTS};
+ghost use Rattle.log_model.specs.Fits.{Fits};
 ghost use Rattle.hist_model.specs.Legal.{IsLegal};
 ghost use Rattle.hist_model.specs.Script.{IsWhole};
 ghost use Rattle.script_model.specs.Laws.Sound.{IsSound};
@@ -140,6 +141,7 @@ pub fn run_crew<R: Threads + Wait + Sync, B: TaskBody + Send, C: Clock, G: Gate>
     ensures legal { IfOk result (λ env. IsLegal script.now env.history) }
     ensures whole { IfOk result (λ env. IsWhole script.now env.history) }
     ensures bounded { IfOk result (λ env. length env.history ≤ MOST_EVENTS) }
+    ensures fits { IfOk result (λ env. All Fits env.history) }
     ensures moments { IfOk result (λ env. HasMomentsOf (C.readings clock.old) env.history) }
 {
     let (shared, first) = Shared::open(alloc, script.copy(alloc)?, bodies)?;

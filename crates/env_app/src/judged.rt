@@ -5,7 +5,7 @@ ghost use Rattle.script_model.specs.Laws.Sound.{IsSound};
 ghost use Rattle.env_app.specs.Judged.{IsJudged};
 
 use env_check::{Verdict, check_log};
-use run_log::{LogFault, read_log};
+use run_log::{LogFault, lines_before, read_log, version_of};
 use std::alloc::{AllocError, Global};
 use task_base::{Entry, Rows, Script};
 
@@ -31,6 +31,8 @@ pub fn judge_log(alloc: Global, script: &Script, text: &[u8]) -> Result<Judged, 
     };
     match check_log(alloc, script, &log)? {
         Verdict::Legal => Ok(Judged::Whole(log)),
-        Verdict::Illegal { place } => Ok(Judged::Wrong { line: place + 1 }),
+        Verdict::Illegal { place } => Ok(Judged::Wrong {
+            line: place + 1 + lines_before(version_of(text)),
+        }),
     }
 }

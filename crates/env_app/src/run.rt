@@ -1,4 +1,6 @@
 ghost use Rattle.std.specs.Prelude.{◌≡◌, ◌≢◌, ◌⊎◌, ℕ, List, Option, Bool, false, map, string_bytes, alloc_error, Some, None, Err, IfErr};
+ghost use Rattle.task_base.specs.Plan.{Plan};
+ghost use Rattle.task_base.specs.declared.entry.Entry.{Entry};
 ghost use Rattle.script_model.specs.Canonical.{canonical};
 ghost use Rattle.task_script.specs.Generated.{generated};
 ghost use Rattle.run_summary.specs.Summary.{generated_totals};
@@ -6,7 +8,7 @@ ghost use Rattle.env_io.specs.Bytes.{Gains, Rose};
 ghost use Rattle.env_app.specs.declared.words.Command.TheVariants.{Run, Check, Reply, Trace, Nest, Generate, Bench};
 ghost use Rattle.env_app.specs.CommandLine.{IsJudge, IsSized, ReadsClock, TakesInput, command_of};
 ghost use Rattle.env_app.specs.Failures.{failure_status, is_verdict, note_line};
-ghost use Rattle.env_app.specs.Judged.{HasChecked, HasLegalLog, HasTraced};
+ghost use Rattle.env_app.specs.Judged.{HasChecked, HasLegalLog, HasTraced, IsLegalLog};
 ghost use Rattle.env_app.specs.Totals.{summary_text};
 ghost use Rattle.env_app.specs.Outcome.{ends, HasNested, HasReplied, HasRun, in_common, WroteAll, WroteFront, IsEnd, IsVerdictOf, IsWritten, OfTaken, TookMore, TookWithin, EndsIn, HasCause, readings_of};
 
@@ -181,8 +183,8 @@ pub fn run_words<R: Threads + Wait + Sync, S: Source, K: Sink, N: Sink, C: Clock
         (λ bytes. HasRun bytes json (readings_of step (C.readings clock.old)) (WroteAll (K.holds sink.old) (K.holds sink.new))) }
 
     // `check` answers 0 or 1 by the line at which the log behind the script is found wrong, and writes that line; `trace` writes
-    // the log's trace under 0, and nothing under 1. 0 comes only where the log is a legal, whole one of the script, and 1 only
-    // where there is none.
+    // the log's trace under 0, and nothing under 1. 0 comes only where the log is a legal, whole one of the script, whose numbers
+    // fit, and 1 only where there is none, whatever its numbers are.
     ensures verdict { command_of (map string_bytes words.now) ≡ Some Check → (result ≡ 0) ⊎ (result ≡ 1)
         → OfTaken (ends (S.left source.old) (S.left source.new) (S.faults source.old) (S.faults source.new))
         (λ bytes. HasChecked bytes (λ status text. (result ≡ status) × WroteAll (K.holds sink.old) (K.holds sink.new) text)) }
@@ -193,7 +195,7 @@ pub fn run_words<R: Threads + Wait + Sync, S: Source, K: Sink, N: Sink, C: Clock
         → OfTaken (ends (S.left source.old) (S.left source.new) (S.faults source.old) (S.faults source.new)) HasLegalLog }
     ensures no_legal_log { IsJudge (command_of (map string_bytes words.now)) → result ≡ 1
         → OfTaken (ends (S.left source.old) (S.left source.new) (S.faults source.old) (S.faults source.new))
-        (λ bytes. ¬ HasLegalLog bytes) }
+        (λ bytes. (script : Plan) (log : List Entry) → ¬ IsLegalLog bytes script log) }
 
     // `reply` does what `run` does of the script whose tasks post their replies, and `nest` writes the log of a nest script.
     ensures replied { command_of (map string_bytes words.now) ≡ Some Reply → result ≡ 0

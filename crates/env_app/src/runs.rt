@@ -1,7 +1,8 @@
 //! The mode `run`, and the run of a script.
-ghost use Rattle.std.specs.Prelude.{◌≡◌, ◌≢◌, ◌≤◌, length, alloc_error, Some, None, Err, IfOk, IfErr};
+ghost use Rattle.std.specs.Prelude.{◌≡◌, ◌≢◌, ◌≤◌, All, length, alloc_error, Some, None, Err, IfOk, IfErr};
 ghost use Rattle.task_base.specs.declared.limits.TheConstants.{MOST_EVENTS};
 ghost use Rattle.task_base.specs.Fault.{status_of};
+ghost use Rattle.log_model.specs.Fits.{Fits};
 ghost use Rattle.hist_model.specs.Legal.{IsLegal};
 ghost use Rattle.hist_model.specs.Script.{IsWhole};
 ghost use Rattle.script_model.specs.Laws.Sound.{IsSound};
@@ -64,6 +65,7 @@ pub fn log_of_run<R: Threads + Wait + Sync, C: Clock, G: Gate>(
     ensures legal { IfOk result (λ log. IsLegal script.now log.items) }
     ensures whole { IfOk result (λ log. IsWhole script.now log.items) }
     ensures bounded { IfOk result (λ log. length log.items ≤ MOST_EVENTS) }
+    ensures fits { IfOk result (λ log. All Fits log.items) }
     ensures moments { IfOk result (λ log. HasMomentsOf (readings_of step (C.readings clock.old)) log.items) }
     ensures unread { step ≢ None → clock.new ≡ clock.old }
 {

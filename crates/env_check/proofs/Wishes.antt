@@ -134,6 +134,7 @@ joined_with_any_reply view seat job reply other by =
 abbrev pub is_scripted : Kind → Bool
 is_scripted (kinds.Tick now) = true
 is_scripted (kinds.Policy policy) = true
+is_scripted (kinds.Reprio runner priority) = true
 is_scripted (kinds.Fence queue at) = true
 is_scripted (kinds.Unfence queue) = true
 is_scripted (kinds.Vote queue voter on) = true
@@ -156,6 +157,7 @@ pub unscripted : (script : Plan) (past : List Entry) (seat : ℕ) (kind : Kind) 
 unfolding may_come
 unscripted script past seat (kinds.Tick now) scripted unwanted = rw unwanted refl
 unscripted script past seat (kinds.Policy policy) scripted unwanted = unwanted
+unscripted script past seat (kinds.Reprio runner priority) scripted unwanted = unwanted
 unscripted script past seat (kinds.Fence queue at) scripted unwanted = unwanted
 unscripted script past seat (kinds.Unfence queue) scripted unwanted = unwanted
 unscripted script past seat (kinds.Vote queue voter on) scripted unwanted = unwanted

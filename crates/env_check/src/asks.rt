@@ -4,7 +4,7 @@ ghost use Rattle.task_model.specs.Seats.{holding, running};
 ghost use Rattle.hist_model.specs.Script.{wants};
 ghost use Rattle.env_core.specs.Agenda.{counted};
 
-use task_base::{Action, FenceAt, JobId, Kind, Policy, QueueId, RunnerId, TaskId};
+use task_base::{Action, FenceAt, JobId, Kind, Policy, Priority, QueueId, RunnerId, TaskId};
 
 /// Whether an action that has made so many entries that count wants an entry of this kind next, of a driver who runs and
 /// holds nothing.
@@ -21,6 +21,7 @@ pub fn asks(action: &Action, made: u32, kind: &Kind) -> bool
         Action::Main { task, queue, delay } => is_main_post(kind, task, queue, delay),
         Action::Tick { count: _ } => is_tick(kind),
         Action::Policy { policy } => is_policy(kind, policy),
+        Action::Reprio { runner, priority } => is_reprio(kind, runner, priority),
         Action::Fence { queue, at } => is_fence(kind, queue, at),
         Action::Unfence { queue } => is_unfence(kind, queue),
         Action::Vote { queue, voter, on } => is_vote(kind, queue, voter, on),
@@ -78,6 +79,19 @@ fn is_policy(kind: &Kind, policy: Policy) -> bool
 {
     match *kind {
         Kind::Policy { policy: p } => p == policy,
+        _ => false,
+    }
+}
+
+/// Whether it gives this runner this priority.
+fn is_reprio(kind: &Kind, runner: RunnerId, priority: Priority) -> bool
+    ensures { (own made : List Entry) → result ≡ wants own (Action.Reprio runner priority) made kind.now }
+{
+    match *kind {
+        Kind::Reprio {
+            runner: r,
+            priority: p,
+        } => r == runner && p == priority,
         _ => false,
     }
 }

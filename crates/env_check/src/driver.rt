@@ -1,7 +1,7 @@
 ghost use Rattle.env_check.specs.Follows.{Follows, entry_by};
 
 use crate::replay::Replay;
-use task_base::{FenceAt, JobId, Kind, Policy, QueueId, SeatNo};
+use task_base::{FenceAt, JobId, Kind, Policy, Priority, QueueId, RunnerId, SeatNo};
 
 // What the driver does by its script, without a reply.
 #[tactic(auto, using(crate::proofs::Scripted::scripted))]
@@ -21,6 +21,17 @@ impl Replay {
             return false;
         }
         self.env.policy(seat, policy);
+        true
+    }
+
+    /// The driver gave a runner another priority.
+    pub(crate) fn reprio(&mut self, seat: SeatNo, runner: RunnerId, priority: Priority) -> bool
+        ensures { Follows self.old self.new (entry_by seat (Kind.Reprio runner priority)) result }
+    {
+        if !self.is_by_script(seat, &Kind::Reprio { runner, priority }) {
+            return false;
+        }
+        self.env.reprio(seat, runner, priority);
         true
     }
 

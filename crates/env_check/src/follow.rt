@@ -37,6 +37,7 @@ impl Replay {
             Kind::Enter { task, scope } => self.enter(seat, task, scope),
             Kind::Leave { task } => self.leave(seat, task),
             Kind::Policy { policy } => self.policy(seat, policy),
+            Kind::Reprio { runner, priority } => self.reprio(seat, runner, priority),
             Kind::Fence { queue, at } => self.fence(seat, queue, at),
             Kind::Unfence { queue } => self.unfence(seat, queue),
             Kind::Vote { queue, voter, on } => self.vote(seat, queue, voter, on),

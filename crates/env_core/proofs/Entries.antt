@@ -6,8 +6,9 @@ use Rattle.std.proofs.lemmas.Bool.{ne_eqb}
 use Rattle.env_core.proofs.Wanted.{post_allowed}
 use Rattle.std.specs.Prelude.{not}
 use Rattle.task_model.specs.Refusal.{is_refused}
-use Rattle.env_core.proofs.Wanted.{main_post_is_sound, named, post_is_sound, queue_declared}
-use Rattle.pool_core.specs.Calls.{CanPost}
+use Rattle.env_core.proofs.Wanted.{main_post_is_sound, named, post_is_sound, queue_declared, runner_declared}
+use Rattle.pool_core.specs.Calls.{CanPost, KnowsRunner}
+use Rattle.task_traits.specs.declared.traits.Priority.{Priority}
 use Rattle.std.proofs.Common.{Bool, Some, true}
 use Rattle.task_base.specs.declared.entry.Kind.TheVariants as kinds
 use Rattle.env_core.proofs.Driver.{driver_moves, few_entries_made, is_counted}
@@ -182,6 +183,16 @@ can_post_by_script {script = script} {log = log} seat next task runner delay hol
     can_post seat next task runner delay (not (is_refused script log.items runner delay)) holds is
     (post_allowed (record { script = script; history = log.items }) seat task runner delay (not (is_refused script log.items runner delay))
     (wanted (not (is_refused script log.items runner delay))) refl)
+
+-- the pool's condition of a changed priority: the runner is declared
+pub knows_runner : {X : Type 0} {bodies : List (Option X)} {whole rest : X → List Step} {script : Plan} {log : Listed Entry} {pool : Pool}
+    {manager : Manager} {place made : ℕ}
+    (seat runner : ℕ) (priority : Priority) → Holds bodies whole rest script log pool manager place made
+    → IsWantedNext (record { script = script; history = log.items }) seat (kinds.Reprio runner priority) → KnowsRunner script log.items pool runner
+knows_runner {script = script} {log = log} seat runner priority holds wanted = record {
+  stands = holds.stands;
+  declared = runner_declared (record { script = script; history = log.items }) seat runner priority holds.plan wanted;
+}
 
 -- What the script does to a main queue.
 

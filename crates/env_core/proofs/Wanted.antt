@@ -34,6 +34,7 @@ use Rattle.task_base.specs.declared.entry.Entry.{Entry}
 use Rattle.task_base.specs.declared.entry.Kind.{Kind}
 use Rattle.task_base.specs.declared.limits.TheConstants.{LAST_MOMENT, MOST_MICROSECONDS}
 use Rattle.task_base.specs.declared.policy.Policy.{Policy}
+use Rattle.task_traits.specs.declared.traits.Priority.{Priority}
 use Rattle.task_base.specs.declared.script.Action.{Action}
 use Rattle.task_base.specs.declared.script.FenceAt.{FenceAt}
 use Rattle.task_base.specs.declared.script.MainQueue.{MainQueue}
@@ -220,6 +221,13 @@ pub policy_allowed : (view : EnvView) (seat : ℕ) (policy : Policy) → IsWante
     → IsAllowed view.script view.history (record { seat = seat; kind = kinds.Policy policy })
 unfolding may_come
 policy_allowed view seat policy next = driver_allowed view seat (kinds.Policy policy) next.driver (wanted_by_script view seat (kinds.Policy policy) next)
+
+-- a changed priority that the script wants
+pub reprio_allowed : (view : EnvView) (seat runner : ℕ) (priority : Priority) → IsWantedNext view seat (kinds.Reprio runner priority)
+    → IsAllowed view.script view.history (record { seat = seat; kind = kinds.Reprio runner priority })
+unfolding may_come
+reprio_allowed view seat runner priority next =
+    driver_allowed view seat (kinds.Reprio runner priority) next.driver (wanted_by_script view seat (kinds.Reprio runner priority) next)
 
 -- the start of shutdown that the script wants
 pub shutdown_allowed : (view : EnvView) (seat : ℕ) → IsWantedNext view seat kinds.Shutdown
@@ -488,6 +496,17 @@ pub queue_declared : (view : EnvView) (seat : ℕ) (kind : Kind) (queue : ℕ) �
     → queue < length view.script.queues
 queue_declared view seat kind queue is plan next = sound_at (queue < length view.script.queues) view seat kind plan next
     (λ x made w sound. names_queue view.script (own_entries 0 view.history) x made kind queue is w sound)
+
+-- the runner of a changed priority that the script wants is declared
+pub runner_declared : (view : EnvView) (seat runner : ℕ) (priority : Priority) → IsSound view.script → IsWantedNext view seat (kinds.Reprio runner priority)
+    → runner < length view.script.runners
+runner_declared view seat runner priority plan next =
+    sound_at (runner < length view.script.runners) view seat (kinds.Reprio runner priority) plan next by
+  where
+    by : (x : Action) (made : List Entry) → wants (own_entries 0 view.history) x made (kinds.Reprio runner priority) ≡ true → IsActionSound view.script x
+        → runner < length view.script.runners
+    by (actions.Reprio r p) made w sound = rw (eqb-true runner r (and_parts _ _ w).0) sound
+    by x made w sound = absurd cc
 
 -- the voter of a vote that the script wants is one of its queue
 pub voter_declared : (view : EnvView) (seat queue voter : ℕ) (on : Bool) → IsSound view.script → IsWantedNext view seat (kinds.Vote queue voter on)

@@ -27,8 +27,8 @@ use shutdown_phase::StillBlocked;
 use std::alloc::{AllocError, Global};
 use std::marker::Model;
 use task_base::{
-    Action, Entry, FenceAt, Kind, LAST_MOMENT, NotYet, Policy, QueueId, Rows, RunnerId, Scope,
-    Script, SeatNo, TaskId,
+    Action, Entry, FenceAt, Kind, LAST_MOMENT, NotYet, Policy, Priority, QueueId, Rows, RunnerId,
+    Scope, Script, SeatNo, TaskId,
 };
 use task_body::{Act, Assignment, JobPass, Taken, TaskBody};
 
@@ -162,6 +162,21 @@ impl<B: TaskBody> Env<B> {
         self.log.push_spare(Entry {
             seat,
             kind: Kind::Policy { policy },
+        });
+    }
+
+    /// The driver gives a runner another priority: its tasks that wait go by it from now on, and what runs counts as it was
+    /// taken. It looks at each task once, and gives the sequence of each task of the runner its place again, in
+    /// logarithmic time.
+    pub fn reprio(&mut self, seat: SeatNo, runner: RunnerId, priority: Priority)
+        requires { IsWantedNext self.old seat (Kind.Reprio runner priority) }
+        ensures { Enters self.old self.new seat (Kind.Reprio runner priority) }
+    {
+        self.pool.reprio(runner, priority);
+        self.agenda.entered(&self.script);
+        self.log.push_spare(Entry {
+            seat,
+            kind: Kind::Reprio { runner, priority },
         });
     }
 
@@ -496,7 +511,11 @@ fn drawer<B: TaskBody>(
 ) -> Result<Vec<Option<Box<B>>>, AllocError>
     ensures { IfOk result (λ drawer. drawer.items ≡ map Some bodies.items) }
 {
-    bodies.into_iter().map(Some).collect(alloc)
+    let mut drawer = Vec::with_capacity(alloc, bodies.len())?;
+    for body in bodies {
+        drawer.push(Some(body))?;
+    }
+    Ok(drawer)
 }
 
 // Drops the body of a task whose post was refused.

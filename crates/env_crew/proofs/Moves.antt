@@ -9,7 +9,9 @@ use Rattle.task_base.specs.Plan.{Plan}
 use Rattle.task_base.specs.declared.entry.Entry.{Entry}
 use Rattle.task_base.specs.declared.entry.Kind.{Kind}
 use Rattle.task_base.specs.declared.entry.Kind.TheVariants as kinds
+use Rattle.task_base.specs.Groups.{importance}
 use Rattle.task_base.specs.declared.policy.Policy.{Policy}
+use Rattle.task_traits.specs.declared.traits.Priority.{Priority}
 use Rattle.task_base.specs.declared.policy.Policy.TheVariants as policies
 use Rattle.task_base.specs.declared.script.Action.{Action}
 use Rattle.task_base.specs.declared.script.Action.TheVariants as actions
@@ -107,6 +109,10 @@ pub policy_same : (p : Policy) → same_policy p p ≡ true
 policy_same policies.All = refl
 policy_same policies.Foreground = refl
 policy_same policies.Nothing = refl
+
+-- a changed priority
+pub wants_reprio : (own : List Entry) (r : ℕ) (p : Priority) → wants own (actions.Reprio r p) [] (kinds.Reprio r p) ≡ true
+wants_reprio own r p = rw (eqb-same r, eqb-same (importance p)) refl
 
 -- at the start all actions are left
 pub at_start : (d : DeskView) (script : Plan) (actions : List Action) → d.script ≡ script → actions ≡ script.actions → mine d ≡ [] → IsAt d actions []

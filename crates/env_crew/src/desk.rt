@@ -13,7 +13,9 @@ ghost use Rattle.env_crew.specs.Serving.{IsFree};
 use crate::assigned::Assigned;
 use shutdown_phase::StillBlocked;
 use std::sync::Wait;
-use task_base::{FenceAt, JobId, JobReply, NotYet, Policy, QueueId, RunnerId, SeatNo, TaskId};
+use task_base::{
+    FenceAt, JobId, JobReply, NotYet, Policy, Priority, QueueId, RunnerId, SeatNo, TaskId,
+};
 use task_body::{Act, JobPass};
 
 /// What a worker that asks for work is given at its desk (this project's own rule).
@@ -64,6 +66,12 @@ pub trait Desk {
     fn policy<R: Wait>(&mut self, rt: &R, policy: Policy)
         requires { IsWanted (desk self.old) (kinds.Policy policy) }
         ensures { Answers (desk self.old) (desk self.new) (HasEntered (desk self.old).seat (kinds.Policy policy)) };
+
+    /// The driver gives a runner another priority: its tasks that wait go by it from now on, and what runs counts as it was
+    /// taken.
+    fn reprio<R: Wait>(&mut self, rt: &R, runner: RunnerId, priority: Priority)
+        requires { IsWanted (desk self.old) (kinds.Reprio runner priority) }
+        ensures { Answers (desk self.old) (desk self.new) (HasEntered (desk self.old).seat (kinds.Reprio runner priority)) };
 
     /// The driver puts a fence into a main queue: behind all tasks that are ready by now, or before all tasks. It takes the
     /// place of the one that stands.

@@ -76,6 +76,7 @@ fn perform<D: Desk, C: Clock, G: Gate, R: Wait>(
         }
         Action::Tick { count } => tick(rt, desk, clock, count),
         Action::Policy { policy } => desk.policy(rt, policy),
+        Action::Reprio { runner, priority } => desk.reprio(rt, runner, priority),
         Action::Fence { queue, at } => desk.fence(rt, queue, at),
         Action::Unfence { queue } => desk.unfence(rt, queue),
         Action::Vote { queue, voter, on } => desk.vote(rt, queue, voter, on),

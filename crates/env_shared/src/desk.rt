@@ -13,7 +13,8 @@ use shutdown_phase::StillBlocked;
 use std::marker::Model;
 use std::sync::Wait;
 use task_base::{
-    Behaviour, FenceAt, JobId, JobReply, NotYet, Policy, QueueId, RunnerId, SeatNo, TaskId,
+    Behaviour, FenceAt, JobId, JobReply, NotYet, Policy, Priority, QueueId, RunnerId, SeatNo,
+    TaskId,
 };
 use task_body::{Act, Assignment, JobPass, Taken, TaskBody};
 
@@ -123,6 +124,12 @@ impl<'a, B: TaskBody> Desk for SharedDesk<'a, B> {
     fn policy<R: Wait>(&mut self, rt: &R, policy: Policy) {
         let (mut env, hold) = Hold::begin(rt, self.shared, &mut self.seat);
         env.policy(hold.number(), policy);
+        self.seat = Some(hold.enter(env));
+    }
+
+    fn reprio<R: Wait>(&mut self, rt: &R, runner: RunnerId, priority: Priority) {
+        let (mut env, hold) = Hold::begin(rt, self.shared, &mut self.seat);
+        env.reprio(hold.number(), runner, priority);
         self.seat = Some(hold.enter(env));
     }
 

@@ -11,7 +11,7 @@ use Rattle.task_model.specs.Keys.{ready}
 use Rattle.task_model.specs.Sequences.{eligible, head_of}
 use Rattle.task_model.specs.Seats.{running, holding, runs_sequence, inside, acts_done}
 use Rattle.task_model.specs.Cells.{cell_of}
-use Rattle.task_model.specs.Capacity.{taken_with, open_scope, load, capacity, best_load, best_capacity, has_room}
+use Rattle.task_model.specs.Capacity.{priority_of, taken_with, open_scope, load, capacity, best_load, best_capacity, has_room}
 use Rattle.task_model.specs.Sources.{would_wait, waiting, best_of}
 use Rattle.hist_model.specs.Allowed.{by_script, by_task, may_come, IsAllowed}
 use Rattle.hist_model.specs.Legal.{IsLegal, is_legal}
@@ -22,8 +22,8 @@ use Rattle.turn_table.specs.Seats.{EntersOne}
 
 steps_legal : IsLegal steps_script steps_log
 unfolding fold_past now_of tick_from posts is_taken is_ended phase_of policy_of ready eligible head_of running holding runs_sequence inside acts_done cell_of
-    taken_with open_scope load capacity best_load best_capacity has_room would_wait waiting best_of current is_wanted is_finished by_script by_task may_come
-    is_legal
+    priority_of taken_with open_scope load capacity best_load best_capacity has_room would_wait waiting best_of current is_wanted is_finished by_script by_task
+    may_come is_legal
 steps_legal = refl
 
 -- the entry at a place is allowed after those before it

@@ -30,7 +30,7 @@ use Rattle.task_model.specs.Seats.{worker_seats, is_quiet, steps_of}
 use Rattle.task_model.specs.Capacity.{work_at, is_in, is_best_in, load_of, load, capacity, best_load, best_capacity, limit, best_limit, has_room_in, has_room}
 use Rattle.task_model.specs.Sources.{Candidate, sequence_candidate, IsWaiting, waiting, is_takeable, goes_before, best_of}
 use Rattle.pool_laws.proofs.Choice.Candidates.{sequence_in, candidate_would_wait, not_held_is_waiting, waiting_same}
-use Rattle.pool_laws.proofs.Room.Capacity.{free_parts, work_is}
+use Rattle.pool_laws.proofs.Room.Capacity.{free_parts}
 use Rattle.pool_laws.proofs.Seats.Running.{quiet_is_free, is_quiet_same}
 use Rattle.hist_model.specs.Script.{wants, is_finished, IsFinished, IsWhole}
 use Rattle.hist_model.specs.Views.{own_entries}
@@ -197,7 +197,7 @@ no_load : (script : Plan) (past : List Entry) (test : Priority → Bool) → is_
 no_load script past test quiet = ap length (filter_none (λ seat. holds_of test (work_at script past seat)) (worker_seats script)
     (AllByRecursion-range (λ seat. holds_of test (work_at script past seat) ≡ false) 1 script.workers (λ seat from to.
     let free = free_parts past seat (quiet_is_free script past seat quiet (omega (arith, to))) in
-    rw (work_is script past seat, free.0, free.1) refl)))
+    rw (free.0, free.1) refl)))
 
 -- so there is room for each priority
 room_at_rest : (script : Plan) (size : ℕ) (amount : ℕ → ℕ) (past : List Entry) (priority : Priority) → AddsUp script size amount
@@ -270,7 +270,7 @@ pool_tasks_taken script size amount log p a legal whole among =
     by (Forbidden forbidden) = true≢false (sym forbidden ∙ ap (λ phase. forbids phase (effective_at script p.home p.delay)) calm.phase)
     by (Unripe unripe) = true≢false (sym unripe.delayed ∙ ap (λ n. nat_lt 0 n) plain.delay_is)
     by (Waits w) =
-        let c : Candidate = sequence_candidate script (sequence_at script p) w.head in
+        let c : Candidate = sequence_candidate script log (sequence_at script p) w.head in
         nothing_waits script size amount log c a rest (a.no_single w.head.posted.home) (not_held_is_waiting script log c
         (candidate_would_wait script log (Sequence (sequence_at script p)) c
         (sequence_in script log (sequence_at script p) (sequence_there script size amount p.task p.home a plain.task_is plain.home_is) ∙ w.waits))

@@ -1,4 +1,8 @@
-use Rattle.std.proofs.Common.{arith, ap, length}
+use Rattle.std.proofs.Common.{ℕ, List, Some, arith, ap, subst, refl, length, ◌∙◌}
+use Rattle.script_model.specs.Grammar.{Reads}
+use Rattle.env_app.specs.Input.{part_behind, script_part}
+use Rattle.env_app.specs.Judged.{IsFoundAt, IsFoundIn}
+use Rattle.env_app.proofs.Outcomes.{gains_nothing}
 use Rattle.env_app.proofs.Passed.{behind_within, script_within}
 use Rattle.env_app.proofs.trace.trace.Goals as goal
 
@@ -9,3 +13,21 @@ script_of-requires g c =
 pub judge_log-requires-clause-short : goal.judge_log-requires-clause-short
 judge_log-requires-clause-short g c =
     omega (arith, ap length c.parts_of.ensures.behind, behind_within c.deref.result.now, ap length c.deref.ensures.value, c.in_ok-bytes.ensures.whole.within)
+
+pub returns-in-Ok-Wrong-clause-outcome : goal.returns-in-Ok-Wrong-clause-outcome
+returns-in-Ok-Wrong-clause-outcome g c told =
+    let bytes = c.in_ok-bytes.bytes.items in
+    let took = c.in_ok-bytes.ensures.whole in
+    let script = c.in_ok-script.script in
+    let line = Some c.in-Ok-Wrong.line in
+    let judged = rw c.in-Ok-Wrong.field-0-is at c.in-Ok-Wrong.ensures in
+    let found : IsFoundIn bytes line = record {
+      script = script;
+      reads = subst (λ (text : List ℕ). Reads text script) (c.parts_of.ensures.script ∙ ap script_part c.deref.ensures.value) c.in_ok-script.ensures.read;
+      found = subst (λ (text : List ℕ). IsFoundAt script text line) (c.parts_of.ensures.behind ∙ ap part_behind c.deref.ensures.value) judged;
+    } in (
+      refl,
+      took.end,
+      record { bytes = bytes; took = took; holds = record { line = line; found = found; holds = (refl, gains_nothing _) } },
+      record { bytes = bytes; took = took; holds = found },
+    )

@@ -12,6 +12,9 @@ returns-in-Tick c own entries runs holds made = rw c.in-Tick.is (c.is_tick.ensur
 pub returns-in-Policy : goal.returns-in-Policy
 returns-in-Policy c own entries runs holds made = rw c.in-Policy.is (c.is_policy.ensures own entries)
 
+pub returns-in-Reprio : goal.returns-in-Reprio
+returns-in-Reprio c own entries runs holds made = rw c.in-Reprio.is (c.is_reprio.ensures own entries)
+
 pub returns-in-Fence : goal.returns-in-Fence
 returns-in-Fence c own entries runs holds made = rw c.in-Fence.is (c.is_fence.ensures own entries)
 

@@ -6,7 +6,7 @@ use Rattle.task_base.specs.declared.script.Action.TheVariants as actions
 use Rattle.env_crew.specs.Desk.{mine}
 use Rattle.env_crew.proofs.Done.{done_by, done_by_call}
 use Rattle.env_crew.proofs.Holds.{later_entered, later_trans, mine_entered}
-use Rattle.env_crew.proofs.Moves.{at_more, policy_same, wanted_at, wanted_first, wants_fence, wants_main, wants_post, wants_rank, wants_vote}
+use Rattle.env_crew.proofs.Moves.{at_more, policy_same, wanted_at, wanted_first, wants_fence, wants_main, wants_post, wants_rank, wants_reprio, wants_vote}
 use Rattle.env_crew.proofs.driver.perform.Goals as goal
 
 -- A post.
@@ -50,6 +50,20 @@ returns-in-Policy-clause-done g c =
     let a = c.in-Policy in
     let made = c.policy.ensures in
     rw a.is (done_by_call (actions.Policy a.policy) _ made.holds made.answered (λ now. refl, λ now. refl, refl) refl c.requires.rests)
+
+-- Another priority.
+
+pub reprio-requires : goal.reprio-requires
+reprio-requires g c =
+    let a = c.in-Reprio in
+    wanted_first (g.D.Desk.desk c.args.desk.now) c.args.action (actions.Reprio a.runner a.priority) (kinds.Reprio a.runner a.priority)
+    c.requires.driver a.is c.requires.at refl (wants_reprio (mine (g.D.Desk.desk c.args.desk.now)) a.runner a.priority)
+
+pub returns-in-Reprio-clause-done : goal.returns-in-Reprio-clause-done
+returns-in-Reprio-clause-done g c =
+    let a = c.in-Reprio in
+    let made = c.reprio.ensures in
+    rw a.is (done_by_call (actions.Reprio a.runner a.priority) _ made.holds made.answered (λ now. refl, λ now. refl, refl) refl c.requires.rests)
 
 -- A fence.
 
