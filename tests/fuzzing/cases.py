@@ -86,17 +86,18 @@ class EditedLog(Case):
             places = [edit(rng, entries, place, busy) for place in range(len(entries))]
             places = [edited for edited in places if edited]
             if places:
-                self.judge_edit(lines, edit, *rng.choice(places))
+                self.judge_edit(lines, edit, *rng.choice(places), rng.choice([1, 2]))
         if log:
             last = b"illegal %d\n" % log.count(b"\n")
             want(self.program.run(["check"], text_of(lines) + MARK + log[:-1]), 1, last)
 
-    def judge_edit(self, lines, edit, edited, place):
-        log = "".join(line + "\n" for line in edited).encode()
+    def judge_edit(self, lines, edit, edited, place, version):
+        log = "".join(line + "\n" for line in (edited if version == 1 else logs.numbered(edited))).encode()
         told = self.program.run(["check"], text_of(lines) + MARK + log)
         found = int(told.output.split()[1]) if told.status == 1 else 0
-        if found <= place or edit in logs.EXACT and found != place + 1:
-            raise Wrong(f"an edit is not found: {edit.__name__}", f"line {place + 1}, {told.output}\n{log.decode()}")
+        line = place + version
+        if found < line or edit in logs.EXACT and found != line:
+            raise Wrong(f"an edit is not found: {edit.__name__}", f"line {line}, {told.output}\n{log.decode()}")
 
 
 class DamagedScript(Case):

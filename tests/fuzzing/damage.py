@@ -4,7 +4,7 @@ A damage takes the script's lines and the place of one. It gives other lines in 
 and the number of its reason; or nothing, where it does not apply.
 """
 
-FIXED = ("tick", "policy", "fence", "unfence", "vote", "rank", "close", "pump", "join", "cancel", "startjob", "post", "main")
+FIXED = ("tick", "policy", "reprio", "fence", "unfence", "vote", "rank", "close", "pump", "join", "cancel", "startjob", "post", "main")
 CONFIGURED = ("workers", "groups", "threshold")
 DECLARED = ("runner", "queue", "task", "job")
 
@@ -67,6 +67,7 @@ def undeclared(rng, lines, place):
     if word not in ("flush", "pump", "tick", "policy"):
         return None
     bad = [f"unfence {count(lines, 'queue')}", f"join {count(lines, 'job')}", f"post {count(lines, 'task')} 0 0"]
+    bad.append(f"reprio {count(lines, 'runner')} user_visible")
     return [rng.choice(bad)], 0, 7
 
 

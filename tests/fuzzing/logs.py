@@ -28,8 +28,13 @@ def lines_of(entries):
 
 
 def text_of(entries):
-    """The text of a log of these entries."""
+    """The text of a log of these entries, of version 1."""
     return "".join(line + "\n" for line in lines_of(entries)).encode()
+
+
+def numbered(lines):
+    """The lines of a log of version 2, of which these are the lines of its entries."""
+    return ["taskenv log 2", *lines, f"total {len(lines)}"]
 
 
 def busy_seats(entries):

@@ -111,14 +111,19 @@ class Maker:
         self.started += 1
         return f"startjob {self.started - 1}"
 
+    def of_runner(self):
+        return f"reprio {self.rng.randrange(len(self.may_block))} {self.rng.choice(PRIORITIES)}"
+
     def action(self):
-        kind = self.rng.choice(["posting"] * 10 + ["queue", "job", "pump"] * 2 + ["tick", "policy", "flush"])
+        kind = self.rng.choice(["posting"] * 10 + ["queue", "job", "pump", "reprio"] * 2 + ["tick", "policy", "flush"])
         if kind == "posting":
             return self.posting()
         if kind == "queue":
             return self.of_queue() if self.voters else None
         if kind == "job":
             return self.of_job() if self.jobs else None
+        if kind == "reprio":
+            return self.of_runner() if self.may_block else None
         return {
             "tick": f"tick {self.rng.choice([1, 1, 3, 20])}",
             "policy": f"policy {self.rng.choice(['all', 'all', 'all', 'foreground', 'none'])}",

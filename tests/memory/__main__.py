@@ -16,8 +16,6 @@ from pathlib import Path
 HERE = Path(__file__).parent
 # The seconds that a run may take.
 LIMIT = 30
-# How many requests a command makes do without: room that std's `collect` asks for ahead, for the list of the bodies.
-SPARED = 1
 
 
 class Memory:
@@ -69,9 +67,9 @@ def requests_in(letters):
 
 
 def are_told(outcomes):
-    """Whether each refusal is told, but for those that are spared. Of want of memory for the words or the buffer of the output,
-    which come first, there is no note."""
-    return re.fullmatch("-*6+", outcomes.replace("0", "", SPARED))
+    """Whether each refusal is told. Of want of memory for the words or the buffer of the output, which come first, there is no
+    note."""
+    return re.fullmatch("-*6+", outcomes)
 
 
 def complaint_about(letters, outcomes, words):
