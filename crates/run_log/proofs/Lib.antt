@@ -8,3 +8,5 @@ pub mod Turns
 pub mod LinesOfText
 pub mod LogLines
 pub mod SplitLines
+pub mod PlainWords
+pub mod Worked

@@ -1,5 +1,5 @@
 -- The words of a kind are read as that kind.
-use Rattle.std.proofs.Common.{◌≡◌, ◌<◌, ◌≤◌, ◌^◌, ℕ, true, false, None, Some, length, map, refl, arith}
+use Rattle.std.proofs.Common.{◌≡◌, ◌<◌, ◌≤◌, ◌^◌, ℕ, true, false, List, ◌∷◌, None, Some, length, map, refl, arith}
 use Rattle.std.specs.Fmt.{decimal}
 use Rattle.std.specs.Prelude.{codes}
 use Rattle.std.specs.Str.{all_ascii_digits, bytes_eq}
@@ -16,7 +16,9 @@ use Rattle.task_base.specs.declared.script.FenceAt.TheVariants.{Now, Start}
 use Rattle.task_base.specs.declared.step.Scope.TheVariants.{May, Will}
 use Rattle.log_model.specs.Fits.{Fits, KindFits}
 use Rattle.log_model.specs.LogText.{entry_parts, shown, kind_words}
+use Rattle.log_model.proofs.Laws.LogLines.{seat_parts}
 use Rattle.run_log.specs.Kinds.{kind_alone, kind_with_one, kind_with_two, kind_with_three, kind_with_four, kind_with_five, kind_of, joined_of, entry_of}
+use Rattle.run_log.specs.Spelling.{entry_behind_place}
 use Rattle.run_log.specs.Words.{number_of}
 use Rattle.numeral_text.proofs.Digits.{numerals}
 use Rattle.run_log.proofs.Numbers.{number_of-decimal}
@@ -100,6 +102,11 @@ reads_back kinds.Done h = refl
 pub entry_reads_back : (place : ℕ) (e : Entry) → place < 2 ^ 32 → Fits e → entry_of place (map shown (entry_parts place e)) ≡ Some e
 unfolding entry_of
 entry_reads_back place e low h = rw (of_32 place low, of_32 e.seat h.seat, reads_back e.kind h.kind, eq-eqb place place refl) refl
+
+-- its words behind the place, whatever stands there, are read as that entry
+pub seat_reads_back : (place : List ℕ) (e : Entry) → Fits e → entry_behind_place (place ∷ map shown (seat_parts e)) ≡ Some e
+unfolding entry_behind_place
+seat_reads_back place e h = rw (of_32 e.seat h.seat, reads_back e.kind h.kind) refl
 
 -- an entry has at most eight words
 pub few_words : (place : ℕ) (e : Entry) → length (map shown (entry_parts place e)) ≤ 8

@@ -4,3 +4,4 @@ pub mod JsonRows
 pub mod Words
 pub mod Kinds
 pub mod TextLines
+pub mod Spelling

@@ -5,7 +5,7 @@ ghost use Rattle.run_log.specs.Json.{OnSink, OnMemory};
 ghost use Rattle.run_log.specs.JsonRows.{before_row};
 
 use crate::json_fault::JsonFault;
-use crate::json_rows::row_text;
+use crate::json_rows::json_row;
 use env_io::{Sink, put_all};
 use std::alloc::{AllocError, Global};
 use task_base::{Entry, Rows};
@@ -35,7 +35,7 @@ fn json_text(alloc: Global, log: &[Entry]) -> Result<Vec<u8>, AllocError>
     let mut text = Vec::new(alloc);
     text.push(b'[')?;
     for (place, entry) in log.iter().enumerate() {
-        let row = row_text(alloc, place as u64, entry)?;
+        let row = json_row(alloc, place as u64, entry)?;
         text.extend_from_slice(bytes_before_row(place))?;
         text.extend_from_slice(row.as_bytes())?;
     }

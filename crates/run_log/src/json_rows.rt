@@ -9,7 +9,7 @@ use task_base::{Entry, FenceAt, JobReply, Kind, Policy, Priority, Scope};
 
 /// The entry in JSON: an array of its place, its seat, the word of its kind and the arguments, numbers as numbers and
 /// words as strings. The error is want of memory.
-pub(crate) fn row_text(alloc: Global, place: u64, entry: &Entry) -> Result<String, AllocError>
+pub fn json_row(alloc: Global, place: u64, entry: &Entry) -> Result<String, AllocError>
     ensures { IfOk result (λ text. string_bytes text ≡ json_of place entry.now) }
 {
     let mut row = Vec::new(alloc);

@@ -9,7 +9,8 @@ use task_base::{Entry, FenceAt, JobId, JobReply, Kind, Place, Policy, Priority, 
 /// The line of an entry at its place, with its line feed: decimal numbers and words, parted by single spaces (this
 /// project's own rule). The longest line, that of a job's step, has 95 bytes. It takes no memory.
 pub fn line(place: Place, entry: &Entry) -> Line
-    ensures { result.items ≡ line_of place entry.now }
+    ensures items { result.items ≡ line_of place entry.now }
+    ensures short { length result.items ≤ 161 }
 {
     let mut line = Line::new();
     add_decimal(&mut line, u64::from(place));
@@ -21,9 +22,9 @@ pub fn line(place: Place, entry: &Entry) -> Line
 
 // Adds the words of the kind: its name, and its arguments.
 fn add_kind(line: &mut Line, kind: &Kind)
-    requires { length line.old.items ≤ 50 }
+    requires { length line.old.items ≤ 45 }
     ensures words { line.new.items ≡ with_words line.old.items (kind_words kind.now) }
-    ensures short { length line.new.items ≤ 200 }
+    ensures short { length line.new.items ≤ 160 }
 {
     match *kind {
         Kind::Post {
@@ -79,10 +80,10 @@ fn add_kind(line: &mut Line, kind: &Kind)
 
 // A kind of one number.
 fn add_one(line: &mut Line, name: &[u8], first: u64)
-    requires line { length line.old.items ≤ 50 }
+    requires line { length line.old.items ≤ 45 }
     requires name { length name.now ≤ 9 }
     ensures words { line.new.items ≡ with_words line.old.items (name.now ∷ decimal first ∷ []) }
-    ensures short { length line.new.items ≤ 200 }
+    ensures short { length line.new.items ≤ 160 }
 {
     add_word(line, name);
     add_number(line, first);
@@ -90,10 +91,10 @@ fn add_one(line: &mut Line, name: &[u8], first: u64)
 
 // A kind of two numbers.
 fn add_two(line: &mut Line, name: &[u8], first: u32, second: u64)
-    requires line { length line.old.items ≤ 50 }
+    requires line { length line.old.items ≤ 45 }
     requires name { length name.now ≤ 9 }
     ensures words { line.new.items ≡ with_words line.old.items (name.now ∷ decimal first ∷ decimal second ∷ []) }
-    ensures short { length line.new.items ≤ 200 }
+    ensures short { length line.new.items ≤ 160 }
 {
     add_word(line, name);
     add_number(line, u64::from(first));
@@ -102,10 +103,10 @@ fn add_two(line: &mut Line, name: &[u8], first: u32, second: u64)
 
 // A kind of three numbers.
 fn add_three(line: &mut Line, name: &[u8], first: u32, second: u32, third: u64)
-    requires line { length line.old.items ≤ 50 }
+    requires line { length line.old.items ≤ 45 }
     requires name { length name.now ≤ 9 }
     ensures words { line.new.items ≡ with_words line.old.items (name.now ∷ decimal first ∷ decimal second ∷ decimal third ∷ []) }
-    ensures short { length line.new.items ≤ 200 }
+    ensures short { length line.new.items ≤ 160 }
 {
     add_word(line, name);
     add_number(line, u64::from(first));
@@ -115,11 +116,11 @@ fn add_three(line: &mut Line, name: &[u8], first: u32, second: u32, third: u64)
 
 // A kind of one word.
 fn add_words(line: &mut Line, name: &[u8], word: &[u8])
-    requires line { length line.old.items ≤ 50 }
+    requires line { length line.old.items ≤ 45 }
     requires name { length name.now ≤ 9 }
     requires word { length word.now ≤ 10 }
     ensures words { line.new.items ≡ with_words line.old.items (name.now ∷ word.now ∷ []) }
-    ensures short { length line.new.items ≤ 200 }
+    ensures short { length line.new.items ≤ 160 }
 {
     add_word(line, name);
     add_word(line, word);
@@ -127,11 +128,11 @@ fn add_words(line: &mut Line, name: &[u8], word: &[u8])
 
 // A kind of a number and a word.
 fn add_flag(line: &mut Line, name: &[u8], first: u32, word: &[u8])
-    requires line { length line.old.items ≤ 50 }
+    requires line { length line.old.items ≤ 45 }
     requires name { length name.now ≤ 9 }
     requires word { length word.now ≤ 20 }
     ensures words { line.new.items ≡ with_words line.old.items (name.now ∷ decimal first ∷ word.now ∷ []) }
-    ensures short { length line.new.items ≤ 200 }
+    ensures short { length line.new.items ≤ 160 }
 {
     add_word(line, name);
     add_number(line, u64::from(first));
@@ -140,10 +141,10 @@ fn add_flag(line: &mut Line, name: &[u8], first: u32, word: &[u8])
 
 // The post of a task to a runner or a main queue.
 fn add_post(line: &mut Line, name: &[u8], task: u32, home: u32, delay: u64, ok: bool)
-    requires line { length line.old.items ≤ 50 }
+    requires line { length line.old.items ≤ 45 }
     requires name { length name.now ≤ 9 }
     ensures words { line.new.items ≡ with_words line.old.items (name.now ∷ decimal task ∷ decimal home ∷ decimal delay ∷ reply_word ok ∷ []) }
-    ensures short { length line.new.items ≤ 200 }
+    ensures short { length line.new.items ≤ 160 }
 {
     add_word(line, name);
     add_number(line, u64::from(task));
@@ -154,9 +155,9 @@ fn add_post(line: &mut Line, name: &[u8], task: u32, home: u32, delay: u64, ok: 
 
 // A vote on a main queue.
 fn add_vote(line: &mut Line, queue: QueueId, voter: u8, on: bool)
-    requires { length line.old.items ≤ 50 }
+    requires { length line.old.items ≤ 45 }
     ensures words { line.new.items ≡ with_words line.old.items (kind_words (Vote queue voter on)) }
-    ensures short { length line.new.items ≤ 200 }
+    ensures short { length line.new.items ≤ 160 }
 {
     add_word(line, b"vote");
     add_number(line, u64::from(queue));
@@ -166,9 +167,9 @@ fn add_vote(line: &mut Line, queue: QueueId, voter: u8, on: bool)
 
 // The end of an item, and the item that the seat goes on with.
 fn add_step(line: &mut Line, job: JobId, id: u32, item: u32, value: u64, next: Option<u32>)
-    requires { length line.old.items ≤ 50 }
+    requires { length line.old.items ≤ 45 }
     ensures words { line.new.items ≡ with_words line.old.items (kind_words (JobStep job id item value next)) }
-    ensures short { length line.new.items ≤ 200 }
+    ensures short { length line.new.items ≤ 160 }
 {
     add_word(line, b"jobstep");
     add_number(line, u64::from(job));
@@ -180,9 +181,9 @@ fn add_step(line: &mut Line, job: JobId, id: u32, item: u32, value: u64, next: O
 
 // The item that a seat goes on with, or `-` where it leaves the job.
 fn add_next(line: &mut Line, next: Option<u32>)
-    requires { length line.old.items ≤ 170 }
+    requires { length line.old.items ≤ 139 }
     ensures words { line.new.items ≡ line.old.items ++ 32 ∷ shown (next_part next) }
-    ensures short { length line.new.items ≤ 200 }
+    ensures short { length line.new.items ≤ 160 }
 {
     match next {
         Some(item) => add_number(line, u64::from(item)),
@@ -192,9 +193,9 @@ fn add_next(line: &mut Line, next: Option<u32>)
 
 // The join of a job, and how it has ended.
 fn add_joined(line: &mut Line, job: JobId, reply: JobReply)
-    requires { length line.old.items ≤ 50 }
+    requires { length line.old.items ≤ 45 }
     ensures words { line.new.items ≡ with_words line.old.items (kind_words (Joined job reply)) }
-    ensures short { length line.new.items ≤ 200 }
+    ensures short { length line.new.items ≤ 160 }
 {
     add_word(line, b"joined");
     add_number(line, u64::from(job));
@@ -203,9 +204,9 @@ fn add_joined(line: &mut Line, job: JobId, reply: JobReply)
 
 // How a joined job has ended: a word, and the sum of a job that is done.
 fn add_reply(line: &mut Line, reply: JobReply)
-    requires { length line.old.items ≤ 150 }
+    requires { length line.old.items ≤ 130 }
     ensures words { line.new.items ≡ with_words line.old.items (map shown (reply_parts reply)) }
-    ensures short { length line.new.items ≤ 200 }
+    ensures short { length line.new.items ≤ 160 }
 {
     match reply {
         JobReply::Refused => add_word(line, b"refused"),

@@ -9,6 +9,7 @@ ghost use Rattle.run_log.specs.TextLines.{IsRead, IsBadLine};
 use crate::entries::entry_at;
 use crate::fault::LogFault;
 use crate::versions::{end_of, lines_before, split_head};
+use memchr::memchr;
 use std::alloc::{AllocError, Global};
 use task_base::{Entry, Place, Rows};
 
@@ -70,5 +71,5 @@ fn line_end(bytes: &[u8]) -> usize
 fn first_feed(bytes: &[u8]) -> Option<usize>
     ensures { result ≡ position (λ byte. byte == 10) bytes.now }
 {
-    bytes.iter().position(|byte| *byte == b'\n')
+    memchr(b'\n', bytes)
 }

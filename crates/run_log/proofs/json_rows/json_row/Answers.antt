@@ -7,7 +7,7 @@ use Rattle.serde_json.proofs.Views.{view-Array}
 use Rattle.log_model.specs.LogText.{number}
 use Rattle.run_log.specs.JsonRows.{data_of}
 use Rattle.run_log.proofs.JsonTexts.{row_is, row_data-text, row_data-has_no_float}
-use Rattle.run_log.proofs.json_rows.row_text.Goals as goal
+use Rattle.run_log.proofs.json_rows.json_row.Goals as goal
 
 pub returns : goal.returns
 returns c =
