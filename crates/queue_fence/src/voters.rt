@@ -1,6 +1,5 @@
 ghost use Rattle.std.specs.Prelude.{◌≡◌, ◌<◌, ◌≤◌, length, replicate, slice_set, true};
 ghost use Rattle.queue_fence.specs.Voters.{all_on};
-ghost use Rattle.queue_fence.specs.declared.voters.TheConstants.{MOST_VOTERS};
 
 use std::marker::Model;
 
@@ -19,19 +18,18 @@ pub struct Voters {
 
 impl Model for Voters {
     ghost use Rattle.std.specs.Prelude.{◌≤◌, Bool, List, take};
-    ghost use Rattle.queue_fence.specs.declared.voters.TheConstants.{MOST_VOTERS};
 
     ghost Value = { List Bool };
 
     ghost view = { λ voters. take voters.count voters.votes };
 
-    ghost invariant = { λ voters. voters.count ≤ MOST_VOTERS };
+    ghost invariant = { λ voters. voters.count ≤ 16 };
 }
 
 impl Voters {
     /// So many voters, all of which vote for the queue.
     pub fn new(count: u8) -> Voters
-        requires { count ≤ MOST_VOTERS }
+        requires { count ≤ 16 }
         ensures { result ≡ replicate count true }
     {
         Voters {

@@ -20,12 +20,11 @@ use Rattle.list_laws.proofs.Values.{some-injective}
 use Rattle.task_base.specs.declared.script.Lane.{Lane}
 use Rattle.task_base.specs.declared.script.Lane.TheVariants.{Immediate, Delayed}
 use Rattle.queue_selector.specs.declared.front.Front.{Front}
-use Rattle.queue_selector.specs.declared.front.TheConstants.{MOST_DELAYED}
 use Rattle.queue_selector.specs.declared.front_set.Entry.{Entry}
 use Rattle.queue_selector.specs.declared.row.Row.{Row}
 use Rattle.queue_selector.specs.FrontSet.{Entries}
 use Rattle.queue_selector.specs.Fronts.{is_immediate, order_below, class_below, least_class, of_least_class}
-use Rattle.queue_selector.specs.Fronts.{immediate_of_least_class, is_starved, choice_among}
+use Rattle.queue_selector.specs.Fronts.{immediate_of_least_class, most_delayed, is_starved, choice_among}
 use Rattle.queue_selector.specs.Rows.{open_front, row_fronts, fronts_from}
 use Rattle.queue_selector.specs.Selecting.{Selecting, choice, immediate_is_open}
 use Rattle.queue_selector.specs.Sorted.{entry_of, first_of, is_in, is_of, sorted, sooner_of}
@@ -205,7 +204,7 @@ pub choice_is : (fronts : List Front) (streak class : ℕ) → Differ order_belo
 choice_is fronts streak class differ is =
     ap (λ o. sooner_of streak o (first_of class Delayed fronts)) (first_immediate fronts class is)
     ∙ ap (sooner_of streak (least order_below immediate)) (first_delayed fronts class is)
-    ∙ by (cases_lt streak MOST_DELAYED) (least order_below immediate) (least order_below delayed)
+    ∙ by (cases_lt streak most_delayed) (least order_below immediate) (least order_below delayed)
     (least-split order_below (ranks_by (λ f. f.order)) (λ f. is_immediate f.lane) (of_least_class fronts)
     (differ-filter order_below (λ f. holds_of (λ c. f.class == c) (least_class fronts)) fronts differ)) refl (is_some-least order_below immediate)
   where
@@ -215,28 +214,28 @@ choice_is fronts streak class differ is =
     delayed : List Front
     delayed = filter (λ f. not (is_immediate f.lane)) (of_least_class fronts)
 
-    short : streak < MOST_DELAYED → (o other : Option Front) → sooner_of streak o other ≡ lesser order_below o other
+    short : streak < most_delayed → (o other : Option Front) → sooner_of streak o other ≡ lesser order_below o other
     short less None other = refl
     short less (Some a) None = refl
-    short less (Some a) (Some b) = ap (λ t. Some (cond (t && order_below b a) b a)) (lt-ltb streak MOST_DELAYED less)
+    short less (Some a) (Some b) = ap (λ t. Some (cond (t && order_below b a) b a)) (lt-ltb streak most_delayed less)
 
-    among : (t : Bool) → nat_le MOST_DELAYED streak ≡ t
+    among : (t : Bool) → nat_le most_delayed streak ≡ t
         → least order_below (cond (t && nat_lt 0 (length immediate)) immediate (of_least_class fronts)) ≡ choice_among fronts streak
     among t is = sym (ap (λ t. least order_below (cond (t && nat_lt 0 (length immediate)) immediate (of_least_class fronts))) is)
 
-    of_some : (some : Bool) → some ≡ nat_lt 0 (length immediate) → MOST_DELAYED ≤ streak
+    of_some : (some : Bool) → some ≡ nat_lt 0 (length immediate) → most_delayed ≤ streak
         → least order_below (cond some immediate (of_least_class fronts)) ≡ choice_among fronts streak
     of_some some is long =
-        ap (λ t. least order_below (cond t immediate (of_least_class fronts))) is ∙ among true (le-leb MOST_DELAYED streak long)
+        ap (λ t. least order_below (cond t immediate (of_least_class fronts))) is ∙ among true (le-leb most_delayed streak long)
 
-    not_long : (n : ℕ) → n < MOST_DELAYED → nat_le MOST_DELAYED n ≡ false
+    not_long : (n : ℕ) → n < most_delayed → nat_le most_delayed n ≡ false
     not_long n less = grind arith
 
-    starved : MOST_DELAYED ≤ streak → (a : Front) (other : Option Front) → sooner_of streak (Some a) other ≡ Some a
+    starved : most_delayed ≤ streak → (a : Front) (other : Option Front) → sooner_of streak (Some a) other ≡ Some a
     starved long a None = refl
-    starved long a (Some b) = ap (λ t. Some (cond (t && order_below b a) b a)) (le-ltb streak MOST_DELAYED long)
+    starved long a (Some b) = ap (λ t. Some (cond (t && order_below b a) b a)) (le-ltb streak most_delayed long)
 
-    by : (streak < MOST_DELAYED) ⊎ (MOST_DELAYED ≤ streak) → (o other : Option Front) → least order_below (of_least_class fronts) ≡ lesser order_below o other
+    by : (streak < most_delayed) ⊎ (most_delayed ≤ streak) → (o other : Option Front) → least order_below (of_least_class fronts) ≡ lesser order_below o other
         → least order_below immediate ≡ o → is_some o ≡ nat_lt 0 (length immediate) → sooner_of streak o other ≡ choice_among fronts streak
     by (inl less) o other split first some = short less o other ∙ sym split ∙ among false (not_long streak less)
     by (inr long) None other split first some = sym split ∙ of_some false some long
@@ -277,7 +276,7 @@ none_is s chosen differ is = (forth chosen is, back chosen is)
     forth (Some c) is none = absurd (true≢false none)
 
     of_none : choice_among [] s.streak ≡ None
-    of_none = elim (nat_le MOST_DELAYED s.streak) as (λ b. least order_below (cond {A = List Front} (b && nat_lt 0 0) [] []) ≡ None) [
+    of_none = elim (nat_le most_delayed s.streak) as (λ b. least order_below (cond {A = List Front} (b && nat_lt 0 0) [] []) ≡ None) [
       | true ↦ refl
       | false ↦ refl
     ]
@@ -288,8 +287,8 @@ none_is s chosen differ is = (forth chosen is, back chosen is)
         ∙ ap (option_map {U = ℕ × Lane} (λ f. (f.queue, f.lane))) of_none)))
 
 -- the streak is short where it grows
-pub short : (s : Selecting) (queue : ℕ) → choice s ≡ Some (queue, Delayed) → immediate_is_open s ≡ true → s.streak < MOST_DELAYED
-short s queue is waits = by (cases_lt s.streak MOST_DELAYED)
+pub short : (s : Selecting) (queue : ℕ) → choice s ≡ Some (queue, Delayed) → immediate_is_open s ≡ true → s.streak < most_delayed
+short s queue is waits = by (cases_lt s.streak most_delayed)
   where
     fronts : List Front
     fronts = fronts_from 0 s.rows
@@ -304,10 +303,10 @@ short s queue is waits = by (cases_lt s.streak MOST_DELAYED)
         (filter_passes (λ g. is_immediate g.lane) (of_least_class fronts)) it.member)
         ∙ ap (λ (p : ℕ × Lane). is_immediate p.1) (some-injective same))
 
-    by : (s.streak < MOST_DELAYED) ⊎ (MOST_DELAYED ≤ s.streak) → s.streak < MOST_DELAYED
+    by : (s.streak < most_delayed) ⊎ (most_delayed ≤ s.streak) → s.streak < most_delayed
     by (inl less) = less
     by (inr long) =
-        let starved : is_starved fronts s.streak ≡ true = ap (λ t. t && immediate_is_open s) (le-leb MOST_DELAYED s.streak long) ∙ waits in
+        let starved : is_starved fronts s.streak ≡ true = ap (λ t. t && immediate_is_open s) (le-leb most_delayed s.streak long) ∙ waits in
         absurd (lane_of (least order_below (immediate_of_least_class fronts)) refl
         (ap (λ t. option_map {U = ℕ × Lane} (λ f. (f.queue, f.lane)) (least order_below (cond t (immediate_of_least_class fronts) (of_least_class fronts))))
         (sym starved) ∙ is))

@@ -5,7 +5,6 @@ use Rattle.list_laws.specs.Lists.{least, holds_of}
 use Rattle.task_base.specs.declared.script.Lane.{Lane}
 use Rattle.task_base.specs.declared.script.Lane.TheVariants.{Immediate, Delayed}
 use Rattle.queue_selector.specs.declared.front.Front.{Front}
-use Rattle.queue_selector.specs.declared.front.TheConstants.{MOST_DELAYED}
 
 -- it is the immediate lane
 abbrev pub is_immediate : Lane → Bool
@@ -32,10 +31,14 @@ of_least_class fronts = filter (λ f. holds_of (λ class. f.class == class) (lea
 abbrev pub immediate_of_least_class : List Front → List Front
 immediate_of_least_class fronts = filter (λ f. is_immediate f.lane) (of_least_class fronts)
 
+-- how many delayed tasks may run in a row while an immediate one of their class waits
+abbrev pub most_delayed : ℕ
+most_delayed = 3
+
 -- immediate tasks waited through as many delayed ones as they may, and an immediate one of the least class is among the
 -- fronts
 abbrev pub is_starved : List Front → ℕ → Bool
-is_starved fronts streak = nat_le MOST_DELAYED streak && nat_lt 0 (length (immediate_of_least_class fronts))
+is_starved fronts streak = nat_le most_delayed streak && nat_lt 0 (length (immediate_of_least_class fronts))
 
 -- the choice among open fronts after a streak: of those of the least class, or where immediate tasks are starved of the
 -- immediate ones among them, the one of least order (as Chromium's `task_queue_selector.cc` has it)

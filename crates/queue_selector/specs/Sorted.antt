@@ -6,12 +6,11 @@ use Rattle.list_laws.specs.Sorts.{sort_by, Differ}
 use Rattle.task_base.specs.declared.script.Lane.{Lane}
 use Rattle.task_base.specs.declared.script.Lane.TheVariants.{Immediate, Delayed}
 use Rattle.queue_selector.specs.declared.front.Front.{Front}
-use Rattle.queue_selector.specs.declared.front.TheConstants.{MOST_DELAYED}
 use Rattle.queue_selector.specs.declared.front_set.Entry.{Entry}
 use Rattle.queue_selector.specs.declared.row.Row.{Row}
 use Rattle.queue_selector.specs.declared.selector.TheConstants.{LAST_CLASS, SETS}
 use Rattle.queue_selector.specs.FrontSet.{Entries}
-use Rattle.queue_selector.specs.Fronts.{is_immediate, order_below}
+use Rattle.queue_selector.specs.Fronts.{is_immediate, most_delayed, order_below}
 use Rattle.queue_selector.specs.Rows.{fronts_from}
 
 -- the front is in the lane
@@ -32,7 +31,7 @@ abbrev pub sooner_of : ℕ → Option Front → Option Front → Option Front
 sooner_of streak None delayed = delayed
 sooner_of streak (Some immediate) None = Some immediate
 sooner_of streak (Some immediate) (Some delayed) =
-    Some (if nat_lt streak MOST_DELAYED && order_below delayed immediate then delayed else immediate)
+    Some (if nat_lt streak most_delayed && order_below delayed immediate then delayed else immediate)
 
 -- a front as a set holds it
 abbrev pub entry_of : Front → Entry

@@ -68,6 +68,7 @@ module _ {V : Type 0} (history : V → List Entry) (basis_of : V → Plan) (basi
       made_is = k.made_is;
       drawn = k.drawn;
       kept = k.kept;
+      apart = k.apart;
     })
 
   -- a seat that has seen a shutdown at this place sets it

@@ -34,6 +34,7 @@ module _ (basis : Plan) where
     made_is = λ z. absurd (ne z);
     drawn = λ z. absurd (ne z);
     kept = k.kept;
+    apart = k.apart;
   }
 
   -- one number was placed, which is not this seat's, nor one that it has drawn or that was joined
@@ -54,6 +55,7 @@ module _ (basis : Plan) where
       begins = f.begins;
       own = f.own;
     }) k.kept;
+    apart = k.apart;
   }
 
   -- another seat took or gave back the turn, which this one does not hold
@@ -69,6 +71,7 @@ module _ (basis : Plan) where
     made_is = k.made_is;
     drawn = k.drawn;
     kept = k.kept;
+    apart = k.apart;
   }
 
   -- what was joined still fits after an entry of a live seat
@@ -94,6 +97,7 @@ module _ (basis : Plan) where
     made_is = k.made_is;
     drawn = k.drawn;
     kept = kept_after_entry log place e v.kept joined_ne k.kept;
+    apart = k.apart;
   }
 
   -- the third word was set, to another number than 0
@@ -109,4 +113,5 @@ module _ (basis : Plan) where
     made_is = k.made_is;
     drawn = k.drawn;
     kept = k.kept;
+    apart = k.apart;
   }

@@ -1,11 +1,12 @@
 -- Splitting a seat and joining seats keep what holds of the turn.
 use Rattle.std.proofs.Common.{◌≡◌, ◌≢◌, ℕ, ◌<◌, true, false, List, length, set, sym, ◌∙◌, arith}
+use Rattle.list_laws.proofs.Elements.{AllByRecursion-map}
 use Rattle.atomic_table.specs.Table.{Splits, Joins}
 use Rattle.atomic_table.proofs.Lists.{set_else}
 use Rattle.task_base.specs.Plan.{Plan}
 use Rattle.task_base.specs.declared.entry.Entry.{Entry}
 use Rattle.turn_table.specs.Places.{Place, not_given, joined, at}
-use Rattle.turn_table.specs.Turn.{SeatFits, TurnHolds}
+use Rattle.turn_table.specs.Turn.{KeptFits, SeatFits, TurnHolds}
 use Rattle.turn_table.specs.Views.{after_split, split_off, spent_copy, with_kept, spent}
 use Rattle.turn_table.specs.declared.view.View.{View}
 use Rattle.turn_table.proofs.Numbers.{placed, placed_here, placed_else, at_differs, not_given_differs, joined_differs, joined_is_given, placed_not_given, each_after_set, each_after_split, holder_stays, holder_stays_longer}
@@ -69,6 +70,7 @@ module _ {V : Type 0} (history : V → List Entry) (basis_of : V → Plan) (basi
         made_is = mine.made_is;
         drawn = λ z d. absurd (omega (arith, d));
         kept = mine.kept;
+        apart = mine.apart;
       }
 
       right : SeatFits basis h.log h.made h.front h.held h.holder place new (split_off v)
@@ -82,6 +84,7 @@ module _ {V : Type 0} (history : V → List Entry) (basis_of : V → Plan) (basi
         made_is = λ z. absurd (omega (arith, has, z));
         drawn = λ z d. absurd (omega (arith, d));
         kept = tt;
+        apart = tt;
       }
 
   -- a spent copy is cut off
@@ -163,4 +166,9 @@ module _ {V : Type 0} (history : V → List Entry) (basis_of : V → Plan) (basi
         made_is = k.made_is;
         drawn = k.drawn;
         kept = (record { placed = placed_here h.place w.number joined; begins = theirs.begins; own = theirs.own }, k.kept);
+        apart = (
+          AllByRecursion-map (KeptFits h.log h.place) (λ x. x.number ≢ w.number) v.kept
+              (λ x f. joined_differs h.place w.number x.number other theirs.placed f.placed) mine.kept,
+          mine.apart,
+        );
       }

@@ -64,6 +64,7 @@ module _ {V : Type 0} (history : V → List Entry) (basis_of : V → Plan) where
         made_is = λ _. refl;
         drawn = λ _ h. absurd (omega (arith, h));
         kept = tt;
+        apart = tt;
       }
 
       known : (id : ℕ) (v : View) → get_elem? (first_view (basis_of value) ∷ []) id ≡ some v → v.live ≡ true
@@ -129,6 +130,7 @@ module _ {V : Type 0} (history : V → List Entry) (basis_of : V → Plan) where
                 made_is = λ z. ap (λ n. n + 1) (mine.made_is z);
                 drawn = λ z some_drawn. let same = mine.made_is z in (omega (arith, same), h.not_made me.0.made (omega (arith, same)));
                 kept = mine.kept;
+                apart = mine.apart;
               })
               (λ j w ne is up. let k = h.seats j w is up in
               after_draw basis h.log h.made h.front h.held h.holder h.place j w
@@ -181,6 +183,7 @@ module _ {V : Type 0} (history : V → List Entry) (basis_of : V → Plan) where
                 made_is = mine.made_is;
                 drawn = mine.drawn;
                 kept = mine.kept;
+                apart = mine.apart;
               })
               (λ j w ne is up. h.seats j w is up);
         }

@@ -144,6 +144,7 @@ module _ {V : Type 0} (history : V → List Entry) (basis_of : V → Plan) (basi
               made_is = mine.made_is;
               drawn = mine.drawn;
               kept = mine.kept;
+              apart = mine.apart;
             })
                 (λ j w ne is up. let k = h.seats j w is up in
                 after_turn basis h.log h.made h.front h.held true h.holder id h.place j w
@@ -242,6 +243,7 @@ module _ {V : Type 0} (history : V → List Entry) (basis_of : V → Plan) (basi
             made_is = mine.made_is;
             drawn = mine.drawn;
             kept = kept_after_entry basis h.log h.place one.entry me.0.kept joined_ne mine.kept;
+            apart = mine.apart;
           })
               (λ j w ne is up. let k = h.seats j w is up in
               after_entry basis h.log h.made h.front h.held h.holder h.place j w one.entry
@@ -289,6 +291,7 @@ module _ {V : Type 0} (history : V → List Entry) (basis_of : V → Plan) (basi
             made_is = mine.made_is;
             drawn = mine.drawn;
             kept = mine.kept;
+            apart = mine.apart;
           })
               (λ j w ne is up. let k = h.seats j w is up in
               after_turn basis h.log h.made h.front h.held false h.holder h.holder h.place j w (only_holder s h here j w ne k) k);

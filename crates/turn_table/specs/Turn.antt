@@ -10,7 +10,7 @@ use Rattle.task_base.specs.Plan.{Plan}
 use Rattle.task_base.specs.declared.entry.Entry.{Entry}
 use Rattle.hist_model.specs.Legal.{IsLegal}
 use Rattle.hist_model.specs.Views.{IsPrefix, own_entries}
-use Rattle.turn_table.specs.Places.{Place, not_given, joined, at, Kept}
+use Rattle.turn_table.specs.Places.{Place, not_given, joined, at, Kept, AreApart}
 use Rattle.turn_table.specs.Shutdowns.{IsShutdownAt}
 use Rattle.turn_table.specs.declared.view.View.{View}
 
@@ -46,8 +46,9 @@ pub record SeatFits (basis : Plan) (log : List Entry) (made front : ℕ) (held :
   pub made_is : v.number ≡ 0 → v.made ≡ made
   -- a number that seat 0 has drawn and not yet given to a seat is below the next number, and nobody has it
   pub drawn : v.number ≡ 0 → 0 < v.drawn → (v.drawn < made) × (place v.drawn ≡ not_given)
-  -- the same holds of the seats that were joined
+  -- the same holds of the seats that were joined to it, and their numbers differ from one another
   pub kept : AllByRecursion (KeptFits log place) v.kept
+  pub apart : AreApart v.kept
 
 -- the seat that holds the turn
 pub record Holder (views : List View) (holder : ℕ) : Type 0 where

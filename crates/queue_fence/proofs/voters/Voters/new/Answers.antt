@@ -1,7 +1,6 @@
 use Rattle.std.proofs.Common.{true}
 use Rattle.std.proofs.lemmas.List.{take-replicate}
-use Rattle.queue_fence.specs.declared.voters.TheConstants.{MOST_VOTERS}
 use Rattle.queue_fence.proofs.voters.Voters.new.Goals as goal
 
 pub returns : goal.returns
-returns c = take-replicate c.args.count MOST_VOTERS true c.requires
+returns c = take-replicate c.args.count 16 true c.requires
