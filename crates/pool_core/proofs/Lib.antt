@@ -31,6 +31,7 @@ pub mod Scopes
 pub mod Ripening
 pub mod Ticks
 pub mod Places
+pub mod Leaving
 pub mod Shutdown
 pub mod Reprio
 pub mod Others

@@ -44,19 +44,20 @@ use Rattle.task_tracker.specs.Tracked.{Tracked}
 
 -- The sequences of the tasks, one by one.
 
--- a task that is meant was posted in its way
-posted_is : (only : Option ℕ) (postings : List (Option Posting)) (t : ℕ) (posting : Posting) → posted_at only postings t ≡ Some posting
-    → slice_get postings t ≡ Some (Some posting)
+-- a task that is meant was posted in its way, to a runner that is meant
+pub posted_is : (only : Option ℕ) (postings : List (Option Posting)) (t : ℕ) (posting : Posting) → posted_at only postings t ≡ Some posting
+    → (slice_get postings t ≡ Some (Some posting)) × (is_meant only posting ≡ true)
 posted_is only postings t posting is = by (slice_get postings t) (ap (keep (is_meant only)) (unwrap_or-slice_get postings t None) ∙ is)
   where
-    passed : (b : Bool) (p : Posting) → cond b (Some p) None ≡ Some posting → p ≡ posting
-    passed true p some = some-injective some
-    passed false p none = absurd (none-some posting none)
+    passed : (b : Bool) (p : Posting) → is_meant only p ≡ b → cond b (Some p) None ≡ Some posting → (p ≡ posting) × (is_meant only posting ≡ true)
+    passed true p meant some = let same = some-injective some in (same, subst (λ q. is_meant only q ≡ true) same meant)
+    passed false p meant none = absurd (none-some posting none)
 
-    by : (o : Option (Option Posting)) → keep (is_meant only) (unwrap_or o None) ≡ Some posting → o ≡ Some (Some posting)
+    by : (o : Option (Option Posting)) → keep (is_meant only) (unwrap_or o None) ≡ Some posting
+        → (o ≡ Some (Some posting)) × (is_meant only posting ≡ true)
     by None none = absurd (none-some posting none)
     by (Some None) none = absurd (none-some posting none)
-    by (Some (Some p)) some = ap (λ q. Some (Some q)) (passed (is_meant only p) p some)
+    by (Some (Some p)) some = let it = passed (is_meant only p) p refl some in (ap (λ q. Some (Some q)) it.0, it.1)
 
 -- one more task: its sequence has its place, if it was posted, and each other source stays
 step : (script : Plan) (past : List Entry) (old priorities : List Priority) (only : Option ℕ) (postings : List (Option Posting)) (before held : Held)
@@ -105,7 +106,7 @@ step script past old priorities only postings before held lanes n (Some posting)
     rank = rank_by priorities posting.runner (sequence_at held own)
 
     stated : slice_get postings n ≡ Some (Some posting)
-    stated = posted_is only postings n posting is
+    stated = (posted_is only postings n posting is).0
 
     runs : runner_of script postings own ≡ Some posting.runner
     runs = runner_is script postings n posting (declared n posting stated).0 stated
@@ -240,7 +241,7 @@ pub place_at : (pool self : Pool) (only : Option ℕ) (n : ℕ) (posting : Posti
     → posted_at only self.postings.items n ≡ Some posting
     → (length self.runners.runners + n < 2 ^ 32) × HasPlace self (sequence_by self n posting) posting.runner
 place_at pool self only n posting places same is =
-    let place = places n posting (posted_is only pool.postings.items n posting (ap (λ p. posted_at only p.postings.items n) (sym same) ∙ is)) in
+    let place = places n posting (posted_is only pool.postings.items n posting (ap (λ p. posted_at only p.postings.items n) (sym same) ∙ is)).0 in
     rw same (place.0, place_kept pool only n (sequence_by pool n posting) posting.runner place.1)
 
 -- one more task

@@ -12,19 +12,23 @@ use Rattle.pool_core.proofs.Places.{all_declared, hold_placed, placed_by_table, 
 use Rattle.pool_core.proofs.Tables.{postings_kept, seats_kept}
 use Rattle.pool_core.proofs.Tracking.{tracked_kept}
 use Rattle.pool_core.specs.Calls.{KnowsRunner, after_reprio}
-use Rattle.pool_core.specs.Refreshes.{IsUnposted, refreshed_below}
+use Rattle.pool_core.specs.Queues.{HoldBy}
+use Rattle.pool_core.specs.Refreshes.{IsUnposted, all_refreshed}
 use Rattle.pool_core.specs.StandsFor.{StandsFor}
 use Rattle.pool_core.specs.State.{candidate_by, present_priority, rank_by, rank_of_head, runner_of, sequence_standing, standing}
 use Rattle.pool_core.specs.Tables.{ArePriorities}
+use Rattle.pool_core.specs.declared.lanes.Lane.{Lane}
 use Rattle.pool_core.specs.declared.pool.Pool.{Pool}
 use Rattle.pool_laws.proofs.Keys.Arrivals.{arrivals_same}
 use Rattle.pool_laws.proofs.Keys.Posts.{posts_same}
 use Rattle.std.proofs.Common.{List, None, Option, Some, [], ap, inl, inr, length, refl, sym, true, ℕ, ◌++◌, ◌<◌, ◌∙◌, ◌∷◌, ◌≡◌}
 use Rattle.std.proofs.lemmas.Bool.{cases_eq, cases_lt, ne_eqb}
-use Rattle.std.proofs.lemmas.List.{get_or-set_other, length-set}
+use Rattle.std.proofs.lemmas.List.{get_or-set_other, length-set, set-get_or}
 use Rattle.std.specs.Option.{option_map}
 use Rattle.std.specs.Prelude.{option_and_then, slice_set, ◌==◌}
 use Rattle.std.specs.Vec.{with_item}
+use Rattle.std.specs.declared.alloc.Global.{Global}
+use Rattle.std.specs.declared.vec.Vec.{Vec}
 use Rattle.task_base.specs.Plan.{Plan}
 use Rattle.task_base.specs.Runners.{sequence_count}
 use Rattle.task_base.specs.declared.entry.Entry.{Entry}
@@ -92,20 +96,18 @@ source_stays script past pool runner priority (Sequence s) stands none = elim (c
   | inr behind ↦ rw (none_behind script pool.postings.items s stands.postings.all behind) refl
 ]
 
-pub stands_at_reprio : (script : Plan) (past : List Entry) (pool : Pool) (seat runner : ℕ) (priority : Priority) → KnowsRunner script past pool runner
-    → StandsFor script (after_reprio past seat runner priority)
-    (refreshed_below (record pool { priorities = with_item pool.priorities runner priority }) (Some runner) (length pool.postings.items))
-stands_at_reprio script past pool seat runner priority knows = record {
+-- the pool with the priority that the runner is given, where the queues follow it
+stands_given : (script : Plan) (past : List Entry) (pool : Pool) (seat runner : ℕ) (priority : Priority) (priorities : Vec Priority Global) (lanes : List Lane)
+    → KnowsRunner script past pool runner → priorities.items ≡ slice_set pool.priorities.items runner priority
+    → HoldBy script (standing script past priorities.items pool.postings.items pool.sequences) lanes
+    → StandsFor script (after_reprio past seat runner priority) (record pool { priorities = priorities; lanes = lanes })
+stands_given script past pool seat runner priority priorities lanes knows given hold = record {
   script_fits = stands.script_fits;
   past_fits = tells.fits;
   runners = stands.runners;
   priorities = tells.priorities_are;
   lines = tells.lines;
-  queues = rw (stands.runners, placed_by_table script later (Some runner) pool.postings.items pool.sequences pool.lanes (length pool.postings.items))
-      (hold_from script past (past ++ e ∷ []) later pool.postings.items pool.sequences _ tells (λ j. jobs_wait script past e j refl)
-      (hold_placed script past pool.priorities.items later (Some runner) pool.postings.items pool.sequences pool.sequences pool.lanes stands.script_fits
-      (all_declared script past pool.postings.items stands.past_fits stands.postings)
-      (λ source none. source_stays script past pool runner priority source stands none) (hold_standing script past pool stands)));
+  queues = hold_from script past (past ++ e ∷ []) priorities.items pool.postings.items pool.sequences lanes tells (λ j. jobs_wait script past e j refl) hold;
   groups = groups_kept script past e pool.groups refl stands.groups;
   delayed = rw (unripe_kept past e refl) stands.delayed;
   tracker = stands.tracker ∙ sym (tracked_kept script past e refl);
@@ -123,13 +125,34 @@ stands_at_reprio script past pool seat runner priority knows = record {
     e : Entry
     e = record { seat = seat; kind = kinds.Reprio runner priority }
 
-    later : List Priority
-    later = slice_set pool.priorities.items runner priority
-
-    tells : Tells script (past ++ e ∷ []) later pool.postings.items pool.sequences
+    tells : Tells script (past ++ e ∷ []) priorities.items pool.postings.items pool.sequences
     tells = record {
       fits = past_kept script past e refl stands.past_fits;
       lines = rw (arrivals_same past e refl) (lines_kept script past e (arrivals past) pool.sequences refl (λ now. refl) stands.lines);
       postings_are = postings_kept script past e pool.postings.items refl stands.postings;
-      priorities_are = priorities_given script past seat runner priority pool.priorities.items stands.priorities knows.declared;
+      priorities_are = rw given (priorities_given script past seat runner priority pool.priorities.items stands.priorities knows.declared);
     }
+
+-- where each sequence of a task of the runner is given its place, and the others stay, they follow it
+pub stands_at_reprio : (script : Plan) (past : List Entry) (pool : Pool) (seat runner : ℕ) (priority : Priority) → KnowsRunner script past pool runner
+    → StandsFor script (after_reprio past seat runner priority)
+    (all_refreshed (record pool { priorities = with_item pool.priorities runner priority }) (Some runner))
+stands_at_reprio script past pool seat runner priority knows = stands_given script past pool seat runner priority (with_item pool.priorities runner priority) _
+    knows refl
+    (rw (stands.runners, placed_by_table script later (Some runner) pool.postings.items pool.sequences pool.lanes (length pool.postings.items))
+    (hold_placed script past pool.priorities.items later (Some runner) pool.postings.items pool.sequences pool.sequences pool.lanes stands.script_fits
+    (all_declared script past pool.postings.items stands.past_fits stands.postings)
+    (λ source none. source_stays script past pool runner priority source stands none) (hold_standing script past pool stands)))
+  where
+    stands : StandsFor script past pool
+    stands = knows.stands
+
+    later : List Priority
+    later = slice_set pool.priorities.items runner priority
+
+-- where the runner has the priority, all stays
+pub stands_at_same : (script : Plan) (past : List Entry) (pool : Pool) (seat runner : ℕ) (priority : Priority) → KnowsRunner script past pool runner
+    → present_priority pool.priorities.items runner ≡ priority → StandsFor script (after_reprio past seat runner priority) pool
+stands_at_same script past pool seat runner priority knows same = stands_given script past pool seat runner priority pool.priorities pool.lanes knows
+    (sym (ap (slice_set pool.priorities.items runner) (sym same) ∙ set-get_or pool.priorities.items runner BestEffort))
+    (hold_standing script past pool knows.stands)

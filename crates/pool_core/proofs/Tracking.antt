@@ -26,7 +26,7 @@ use Rattle.task_base.specs.declared.entry.Entry.{Entry}
 use Rattle.task_base.specs.declared.entry.Kind.{Kind}
 use Rattle.task_base.specs.declared.policy.Policy.{Policy}
 use Rattle.task_model.proofs.Growth.{phase_of_push, policy_of_push}
-use Rattle.task_model.specs.Blockers.{block_part, blockers_of, is_block, is_in_skip_job, is_open_block, is_open_job, is_running_skip, is_skip, open_jobs, seats_in_skip_jobs, skip_part}
+use Rattle.task_model.specs.Blockers.{block_part, blockers_of, is_block, is_in_skip_job, is_open_job, is_skip, open_jobs, seats_in_skip_jobs, skip_part}
 use Rattle.task_model.specs.Keys.{Ready}
 use Rattle.task_model.specs.Past.{fold_past}
 use Rattle.task_model.specs.Phase.{phase_after, phase_of}

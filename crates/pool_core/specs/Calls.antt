@@ -117,6 +117,11 @@ pub record KnowsRunner (script : Plan) (past : List Entry) (pool : Pool) (runner
   pub stands : StandsFor script past pool
   pub declared : runner < length script.runners
 
+-- the runner and the task are declared
+pub record KnowsTask (script : Plan) (past : List Entry) (pool : Pool) (runner task : ℕ) : Type 0 where
+  pub runner_known : KnowsRunner script past pool runner
+  pub task_declared : task < length script.tasks
+
 -- shutdown has come to this phase
 pub record IsInPhase (script : Plan) (past : List Entry) (pool : Pool) (phase : Phase) : Type 0 where
   pub stands : StandsFor script past pool

@@ -40,6 +40,10 @@ abbrev pub refreshed_below : Pool → Option ℕ → ℕ → Pool
 refreshed_below pool only n =
     record pool { lanes = placed pool.runners pool.priorities.items only pool.postings.items pool.sequences pool.lanes n }
 
+-- with those of all tasks that are meant
+abbrev pub all_refreshed : Pool → Option ℕ → Pool
+all_refreshed pool only = refreshed_below pool only (length pool.postings.items)
+
 -- the queues have room for the sequence of each task that was posted
 abbrev pub HavePlaces : Pool → Type 0
 HavePlaces pool = (task : ℕ) (posting : Posting) → slice_get pool.postings.items task ≡ Some (Some posting)

@@ -71,12 +71,13 @@ pub record HasPlace (pool : Pool) (s runner : ℕ) : Type 0 where
   pub lane_there : lane_by pool.runners runner < length pool.lanes
   pub made : (best : Bool) → IsMadeFor (queue_of pool.lanes (lane_by pool.runners runner) best) (Sequence s)
 
+-- the pool that holds a sequence of the runner with this rank, or doesn't hold it
+abbrev pub given_rank : Pool → ℕ → ℕ → Option Rank → Pool
+given_rank pool s runner rank = record pool { lanes = with_source pool.lanes (lane_by pool.runners runner) (Sequence s) rank }
+
 -- the pool with the rank of a sequence as its list and its cell give it
 abbrev pub refreshed : Pool → ℕ → ℕ → Pool
-refreshed pool s runner = record pool {
-  lanes = with_source pool.lanes (lane_by pool.runners runner) (Sequence s)
-      (rank_by pool.priorities.items runner (sequence_at pool.sequences s));
-}
+refreshed pool s runner = given_rank pool s runner (rank_by pool.priorities.items runner (sequence_at pool.sequences s))
 
 -- the sequences with one more task at the end of a list
 abbrev pub pushed : Held → ℕ → Waiting → Held

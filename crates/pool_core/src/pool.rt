@@ -4,8 +4,9 @@ ghost use Rattle.task_base.specs.declared.entry.Entry.{Entry};
 ghost use Rattle.task_model.specs.Blockers.{blockers_of};
 ghost use Rattle.task_model.specs.Capacity.{OpenScope};
 ghost use Rattle.task_model.specs.Refusal.{is_refused};
-ghost use Rattle.task_model.specs.Seats.{Running};
-ghost use Rattle.pool_core.specs.Calls.{CanPost, CanTick, CanTake, IsChosen, RunsClosed, RunsOpen, KnowsRunner, IsInPhase, TakeAnswers, running_tasks, is_any_ready, after_post, after_tick, after_take, after_end, after_enter, after_leave, after_policy, after_reprio, after_shutdown, after_done};
+ghost use Rattle.task_base.specs.Runners.{sequence_of};
+ghost use Rattle.task_model.specs.Seats.{Running, runs_sequence};
+ghost use Rattle.pool_core.specs.Calls.{CanPost, CanTick, CanTake, IsChosen, RunsClosed, RunsOpen, KnowsRunner, KnowsTask, IsInPhase, TakeAnswers, running_tasks, is_any_ready, after_post, after_tick, after_take, after_end, after_enter, after_leave, after_policy, after_reprio, after_shutdown, after_done};
 ghost use Rattle.pool_core.specs.Pasts.{IsPoolScript, pool_running};
 ghost use Rattle.std.specs.Option.{option_map};
 ghost use Rattle.task_model.specs.Time.{now_of};
@@ -42,9 +43,10 @@ use task_traits::{effective, forbids};
 /// limits, policy, blocking scopes, time and phase. The seats that take its work are numbers, from 1; moments are in
 /// microseconds. It knows of no thread, and runs nothing itself.
 ///
-/// A call stands for the entry of its kind in the history. All memory is taken by `new`. A post, a take, an end, a scope
-/// and a policy take time logarithmic in the number of runners and tasks at most; a tick besides for each task that
-/// ripens; `idle` looks at each seat once, `reprio` at each task, and `start_shutdown` at each runner and task.
+/// A call stands for the entry of its kind in the history. All memory is taken by `new`. A post, a take, an end, a scope, a
+/// policy and each call on a job take time logarithmic in the number of runners, tasks and jobs at most; a tick besides for
+/// each task that ripens; `idle` looks at each seat once, `reprio` at each task twice, and `start_shutdown` at each runner,
+/// task and job.
 #[derive(Drop)]
 pub struct Pool {
     runners: RunnerTable,
@@ -98,7 +100,8 @@ impl Pool {
         })
     }
 
-    /// Posts a task to a runner, with a delay, and answers whether it was accepted.
+    /// The driver, or a task, posts a task to a runner, with a delay in microseconds. Answers whether it was accepted: once
+    /// shutdown was started, block work without a delay alone is, and once it is done nothing.
     pub fn post(&mut self, place: Place, task: TaskId, runner: RunnerId, delay: u64) -> bool
         requires { (script : Plan) × (past : List Entry) × CanPost script past self.old place task runner delay }
         ensures reply { (script : Plan) (past : List Entry) → CanPost script past self.old place task runner delay
@@ -127,7 +130,8 @@ impl Pool {
         true
     }
 
-    /// The clock has been read. Tasks that have become ripe may be taken from now on.
+    /// The driver has read the clock: the moment, in microseconds, is not before the last one. Tasks that have become ripe may
+    /// be taken from now on, unless shutdown was started.
     pub fn tick(&mut self, place: Place, moment: u64)
         requires { (script : Plan) × (past : List Entry) × CanTick script past self.old place moment }
         ensures { (script : Plan) (past : List Entry) (seat : ℕ) → CanTick script past self.old place moment
@@ -138,7 +142,8 @@ impl Pool {
         self.ripen_all(place, moment);
     }
 
-    /// Takes the head of the best source for a worker, or enters it where it is a job, unless the worker may take nothing.
+    /// A worker that runs nothing takes the head of its best source, or enters it where it is a job, unless it may take
+    /// nothing. Once shutdown was started it may take block work alone, and once it is done nothing.
     pub fn take(&mut self, seat: SeatNo) -> PoolTake
         requires { (script : Plan) × (past : List Entry) × CanTake script past self.old seat }
         ensures answer { (script : Plan) (past : List Entry) → CanTake script past self.old seat → TakeAnswers script past seat result }
@@ -151,7 +156,8 @@ impl Pool {
         }
     }
 
-    /// A worker has ended its task, and brings the cell of its sequence home.
+    /// A worker has ended its task, and brings the cell of its sequence home. It may at any time: what was taken is done to
+    /// its end.
     pub fn end(&mut self, seat: SeatNo, cell: Cell)
         requires { (script : Plan) × (past : List Entry) × (w : Running) × RunsClosed script past self.old seat w }
         ensures { (script : Plan) (past : List Entry) (w : Running) → RunsClosed script past self.old seat w
@@ -167,7 +173,7 @@ impl Pool {
         self.refresh(seq, posting.runner);
     }
 
-    /// A worker's task has opened a blocking scope.
+    /// A worker's task has opened a blocking scope. It may at any time.
     pub fn enter(&mut self, seat: SeatNo, scope: Scope)
         requires { (script : Plan) × (past : List Entry) × (w : Running) × RunsClosed script past self.old seat w }
         ensures { (script : Plan) (past : List Entry) (w : Running) → RunsClosed script past self.old seat w
@@ -176,7 +182,7 @@ impl Pool {
         self.groups.enter_scope(seat, scope);
     }
 
-    /// A worker's task has closed its blocking scope.
+    /// A worker's task has closed its blocking scope. It may at any time.
     pub fn leave(&mut self, seat: SeatNo)
         requires { (script : Plan) × (past : List Entry) × (w : Running) × (opened : OpenScope) × RunsOpen script past self.old seat w opened }
         ensures { (script : Plan) (past : List Entry) (w : Running) (opened : OpenScope) → RunsOpen script past self.old seat w opened
@@ -185,22 +191,27 @@ impl Pool {
         self.groups.leave_scope(seat);
     }
 
-    /// Puts another policy in force, which has an effect until shutdown starts.
+    /// The driver puts another policy in force, which has an effect until shutdown starts.
     pub fn policy(&mut self, policy: Policy)
         ensures { (script : Plan) (past : List Entry) (seat : ℕ) → StandsFor script past self.old → StandsFor script (after_policy past seat policy) self.new }
     {
         self.tracker.set_policy(policy);
     }
 
-    /// Gives a runner another priority: those of its sequences that wait go by it from now on; what runs counts as it was
-    /// taken. It looks at each task once, and gives the sequence of each task of the runner its place again, in
-    /// logarithmic time.
+    /// The driver gives a runner another priority: those of its sequences that wait go by it from now on; what runs counts as
+    /// it was taken. Constant time where the runner has this priority. Else it looks at each task twice: the sequence of each
+    /// task of the runner is let go, last to first, and given its place anew, first to last. Each of these takes logarithmic
+    /// time at most, and constant time where the heap has these sequences alone, in the order of their posts.
     pub fn reprio(&mut self, runner: RunnerId, priority: Priority)
         requires { (script : Plan) × (past : List Entry) × KnowsRunner script past self.old runner }
         ensures { (script : Plan) (past : List Entry) (seat : ℕ) → KnowsRunner script past self.old runner
             → StandsFor script (after_reprio past seat runner priority) self.new }
     {
+        if self.priorities[runner as usize] == priority {
+            return;
+        }
         self.priorities[runner as usize] = priority;
+        self.let_go(runner);
         self.refresh_all(Some(runner));
     }
 
@@ -242,7 +253,16 @@ impl Pool {
         *self.seats.get(seat as usize)?
     }
 
-    /// Starts shutdown: from now on only block work is accepted and may start, and the policy has no effect.
+    /// Whether the cell of the sequence of a runner's task is out: from a take of one of its tasks to the end of that.
+    pub fn is_cell_out(&self, runner: RunnerId, task: TaskId) -> bool
+        requires { (script : Plan) × (past : List Entry) × KnowsTask script past self.now runner task }
+        ensures { (script : Plan) (past : List Entry) → KnowsTask script past self.now runner task
+            → result ≡ runs_sequence script past (sequence_of script runner task) }
+    {
+        !self.sequences.is_home(self.runners.seq_of(runner, task))
+    }
+
+    /// The driver starts shutdown, once: from now on only block work is accepted and may start, and the policy has no effect.
     pub fn start_shutdown(&mut self)
         requires { (script : Plan) × (past : List Entry) × IsInPhase script past self.old Phase.Running }
         ensures { (script : Plan) (past : List Entry) (seat : ℕ) → IsInPhase script past self.old Phase.Running
@@ -254,7 +274,8 @@ impl Pool {
         self.refresh_jobs();
     }
 
-    /// Ends shutdown, unless something still blocks it.
+    /// The driver ends shutdown, which it has started, unless something still blocks it. From then on nothing is accepted, and
+    /// nothing starts.
     pub fn try_done(&mut self) -> Result<(), StillBlocked>
         requires { (script : Plan) × (past : List Entry) × IsInPhase script past self.old Phase.Started }
         ensures ok { (script : Plan) (past : List Entry) → IsInPhase script past self.old Phase.Started → IsOk result ↔ (blockers_of script past ≡ 0) }

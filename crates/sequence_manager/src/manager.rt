@@ -6,6 +6,7 @@ ghost use Rattle.task_model.specs.Refusal.{is_closed};
 ghost use Rattle.task_model.specs.Seats.{Running};
 ghost use Rattle.sequence_manager.specs.Calls.{CanPost, CanTick, CanFence, CanVote, CanRank, HasQueue, CanTake, RunsMain, TakeAnswers, after_main, after_tick, after_fence, after_unfence, after_vote, after_rank, after_close, after_take, after_end};
 ghost use Rattle.sequence_manager.specs.Pasts.{IsMainScript};
+ghost use Rattle.sequence_manager.specs.Queues.{is_out};
 ghost use Rattle.sequence_manager.specs.StandsFor.{StandsFor};
 ghost use Rattle.sequence_manager.specs.State.{CanPush, CanRefresh, order_at, pushed, queue_at, refreshed, with_order_at};
 ghost use Rattle.delayed_manager.specs.declared.ripening.Ripening.{Ripening};
@@ -24,7 +25,10 @@ const BEFORE_ALL: u64 = 1;
 const FIRST_ORDER: u64 = 2;
 
 /// The main queues of a run (Chromium's `sequence_manager/sequence_manager_impl.h`): which main task runs next, by class,
-/// order, fence, votes, time and starvation. Moments are in microseconds. It runs nothing itself.
+/// order, fence, votes, time and starvation. Moments and delays are in microseconds. It runs nothing itself.
+///
+/// The driver makes all calls, and posts may be any task's. Shutdown leaves the main queues as they are: all of this goes
+/// on after it.
 ///
 /// A call stands for the entry of its kind in the history. All memory is taken by `new`. A tick looks at each queue
 /// once for each task that ripens, and once more; no other call takes longer with more queues, but for what the selector
@@ -159,6 +163,14 @@ impl Manager {
             → StandsFor script (after_end past w.task cell) self.new }
     {
         self.queues.at_mut(queue).cell = Some(cell);
+    }
+
+    /// Whether the cell of a queue is out: from a take of one of its tasks to the end of that.
+    pub fn is_cell_out(&self, queue: QueueId) -> bool
+        requires { (script : Plan) × (past : List Entry) × HasQueue script past self.now queue }
+        ensures { (script : Plan) (past : List Entry) → HasQueue script past self.now queue → result ≡ is_out past queue }
+    {
+        self.queues.at(queue).cell.is_none()
     }
 
     // Puts the first delayed task of a queue, which is ripe, at the end of its lane.

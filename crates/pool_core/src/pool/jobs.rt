@@ -30,7 +30,8 @@ use task_traits::forbids;
 
 // Jobs: which seats are inside, and what they hold.
 impl Pool {
-    /// Posts a job, and answers whether it was accepted.
+    /// The driver posts a job. Answers whether it was accepted: once shutdown was started a block job alone is, and once it is
+    /// done none.
     pub fn job_post(&mut self, place: Place, job: JobId) -> bool
         requires { (script : Plan) × (past : List Entry) × CanPostJob script past self.old place job }
         ensures reply { (script : Plan) (past : List Entry) → CanPostJob script past self.old place job
@@ -46,7 +47,7 @@ impl Pool {
     }
 
     /// The driver, which joins a job, enters it where it may, and gets its number there and an item. Policy and limits
-    /// don't bind it.
+    /// don't bind it; once shutdown was started it may enter a block job alone.
     pub fn job_take(&mut self, job: JobId) -> Option<(u32, u32)>
         requires { (script : Plan) × (past : List Entry) × CanJoin script past self.old job }
         ensures answer { (script : Plan) (past : List Entry) → CanJoin script past self.old job → result ≡ entering script past job }
@@ -76,7 +77,7 @@ impl Pool {
         next
     }
 
-    /// Cancels a job: nobody enters any more, and who is inside leaves at the end of its item.
+    /// The driver cancels a job, at any time: nobody enters any more, and who is inside leaves at the end of its item.
     pub fn job_cancel(&mut self, job: JobId)
         requires { (script : Plan) × (past : List Entry) × KnowsJob script past self.old job }
         ensures { (script : Plan) (past : List Entry) (seat : ℕ) → KnowsJob script past self.old job

@@ -1,9 +1,9 @@
-ghost use Rattle.std.specs.Prelude.{◌≡◌, ◌<◌, length};
+ghost use Rattle.std.specs.Prelude.{◌≡◌, ◌<◌, length, Some};
 ghost use Rattle.list_laws.specs.Lists.{keep};
 ghost use Rattle.task_sequence.specs.Sequences.{sequence_at};
 ghost use Rattle.pool_core.specs.Choice.{IsBestOf, IsOffer, IsOffered, better_of, is_open};
-ghost use Rattle.pool_core.specs.Refreshes.{HavePlaces, is_meant, posted_at, refreshed_below};
-ghost use Rattle.pool_core.specs.State.{HasPlace, refreshed, rank_of_head};
+ghost use Rattle.pool_core.specs.Refreshes.{HavePlaces, all_refreshed, is_meant, posted_at};
+ghost use Rattle.pool_core.specs.State.{HasPlace, given_rank, refreshed, rank_of_head};
 
 use crate::pool::Pool;
 use crate::posting::Posting;
@@ -54,16 +54,41 @@ impl Pool {
         requires { HasPlace self.old seq runner }
         ensures { self.new ≡ refreshed self.old seq runner }
     {
-        let lane = self.runners.seat_of(runner).unwrap_or(0);
         let rank = self.rank(seq, self.priorities[runner as usize]);
+        self.put(seq, runner, rank);
+    }
+
+    // Holds a sequence with this rank among the sources that wait, or doesn't hold it, whatever was before.
+    fn put(&mut self, seq: SeqId, runner: RunnerId, rank: Option<Rank>)
+        requires { HasPlace self.old seq runner }
+        ensures { self.new ≡ given_rank self.old seq runner rank }
+    {
+        let lane = self.runners.seat_of(runner).unwrap_or(0);
         self.lanes.put(lane, TaskSource::Sequence(seq), rank);
+    }
+
+    // Takes the sequence of each task of a runner from among the sources that wait, before they are given their places
+    // anew: the last one first, since that of a heap in order leaves without a move.
+    pub(super) fn let_go(&mut self, runner: RunnerId)
+        requires { HavePlaces self.old }
+        ensures places { HavePlaces self.new }
+        ensures refreshed { all_refreshed self.new (Some runner) ≡ all_refreshed self.old (Some runner) }
+    {
+        let mut task = self.postings.len();
+        while task > 0 {
+            task -= 1;
+            if let Some(posting) = self.posted(task, Some(runner)) {
+                let seq = self.runners.seq_of(posting.runner, task as TaskId);
+                self.put(seq, posting.runner, None);
+            }
+        }
     }
 
     // Gives the sequence of each task that was posted its place among the sources that wait; where a runner is named,
     // those of its tasks alone.
     pub(super) fn refresh_all(&mut self, only: Option<RunnerId>)
         requires { HavePlaces self.old }
-        ensures { self.new ≡ refreshed_below self.old only (length self.old.postings.items) }
+        ensures { self.new ≡ all_refreshed self.old only }
     {
         for task in 0..self.postings.len() {
             if let Some(posting) = self.posted(task, only) {
