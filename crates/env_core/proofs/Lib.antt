@@ -11,3 +11,4 @@ pub mod Acts
 pub mod Starts
 pub mod JobEntries
 pub mod JobCalls
+pub mod Own

@@ -2,12 +2,14 @@
 use Rattle.env_core.proofs.Bodies.{accepted_in_drawer, body_there, main_accepted_in_drawer}
 use Rattle.env_core.proofs.Driver.{finished_is}
 use Rattle.env_core.proofs.Entries.{enters_is}
+use Rattle.env_core.proofs.Own.{pass_is_own}
 use Rattle.env_core.proofs.Plans.{driver_runs_nothing}
 use Rattle.env_core.proofs.Queues.{accepted_right}
 use Rattle.env_core.proofs.Wanted.{item_allowed, take_allowed, wanted_by_script}
 use Rattle.env_core.specs.Calls.{IsFreeWorker, IsWantedNext}
 use Rattle.env_core.specs.Holds.{Holds}
 use Rattle.env_core.specs.Jobs.{HasTakenItem}
+use Rattle.env_core.specs.Views.{Enters}
 use Rattle.hist_model.proofs.Laws.Choice.{best_is, chosen_is}
 use Rattle.hist_model.proofs.Laws.Own.{holding_own, running_own}
 use Rattle.hist_model.specs.Allowed.{IsAllowed}
@@ -111,12 +113,17 @@ has_taken_item {script = script} {log = log} seat job id item later holds free i
   is_post = entered.is_post;
   is_best = entered.is_best;
   goes_in = record {
-    enters = enters_is seat (kinds.JobTake job id item) later holds (item_taken_allowed seat job id item holds free is entered) added;
+    enters = enters;
     may = (best_is script log.items seat (job_candidate script log.items job entered.post) entered.is_best).waits;
     id_is = entered.id_is;
     item_is = entered.item_is;
+    seats = pass_is_own (record { script = script; history = log.items }) (record { script = script; history = later.items }) seat
+        (kinds.JobTake job id item) (record { job = job; id = id; item = item }) enters (λ old. refl);
   };
 }
+  where
+    enters : Enters (record { script = script; history = log.items }) (record { script = script; history = later.items }) seat (kinds.JobTake job id item)
+    enters = enters_is seat (kinds.JobTake job id item) later holds (item_taken_allowed seat job id item holds free is entered) added
 
 -- The driver takes a main task.
 

@@ -546,18 +546,3 @@ pub done_while_started : (view : EnvView) (seat : ℕ) → IsSound view.script �
     → phase_of view.history ≡ phases.Started
 done_while_started view seat plan legal next = at_done view.script view.history plan legal
     (wanted_by view.script view.history seat kinds.Done (wanted_by_script view seat kinds.Done next))
-
--- the pool runs such a script
-pub pool_script : (script : Plan) → IsSound script → IsPoolScript script
-pool_script script plan = record {
-  workers_fit = plan.config.few_workers;
-  runners_fit = plan.limits.few_runners;
-  tasks_fit = plan.limits.few_tasks;
-  seats_fit = AllByRecursion-map _ _ script.runners (λ r there. fits r.kind there) plan.declarations.seats_there;
-  jobs_fit = plan.limits.few_jobs;
-}
-  where
-    fits : (kind : RunnerKind) → IsSeatThere script kind → (seat : ℕ) → seat_of_kind kind ≡ Some seat → (1 ≤ seat) × (seat ≤ script.workers)
-    fits Parallel there seat is = absurd (none-some seat is)
-    fits Sequenced there seat is = absurd (none-some seat is)
-    fits (Single n) there seat is = subst (λ s. (1 ≤ s) × (s ≤ script.workers)) (some-injective is) there

@@ -13,7 +13,7 @@ use Rattle.task_model.specs.Cells.{cell_of, main_cell_of}
 use Rattle.task_model.specs.MainQueues.{Front, chosen_of}
 use Rattle.task_model.specs.Refusal.{is_closed, is_refused}
 use Rattle.hist_model.specs.Script.{is_wanted, is_finished}
-use Rattle.hist_model.specs.Views.{own_entries}
+use Rattle.hist_model.specs.Views.{own_entries, IsSeatsAssignment}
 use Rattle.task_body.specs.Bodies.{AssignmentView}
 use Rattle.task_body.specs.declared.act.Act.{Act}
 use Rattle.task_body.specs.declared.act.Act.TheVariants as acts
@@ -95,7 +95,8 @@ pub record EntersAct (before after : EnvView) (seat : ℕ) (act : Act) (ok : Boo
   pub kind_is : entry_of now.task act ok ≡ Some kind
   pub enters : Enters before after seat kind
 
--- a worker has taken the head of its best source, with the cell and a body of which no step is done; its entry is made
+-- a worker has taken the head of its best source, with the cell and a body of which no step is done; its entry is made, and
+-- the assignment is the seat's
 pub record HasTaken (before after : EnvView) (seat : ℕ) (work : AssignmentView) : Type 0 where
   pub unfinished : is_finished before.script before.history ≡ false
   pub enters : Enters before after seat (kinds.Take work.task work.home work.found)
@@ -103,6 +104,7 @@ pub record HasTaken (before after : EnvView) (seat : ℕ) (work : AssignmentView
   pub value_is : work.value ≡ work.found
   pub whole_is : work.whole ≡ steps_of before.script work.task
   pub rest_is : work.rest ≡ work.whole
+  pub seats : IsSeatsAssignment after.script (own_entries seat after.history) seat work.task work.home work.found work.whole
 
 -- a worker may take nothing now, and nothing was entered
 pub record HasNothing (before after : EnvView) (seat : ℕ) : Type 0 where
@@ -123,7 +125,7 @@ TakeGives before after seat taken.Nothing = HasNothing before after seat
 TakeGives before after seat taken.Over = IsOver before after
 
 -- the driver has taken the chosen front of the main queues, with its queue's cell and a body of which no step is done; its
--- entry is made
+-- entry is made, and the assignment is the seat's
 pub record HasTakenMain (before after : EnvView) (seat : ℕ) (work : AssignmentView) : Type 0 where
   pub front : Front
   pub chosen : chosen_of before.script before.history ≡ Some front
@@ -134,6 +136,7 @@ pub record HasTakenMain (before after : EnvView) (seat : ℕ) (work : Assignment
   pub value_is : work.value ≡ work.found
   pub whole_is : work.whole ≡ steps_of before.script work.task
   pub rest_is : work.rest ≡ work.whole
+  pub seats : IsSeatsAssignment after.script (own_entries seat after.history) seat work.task work.home work.found work.whole
 
 -- no front of the main queues is open, and that was entered
 pub record HasNoMain (before after : EnvView) (seat : ℕ) : Type 0 where

@@ -4,10 +4,10 @@ use Rattle.task_base.specs.declared.entry.JobReply.{JobReply}
 use Rattle.task_base.specs.declared.entry.Kind.TheVariants as kinds
 use Rattle.task_base.specs.declared.source.NotYet.{NotYet}
 use Rattle.task_model.specs.Jobs.{JobPosted, claimed, free_id, is_empty, item_value, job_post_of, may_enter, reply_of}
-use Rattle.task_model.specs.Seats.{Holding, holding, inside}
+use Rattle.task_model.specs.Seats.{Holding, inside}
 use Rattle.task_model.specs.Sources.{best_of, job_candidate, leaves}
 use Rattle.hist_model.specs.Script.{is_finished}
-use Rattle.hist_model.specs.Views.{own_entries}
+use Rattle.hist_model.specs.Views.{own_entries, IsSeatsPass}
 use Rattle.task_body.specs.Passes.{PassView}
 use Rattle.env_core.specs.Views.{EnvView, Enters}
 
@@ -15,10 +15,10 @@ use Rattle.env_core.specs.Views.{EnvView, Enters}
 abbrev pub held_by : PassView → Holding
 held_by pass = record { job = pass.job; id = pass.id; item = pass.item }
 
--- the pass is the seat's: it is for the item that the seat holds
+-- the pass is the seat's, which is one of the script's: it is for the item that the seat holds
 pub record IsHeld (view : EnvView) (seat : ℕ) (pass : PassView) : Type 0 where
   pub known : seat ≤ view.script.workers
-  pub holds : holding (own_entries seat view.history) seat ≡ Some (held_by pass)
+  pub holds : IsSeatsPass (own_entries seat view.history) seat pass.job pass.id pass.item
 
 -- the pass is the seat's, and its item has this value
 pub record CanEndItem (view : EnvView) (seat : ℕ) (pass : PassView) (value : ℕ) : Type 0 where
@@ -26,12 +26,13 @@ pub record CanEndItem (view : EnvView) (seat : ℕ) (pass : PassView) (value : �
   pub value_is : value ≡ item_value view.script pass.job pass.item
 
 -- a seat is inside a job from now on: under the least number that nobody inside has, with the least unclaimed item; its
--- entry is made
+-- entry is made, and the pass is the seat's
 pub record HasGoneIn (before after : EnvView) (seat : ℕ) (pass : PassView) : Type 0 where
   pub enters : Enters before after seat (kinds.JobTake pass.job pass.id pass.item)
   pub may : may_enter before.script before.history pass.job ≡ true
   pub id_is : free_id before.script before.history pass.job ≡ Some pass.id
   pub item_is : pass.item ≡ claimed before.history pass.job
+  pub seats : IsSeatsPass (own_entries seat after.history) seat pass.job pass.id pass.item
 
 -- a worker has gone into the job that is its best source
 pub record HasTakenItem (before after : EnvView) (seat : ℕ) (pass : PassView) : Type 0 where
@@ -56,11 +57,13 @@ abbrev pub JobTakeGives : EnvView → EnvView → ℕ → ℕ → Option PassVie
 JobTakeGives before after seat job (Some pass) = HasJoinedIn before after seat job pass
 JobTakeGives before after seat job None = HasNoItem before after job
 
--- a seat has ended its item, and goes on with the least unclaimed one under the same number; its entry is made
+-- a seat has ended its item, and goes on with the least unclaimed one under the same number; its entry is made, and the next
+-- pass is the seat's
 pub record HasGoneOn (before after : EnvView) (seat : ℕ) (pass : PassView) (value : ℕ) (next : PassView) : Type 0 where
   pub stays : leaves before.script before.history seat pass.job ≡ false
   pub next_is : next ≡ record pass { item = claimed before.history pass.job }
   pub enters : Enters before after seat (kinds.JobStep pass.job pass.id pass.item value (Some next.item))
+  pub seats : IsSeatsPass (own_entries seat after.history) seat next.job next.id next.item
 
 -- a seat has ended its item, and has left the job; its entry is made
 pub record HasLeft (before after : EnvView) (seat : ℕ) (pass : PassView) (value : ℕ) : Type 0 where

@@ -4,15 +4,18 @@ ghost use Rattle.script_model.specs.Laws.Sound.{IsSound};
 ghost use Rattle.env_core.specs.Agenda.{counted};
 ghost use Rattle.env_core.specs.Calls.{IsWantedNext, IsFreeWorker, IsNextAct, CanEnd, CanEndMain};
 ghost use Rattle.env_core.specs.Calls.{MainTakeGives, EntersAct, lets_in};
-ghost use Rattle.env_core.specs.Drawer.{kept_if};
+ghost use Rattle.env_core.specs.Drawer.{is_in_drawer, kept_if};
 ghost use Rattle.env_core.specs.Views.{Enters};
 ghost use Rattle.hist_model.specs.Moments.{moment_behind};
 ghost use Rattle.hist_model.specs.Script.{current};
 ghost use Rattle.hist_model.specs.Views.{own_entries};
 ghost use Rattle.pool_core.specs.Calls.{running_tasks, is_any_ready};
+ghost use Rattle.sequence_manager.specs.Queues.{is_out};
+ghost use Rattle.task_base.specs.Runners.{sequence_of};
 ghost use Rattle.task_model.specs.Blockers.{blockers_of};
 ghost use Rattle.task_model.specs.Phase.{phase_of};
 ghost use Rattle.task_model.specs.Refusal.{is_closed, is_refused};
+ghost use Rattle.task_model.specs.Seats.{runs_sequence};
 ghost use Rattle.task_traits.specs.declared.phase.Phase.TheVariants as phases;
 ghost use Rattle.task_model.specs.Time.{now_of};
 
@@ -275,14 +278,14 @@ impl<B: TaskBody> Env<B> {
         }
     }
 
-    /// The driver has ended its main task: the cell goes home with what the task left, and the body is dropped.
-    pub fn main_end(&mut self, seat: SeatNo, work: Assignment<B>)
+    /// The driver has ended its main task: the cell goes home with what the task left. Answers the body, which is done.
+    pub fn main_end(&mut self, seat: SeatNo, work: Assignment<B>) -> Box<B>
         requires { CanEndMain self.old seat work }
         ensures { Enters self.old self.new seat (Kind.MainEnd work.task work.value) }
     {
         let task = work.task();
         let queue = work.home();
-        let (cell, _) = work.split_up();
+        let (cell, body) = work.split_up();
         let left = cell.value();
         self.main.end(queue, cell);
         self.agenda.entered(&self.script);
@@ -290,6 +293,7 @@ impl<B: TaskBody> Env<B> {
             seat,
             kind: Kind::MainEnd { task, left },
         });
+        body
     }
 
     /// A worker asks for work. A body leaves the drawer as its task is taken.
@@ -348,19 +352,20 @@ impl<B: TaskBody> Env<B> {
         }
     }
 
-    /// A worker has ended its task: the cell goes home with what the task left, and the body is dropped.
-    pub fn end(&mut self, seat: SeatNo, work: Assignment<B>)
+    /// A worker has ended its task: the cell goes home with what the task left. Answers the body, which is done.
+    pub fn end(&mut self, seat: SeatNo, work: Assignment<B>) -> Box<B>
         requires { CanEnd self.old seat work }
         ensures { Enters self.old self.new seat (Kind.End work.task work.value) }
     {
         let task = work.task();
-        let (cell, _) = work.split_up();
+        let (cell, body) = work.split_up();
         let left = cell.value();
         self.pool.end(seat, cell);
         self.log.push_spare(Entry {
             seat,
             kind: Kind::End { task, left },
         });
+        body
     }
 
     /// The driver waits for the pool: it goes on where no worker runs a task or is inside a job, and none may take a source.
@@ -428,6 +433,31 @@ impl<B: TaskBody> Env<B> {
         ensures { IfSome (current self.now.script (own_entries 0 self.now.history)) (λ c. result ≡ counted (c.action ∷ []) c.made) }
     {
         self.agenda.made
+    }
+
+    /// Whether the drawer has the body of a task: until the task is taken, or its post refused.
+    pub fn has_body(&self, task: TaskId) -> bool
+        requires { task < length self.now.script.tasks }
+        ensures { result ≡ is_in_drawer self.now.history task }
+    {
+        self.bodies[task as usize].is_some()
+    }
+
+    /// Whether the cell of the sequence of a runner's task is out: from a take of one of its tasks to the end of that.
+    pub fn is_cell_out(&self, runner: RunnerId, task: TaskId) -> bool
+        requires runner { runner < length self.now.script.runners }
+        requires task { task < length self.now.script.tasks }
+        ensures { result ≡ runs_sequence self.now.script self.now.history (sequence_of self.now.script runner task) }
+    {
+        self.pool.is_cell_out(runner, task)
+    }
+
+    /// Whether the cell of a main queue is out: from a take of one of its tasks to the end of that.
+    pub fn is_main_cell_out(&self, queue: QueueId) -> bool
+        requires { queue < length self.now.script.queues }
+        ensures { result ≡ is_out self.now.history queue }
+    {
+        self.main.is_cell_out(queue)
     }
 
     /// The history. What bodies are left are dropped.

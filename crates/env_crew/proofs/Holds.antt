@@ -12,7 +12,16 @@ use Rattle.env_crew.specs.Desk.{DeskView, IsLater, Holds, as_seen, mine, view_at
 
 -- a desk is itself later on
 pub later_refl : (d : DeskView) → IsLater d d
-later_refl d = record { script_is = refl; seat_is = refl; origin_is = refl; grows = ([], sym (append-nil d.seen)); turned = omega arith }
+later_refl d = record {
+  script_is = refl;
+  seat_is = refl;
+  origin_is = refl;
+  grows = ([], sym (append-nil d.seen));
+  turned = omega arith;
+  loads_is = refl;
+  last_is = refl;
+  told_on = λ told. told;
+}
 
 -- later than later is later
 pub later_trans : (a b c : DeskView) → IsLater a b → IsLater b c → IsLater a c
@@ -25,6 +34,9 @@ later_trans a b c first second = record {
     second.grows.1 ∙ ap (λ s. s ++ second.grows.0) first.grows.1 ∙ append_assoc a.seen first.grows.0 second.grows.0,
   );
   turned = omega (arith, first.turned, second.turned);
+  loads_is = second.loads_is ∙ first.loads_is;
+  last_is = second.last_is ∙ first.last_is;
+  told_on = λ told. second.told_on (first.told_on told);
 }
 
 module _ {old new : DeskView} {past : List Entry} (holds : Holds old past new) where
@@ -36,6 +48,9 @@ module _ {old new : DeskView} {past : List Entry} (holds : Holds old past new) w
     origin_is = holds.origin_is;
     grows = (holds.begins.0 ++ rest, is ∙ ap (λ s. s ++ rest) holds.begins.1 ∙ append_assoc old.seen holds.begins.0 rest);
     turned = omega (arith, holds.turned);
+    loads_is = holds.loads_is;
+    last_is = holds.last_is;
+    told_on = holds.told_on;
   }
 
   -- a desk is later where nothing was entered

@@ -41,25 +41,6 @@ still_free old new free script seat rests = record {
   free = ap (λ s. is_free (mine new) s) seat ∙ rests;
 }
 
--- and so is one with the same entries of its own
-pub free_kept : (old new : DeskView) → IsFree old → new.script ≡ old.script → new.seat ≡ old.seat → mine new ≡ mine old → IsFree new
-free_kept old new free script seat own = still_free old new free script seat (ap (λ entries. is_free entries old.seat) own ∙ free.free)
-
--- there was nothing to take
-pub found_nothing : (old new : DeskView) (past : List Entry) → Holds old past new → HasNothing (view_at old past) (as_seen new) old.seat → FoundNothing old new
-found_nothing old new past holds nothing = record {
-  unchanged = mine_kept holds nothing.kept;
-  unfinished = ap (λ v. is_finished v.script v.history) nothing.kept ∙ nothing.unfinished;
-  none = ap (λ v. best_of v.script v.history new.seat) nothing.kept ∙ ap (λ s. best_of old.script past s) holds.seat_is ∙ nothing.none;
-}
-
--- the script was finished
-pub found_end : (old new : DeskView) (past : List Entry) → Holds old past new → IsOver (view_at old past) (as_seen new) → FoundEnd old new
-found_end old new past holds over = record {
-  unchanged = mine_kept holds over.kept;
-  finished = ap (λ v. is_finished v.script v.history) over.kept ∙ over.finished;
-}
-
 -- The take.
 
 -- a seat that has taken a task by its entry is at it

@@ -1,5 +1,5 @@
 -- What contracts see of a desk, and what one hold of the turn does to it (this project's own rules).
-use Rattle.std.specs.Prelude.{◌≡◌, ℕ, ◌+◌, ◌≤◌, List, [], ◌∷◌, ◌++◌}
+use Rattle.std.specs.Prelude.{◌≡◌, ℕ, ◌+◌, ◌≤◌, Bool, true, List, [], ◌∷◌, ◌++◌}
 use Rattle.atomic_table.specs.Seated.{TableId}
 use Rattle.task_base.specs.Plan.{Plan}
 use Rattle.task_base.specs.declared.entry.Entry.{Entry}
@@ -13,14 +13,18 @@ pub record Origin : Type 0 where
   pub table : TableId
   pub made : ℕ
 
--- a desk: the script of the run, the seat's number, where it comes from, the beginning of the history that it has seen, and
--- how many times it took the turn
+-- a desk: the script of the run, the seat's number, where it comes from, the beginning of the history that it has seen,
+-- how many times it took the turn; how many loads it made without the turn, which word the last of them read, and whether it is
+-- told of a shutdown
 pub record DeskView : Type 0 where
   pub script : Plan
   pub seat : ℕ
   pub origin : Origin
   pub seen : List Entry
   pub turns : ℕ
+  pub loads : ℕ
+  pub last : ℕ
+  pub told : Bool
 
 -- the seat's own entries in what it has seen
 abbrev pub mine : DeskView → List Entry
@@ -38,20 +42,27 @@ as_seen d = view_at d d.seen
 abbrev pub with_own : DeskView → Kind → List Entry
 with_own d kind = mine d ++ record { seat = d.seat; kind = kind } ∷ []
 
--- the same desk, now or later
+-- the same desk, now or later, after calls that take the turn: it made no load, and what it is told of it stays told
 pub record IsLater (old new : DeskView) : Type 0 where
   pub script_is : new.script ≡ old.script
   pub seat_is : new.seat ≡ old.seat
   pub origin_is : new.origin ≡ old.origin
   pub grows : IsPrefix old.seen new.seen
   pub turned : old.turns ≤ new.turns
+  pub loads_is : new.loads ≡ old.loads
+  pub last_is : new.last ≡ old.last
+  pub told_on : old.told ≡ true → new.told ≡ true
 
--- one hold of the turn: it found this past, which is legal, begins with what was seen, and has no other entries of the seat
+-- one hold of the turn: it found this past, which is legal, begins with what was seen, and has no other entries of the seat;
+-- it made no load, and a seat that is told of a shutdown stays told
 pub record Holds (old : DeskView) (past : List Entry) (new : DeskView) : Type 0 where
   pub script_is : new.script ≡ old.script
   pub seat_is : new.seat ≡ old.seat
   pub origin_is : new.origin ≡ old.origin
   pub turned : new.turns ≡ old.turns + 1
+  pub loads_is : new.loads ≡ old.loads
+  pub last_is : new.last ≡ old.last
+  pub told_on : old.told ≡ true → new.told ≡ true
   pub begins : IsPrefix old.seen past
   pub own : own_entries old.seat past ≡ mine old
   pub legal : IsLegal old.script past

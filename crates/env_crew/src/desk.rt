@@ -1,4 +1,4 @@
-ghost use Rattle.std.specs.Prelude.{◌≡◌, ◌<◌, ℕ, Bool, length};
+ghost use Rattle.std.specs.Prelude.{◌≡◌, ◌<◌, ℕ, Bool, true, length};
 ghost use Rattle.task_base.specs.declared.entry.JobReply.{JobReply};
 ghost use Rattle.task_model.specs.Jobs.{item_value};
 ghost use Rattle.task_base.specs.declared.entry.Kind.TheVariants as kinds;
@@ -166,10 +166,11 @@ pub trait Desk {
         requires { IsWanted (desk self.old) kinds.Idle }
         ensures { Answers (desk self.old) (desk self.new) (TriesIdle (desk self.old).seat result) };
 
-    /// The driver starts shutdown: from now on only block work is accepted and may start.
+    /// The driver starts shutdown: from now on only block work is accepted and may start. The seat is told of it.
     fn start_shutdown<R: Wait>(&mut self, rt: &R)
         requires { IsWanted (desk self.old) kinds.Shutdown }
-        ensures { Answers (desk self.old) (desk self.new) (HasEntered (desk self.old).seat kinds.Shutdown) };
+        ensures answer { Answers (desk self.old) (desk self.new) (HasEntered (desk self.old).seat kinds.Shutdown) }
+        ensures told { (desk self.new).told ≡ true };
 
     /// The driver ends shutdown. The error is that something still blocks it, and the driver may ask again.
     fn try_done<R: Wait>(&mut self, rt: &R) -> Result<(), StillBlocked>

@@ -26,6 +26,9 @@ pub record HasTurn (key : TurnKey) (seat held : SeatView) : Type 0 where
   pub number_is : held.number ≡ seat.number
   pub made_is : held.made ≡ seat.made
   pub turned : held.turns ≡ seat.turns + 1
+  pub loads_is : held.loads ≡ seat.loads
+  pub last_is : held.last ≡ seat.last
+  pub told_is : held.told ≡ seat.told
   pub begins : IsPrefix seat.seen held.seen
   pub own : own_entries seat.number held.seen ≡ own_entries seat.number seat.seen
   pub legal : IsLegal key.basis held.seen

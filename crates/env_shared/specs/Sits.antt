@@ -33,4 +33,7 @@ desk_of seat = record {
   origin = record { table = seat.of.table; made = seat.made };
   seen = seat.seen;
   turns = seat.turns;
+  loads = seat.loads;
+  last = seat.last;
+  told = seat.told;
 }

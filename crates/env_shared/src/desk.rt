@@ -3,7 +3,7 @@ ghost use Rattle.task_base.specs.declared.entry.Entry.{Entry};
 ghost use Rattle.task_model.specs.Phase.{phase_of};
 ghost use Rattle.task_traits.specs.Behaviour.{forbids};
 ghost use Rattle.hist_model.specs.Views.{IsPrefix};
-ghost use Rattle.turn_table.specs.Shutdowns.{IsShutdownAt};
+ghost use Rattle.turn_table.specs.Shutdowns.{IsShutdownAt, has_shutdown};
 ghost use Rattle.env_shared.specs.Sits.{Seated};
 
 use crate::hold::Hold;
@@ -58,13 +58,15 @@ impl<'a, B: TaskBody> SharedDesk<'a, B> {
     /// Asks, without the turn, whether tasks of this behaviour are refused: the place of the shutdown from which on a
     /// post to the pool is refused where the behaviour is the one in effect. `None` says that the word that was read
     /// tells of no shutdown, and it is the answer for block work, of which the word tells nothing. It waits for nobody.
+    /// A seat that was answered, or that entered a shutdown, is told, and is answered ever after.
     pub fn shut_to(&mut self, behaviour: Behaviour) -> Option<u64>
         ensures block { behaviour ≡ Behaviour.BlockShutdown → (result ≡ None) × (self.new ≡ self.old) }
         ensures seat { behaviour ≢ Behaviour.BlockShutdown → self.new ≡ record self.old { seen = self.new.seen; loads = self.old.loads + 1; last = self.new.last; told = self.new.told } }
         ensures begins { IsPrefix self.old.seen self.new.seen }
         ensures none { behaviour ≢ Behaviour.BlockShutdown → IfNone result (self.new.last ≡ 0) }
         ensures told { behaviour ≢ Behaviour.BlockShutdown → self.old.told ≡ true → IsSome result }
-        ensures place { IfSome result (λ place. (self.new.last ≡ place + 1) × IsShutdownAt self.new.seen place) }
+        ensures own { behaviour ≢ Behaviour.BlockShutdown → has_shutdown self.old.mine ≡ true → IsSome result }
+        ensures place { IfSome result (λ place. (self.new.last ≡ place + 1) × (self.new.told ≡ true) × IsShutdownAt self.new.seen place) }
         ensures refuses { IfSome result (λ _. (later : List Entry) → IsPrefix self.new.seen later → forbids (phase_of later) behaviour ≡ true) }
     {
         if behaviour == Behaviour::BlockShutdown {
@@ -179,8 +181,10 @@ impl<'a, B: TaskBody> Desk for SharedDesk<'a, B> {
 
     fn main_end<R: Wait>(&mut self, rt: &R, work: Assignment<B>) {
         let (mut env, hold) = Hold::begin(rt, self.shared, &mut self.seat);
-        env.main_end(hold.number(), work);
+        let body = env.main_end(hold.number(), work);
         self.seat = Some(hold.enter(env));
+        // Only now, so that nobody waits for it.
+        drop(body);
     }
 
     fn take<R: Wait>(&mut self, rt: &R) -> Given<Assignment<B>> {
@@ -214,8 +218,10 @@ impl<'a, B: TaskBody> Desk for SharedDesk<'a, B> {
 
     fn end<R: Wait>(&mut self, rt: &R, work: Assignment<B>) {
         let (mut env, hold) = Hold::begin(rt, self.shared, &mut self.seat);
-        env.end(hold.number(), work);
+        let body = env.end(hold.number(), work);
         self.seat = Some(hold.enter(env));
+        // Only now, so that nobody waits for it.
+        drop(body);
     }
 
     fn job_post<R: Wait>(&mut self, rt: &R, job: JobId) -> bool {

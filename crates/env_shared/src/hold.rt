@@ -91,6 +91,7 @@ impl<'a, B: TaskBody> Hold<'a, B> {
         ensures sits { Sits self.entry.of result }
         ensures holds { Holds (desk_of self.entry.seat) self.entry.past (desk_of result) }
         ensures seen { as_seen (desk_of result) ≡ env.value }
+        ensures told { result.told ≡ true }
     {
         let Hold {
             shared,

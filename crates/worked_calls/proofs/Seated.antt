@@ -39,6 +39,9 @@ later_entered {old} {new} {past} holds kind enters = record {
         ∙ append_assoc old.seen holds.begins.0 (record { seat = old.seat; kind = kind } ∷ []),
   );
   turned = omega (arith, holds.turned);
+  loads_is = holds.loads_is;
+  last_is = holds.last_is;
+  told_on = holds.told_on;
 }
 
 -- the entry is one more of the seat's own

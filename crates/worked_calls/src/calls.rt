@@ -87,7 +87,7 @@ pub fn end(
         panic!(rt; "task {task} has more steps")
     };
     assert!(rt; work.value() == left);
-    env.end(seat, work);
+    let _ = env.end(seat, work);
 }
 
 /// A worker takes this item of the first job, under the number 0.

@@ -182,10 +182,10 @@ pub finish_shutdown-requires-clause-wanted : goal.finish_shutdown-requires-claus
 finish_shutdown-requires-clause-wanted g c κs within =
     let f = g.D.Desk.desk c.args.desk.now in
     let h = g.D.Desk.desk c.start_shutdown.new.self in
-    let hold = c.start_shutdown.ensures.holds in
+    let hold = c.start_shutdown.ensures.answer.holds in
     let e : Entry = record { seat = f.seat; kind = kinds.Shutdown } in
     wanted_at h actions.Shutdown c.requires.at.0 (e ∷ []) kinds.Done (hold.seat_is ∙ c.requires.driver)
-    (at_more f h (actions.Shutdown ∷ c.requires.at.0) [] (e ∷ []) hold.script_is (mine_entered hold kinds.Shutdown c.start_shutdown.ensures.answered)
+    (at_more f h (actions.Shutdown ∷ c.requires.at.0) [] (e ∷ []) hold.script_is (mine_entered hold kinds.Shutdown c.start_shutdown.ensures.answer.answered)
     (rw c.in-Shutdown.is at c.requires.at.1)) refl refl
 
 pub returns-in-Shutdown-clause-done : goal.returns-in-Shutdown-clause-done
@@ -193,7 +193,7 @@ returns-in-Shutdown-clause-done g c =
     let f = g.D.Desk.desk c.args.desk.now in
     let h = g.D.Desk.desk c.start_shutdown.new.self in
     let k = g.D.Desk.desk c.finish_shutdown.new.desk in
-    let start = c.start_shutdown.ensures in
+    let start = c.start_shutdown.ensures.answer in
     let e : Entry = record { seat = f.seat; kind = kinds.Shutdown } in
     let d : Entry = record { seat = h.seat; kind = kinds.Done } in
     rw c.in-Shutdown.is (done_by actions.Shutdown _ (e ∷ d ∷ [])

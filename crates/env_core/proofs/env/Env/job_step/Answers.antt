@@ -1,9 +1,11 @@
 use Rattle.env_core.proofs.Entries.{enters_is, has_room}
 use Rattle.env_core.proofs.JobCalls.{can_step, goes_on, has_to_leave, holds_step}
 use Rattle.env_core.proofs.JobEntries.{job_step_allowed}
+use Rattle.env_core.proofs.Own.{pass_is_own}
 use Rattle.env_core.specs.Jobs.{CanEndItem, held_by}
-use Rattle.env_core.specs.Views.{EnvView}
+use Rattle.env_core.specs.Views.{EnvView, Enters}
 use Rattle.std.proofs.Common.{None, Some, refl}
+use Rattle.task_base.specs.declared.entry.Kind.{Kind}
 use Rattle.task_base.specs.declared.entry.Kind.TheVariants as kinds
 use Rattle.env_core.proofs.env.Env.job_step.Goals as goal
 
@@ -67,11 +69,15 @@ returns g c =
     let some = c.in_ok-next.ensures.answer view.script view.history (held_by c.args.pass)
     (can_step c.args.seat c.args.value c.args.pass c.self.invariant can) in
     let on = goes_on view.script view.history c.args.seat c.args.pass.job c.in_ok-next.field-0 some in
+    let after : EnvView = record { script = c.self.inside.script; history = c.push_spare.new.self.items } in
+    let kind : Kind = kinds.JobStep c.args.pass.job c.args.pass.id c.args.pass.item c.args.value (Some c.in_ok-next.field-0) in
+    let enters : Enters view after c.args.seat kind = enters_is c.args.seat kind c.push_spare.new.self c.self.invariant
+    (job_step_allowed view c.args.seat c.args.value c.args.pass (Some c.in_ok-next.field-0) can some)
+    (rw (c.job-job.ensures, c.id-id.ensures, c.item-item.ensures, c.in_ok-next.was) at c.push_spare.ensures.items) in
     rw (c.new.ensures, ← c.self.view_is) (record {
       stays = on.0;
       next_is = rw (c.job-job.ensures, c.id-id.ensures, on.1) refl;
-      enters = enters_is c.args.seat (kinds.JobStep c.args.pass.job c.args.pass.id c.args.pass.item c.args.value (Some c.in_ok-next.field-0))
-          c.push_spare.new.self c.self.invariant
-          (job_step_allowed view c.args.seat c.args.value c.args.pass (Some c.in_ok-next.field-0) can some)
-          (rw (c.job-job.ensures, c.id-id.ensures, c.item-item.ensures, c.in_ok-next.was) at c.push_spare.ensures.items);
+      enters = enters;
+      seats = rw (c.job-job.ensures, c.id-id.ensures) (pass_is_own view after c.args.seat kind
+          (record { job = c.args.pass.job; id = c.args.pass.id; item = c.in_ok-next.field-0 }) enters (λ old. refl));
     })

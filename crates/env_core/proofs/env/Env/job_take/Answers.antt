@@ -2,9 +2,10 @@ use Rattle.env_core.proofs.Driver.{driver_goes_in}
 use Rattle.env_core.proofs.Entries.{enters_is, has_room}
 use Rattle.env_core.proofs.JobCalls.{can_join, has_got, has_got_none, holds_job, holds_kept}
 use Rattle.env_core.proofs.JobEntries.{job_take_allowed}
+use Rattle.env_core.proofs.Own.{pass_is_own}
 use Rattle.env_core.proofs.Wanted.{wanted_by_script}
 use Rattle.env_core.specs.Calls.{IsWantedNext}
-use Rattle.env_core.specs.Views.{EnvView}
+use Rattle.env_core.specs.Views.{EnvView, Enters}
 use Rattle.pool_core.specs.StandsFor.{StandsFor}
 use Rattle.std.proofs.Common.{[], refl, subst, sym, ◌++◌, ◌∷◌}
 use Rattle.task_base.specs.declared.entry.Kind.{Kind}
@@ -65,13 +66,17 @@ returns g c =
     let wanted : IsWantedNext view c.args.seat (kinds.JobTake c.args.job c.in_ok-id.id c.in_ok-id.item) =
     rw c.self.view_is (c.requires c.in_ok-id.id c.in_ok-id.item) in
     let got = has_got view.script view.history c.args.job c.in_ok-id.id c.in_ok-id.item (c.in_ok-id.ensures.answer view.script view.history can) in
+    let after : EnvView = record { script = c.self.inside.script; history = c.push_spare.new.self.items } in
+    let kind : Kind = kinds.JobTake c.args.job c.in_ok-id.id c.in_ok-id.item in
+    let enters : Enters view after c.args.seat kind = enters_is c.args.seat kind c.push_spare.new.self c.self.invariant
+    (job_take_allowed view c.args.seat c.args.job c.in_ok-id.id c.in_ok-id.item wanted got) c.push_spare.ensures.items in
     rw (c.new.ensures, ← c.self.view_is) (record {
       job_is = refl;
       goes_in = record {
-        enters = enters_is c.args.seat (kinds.JobTake c.args.job c.in_ok-id.id c.in_ok-id.item) c.push_spare.new.self c.self.invariant
-            (job_take_allowed view c.args.seat c.args.job c.in_ok-id.id c.in_ok-id.item wanted got) c.push_spare.ensures.items;
+        enters = enters;
         may = got.may;
         id_is = got.id_is;
         item_is = got.item_is;
+        seats = pass_is_own view after c.args.seat kind (record { job = c.args.job; id = c.in_ok-id.id; item = c.in_ok-id.item }) enters (λ old. refl);
       };
     })

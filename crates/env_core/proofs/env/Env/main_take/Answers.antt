@@ -1,14 +1,16 @@
 use Rattle.env_core.proofs.Bodies.{bodies_at_main_take, bodies_kept}
 use Rattle.env_core.proofs.Driver.{driver_passes, driver_takes}
 use Rattle.env_core.proofs.Entries.{enters_is, has_room, holds_next, pool_at_driver, pool_still}
+use Rattle.env_core.proofs.Own.{assignment_is_own}
 use Rattle.env_core.proofs.Taking.{body_at, can_main_take, main_taken_body, slot_is}
 use Rattle.env_core.proofs.Wanted.{main_none_allowed, main_take_allowed, wanted_by_script, wants_take}
 use Rattle.env_core.specs.Calls.{IsWantedNext}
-use Rattle.env_core.specs.Views.{EnvView}
+use Rattle.env_core.specs.Views.{EnvView, Enters}
 use Rattle.sequence_manager.proofs.Others.{stands_still}
 use Rattle.sequence_manager.specs.StandsFor.{StandsFor as MainStandsFor}
-use Rattle.std.proofs.Common.{[], arith, refl, slice_set, subst, sym, ◌++◌, ◌∙◌, ◌∷◌}
+use Rattle.std.proofs.Common.{[], arith, refl, slice_set, subst, sym, true, ◌++◌, ◌∙◌, ◌∷◌}
 use Rattle.task_base.specs.declared.entry.Entry.{Entry}
+use Rattle.task_base.specs.declared.entry.Kind.{Kind}
 use Rattle.task_base.specs.declared.entry.Kind.TheVariants as kinds
 use Rattle.env_core.proofs.env.Env.main_take.Goals as goal
 
@@ -111,17 +113,23 @@ returns-in-Some g c =
     let body = main_taken_body c.in-Some.task c.in-Some.queue c.in-Some.cell c.self.invariant taken in
     let there = body_at c.self.inside.bodies.items c.in-Some.task c.index_mut.result.now c.unwrap-body.result (rw c.self.invariant.drawer.all body.0)
     c.index_mut.ensures.value (sym c.take-in-Some.ensures.value ∙ c.unwrap-body.ensures) in
+    let before : EnvView = record { script = c.self.inside.script; history = c.self.inside.log.items } in
+    let after : EnvView = record { script = c.self.inside.script; history = c.push_spare-in-Some.new.self.items } in
+    let kind : Kind = kinds.MainTake c.in-Some.task c.in-Some.queue c.in-Some.cell in
+    let enters : Enters before after c.args.seat kind = enters_is c.args.seat kind c.push_spare-in-Some.new.self c.self.invariant
+    (main_take_allowed before c.args.seat c.in-Some.task c.in-Some.queue c.in-Some.cell taken.front
+    (rw c.self.view_is c.requires) taken.chosen taken.task_is taken.queue_is taken.cell_is) (rw (← c.value.ensures) c.push_spare-in-Some.ensures.items) in
+    let whole_is = c.self.invariant.drawer.whole_is c.in-Some.task c.unwrap-body.result there in
     rw (← c.self.view_is, c.new.ensures) (record {
       front = taken.front;
       chosen = taken.chosen;
       task_is = sym taken.task_is;
       home_is = sym taken.queue_is;
-      enters = enters_is c.args.seat (kinds.MainTake c.in-Some.task c.in-Some.queue c.in-Some.cell) c.push_spare-in-Some.new.self c.self.invariant
-          (main_take_allowed (record { script = c.self.inside.script; history = c.self.inside.log.items }) c.args.seat c.in-Some.task c.in-Some.queue
-          c.in-Some.cell taken.front
-          (rw c.self.view_is c.requires) taken.chosen taken.task_is taken.queue_is taken.cell_is) (rw (← c.value.ensures) c.push_spare-in-Some.ensures.items);
+      enters = enters;
       found_is = taken.cell_is;
       value_is = refl;
-      whole_is = c.self.invariant.drawer.whole_is c.in-Some.task c.unwrap-body.result there;
+      whole_is = whole_is;
       rest_is = refl;
+      seats = assignment_is_own before after c.args.seat kind
+          (record { task = c.in-Some.task; home = c.in-Some.queue; found = c.in-Some.cell; is_main = true }) _ enters (λ old. refl) whole_is;
     })

@@ -1,8 +1,11 @@
 use Rattle.env_core.proofs.Acts.{holds_by_worker}
 use Rattle.env_core.proofs.Bodies.{bodies_at_take}
 use Rattle.env_core.proofs.Entries.{enters_is, has_room, holds_next, main_at_worker, main_still, worker_waits}
+use Rattle.env_core.proofs.Own.{assignment_is_own}
 use Rattle.env_core.proofs.Taking.{body_at, can_take, has_taken_item, item_taken_allowed, slot_is, taken_allowed, taken_body, unfinished}
+use Rattle.env_core.specs.Views.{EnvView, Enters}
 use Rattle.task_base.specs.declared.entry.Entry.{Entry}
+use Rattle.task_base.specs.declared.entry.Kind.{Kind}
 use Rattle.task_base.specs.declared.entry.Kind.TheVariants as kinds
 use Rattle.std.proofs.Common.{arith, refl, sym, ◌∙◌}
 use Rattle.std.proofs.Common.{true, false, slice_set}
@@ -107,13 +110,20 @@ returns-in-Task g c =
     (c.in-Task.ensures.answer c.self.inside.script c.self.inside.log.items (can_take c.args.seat c.self.invariant (rw c.self.view_is c.requires))) in
     let there = body_at c.self.inside.bodies.items c.in-Task.task c.index_mut.result.now c.unwrap-body.result (rw c.self.invariant.drawer.all body.0)
     c.index_mut.ensures.value (sym c.take-in-Task.ensures.value ∙ c.unwrap-body.ensures) in
+    let before : EnvView = record { script = c.self.inside.script; history = c.self.inside.log.items } in
+    let after : EnvView = record { script = c.self.inside.script; history = c.push_spare-in-Task.new.self.items } in
+    let kind : Kind = kinds.Take c.in-Task.task c.in-Task.runner c.in-Task.cell in
+    let enters : Enters before after c.args.seat kind = enters_is c.args.seat kind c.push_spare-in-Task.new.self c.self.invariant
+    (taken_allowed c.args.seat c.in-Task.task c.in-Task.runner c.in-Task.cell c.self.invariant (rw c.self.view_is c.requires)
+    (sym c.if-is_finished.false ∙ c.is_finished.ensures) taken) (rw (← c.value.ensures) c.push_spare-in-Task.ensures.items) in
+    let whole_is = c.self.invariant.drawer.whole_is c.in-Task.task c.unwrap-body.result there in
     rw (← c.self.view_is, c.new-in-Task.ensures) (record {
       unfinished = unfinished false c.self.invariant (sym c.if-is_finished.false ∙ c.is_finished.ensures);
-      enters = enters_is c.args.seat (kinds.Take c.in-Task.task c.in-Task.runner c.in-Task.cell) c.push_spare-in-Task.new.self c.self.invariant
-          (taken_allowed c.args.seat c.in-Task.task c.in-Task.runner c.in-Task.cell c.self.invariant (rw c.self.view_is c.requires)
-          (sym c.if-is_finished.false ∙ c.is_finished.ensures) taken) (rw (← c.value.ensures) c.push_spare-in-Task.ensures.items);
+      enters = enters;
       found_is = taken.found_is;
       value_is = refl;
-      whole_is = c.self.invariant.drawer.whole_is c.in-Task.task c.unwrap-body.result there;
+      whole_is = whole_is;
       rest_is = refl;
+      seats = assignment_is_own before after c.args.seat kind
+          (record { task = c.in-Task.task; home = c.in-Task.runner; found = c.in-Task.cell; is_main = false }) _ enters (λ old. refl) whole_is;
     })
