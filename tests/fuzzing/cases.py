@@ -75,7 +75,8 @@ class GoodScript(Case):
 
 
 class EditedLog(Case):
-    """A log with one edit is judged at the line that the edit made bad, or no earlier one."""
+    """A log with one edit is judged at the line that the edit made bad, or no earlier one. Where the explanation names an entry,
+    the log goes on past that line with this one."""
 
     def judge(self, lines):
         rng = self.choices()
@@ -98,6 +99,18 @@ class EditedLog(Case):
         line = place + version
         if found < line or edit in logs.EXACT and found != line:
             raise Wrong(f"an edit is not found: {edit.__name__}", f"line {line}, {told.output}\n{log.decode()}")
+        if found:
+            self.judge_explanation(lines, log, told.output, edited[: found - version])
+
+    def judge_explanation(self, lines, log, verdict, before):
+        told = self.program.run(["explain"], text_of(lines) + MARK + log)
+        first, reason = told.output.splitlines(keepends=True)
+        if first != verdict or len(reason) > 256:
+            raise Wrong("another verdict, or a long explanation", f"{verdict}, {told.output}")
+        named = re.search(rb": (\d+ \d+ [a-z].*\n)$", reason)
+        if named and not reason.startswith(b"line "):
+            begun = "".join(line + "\n" for line in before).encode() + named[1]
+            want(self.program.run(["check", "--prefix"], text_of(lines) + MARK + begun), 0, b"legal\n")
 
 
 class DamagedScript(Case):

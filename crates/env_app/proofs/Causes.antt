@@ -5,11 +5,11 @@ use Rattle.task_base.specs.declared.fault.Fault.TheVariants.{NotLegal, BadWords,
 use Rattle.env_app.specs.declared.failure.Failure.{Failure}
 use Rattle.env_app.specs.declared.failure.Failure.TheVariants.{Common, NotTraced, BadReplies, BadNest}
 use Rattle.env_app.specs.declared.words.Command.{Command}
-use Rattle.env_app.specs.declared.words.Command.TheVariants.{Run, Check, Reply, Trace, Nest, Generate, Bench}
-use Rattle.env_app.specs.CommandLine.{IsJudge, TakesInput}
+use Rattle.env_app.specs.declared.words.Command.TheVariants.{Run, Check, Explain, Reply, Trace, Nest, Generate, Bench}
+use Rattle.env_app.specs.CommandLine.{IsJudge, TakesInput, WritesVerdict, takes_prefix}
 use Rattle.env_app.specs.Failures.{failure_status}
 use Rattle.env_app.specs.Outcome.{Ends, Does, EndsIn, HasCause, IsDone, IsReadToEnd, IsRefused, IsSteady, IsWithin, IsWritten, OfBytes, OfTaken, TookAll, TookMore, TookWithin, refusal_of}
-use Rattle.env_app.proofs.Verdicts.{SaysLegal, check_says, trace_says}
+use Rattle.env_app.proofs.Verdicts.{SaysLegal, check_says, explain_says, trace_says}
 
 -- ---- what can not be
 
@@ -38,18 +38,33 @@ none_of_four s a b c d p q r t (inr h) = none_of_three s b c d q r t h
 
 -- ---- what a command does
 
--- a command that judges a log
-abbrev Judges : Option Command → Type 0
-Judges command = (command ≡ Some Check) ⊎ (command ≡ Some Trace)
+-- what is known of a command that judges a log
+record IsOfJudge (command : Option Command) : Type 0 where
+  -- 1 says that it did its work
+  pub done : IsDone command 1
+  pub takes : TakesInput command
 
--- 1 says that it did its work
-done_at_one : (command : Option Command) → Judges command → IsDone command 1
-done_at_one command (inl is) = subst (λ (c : Option Command). IsDone c 1) (sym is) (inr refl)
-done_at_one command (inr is) = subst (λ (c : Option Command). IsDone c 1) (sym is) (inr refl)
+of_judge : (command : Option Command) → IsJudge command → IsOfJudge command
+of_judge (Some (Check prefix)) judges = record { done = inr refl; takes = tt }
+of_judge (Some (Explain json)) judges = record { done = inr refl; takes = tt }
+of_judge (Some Trace) judges = record { done = inr refl; takes = tt }
+of_judge None judges = absurd judges
+of_judge (Some (Run step json)) judges = absurd judges
+of_judge (Some Reply) judges = absurd judges
+of_judge (Some Nest) judges = absurd judges
+of_judge (Some (Generate number size)) judges = absurd judges
+of_judge (Some (Bench number size)) judges = absurd judges
 
-judge_takes : (command : Option Command) → Judges command → TakesInput command
-judge_takes command (inl is) = subst TakesInput (sym is) tt
-judge_takes command (inr is) = subst TakesInput (sym is) tt
+verdict_judges : (command : Option Command) → WritesVerdict command → IsJudge command
+verdict_judges (Some (Check prefix)) writes = tt
+verdict_judges (Some (Explain json)) writes = tt
+verdict_judges (Some Trace) writes = tt
+verdict_judges None writes = absurd writes
+verdict_judges (Some (Run step json)) writes = absurd writes
+verdict_judges (Some Reply) writes = absurd writes
+verdict_judges (Some Nest) writes = absurd writes
+verdict_judges (Some (Generate number size)) writes = absurd writes
+verdict_judges (Some (Bench number size)) writes = absurd writes
 
 -- a command that reads the source does what it does with bytes, within the limit, that are not refused
 record IsTaken (command : Option Command) (bytes : List ℕ) : Type 0 where
@@ -65,7 +80,8 @@ taken : (Holds : ℕ → List ℕ → Type 0) (command : Option Command) (told :
     → OfBytes source (IsTaken command)
 taken Holds None told source takes does = absurd takes
 taken Holds (Some (Run step json)) told source takes does = of_told (Some (Run step json)) source does.bytes does.took (rw does.holds.reads refl)
-taken Holds (Some Check) told source takes does = of_told (Some Check) source does.bytes does.took (rw does.holds.reads refl)
+taken Holds (Some (Check prefix)) told source takes does = of_told (Some (Check prefix)) source does.bytes does.took (rw does.holds.reads refl)
+taken Holds (Some (Explain json)) told source takes does = of_told (Some (Explain json)) source does.bytes does.took (rw does.holds.reads refl)
 taken Holds (Some Reply) told source takes does =
     of_told (Some Reply) source does.bytes does.took (rw (does.holds.reads, does.holds.elaborates.said) refl)
 taken Holds (Some Trace) told source takes does = of_told (Some Trace) source does.bytes does.took (rw does.holds.found.reads refl)
@@ -86,10 +102,10 @@ record IsLeft (source sink : Ends) (status : ℕ) : Type 0 where
   pub took_within : status ≢ 7 → TookWithin source
 
 -- a log was judged, and is not legal
-judged_cause : (command : Option Command) (told : ℕ → Option ℕ) (source sink : Ends) → Judges command → IsReadToEnd source
+judged_cause : (command : Option Command) (told : ℕ → Option ℕ) (source sink : Ends) → IsJudge command → IsReadToEnd source
     → Does command told source (IsWritten sink 1) → IsLeft source sink 1 → HasCause command told source sink 1
 judged_cause command told source sink judges end does left =
-    let takes = judge_takes command judges in record {
+    let of = of_judge command judges in let takes = of.takes in record {
       known = omega arith;
       judged = λ e. judges;
       bad_words = λ e. absurd (omega arith);
@@ -107,7 +123,7 @@ judged_cause command told source sink judges end does left =
       took_more = left.took_more;
       took_within = left.took_within;
       large = λ input bytes is many. let few = (taken _ command told source takes does bytes is).within in absurd (omega arith);
-      good_input = λ input bytes is few good calm quiet. inl (done_at_one command judges);
+      good_input = λ input bytes is few good calm quiet. inl of.done;
       no_input = λ there not quiet. absurd (not takes);
     }
 
@@ -140,12 +156,14 @@ refused_cause command told source sink failure takes refused left = record {
 
 left_so : (command : Option Command) (told : ℕ → Option ℕ) (source sink : Ends) (failure : Failure) → EndsIn command told source sink (Err failure)
     → IsLeft source sink (failure_status failure) → HasCause command told source sink (failure_status failure)
-left_so command told source sink (NotTraced line) runs left = judged_cause command told source sink (inr runs.0) runs.1 runs.2 left
+left_so command told source sink (NotTraced line) runs left =
+    judged_cause command told source sink (subst IsJudge (sym runs.0) tt) runs.1 runs.2 left
 left_so command told source sink (BadReplies line reason) runs left =
     refused_cause command told source sink (BadReplies line reason) (subst TakesInput (sym runs.0) tt) runs.1 left
 left_so command told source sink (BadNest line reason) runs left =
     refused_cause command told source sink (BadNest line reason) (subst TakesInput (sym runs.0) tt) runs.1 left
-left_so command told source sink (Common (NotLegal line)) runs left = judged_cause command told source sink (inl runs.0) runs.1 runs.2 left
+left_so command told source sink (Common (NotLegal line)) runs left =
+    judged_cause command told source sink (verdict_judges command runs.0) runs.1 runs.2 left
 left_so command told source sink (Common (BadScript line reason)) runs left =
     refused_cause command told source sink (Common (BadScript line reason)) runs.0 runs.2 left
 left_so command told source sink (Common BadWords) runs left = record {
@@ -300,10 +318,13 @@ cause_of_failure command told source sink failure runs source_steady sink_steady
 
 -- the status of a command that judges a log says whether it is legal
 pub judge_says : (command : Option Command) (told : ℕ → Option ℕ) (source sink : Ends) (status : ℕ) → HasCause command told source sink status
-    → IsJudge command → (status ≡ 0) ⊎ (status ≡ 1) → OfTaken source (λ bytes. SaysLegal bytes status)
-judge_says (Some Check) told source sink status cause judges done =
+    → IsJudge command → (status ≡ 0) ⊎ (status ≡ 1) → OfTaken source (λ bytes. SaysLegal (takes_prefix command) bytes status)
+judge_says (Some (Check prefix)) told source sink status cause judges done =
     let does = cause.done done in
-    record { bytes = does.bytes; took = does.took; holds = check_says does.bytes sink status does.holds }
+    record { bytes = does.bytes; took = does.took; holds = check_says prefix does.bytes sink status does.holds }
+judge_says (Some (Explain json)) told source sink status cause judges done =
+    let does = cause.done done in
+    record { bytes = does.bytes; took = does.took; holds = explain_says json does.bytes sink status does.holds }
 judge_says (Some Trace) told source sink status cause judges done =
     let does = cause.done done in
     record { bytes = does.bytes; took = does.took; holds = trace_says does.bytes sink status does.holds }

@@ -3,6 +3,7 @@ pub mod Parses
 pub mod Passed
 pub mod Seats
 pub mod Verdicts
+pub mod Explained
 pub mod Outcomes
 pub mod Causes
 pub mod Worked

@@ -10,23 +10,16 @@ use Rattle.hist_model.specs.Legal.{IsLegal}
 use Rattle.hist_model.specs.Script.{IsWhole}
 use Rattle.script_model.specs.Grammar.{Reads, first_fault}
 use Rattle.env_app.specs.declared.words.Command.{Command}
-use Rattle.env_app.specs.declared.words.Command.TheVariants.{Run, Check, Reply, Trace, Nest}
+use Rattle.env_app.specs.declared.words.Command.TheVariants.{Run, Check, Explain, Reply, Trace, Nest}
 use Rattle.env_app.specs.declared.failure.Failure.{Failure}
 use Rattle.env_app.specs.declared.failure.Failure.TheVariants.{Common, NotTraced, BadReplies, BadNest}
 use Rattle.env_app.specs.Failures.{is_verdict, failure_note, failure_status, note_line}
-use Rattle.env_app.specs.CommandLine.{TakesInput}
-use Rattle.env_app.specs.Input.{script_part, part_behind}
-use Rattle.env_app.specs.Judged.{IsFoundAt, verdict_status, verdict_text}
+use Rattle.env_app.specs.CommandLine.{TakesInput, WritesVerdict}
+use Rattle.env_app.specs.Judged.{verdict_status}
 use Rattle.env_app.specs.Outcome.{Ends, Does, EndsIn, Failed, HasSaid, IsCutOff, IsEnd, IsFailureOf, IsOfBytes, IsReadToEnd, IsVerdictOf, IsWritten, RunsTo, TookAll, WroteAll, WroteFront, in_common}
 use Rattle.env_crew.specs.Driving.{HasMomentsOf}
 use Rattle.env_io.specs.Bytes.{Gives, Gains}
 use Rattle.env_io.proofs.Bytes.{Gives-trans}
-
--- what was taken up to the end is all that there was
-pub taken_whole : (before after : Option (List ℕ)) (piece bytes : List ℕ) → Gives before piece after → IfSome after (λ rest. rest ≡ []) → before ≡ Some bytes
-    → piece ≡ bytes
-taken_whole before None piece bytes given ended told = absurd cc
-taken_whole before (Some rest) piece bytes given ended told = let all = rw (ended, append-nil piece) at given in cc
 
 -- a front of a piece that came behind other bytes makes them so much longer
 pub gives_more : (a b c : Option (List ℕ)) (before piece : List ℕ) (n : ℕ) → n ≤ length piece → Gives a before b → Gives b (take n piece) c
@@ -47,12 +40,6 @@ wrote_front (Err e) before after text whole part = part
 pub put_or : {E P R : Type 0} (result : Result (Unit {0}) E) → OnOk result P → OnErr result R → R ⊎ P
 put_or (Ok done) whole failed = inr whole
 put_or (Err e) whole failed = inl failed
-
--- ---- scripts and their faults
-
--- a script has no fault
-pub no_fault : (bytes : List ℕ) (script : Plan) → Reads bytes script → first_fault bytes ≡ None
-no_fault bytes script reads = rw reads refl
 
 -- ---- the ends of a command
 
@@ -91,45 +78,22 @@ pub ends_written : (command : Command) (told : ℕ → Option ℕ) (source sink 
 ends_written command told source sink text (Ok done) end does put = (refl, end, does _ (refl, put.all))
 ends_written command told source sink text (Err fault) end does put = ends_cut command told source sink 0 text fault end does put
 
--- what `check` does of a script that was read, and of the line at which the log behind it is found wrong
-check_does : (told : ℕ → Option ℕ) (source : Ends) (bytes text log : List ℕ) (script : Plan) (line : Option ℕ) → TookAll source bytes
-    → text ≡ script_part bytes → log ≡ part_behind bytes → Reads text script → IsFoundAt script log line → (Holds : ℕ → List ℕ → Type 0)
-    → Holds (verdict_status line) (verdict_text line) → Does (Some Check) told source Holds
-check_does told source bytes text log script line took text_is log_is reads found Holds holds = record {
-  bytes = bytes;
-  took = took;
-  holds = record {
-    script = script;
-    line = line;
-    reads = subst (λ (t : List ℕ). Reads t script) text_is reads;
-    found = subst (λ (t : List ℕ). IsFoundAt script t line) log_is found;
-    holds = holds;
-  };
-}
-
--- and how it ends, where what is found was said
-pub check_ends : (told : ℕ → Option ℕ) (source sink : Ends) (bytes text log : List ℕ) (script : Plan) (line : Option ℕ) (result : Result (Unit {0}) Fault)
-    → TookAll source bytes → text ≡ script_part bytes → log ≡ part_behind bytes → Reads text script → IsFoundAt script log line
-    → HasSaid line sink result → RunsTo (Some Check) told source sink result
-check_ends told source sink bytes text log script line (Ok done) took text_is log_is reads found said = (
-  refl,
-  λ takes. took.end,
-  check_does told source bytes text log script line took text_is log_is reads found (IsWritten sink 0)
-      (sym (ap verdict_status said.0), said.1),
-)
-check_ends told source sink bytes text log script line (Err (NotLegal at)) took text_is log_is reads found said = (
-  refl,
-  took.end,
-  check_does told source bytes text log script line took text_is log_is reads found (IsWritten sink 1)
-      (sym (ap verdict_status said.0), said.1),
-)
-check_ends told source sink bytes text log script line (Err WriteFault) took text_is log_is reads found said =
-    (refl, λ takes. took.end, said.0, check_does told source bytes text log script line took text_is log_is reads found (IsCutOff sink) said.1)
-check_ends told source sink bytes text log script line (Err BadWords) took text_is log_is reads found said = absurd said
-check_ends told source sink bytes text log script line (Err (BadScript at reason)) took text_is log_is reads found said = absurd said
-check_ends told source sink bytes text log script line (Err ReadFault) took text_is log_is reads found said = absurd said
-check_ends told source sink bytes text log script line (Err (NoMemory error)) took text_is log_is reads found said = absurd said
-check_ends told source sink bytes text log script line (Err TooLarge) took text_is log_is reads found said = absurd said
+-- how a command ends that judges a log, where a text was written of what is found at the line
+pub said_ends : (command : Command) (told : ℕ → Option ℕ) (source sink : Ends) (bytes text : List ℕ) (line : Option ℕ) (result : Result (Unit {0}) Fault)
+    → WritesVerdict (Some command) → TookAll source bytes
+    → ((Holds : ℕ → List ℕ → Type 0) → Holds (verdict_status line) text → Does (Some command) told source Holds)
+    → HasSaid line text sink result → RunsTo (Some command) told source sink result
+said_ends command told source sink bytes text line (Ok done) writes took does said =
+    (refl, λ takes. took.end, does (IsWritten sink 0) (sym (ap verdict_status said.0), said.1))
+said_ends command told source sink bytes text line (Err (NotLegal at)) writes took does said =
+    (writes, took.end, does (IsWritten sink 1) (sym (ap verdict_status said.0), said.1))
+said_ends command told source sink bytes text line (Err WriteFault) writes took does said =
+    (refl, λ takes. took.end, said.0, does (IsCutOff sink) said.1)
+said_ends command told source sink bytes text line (Err BadWords) writes took does said = absurd said
+said_ends command told source sink bytes text line (Err (BadScript at reason)) writes took does said = absurd said
+said_ends command told source sink bytes text line (Err ReadFault) writes took does said = absurd said
+said_ends command told source sink bytes text line (Err (NoMemory error)) writes took does said = absurd said
+said_ends command told source sink bytes text line (Err TooLarge) writes took does said = absurd said
 
 -- ---- failures
 
@@ -165,20 +129,6 @@ no_verdict command told source sink (Common TooLarge) runs none = refl
 no_verdict command told source sink (NotTraced line) runs none = refl
 no_verdict command told source sink (BadReplies line reason) runs none = refl
 no_verdict command told source sink (BadNest line reason) runs none = refl
-
--- and where `check` ends with status 1, its failure is one
-pub verdict_is : (command : Option Command) (told : ℕ → Option ℕ) (source sink : Ends) (failure : Failure) → EndsIn command told source sink (Err failure)
-    → IsVerdictOf command (failure_status failure) → is_verdict failure ≡ true
-verdict_is command told source sink (Common (NotLegal line)) runs is = refl
-verdict_is command told source sink (Common BadWords) runs is = absurd (omega (arith, is.0))
-verdict_is command told source sink (Common (BadScript line reason)) runs is = absurd (omega (arith, is.0))
-verdict_is command told source sink (Common ReadFault) runs is = absurd (omega (arith, is.0))
-verdict_is command told source sink (Common WriteFault) runs is = absurd (omega (arith, is.0))
-verdict_is command told source sink (Common (NoMemory error)) runs is = absurd (omega (arith, is.0))
-verdict_is command told source sink (Common TooLarge) runs is = absurd (omega (arith, is.0))
-verdict_is command told source sink (NotTraced line) runs is = absurd (cc (runs.0, is.1))
-verdict_is command told source sink (BadReplies line reason) runs is = absurd (omega (arith, is.0))
-verdict_is command told source sink (BadNest line reason) runs is = absurd (omega (arith, is.0))
 
 -- the failure of a command is the end that its note tells of
 pub is_end : (command : Option Command) (told : ℕ → Option ℕ) (source sink : Ends) (failure : Failure) (status : ℕ) → EndsIn command told source sink (Err failure)

@@ -16,9 +16,6 @@ pub record IsPassed (text : List ℕ) (n end : ℕ) : Type 0 where
   pub before : before_mark (text_lines text) ≡ take n (text_lines text) ++ before_mark (drop n (text_lines text))
   pub behind : behind_mark (text_lines text) ≡ behind_mark (drop n (text_lines text))
 
-pub none_passed : (text : List ℕ) → IsPassed text 0 0
-none_passed text = record { end_is = refl; before = refl; behind = refl }
-
 -- the text is the lines that were passed, the next one, and those behind it
 parts_at : (text : List ℕ) (n : ℕ) (line : List ℕ) → n < length (text_lines text) → line ≡ get_or (text_lines text) n line
     → text ≡ concat (take n (text_lines text)) ++ (line ++ concat (drop (n + 1) (text_lines text)))

@@ -4,7 +4,8 @@ use Rattle.std.specs.Prelude.{is_none}
 use Rattle.task_base.specs.Plan.{Plan}
 use Rattle.task_base.specs.declared.entry.Entry.{Entry}
 use Rattle.log_model.specs.declared.version.Version.{Version}
-use Rattle.log_model.specs.LogText.{line_of, text_from, log_lines, head_of, end_of, text_in, version_of}
+use Rattle.log_model.specs.declared.version.Version.TheVariants.{One, Two}
+use Rattle.log_model.specs.LogText.{lines_before, line_of, text_from, log_lines, head_of, end_of, text_in, version_of}
 use Rattle.log_model.proofs.Laws.LogLines.{line_words}
 use Rattle.log_model.proofs.Laws.LogTexts.{same_in, version_of-text_in}
 use Rattle.hist_model.specs.Legal.{IsLegal, first_illegal}
@@ -15,9 +16,13 @@ use Rattle.script_model.proofs.Laws.Sound.{reads_sound}
 use Rattle.run_log.proofs.LogLines.{bad_is_no_log}
 use Rattle.env_check.specs.declared.verdict.Verdict.{Verdict}
 use Rattle.env_check.specs.declared.verdict.Verdict.TheVariants.{Legal, Illegal}
-use Rattle.env_check.specs.Verdicts.{verdict_at, verdict_of}
+use Rattle.env_check.specs.Verdicts.{prefix_verdict_at, prefix_verdict_of, verdict_at, verdict_of}
 use Rattle.env_app.specs.Input.{part_behind, script_part}
-use Rattle.env_app.specs.Judged.{HasLegalLog, HasChecked, HasTraced, IsFoundIn, IsLegalLog, IsTraced, line_in, verdict_status}
+use Rattle.env_app.specs.Explained.{HasExplained, IsSaidAt}
+use Rattle.task_base.specs.declared.rows.Rows.{Rows}
+use Rattle.env_app.specs.declared.judged.Judged.{Judged}
+use Rattle.env_app.specs.declared.judged.Judged.TheVariants.{Right, Wrong}
+use Rattle.env_app.specs.Judged.{HasLegalLog, HasChecked, HasTraced, IsFoundAt, IsFoundIn, IsJudged, IsLegalLog, IsTraced, line_in, verdict_on, verdict_status}
 use Rattle.env_app.specs.Outcome.{Ends, IsWritten}
 
 -- ---- legal and whole
@@ -26,35 +31,47 @@ none_from : (o : Option ℕ) → is_none o ≡ true → o ≡ None
 none_from None is = refl
 none_from (Some place) is = absurd cc
 
--- the verdict on a legal, whole log is that it is legal
-legal_verdict : (script : Plan) (log : List Entry) → IsLegal script log → IsWhole script log → verdict_of script log ≡ Legal
-unfolding verdict_of
-legal_verdict script log legal whole = rw (none_from (first_illegal script log) (first_illegal_none script log ∙ legal), whole) refl
+-- the verdict on a log that is legal, and whole where that is asked for, is that it is legal
+legal_verdict : (prefix : Bool) (script : Plan) (log : List Entry) → IsLegal script log → (prefix ≡ false → IsWhole script log)
+    → verdict_on prefix script log ≡ Legal
+unfolding verdict_on verdict_of prefix_verdict_of
+legal_verdict false script log legal whole = rw (none_from (first_illegal script log) (first_illegal_none script log ∙ legal), whole refl) refl
+legal_verdict true script log legal whole = rw (none_from (first_illegal script log) (first_illegal_none script log ∙ legal)) refl
 
 -- and only on such a one
-legal_from_verdict : (script : Plan) (log : List Entry) → verdict_of script log ≡ Legal → IsLegal script log × IsWhole script log
-unfolding verdict_of
-legal_from_verdict script log verdict = by (first_illegal script log) refl (is_whole script log) refl verdict
+legal_from_verdict : (prefix : Bool) (script : Plan) (log : List Entry) → verdict_on prefix script log ≡ Legal
+    → IsLegal script log × (prefix ≡ false → IsWhole script log)
+unfolding verdict_on verdict_of prefix_verdict_of
+legal_from_verdict false script log verdict = by (first_illegal script log) refl (is_whole script log) refl verdict
   where
     by : (o : Option ℕ) → first_illegal script log ≡ o → (b : Bool) → is_whole script log ≡ b → verdict_at script log o ≡ Legal
-        → IsLegal script log × IsWhole script log
+        → IsLegal script log × (false ≡ false → IsWhole script log)
     by (Some place) found b whole is = absurd cc
-    by None found true whole is = (sym (first_illegal_none script log) ∙ ap is_none found, whole)
+    by None found true whole is = (sym (first_illegal_none script log) ∙ ap is_none found, λ asked. whole)
     by None found false whole is =
         let other : Illegal (length log) ≡ Legal = sym (ap (λ w. cond w Legal (Illegal (length log))) whole) ∙ is in
         absurd cc
+legal_from_verdict true script log verdict = by (first_illegal script log) refl verdict
+  where
+    by : (o : Option ℕ) → first_illegal script log ≡ o → prefix_verdict_at o ≡ Legal → IsLegal script log × (true ≡ false → IsWhole script log)
+    by (Some place) found is = absurd cc
+    by None found is = (sym (first_illegal_none script log) ∙ ap is_none found, λ other. absurd cc)
+
+-- a place of the log's first illegal entry is within the log
+illegal_within : (script : Plan) (log : List Entry) (at place : ℕ) → first_illegal script log ≡ Some at → Illegal at ≡ Illegal place → place ≤ length log
+illegal_within script log at place found is =
+    let here = first_illegal_some script log at found in
+    let same : at ≡ place = cc in
+    let parts = ap length here.parts in
+    omega (arith, same, here.place_is, parts, length-append here.past (here.entry ∷ here.rest))
 
 -- the place that a verdict names is within the log, or its length
-pub place_within : (script : Plan) (log : List Entry) (place : ℕ) → verdict_of script log ≡ Illegal place → place ≤ length log
-unfolding verdict_of
-place_within script log place verdict = by (first_illegal script log) refl (is_whole script log) refl verdict
+pub place_within : (prefix : Bool) (script : Plan) (log : List Entry) (place : ℕ) → verdict_on prefix script log ≡ Illegal place → place ≤ length log
+unfolding verdict_on verdict_of prefix_verdict_of
+place_within false script log place verdict = by (first_illegal script log) refl (is_whole script log) refl verdict
   where
     by : (o : Option ℕ) → first_illegal script log ≡ o → (b : Bool) → is_whole script log ≡ b → verdict_at script log o ≡ Illegal place → place ≤ length log
-    by (Some at) found b whole is =
-        let here = first_illegal_some script log at found in
-        let same : at ≡ place = cc in
-        let parts = ap length here.parts in
-        omega (arith, same, here.place_is, parts, length-append here.past (here.entry ∷ here.rest))
+    by (Some at) found b whole is = illegal_within script log at place found is
     by None found true whole is =
         let other : Legal ≡ Illegal place = sym (ap (λ w. cond w Legal (Illegal (length log))) whole) ∙ is in
         absurd cc
@@ -62,6 +79,11 @@ place_within script log place verdict = by (first_illegal script log) refl (is_w
         let other : Illegal (length log) ≡ Illegal place = sym (ap (λ w. cond w Legal (Illegal (length log))) whole) ∙ is in
         let same : length log ≡ place = cc in
         omega (arith, same)
+place_within true script log place verdict = by (first_illegal script log) refl verdict
+  where
+    by : (o : Option ℕ) → first_illegal script log ≡ o → prefix_verdict_at o ≡ Illegal place → place ≤ length log
+    by (Some at) found is = illegal_within script log at place found is
+    by None found is = absurd cc
 
 -- ---- texts
 
@@ -77,17 +99,31 @@ few_entries version text log same =
     let behind : List ℕ = end_of version (length log) in
     omega (arith, entries_from 0 log, length-append (head_of version) (text_from 0 log ++ behind), length-append (text_from 0 log) behind, ap length same)
 
+-- at most one line stands before those of the entries
+pub one_before : (version : Version) → lines_before version ≤ 1
+one_before One = omega arith
+one_before Two = omega arith
+
 -- ---- what was checked
 
 no_line : (version : Version) (verdict : Verdict) → None ≡ line_in version verdict → verdict ≡ Legal
 no_line version Legal is = refl
 no_line version (Illegal place) is = absurd cc
 
--- where no line is wrong, the log is a legal, whole one
-pub is_legal_log : (bytes : List ℕ) → IsFoundIn bytes None → HasLegalLog bytes
-is_legal_log bytes h = elim h.found [
+-- what is found of the text of a right log
+pub found_right : (prefix : Bool) (script : Plan) (text : List ℕ) (judged : Judged) (log : Rows Entry) → judged ≡ Right log → IsJudged prefix script text judged
+    → IsFoundAt prefix script text None
+found_right prefix script text judged log is found = let right = rw is at found in inl (log.items, right.0, rw right.1 refl)
+
+pub found_wrong : (prefix : Bool) (script : Plan) (text : List ℕ) (judged : Judged) (line : ℕ) → judged ≡ Wrong line → IsJudged prefix script text judged
+    → IsFoundAt prefix script text (Some line)
+found_wrong prefix script text judged line is found = rw is at found
+
+-- where no line is wrong, the log is such a one
+pub is_legal_log : (prefix : Bool) (bytes : List ℕ) → IsFoundIn prefix bytes None → HasLegalLog prefix bytes
+is_legal_log prefix bytes h = elim h.found [
   | inl found ↦
-      let judged = legal_from_verdict h.script found.0 (no_line found.1.version _ found.2) in
+      let judged = legal_from_verdict prefix h.script found.0 (no_line found.1.version _ found.2) in
       record {
         script = h.script;
         log = found.0;
@@ -98,8 +134,9 @@ is_legal_log bytes h = elim h.found [
 ]
 
 -- where one is, there is none
-pub is_no_legal_log : (bytes : List ℕ) (line : ℕ) → IsFoundIn bytes (Some line) → (script : Plan) (log : List Entry) → IsLegalLog bytes script log → ⊥
-is_no_legal_log bytes line h script log there =
+pub is_no_legal_log : (prefix : Bool) (bytes : List ℕ) (line : ℕ) → IsFoundIn prefix bytes (Some line) → (script : Plan) (log : List Entry)
+    → IsLegalLog prefix bytes script log → ⊥
+is_no_legal_log prefix bytes line h script log there =
     let fits = entries_fit script log (reads_sound (script_part bytes) script there.reads) there.legal in
     elim h.found [
       | inl found ↦
@@ -108,8 +145,8 @@ is_no_legal_log bytes line h script log there =
           let same : found.0 ≡ log = same_in there.version found.0 log found.1.fits fits
           (subst (λ v. text_in v found.0 ≡ part_behind bytes) versions found.1.same ∙ sym there.same) in
           let of : h.script ≡ script = cc (h.reads, there.reads) in
-          let legal = legal_verdict script log there.legal there.whole in
-          let verdict : verdict_of h.script found.0 ≡ Legal = rw (of, same) legal in
+          let legal = legal_verdict prefix script log there.legal there.whole in
+          let verdict : verdict_on prefix h.script found.0 ≡ Legal = rw (of, same) legal in
           let other : Some line ≡ None = found.2 ∙ ap (line_in found.1.version) verdict in
           absurd cc
       | inr found ↦ bad_is_no_log (part_behind bytes) found.0 found.1 there.version log fits there.same
@@ -118,22 +155,39 @@ is_no_legal_log bytes line h script log there =
 -- ---- what `check` and `trace` say with their status
 
 -- 0 says that the log is legal, and 1 that it is not
-pub record SaysLegal (bytes : List ℕ) (status : ℕ) : Type 0 where
-  pub legal : status ≡ 0 → HasLegalLog bytes
-  pub not_legal : status ≡ 1 → (script : Plan) (log : List Entry) → IsLegalLog bytes script log → ⊥
+pub record SaysLegal (prefix : Bool) (bytes : List ℕ) (status : ℕ) : Type 0 where
+  pub legal : status ≡ 0 → HasLegalLog prefix bytes
+  pub not_legal : status ≡ 1 → (script : Plan) (log : List Entry) → IsLegalLog prefix bytes script log → ⊥
 
-says_of : (bytes : List ℕ) (status : ℕ) (line : Option ℕ) → IsFoundIn bytes line → status ≡ verdict_status line → SaysLegal bytes status
-says_of bytes status None found is =
-    record { legal = λ zero. is_legal_log bytes found; not_legal = λ one. absurd (omega (arith, is)) }
-says_of bytes status (Some line) found is =
-    record { legal = λ zero. absurd (omega (arith, is)); not_legal = λ one. is_no_legal_log bytes line found }
+says_of : (prefix : Bool) (bytes : List ℕ) (status : ℕ) (line : Option ℕ) → IsFoundIn prefix bytes line → status ≡ verdict_status line
+    → SaysLegal prefix bytes status
+says_of prefix bytes status None found is =
+    record { legal = λ zero. is_legal_log prefix bytes found; not_legal = λ one. absurd (omega (arith, is)) }
+says_of prefix bytes status (Some line) found is =
+    record { legal = λ zero. absurd (omega (arith, is)); not_legal = λ one. is_no_legal_log prefix bytes line found }
 
-pub check_says : (bytes : List ℕ) (sink : Ends) (status : ℕ) → HasChecked bytes (IsWritten sink status) → SaysLegal bytes status
-check_says bytes sink status h = says_of bytes status h.line (record { script = h.script; reads = h.reads; found = h.found }) h.holds.0
+pub check_says : (prefix : Bool) (bytes : List ℕ) (sink : Ends) (status : ℕ) → HasChecked prefix bytes (IsWritten sink status)
+    → SaysLegal prefix bytes status
+check_says prefix bytes sink status h =
+    says_of prefix bytes status h.line (record { script = h.script; reads = h.reads; found = h.found }) h.holds.0
+
+-- what is said of a text goes with the line at which it is found wrong
+found_as_said : (json : Bool) (script : Plan) (text said : List ℕ) (line : Option ℕ) → IsSaidAt json script text line said
+    → IsFoundAt false script text line
+unfolding verdict_on
+found_as_said json script text said line (inl h) = inl (h.log, h.of, h.line_is)
+found_as_said json script text said line (inr h) = inr (h.bad, h.is, h.line_is)
+
+pub explain_says : (json : Bool) (bytes : List ℕ) (sink : Ends) (status : ℕ) → HasExplained json bytes (IsWritten sink status)
+    → SaysLegal false bytes status
+explain_says json bytes sink status h =
+    let found = found_as_said json h.script (part_behind bytes) h.said h.line h.found in
+    says_of false bytes status h.line (record { script = h.script; reads = h.reads; found = found }) h.holds.0
 
 traced_status : (text : List ℕ) (sink : Ends) (status : ℕ) (line : Option ℕ) → IsTraced text (IsWritten sink status) line → status ≡ verdict_status line
 traced_status text sink status None traced = traced.2.0
 traced_status text sink status (Some line) traced = traced.0
 
-pub trace_says : (bytes : List ℕ) (sink : Ends) (status : ℕ) → HasTraced bytes (IsWritten sink status) → SaysLegal bytes status
-trace_says bytes sink status h = says_of bytes status h.line h.found (traced_status (part_behind bytes) sink status h.line h.holds)
+pub trace_says : (bytes : List ℕ) (sink : Ends) (status : ℕ) → HasTraced bytes (IsWritten sink status) → SaysLegal false bytes status
+trace_says bytes sink status h =
+    says_of false bytes status h.line h.found (traced_status (part_behind bytes) sink status h.line h.holds)

@@ -9,7 +9,7 @@ use Rattle.clap.specs.Kinds.{Kinds}
 use Rattle.clap.specs.Faults.{fault_of}
 use Rattle.clap.specs.declared.builder.action.ArgAction.TheVariants.{SetTrue}
 use Rattle.env_app.specs.declared.words.Command.{Command}
-use Rattle.env_app.specs.declared.words.Command.TheVariants.{Run, Check, Reply, Trace, Nest, Generate, Bench}
+use Rattle.env_app.specs.declared.words.Command.TheVariants.{Run, Check, Explain, Reply, Trace, Nest, Generate, Bench}
 use Rattle.env_app.specs.declared.words.Mode.{Mode}
 use Rattle.env_app.specs.declared.words.Mode.TheVariants as modes
 use Rattle.env_app.specs.declared.words.TheConstants.{USUAL_SIZE, MOST_SIZE}
@@ -30,15 +30,15 @@ mode_argument = record (new_rule (codes "MODE")) { required = true }
 abbrev pub value_argument : List ℕ → Rule
 value_argument name = record (new_rule name) { long = Some name }
 
--- `--json` (this project's own)
-abbrev pub json_argument : Rule
-json_argument = record (new_rule (codes "json")) { long = Some (codes "json"); action = Some SetTrue }
+-- a flag of this name (this project's own)
+abbrev pub flag_argument : List ℕ → Rule
+flag_argument name = record (new_rule name) { long = Some name; action = Some SetTrue }
 
--- `taskenv MODE [--step N] [--json] [--number N] [--size N]` (this project's own)
+-- `taskenv MODE [--step N] [--json] [--prefix] [--number N] [--size N]` (this project's own)
 abbrev pub taskenv : App
 taskenv =
-    with_rule (with_rule (with_rule (with_rule (with_rule (new_app (codes "taskenv")) mode_argument) (value_argument (codes "step"))) json_argument)
-    (value_argument (codes "number"))) (value_argument (codes "size"))
+    with_rule (with_rule (with_rule (with_rule (with_rule (with_rule (new_app (codes "taskenv")) mode_argument) (value_argument (codes "step")))
+    (flag_argument (codes "json"))) (flag_argument (codes "prefix"))) (value_argument (codes "number"))) (value_argument (codes "size"))
 
 -- ---- the values of its arguments
 
@@ -47,12 +47,13 @@ abbrev pub mode_named : List ℕ → Option Mode
 mode_named word =
     if is_word word (codes "run") then Some modes.Run
     else (if is_word word (codes "check") then Some modes.Check
+    else (if is_word word (codes "explain") then Some modes.Explain
     else (if is_word word (codes "reply") then Some modes.Reply
     else (if is_word word (codes "trace") then Some modes.Trace
     else (if is_word word (codes "nest") then Some modes.Nest
     else (if is_word word (codes "gen") then Some modes.Generate
     else (if is_word word (codes "bench") then Some modes.Bench
-    else None))))))
+    else None)))))))
 
 -- the number from low to high that a word writes, in decimal digits without a sign and without zeros in front (this project's
 -- own rule)
@@ -86,26 +87,28 @@ made_with command number size = do
   s ← size_given size
   Some (command n s)
 
--- the command of a mode with the words of its options: `run` takes `--step` and `--json`, `gen` and `bench` take `--number` and
--- `--size`, and the others take none; an option that the mode does not take makes it none (this project's own rule)
-abbrev pub command_with : Mode → Option (List ℕ) → Bool → Option (List ℕ) → Option (List ℕ) → Option Command
-command_with modes.Run step json None None = option_map (λ s. Run s json) (step_given step)
-command_with modes.Check None false None None = Some Check
-command_with modes.Reply None false None None = Some Reply
-command_with modes.Trace None false None None = Some Trace
-command_with modes.Nest None false None None = Some Nest
-command_with modes.Generate None false number size = made_with Generate number size
-command_with modes.Bench None false number size = made_with Bench number size
-command_with mode step json number size = None
+-- the command of a mode with the words of its options: `run` takes `--step` and `--json`, `check` takes `--prefix`, `explain`
+-- takes `--json`, `gen` and `bench` take `--number` and `--size`, and the others take none; an option that the mode does not
+-- take makes it none (this project's own rule)
+abbrev pub command_with : Mode → Option (List ℕ) → Bool → Bool → Option (List ℕ) → Option (List ℕ) → Option Command
+command_with modes.Run step json false None None = option_map (λ s. Run s json) (step_given step)
+command_with modes.Check None false prefix None None = Some (Check prefix)
+command_with modes.Explain None json false None None = Some (Explain json)
+command_with modes.Reply None false false None None = Some Reply
+command_with modes.Trace None false false None None = Some Trace
+command_with modes.Nest None false false None None = Some Nest
+command_with modes.Generate None false false number size = made_with Generate number size
+command_with modes.Bench None false false number size = made_with Bench number size
+command_with mode step json prefix number size = None
 
 -- the command that these values of its arguments make, if each is one
-abbrev pub command_by : Option (List ℕ) → Option (List ℕ) → Option (List ℕ) → Option (List ℕ) → Option (List ℕ) → Option Command
-command_by mode step json number size = mode >>= mode_named >>= λ m. command_with m step (is_set json) number size
+abbrev pub command_by : Option (List ℕ) → Option (List ℕ) → Option (List ℕ) → Option (List ℕ) → Option (List ℕ) → Option (List ℕ) → Option Command
+command_by mode step json prefix number size = mode >>= mode_named >>= λ m. command_with m step (is_set json) (is_set prefix) number size
 
 -- the command that these matches of clap's command make, if their values are right
 abbrev pub command_matched : List Row → Option Command
-command_matched rows = command_by (first_of (codes "MODE") rows) (first_of (codes "step") rows) (first_of (codes "json") rows) (first_of (codes "number") rows)
-    (first_of (codes "size") rows)
+command_matched rows = command_by (first_of (codes "MODE") rows) (first_of (codes "step") rows) (first_of (codes "json") rows) (first_of (codes "prefix") rows)
+    (first_of (codes "number") rows) (first_of (codes "size") rows)
 
 -- the same, unless clap finds a fault
 abbrev pub command_unless : Kinds → List Row → Option Command
@@ -119,18 +122,20 @@ command_of words = command_unless (fault_of taskenv words) (matches_of taskenv w
 -- a script that is to be made has from 1 to 8,192 tasks
 abbrev pub IsSized : Command → Type 0
 IsSized (Run step json) = Unit {0}
-IsSized Check = Unit {0}
+IsSized (Check prefix) = Unit {0}
+IsSized (Explain json) = Unit {0}
 IsSized Reply = Unit {0}
 IsSized Trace = Unit {0}
 IsSized Nest = Unit {0}
 IsSized (Generate number size) = (1 ≤ size) × (size ≤ MOST_SIZE)
 IsSized (Bench number size) = (1 ≤ size) × (size ≤ MOST_SIZE)
 
--- the command reads the source: a script, behind which `check` and `trace` have a log and `reply` has replies, or a nest script
+-- the command reads the source: a script, behind which `check`, `explain` and `trace` have a log and `reply` has replies, or a nest script
 abbrev pub TakesInput : Option Command → Type 0
 TakesInput None = ⊥
 TakesInput (Some (Run step json)) = Unit {0}
-TakesInput (Some Check) = Unit {0}
+TakesInput (Some (Check prefix)) = Unit {0}
+TakesInput (Some (Explain json)) = Unit {0}
 TakesInput (Some Reply) = Unit {0}
 TakesInput (Some Trace) = Unit {0}
 TakesInput (Some Nest) = Unit {0}
@@ -142,7 +147,8 @@ abbrev pub ReadsClock : Option Command → Type 0
 ReadsClock None = ⊥
 ReadsClock (Some (Run None json)) = Unit {0}
 ReadsClock (Some (Run (Some step) json)) = ⊥
-ReadsClock (Some Check) = ⊥
+ReadsClock (Some (Check prefix)) = ⊥
+ReadsClock (Some (Explain json)) = ⊥
 ReadsClock (Some Reply) = Unit {0}
 ReadsClock (Some Trace) = ⊥
 ReadsClock (Some Nest) = ⊥
@@ -153,9 +159,27 @@ ReadsClock (Some (Bench number size)) = ⊥
 abbrev pub IsJudge : Option Command → Type 0
 IsJudge None = ⊥
 IsJudge (Some (Run step json)) = ⊥
-IsJudge (Some Check) = Unit {0}
+IsJudge (Some (Check prefix)) = Unit {0}
+IsJudge (Some (Explain json)) = Unit {0}
 IsJudge (Some Reply) = ⊥
 IsJudge (Some Trace) = Unit {0}
 IsJudge (Some Nest) = ⊥
 IsJudge (Some (Generate number size)) = ⊥
 IsJudge (Some (Bench number size)) = ⊥
+
+-- the command writes its verdict on a log
+abbrev pub WritesVerdict : Option Command → Type 0
+WritesVerdict None = ⊥
+WritesVerdict (Some (Run step json)) = ⊥
+WritesVerdict (Some (Check prefix)) = Unit {0}
+WritesVerdict (Some (Explain json)) = Unit {0}
+WritesVerdict (Some Reply) = ⊥
+WritesVerdict (Some Trace) = ⊥
+WritesVerdict (Some Nest) = ⊥
+WritesVerdict (Some (Generate number size)) = ⊥
+WritesVerdict (Some (Bench number size)) = ⊥
+
+-- the command takes a log as legal that ends before the script is done
+abbrev pub takes_prefix : Option Command → Bool
+takes_prefix (Some (Check prefix)) = prefix
+takes_prefix command = false

@@ -3,5 +3,6 @@ pub mod Crew
 pub mod Failures
 pub mod Input
 pub mod Judged
+pub mod Explained
 pub mod Totals
 pub mod Outcome

@@ -1,5 +1,5 @@
 -- What a command did, by what it read and what it wrote.
-use Rattle.std.specs.Prelude.{◌≡◌, ◌≢◌, ◌⊎◌, ◌<◌, ◌≤◌, ℕ, Bool, if◌then◌else◌, List, [], ◌++◌, All, length, take, codes, Option, Some, None, IfSome, IsSome, option_map, Result, Ok, Err}
+use Rattle.std.specs.Prelude.{◌≡◌, ◌≢◌, ◌⊎◌, ◌<◌, ◌≤◌, ℕ, Bool, false, if◌then◌else◌, List, [], ◌++◌, All, length, take, codes, Option, Some, None, IfSome, IsSome, option_map, Result, Ok, Err}
 use Rattle.task_base.specs.Plan.{Plan}
 use Rattle.task_base.specs.declared.limits.TheConstants.{MOST_BYTES}
 use Rattle.task_base.specs.declared.entry.Entry.{Entry}
@@ -23,13 +23,14 @@ use Rattle.nested_loop.specs.NestText.{nest_text}
 use Rattle.nested_loop.specs.Nest.{IsLegalNest}
 use Rattle.nested_loop.specs.declared.event.Event.{Event}
 use Rattle.env_app.specs.declared.words.Command.{Command}
-use Rattle.env_app.specs.declared.words.Command.TheVariants.{Run, Check, Reply, Trace, Nest, Generate, Bench}
+use Rattle.env_app.specs.declared.words.Command.TheVariants.{Run, Check, Explain, Reply, Trace, Nest, Generate, Bench}
 use Rattle.env_app.specs.declared.failure.Failure.{Failure}
 use Rattle.env_app.specs.declared.failure.Failure.TheVariants.{Common, NotTraced, BadReplies, BadNest}
 use Rattle.env_app.specs.Failures.{failure_status}
-use Rattle.env_app.specs.CommandLine.{TakesInput}
+use Rattle.env_app.specs.CommandLine.{IsJudge, TakesInput, WritesVerdict}
 use Rattle.env_app.specs.Input.{script_part, part_behind}
-use Rattle.env_app.specs.Judged.{HasChecked, HasTraced, IsFoundIn, verdict_text}
+use Rattle.env_app.specs.Judged.{HasChecked, HasTraced, IsFoundIn}
+use Rattle.env_app.specs.Explained.{HasExplained}
 use Rattle.env_app.specs.Totals.{summary_text}
 use Rattle.run_summary.specs.Summary.{generated_totals}
 use Rattle.task_script.specs.Generated.{generated}
@@ -181,7 +182,8 @@ reply_refusal (Ok script) replies = option_map (λ at. BadReplies at.0 at.1) (re
 abbrev pub refusal_of : Option Command → List ℕ → Option Failure
 refusal_of None bytes = None
 refusal_of (Some (Run step json)) bytes = script_refusal bytes
-refusal_of (Some Check) bytes = script_refusal (script_part bytes)
+refusal_of (Some (Check prefix)) bytes = script_refusal (script_part bytes)
+refusal_of (Some (Explain json)) bytes = script_refusal (script_part bytes)
 refusal_of (Some Reply) bytes = reply_refusal (script_read (script_part bytes)) (part_behind bytes)
 refusal_of (Some Trace) bytes = script_refusal (script_part bytes)
 refusal_of (Some Nest) bytes = option_map (λ at. BadNest at.0 at.1) (nest_fault bytes)
@@ -193,7 +195,8 @@ refusal_of (Some (Bench number size)) bytes = None
 abbrev pub Does : Option Command → (ℕ → Option ℕ) → Ends → (ℕ → List ℕ → Type 0) → Type 0
 Does None told source Holds = ⊥
 Does (Some (Run step json)) told source Holds = OfTaken source (λ bytes. HasRun bytes json (readings_of step told) (Holds 0))
-Does (Some Check) told source Holds = OfTaken source (λ bytes. HasChecked bytes Holds)
+Does (Some (Check prefix)) told source Holds = OfTaken source (λ bytes. HasChecked prefix bytes Holds)
+Does (Some (Explain json)) told source Holds = OfTaken source (λ bytes. HasExplained json bytes Holds)
 Does (Some Reply) told source Holds = OfTaken source (λ bytes. HasReplied bytes told (Holds 0))
 Does (Some Trace) told source Holds = OfTaken source (λ bytes. HasTraced bytes Holds)
 Does (Some Nest) told source Holds = OfTaken source (λ bytes. HasNested bytes (Holds 0))
@@ -216,7 +219,7 @@ IsRefused command source failure = OfTaken source (λ bytes. refusal_of command 
 -- sink were left so
 abbrev pub RunsTo : Option Command → (ℕ → Option ℕ) → Ends → Ends → Result (Unit {0}) Fault → Type 0
 RunsTo command told source sink (Ok done) = IsSome command × (TakesInput command → IsReadToEnd source) × Does command told source (IsWritten sink 0)
-RunsTo command told source sink (Err (NotLegal line)) = (command ≡ Some Check) × IsReadToEnd source × Does command told source (IsWritten sink 1)
+RunsTo command told source sink (Err (NotLegal line)) = WritesVerdict command × IsReadToEnd source × Does command told source (IsWritten sink 1)
 RunsTo command told source sink (Err BadWords) = command ≡ None
 RunsTo command told source sink (Err WriteFault) =
     IsSome command × (TakesInput command → IsReadToEnd source) × Failed sink × Does command told source (IsCutOff sink)
@@ -226,12 +229,12 @@ RunsTo command told source sink (Err ReadFault) = TakesInput command × Failed s
 RunsTo command told source sink (Err TooLarge) = TakesInput command × OfBytes source (λ bytes. MOST_BYTES < length bytes)
 RunsTo command told source sink (Err (NoMemory error)) = Unit {0}
 
--- what is found of this line was written, and the answer goes with it
-abbrev pub HasSaid : Option ℕ → Ends → Result (Unit {0}) Fault → Type 0
-HasSaid line sink (Ok done) = (line ≡ None) × WroteAll sink.before sink.after (verdict_text line)
-HasSaid line sink (Err (NotLegal at)) = (line ≡ Some at) × WroteAll sink.before sink.after (verdict_text line)
-HasSaid line sink (Err WriteFault) = Failed sink × WroteFront sink.before sink.after (verdict_text line)
-HasSaid line sink (Err fault) = ⊥
+-- this text was written of what is found at the line, and the answer goes with it
+abbrev pub HasSaid : Option ℕ → List ℕ → Ends → Result (Unit {0}) Fault → Type 0
+HasSaid line text sink (Ok done) = (line ≡ None) × WroteAll sink.before sink.after text
+HasSaid line text sink (Err (NotLegal at)) = (line ≡ Some at) × WroteAll sink.before sink.after text
+HasSaid line text sink (Err WriteFault) = Failed sink × WroteFront sink.before sink.after text
+HasSaid line text sink (Err fault) = ⊥
 
 -- the end of a command, where any fault may be one
 abbrev pub in_common : Result (Unit {0}) Fault → Result (Unit {0}) Failure
@@ -243,31 +246,32 @@ abbrev pub EndsIn : Option Command → (ℕ → Option ℕ) → Ends → Ends �
 EndsIn command told source sink (Ok done) = RunsTo command told source sink (Ok done)
 EndsIn command told source sink (Err (Common fault)) = RunsTo command told source sink (Err fault)
 EndsIn command told source sink (Err (NotTraced line)) =
-    (command ≡ Some Trace) × IsReadToEnd source × Does command told source (IsWritten sink 1) × OfTaken source (λ bytes. IsFoundIn bytes (Some line))
+    (command ≡ Some Trace) × IsReadToEnd source × Does command told source (IsWritten sink 1) × OfTaken source (λ bytes. IsFoundIn false bytes (Some line))
 EndsIn command told source sink (Err (BadReplies line reason)) = (command ≡ Some Reply) × IsRefused command source (BadReplies line reason)
 EndsIn command told source sink (Err (BadNest line reason)) = (command ≡ Some Nest) × IsRefused command source (BadNest line reason)
 
--- the status says that the command did its work: 0, and in `check` and `trace` 1 too
+-- the status says that the command did its work: 0, and 1 too where a log is judged
 abbrev pub IsDone : Option Command → ℕ → Type 0
 IsDone None status = status ≡ 0
 IsDone (Some (Run step json)) status = status ≡ 0
-IsDone (Some Check) status = (status ≡ 0) ⊎ (status ≡ 1)
+IsDone (Some (Check prefix)) status = (status ≡ 0) ⊎ (status ≡ 1)
+IsDone (Some (Explain json)) status = (status ≡ 0) ⊎ (status ≡ 1)
 IsDone (Some Reply) status = status ≡ 0
 IsDone (Some Trace) status = (status ≡ 0) ⊎ (status ≡ 1)
 IsDone (Some Nest) status = status ≡ 0
 IsDone (Some (Generate number size)) status = status ≡ 0
 IsDone (Some (Bench number size)) status = status ≡ 0
 
--- the status is a verdict that `check` writes of a log that is not legal
+-- the status is a verdict that is written of a log that is not legal
 abbrev pub IsVerdictOf : Option Command → ℕ → Type 0
-IsVerdictOf command status = (status ≡ 1) × (command ≡ Some Check)
+IsVerdictOf command status = (status ≡ 1) × WritesVerdict command
 
 -- each status has its cause
 pub record HasCause (command : Option Command) (told : ℕ → Option ℕ) (source sink : Ends) (status : ℕ) : Type 0 where
   -- nothing above 7 is answered
   pub known : status ≤ 7
-  -- 1 comes only in `check` and `trace`
-  pub judged : status ≡ 1 → (command ≡ Some Check) ⊎ (command ≡ Some Trace)
+  -- 1 comes only where a log is judged
+  pub judged : status ≡ 1 → IsJudge command
   -- 2 comes only where the words are no command
   pub bad_words : status ≡ 2 → command ≡ None
   -- and where they are none, nothing but 2 and want of memory comes
@@ -304,7 +308,7 @@ pub record HasCause (command : Option Command) (told : ℕ → Option ℕ) (sour
 
 -- a failure of this kind ends commands of these modes
 abbrev pub IsFailureOf : Option Command → Failure → Type 0
-IsFailureOf command (Common (NotLegal line)) = command ≡ Some Check
+IsFailureOf command (Common (NotLegal line)) = WritesVerdict command
 IsFailureOf command (Common (BadScript line reason)) = command ≢ Some Nest
 IsFailureOf command (Common fault) = Unit {0}
 IsFailureOf command (NotTraced line) = command ≡ Some Trace
@@ -316,7 +320,7 @@ IsFailureOf command (BadNest line reason) = command ≡ Some Nest
 abbrev pub IsOfBytes : Option Command → Ends → Failure → Type 0
 IsOfBytes command source (Common (BadScript line reason)) = IsRefused command source (Common (BadScript line reason))
 IsOfBytes command source (Common fault) = Unit {0}
-IsOfBytes command source (NotTraced line) = OfTaken source (λ bytes. IsFoundIn bytes (Some line))
+IsOfBytes command source (NotTraced line) = OfTaken source (λ bytes. IsFoundIn false bytes (Some line))
 IsOfBytes command source (BadReplies line reason) = IsRefused command source (BadReplies line reason)
 IsOfBytes command source (BadNest line reason) = IsRefused command source (BadNest line reason)
 

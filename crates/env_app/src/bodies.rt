@@ -9,25 +9,27 @@ use std::alloc::{AllocError, Global};
 use task_base::{Rows, Script, Step, apply};
 use task_body::{Body, OnceBody, ScriptBody, Work};
 
-/// The compute steps of a task, done at once.
+/// The compute steps of a task, which are its script's, done at once.
 #[derive(Drop)]
-pub struct Computation {
-    steps: Rows<Step>,
+pub struct Computation<'a> {
+    steps: &'a [Step],
 }
 
-impl Work for Computation {
-    ghost steps = { λ c. c.steps.items };
+impl<'a> Work for Computation<'a> {
+    ghost steps = { λ c. c.steps.now };
 
     fn run(self, value: u64) -> u64 {
         self.steps
-            .as_slice()
             .iter()
             .fold(value, |value, step| apply(step, value))
     }
 }
 
 /// The bodies of a script's tasks, each in the place of its task. The error is want of memory.
-pub fn bodies_of(alloc: Global, script: &Script) -> Result<Vec<Box<Body<Computation>>>, AllocError>
+pub fn bodies_of<'a>(
+    alloc: Global,
+    script: &'a Script,
+) -> Result<Vec<Box<Body<Computation<'a>>>>, AllocError>
     requires { IsSound script.now }
     ensures { IfOk result (λ bodies. AreFresh bodies.items (λ body. (view_of body.value).whole) (λ body. (view_of body.value).rest) script.now) }
 {
@@ -39,7 +41,7 @@ pub fn bodies_of(alloc: Global, script: &Script) -> Result<Vec<Box<Body<Computat
 }
 
 /// The body of a task with these steps: it does them at once where it has some and all compute, else one a call.
-fn body_of(alloc: Global, steps: &Rows<Step>) -> Result<Body<Computation>, AllocError>
+fn body_of<'a>(alloc: Global, steps: &'a Rows<Step>) -> Result<Body<Computation<'a>>, AllocError>
     requires { length steps.now.items ≤ u32.MAX }
     ensures whole { IfOk result (λ body. (view_of body).whole ≡ steps.now.items) }
     ensures rest { IfOk result (λ body. (view_of body).rest ≡ steps.now.items) }
@@ -49,7 +51,7 @@ fn body_of(alloc: Global, steps: &Rows<Step>) -> Result<Body<Computation>, Alloc
         return Ok(Body::Script(ScriptBody::new(whole)));
     }
     let work = Computation {
-        steps: steps.copy(alloc)?,
+        steps: steps.as_slice(),
     };
     Ok(Body::Once(OnceBody::new(whole, work)))
 }

@@ -17,9 +17,15 @@ use std::alloc::{AllocError, Global};
 use task_base::{Fault, Script};
 
 /// Reads a script from the source, to its end, and the log behind it, and writes whether the log is that of a whole run of
-/// the script: `legal`, or `illegal` and the line at which it is found not to be. That line is in `NotLegal` too.
-pub fn judge<S: Source, K: Sink>(alloc: Global, source: &mut S, sink: &mut K) -> Result<(), Fault>
-    ensures outcome { (told : ℕ → Option ℕ) → RunsTo (Some Check) told
+/// the script, or where a prefix is asked for, that of the beginning of one: `legal`, or `illegal` and the line at which it
+/// is found not to be. That line is in `NotLegal` too.
+pub fn judge<S: Source, K: Sink>(
+    alloc: Global,
+    prefix: bool,
+    source: &mut S,
+    sink: &mut K,
+) -> Result<(), Fault>
+    ensures outcome { (told : ℕ → Option ℕ) → RunsTo (Some (Check prefix)) told
         (ends (S.left source.old) (S.left source.new) (S.faults source.old) (S.faults source.new))
         (ends (K.holds sink.old) (K.holds sink.new) (K.faults sink.old) (K.faults sink.new)) result }
     ensures sink_kept { IfErr result (λ fault. status_of fault ≢ 1 → status_of fault ≢ 5 → sink.new ≡ sink.old) }
@@ -31,39 +37,45 @@ pub fn judge<S: Source, K: Sink>(alloc: Global, source: &mut S, sink: &mut K) ->
     let bytes = take_all(alloc, source)?;
     let (text, log) = parts_of(&bytes);
     let script = script_of(alloc, text)?;
-    let line = match wrong_line(alloc, &script, log) {
+    let line = match wrong_line(alloc, prefix, &script, log) {
         Ok(line) => line,
         Err(error) => return Err(Fault::NoMemory(error)),
     };
-    write_verdict(sink, line)
+    write_said(sink, line, &verdict_text(line))
 }
 
-/// Writes what is found of that line, and answers whether there is one.
-fn write_verdict<K: Sink>(sink: &mut K, line: Option<u32>) -> Result<(), Fault>
-    ensures said { HasSaid line (ends (K.holds sink.old) (K.holds sink.new) (K.faults sink.old) (K.faults sink.new)) result }
+/// Writes the text on what is found at the line, and answers whether there is one.
+pub(crate) fn write_said<K: Sink>(sink: &mut K, line: Option<u32>, text: &[u8]) -> Result<(), Fault>
+    ensures said { HasSaid line text.now (ends (K.holds sink.old) (K.holds sink.new) (K.faults sink.old) (K.faults sink.new)) result }
     ensures steady { result ≢ Err Fault.WriteFault → K.faults sink.new ≡ K.faults sink.old }
 {
-    write_text(sink, &verdict_text(line))?;
+    write_text(sink, text)?;
     match line {
         None => Ok(()),
         Some(line) => Err(Fault::NotLegal { line }),
     }
 }
 
-/// The line at which the text is found to be no log of a whole run of the script. The error is want of memory.
-fn wrong_line(alloc: Global, script: &Script, text: &[u8]) -> Result<Option<u32>, AllocError>
+/// The line at which the text is found to be no log of a whole run of the script, or of the beginning of one. The error is
+/// want of memory.
+fn wrong_line(
+    alloc: Global,
+    prefix: bool,
+    script: &Script,
+    text: &[u8],
+) -> Result<Option<u32>, AllocError>
     requires plan { IsSound script.now }
     requires short { length text.now ≤ MOST_BYTES }
-    ensures { IfOk result (IsFoundAt script.now text.now) }
+    ensures { IfOk result (IsFoundAt prefix script.now text.now) }
 {
-    match judge_log(alloc, script, text)? {
-        Judged::Whole(_) => Ok(None),
+    match judge_log(alloc, prefix, script, text)? {
+        Judged::Right(_) => Ok(None),
         Judged::Wrong { line } => Ok(Some(line)),
     }
 }
 
 /// What is written of that line.
-fn verdict_text(line: Option<u32>) -> Line
+pub(crate) fn verdict_text(line: Option<u32>) -> Line
     ensures { result.items ≡ verdict_text line }
 {
     let mut text = Line::new();

@@ -9,6 +9,7 @@ mod bench;
 mod bodies;
 mod check;
 mod crew;
+mod explain;
 mod failure;
 mod generate;
 mod input;

@@ -5,15 +5,17 @@ ghost use Rattle.script_model.specs.Canonical.{canonical};
 ghost use Rattle.task_script.specs.Generated.{generated};
 ghost use Rattle.run_summary.specs.Summary.{generated_totals};
 ghost use Rattle.env_io.specs.Bytes.{Gains, Rose};
-ghost use Rattle.env_app.specs.declared.words.Command.TheVariants.{Run, Check, Reply, Trace, Nest, Generate, Bench};
-ghost use Rattle.env_app.specs.CommandLine.{IsJudge, IsSized, ReadsClock, TakesInput, command_of};
+ghost use Rattle.env_app.specs.declared.words.Command.TheVariants.{Run, Check, Explain, Reply, Trace, Nest, Generate, Bench};
+ghost use Rattle.env_app.specs.CommandLine.{IsJudge, IsSized, ReadsClock, TakesInput, command_of, takes_prefix};
 ghost use Rattle.env_app.specs.Failures.{failure_status, is_verdict, note_line};
 ghost use Rattle.env_app.specs.Judged.{HasChecked, HasLegalLog, HasTraced, IsLegalLog};
+ghost use Rattle.env_app.specs.Explained.{HasExplained};
 ghost use Rattle.env_app.specs.Totals.{summary_text};
 ghost use Rattle.env_app.specs.Outcome.{ends, HasNested, HasReplied, HasRun, in_common, WroteAll, WroteFront, IsEnd, IsVerdictOf, IsWritten, OfTaken, TookMore, TookWithin, EndsIn, HasCause, readings_of};
 
 use crate::bench::run_generated;
 use crate::check::judge;
+use crate::explain::explain;
 use crate::failure::Failure;
 use crate::generate::write_generated;
 use crate::nests::run_nest_script;
@@ -65,7 +67,8 @@ fn execute<R: Threads + Wait + Sync, S: Source, K: Sink, C: Clock, G: Gate>(
         Command::Run { step, json } => common(run_script(
             rt, alloc, step, json, source, sink, clock, gate,
         )),
-        Command::Check => common(judge(alloc, source, sink)),
+        Command::Check { prefix } => common(judge(alloc, prefix, source, sink)),
+        Command::Explain { json } => common(explain(alloc, json, source, sink)),
         Command::Reply => run_replies(rt, alloc, source, sink, clock, gate),
         Command::Trace => trace(alloc, source, sink),
         Command::Nest => run_nest_script(alloc, source, sink),
@@ -142,12 +145,14 @@ fn run_and_tell<R: Threads + Wait + Sync, S: Source, K: Sink, N: Sink, C: Clock,
 
 /// Does what the words ask for, and answers the exit status (this project's own rule).
 ///
-/// The command is `taskenv MODE [--step N] [--json] [--number N] [--size N]`, the program's name first. The modes are:
+/// The command is `taskenv MODE [--step N] [--json] [--prefix] [--number N] [--size N]`, the program's name first. The modes are:
 ///
 /// - `run` reads a script from the source, to its end, runs it, and writes the run's log to the sink, as text or with
 ///   `--json` as JSON.
 /// - `check` reads a script, the line `%%` and a log from the source, to its end, and writes whether the log is that of a
-///   whole run of the script, which is status 0, or at which line it is not, which is status 1.
+///   whole run of the script, which is status 0, or at which line it is not, which is status 1. With `--prefix` the log may
+///   also end before the script is done.
+/// - `explain` does what `check` does, and writes behind the line at which a log is wrong why, in words or with `--json` in JSON.
 /// - `reply` reads a script, the line `%%` and replies from the source, to its end, and does what `run` does of the script
 ///   whose tasks post their replies.
 /// - `trace` reads what `check` reads, and writes the log as trace events, which is status 0, where it is that of a whole
@@ -156,7 +161,7 @@ fn run_and_tell<R: Threads + Wait + Sync, S: Source, K: Sink, N: Sink, C: Clock,
 /// - `gen` writes the script that is made from `--number`, of `--size` tasks, and reads nothing.
 /// - `bench` runs that script, and writes what the log of the run adds up to. It reads nothing.
 ///
-/// A status above 0 is that of a `Failure`, whose note goes to the notes, but for the verdict of `check`. Want of memory
+/// A status above 0 is that of a `Failure`, whose note goes to the notes, but for the verdict of `check` and `explain`. Want of memory
 /// comes before the first byte is written. The gate is called between each take of a task and the task's first step. The
 /// clock is read by `run` and `reply` alone, once for each tick, or with `--step` not at all: its readings are then N, 2N,
 /// 3N and so on, in microseconds.
@@ -184,18 +189,24 @@ pub fn run_words<R: Threads + Wait + Sync, S: Source, K: Sink, N: Sink, C: Clock
 
     // `check` answers 0 or 1 by the line at which the log behind the script is found wrong, and writes that line; `trace` writes
     // the log's trace under 0, and nothing under 1. 0 comes only where the log is a legal, whole one of the script, whose numbers
-    // fit, and 1 only where there is none, whatever its numbers are.
-    ensures verdict { command_of (map string_bytes words.now) ≡ Some Check → (result ≡ 0) ⊎ (result ≡ 1)
+    // fit, and 1 only where there is none, whatever its numbers are. With `--prefix` nothing is asked of whole.
+    ensures verdict { (prefix : Bool) → command_of (map string_bytes words.now) ≡ Some (Check prefix) → (result ≡ 0) ⊎ (result ≡ 1)
         → OfTaken (ends (S.left source.old) (S.left source.new) (S.faults source.old) (S.faults source.new))
-        (λ bytes. HasChecked bytes (λ status text. (result ≡ status) × WroteAll (K.holds sink.old) (K.holds sink.new) text)) }
+        (λ bytes. HasChecked prefix bytes (λ status text. (result ≡ status) × WroteAll (K.holds sink.old) (K.holds sink.new) text)) }
+    // `explain` writes what `check` writes, and behind it an explanation of the verdict: a cause that holds, and with most of them
+    // an entry that would be allowed there.
+    ensures explained { (json : Bool) → command_of (map string_bytes words.now) ≡ Some (Explain json) → (result ≡ 0) ⊎ (result ≡ 1)
+        → OfTaken (ends (S.left source.old) (S.left source.new) (S.faults source.old) (S.faults source.new))
+        (λ bytes. HasExplained json bytes (λ status text. (result ≡ status) × WroteAll (K.holds sink.old) (K.holds sink.new) text)) }
     ensures traced { command_of (map string_bytes words.now) ≡ Some Trace → (result ≡ 0) ⊎ (result ≡ 1)
         → OfTaken (ends (S.left source.old) (S.left source.new) (S.faults source.old) (S.faults source.new))
         (λ bytes. HasTraced bytes (λ status text. (result ≡ status) × WroteAll (K.holds sink.old) (K.holds sink.new) text)) }
     ensures legal_log { IsJudge (command_of (map string_bytes words.now)) → result ≡ 0
-        → OfTaken (ends (S.left source.old) (S.left source.new) (S.faults source.old) (S.faults source.new)) HasLegalLog }
+        → OfTaken (ends (S.left source.old) (S.left source.new) (S.faults source.old) (S.faults source.new))
+        (HasLegalLog (takes_prefix (command_of (map string_bytes words.now)))) }
     ensures no_legal_log { IsJudge (command_of (map string_bytes words.now)) → result ≡ 1
         → OfTaken (ends (S.left source.old) (S.left source.new) (S.faults source.old) (S.faults source.new))
-        (λ bytes. (script : Plan) (log : List Entry) → ¬ IsLegalLog bytes script log) }
+        (λ bytes. (script : Plan) (log : List Entry) → ¬ IsLegalLog (takes_prefix (command_of (map string_bytes words.now))) bytes script log) }
 
     // `reply` does what `run` does of the script whose tasks post their replies, and `nest` writes the log of a nest script.
     ensures replied { command_of (map string_bytes words.now) ≡ Some Reply → result ≡ 0

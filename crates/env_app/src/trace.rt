@@ -28,8 +28,8 @@ pub fn trace<S: Source, K: Sink>(alloc: Global, source: &mut S, sink: &mut K) ->
     let bytes = take_all(alloc, source)?;
     let (text, log) = parts_of(&bytes);
     let script = script_of(alloc, text)?;
-    match judge_log(alloc, &script, log) {
-        Ok(Judged::Whole(log)) => Ok(write_events(alloc, sink, &log)?),
+    match judge_log(alloc, false, &script, log) {
+        Ok(Judged::Right(log)) => Ok(write_events(alloc, sink, &log)?),
         Ok(Judged::Wrong { line }) => Err(Failure::NotTraced { line }),
         Err(error) => Err(Failure::Common(Fault::NoMemory(error))),
     }

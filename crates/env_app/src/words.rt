@@ -3,7 +3,7 @@ ghost use Rattle.script_model.specs.Words.{is_word};
 ghost use Rattle.clap.specs.Simple.{app_of, with_rule};
 ghost use Rattle.clap.specs.Values.{kind_of};
 ghost use Rattle.clap.specs.Walk.{rule_of};
-ghost use Rattle.env_app.specs.CommandLine.{IsSized, command_by, command_of, command_with, is_set, json_argument, mode_argument, mode_named, number_named, seed_given, size_given, step_given, taskenv, value_argument};
+ghost use Rattle.env_app.specs.CommandLine.{IsSized, command_by, command_of, command_with, flag_argument, is_set, mode_argument, mode_named, number_named, seed_given, size_given, step_given, taskenv, value_argument};
 
 use clap::error::ErrorKind;
 use clap::{Arg, ArgAction};
@@ -28,7 +28,15 @@ pub enum Command {
         json: bool,
     },
     /// Judges the log behind a script.
-    Check,
+    Check {
+        /// Whether the log may also end before the script is done.
+        prefix: bool,
+    },
+    /// Judges the log behind a script, and says why it is illegal.
+    Explain {
+        /// Whether that is said in JSON, and not in words.
+        json: bool,
+    },
     /// Runs a script whose tasks post the replies behind it, and writes the log of the run.
     Reply,
     /// Writes the trace of the log behind a script.
@@ -56,6 +64,7 @@ pub enum Command {
 enum Mode {
     Run,
     Check,
+    Explain,
     Reply,
     Trace,
     Nest,
@@ -76,6 +85,7 @@ pub fn command_of(alloc: Global, words: &[String]) -> Result<Option<Command>, Al
         matches.get_str("MODE"),
         matches.get_str("step"),
         matches.get_str("json"),
+        matches.get_str("prefix"),
         matches.get_str("number"),
         matches.get_str("size"),
     ))
@@ -91,13 +101,14 @@ fn refusal(error: &clap::Error) -> Result<Option<Command>, AllocError>
     }
 }
 
-/// The command `taskenv MODE [--step N] [--json] [--number N] [--size N]`.
+/// The command `taskenv MODE [--step N] [--json] [--prefix] [--number N] [--size N]`.
 fn taskenv<'a>(alloc: Global) -> Result<clap::Command<'a>, AllocError>
     ensures { IfOk result (λ command. app_of command ≡ taskenv) }
 {
     let command = with_argument(clap::Command::new(alloc, "taskenv"), mode_argument(alloc))?;
     let command = with_argument(command, value_argument(alloc, "step"))?;
-    let command = with_argument(command, json_argument(alloc))?;
+    let command = with_argument(command, flag_argument(alloc, "json"))?;
+    let command = with_argument(command, flag_argument(alloc, "prefix"))?;
     let command = with_argument(command, value_argument(alloc, "number"))?;
     with_argument(command, value_argument(alloc, "size"))
 }
@@ -129,14 +140,12 @@ fn value_argument<'a>(alloc: Global, name: &'a str) -> Arg<'a>
     Arg::new(alloc, name).long(name)
 }
 
-/// The flag `--json`.
-fn json_argument<'a>(alloc: Global) -> Arg<'a>
-    ensures rule { rule_of result ≡ json_argument }
+/// A flag of this name.
+fn flag_argument<'a>(alloc: Global, name: &'a str) -> Arg<'a>
+    ensures rule { rule_of result ≡ flag_argument name.entry.now }
     ensures local { result.global ≡ false }
 {
-    Arg::new(alloc, "json")
-        .long("json")
-        .action(ArgAction::SetTrue)
+    Arg::new(alloc, name).long(name).action(ArgAction::SetTrue)
 }
 
 /// The command that the values of its arguments make, if each is right.
@@ -144,14 +153,22 @@ fn command_by(
     mode: Option<&str>,
     step: Option<&str>,
     json: Option<&str>,
+    prefix: Option<&str>,
     number: Option<&str>,
     size: Option<&str>,
 ) -> Option<Command>
     ensures command { result ≡ command_by (option_map (λ s. s.now) mode.entry) (option_map (λ s. s.now) step.entry) (option_map (λ s. s.now) json.entry)
-        (option_map (λ s. s.now) number.entry) (option_map (λ s. s.now) size.entry) }
+        (option_map (λ s. s.now) prefix.entry) (option_map (λ s. s.now) number.entry) (option_map (λ s. s.now) size.entry) }
     ensures sized { IfSome result IsSized }
 {
-    command_with(mode_named(mode?)?, step, is_set(json), number, size)
+    command_with(
+        mode_named(mode?)?,
+        step,
+        is_set(json),
+        is_set(prefix),
+        number,
+        size,
+    )
 }
 
 /// The command of a mode with these options, if it takes each of them.
@@ -159,26 +176,28 @@ fn command_with(
     mode: Mode,
     step: Option<&str>,
     json: bool,
+    prefix: bool,
     number: Option<&str>,
     size: Option<&str>,
 ) -> Option<Command>
-    ensures command { result ≡ command_with mode (option_map (λ s. s.now) step.entry) json (option_map (λ s. s.now) number.entry) (option_map (λ s. s.now) size.entry) }
+    ensures command { result ≡ command_with mode (option_map (λ s. s.now) step.entry) json prefix (option_map (λ s. s.now) number.entry) (option_map (λ s. s.now) size.entry) }
     ensures sized { IfSome result IsSized }
 {
-    match (mode, step, json, number, size) {
-        (Mode::Run, step, json, None, None) => Some(Command::Run {
+    match (mode, step, json, prefix, number, size) {
+        (Mode::Run, step, json, false, None, None) => Some(Command::Run {
             step: step_given(step)?,
             json,
         }),
-        (Mode::Check, None, false, None, None) => Some(Command::Check),
-        (Mode::Reply, None, false, None, None) => Some(Command::Reply),
-        (Mode::Trace, None, false, None, None) => Some(Command::Trace),
-        (Mode::Nest, None, false, None, None) => Some(Command::Nest),
-        (Mode::Generate, None, false, number, size) => Some(Command::Generate {
+        (Mode::Check, None, false, prefix, None, None) => Some(Command::Check { prefix }),
+        (Mode::Explain, None, json, false, None, None) => Some(Command::Explain { json }),
+        (Mode::Reply, None, false, false, None, None) => Some(Command::Reply),
+        (Mode::Trace, None, false, false, None, None) => Some(Command::Trace),
+        (Mode::Nest, None, false, false, None, None) => Some(Command::Nest),
+        (Mode::Generate, None, false, false, number, size) => Some(Command::Generate {
             number: seed_given(number)?,
             size: size_given(size)?,
         }),
-        (Mode::Bench, None, false, number, size) => Some(Command::Bench {
+        (Mode::Bench, None, false, false, number, size) => Some(Command::Bench {
             number: seed_given(number)?,
             size: size_given(size)?,
         }),
@@ -192,6 +211,7 @@ fn mode_named(word: &str) -> Option<Mode>
     match word {
         "run" => Some(Mode::Run),
         "check" => Some(Mode::Check),
+        "explain" => Some(Mode::Explain),
         "reply" => Some(Mode::Reply),
         "trace" => Some(Mode::Trace),
         "nest" => Some(Mode::Nest),

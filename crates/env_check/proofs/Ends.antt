@@ -117,7 +117,7 @@ done_leaves script past seat left value w all is = rw (eq-eqb _ _ all, ← is) (
 
 module _ {view : EnvView} {seat : ℕ} {work : AssignmentView} {next : Act} (at : IsAtTask view seat work next) where
   -- all act steps were entered where no step is left
-  all_entered : next ≡ acts.Finished → acts_done (own_entries seat view.history) seat ≡ length (filter is_act work.whole)
+  pub all_entered : next ≡ acts.Finished → acts_done (own_entries seat view.history) seat ≡ length (filter is_act work.whole)
   all_entered ended = let done = at.due.done in
       sym (ap length (at.due.parted ∙ ap (λ n. done ++ told_by n ++ filter is_act work.rest) ended
       ∙ ap (λ xs. done ++ [] ++ filter is_act xs) (at.due.ends ended) ∙ append-nil (done ++ []) ∙ append-nil done) ∙ at.due.count)

@@ -169,7 +169,7 @@ module _ {view : EnvView} {seat : ℕ} {work : AssignmentView} {next : Act} (at 
   runs_it = sym (running_own view.history seat) ∙ at.seats.runs
 
   -- its next act step is the one told
-  next_told : next_act view.script (own_entries seat view.history) seat ≡ slice_get (told_by next) 0
+  pub next_told : next_act view.script (own_entries seat view.history) seat ≡ slice_get (told_by next) 0
   next_told = rw (at.seats.runs, ← at.seats.whole_is, at.due.parted, ← at.due.count)
       (told_at at.due.done work.rest next at.due.stops at.due.ends)
 

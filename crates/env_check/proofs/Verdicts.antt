@@ -13,7 +13,7 @@ use Rattle.hist_model.proofs.Laws.Entries.{entries_within_limit}
 use Rattle.hist_model.proofs.Laws.Legal.{first_illegal_none, is_legal_push}
 use Rattle.env_core.specs.Views.{EnvView}
 use Rattle.env_check.specs.Follows.{Follows}
-use Rattle.env_check.specs.Verdicts.{verdict_at, verdict_of}
+use Rattle.env_check.specs.Verdicts.{prefix_verdict_at, prefix_verdict_of, verdict_at, verdict_of}
 use Rattle.env_check.specs.declared.verdict.Verdict.{Verdict}
 use Rattle.env_check.specs.declared.verdict.Verdict.TheVariants.{Legal, Illegal}
 
@@ -122,3 +122,23 @@ legal_verdict script log = (there, λ both. rw (illegal_nowhere script log both.
 pub legal_answer : (script : Plan) (log : List Entry) (verdict : Verdict) → verdict ≡ verdict_of script log
     → (verdict ≡ Legal) ↔ (IsLegal script log × IsWhole script log)
 legal_answer script log verdict is = rw is (legal_verdict script log)
+
+-- the verdict on a beginning is told by where its first entry is that may not come
+pub prefix_verdict_there : (script : Plan) (log : List Entry) (first : Option ℕ) → first ≡ first_illegal script log
+    → prefix_verdict_at first ≡ prefix_verdict_of script log
+unfolding prefix_verdict_of
+prefix_verdict_there script log first is = ap prefix_verdict_at is
+
+-- it is that of a legal log exactly where the beginning is one
+pub legal_prefix : (script : Plan) (log : List Entry) → (prefix_verdict_of script log ≡ Legal) ↔ IsLegal script log
+unfolding prefix_verdict_of
+legal_prefix script log = (by (first_illegal script log) refl, λ legal. rw (illegal_nowhere script log legal) refl)
+  where
+    by : (o : Option ℕ) → first_illegal script log ≡ o → prefix_verdict_at o ≡ Legal → IsLegal script log
+    by (Some place) is same = absurd cc
+    by None is same = sym (first_illegal_none script log) ∙ ap is_none is
+
+-- and so is each answer that is the verdict
+pub legal_prefix_answer : (script : Plan) (log : List Entry) (verdict : Verdict) → verdict ≡ prefix_verdict_of script log
+    → (verdict ≡ Legal) ↔ IsLegal script log
+legal_prefix_answer script log verdict is = rw is (legal_prefix script log)

@@ -1,3 +1,4 @@
 pub mod Hands
 pub mod Follows
 pub mod Verdicts
+pub mod Causes

@@ -1,4 +1,4 @@
-ghost use Rattle.std.specs.Prelude.{◌≡◌, ◌≢◌, ℕ, [], ◌++◌, filter, slice_get, slice_set, Some};
+ghost use Rattle.std.specs.Prelude.{◌≡◌, ◌≢◌, ◌<◌, ℕ, [], ◌++◌, filter, length, slice_get, slice_set, Some};
 ghost use Rattle.task_base.specs.Steps.{is_act};
 ghost use Rattle.task_body.specs.Passes.{PassView};
 ghost use Rattle.task_body.specs.declared.act.Act.TheVariants as acts;
@@ -46,7 +46,7 @@ impl AtTask {
 }
 
 /// Does all steps that are left of a task, and gives its parts up.
-fn do_rest(mut work: Assignment<ScriptBody>) {
+pub fn do_rest(mut work: Assignment<ScriptBody>) {
     loop {
         match work.step() {
             Act::Finished => {
@@ -71,6 +71,14 @@ pub fn advance(mut work: Assignment<ScriptBody>) -> AtTask
             next => return AtTask { work, next },
         }
     }
+}
+
+/// Takes what a seat has in hand.
+pub fn take_hand(hands: &mut Vec<Hand>, seat: SeatNo) -> Hand
+    requires { seat < length hands.old.items }
+    ensures { slice_get hands.old.items seat ≡ Some result }
+{
+    mem::replace(&mut hands[seat as usize], Hand::Free)
 }
 
 /// Takes the task out of a seat's hand.

@@ -124,7 +124,7 @@ fn is_job_take(kind: &Kind, job: JobId, id: u32, item: u32) -> bool
 }
 
 /// The value of an item of a job: the job's steps, applied to its number.
-fn value_of(script: &Script, job: JobId, item: u32) -> u64
+pub(crate) fn value_of(script: &Script, job: JobId, item: u32) -> u64
     ensures { result ≡ item_value script.now job item }
 {
     match script.jobs.at(job as usize) {

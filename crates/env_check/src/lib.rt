@@ -4,15 +4,20 @@
 
 mod act;
 mod asks;
+mod cause;
 mod check;
 mod driver;
+mod explain;
 mod follow;
 mod hand;
 mod items;
+mod next;
 mod replay;
 mod tasks;
 mod verdict;
 mod waits;
+mod wanted;
 
-pub use check::check_log;
+pub use cause::{Cause, Explanation};
+pub use check::{check_log, check_prefix, explain_log};
 pub use verdict::Verdict;

@@ -45,7 +45,7 @@ impl Replay {
             return false;
         }
         let (work, _) = take_task(&mut self.hands, seat).into_parts();
-        self.env.end(seat, work);
+        let _ = self.env.end(seat, work);
         true
     }
 
@@ -89,7 +89,7 @@ impl Replay {
             return false;
         }
         let (work, _) = take_task(&mut self.hands, seat).into_parts();
-        self.env.main_end(seat, work);
+        let _ = self.env.main_end(seat, work);
         true
     }
 

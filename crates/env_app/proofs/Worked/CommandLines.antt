@@ -3,7 +3,7 @@ use Rattle.std.proofs.Common.{◌≡◌, ℕ, true, false, List, [], ◌∷◌, 
 use Rattle.std.specs.Fmt.{digits}
 use Rattle.clap.proofs.OnLiterals.{clap_on_literals}
 use Rattle.env_app.specs.declared.words.Command.{Command}
-use Rattle.env_app.specs.declared.words.Command.TheVariants.{Run, Check, Reply, Trace, Nest, Generate, Bench}
+use Rattle.env_app.specs.declared.words.Command.TheVariants.{Run, Check, Explain, Reply, Trace, Nest, Generate, Bench}
 use Rattle.env_app.specs.CommandLine.{number_named, command_of}
 
 -- the words behind the program's name, and the command that they are, if they are one
@@ -31,7 +31,11 @@ commands =
     ∷ good (codes "run" ∷ codes "--step=10" ∷ []) (Run (Some 10) false)  -- as one word
     ∷ good (codes "run" ∷ codes "--step" ∷ codes "1000000000000" ∷ codes "--json" ∷ []) (Run (Some 1000000000000) true)  -- the greatest step
     ∷ good (codes "--" ∷ codes "run" ∷ []) (Run None false)  -- behind `--`, which ends the options
-    ∷ good (codes "check" ∷ []) Check
+    ∷ good (codes "check" ∷ []) (Check false)
+    ∷ good (codes "check" ∷ codes "--prefix" ∷ []) (Check true)
+    ∷ good (codes "--prefix" ∷ codes "check" ∷ []) (Check true)  -- before the mode
+    ∷ good (codes "explain" ∷ []) (Explain false)
+    ∷ good (codes "explain" ∷ codes "--json" ∷ []) (Explain true)
     ∷ good (codes "reply" ∷ []) Reply
     ∷ good (codes "trace" ∷ []) Trace
     ∷ good (codes "nest" ∷ []) Nest
@@ -113,18 +117,22 @@ abbrev others_options : List Row
 others_options =
     bad (codes "run" ∷ codes "--size" ∷ codes "3" ∷ [])
     ∷ bad (codes "run" ∷ codes "--number" ∷ codes "0" ∷ [])
+    ∷ bad (codes "run" ∷ codes "--prefix" ∷ [])
     ∷ bad (codes "check" ∷ codes "--json" ∷ [])
     ∷ bad (codes "check" ∷ codes "--step" ∷ codes "1" ∷ [])
     ∷ bad (codes "check" ∷ codes "--size" ∷ codes "3" ∷ [])
+    ∷ bad (codes "explain" ∷ codes "--prefix" ∷ [])
     ∷ bad (codes "reply" ∷ codes "--json" ∷ [])
     ∷ bad (codes "reply" ∷ codes "--step" ∷ codes "1" ∷ [])
     ∷ bad (codes "trace" ∷ codes "--json" ∷ [])
+    ∷ bad (codes "trace" ∷ codes "--prefix" ∷ [])
     ∷ bad (codes "trace" ∷ codes "--number" ∷ codes "0" ∷ [])
     ∷ bad (codes "nest" ∷ codes "--step" ∷ codes "1" ∷ [])
     ∷ bad (codes "nest" ∷ codes "--size" ∷ codes "3" ∷ [])
     ∷ bad (codes "gen" ∷ codes "--step" ∷ codes "1" ∷ [])
     ∷ bad (codes "gen" ∷ codes "--json" ∷ [])
     ∷ bad (codes "bench" ∷ codes "--json" ∷ [])
+    ∷ bad (codes "bench" ∷ codes "--prefix" ∷ [])
     ∷ []
 
 others_options_right : AreRight others_options
@@ -134,6 +142,7 @@ others_options_right = refl
 abbrev bad_options : List Row
 bad_options =
     bad (codes "run" ∷ codes "--json" ∷ codes "--json" ∷ [])  -- twice
+    ∷ bad (codes "check" ∷ codes "--prefix" ∷ codes "--prefix" ∷ [])  -- twice
     ∷ bad (codes "run" ∷ codes "--json=true" ∷ [])  -- a flag takes no value
     ∷ bad (codes "run" ∷ codes "--js" ∷ [])
     ∷ bad (codes "run" ∷ codes "-s" ∷ [])

@@ -1,6 +1,9 @@
-use Rattle.std.proofs.Common.{arith, ap, length, ◌∙◌}
+use Rattle.std.proofs.Common.{ℕ, List, arith, ap, length, subst, ◌∙◌}
+use Rattle.script_model.specs.Grammar.{Reads}
 use Rattle.env_app.specs.Input.{part_behind, script_part}
-use Rattle.env_app.proofs.Outcomes.{check_ends}
+use Rattle.env_app.specs.Judged.{IsFoundAt, verdict_text}
+use Rattle.env_app.specs.declared.words.Command.TheVariants.{Check}
+use Rattle.env_app.proofs.Outcomes.{said_ends}
 use Rattle.env_app.proofs.Passed.{behind_within, script_within}
 use Rattle.env_app.proofs.check.judge.Goals as goal
 
@@ -14,7 +17,19 @@ wrong_line-requires-clause-short g c =
 
 pub returns-clause-outcome : goal.returns-clause-outcome
 returns-clause-outcome g c told =
-    let bytes = c.deref.ensures.value in
-    check_ends told _ _ c.in_ok-bytes.bytes.items _ _ c.in_ok-script.script c.in-Ok.line c.write_verdict.result c.in_ok-bytes.ensures.whole
-    (c.parts_of.ensures.script ∙ ap script_part bytes) (c.parts_of.ensures.behind ∙ ap part_behind bytes) c.in_ok-script.ensures.read c.in-Ok.ensures
-    c.write_verdict.ensures.said
+    let took = c.in_ok-bytes.ensures.whole in
+    let text = c.parts_of.ensures.script ∙ ap script_part c.deref.ensures.value in
+    let log = c.parts_of.ensures.behind ∙ ap part_behind c.deref.ensures.value in
+    said_ends (Check c.args.prefix) told _ _ c.in_ok-bytes.bytes.items (verdict_text c.in-Ok.line) c.in-Ok.line c.write_said.result tt took
+    (λ Holds holds. record {
+      bytes = c.in_ok-bytes.bytes.items;
+      took = took;
+      holds = record {
+        script = c.in_ok-script.script;
+        line = c.in-Ok.line;
+        reads = subst (λ (t : List ℕ). Reads t c.in_ok-script.script) text c.in_ok-script.ensures.read;
+        found = subst (λ (t : List ℕ). IsFoundAt c.args.prefix c.in_ok-script.script t c.in-Ok.line) log c.in-Ok.ensures;
+        holds = holds;
+      };
+    })
+    (rw (c.deref-2.ensures.0, c.verdict_text.ensures) at c.write_said.ensures.said)

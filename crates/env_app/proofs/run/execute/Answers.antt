@@ -1,5 +1,5 @@
 use Rattle.std.proofs.Common.{Some}
-use Rattle.env_app.specs.declared.words.Command.TheVariants.{Check, Generate, Bench}
+use Rattle.env_app.specs.declared.words.Command.TheVariants.{Check, Explain, Generate, Bench}
 use Rattle.env_app.specs.Outcome.{ends}
 use Rattle.env_app.proofs.Outcomes.{ends_in_common}
 use Rattle.env_app.proofs.run.execute.Goals as goal
@@ -8,10 +8,19 @@ pub returns-in-Check-clause-outcome : goal.returns-in-Check-clause-outcome
 returns-in-Check-clause-outcome g c =
     let told = g.C.Clock.readings c.args.clock.now in
     rw (c.in-Check.is, c.common-in-Check.ensures)
-    (ends_in_common (Some Check) told
+    (ends_in_common (Some (Check c.in-Check.prefix)) told
     (ends (g.S.Source.left c.args.source.now) (g.S.Source.left c.judge.new.source) (g.S.Source.faults c.args.source.now) (g.S.Source.faults c.judge.new.source))
     (ends (g.K.Sink.holds c.args.sink.now) (g.K.Sink.holds c.judge.new.sink) (g.K.Sink.faults c.args.sink.now) (g.K.Sink.faults c.judge.new.sink))
     c.judge.result (c.judge.ensures.outcome told))
+
+pub returns-in-Explain-clause-outcome : goal.returns-in-Explain-clause-outcome
+returns-in-Explain-clause-outcome g c =
+    let told = g.C.Clock.readings c.args.clock.now in
+    rw (c.in-Explain.is, c.common-in-Explain.ensures)
+    (ends_in_common (Some (Explain c.in-Explain.json)) told
+    (ends (g.S.Source.left c.args.source.now) (g.S.Source.left c.explain.new.source) (g.S.Source.faults c.args.source.now) (g.S.Source.faults c.explain.new.source))
+    (ends (g.K.Sink.holds c.args.sink.now) (g.K.Sink.holds c.explain.new.sink) (g.K.Sink.faults c.args.sink.now) (g.K.Sink.faults c.explain.new.sink))
+    c.explain.result (c.explain.ensures.outcome told))
 
 pub returns-in-Trace-clause-outcome : goal.returns-in-Trace-clause-outcome
 returns-in-Trace-clause-outcome g c = rw c.in-Trace.is (c.trace.ensures.outcome (g.C.Clock.readings c.args.clock.now))

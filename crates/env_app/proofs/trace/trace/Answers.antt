@@ -1,4 +1,4 @@
-use Rattle.std.proofs.Common.{ℕ, List, Some, arith, ap, subst, refl, length, ◌∙◌}
+use Rattle.std.proofs.Common.{ℕ, false, List, Some, arith, ap, subst, refl, length, ◌∙◌}
 use Rattle.script_model.specs.Grammar.{Reads}
 use Rattle.env_app.specs.Input.{part_behind, script_part}
 use Rattle.env_app.specs.Judged.{IsFoundAt, IsFoundIn}
@@ -21,10 +21,10 @@ returns-in-Ok-Wrong-clause-outcome g c told =
     let script = c.in_ok-script.script in
     let line = Some c.in-Ok-Wrong.line in
     let judged = rw c.in-Ok-Wrong.field-0-is at c.in-Ok-Wrong.ensures in
-    let found : IsFoundIn bytes line = record {
+    let found : IsFoundIn false bytes line = record {
       script = script;
       reads = subst (λ (text : List ℕ). Reads text script) (c.parts_of.ensures.script ∙ ap script_part c.deref.ensures.value) c.in_ok-script.ensures.read;
-      found = subst (λ (text : List ℕ). IsFoundAt script text line) (c.parts_of.ensures.behind ∙ ap part_behind c.deref.ensures.value) judged;
+      found = subst (λ (text : List ℕ). IsFoundAt false script text line) (c.parts_of.ensures.behind ∙ ap part_behind c.deref.ensures.value) judged;
     } in (
       refl,
       took.end,

@@ -7,6 +7,7 @@ pub returns : goal.returns
 returns c =
     let first = c.in_ok-command.ensures ∙ ap₂ with_rule c.new.ensures.app c.mode_argument.ensures.rule in
     let second = c.in_ok-command-2.ensures ∙ ap₂ with_rule first c.value_argument.ensures.rule in
-    let third = c.in_ok-command-3.ensures ∙ ap₂ with_rule second c.json_argument.ensures.rule in
-    let fourth = c.in_ok-command-4.ensures ∙ ap₂ with_rule third c.value_argument-2.ensures.rule in
-    IfOk-weaker c.with_argument-5.result _ _ (λ command is. is ∙ ap₂ with_rule fourth c.value_argument-3.ensures.rule) c.with_argument-5.ensures
+    let third = c.in_ok-command-3.ensures ∙ ap₂ with_rule second c.flag_argument.ensures.rule in
+    let fourth = c.in_ok-command-4.ensures ∙ ap₂ with_rule third c.flag_argument-2.ensures.rule in
+    let fifth = c.in_ok-command-5.ensures ∙ ap₂ with_rule fourth c.value_argument-2.ensures.rule in
+    IfOk-weaker c.with_argument-6.result _ _ (λ command is. is ∙ ap₂ with_rule fifth c.value_argument-3.ensures.rule) c.with_argument-6.ensures

@@ -1,0 +1,67 @@
+use Rattle.std.proofs.Common.{◌≡◌, ◌≤◌, ℕ, List, None, Some, ap, arith, length, refl, subst, sym, take, ◌∙◌}
+use Rattle.std.proofs.lemmas.List.{length-take-le, take_all}
+use Rattle.task_base.specs.Plan.{Plan}
+use Rattle.task_base.specs.declared.entry.Entry.{Entry}
+use Rattle.env_check.specs.Causes.{Explains, HasMore, IsExplained}
+use Rattle.env_check.specs.declared.cause.Cause.{Cause}
+use Rattle.env_check.specs.declared.cause.Explanation.TheVariants as explanations
+use Rattle.env_check.proofs.Causes.{StopsAt, stops}
+use Rattle.env_check.proofs.Verdicts.{illegal_nowhere}
+use Rattle.env_check.proofs.check.explain_at.Goals as goal
+
+-- what is left at the end of the history is left at the end of the log
+ends_there : (script s : Plan) (log history : List Entry) (place seat : ℕ) (cause : Cause) → s ≡ script → history ≡ log → place ≡ length log
+    → seat ≤ s.workers → HasMore s history seat → Explains cause s history seat None → IsExplained script log (explanations.Unfinished place seat cause)
+ends_there script s log history place seat cause script_is history_is end known more holds = (
+  end,
+  subst (λ (x : Plan). seat ≤ x.workers) script_is known,
+  subst (λ (l : List Entry). HasMore script l seat) history_is (subst (λ (x : Plan). HasMore x history seat) script_is more),
+  subst (λ (l : List Entry). Explains cause script l seat None) history_is (subst (λ (x : Plan). Explains cause x history seat None) script_is holds),
+)
+
+pub slice_bounds-front-end : goal.slice_bounds-front-end
+slice_bounds-front-end c =
+    let at = stops c.args.script.now c.args.log.now.items c.args.place c.requires.illegal in
+    let within : c.args.place ≤ length c.as_slice.result.now = omega (arith, at.within, ap length c.as_slice.ensures) in
+    omega (arith, within, length-take-le c.args.place c.as_slice.result.now within)
+
+pub explain-requires : goal.explain-requires
+explain-requires c =
+    let at = stops c.args.script.now c.args.log.now.items c.args.place c.requires.illegal in
+    sym (c.follow_all.ensures.script (c.follow_all.ensures.place ∙ illegal_nowhere c.args.script.now _ (rw c.as_slice.ensures at.legal)))
+
+pub explain_end-seat-requires-clause-script : goal.explain_end-seat-requires-clause-script
+explain_end-seat-requires-clause-script c =
+    let at = stops c.args.script.now c.args.log.now.items c.args.place c.requires.illegal in
+    sym (c.follow_all.ensures.script (c.follow_all.ensures.place ∙ illegal_nowhere c.args.script.now _ (rw c.as_slice.ensures at.legal)))
+
+pub explain_end-seat-requires-clause-more : goal.explain_end-seat-requires-clause-more
+explain_end-seat-requires-clause-more c =
+    let at = stops c.args.script.now c.args.log.now.items c.args.place c.requires.illegal in
+    let none = c.follow_all.ensures.place ∙ illegal_nowhere c.args.script.now _ (rw c.as_slice.ensures at.legal) in
+    let end : length c.args.log.now.items ≤ c.args.place = c.in-None.ensures.past_end.0 refl in
+    let all = c.follow_all.ensures.followed none ∙ ap (take c.args.place) c.as_slice.ensures ∙ take_all c.args.place c.args.log.now.items end in
+    rw (c.follow_all.ensures.script none, all) (at.open_end end)
+
+pub returns-in-Some-clause-cause : goal.returns-in-Some-clause-cause
+returns-in-Some-clause-cause c =
+    let at = stops c.args.script.now c.args.log.now.items c.args.place c.requires.illegal in
+    let e = c.in-Some.entry.now in
+    let none = c.follow_all.ensures.place ∙ illegal_nowhere c.args.script.now _ (rw c.as_slice.ensures at.legal) in
+    let front = c.follow_all.ensures.followed none ∙ ap (take c.args.place) c.as_slice.ensures in (
+      e,
+      sym c.in-Some.ensures.item,
+      subst (λ (l : List Entry). Explains c.explain.result c.args.script.now l e.seat (Some e.kind)) front
+          (subst (λ (x : Plan). Explains c.explain.result x c.follow_all.new.replay.history e.seat (Some e.kind)) (c.follow_all.ensures.script none)
+          c.explain.ensures),
+    )
+
+pub returns-in-None-clause-cause : goal.returns-in-None-clause-cause
+returns-in-None-clause-cause c =
+    let at = stops c.args.script.now c.args.log.now.items c.args.place c.requires.illegal in
+    let none = c.follow_all.ensures.place ∙ illegal_nowhere c.args.script.now _ (rw c.as_slice.ensures at.legal) in
+    let end : length c.args.log.now.items ≤ c.args.place = c.in-None.ensures.past_end.0 refl in
+    let all = c.follow_all.ensures.followed none ∙ ap (take c.args.place) c.as_slice.ensures ∙ take_all c.args.place c.args.log.now.items end in
+    ends_there c.args.script.now c.follow_all.new.replay.script c.args.log.now.items c.follow_all.new.replay.history c.args.place
+    c.explain_end-seat.result.0 c.explain_end-seat.result.1 (c.follow_all.ensures.script none) all (omega (arith, at.within, end))
+    c.explain_end-seat.ensures.known c.explain_end-seat.ensures.more c.explain_end-seat.ensures.cause

@@ -1,0 +1,26 @@
+use Rattle.std.proofs.Common.{Some, ap, arith, sym, ◌∙◌}
+use Rattle.env_check.specs.declared.hand.Hand.TheVariants.{Free, Item, Task}
+use Rattle.env_check.proofs.Scripted.{free_hand}
+use Rattle.env_check.proofs.explain.next_of_seat.Goals as goal
+
+pub take_hand-requires : goal.take_hand-requires
+take_hand-requires c = omega (arith, c.requires.hands.all, c.requires.known)
+
+pub next_of_task-requires : goal.next_of_task-requires
+next_of_task-requires c = record {
+  legal = c.requires.hands.legal;
+  known = c.requires.known;
+  at = c.requires.hands.each c.args.seat (Task c.in-Task.at) (c.take_hand.ensures ∙ ap Some c.in-Task.is);
+}
+
+pub next_of_item-requires : goal.next_of_item-requires
+next_of_item-requires c = record {
+  script = c.requires.script;
+  held = c.requires.hands.each c.args.seat (Item c.in-Item.pass) (c.take_hand.ensures ∙ ap Some c.in-Item.is);
+}
+
+pub next_of_free-requires : goal.next_of_free-requires
+next_of_free-requires c = record {
+  known = c.requires.known;
+  free = sym (free_hand c.args.env.now c.args.seat Free (c.requires.hands.each c.args.seat Free (c.take_hand.ensures ∙ ap Some c.in-Free.is)));
+}

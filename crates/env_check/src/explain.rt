@@ -1,0 +1,157 @@
+ghost use Rattle.std.specs.Prelude.{◌≡◌, ◌≤◌, Option, Some, None, IfSome, false, true};
+ghost use Rattle.std.specs.List.{list_all};
+ghost use Rattle.task_base.specs.declared.entry.Kind.{Kind as AnyKind};
+ghost use Rattle.task_model.specs.Seats.{is_free};
+ghost use Rattle.hist_model.specs.Script.{is_whole};
+ghost use Rattle.env_check.specs.Causes.{Explains, HasInHand, HasMore, is_of_work};
+ghost use Rattle.env_check.specs.Follows.{takes_source};
+ghost use Rattle.env_check.specs.Hands.{AreInHand, is_empty};
+
+use crate::cause::Cause;
+use crate::hand::{Hand, take_hand};
+use crate::next::{next_of_item, next_of_task, next_of_worker};
+use crate::replay::Replay;
+use crate::wanted::next_of_driver;
+use env_core::Env;
+use task_base::{Entry, Kind, Script, SeatNo};
+use task_body::ScriptBody;
+
+impl Replay {
+    /// Why an entry may not come behind those that were followed.
+    pub fn explain(self, script: &Script, entry: Entry) -> Cause
+        requires { script.now ≡ self.script }
+        ensures { Explains result self.script self.history entry.seat (Some entry.kind) }
+    {
+        match self.stray(script, &entry) {
+            Some(cause) => cause,
+            None => self.next(script, entry.seat, reading_of(&entry.kind)),
+        }
+    }
+
+    /// Why no seat, or no worker that is free, ever makes the entry.
+    fn stray(&self, script: &Script, entry: &Entry) -> Option<Cause>
+        requires { script.now ≡ self.now.script }
+        ensures known { result ≡ None → entry.now.seat ≤ self.now.script.workers }
+        ensures cause { IfSome result (λ cause. Explains cause self.now.script self.now.history entry.now.seat (Some entry.now.kind)) }
+    {
+        if entry.seat > script.workers {
+            return Some(Cause::NoSeat);
+        }
+        if entry.seat == 0 {
+            return None;
+        }
+        if !self.is_free(entry.seat) {
+            return None;
+        }
+        if is_of_work(&entry.kind) {
+            return Some(Cause::RunsNothing);
+        }
+        if !takes_source(&entry.kind) {
+            return Some(Cause::OnlyDriver);
+        }
+        None
+    }
+
+    /// What is left to be done where the log ends behind the entries that were followed, and of which seat: the first one
+    /// that runs or holds something, or else the driver.
+    pub fn explain_end(self, script: &Script) -> (SeatNo, Cause)
+        requires script { script.now ≡ self.script }
+        requires more { is_whole self.script self.history ≡ false }
+        ensures known { result.0 ≤ self.script.workers }
+        ensures more { HasMore self.script self.history result.0 }
+        ensures cause { Explains result.1 self.script self.history result.0 None }
+    {
+        match first_busy(&self.hands) {
+            None => (0, self.next(script, 0, 0)),
+            Some(seat) => (seat as SeatNo, self.next(script, seat as SeatNo, 0)),
+        }
+    }
+
+    /// What a seat does next, or why it may do nothing. A tick is by this reading of the clock.
+    fn next(self, script: &Script, seat: SeatNo, reading: u64) -> Cause
+        requires script { script.now ≡ self.script }
+        requires known { seat ≤ self.script.workers }
+        ensures { (kind : Option AnyKind) → Explains result self.script self.history seat kind }
+    {
+        let Replay { mut env, mut hands } = self;
+        next_of_seat(&mut env, &mut hands, script, seat, reading)
+    }
+}
+
+/// What a seat does next by what it has in hand, or why it may do nothing.
+fn next_of_seat(
+    env: &mut Env<ScriptBody>,
+    hands: &mut Vec<Hand>,
+    script: &Script,
+    seat: SeatNo,
+    reading: u64,
+) -> Cause
+    requires script { script.now ≡ env.old.script }
+    requires known { seat ≤ env.old.script.workers }
+    requires hands { AreInHand env.old hands.old.items }
+    ensures { (kind : Option AnyKind) → Explains result env.old.script env.old.history seat kind }
+{
+    match take_hand(hands, seat) {
+        Hand::Task(at) => next_of_task(env, seat, at),
+        Hand::Item(pass) => next_of_item(env, script, seat, pass),
+        Hand::Free => next_of_free(env, seat, reading),
+    }
+}
+
+/// What a seat does next that is free, or why it may do nothing.
+fn next_of_free(env: &mut Env<ScriptBody>, seat: SeatNo, reading: u64) -> Cause
+    requires known { seat ≤ env.old.script.workers }
+    requires free { is_free env.old.history seat ≡ true }
+    ensures { (kind : Option AnyKind) → Explains result env.old.script env.old.history seat kind }
+{
+    if seat == 0 {
+        next_of_driver(env, reading)
+    } else {
+        next_of_worker(env, seat)
+    }
+}
+
+/// The first seat that has something in hand.
+fn first_busy(hands: &[Hand]) -> Option<usize>
+    ensures none { result ≡ None → list_all is_empty hands.now ≡ true }
+    ensures some { IfSome result (λ seat. HasInHand hands.now seat) }
+{
+    let mut seat = 0;
+    for hand in hands {
+        if !matches!(hand, Hand::Free) {
+            return Some(seat);
+        }
+        seat += 1;
+    }
+    None
+}
+
+/// The moment of a tick, or else 0.
+fn reading_of(kind: &Kind) -> u64 {
+    match *kind {
+        Kind::Tick { now } => now,
+        _ => 0,
+    }
+}
+
+/// Whether a task makes the entry, or a job.
+fn is_of_work(kind: &Kind) -> bool
+    ensures { result ≡ is_of_work kind.now }
+{
+    matches!(
+        *kind,
+        Kind::Post { .. }
+            | Kind::Main { .. }
+            | Kind::End { .. }
+            | Kind::Enter { .. }
+            | Kind::Leave { .. }
+            | Kind::JobStep { .. }
+    )
+}
+
+/// Whether the entry takes a source of the pool.
+fn takes_source(kind: &Kind) -> bool
+    ensures { result ≡ takes_source kind.now }
+{
+    matches!(*kind, Kind::Take { .. } | Kind::JobTake { .. })
+}

@@ -1,0 +1,66 @@
+-- The same as one compact JSON object (this project's own form; RFC 8259).
+use Rattle.std.specs.Prelude.{ℕ, Bool, true, false, if◌then◌else◌, List, [], ◌++◌, slice_get, codes, decimal, Option, Some, None}
+use Rattle.task_base.specs.declared.entry.Entry.{Entry}
+use Rattle.task_base.specs.declared.entry.Kind.{Kind}
+use Rattle.log_model.specs.LogText.{json_of}
+use Rattle.env_check.specs.Causes.{named_by}
+use Rattle.env_check.specs.Follows.{entry_by}
+use Rattle.env_check.specs.declared.cause.Cause.{Cause}
+use Rattle.env_check.specs.declared.cause.Cause.TheVariants as causes
+use Rattle.env_check.specs.declared.cause.Explanation.{Explanation}
+use Rattle.env_check.specs.declared.cause.Explanation.TheVariants as explanations
+use Rattle.explain_text.specs.Plain.{around, seat_of}
+
+-- the word of a cause
+abbrev pub cause_name : Cause → List ℕ
+cause_name causes.NoSeat = codes "no_seat"
+cause_name causes.OnlyDriver = codes "only_driver"
+cause_name causes.RunsNothing = codes "runs_nothing"
+cause_name (causes.Runs task next) = codes "runs"
+cause_name (causes.Holds job next) = codes "holds"
+cause_name (causes.Wants next) = codes "wants"
+cause_name (causes.Best next) = codes "best"
+cause_name causes.NoSource = codes "no_source"
+cause_name causes.Finished = codes "finished"
+cause_name (causes.NotIdle running ready) = codes "not_idle"
+cause_name (causes.Inside job seats) = codes "inside"
+cause_name (causes.Blocked count) = codes "blocked"
+
+-- what a cause names beside its seat and its entry
+abbrev pub cause_keys : Cause → List ℕ
+cause_keys (causes.Runs task next) = around (codes ",\"task\":") task []
+cause_keys (causes.Holds job next) = around (codes ",\"job\":") job []
+cause_keys (causes.NotIdle running ready) =
+    around (codes ",\"running\":") running (if ready then codes ",\"ready\":true" else codes ",\"ready\":false")
+cause_keys (causes.Inside job seats) = around (codes ",\"job\":") job (around (codes ",\"seats\":") seats [])
+cause_keys (causes.Blocked count) = around (codes ",\"count\":") count []
+cause_keys cause = []
+
+-- an entry at its place
+abbrev pub entry_key : ℕ → Entry → List ℕ
+entry_key place e = codes ",\"entry\":" ++ json_of place e
+
+-- the entry that would be allowed there, if one is named
+abbrev pub named_key : ℕ → ℕ → Option Kind → List ℕ
+named_key place seat None = []
+named_key place seat (Some next) = entry_key place (entry_by seat next)
+
+-- the line, the word of the cause, and what goes on behind them
+abbrev pub object_of : ℕ → List ℕ → List ℕ → List ℕ
+object_of line name rest = around (codes "{\"line\":") line (codes ",\"cause\":\"" ++ name ++ codes "\"" ++ rest ++ codes "}\n")
+
+-- the object of a cause that holds of a seat at a place
+abbrev pub cause_object : ℕ → ℕ → ℕ → Cause → List ℕ → List ℕ
+cause_object line place seat cause rest =
+    object_of line (cause_name cause) (around (codes ",\"seat\":") seat (cause_keys cause ++ named_key place seat (named_by cause) ++ rest))
+
+-- what is said of a log that is wrong at this line; of a legal one nothing
+abbrev pub told_json : ℕ → List Entry → Explanation → List ℕ
+told_json line log explanations.Legal = []
+told_json line log (explanations.Barred place cause) = cause_object line place (seat_of (slice_get log place)) cause []
+told_json line log (explanations.Unfinished place seat cause) = cause_object line place seat cause (codes ",\"unfinished\":true")
+
+-- what is said of a line that is none of a log at its place, and of the entry that is meant there, if one is
+abbrev pub bad_line_json : ℕ → ℕ → Option Entry → List ℕ
+bad_line_json line place None = object_of line (codes "no_line") []
+bad_line_json line place (Some e) = object_of line (codes "no_line") (entry_key place e)

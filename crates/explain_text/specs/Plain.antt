@@ -1,0 +1,56 @@
+-- Why a log is illegal, as a line of plain words (this project's own).
+use Rattle.std.specs.Prelude.{ℕ, Bool, if◌then◌else◌, List, [], ◌++◌, slice_get, codes, decimal, Option, Some, None}
+use Rattle.task_base.specs.declared.entry.Entry.{Entry}
+use Rattle.task_base.specs.declared.entry.Kind.{Kind}
+use Rattle.log_model.specs.LogText.{line_of}
+use Rattle.env_check.specs.Causes.{named_by}
+use Rattle.env_check.specs.Follows.{entry_by}
+use Rattle.env_check.specs.declared.cause.Cause.{Cause}
+use Rattle.env_check.specs.declared.cause.Cause.TheVariants as causes
+use Rattle.env_check.specs.declared.cause.Explanation.{Explanation}
+use Rattle.env_check.specs.declared.cause.Explanation.TheVariants as explanations
+
+-- words around a number
+abbrev pub around : List ℕ → ℕ → List ℕ → List ℕ
+around words number rest = words ++ decimal number ++ rest
+
+-- what stands against an entry of the seat
+abbrev pub cause_words : ℕ → Cause → List ℕ
+cause_words seat causes.NoSeat = around (codes "there is no seat ") seat []
+cause_words seat causes.OnlyDriver = around (codes "the driver alone makes such an entry, and not seat ") seat []
+cause_words seat causes.RunsNothing = around (codes "no task runs, and no item is held, on seat ") seat []
+cause_words seat (causes.Runs task next) = around (codes "seat ") seat (around (codes " runs task ") task (codes ", and may go on by: "))
+cause_words seat (causes.Holds job next) = around (codes "seat ") seat (around (codes " is inside job ") job (codes ", and may go on by: "))
+cause_words seat (causes.Wants next) = codes "the script wants of the driver: "
+cause_words seat (causes.Best next) = around (codes "the best source of seat ") seat (codes " is taken by: ")
+cause_words seat causes.NoSource = around (codes "nothing may be taken by seat ") seat []
+cause_words seat causes.Finished = around (codes "the script is finished, and nothing is left for seat ") seat []
+cause_words seat (causes.NotIdle running ready) =
+    around (codes "the pool is not idle; at work: ") running (if ready then codes "; something may be taken" else [])
+cause_words seat (causes.Inside job seats) = around (codes "the driver waits for job ") job (around (codes "; seats inside: ") seats [])
+cause_words seat (causes.Blocked count) = around (codes "the driver waits until shutdown is done; what blocks it: ") count []
+
+-- the line of the entry that would be allowed at the place, if one is named, or else the end of this line
+abbrev pub next_line : ℕ → ℕ → Option Kind → List ℕ
+next_line place seat None = codes "\n"
+next_line place seat (Some next) = line_of place (entry_by seat next)
+
+-- the cause, and the entry that it names
+abbrev pub cause_line : ℕ → ℕ → Cause → List ℕ
+cause_line place seat cause = cause_words seat cause ++ next_line place seat (named_by cause)
+
+-- the seat of an entry
+abbrev pub seat_of : Option Entry → ℕ
+seat_of None = 0
+seat_of (Some e) = e.seat
+
+-- what is said of a log; of a legal one nothing
+abbrev pub told_text : List Entry → Explanation → List ℕ
+told_text log explanations.Legal = []
+told_text log (explanations.Barred place cause) = cause_line place (seat_of (slice_get log place)) cause
+told_text log (explanations.Unfinished place seat cause) = codes "unfinished: " ++ cause_line place seat cause
+
+-- what is said of a line that is none of a log at its place, and of the entry that is meant there, if one is
+abbrev pub bad_line_text : ℕ → ℕ → Option Entry → List ℕ
+bad_line_text line place None = around (codes "no log has at its place such a line as line ") line (codes "\n")
+bad_line_text line place (Some e) = around (codes "line ") line (codes " should be: ") ++ line_of place e

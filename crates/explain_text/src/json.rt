@@ -1,0 +1,163 @@
+ghost use Rattle.std.specs.Prelude.{◌≡◌, ◌++◌, [], if◌then◌else◌, codes, decimal, IfOk, OnOk};
+ghost use Rattle.env_check.specs.Causes.{named_by};
+ghost use Rattle.explain_text.specs.Json.{bad_line_json, cause_keys, cause_name, cause_object, entry_key, named_key, told_json};
+
+use crate::plain::{named_by, seat_at};
+use env_check::{Cause, Explanation};
+use itoa::Buffer;
+use run_log::json_row;
+use std::alloc::{AllocError, Global};
+use task_base::{Entry, Kind, Place, SeatNo};
+
+/// What is said of a log that is wrong at this line, counted from 1, as one compact JSON object and a line feed; of a legal
+/// log nothing. The error is want of memory.
+pub fn told_json(
+    alloc: Global,
+    line: u32,
+    log: &[Entry],
+    told: &Explanation,
+) -> Result<Vec<u8>, AllocError>
+    ensures { IfOk result (λ text. text.items ≡ told_json line log.now told.now) }
+{
+    match *told {
+        Explanation::Legal => Ok(Vec::new(alloc)),
+        Explanation::Barred { place, cause } => {
+            cause_object(alloc, line, place, seat_at(log, place), &cause, b"")
+        }
+        Explanation::Unfinished { place, seat, cause } => {
+            cause_object(alloc, line, place, seat, &cause, b",\"unfinished\":true")
+        }
+    }
+}
+
+/// What is said of a line, counted from 1, that is none of a log at its place, and of the entry that is meant there, if one is:
+/// as such an object. The error is want of memory.
+pub fn bad_line_json(
+    alloc: Global,
+    line: u32,
+    place: Place,
+    meant: Option<Entry>,
+) -> Result<Vec<u8>, AllocError>
+    ensures { IfOk result (λ text. text.items ≡ bad_line_json line place meant) }
+{
+    let mut text = Vec::new(alloc);
+    add_number(&mut text, b"{\"line\":", line)?;
+    text.extend_from_slice(b",\"cause\":\"no_line\"")?;
+    if let Some(entry) = meant {
+        add_entry(alloc, &mut text, place, &entry)?;
+    }
+    text.extend_from_slice(b"}\n")?;
+    Ok(text)
+}
+
+/// The object of a cause that holds of a seat at a place. The error is want of memory.
+fn cause_object(
+    alloc: Global,
+    line: u32,
+    place: Place,
+    seat: SeatNo,
+    cause: &Cause,
+    rest: &[u8],
+) -> Result<Vec<u8>, AllocError>
+    ensures { IfOk result (λ text. text.items ≡ cause_object line place seat cause.now rest.now) }
+{
+    let mut text = Vec::new(alloc);
+    add_number(&mut text, b"{\"line\":", line)?;
+    text.extend_from_slice(b",\"cause\":\"")?;
+    text.extend_from_slice(cause_name(cause))?;
+    add_number(&mut text, b"\",\"seat\":", seat)?;
+    add_keys(&mut text, cause)?;
+    add_named(alloc, &mut text, place, seat, cause)?;
+    text.extend_from_slice(rest)?;
+    text.extend_from_slice(b"}\n")?;
+    Ok(text)
+}
+
+/// Adds words and a number behind them. The error is want of memory.
+fn add_number(text: &mut Vec<u8>, words: &[u8], number: u32) -> Result<(), AllocError>
+    ensures { OnOk result (text.new.items ≡ text.old.items ++ words.now ++ decimal number) }
+{
+    text.extend_from_slice(words)?;
+    text.extend_from_slice(Buffer::new().format(number).as_bytes())
+}
+
+/// The word of a cause.
+fn cause_name(cause: &Cause) -> &'static [u8]
+    ensures { result.now ≡ cause_name cause.now }
+{
+    match *cause {
+        Cause::NoSeat => b"no_seat",
+        Cause::OnlyDriver => b"only_driver",
+        Cause::RunsNothing => b"runs_nothing",
+        Cause::Runs { .. } => b"runs",
+        Cause::Holds { .. } => b"holds",
+        Cause::Wants { .. } => b"wants",
+        Cause::Best { .. } => b"best",
+        Cause::NoSource => b"no_source",
+        Cause::Finished => b"finished",
+        Cause::NotIdle { .. } => b"not_idle",
+        Cause::Inside { .. } => b"inside",
+        Cause::Blocked { .. } => b"blocked",
+    }
+}
+
+/// Adds what a cause names beside its seat and its entry. The error is want of memory.
+fn add_keys(text: &mut Vec<u8>, cause: &Cause) -> Result<(), AllocError>
+    ensures { OnOk result (text.new.items ≡ text.old.items ++ cause_keys cause.now) }
+{
+    match *cause {
+        Cause::Runs { task, .. } => add_number(text, b",\"task\":", task),
+        Cause::Holds { job, .. } => add_number(text, b",\"job\":", job),
+        Cause::NotIdle { running, ready } => {
+            add_number(text, b",\"running\":", running)?;
+            text.extend_from_slice(ready_key(ready))
+        }
+        Cause::Inside { job, seats } => {
+            add_number(text, b",\"job\":", job)?;
+            add_number(text, b",\"seats\":", seats)
+        }
+        Cause::Blocked { count } => add_number(text, b",\"count\":", count),
+        _ => Ok(()),
+    }
+}
+
+/// Whether something may be taken, as a key.
+fn ready_key(ready: bool) -> &'static [u8]
+    ensures { result.now ≡ (if ready then codes ",\"ready\":true" else codes ",\"ready\":false") }
+{
+    if ready {
+        b",\"ready\":true"
+    } else {
+        b",\"ready\":false"
+    }
+}
+
+/// Adds the entry that would be allowed at the place, if one is named. The error is want of memory.
+fn add_named(
+    alloc: Global,
+    text: &mut Vec<u8>,
+    place: Place,
+    seat: SeatNo,
+    cause: &Cause,
+) -> Result<(), AllocError>
+    ensures { OnOk result (text.new.items ≡ text.old.items ++ named_key place seat (named_by cause.now)) }
+{
+    match named_by(cause) {
+        None => Ok(()),
+        Some(kind) => add_entry(alloc, text, place, &Entry { seat, kind }),
+    }
+}
+
+/// Adds an entry at its place. The error is want of memory.
+fn add_entry(
+    alloc: Global,
+    text: &mut Vec<u8>,
+    place: Place,
+    entry: &Entry,
+) -> Result<(), AllocError>
+    ensures { OnOk result (text.new.items ≡ text.old.items ++ entry_key place entry.now) }
+{
+    text.extend_from_slice(b",\"entry\":")?;
+    let row = json_row(alloc, u64::from(place), entry)?;
+    text.extend_from_slice(row.as_bytes())
+}

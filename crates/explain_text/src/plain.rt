@@ -1,0 +1,189 @@
+ghost use Rattle.std.specs.Prelude.{◌≡◌, ◌+◌, ◌≤◌, ◌++◌, [], if◌then◌else◌, codes, length, slice_get};
+ghost use Rattle.env_check.specs.Causes.{named_by};
+ghost use Rattle.explain_text.specs.Plain.{bad_line_text, cause_line, cause_words, next_line, seat_of, told_text, around};
+
+use env_check::{Cause, Explanation};
+use line_text::{Line, add, add_decimal};
+use task_base::{Entry, Kind, Place, SeatNo};
+
+/// What is said of a log, in one line of at most 256 bytes; of a legal log nothing.
+pub fn told_text(log: &[Entry], told: &Explanation) -> Line
+    ensures { result.items ≡ told_text log.now told.now }
+{
+    let mut line = Line::new();
+    match *told {
+        Explanation::Legal => {}
+        Explanation::Barred { place, cause } => add_cause(
+            &mut line,
+            place,
+            seat_at(log, place),
+            &cause,
+        ),
+        Explanation::Unfinished { place, seat, cause } => {
+            add(&mut line, b"unfinished: ");
+            add_cause(&mut line, place, seat, &cause);
+        }
+    }
+    line
+}
+
+/// What is said of a line, counted from 1, that is none of a log at its place, and of the entry that is meant there, if one is.
+pub fn bad_line_text(line: u32, place: Place, meant: Option<Entry>) -> Line
+    ensures { result.items ≡ bad_line_text line place meant }
+{
+    let mut text = Line::new();
+    match meant {
+        None => add_one(
+            &mut text,
+            b"no log has at its place such a line as line ",
+            line,
+            b"\n",
+        ),
+        Some(entry) => {
+            add_one(&mut text, b"line ", line, b" should be: ");
+            add(&mut text, &run_log::line(place, &entry));
+        }
+    }
+    text
+}
+
+/// The seat of the entry at a place, or 0 where there is none.
+pub(crate) fn seat_at(log: &[Entry], place: Place) -> SeatNo
+    ensures { result ≡ seat_of (slice_get log.now place) }
+{
+    match log.get(place as usize) {
+        Some(entry) => entry.seat,
+        None => 0,
+    }
+}
+
+/// The entry that a cause names.
+pub(crate) fn named_by(cause: &Cause) -> Option<Kind>
+    ensures { result ≡ named_by cause.now }
+{
+    match *cause {
+        Cause::Runs { next, .. } | Cause::Holds { next, .. } => Some(next),
+        Cause::Wants { next } | Cause::Best { next } => Some(next),
+        _ => None,
+    }
+}
+
+/// Adds the cause, and the entry that it names.
+fn add_cause(line: &mut Line, place: Place, seat: SeatNo, cause: &Cause)
+    requires { length line.old.items ≤ 12 }
+    ensures { line.new.items ≡ line.old.items ++ cause_line place seat cause.now }
+{
+    add_words(line, seat, cause);
+    match named_by(cause) {
+        Some(kind) => add(line, &run_log::line(place, &Entry { seat, kind })),
+        None => add(line, b"\n"),
+    }
+}
+
+/// Adds what stands against an entry of the seat.
+fn add_words(line: &mut Line, seat: SeatNo, cause: &Cause)
+    requires { length line.old.items ≤ 12 }
+    ensures items { line.new.items ≡ line.old.items ++ cause_words seat cause.now }
+    ensures short { length line.new.items ≤ 95 }
+{
+    match *cause {
+        Cause::NoSeat => add_one(line, b"there is no seat ", seat, b""),
+        Cause::OnlyDriver => add_one(
+            line,
+            b"the driver alone makes such an entry, and not seat ",
+            seat,
+            b"",
+        ),
+        Cause::RunsNothing => add_one(
+            line,
+            b"no task runs, and no item is held, on seat ",
+            seat,
+            b"",
+        ),
+        Cause::Runs { task, .. } => add_two(
+            line,
+            b"seat ",
+            seat,
+            b" runs task ",
+            task,
+            b", and may go on by: ",
+        ),
+        Cause::Holds { job, .. } => add_two(
+            line,
+            b"seat ",
+            seat,
+            b" is inside job ",
+            job,
+            b", and may go on by: ",
+        ),
+        Cause::Wants { .. } => add(line, b"the script wants of the driver: "),
+        Cause::Best { .. } => add_one(line, b"the best source of seat ", seat, b" is taken by: "),
+        Cause::NoSource => add_one(line, b"nothing may be taken by seat ", seat, b""),
+        Cause::Finished => add_one(
+            line,
+            b"the script is finished, and nothing is left for seat ",
+            seat,
+            b"",
+        ),
+        Cause::NotIdle { running, ready } => {
+            add_one(
+                line,
+                b"the pool is not idle; at work: ",
+                running,
+                ready_words(ready),
+            );
+        }
+        Cause::Inside { job, seats } => add_two(
+            line,
+            b"the driver waits for job ",
+            job,
+            b"; seats inside: ",
+            seats,
+            b"",
+        ),
+        Cause::Blocked { count } => add_one(
+            line,
+            b"the driver waits until shutdown is done; what blocks it: ",
+            count,
+            b"",
+        ),
+    }
+}
+
+/// Adds words with a number between them: at most 63 bytes of words.
+fn add_one(line: &mut Line, words: &[u8], number: u32, rest: &[u8])
+    requires line { length line.old.items ≤ 12 }
+    requires words { length words.now + length rest.now ≤ 63 }
+    ensures items { line.new.items ≡ line.old.items ++ around words.now number rest.now }
+    ensures short { length line.new.items ≤ 95 }
+{
+    add(line, words);
+    add_decimal(line, u64::from(number));
+    add(line, rest);
+}
+
+/// Adds words with two numbers between them: at most 43 bytes of words.
+fn add_two(line: &mut Line, words: &[u8], first: u32, between: &[u8], second: u32, rest: &[u8])
+    requires line { length line.old.items ≤ 12 }
+    requires words { length words.now + length between.now + length rest.now ≤ 43 }
+    ensures items { line.new.items ≡ line.old.items ++ around words.now first (around between.now second rest.now) }
+    ensures short { length line.new.items ≤ 95 }
+{
+    add(line, words);
+    add_decimal(line, u64::from(first));
+    add(line, between);
+    add_decimal(line, u64::from(second));
+    add(line, rest);
+}
+
+/// What is said where something may be taken.
+fn ready_words(ready: bool) -> &'static [u8]
+    ensures words { result.now ≡ (if ready then codes "; something may be taken" else []) }
+    ensures short { length result.now ≤ 24 }
+{
+    if ready {
+        b"; something may be taken"
+    } else {
+        b""
+    }
+}
