@@ -355,7 +355,3 @@ generated_is_calm number size = record {
     at : (o : Option ℕ) → filter is_act (option_map_or (λ steps. steps) (option_map steps_of_number o) []) ≡ []
     at None = refl
     at (Some x) = refl
-
--- each legal log of a generated script is calm
-pub generated_logs_are_calm : (number size : ℕ) (past : List Entry) → IsLegal (generated number size) past → IsCalm past
-generated_logs_are_calm number size = calm_logs (generated number size) (generated_is_calm number size)

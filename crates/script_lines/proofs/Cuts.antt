@@ -22,10 +22,6 @@ behind text from = take (length text - from) (drop from text)
 behind_is : (text : List ℕ) (from : ℕ) → behind text from ≡ drop from text
 behind_is text from = take_all (length text - from) (drop from text) (rw length-drop (omega arith))
 
--- before the first word
-pub cut_start : (text : List ℕ) → IsCut text 0
-cut_start text = record { within = omega arith; parts = λ k. rw zero-add refl; unmarked = λ k d lt. absurd (omega arith) }
-
 -- all the words, by those on both sides of the cut
 whole : (text : List ℕ) (from : ℕ) → IsCut text from → words_of text ≡ words_of (take from text) ++ words_of (behind text from)
 whole text from cut =

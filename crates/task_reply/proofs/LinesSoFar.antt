@@ -35,10 +35,6 @@ pub record ReadSoFar (script : Plan) (bytes : List ℕ) (held : Held) (lines : �
   pub stands : StandsFor script replies held
   pub rest : lines_read script replies (lines + 1) (drop lines (map strip_carriage_return (pieces_of bytes))) ≡ replies_read script bytes
 
--- before the first line
-pub read_none : (script : Plan) (bytes : List ℕ) (held : Held) → StandsFor script [] held → ReadSoFar script bytes held 0
-read_none script bytes held stands = record { replies = []; stands = stands; rest = refl }
-
 -- what a line does to what is held
 abbrev pub LineTurns : Result (Unit {0}) ReplyFault → Held → Held → ℕ → List ℕ → Type 0
 LineTurns r old new number line = (script : Plan) (replies : List Reply) → StandsFor script replies old

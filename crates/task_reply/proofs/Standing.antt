@@ -25,22 +25,6 @@ use Rattle.task_reply.proofs.StaysSound.{MayStand, stays_sound}
 
 -- ---- at first
 
--- a script without replies has not grown
-pub grown_at_first : (script : Plan) → IsSound script → IsGrown script [] script
-grown_at_first script sound = record {
-  elaborated = record {
-    tasks_there = tt;
-    task_count = refl;
-    steps_added = λ t own is. is ∙ ap Some (sym (append-nil own));
-    rest_stays = refl;
-  };
-  sound = sound;
-  steps = omega arith;
-  events = omega arith;
-  posted = λ t. omega arith;
-  scopes = λ t. refl;
-}
-
 -- ---- one more
 
 -- the replies of a task, with one more reply

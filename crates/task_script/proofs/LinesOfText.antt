@@ -49,10 +49,6 @@ rest-end d number i pieces e =
     let le : length (map strip_carriage_return pieces) ≤ i = simp length-map (omega arith) in
     rw (drop_all i (map strip_carriage_return pieces) le) refl
 
--- there are no more lines than bytes, and one
-pub few_lines : (bytes : List ℕ) → length (slice_split (λ b. eqb b 10) bytes) ≤ length bytes + 1
-few_lines bytes = omega (arith, length-slice_split (λ (b : ℕ). eqb b 10) bytes, count_by-le-length (λ (b : ℕ). eqb b 10) bytes)
-
 -- lines that give a draft give its script
 pub script-read : (bytes : List ℕ) (d : Draft) → lines_read empty_draft 1 (lines_of bytes) ≡ Ok d → script_read bytes ≡ Ok (script_of d)
 unfolding script_read
