@@ -7,3 +7,4 @@ pub mod Explained
 pub mod Outcomes
 pub mod Causes
 pub mod Worked
+pub mod Clocks

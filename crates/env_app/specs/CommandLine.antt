@@ -155,6 +155,19 @@ ReadsClock (Some Nest) = ⊥
 ReadsClock (Some (Generate number size)) = ⊥
 ReadsClock (Some (Bench number size)) = ⊥
 
+-- the command runs a script and writes JSON, for which it takes memory after the run
+abbrev pub WritesJson : Option Command → Type 0
+WritesJson None = ⊥
+WritesJson (Some (Run step true)) = Unit {0}
+WritesJson (Some (Run step false)) = ⊥
+WritesJson (Some (Check prefix)) = ⊥
+WritesJson (Some (Explain json)) = ⊥
+WritesJson (Some Reply) = ⊥
+WritesJson (Some Trace) = ⊥
+WritesJson (Some Nest) = ⊥
+WritesJson (Some (Generate number size)) = ⊥
+WritesJson (Some (Bench number size)) = ⊥
+
 -- the command judges a log
 abbrev pub IsJudge : Option Command → Type 0
 IsJudge None = ⊥

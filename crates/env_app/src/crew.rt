@@ -1,5 +1,5 @@
 //! The run of a script on threads: one for each worker, and the caller's for the driver.
-ghost use Rattle.std.specs.Prelude.{◌≡◌, ◌≤◌, [], All, length, true, IfOk};
+ghost use Rattle.std.specs.Prelude.{◌≡◌, ◌≤◌, [], All, length, true, IfOk, OnErr};
 ghost use Rattle.task_base.specs.declared.limits.TheConstants.{MOST_EVENTS};
 ghost use Rattle.log_model.specs.Fits.{Fits};
 ghost use Rattle.hist_model.specs.Legal.{IsLegal};
@@ -52,32 +52,33 @@ pub fn perform<'a, R: Threads + Wait, B: TaskBody, C: Clock, G: Gate>(
     (first, join_all(rt, shared, starts, spare, rest))
 }
 
-/// Starts the workers, performs the script, and waits for them. The error is want of memory, and comes before the first
-/// start.
+/// Starts the workers, performs the script, and waits for them, in lists that have the room for it.
 fn attend_all<'s, E, R: Threads + Wait + Sync, B: TaskBody + Send, C: Clock, G: Gate>(
     rt: &'s R,
-    alloc: Global,
     scope: &Scope<'s, E>,
     shared: &'s Shared<B>,
     word: &'s AtomicU32,
     script: &Script,
     first: EnvSeat<B>,
+    mut seats: Rows<EnvSeat<B>>,
+    mut starts: Rows<Start<B>>,
+    mut spare: Rows<SharedDesk<'s, B>>,
+    rest: Rows<EnvSeat<B>>,
     clock: &mut C,
     gate: &'s G,
-) -> Result<(EnvSeat<B>, Rows<EnvSeat<B>>), AllocError>
+) -> (EnvSeat<B>, Rows<EnvSeat<B>>)
     requires plan { IsSound script.now }
     requires script { shared.now.basis ≡ script.now }
     requires stands { shared.now.stands ≡ true }
     requires first { IsDriver shared.now 0 first }
-    ensures back { IfOk result (λ back. AreBack shared.now script.now.workers back.0 back.1.items) }
-    ensures moments { IfOk result (λ back. HasMomentsOf (C.readings clock.old) back.0.mine) }
+    requires seats { (seats.items ≡ []) × (script.now.workers ≤ seats.spare) }
+    requires starts { (starts.items ≡ []) × (script.now.workers ≤ starts.spare) }
+    requires spare { (spare.items ≡ []) × (script.now.workers ≤ spare.spare) }
+    requires rest { (rest.items ≡ []) × (script.now.workers ≤ rest.spare) }
+    ensures back { AreBack shared.now script.now.workers result.0 result.1.items }
+    ensures moments { HasMomentsOf (C.readings clock.old) result.0.mine }
 {
-    let count = script.workers;
-    let mut seats = with_room(alloc, count as usize)?;
-    let mut starts = with_room(alloc, count as usize)?;
-    let mut spare = with_room(alloc, count as usize)?;
-    let rest = with_room(alloc, count as usize)?;
-    let first = split_all(shared, first, &mut seats, count);
+    let first = split_all(shared, first, &mut seats, script.workers);
     start_all(
         rt,
         scope,
@@ -88,10 +89,10 @@ fn attend_all<'s, E, R: Threads + Wait + Sync, B: TaskBody + Send, C: Clock, G: 
         &mut starts,
         &mut spare,
     );
-    Ok(perform(rt, shared, script, first, starts, spare, rest, clock, gate))
+    perform(rt, shared, script, first, starts, spare, rest, clock, gate)
 }
 
-/// All that needs the scope.
+/// All that needs the scope. The error is want of memory for the lists, and comes before the first start.
 fn in_scope<R: Threads + Wait + Sync, B: TaskBody + Send, C: Clock, G: Gate>(
     rt: &R,
     alloc: Global,
@@ -108,25 +109,39 @@ fn in_scope<R: Threads + Wait + Sync, B: TaskBody + Send, C: Clock, G: Gate>(
     requires first { IsDriver shared.now 0 first }
     ensures back { IfOk result (λ back. AreBack shared.now script.now.workers back.0 back.1.items) }
     ensures moments { IfOk result (λ back. HasMomentsOf (C.readings clock.old) back.0.mine) }
+    ensures unread { OnErr result (clock.new ≡ clock.old) }
 {
-    thread::scope(
+    let room = script.workers as usize;
+    let seats = with_room(alloc, room)?;
+    let starts = with_room(alloc, room)?;
+    let spare = with_room(alloc, room)?;
+    let rest = with_room(alloc, room)?;
+    Ok(thread::scope(
         thread::scope_env(),
         rt,
-        |scope| -> Result<(EnvSeat<B>, Rows<EnvSeat<B>>), AllocError>
+        |scope| -> (EnvSeat<B>, Rows<EnvSeat<B>>)
             requires plan { IsSound script.now }
             requires script { shared.now.basis ≡ script.now }
             requires stands { shared.now.stands ≡ true }
             requires first { IsDriver shared.now 0 first }
-            ensures back { IfOk result (λ back. AreBack shared.entry.now script.entry.now.workers back.0 back.1.items) }
-            ensures moments { IfOk result (λ back. HasMomentsOf (C.readings clock.entry.now) back.0.mine) }
-        { attend_all(rt, alloc, scope, shared, word, script, first, clock, gate) },
-    )
+            requires seats { (seats.items ≡ []) × (script.now.workers ≤ seats.spare) }
+            requires starts { (starts.items ≡ []) × (script.now.workers ≤ starts.spare) }
+            requires spare { (spare.items ≡ []) × (script.now.workers ≤ spare.spare) }
+            requires rest { (rest.items ≡ []) × (script.now.workers ≤ rest.spare) }
+            ensures back { AreBack shared.entry.now script.entry.now.workers result.0 result.1.items }
+            ensures moments { HasMomentsOf (C.readings clock.entry.now) result.0.mine }
+        {
+            attend_all(
+                rt, scope, shared, word, script, first, seats, starts, spare, rest, clock, gate,
+            )
+        },
+    ))
 }
 
 /// Runs a script on threads, and gives the environment at the end of the run. Each worker has a thread, which serves
 /// until there will be nothing any more; the caller's thread performs the script. The work of a worker whose thread
-/// can't be started is done by the caller while an action of the script waits. The error is want of memory, and comes
-/// before the first entry.
+/// can't be started is done by the caller while an action of the script waits. The error is want of memory: it comes
+/// before the first entry, and the clock was not read.
 pub fn run_crew<R: Threads + Wait + Sync, B: TaskBody + Send, C: Clock, G: Gate>(
     rt: &R,
     alloc: Global,
@@ -143,6 +158,7 @@ pub fn run_crew<R: Threads + Wait + Sync, B: TaskBody + Send, C: Clock, G: Gate>
     ensures bounded { IfOk result (λ env. length env.history ≤ MOST_EVENTS) }
     ensures fits { IfOk result (λ env. All Fits env.history) }
     ensures moments { IfOk result (λ env. HasMomentsOf (C.readings clock.old) env.history) }
+    ensures unread { OnErr result (clock.new ≡ clock.old) }
 {
     let (shared, first) = Shared::open(alloc, script.copy(alloc)?, bodies)?;
     let word = AtomicU32::new(0);

@@ -37,7 +37,7 @@ pub fn run_replies<R: Threads + Wait + Sync, S: Source, K: Sink, C: Clock, G: Ga
     ensures took_within { result ≢ Err (Failure.Common Fault.TooLarge) → TookWithin (ends (S.left source.old) (S.left source.new) (S.faults source.old) (S.faults source.new)) }
     ensures source_steady { result ≢ Err (Failure.Common Fault.ReadFault) → S.faults source.new ≡ S.faults source.old }
     ensures sink_steady { result ≢ Err (Failure.Common Fault.WriteFault) → K.faults sink.new ≡ K.faults sink.old }
-    ensures clock_kept { IfErr result (λ failure. failure_status failure ≢ 5 → failure_status failure ≢ 6 → clock.new ≡ clock.old) }
+    ensures clock_kept { IfErr result (λ failure. failure_status failure ≢ 5 → clock.new ≡ clock.old) }
 {
     let bytes = take_all(alloc, source)?;
     let (text, replies) = parts_of(&bytes);

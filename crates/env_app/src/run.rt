@@ -6,7 +6,7 @@ ghost use Rattle.task_script.specs.Generated.{generated};
 ghost use Rattle.run_summary.specs.Summary.{generated_totals};
 ghost use Rattle.env_io.specs.Bytes.{Gains, Rose};
 ghost use Rattle.env_app.specs.declared.words.Command.TheVariants.{Run, Check, Explain, Reply, Trace, Nest, Generate, Bench};
-ghost use Rattle.env_app.specs.CommandLine.{IsJudge, IsSized, ReadsClock, TakesInput, command_of, takes_prefix};
+ghost use Rattle.env_app.specs.CommandLine.{IsJudge, IsSized, ReadsClock, TakesInput, WritesJson, command_of, takes_prefix};
 ghost use Rattle.env_app.specs.Failures.{failure_status, is_verdict, note_line};
 ghost use Rattle.env_app.specs.Judged.{HasChecked, HasLegalLog, HasTraced, IsLegalLog};
 ghost use Rattle.env_app.specs.Explained.{HasExplained};
@@ -61,7 +61,7 @@ fn execute<R: Threads + Wait + Sync, S: Source, K: Sink, C: Clock, G: Gate>(
     ensures source_steady { result ≢ Err (Failure.Common Fault.ReadFault) → S.faults source.new ≡ S.faults source.old }
     ensures sink_steady { result ≢ Err (Failure.Common Fault.WriteFault) → K.faults sink.new ≡ K.faults sink.old }
     ensures clock_unread { ¬ ReadsClock (Some command) → clock.new ≡ clock.old }
-    ensures clock_kept { IfErr result (λ failure. failure_status failure ≢ 5 → failure_status failure ≢ 6 → clock.new ≡ clock.old) }
+    ensures clock_kept { IfErr result (λ failure. failure_status failure ≢ 5 → (failure_status failure ≡ 6 → ¬ WritesJson (Some command)) → clock.new ≡ clock.old) }
 {
     match command {
         Command::Run { step, json } => common(run_script(
@@ -99,7 +99,8 @@ fn run<R: Threads + Wait + Sync, S: Source, K: Sink, C: Clock, G: Gate>(
     ensures source_steady { result ≢ Err (Failure.Common Fault.ReadFault) → S.faults source.new ≡ S.faults source.old }
     ensures sink_steady { result ≢ Err (Failure.Common Fault.WriteFault) → K.faults sink.new ≡ K.faults sink.old }
     ensures clock_unread { ¬ ReadsClock (command_of (map string_bytes words.now)) → clock.new ≡ clock.old }
-    ensures clock_kept { IfErr result (λ failure. failure_status failure ≢ 5 → failure_status failure ≢ 6 → clock.new ≡ clock.old) }
+    ensures clock_kept { IfErr result (λ failure. failure_status failure ≢ 5
+        → (failure_status failure ≡ 6 → ¬ WritesJson (command_of (map string_bytes words.now))) → clock.new ≡ clock.old) }
 {
     match command_of(alloc, words) {
         Ok(Some(command)) => execute(rt, alloc, command, source, sink, clock, gate),
@@ -125,7 +126,7 @@ fn run_and_tell<R: Threads + Wait + Sync, S: Source, K: Sink, N: Sink, C: Clock,
     ensures nothing_written { result ≢ 0 → ¬ IsVerdictOf (command_of (map string_bytes words.now)) result → result ≢ 5 → sink.new ≡ sink.old }
     ensures nothing_taken { ¬ TakesInput (command_of (map string_bytes words.now)) → source.new ≡ source.old }
     ensures clock_unread { ¬ ReadsClock (command_of (map string_bytes words.now)) → clock.new ≡ clock.old }
-    ensures clock_kept { result ≢ 0 → result ≢ 5 → result ≢ 6 → clock.new ≡ clock.old }
+    ensures clock_kept { result ≢ 0 → result ≢ 5 → (result ≡ 6 → ¬ WritesJson (command_of (map string_bytes words.now))) → clock.new ≡ clock.old }
     ensures quiet { (result ≡ 0) ⊎ IsVerdictOf (command_of (map string_bytes words.now)) result → notes.new ≡ notes.old }
     ensures note { result ≢ 0 → (failure : Failure) × IsEnd (command_of (map string_bytes words.now))
         (ends (S.left source.old) (S.left source.new) (S.faults source.old) (S.faults source.new)) result failure
@@ -161,10 +162,11 @@ fn run_and_tell<R: Threads + Wait + Sync, S: Source, K: Sink, N: Sink, C: Clock,
 /// - `gen` writes the script that is made from `--number`, of `--size` tasks, and reads nothing.
 /// - `bench` runs that script, and writes what the log of the run adds up to. It reads nothing.
 ///
-/// A status above 0 is that of a `Failure`, whose note goes to the notes, but for the verdict of `check` and `explain`. Want of memory
-/// comes before the first byte is written. The gate is called between each take of a task and the task's first step. The
-/// clock is read by `run` and `reply` alone, once for each tick, or with `--step` not at all: its readings are then N, 2N,
-/// 3N and so on, in microseconds.
+/// A status above 0 is that of a `Failure`, whose note goes to the notes, but for the verdict of `check` and `explain`. Want of
+/// memory comes before the first entry of a run, or with `--json` and in `trace` before the first byte is written. The gate
+/// is called between each take of a task of the pool and the task's first step, while no turn is held. The clock is read by
+/// `run` and `reply` alone, once for each tick, or with `--step` not at all: its readings are then N, 2N, 3N and so on, in
+/// microseconds.
 ///
 /// The driver is the caller's thread, and in `run`, `reply` and `bench` each worker has a thread of its own, as far as the
 /// system gives them: what a worker without one would do, the caller does while it waits. It may wait for the threads for
@@ -232,9 +234,10 @@ pub fn run_words<R: Threads + Wait + Sync, S: Source, K: Sink, N: Sink, C: Clock
     ensures nothing_written { result ≢ 0 → ¬ IsVerdictOf (command_of (map string_bytes words.now)) result → result ≢ 5 → sink.new ≡ sink.old }
     ensures nothing_taken { (result ≡ 2) ⊎ (¬ TakesInput (command_of (map string_bytes words.now))) → source.new ≡ source.old }
 
-    // The clock is as it was in each mode but `run` and `reply`, with `--step`, and where nothing is run.
+    // The clock is as it was in each mode but `run` and `reply`, with `--step`, and where nothing is run; so it is wherever memory
+    // is wanting, but for that of JSON, which is made behind the run.
     ensures clock_unread { ¬ ReadsClock (command_of (map string_bytes words.now)) → clock.new ≡ clock.old }
-    ensures clock_kept { result ≢ 0 → result ≢ 5 → result ≢ 6 → clock.new ≡ clock.old }
+    ensures clock_kept { result ≢ 0 → result ≢ 5 → (result ≡ 6 → ¬ WritesJson (command_of (map string_bytes words.now))) → clock.new ≡ clock.old }
 
     // The notes get the note of the failure that ends the command with this status, where they do not fail, and else a front of
     // it. Under 3 that is what is wrong with the input, and under 1 in `trace` the line at which the log is found wrong; under 1

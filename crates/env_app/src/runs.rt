@@ -1,5 +1,5 @@
 //! The mode `run`, and the run of a script.
-ghost use Rattle.std.specs.Prelude.{◌≡◌, ◌≢◌, ◌≤◌, All, length, alloc_error, Some, None, Err, IfOk, IfErr};
+ghost use Rattle.std.specs.Prelude.{◌≡◌, ◌≢◌, ◌≤◌, All, length, alloc_error, Some, None, Err, IfOk, IfErr, OnErr, false};
 ghost use Rattle.task_base.specs.declared.limits.TheConstants.{MOST_EVENTS};
 ghost use Rattle.task_base.specs.Fault.{status_of};
 ghost use Rattle.log_model.specs.Fits.{Fits};
@@ -40,7 +40,7 @@ pub fn run_script<R: Threads + Wait + Sync, S: Source, K: Sink, C: Clock, G: Gat
     ensures source_steady { result ≢ Err Fault.ReadFault → S.faults source.new ≡ S.faults source.old }
     ensures sink_steady { result ≢ Err Fault.WriteFault → K.faults sink.new ≡ K.faults sink.old }
     ensures clock_unread { step ≢ None → clock.new ≡ clock.old }
-    ensures clock_kept { IfErr result (λ fault. fault ≢ Fault.WriteFault → fault ≢ Fault.NoMemory alloc_error → clock.new ≡ clock.old) }
+    ensures clock_kept { IfErr result (λ fault. fault ≢ Fault.WriteFault → (fault ≡ Fault.NoMemory alloc_error → json ≡ false) → clock.new ≡ clock.old) }
 {
     let bytes = take_all(alloc, source)?;
     let script = script_of(alloc, &bytes)?;
@@ -52,7 +52,7 @@ pub fn run_script<R: Threads + Wait + Sync, S: Source, K: Sink, C: Clock, G: Gat
 }
 
 /// The log of a script's run, by readings a step apart where there is one, and else by the clock. The error is want of
-/// memory, and comes before the first entry.
+/// memory: it comes before the first entry, and the clock was not read.
 pub fn log_of_run<R: Threads + Wait + Sync, C: Clock, G: Gate>(
     rt: &R,
     alloc: Global,
@@ -68,6 +68,7 @@ pub fn log_of_run<R: Threads + Wait + Sync, C: Clock, G: Gate>(
     ensures fits { IfOk result (λ log. All Fits log.items) }
     ensures moments { IfOk result (λ log. HasMomentsOf (readings_of step (C.readings clock.old)) log.items) }
     ensures unread { step ≢ None → clock.new ≡ clock.old }
+    ensures kept { OnErr result (clock.new ≡ clock.old) }
 {
     let bodies = bodies_of(alloc, script)?;
     let env = match step {

@@ -1,4 +1,4 @@
-ghost use Rattle.std.specs.Prelude.{◌≡◌, ◌≢◌, ◌<◌, ◌^◌, ◌⊎◌, Err, IfErr, OnOk, alloc_error, length};
+ghost use Rattle.std.specs.Prelude.{◌≡◌, ◌≢◌, ◌<◌, ◌^◌, ◌⊎◌, Err, IfErr, OnOk, alloc_error, length, true};
 ghost use Rattle.env_io.specs.Bytes.{Rose};
 ghost use Rattle.script_model.specs.Canonical.{canonical};
 ghost use Rattle.trace_json.specs.Text.{trace_text};
@@ -14,7 +14,7 @@ use task_base::{Entry, Fault, Rows, Script};
 use task_script::write_script;
 use trace_json::{TraceFault, write_trace};
 
-/// Writes a log: its text, or its JSON form and a line feed. Want of memory comes before the first byte.
+/// Writes a log: its text, or its JSON form and a line feed. Want of memory comes of JSON alone, and before the first byte.
 pub fn write<K: Sink>(
     alloc: Global,
     sink: &mut K,
@@ -26,6 +26,7 @@ pub fn write<K: Sink>(
     ensures cut { result ≡ Err Fault.WriteFault → WroteFront (K.holds sink.old) (K.holds sink.new) (output_of json log.now.items) }
     ensures failed { result ≡ Err Fault.WriteFault → Rose (K.faults sink.old) (K.faults sink.new) }
     ensures kept { result ≡ Err (Fault.NoMemory alloc_error) → sink.new ≡ sink.old }
+    ensures memory { result ≡ Err (Fault.NoMemory alloc_error) → json ≡ true }
     ensures faults { IfErr result (λ fault. (fault ≡ Fault.WriteFault) ⊎ (fault ≡ Fault.NoMemory alloc_error)) }
     ensures steady { result ≢ Err Fault.WriteFault → K.faults sink.new ≡ K.faults sink.old }
 {

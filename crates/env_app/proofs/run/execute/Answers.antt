@@ -1,6 +1,7 @@
 use Rattle.std.proofs.Common.{Some}
 use Rattle.env_app.specs.declared.words.Command.TheVariants.{Check, Explain, Generate, Bench}
 use Rattle.env_app.specs.Outcome.{ends}
+use Rattle.env_app.proofs.Clocks.{kept_in_common}
 use Rattle.env_app.proofs.Outcomes.{ends_in_common}
 use Rattle.env_app.proofs.run.execute.Goals as goal
 
@@ -21,6 +22,10 @@ returns-in-Explain-clause-outcome g c =
     (ends (g.S.Source.left c.args.source.now) (g.S.Source.left c.explain.new.source) (g.S.Source.faults c.args.source.now) (g.S.Source.faults c.explain.new.source))
     (ends (g.K.Sink.holds c.args.sink.now) (g.K.Sink.holds c.explain.new.sink) (g.K.Sink.faults c.args.sink.now) (g.K.Sink.faults c.explain.new.sink))
     c.explain.result (c.explain.ensures.outcome told))
+
+pub returns-in-Run-clause-clock_kept : goal.returns-in-Run-clause-clock_kept
+returns-in-Run-clause-clock_kept g c =
+    rw (c.in-Run.is, c.common.ensures) (kept_in_common _ c.in-Run.step c.in-Run.json c.run_script.result c.run_script.ensures.clock_kept)
 
 pub returns-in-Trace-clause-outcome : goal.returns-in-Trace-clause-outcome
 returns-in-Trace-clause-outcome g c = rw c.in-Trace.is (c.trace.ensures.outcome (g.C.Clock.readings c.args.clock.now))
