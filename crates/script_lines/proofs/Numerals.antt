@@ -1,16 +1,12 @@
 -- The number that a word writes: the text of digits, their value, and the range that it must lie in.
-use Rattle.std.proofs.Common.{◌≡◌, ℕ, ◌<◌, ◌^◌, true, false, cond, ltb, leb, List, length, Some, None, Err, refl, sym, inl, inr, arith}
+use Rattle.std.proofs.Common.{◌≡◌, ℕ, ◌<◌, ◌^◌, true, false, cond, ltb, leb, List, Some, None, Err, refl, sym, inl, inr, arith}
 use Rattle.std.specs.Str.Parse.{digits_value}
-use Rattle.std.proofs.lemmas.Bool.{and_parts, cases_lt, lt-ltb, le-ltb, lt-leb}
+use Rattle.std.proofs.lemmas.Bool.{cases_lt, lt-ltb, le-ltb, lt-leb}
 use Rattle.std.proofs.Math.Bool.{and-false}
 use Rattle.script_model.specs.Reasons.{bad_number}
 use Rattle.script_model.specs.Places.{number_from}
-use Rattle.numeral_text.specs.Numeral.{is_numeral, value_of}
+use Rattle.numeral_text.specs.Numeral.{value_of}
 use Rattle.script_lines.specs.Numerals.{has_form, within}
-
--- a word that has the form of a number is a numeral
-pub has_form-numeral : (word : List ℕ) → has_form word ≡ true → is_numeral word ≡ true
-has_form-numeral word form = (and_parts (is_numeral word) (leb (length word) 20) form).0
 
 -- a word of another form is no number
 pub number_from-no_numeral : (low high : ℕ) (word : List ℕ) → has_form word ≡ false → number_from low high word ≡ Err bad_number

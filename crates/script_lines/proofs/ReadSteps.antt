@@ -1,38 +1,19 @@
 -- Steps read one after the other, as a loop does.
-use Rattle.std.proofs.Common.{◌≡◌, ℕ, List, [], ◌∷◌, ◌++◌, map, min, refl, Result, Ok, Err, arith, append_assoc}
+use Rattle.std.proofs.Common.{◌≡◌, ℕ, List, [], ◌∷◌, ◌++◌, map, refl, Result, Ok, Err}
 use Rattle.std.specs.List.{slice_split}
 use Rattle.std.proofs.lemmas.List.{append-nil}
 use Rattle.task_base.specs.declared.step.Step.{Step}
 use Rattle.script_model.specs.Reasons.{◌>>=◌, ◌&◌}
 use Rattle.script_model.specs.Places.{step_read, all_read, steps_read}
-use Rattle.script_lines.specs.Steps.{is_mark, with_step}
+use Rattle.script_lines.specs.Steps.{is_mark}
 
 -- the steps of both, or the least of the reasons
 abbrev pub append_read : Result (List Step) ℕ → Result (List Step) ℕ → Result (List Step) ℕ
 append_read r s = r & s >>= λ p. Ok (p.0 ++ p.1)
 
-pub append_read-nil : (s : Result (List Step) ℕ) → append_read (Ok []) s ≡ s
-append_read-nil (Ok ys) = refl
-append_read-nil (Err reason) = refl
-
 pub append_read-end : (r : Result (List Step) ℕ) → append_read r (Ok []) ≡ r
 append_read-end (Ok xs) = rw append-nil refl
 append_read-end (Err reason) = refl
-
-min_assoc : (a b c : ℕ) → min (min a b) c ≡ min a (min b c)
-min_assoc a b c = omega arith
-
--- one step more before the rest
-pub append_read-step : (r : Result (List Step) ℕ) (step : Result Step ℕ) (rest : Result (List Step) ℕ)
-    → append_read (with_step r step) rest ≡ append_read r (step & rest >>= λ p. Ok (p.0 ∷ p.1))
-append_read-step (Ok xs) (Ok x) (Ok ys) = rw append_assoc refl
-append_read-step (Ok xs) (Ok x) (Err c) = refl
-append_read-step (Ok xs) (Err b) (Ok ys) = refl
-append_read-step (Ok xs) (Err b) (Err c) = refl
-append_read-step (Err a) (Ok x) (Ok ys) = refl
-append_read-step (Err a) (Ok x) (Err c) = refl
-append_read-step (Err a) (Err b) (Ok ys) = refl
-append_read-step (Err a) (Err b) (Err c) = rw min_assoc refl
 
 -- words that are some are cut at the marks
 pub steps_read-some : (words : List (List ℕ)) → (words ≡ [] → ⊥) → steps_read words ≡ all_read (map step_read (slice_split is_mark words))
