@@ -1,9 +1,9 @@
 -- The text of a log: it tells the history, and it grows by a line for each entry.
-use Rattle.std.proofs.Common.{◌≡◌, ◌≢◌, ◌<◌, ◌≤◌, ◌+◌, ℕ, suc, List, [], ◌∷◌, ◌++◌, All, length, get_or, take, drop, refl, sym, ap, subst, ◌∙◌, inl, inr, eqb, arith, add-zero, zero-add, add-one, append_assoc, append-nil, length-take-le, take-suc, take_all}
+use Rattle.std.proofs.Common.{◌≡◌, ◌≢◌, ◌<◌, ◌≤◌, ◌+◌, ℕ, suc, List, [], ◌∷◌, ◌++◌, All, length, get_or, take, drop, refl, sym, ap, subst, ◌∙◌, eqb, arith, add-zero, zero-add, add-one, append_assoc, append-nil, length-take-le, take-suc, take_all}
 use Rattle.std.specs.Prelude.{map, codes}
 use Rattle.std.specs.Fmt.{decimal}
 use Rattle.std.specs.List.{starts_with, join_with_byte}
-use Rattle.std.proofs.lemmas.Bool.{cases_Bool, false_from_ne_true}
+use Rattle.std.proofs.lemmas.Bool.{false_from_ne_true}
 use Rattle.std.proofs.lemmas.Bool.Decides.{Decides-eqb}
 use Rattle.std.proofs.lemmas.Slice.Eq.{starts_is}
 use Rattle.std.proofs.lemmas.List.{take-append-drop, append_cancel_left}
