@@ -126,7 +126,8 @@ can_close {script = script} {past = past} {manager = manager} {q = q} {behind = 
     (is ∙ ap closed (queue_is at there) ∙ closed_queue script past 0 q (main_arrivals past) (unripe past)) (main_arrivals_rise past) (λ o among. among)
 
 -- the manager that told the selector stands for the past with the entry
-pub stands_at_close : {script : Plan} {past : List Entry} {manager after : Manager} {q : ℕ} {queue behind : TaskQueue} (seat : ℕ) → HasQueue script past manager q
+pub stands_at_close : {script : Plan} {past : List Entry} {manager after : Manager} {q : ℕ} {queue behind : TaskQueue} (seat : ℕ)
+    → HasQueue script past manager q
     → slice_get manager.queues q ≡ Some queue → behind ≡ closed queue → after ≡ refreshed (with_queue manager q behind) q
     → StandsFor script (after_close past seat q) after
 stands_at_close {script = script} {past = past} {manager = manager} {q = q} {behind = behind} seat at there is after =

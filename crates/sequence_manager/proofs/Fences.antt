@@ -184,7 +184,8 @@ fence_only {script = script} {past = past} {q = q} {queue = queue} e fence at th
     ap (λ f. record queue { fence = f; voters = votes_of script (past ++ e ∷ []) q }) is
     ∙ ap (λ v. record queue { fence = fence; voters = v }) (votes_same script past (past ++ e ∷ []) q votes ∙ sym (votes_there at there))
 
-votes_only : {script : Plan} {past : List Entry} {manager : Manager} {q : ℕ} {queue : TaskQueue} (e : Entry) (votes : List Bool) → HasQueue script past manager q
+votes_only : {script : Plan} {past : List Entry} {manager : Manager} {q : ℕ} {queue : TaskQueue} (e : Entry) (votes : List Bool)
+    → HasQueue script past manager q
     → slice_get manager.queues q ≡ Some queue → fence_of (past ++ e ∷ []) q ≡ fence_of past q → votes_of script (past ++ e ∷ []) q ≡ votes
     → set_to script (past ++ e ∷ []) q queue ≡ voted queue votes
 votes_only {script = script} {past = past} {q = q} {queue = queue} e votes at there fence is =

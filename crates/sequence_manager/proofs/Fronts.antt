@@ -12,7 +12,7 @@ use Rattle.queue_fence.specs.Fence.{lets_pass}
 use Rattle.queue_fence.specs.Voters.{all_on}
 use Rattle.queue_laws.proofs.Arrivals.{front_is_first_arrival}
 use Rattle.queue_laws.specs.Fronts.{front_for}
-use Rattle.queue_selector.specs.Rows.{fronts_from, order_in, row_fronts, open_front}
+use Rattle.queue_selector.specs.Rows.{fronts_from, row_fronts, open_front}
 use Rattle.queue_selector.specs.Selecting as selecting
 use Rattle.queue_selector.specs.Selecting.{Selecting}
 use Rattle.queue_selector.specs.declared.front.Front.{Front as SeenFront}
@@ -26,10 +26,10 @@ use Rattle.task_model.specs.Orders.{Ordered, main_arrivals, ordered}
 use Rattle.task_model.specs.Posts.{Posted}
 use Rattle.task_model.specs.Refusal.{is_closed}
 use Rattle.sequence_manager.specs.Queues.{IsTable, queue_of, queued_of, row_of}
-use Rattle.sequence_manager.specs.State.{lets_run, open_in, row_by}
+use Rattle.sequence_manager.specs.State.{lets_run, open_in}
 use Rattle.sequence_manager.specs.declared.task_queue.TaskQueue.{TaskQueue}
 use Rattle.sequence_manager.proofs.Lists.{filter-flat_map, first_kept, flat_map_congr, map-flat_map}
-use Rattle.sequence_manager.proofs.Refreshing.{lane_is_held}
+use Rattle.sequence_manager.proofs.Refreshing.{lane_is_held, order_in_row}
 
 -- all votes are on where each voter votes on
 all_on_is : {A : Type 0} (vote : A → Bool) (xs : List A) → all_on (map vote xs) ≡ list_all vote xs
@@ -92,11 +92,6 @@ open_is_front script past waiting q lane same =
 -- a front as the selector knows it
 abbrev pub seen_as : Front → SeenFront
 seen_as f = record { class = f.class; lane = f.lane; order = f.order; queue = f.queue }
-
--- what a row tells of a lane
-order_in_row : (lane : Lane) (class : ℕ) (queue : TaskQueue) → order_in lane (row_by class queue) ≡ open_in lane queue
-order_in_row Immediate class queue = refl
-order_in_row Delayed class queue = refl
 
 -- the front of a row is the front of the past, where it is open
 row_front : (script : Plan) (past : List Entry) (waiting : List Posted) (q : ℕ) (lane : Lane) → SameMembers (main_arrivals past) (ordered past)

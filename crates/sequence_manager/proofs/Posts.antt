@@ -5,7 +5,7 @@ use Rattle.std.specs.List.{AllByRecursion}
 use Rattle.std.proofs.lemmas.Bool.{cases_eq, ne_eqb}
 use Rattle.std.proofs.lemmas.List.{append-nil, length-append}
 use Rattle.std.proofs.lemmas.List.Elements.{All-from_recursion, Contains-append_left, filter-append}
-use Rattle.list_laws.specs.Sorts.{Differ, Rises, insert_by, sort_by}
+use Rattle.list_laws.specs.Sorts.{Rises, insert_by, sort_by}
 use Rattle.list_laws.proofs.Elements.{AllByRecursion-contains, AllByRecursion-filter, AllByRecursion-map, AllByRecursion-mapped}
 use Rattle.list_laws.proofs.Rises.{length-insert_by, map-insert_by, sort_by-filter, sort_by-push}
 use Rattle.list_laws.proofs.Sorts.{AllByRecursion-sort_by, differ-filter, differ-push, length-sort_by}
@@ -13,7 +13,7 @@ use Rattle.list_laws.proofs.Values.{eqb-same}
 use Rattle.delayed_manager.specs.Delayed.{with_held}
 use Rattle.delayed_manager.specs.Delayed as ripenings
 use Rattle.delayed_manager.specs.declared.ripening.Ripening.{Ripening}
-use Rattle.pool_laws.proofs.Keys.Arrivals.{main_posts_differ, one_ripens_first, ranks_ripens}
+use Rattle.pool_laws.proofs.Keys.Arrivals.{one_ripens_first, ranks_ripens}
 use Rattle.queue_laws.proofs.Arrivals.{main_arrivals_at_delayed_post, main_arrivals_at_post, main_arrivals_below, main_arrivals_rise}
 use Rattle.queue_laws.proofs.Orders.{main_places}
 use Rattle.queue_laws.specs.Orders.{ordered_below}
@@ -44,6 +44,7 @@ use Rattle.sequence_manager.proofs.Posted.{accepts, past_at_post, posted_at_post
 use Rattle.sequence_manager.proofs.Postings_fit.{posts_fit}
 use Rattle.sequence_manager.proofs.Quiet.{now_kept}
 use Rattle.sequence_manager.proofs.Tables.{queue_at_is, table_same, table_set}
+use Rattle.sequence_manager.proofs.Waiting.{unripe_differ}
 
 -- the queue is declared
 pub declared_at : {script : Plan} {past : List Entry} {manager : Manager} {place task queue delay : ℕ} → CanPost script past manager place task queue delay
@@ -229,9 +230,6 @@ stands_at_post {script = script} {past = past} {manager = manager} {task = task}
 -- The task is a delayed one.
 
 -- those that wait, and one that has come after them: one of two ripens first
-waiting_differ : (past : List Entry) → Differ ripens_before (filter (waits past) (main_posts past))
-waiting_differ past = differ-filter ripens_before (waits past) (main_posts past) (main_posts_differ past)
-
 new_differs : (past : List Entry) (task queue delay : ℕ)
     → AllByRecursion (λ p. (ripens_before p (post_behind past task queue delay) ≡ true) ⊎ (ripens_before (post_behind past task queue delay) p ≡ true))
     (filter (waits past) (main_posts past))
@@ -252,7 +250,7 @@ passing_then past seat task queue delay test still_open later =
     ap (λ ps. filter test (sort_by ripens_before ps))
     (waiting_at_post past seat task queue delay still_open ∙ ap (λ b. filter (waits past) (main_posts past) ++ cond b (new ∷ []) []) later)
     ∙ sym (sort_by-filter ripens_before ranks_ripens test (filter (waits past) (main_posts past) ++ new ∷ [])
-    (differ-push ripens_before (filter (waits past) (main_posts past)) new (waiting_differ past) (new_differs past task queue delay)))
+    (differ-push ripens_before (filter (waits past) (main_posts past)) new (unripe_differ past) (new_differs past task queue delay)))
     ∙ ap (sort_by ripens_before) (filter-append test (filter (waits past) (main_posts past)) (new ∷ []))
   where
     new : Posted
@@ -266,9 +264,9 @@ delayed_there past seat task queue delay still_open later =
     ap (map ripening_of) (passing_then past seat task queue delay (λ p. p.home == queue) still_open later
     ∙ ap (λ b. sort_by ripens_before (filter (λ p. p.home == queue) known ++ cond b (new ∷ []) [])) (eqb-same queue)
     ∙ sort_by-push ripens_before ranks_ripens (filter (λ p. p.home == queue) known) new
-    (differ-filter ripens_before (λ p. p.home == queue) known (waiting_differ past))
+    (differ-filter ripens_before (λ p. p.home == queue) known (unripe_differ past))
     (AllByRecursion-filter (λ p. (ripens_before p new ≡ true) ⊎ (ripens_before new p ≡ true)) (λ p. p.home == queue) known (new_differs past task queue delay))
-    ∙ ap (insert_by ripens_before new) (sort_by-filter ripens_before ranks_ripens (λ p. p.home == queue) known (waiting_differ past)))
+    ∙ ap (insert_by ripens_before new) (sort_by-filter ripens_before ranks_ripens (λ p. p.home == queue) known (unripe_differ past)))
     ∙ map-insert_by ripens_before ripenings.ripens_before ripening_of new (filter (λ p. p.home == queue) (unripe past)) (λ p q. refl)
   where
     new : Posted
@@ -285,7 +283,7 @@ delayed_elsewhere past seat task queue delay q still_open later other =
     ∙ ap (λ b. sort_by ripens_before (filter (λ p. p.home == q) (filter (waits past) (main_posts past)) ++ cond b (post_behind past task queue delay ∷ []) []))
     (ne_eqb queue q (λ is. other (sym is)))
     ∙ ap (sort_by ripens_before) (append-nil (filter (λ p. p.home == q) (filter (waits past) (main_posts past))))
-    ∙ sort_by-filter ripens_before ranks_ripens (λ p. p.home == q) (filter (waits past) (main_posts past)) (waiting_differ past)
+    ∙ sort_by-filter ripens_before ranks_ripens (λ p. p.home == q) (filter (waits past) (main_posts past)) (unripe_differ past)
 
 -- one more waits
 one_more_waits : (past : List Entry) (seat task queue delay : ℕ) → is_closed past queue ≡ false → nat_lt 0 delay ≡ true

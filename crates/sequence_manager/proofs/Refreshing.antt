@@ -101,7 +101,7 @@ open_has_drawn script past arrivals waiting q lane order is =
         (first_is_held past arrivals q lane first at)
 
 -- what a row tells of its lanes
-order_in_row : (lane : Lane) (class : ℕ) (queue : TaskQueue) → order_in lane (row_by class queue) ≡ open_in lane queue
+pub order_in_row : (lane : Lane) (class : ℕ) (queue : TaskQueue) → order_in lane (row_by class queue) ≡ open_in lane queue
 order_in_row Immediate class queue = refl
 order_in_row Delayed class queue = refl
 

@@ -25,7 +25,7 @@ use Rattle.task_model.specs.Time.{now_of}
 use Rattle.task_base.specs.declared.entry.Kind.TheVariants as kinds
 
 -- of two of them one ripens first
-unripe_differ : (past : List Entry) → Differ ripens_before (filter (waits past) (main_posts past))
+pub unripe_differ : (past : List Entry) → Differ ripens_before (filter (waits past) (main_posts past))
 unripe_differ past = differ-filter ripens_before (waits past) (main_posts past) (main_posts_differ past)
 
 -- they stand in the order in which they ripen

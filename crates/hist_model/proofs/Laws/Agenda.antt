@@ -159,7 +159,7 @@ finished_stays script own e is = current_push script own e
     at [] made k = refl
     at (x ∷ xs) made k = absurd cc
 
-behind_nothing : (n : ℕ) (left : List Entry) → behind n [] ≡ Some left → left ≡ []
+pub behind_nothing : (n : ℕ) (left : List Entry) → behind n [] ≡ Some left → left ≡ []
 behind_nothing zero left h = cc
 behind_nothing (suc n) left h = absurd cc
 

@@ -5,7 +5,6 @@ use Rattle.std.specs.List.{AllByRecursion, filter_map, cons_option, range_with_l
 use Rattle.std.specs.Option.{option_map, option_to_list}
 use Rattle.std.proofs.lemmas.Bool.{eqb-true, and_parts, not-true}
 use Rattle.std.proofs.lemmas.Option.{none-some, same_Some}
-use Rattle.std.proofs.lemmas.List.Elements.{recursion_from_All, All-contains_itself}
 use Rattle.task_base.specs.Plan.{Plan}
 use Rattle.task_base.specs.declared.entry.Entry.{Entry}
 use Rattle.task_model.specs.Policies.{is_held}
@@ -22,7 +21,7 @@ use Rattle.task_model.specs.Orders.{order_of}
 use Rattle.task_model.specs.MainQueues.{choice_among, of_least_class, streak_of, Front, is_of_lane, is_immediate, is_in_lane, front_with, order_below, front_of, fronts_of, is_open, open_fronts, class_of, chosen_class, chosen_fronts, immediate_fronts, is_starved, chosen_of, IsOpen}
 use Rattle.list_laws.proofs.Least.{least_from-is}
 use Rattle.list_laws.proofs.Filters.{filter_passes}
-use Rattle.list_laws.proofs.Elements.{AllByRecursion-filter, AllByRecursion-append, AllByRecursion-both, AllByRecursion-always, AllByRecursion-map}
+use Rattle.list_laws.proofs.Elements.{AllByRecursion-filter, AllByRecursion-append, AllByRecursion-both, AllByRecursion-always, AllByRecursion-contains_itself, AllByRecursion-map}
 use Rattle.hist_model.specs.Laws.Choice.{IsWaitingSource, MayBeTaken, IsFront}
 
 -- a value that passes the test
@@ -34,10 +33,6 @@ pub record Found (A : Type 0) (test : A → Bool) (o : Option A) : Type 0 where
 pub found : {A : Type 0} (test : A → Bool) (o : Option A) → holds_of test o ≡ true → Found A test o
 found test None h = absurd cc
 found test (Some x) h = record { value = x; is = refl; passes = h }
-
--- each element is one of the list
-pub each_is_one : {A : Type 0} (xs : List A) → AllByRecursion (Contains xs) xs
-each_is_one xs = recursion_from_All (Contains xs) xs (All-contains_itself xs)
 
 -- what holds of all elements holds of the least
 pub of_least : {A : Type 0} (P : A → Type 0) (below : A → A → Bool) (xs : List A) (p : A) → AllByRecursion P xs → least below xs ≡ Some p → P p
@@ -60,7 +55,7 @@ of_filter_map {A = A} {B = B} P Q f (x ∷ xs) all step = at (f x) refl (of_filt
     at (Some y) is rest = (step x y all.0 is, rest)
 
 -- what an optional value is mapped to comes of it
-option_map_some : {A B : Type 0} (f : A → B) (o : Option A) (y : B) → option_map f o ≡ Some y → (x : A) × (o ≡ Some x) × (f x ≡ y)
+pub option_map_some : {A B : Type 0} (f : A → B) (o : Option A) (y : B) → option_map f o ≡ Some y → (x : A) × (o ≡ Some x) × (f x ≡ y)
 option_map_some f None y h = absurd (none-some y h)
 option_map_some f (Some x) y h = (x, refl, same_Some (f x) y h)
 
@@ -113,7 +108,7 @@ front_is script past q lane f is = of_least (IsFront past) order_below
     (filter_map (front_with script past q lane) (filter (is_in_lane past q lane) (main_posts past))) f
     (of_filter_map (λ p. Contains (main_posts past) p × (is_in_lane past q lane p ≡ true)) (IsFront past) (front_with script past q lane)
     (filter (is_in_lane past q lane) (main_posts past))
-    (of_filter (Contains (main_posts past)) (is_in_lane past q lane) (main_posts past) (each_is_one (main_posts past)))
+    (of_filter (Contains (main_posts past)) (is_in_lane past q lane) (main_posts past) (AllByRecursion-contains_itself (main_posts past)))
     with_order) is
   where
     with_order : (p : Posted) (g : Front) → Contains (main_posts past) p × (is_in_lane past q lane p ≡ true) → front_with script past q lane p ≡ Some g

@@ -27,7 +27,8 @@ times-append t xs ys = count-append (λ u. eqb u t) xs ys
 abbrev pub actions_post : ℕ → List Action → ℕ
 actions_post t xs = times t (flat_map posts_of_action xs)
 
-one_more : (t : ℕ) (x : Action) (xs : List Action) → actions_post t (x ∷ xs) ≡ times t (posts_of_action x) + actions_post t xs
+-- an action posts before those behind it
+pub one_more : (t : ℕ) (x : Action) (xs : List Action) → actions_post t (x ∷ xs) ≡ times t (posts_of_action x) + actions_post t xs
 one_more t x xs = times-append t (posts_of_action x) (flat_map posts_of_action xs)
 
 agenda_from_within : (t : ℕ) (xs : List Action) (own : List Entry) → actions_post t (agenda_from xs own).actions ≤ actions_post t xs

@@ -31,7 +31,7 @@ use Rattle.hist_model.specs.Legal.{IsLegal}
 use Rattle.hist_model.specs.Laws.Places.{IsAt}
 use Rattle.hist_model.specs.Laws.Order.{HasOrderAt}
 use Rattle.hist_model.proofs.Laws.AtPlaces.{in_past, of_past, passes_at, passed_by, past_is_legal, may_come_at}
-use Rattle.hist_model.proofs.Laws.Choice.{found, of_least}
+use Rattle.hist_model.proofs.Laws.Choice.{found, of_least, option_map_some}
 use Rattle.hist_model.proofs.Laws.Rising.{legal_rises, orders_are_distinct}
 use Rattle.hist_model.proofs.Laws.OrderPasts.{take_take, longer_past, tick_early, IsPostedAt, was_posted, posts_early, no_tick_before}
 
@@ -223,11 +223,6 @@ pub record MainTaking (script : Plan) (log : List Entry) (place task queue : ℕ
   pub not_taken : is_main_taken (take place log) p.task ≡ false
   pub least : (f : Front) → Contains (lane_of script (take place log) queue lane) f → nat_lt f.order order ≡ false
 
--- what an optional value is mapped to comes of it
-pub mapped_from : {A B : Type 0} (f : A → B) (o : Option A) (y : B) → option_map f o ≡ Some y → (x : A) × (o ≡ Some x) × (f x ≡ y)
-mapped_from f None y h = absurd (none-some y h)
-mapped_from f (Some x) y h = (x, refl, same_Some (f x) y h)
-
 pub main_taking : (script : Plan) (log : List Entry) (k seat task queue value : ℕ) → IsLegal script log → IsAt log k seat (kinds.MainTake task queue value)
     → MainTaking script log k task queue
 main_taking script log k seat task queue value legal is = of_member
@@ -251,7 +246,7 @@ main_taking script log k seat task queue value legal is = of_member
 
     of_member : ((p : Posted) × Contains (filter (is_in_lane past q lane) (main_posts past)) p × (front_with script past q lane p ≡ Some t.front))
         → MainTaking script log k task queue
-    of_member (p, inside, made) = of_order (mapped_from (λ n. record { queue = q; lane = lane; task = p.task; order = n; class = class_of script past q })
+    of_member (p, inside, made) = of_order (option_map_some (λ n. record { queue = q; lane = lane; task = p.task; order = n; class = class_of script past q })
         (order_of past p) t.front made)
       where
         kept : Contains (main_posts past) p × (is_in_lane past q lane p ≡ true)

@@ -21,19 +21,15 @@ use Rattle.hist_model.specs.Laws.Starts.{TasksStartAtMostOnce}
 use Rattle.hist_model.proofs.Laws.AtPlaces.{in_past, of_past, passed_by, past_is_legal, may_come_at}
 use Rattle.hist_model.proofs.Laws.Takes.{take_is, main_take_is, end_is, main_end_is}
 use Rattle.hist_model.proofs.Laws.Consistent.{taken_as, ended_as, takes_as, ends_as, posts_as, posted_as, posts_as_push, as_runs, legal_is_consistent}
+use Rattle.hist_model.proofs.Laws.OrderPasts.{post_as}
 use Rattle.hist_model.proofs.Laws.Since.{taking, RunningSince, running_since}
 
 -- ---- accepted posts stand at their places
 
--- the accepted post of a task of the pool, or of a main task
-abbrev pub posting : Bool → ℕ → ℕ → ℕ → Kind
-posting false task home delay = kinds.Post task home delay true
-posting true task home delay = kinds.Main task home delay true
-
 -- the accepted post stands in the past
 pub record StandsIn (main : Bool) (past : List Entry) (p : Posted) : Type 0 where
   pub poster : ℕ
-  pub is : IsAt past p.place poster (posting main p.task p.home p.delay)
+  pub is : IsAt past p.place poster (post_as main p.task p.home p.delay)
 
 -- what an entry adds stands behind the past
 new_stands : (main : Bool) (past : List Entry) (seat : ℕ) (kind : Kind)
@@ -65,7 +61,7 @@ record PostedAs (log : List Entry) (place : ℕ) (main : Bool) (task home : ℕ)
   poster : ℕ
   delay : ℕ
   earlier : at < place
-  is : IsAt log at poster (posting main task home delay)
+  is : IsAt log at poster (post_as main task home delay)
 
 posted_as_before : (log : List Entry) (place : ℕ) (main : Bool) (p : Posted) (task home : ℕ) → Contains (posts_as main (take place log)) p
     → p.task ≡ task → p.home ≡ home → PostedAs log place main task home

@@ -1,6 +1,6 @@
 -- What the driver's actions have left in a legal past: each job that was started is posted, shutdown is done only where an
 -- action shut down, and a cancel or a shutdown that has begun has made its first entry.
-use Rattle.std.proofs.Common.{◌≡◌, ℕ, zero, suc, ◌+◌, Bool, true, false, cond, eqb, List, [], ◌∷◌, ◌++◌, length, refl, sym, ap, subst, ◌∙◌, append_assoc, Option, Some, None, inl, inr, ⊎_elim, arith}
+use Rattle.std.proofs.Common.{◌≡◌, ℕ, ◌+◌, Bool, true, false, cond, eqb, List, [], ◌∷◌, ◌++◌, length, refl, sym, ap, subst, ◌∙◌, append_assoc, Option, Some, None, inl, inr, ⊎_elim, arith}
 use Rattle.std.specs.Prelude.{◌⊎◌, ◌||◌, not, nat_le, is_some, slice_get, take}
 use Rattle.std.specs.List.{list_any, AllByRecursion}
 use Rattle.std.specs.Option.{option_map_or}
@@ -31,12 +31,12 @@ use Rattle.task_model.specs.Jobs.{JobPosted, job_post_of, job_post_after, is_can
 use Rattle.task_model.specs.Cells.{main_cell_of}
 use Rattle.task_model.proofs.Growth.{phase_of_push, job_post_of_push, is_cancelled_push}
 use Rattle.hist_model.specs.Views.{own_entries}
-use Rattle.hist_model.specs.Script.{behind, behind_action, Current, current_from, current, wants}
+use Rattle.hist_model.specs.Script.{behind_action, Current, current_from, current, wants}
 use Rattle.hist_model.specs.Allowed.{enters, by_script, by_task, is_ready_worker, may_come}
 use Rattle.hist_model.specs.Legal.{IsLegal}
 use Rattle.hist_model.specs.Laws.Agenda.{Agenda, agenda_from, agenda, first_of, completes, next_agenda}
 use Rattle.hist_model.specs.Laws.Consistent.{is_pump, is_join, DoesOneThing}
-use Rattle.hist_model.proofs.Laws.Agenda.{current_is_first, agenda_push}
+use Rattle.hist_model.proofs.Laws.Agenda.{current_is_first, agenda_push, behind_nothing}
 use Rattle.hist_model.proofs.Laws.Legal.{legal_induction}
 use Rattle.hist_model.proofs.Laws.Choice.{found}
 use Rattle.hist_model.proofs.Laws.OneThing.{wanted_by, job_step_holds, legal_does_one_thing}
@@ -212,10 +212,6 @@ IsPlain x = (j : ℕ) → is_start_of j x ≡ false
 needs_none : (x : Action) (left : List Entry) → behind_action x [] ≡ Some left → IsPlain x
 needs_none (actions.StartJob j) left h = absurd cc
 needs_none x left h = λ j. refl
-
-behind_nothing : (n : ℕ) (left : List Entry) → behind n [] ≡ Some left → left ≡ []
-behind_nothing zero left h = cc
-behind_nothing (suc n) left h = absurd cc
 
 behind_none : (x : Action) (left : List Entry) → behind_action x [] ≡ Some left → left ≡ []
 behind_none (actions.Tick n) left h = behind_nothing n left h
