@@ -1,10 +1,10 @@
 -- The lines of a text, read one after the other, as a loop does.
-use Rattle.std.proofs.Common.{◌≡◌, ℕ, ◌+◌, ◌<◌, ◌≤◌, eqb, List, ◌∷◌, length, get_or, drop, map, Some, Result, Ok, Err, refl, arith, add-one, drop-cons}
+use Rattle.std.proofs.Common.{◌≡◌, ℕ, ◌+◌, ◌<◌, eqb, List, length, get_or, drop, map, Some, Result, Ok, Err, refl}
 use Rattle.std.specs.List.{slice_split}
 use Rattle.std.specs.Str.Lines.{strip_carriage_return}
-use Rattle.std.proofs.lemmas.List.{drop_all, drop-map, length-map}
 use Rattle.script_model.specs.Words.{lines_of}
 use Rattle.script_model.specs.Grammar.{at_line}
+use Rattle.script_model.proofs.Laws.LinesInTurn.{lines_from, no_line_behind}
 use Rattle.nested_loop.specs.declared.fault.NestFault.{NestFault}
 use Rattle.nested_loop.specs.declared.fault.NestFault.TheVariants.{Bad, Memory}
 use Rattle.nested_loop.specs.declared.reader.Reader.{Reader}
@@ -17,36 +17,24 @@ use Rattle.nested_loop.specs.Reader.{TurnsAt}
 abbrev pub rest_read : NestPlan → ℕ → ℕ → List (List ℕ) → Result NestPlan (ℕ × ℕ)
 rest_read nest number i pieces = nest_lines_read nest number (drop i (map strip_carriage_return pieces))
 
-rest-cons : (i : ℕ) (pieces : List (List ℕ)) (line : List ℕ) → i < length pieces → line ≡ get_or pieces i line
-    → drop i (map strip_carriage_return pieces) ≡ strip_carriage_return line ∷ drop (i + 1) (map strip_carriage_return pieces)
-rest-cons i pieces line lt is = rw (
-  drop-map strip_carriage_return i pieces,
-  drop-map strip_carriage_return (i + 1) pieces,
-  add-one,
-  drop-cons pieces i line,
-  ← is,
-) refl
-
 -- a line that is read hands on to the lines behind it
 pub rest-more : (nest next : NestPlan) (number i : ℕ) (pieces : List (List ℕ)) (line : List ℕ) → i < length pieces → line ≡ get_or pieces i line
     → at_line number (nest_line_read nest (strip_carriage_return line)) ≡ Ok next
     → rest_read nest number i pieces ≡ rest_read next (number + 1) (i + 1) pieces
 unfolding nest_lines_read
-rest-more nest next number i pieces line lt is here = rw (rest-cons i pieces line lt is, here) refl
+rest-more nest next number i pieces line lt is here = rw (lines_from i pieces line lt is, here) refl
 
 -- a bad line is the fault of the lines
 rest-bad : (nest : NestPlan) (number i : ℕ) (pieces : List (List ℕ)) (line : List ℕ) (fault : ℕ × ℕ) → i < length pieces → line ≡ get_or pieces i line
     → at_line number (nest_line_read nest (strip_carriage_return line)) ≡ Err fault
     → rest_read nest number i pieces ≡ Err fault
 unfolding nest_lines_read
-rest-bad nest number i pieces line fault lt is here = rw (rest-cons i pieces line lt is, here) refl
+rest-bad nest number i pieces line fault lt is here = rw (lines_from i pieces line lt is, here) refl
 
 -- behind the last line nothing is added
 pub rest-end : (nest : NestPlan) (number i : ℕ) (pieces : List (List ℕ)) → i ≡ length pieces → rest_read nest number i pieces ≡ Ok nest
 unfolding nest_lines_read
-rest-end nest number i pieces e =
-    let le : length (map strip_carriage_return pieces) ≤ i = simp length-map (omega arith) in
-    rw (drop_all i (map strip_carriage_return pieces) le) refl
+rest-end nest number i pieces e = rw (no_line_behind i pieces e) refl
 
 -- what the lines give is what the text gives
 pub whole_text : (bytes : List ℕ) → nest_read bytes ≡ nest_lines_read empty_nest 1 (lines_of bytes)

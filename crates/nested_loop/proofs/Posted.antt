@@ -1,18 +1,12 @@
--- Tasks that are posted behind others, and that none is posted twice then.
-use Rattle.std.proofs.Common.{◌≡◌, ℕ, suc, ◌+◌, ◌<◌, ◌≤◌, Bool, true, false, eqb, List, [], ◌∷◌, ◌++◌, length, get_or, drop, refl, subst, inl, inr, arith, add-one, drop-cons, append_assoc}
+-- Tasks that are posted behind others.
+use Rattle.std.proofs.Common.{◌≡◌, ℕ, suc, ◌+◌, ◌<◌, Bool, true, false, eqb, List, [], ◌∷◌, ◌++◌, length, get_or, drop, refl, add-one, drop-cons, append_assoc}
 use Rattle.std.specs.Prelude.{◌||◌, flat_map}
 use Rattle.std.specs.List.{list_any}
 use Rattle.std.proofs.lemmas.List.{append-nil}
 use Rattle.std.proofs.lemmas.List.Concat.{flat_map-cons}
-use Rattle.std.proofs.lemmas.Bool.{cases_Bool, cond-true, cond-false, eqb-true, or_parts}
-use Rattle.list_laws.proofs.Counts.{count-cons}
-use Rattle.list_laws.proofs.Places.{count_none}
-use Rattle.script_model.specs.Postings.{times}
 use Rattle.script_model.specs.Draft.{is_any_posted}
 use Rattle.nested_loop.specs.declared.nest.NestStep.{NestStep}
 use Rattle.nested_loop.specs.Sound.{posts_of_step}
-
--- ---- tasks behind tasks
 
 -- only which tasks were posted matters, not their order
 is_any_posted-same : (xs ys new : List ℕ) → ((t : ℕ) → list_any (λ posted. eqb posted t) xs ≡ list_any (λ posted. eqb posted t) ys)
@@ -59,20 +53,3 @@ noted-more earlier now steps i d lt fresh is =
       rw (rest-cons steps i d lt, is, is_any_posted_append earlier here behind, fresh) refl,
       rw (rest-cons steps i d lt, is) (append_assoc earlier here behind),
     )
-
--- ---- once
-
--- tasks that were not posted, and are not posted twice, are posted once behind the earlier ones
-pub times_fresh : (earlier new : List ℕ) (t : ℕ) → is_any_posted earlier new ≡ false → times t earlier ≤ 1 → times t earlier + times t new ≤ 1
-times_fresh earlier [] t e once = omega (arith, once)
-times_fresh earlier (u ∷ new) t e once =
-    let neither = or_parts (list_any (λ posted. eqb posted u) earlier) (is_any_posted (u ∷ earlier) new) e in
-    let none : times u earlier ≡ 0 = count_none (λ posted. eqb posted u) earlier neither.0 in
-    let more = count-cons (λ v. eqb v t) u earlier in
-    let still : times t (u ∷ earlier) ≤ 1 = elim (cases_Bool (eqb u t)) [
-      | inl is ↦
-          let none_here : times t earlier ≡ 0 = subst (λ (v : ℕ). times v earlier ≡ 0) (eqb-true u t is) none in
-          omega (arith, more, cond-true {A = ℕ} (eqb u t) 1 0 is, none_here)
-      | inr is ↦ omega (arith, more, cond-false {A = ℕ} (eqb u t) 1 0 is, once)
-    ] in
-    omega (arith, more, count-cons (λ v. eqb v t) u new, times_fresh (u ∷ earlier) new t neither.1 still)

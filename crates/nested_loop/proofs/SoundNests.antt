@@ -1,9 +1,9 @@
 -- Every nest that is read is sound: each line keeps it so.
-use Rattle.std.proofs.Common.{◌≡◌, ℕ, ◌+◌, ◌<◌, ◌≤◌, true, eqb, List, [], ◌∷◌, ◌++◌, length, refl, sym, ap, subst, ◌∙◌, inl, inr, Option, Some, None, Result, Ok, Err, arith}
+use Rattle.std.proofs.Common.{◌≡◌, ℕ, ◌+◌, ◌<◌, ◌≤◌, true, eqb, List, [], ◌∷◌, ◌++◌, length, refl, sym, subst, inl, inr, Option, Some, None, Result, Ok, Err, arith}
 use Rattle.std.specs.Prelude.{not, nat_lt, flat_map, IfSome}
 use Rattle.std.specs.List.{list_all, AllByRecursion}
 use Rattle.std.proofs.lemmas.Bool.{and_parts, ltb-false, ltb-true, not-false}
-use Rattle.std.proofs.lemmas.List.{length_push, flat_map_more}
+use Rattle.std.proofs.lemmas.List.{length_push}
 use Rattle.std.proofs.lemmas.List.Sums.{sum_by_push}
 use Rattle.list_laws.proofs.Counts.{count-append}
 use Rattle.list_laws.proofs.Elements.{AllByRecursion-map}
@@ -15,6 +15,7 @@ use Rattle.script_model.specs.Draft.{is_any_posted}
 use Rattle.script_model.specs.Postings.{times}
 use Rattle.script_model.proofs.Laws.Faults.{ok_same}
 use Rattle.script_model.proofs.Laws.Parts.{behind_ok, nothing}
+use Rattle.script_model.proofs.Laws.Postings.{times_fresh, times_push}
 use Rattle.nested_loop.specs.Plan.{NestPlan, NestTaskPlan}
 use Rattle.task_base.specs.declared.limits.TheConstants.{MOST_QUEUES}
 use Rattle.nested_loop.specs.declared.limits.TheConstants.{MOST_NEST_TASKS, MOST_NEST_STEPS, MOST_NEST_ACTIONS}
@@ -29,7 +30,6 @@ use Rattle.nested_loop.specs.NestReasons.{out_of_order, undeclared, posted_twice
 use Rattle.nested_loop.specs.NestWords.{line_said}
 use Rattle.nested_loop.specs.NestLines.{has_no_actions, are_declared, is_declared_step, is_declared_action, queue_added, task_added, action_added, added, nest_line_read}
 use Rattle.nested_loop.specs.NestGrammar.{empty_nest, nest_lines_read, nest_read, ReadsNest}
-use Rattle.nested_loop.proofs.Posted.{times_fresh}
 use Rattle.nested_loop.proofs.Ranges.{IsStepWithin, IsActionWithin, IsLineWithin, line_within}
 
 -- ---- what is declared
@@ -78,10 +78,6 @@ action_stays nest more (actions.Run bound) h = h
 -- where nothing is done, the actions are sound
 no_actions : (nest : NestPlan) (all : List NestAction) → eqb (length all) 0 ≡ true → AllByRecursion (IsNestActionSound nest) all
 no_actions nest all none = rw (nothing all none) tt
-
--- how often a list with one more posts a task
-times_push : {A : Type 0} (f : A → List ℕ) (xs : List A) (x : A) (t : ℕ) → times t (flat_map f (xs ++ x ∷ [])) ≡ times t (flat_map f xs) + times t (f x)
-times_push f xs x t = ap (times t) (sym (flat_map_more f [] xs x)) ∙ count-append (λ u. eqb u t) (flat_map f xs) (f x)
 
 -- how often a nest posts a task
 times_parts : (nest : NestPlan) (t : ℕ)

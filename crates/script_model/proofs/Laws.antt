@@ -6,6 +6,7 @@ pub mod Declarations
 pub mod Sound
 pub mod Computing
 pub mod Texts
+pub mod LinesInTurn
 pub mod Words
 pub mod Lines
 pub mod Canonical

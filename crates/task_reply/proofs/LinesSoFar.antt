@@ -1,10 +1,10 @@
 -- The lines read one after the other, as a loop does, and the script that stands for them.
-use Rattle.std.proofs.Common.{◌≡◌, ℕ, ◌+◌, ◌<◌, ◌≤◌, eqb, List, [], ◌∷◌, length, get_or, drop, map, Some, Result, Ok, Err, refl, sym, ◌∙◌, arith, add-one, drop-cons}
+use Rattle.std.proofs.Common.{◌≡◌, ℕ, ◌+◌, ◌<◌, eqb, List, length, get_or, drop, map, Some, Result, Ok, Err, refl, sym, ◌∙◌}
 use Rattle.std.specs.List.{slice_split}
 use Rattle.std.specs.Str.Lines.{strip_carriage_return}
-use Rattle.std.proofs.lemmas.List.{drop_all, drop-map, length-map}
 use Rattle.task_base.specs.Plan.{Plan}
 use Rattle.script_model.specs.Grammar.{at_line}
+use Rattle.script_model.proofs.Laws.LinesInTurn.{lines_from, no_line_behind}
 use Rattle.script_model.specs.Laws.Sound.{IsSound}
 use Rattle.task_reply.specs.declared.fault.ReplyFault.{ReplyFault}
 use Rattle.task_reply.specs.declared.fault.ReplyFault.TheVariants.{Bad, Memory}
@@ -17,17 +17,6 @@ use Rattle.task_reply.specs.Tables.{StandsFor, TurnsAt}
 -- the pieces between line feeds
 abbrev pub pieces_of : List ℕ → List (List ℕ)
 pieces_of bytes = slice_split (λ b. eqb b 10) bytes
-
--- the first of the lines from this one on
-rest-cons : (i : ℕ) (pieces : List (List ℕ)) (line : List ℕ) → i < length pieces → line ≡ get_or pieces i line
-    → drop i (map strip_carriage_return pieces) ≡ strip_carriage_return line ∷ drop (i + 1) (map strip_carriage_return pieces)
-rest-cons i pieces line lt is = rw (
-  drop-map strip_carriage_return i pieces,
-  drop-map strip_carriage_return (i + 1) pieces,
-  add-one,
-  drop-cons pieces i line,
-  ← is,
-) refl
 
 -- so many lines were read, what is held stands for them, and the lines behind them give what all give
 pub record ReadSoFar (script : Plan) (bytes : List ℕ) (held : Held) (lines : ℕ) : Type 0 where
@@ -50,7 +39,7 @@ read_more script bytes old new lines line so_far lt is turns =
     record {
       replies = replies;
       stands = stands;
-      rest = sym (rw (rest-cons lines (pieces_of bytes) line lt is, read) refl) ∙ so_far.rest;
+      rest = sym (rw (lines_from lines (pieces_of bytes) line lt is, read) refl) ∙ so_far.rest;
     }
 
 -- behind the last line
@@ -58,8 +47,7 @@ pub read_all : (script : Plan) (bytes : List ℕ) (held : Held) (lines : ℕ) �
     → IsElaboratedBy script bytes held.script × IsSound held.script
 unfolding lines_read
 read_all script bytes held lines so_far e =
-    let le : length (map strip_carriage_return (pieces_of bytes)) ≤ lines = simp length-map (omega arith) in
-    let none = drop_all lines (map strip_carriage_return (pieces_of bytes)) le in (
+    let none = no_line_behind lines (pieces_of bytes) e in (
       record {
         replies = so_far.replies;
         said = sym so_far.rest ∙ rw none refl;
@@ -78,4 +66,4 @@ read_bad script bytes old new lines line (Bad n r) so_far lt is turns number rea
     let at : n ≡ number = cc in
     let why : r ≡ reason = cc in
     let read = turns script so_far.replies so_far.stands in
-    rw (← at, ← why, ← so_far.rest, rest-cons lines (pieces_of bytes) line lt is, read) refl
+    rw (← at, ← why, ← so_far.rest, lines_from lines (pieces_of bytes) line lt is, read) refl

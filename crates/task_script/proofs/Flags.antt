@@ -24,7 +24,8 @@ use Rattle.std.specs.declared.alloc.Global.{Global}
 -- ---- marks
 
 -- one more mark
-are_marks-set : (marks : List Bool) (tasks : List ℕ) (task : ℕ) → AreMarks marks tasks → task < length marks → AreMarks (slice_set marks task true) (task ∷ tasks)
+are_marks-set : (marks : List Bool) (tasks : List ℕ) (task : ℕ) → AreMarks marks tasks → task < length marks
+    → AreMarks (slice_set marks task true) (task ∷ tasks)
 are_marks-set marks tasks task h lt t = by (eqb task t) refl
   where
     by : (b : Bool) → eqb task t ≡ b → slice_index_or (slice_set marks task true) t false ≡ (b || list_any (λ u. eqb u t) tasks)

@@ -1,10 +1,7 @@
 -- The lines of a text, read one after the other, as a loop does.
-use Rattle.std.proofs.Common.{◌≡◌, ℕ, ◌+◌, ◌<◌, ◌≤◌, eqb, List, ◌∷◌, length, get_or, drop, map, Some, Result, Ok, Err, refl, sym, ◌∙◌, arith, add-one, drop-cons}
+use Rattle.std.proofs.Common.{◌≡◌, ℕ, ◌+◌, ◌<◌, eqb, List, length, get_or, drop, map, Some, Result, Ok, Err, refl, sym, ◌∙◌}
 use Rattle.std.specs.List.{slice_split}
 use Rattle.std.specs.Str.Lines.{strip_carriage_return}
-use Rattle.std.proofs.lemmas.List.{drop_all, drop-map, length-map}
-use Rattle.std.proofs.lemmas.List.Splits.{length-slice_split}
-use Rattle.std.proofs.lemmas.List.Sums.{count_by-le-length}
 use Rattle.script_model.specs.Words.{lines_of}
 use Rattle.script_model.specs.Draft.{Draft, empty_draft, script_of}
 use Rattle.script_model.specs.Lines.{line_read}
@@ -13,41 +10,30 @@ use Rattle.task_script.specs.declared.fault.ScriptFault.TheVariants.{Bad, Memory
 use Rattle.task_script.specs.declared.reader.Reader.{Reader}
 use Rattle.task_script.specs.Reader.{TurnsAt}
 use Rattle.script_model.specs.Grammar.{at_line, lines_read, script_read, first_fault}
+use Rattle.script_model.proofs.Laws.LinesInTurn.{lines_from, no_line_behind}
 
 -- what the lines from this one on give
 abbrev pub rest_read : Draft → ℕ → ℕ → List (List ℕ) → Result Draft (ℕ × ℕ)
 rest_read d number i pieces = lines_read d number (drop i (map strip_carriage_return pieces))
-
-rest-cons : (i : ℕ) (pieces : List (List ℕ)) (line : List ℕ) → i < length pieces → line ≡ get_or pieces i line
-    → drop i (map strip_carriage_return pieces) ≡ strip_carriage_return line ∷ drop (i + 1) (map strip_carriage_return pieces)
-rest-cons i pieces line lt is = rw (
-  drop-map strip_carriage_return i pieces,
-  drop-map strip_carriage_return (i + 1) pieces,
-  add-one,
-  drop-cons pieces i line,
-  ← is,
-) refl
 
 -- a line that is read hands on to the lines behind it
 pub rest-more : (d next : Draft) (number i : ℕ) (pieces : List (List ℕ)) (line : List ℕ) → i < length pieces → line ≡ get_or pieces i line
     → at_line number (line_read d (strip_carriage_return line)) ≡ Ok next
     → rest_read d number i pieces ≡ rest_read next (number + 1) (i + 1) pieces
 unfolding lines_read
-rest-more d next number i pieces line lt is here = rw (rest-cons i pieces line lt is, here) refl
+rest-more d next number i pieces line lt is here = rw (lines_from i pieces line lt is, here) refl
 
 -- a bad line is the fault of the lines
 pub rest-bad : (d : Draft) (number i : ℕ) (pieces : List (List ℕ)) (line : List ℕ) (fault : ℕ × ℕ) → i < length pieces → line ≡ get_or pieces i line
     → at_line number (line_read d (strip_carriage_return line)) ≡ Err fault
     → rest_read d number i pieces ≡ Err fault
 unfolding lines_read
-rest-bad d number i pieces line fault lt is here = rw (rest-cons i pieces line lt is, here) refl
+rest-bad d number i pieces line fault lt is here = rw (lines_from i pieces line lt is, here) refl
 
 -- behind the last line nothing is added
 pub rest-end : (d : Draft) (number i : ℕ) (pieces : List (List ℕ)) → i ≡ length pieces → rest_read d number i pieces ≡ Ok d
 unfolding lines_read
-rest-end d number i pieces e =
-    let le : length (map strip_carriage_return pieces) ≤ i = simp length-map (omega arith) in
-    rw (drop_all i (map strip_carriage_return pieces) le) refl
+rest-end d number i pieces e = rw (no_line_behind i pieces e) refl
 
 -- lines that give a draft give its script
 pub script-read : (bytes : List ℕ) (d : Draft) → lines_read empty_draft 1 (lines_of bytes) ≡ Ok d → script_read bytes ≡ Ok (script_of d)
@@ -60,8 +46,8 @@ unfolding script_read
 script-bad bytes line reason e = rw e refl
 
 -- a fault at a line is the first fault of the text
-pub bad-fault : (fault : ScriptFault) (reader : Reader) (bytes : List ℕ) (d : Draft) (number i : ℕ) (text : List ℕ) → i < length (slice_split (λ b. eqb b 10) bytes)
-    → text ≡ get_or (slice_split (λ b. eqb b 10) bytes) i text
+pub bad-fault : (fault : ScriptFault) (reader : Reader) (bytes : List ℕ) (d : Draft) (number i : ℕ) (text : List ℕ)
+    → i < length (slice_split (λ b. eqb b 10) bytes) → text ≡ get_or (slice_split (λ b. eqb b 10) bytes) i text
     → TurnsAt (Err fault) reader (at_line number (line_read d (strip_carriage_return text)))
     → rest_read d number i (slice_split (λ b. eqb b 10) bytes) ≡ lines_read empty_draft 1 (lines_of bytes)
     → (line reason : ℕ) → fault ≡ Bad line reason → first_fault bytes ≡ Some (line, reason)

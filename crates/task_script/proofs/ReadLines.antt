@@ -64,7 +64,8 @@ threshold-read d words =
 runner-read : (d : Draft) (words : List (List ℕ)) → runner_line d words ≡ (runner_said words >>= added d)
 unfolding runner_line runner_said added runner_added
 runner-read d words =
-    sym (then_then (id_at words 0 & said_at kind_named words 1 & said_at priority_named words 2 & said_at behaviour_named words 3 & may_block_at words 4 & ends_at words 5)
+    sym (then_then
+    (id_at words 0 & said_at kind_named words 1 & said_at priority_named words 2 & said_at behaviour_named words 3 & may_block_at words 4 & ends_at words 5)
     (λ x. Ok (commands.Runner x.0 (record { kind = x.1.0; traits = record { priority = x.1.1.0; behaviour = x.1.1.1.0; may_block = x.1.1.1.1.0 } }))) (added d))
 
 queue-read : (d : Draft) (words : List (List ℕ)) → queue_line d words ≡ (queue_said words >>= added d)
@@ -82,7 +83,9 @@ task-read d words =
 job-read : (d : Draft) (words : List (List ℕ)) → job_line d words ≡ (job_said words >>= added d)
 unfolding job_line job_said added job_added
 job-read d words =
-    sym (then_then (id_at words 0 & said_at priority_named words 1 & said_at behaviour_named words 2 & number_at 0 65536 words 3 & number_at 1 64 words 4 & steps_read (drop 5 words))
+    sym (then_then
+    (id_at words 0 & said_at priority_named words 1 & said_at behaviour_named words 2 & number_at 0 65536 words 3 & number_at 1 64 words 4
+    & steps_read (drop 5 words))
     (λ x. Ok (commands.Job x.0 (record { priority = x.1.0; behaviour = x.1.1.0; items = x.1.1.1.0; cap = x.1.1.1.1.0; steps = x.1.1.1.1.1 }))) (added d))
 
 post-read : (d : Draft) (words : List (List ℕ)) → post_line d words ≡ (post_said words >>= added d)

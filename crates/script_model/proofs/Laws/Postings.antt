@@ -39,13 +39,13 @@ posted_at f done x rest all e t =
     rw (← e, flat_map-append f done (x ∷ rest), flat_map-cons f x rest) (omega (arith, outer, inner))
 
 -- those of a list with one more
-times_push : {A : Type 0} (f : A → List ℕ) (xs : List A) (x : A) (t : ℕ) → times t (flat_map f (xs ++ x ∷ [])) ≡ times t (flat_map f xs) + times t (f x)
+pub times_push : {A : Type 0} (f : A → List ℕ) (xs : List A) (x : A) (t : ℕ) → times t (flat_map f (xs ++ x ∷ [])) ≡ times t (flat_map f xs) + times t (f x)
 times_push f xs x t = ap (times t) (sym (flat_map_more f [] xs x)) ∙ count-append (λ u. eqb u t) (flat_map f xs) (f x)
 
 -- ---- once
 
 -- tasks that were not posted, and are not posted twice, are posted once behind the earlier ones
-times_fresh : (earlier new : List ℕ) (t : ℕ) → is_any_posted earlier new ≡ false → times t earlier ≤ 1 → times t earlier + times t new ≤ 1
+pub times_fresh : (earlier new : List ℕ) (t : ℕ) → is_any_posted earlier new ≡ false → times t earlier ≤ 1 → times t earlier + times t new ≤ 1
 times_fresh earlier [] t e once = omega (arith, once)
 times_fresh earlier (u ∷ new) t e once =
     let neither = or_parts (list_any (λ posted. eqb posted u) earlier) (is_any_posted (u ∷ earlier) new) e in
