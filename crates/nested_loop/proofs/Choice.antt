@@ -1,11 +1,11 @@
 -- The front that the main queues choose is the arrival of the least class of its queue, then of the least order, of those
 -- that have not been taken.
-use Rattle.std.proofs.Common.{◌≡◌, ℕ, ◌+◌, ◌<◌, ◌≤◌, length, Bool, true, false, cond, eqb, List, [], ◌∷◌, ◌++◌, map, refl, sym, ap, ◌∙◌, subst, Option, Some, None, arith, inl, inr}
-use Rattle.std.specs.Prelude.{◌⊎◌, ◌||◌, ◌&&◌, not, nat_lt, nat_le, slice_get, filter, find, flat_map, Contains}
+use Rattle.std.proofs.Common.{◌≡◌, ℕ, ◌+◌, ◌<◌, ◌≤◌, length, Bool, true, false, cond, eqb, List, [], ◌∷◌, ◌++◌, refl, sym, ap, ◌∙◌, subst, Option, Some, None, arith, inl, inr}
+use Rattle.std.specs.Prelude.{◌⊎◌, ◌&&◌, not, nat_lt, filter, find, flat_map, Contains}
 use Rattle.std.specs.List.{AllByRecursion, list_all, range_with_len}
 use Rattle.std.specs.Option.{option_map, option_map_or, option_to_list}
-use Rattle.std.proofs.lemmas.Bool.{and_parts, and_from, or_parts, eq-eqb, eqb-true, ltb-false, le-ltb, lt-ltb, true≢false}
-use Rattle.std.proofs.lemmas.Option.{none-some, slice_get-map, slice_get_within}
+use Rattle.std.proofs.lemmas.Bool.{and_parts, and_from, or_parts, eq-eqb, eqb-true, ltb-false, le-ltb, true≢false}
+use Rattle.std.proofs.lemmas.Option.{none-some}
 use Rattle.std.proofs.lemmas.List.Elements.{All-contains, Contains-append_left, Contains-append_right}
 use Rattle.list_laws.specs.Lists.{IsLeast, Ranks, holds_of, least, then_by}
 use Rattle.list_laws.specs.Sorts.{Rises, SameMembers}
@@ -13,7 +13,7 @@ use Rattle.list_laws.proofs.Elements.{AllByRecursion-append, AllByRecursion-cont
 use Rattle.list_laws.proofs.Finds.{find_contains, find_passes}
 use Rattle.list_laws.proofs.Least.{least_is_least, no_least}
 use Rattle.list_laws.proofs.Made.{contains_cases, contains_filter, contains_range, filter_contains, none_contained}
-use Rattle.list_laws.proofs.Ranks.{by_less, by_same, ranks_by, ranks_then_by}
+use Rattle.list_laws.proofs.Ranks.{by_same, ranks_by, ranks_then_by}
 use Rattle.list_laws.proofs.Sorts.{rises_apart}
 use Rattle.list_laws.proofs.Tests.{find-none}
 use Rattle.list_laws.proofs.Values.{some-injective}
@@ -21,9 +21,9 @@ use Rattle.task_base.specs.Plan.{Plan}
 use Rattle.task_base.specs.declared.entry.Entry.{Entry}
 use Rattle.task_base.specs.declared.script.Lane.{Lane}
 use Rattle.task_base.specs.declared.script.Lane.TheVariants.{Immediate, Delayed}
-use Rattle.task_model.specs.MainQueues.{Front, choice_among, chosen_of, class_below, class_of, front_of, fronts_of, is_in_lane, is_of_lane, is_open, fence_of, least_class, of_least_class, open_fronts, order_below, streak_of, voters_of, votes_on}
+use Rattle.task_model.specs.MainQueues.{Front, choice_among, chosen_of, class_below, front_of, fronts_of, is_in_lane, is_of_lane, is_open, fence_of, least_class, of_least_class, open_fronts, order_below, voters_of, votes_on}
 use Rattle.task_model.specs.Orders.{Ordered, main_arrivals, ordered}
-use Rattle.task_model.specs.Posts.{Posted, is_delayed, is_main_taken, main_posts}
+use Rattle.task_model.specs.Posts.{is_delayed, is_main_taken, main_posts}
 use Rattle.task_model.specs.Refusal.{is_closed}
 use Rattle.queue_laws.specs.Fronts.{front_for}
 use Rattle.queue_laws.specs.Orders.{ordered_below}
@@ -40,7 +40,8 @@ found_first {A = A} below p (z ∷ zs) x y rises found among passes =
     by : (b : Bool) → p z ≡ b → cond b (Some z) (find p zs) ≡ Some x → (z ≡ y) ⊎ Contains zs y
         → (find p zs ≡ Some x → Contains zs y → (x ≡ y) ⊎ (below x y ≡ true)) → (x ≡ y) ⊎ (below x y ≡ true)
     by true is here (inl same) rest = inl (sym (some-injective here) ∙ same)
-    by true is here (inr there) rest = inr (ap (λ w. below w y) (sym (some-injective here)) ∙ AllByRecursion-contains (λ w. below z w ≡ true) zs y rises.0 there)
+    by true is here (inr there) rest = inr
+        (ap (λ w. below w y) (sym (some-injective here)) ∙ AllByRecursion-contains (λ w. below z w ≡ true) zs y rises.0 there)
     by false is later (inl same) rest = absurd (true≢false (sym passes ∙ ap p (sym same) ∙ is))
     by false is later (inr there) rest = rest later there
 
@@ -136,7 +137,8 @@ module _ (script : Plan) (entries : List Entry) (plain : IsPlain script entries)
     class_is : front.class ≡ class_at o
     not_behind : front.order ≤ o.order
 
-  ahead : (o : Ordered) → Contains (main_arrivals entries) o → not_taken o ≡ true → is_delayed o.posted ≡ false → o.posted.home < length script.queues → IsAhead o
+  ahead : (o : Ordered) → Contains (main_arrivals entries) o → not_taken o ≡ true → is_delayed o.posted ≡ false → o.posted.home < length script.queues
+      → IsAhead o
   unfolding open_fronts not_taken class_at
   ahead o among waits immediate there =
       let test : Ordered → Bool = λ x. is_in_lane entries o.posted.home Immediate x.posted in
@@ -144,15 +146,19 @@ module _ (script : Plan) (entries : List Entry) (plain : IsPlain script entries)
       (and_from (eqb o.posted.home o.posted.home) (not (is_delayed o.posted)) (eq-eqb o.posted.home o.posted.home refl) (ap not immediate)) waits in
       let found = some_found test (main_arrivals entries) o among passes in
       let f = front_for script entries o.posted.home Immediate found.0 in
-      let is_front = front_is_first_arrival script entries o.posted.home Immediate same ∙ ap (option_map (front_for script entries o.posted.home Immediate)) found.1 in
+      let is_front = front_is_first_arrival script entries o.posted.home Immediate same
+      ∙ ap (option_map (front_for script entries o.posted.home Immediate)) found.1 in
       record {
         front = f;
         among = contains_filter (is_open script entries) (flat_map (fronts_of script entries) (range_with_len 0 (length script.queues))) f
-            (in_lists (fronts_of script entries) (range_with_len 0 (length script.queues)) o.posted.home f (contains_range (length script.queues) o.posted.home there)
-            (subst (λ fs. Contains (option_to_list fs ++ option_to_list (front_of script entries o.posted.home Delayed)) f) (sym is_front) (0, omega arith, refl)))
+            (in_lists (fronts_of script entries) (range_with_len 0 (length script.queues)) o.posted.home f
+            (contains_range (length script.queues) o.posted.home there)
+            (subst (λ fs. Contains (option_to_list fs ++ option_to_list (front_of script entries o.posted.home Delayed)) f) (sym is_front)
+            (0, omega arith, refl)))
             (all_open f);
         class_is = plain.class_is o.posted.home;
-        not_behind = first_or_before found.0 (found_first ordered_below test (main_arrivals entries) found.0 o (main_arrivals_rise entries) found.1 among passes);
+        not_behind = first_or_before found.0
+            (found_first ordered_below test (main_arrivals entries) found.0 o (main_arrivals_rise entries) found.1 among passes);
       }
     where
       first_or_before : (x : Ordered) → (x ≡ o) ⊎ (ordered_below x o ≡ true) → x.order ≤ o.order
@@ -201,13 +207,15 @@ module _ (script : Plan) (entries : List Entry) (plain : IsPlain script entries)
           }
 
   -- a front of the least class is among those of the least class
-  of_least : (fronts : List Front) (least_of : IsLeastClass fronts) (g : Front) → Contains fronts g → g.class ≡ least_of.class → Contains (of_least_class fronts) g
+  of_least : (fronts : List Front) (least_of : IsLeastClass fronts) (g : Front) → Contains fronts g → g.class ≡ least_of.class
+      → Contains (of_least_class fronts) g
   unfolding of_least_class
   of_least fronts least_of g among is = contains_filter (λ f. holds_of (λ class. eqb f.class class) (least_class fronts)) fronts g among
       (ap (holds_of (λ class. eqb g.class class)) least_of.is ∙ eq-eqb g.class least_of.class is)
 
   -- and only those are
-  least_only : (fronts : List Front) (least_of : IsLeastClass fronts) (g : Front) → Contains (of_least_class fronts) g → Contains fronts g × (g.class ≡ least_of.class)
+  least_only : (fronts : List Front) (least_of : IsLeastClass fronts) (g : Front) → Contains (of_least_class fronts) g
+      → Contains fronts g × (g.class ≡ least_of.class)
   unfolding of_least_class
   least_only fronts least_of g among =
       let parts = filter_contains (λ f. holds_of (λ class. eqb f.class class) (least_class fronts)) fronts g among in
@@ -215,7 +223,8 @@ module _ (script : Plan) (entries : List Entry) (plain : IsPlain script entries)
 
   of_least_within : (g : Front) → Contains (of_least_class (open_fronts script entries)) g → Contains (open_fronts script entries) g
   unfolding of_least_class
-  of_least_within g among = (filter_contains (λ f. holds_of (λ class. eqb f.class class) (least_class (open_fronts script entries))) (open_fronts script entries) g among).0
+  of_least_within g among =
+      (filter_contains (λ f. holds_of (λ class. eqb f.class class) (least_class (open_fronts script entries))) (open_fronts script entries) g among).0
 
   module _ (homes_there : AllByRecursion (λ p. p.home < length script.queues) (main_posts entries)) where
     -- an arrival that waits has an open front ahead of it
@@ -236,7 +245,8 @@ module _ (script : Plan) (entries : List Entry) (plain : IsPlain script entries)
     unfolding waiting
     arrival_waits f a = contains_filter not_taken (main_arrivals entries) a.arrival a.among a.waits
 
-    same_arrival : (f : Front) (l : Ordered) → IsLeast order_below (of_least_class (open_fronts script entries)) f → IsLeast before waiting l → f.task ≡ l.posted.task
+    same_arrival : (f : Front) (l : Ordered) → IsLeast order_below (of_least_class (open_fronts script entries)) f → IsLeast before waiting l
+        → f.task ≡ l.posted.task
     unfolding before waiting
     same_arrival f l least_front least_arrival =
         let ahead_of_l = waits_ahead l least_arrival.member in
@@ -257,10 +267,12 @@ module _ (script : Plan) (entries : List Entry) (plain : IsPlain script entries)
         let not_behind = ahead_of_l.not_behind in
         let order_is = a.order_is in
         let same_order : a.arrival.order ≡ l.order = omega (arith, order_of_l, g_order, not_behind, order_is) in
-        sym a.task_is ∙ ap (λ o. o.posted.task) (one_order a.arrival l a.among (filter_contains not_taken (main_arrivals entries) l least_arrival.member).0 same_order)
+        sym a.task_is ∙ ap (λ o. o.posted.task)
+        (one_order a.arrival l a.among (filter_contains not_taken (main_arrivals entries) l least_arrival.member).0 same_order)
       where
         not_lesser : (o x : Ordered) → then_by class_at ordered_below o x ≡ false → class_at x ≤ class_at o
-        not_lesser o x h = ltb-false (class_at o) (class_at x) (or_parts (nat_lt (class_at o) (class_at x)) (eqb (class_at o) (class_at x) && ordered_below o x) h).0
+        not_lesser o x h = ltb-false (class_at o) (class_at x)
+            (or_parts (nat_lt (class_at o) (class_at x)) (eqb (class_at o) (class_at x) && ordered_below o x) h).0
 
         not_earlier : (o x : Ordered) → class_at o ≡ class_at x → then_by class_at ordered_below o x ≡ false → x.order ≤ o.order
         not_earlier o x is h = ltb-false o.order x.order (sym (by_same class_at ordered_below o x is) ∙ h)
@@ -275,11 +287,14 @@ module _ (script : Plan) (entries : List Entry) (plain : IsPlain script entries)
 
     -- the task that is chosen is that of the least arrival that waits
     pub chosen_task : option_map (λ f. f.task) (chosen_of script entries) ≡ option_map (λ o. o.posted.task)
-        (least (then_by (λ o. first_class script o.posted.home) ordered_below) (filter (λ o. not (is_main_taken entries o.posted.task)) (main_arrivals entries)))
+        (least (then_by (λ o. first_class script o.posted.home) ordered_below)
+        (filter (λ o. not (is_main_taken entries o.posted.task)) (main_arrivals entries)))
     unfolding before waiting not_taken class_at
-    chosen_task = ap (option_map (λ f. f.task)) choice_plain ∙ by (least order_below (of_least_class (open_fronts script entries))) refl (least before waiting) refl
+    chosen_task = ap (option_map (λ f. f.task)) choice_plain
+        ∙ by (least order_below (of_least_class (open_fronts script entries))) refl (least before waiting) refl
       where
-        by : (chosen : Option Front) → least order_below (of_least_class (open_fronts script entries)) ≡ chosen → (first : Option Ordered) → least before waiting ≡ first
+        by : (chosen : Option Front) → least order_below (of_least_class (open_fronts script entries)) ≡ chosen → (first : Option Ordered)
+            → least before waiting ≡ first
             → option_map (λ f. f.task) chosen ≡ option_map (λ o. o.posted.task) first
         by None none None is = refl
         by (Some f) is (Some l) first = ap Some (same_arrival f l
@@ -288,7 +303,8 @@ module _ (script : Plan) (entries : List Entry) (plain : IsPlain script entries)
         by None none (Some l) first =
             let ahead_of_l = waits_ahead l (least_is_least before ranks_before waiting l first).member in
             let least_of = least_class_of (open_fronts script entries) ahead_of_l.front ahead_of_l.among in
-            absurd (none_contained least_of.front (subst (λ fs. Contains fs least_of.front) (no_least order_below (of_least_class (open_fronts script entries)) none)
+            absurd (none_contained least_of.front
+            (subst (λ fs. Contains fs least_of.front) (no_least order_below (of_least_class (open_fronts script entries)) none)
             (of_least (open_fronts script entries) least_of least_of.front least_of.among least_of.class_is)))
         by (Some f) is None none =
             let there = (least_is_least order_below (ranks_by (λ x. x.order)) (of_least_class (open_fronts script entries)) f is).member in

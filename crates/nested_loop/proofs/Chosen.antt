@@ -1,21 +1,21 @@
 -- The front and the first of the deferred tasks: they were posted, and have not started.
-use Rattle.std.proofs.Common.{◌≡◌, ℕ, zero, suc, ◌<◌, length, Bool, true, false, cond, eqb, List, [], ◌∷◌, ◌++◌, refl, sym, ap, ◌∙◌, subst, Option, Some, None, arith}
-use Rattle.std.specs.Prelude.{◌&&◌, ◌||◌, not, nat_lt, filter, slice_get, Contains}
-use Rattle.std.specs.List.{filter_map, list_any, AllByRecursion}
-use Rattle.std.specs.Option.{option_map, option_to_list}
-use Rattle.std.proofs.lemmas.Bool.{and_parts, or_parts, true≢false, eq-eqb, eqb-true}
+use Rattle.std.proofs.Common.{◌≡◌, ℕ, zero, suc, length, Bool, true, false, eqb, List, [], ◌∷◌, ◌++◌, refl, sym, ap, ◌∙◌, subst, Option, Some, None, arith}
+use Rattle.std.specs.Prelude.{◌&&◌, ◌||◌, not, nat_lt, slice_get, Contains}
+use Rattle.std.specs.List.{filter_map, list_any}
+use Rattle.std.specs.Option.{option_map}
+use Rattle.std.proofs.lemmas.Bool.{and_parts, true≢false, eq-eqb, eqb-true}
 use Rattle.std.proofs.Math.Bool.{not-not, or-false}
 use Rattle.std.proofs.lemmas.Option.{none-some, same_Some}
 use Rattle.std.proofs.lemmas.List.Folds.{list_any-append}
-use Rattle.list_laws.specs.Lists.{count, least, IsLeast, Ranks}
+use Rattle.list_laws.specs.Lists.{count, least, Ranks}
 use Rattle.list_laws.proofs.Counts.{any_from_count}
 use Rattle.list_laws.proofs.Finds.{contained_counts}
 use Rattle.list_laws.proofs.Values.{some-injective}
-use Rattle.list_laws.proofs.Least.{least_is_least, no_least}
+use Rattle.list_laws.proofs.Least.{least_is_least}
 use Rattle.list_laws.proofs.Made.{filter_contains, filter_map_contains}
 use Rattle.list_laws.proofs.Ranks.{ranks_by, ranks_then_by}
 use Rattle.nested_loop.specs.Plan.{NestPlan}
-use Rattle.nested_loop.specs.Nest.{IsNestPast, Nesting, NestPosted, class_of_post, deferred_by, deferred_tasks, front_task, goes_before, is_started, posted_tasks, starts, waiting_tasks, was_deferred, defers, posted_by, next_event, nesting_of}
+use Rattle.nested_loop.specs.Nest.{IsNestPast, Nesting, NestPosted, class_of_post, deferred_by, deferred_tasks, front_task, goes_before, is_started, posted_tasks, waiting_tasks, was_deferred, defers, posted_by, next_event, nesting_of}
 use Rattle.nested_loop.specs.NestLaws.{was_posted}
 use Rattle.nested_loop.proofs.Comes.{Comes, IsChosen, resumed, waited, nested, defer, comes, past_induction}
 use Rattle.nested_loop.proofs.Growth.{posted_tasks_push, was_deferred_push}
@@ -114,9 +114,11 @@ none_deferred t k = true≢false (sym k)
 
 -- a task that was deferred was posted
 pub deferred_posted : (nest : NestPlan) (past : List Event) → IsNestPast nest past → (t : ℕ) → was_deferred past t ≡ true → was_posted past t ≡ true
-deferred_posted nest past h t = past_induction nest (λ before. was_deferred before t ≡ true → was_posted before t ≡ true) (λ k. absurd (none_deferred t k)) step past h
+deferred_posted nest past h t = past_induction nest (λ before. was_deferred before t ≡ true → was_posted before t ≡ true)
+    (λ k. absurd (none_deferred t k)) step past h
   where
-    at : (before : List Event) (event : Event) (now after : Nesting) → Comes nest before now event after → (was_deferred before t ≡ true → was_posted before t ≡ true)
+    at : (before : List Event) (event : Event) (now after : Nesting) → Comes nest before now event after
+        → (was_deferred before t ≡ true → was_posted before t ≡ true)
         → (was_deferred before t || defers t event) ≡ true → was_posted before t ≡ true
     at before event now after (defer {task = task} deep front not_may) known k = by (was_deferred before t) (eqb task t) refl refl k
       where
@@ -127,9 +129,11 @@ deferred_posted nest past h t = past_induction nest (λ before. was_deferred bef
     at before event now after other known k = known (sym (or-false (was_deferred before t)) ∙ k)
 
     step : (before : List Event) (event : Event) → IsNestPast nest before → next_event nest before ≡ Some event
-        → (was_deferred before t ≡ true → was_posted before t ≡ true) → was_deferred (before ++ event ∷ []) t ≡ true → was_posted (before ++ event ∷ []) t ≡ true
+        → (was_deferred before t ≡ true → was_posted before t ≡ true) → was_deferred (before ++ event ∷ []) t ≡ true → was_posted (before ++ event ∷ []) t
+        ≡ true
     step before event fits is known k = was_posted_stays before event t
-        (at before event (nesting_of nest before) (nesting_of nest (before ++ event ∷ [])) (comes nest before event is) known (sym (was_deferred_push before event t) ∙ k))
+        (at before event (nesting_of nest before) (nesting_of nest (before ++ event ∷ [])) (comes nest before event is) known
+        (sym (was_deferred_push before event t) ∙ k))
 
 -- a chosen task was posted
 pub chosen_posted : (nest : NestPlan) (past : List Event) (depth t : ℕ) → IsNestPast nest past → IsChosen nest past depth t → was_posted past t ≡ true

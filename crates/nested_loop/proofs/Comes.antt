@@ -1,5 +1,5 @@
 -- What the event that comes next is, case by case, and what it leaves open.
-use Rattle.std.proofs.Common.{◌≡◌, ℕ, ◌+◌, Bool, true, false, cond, eqb, List, [], ◌∷◌, ◌++◌, refl, sym, ap, ◌∙◌, subst, Option, Some, None, append_assoc, append-nil, arith}
+use Rattle.std.proofs.Common.{◌≡◌, ℕ, ◌+◌, Bool, true, false, cond, eqb, List, [], ◌∷◌, ◌++◌, refl, sym, subst, Option, Some, None, append_assoc, append-nil, arith}
 use Rattle.std.specs.Prelude.{slice_get}
 use Rattle.std.specs.Option.{option_map, option_or}
 use Rattle.std.proofs.lemmas.Option.{none-some}
@@ -58,8 +58,10 @@ of_action : (nest : NestPlan) (past : List Event) (begun : ℕ) (o : Option Nest
     → option_map action_step o ≡ Some event → Follows nest past (at begun []) event
 unfolding Follows
 of_action nest past begun None is event h = absurd (none-some event h)
-of_action nest past begun (Some (actions.Post task queue)) is event h = subst (λ e. Comes nest past (at begun []) e (after_event nest (at begun []) e)) (some-injective h) (act is)
-of_action nest past begun (Some (actions.Run bound)) is event h = subst (λ e. Comes nest past (at begun []) e (after_event nest (at begun []) e)) (some-injective h)
+of_action nest past begun (Some (actions.Post task queue)) is event h = subst (λ e. Comes nest past (at begun []) e (after_event nest (at begun []) e))
+    (some-injective h) (act is)
+of_action nest past begun (Some (actions.Run bound)) is event h = subst (λ e. Comes nest past (at begun []) e (after_event nest (at begun []) e))
+    (some-injective h)
     (rw is (run is))
 
 of_task : (nest : NestPlan) (past : List Event) (begun task done : ℕ) (outer : List Frame) (o : Option NestStep) → slice_get (steps_of nest task) done ≡ o
@@ -84,7 +86,8 @@ unfolding Follows
 of_nested nest past begun bound ended outer deep None is = quit refl
 of_nested nest past begun bound ended outer deep (Some task) is = by (is_nestable nest task) refl
   where
-    by : (b : Bool) → is_nestable nest task ≡ b → Comes nest past (at begun (frames.Loop bound ended ∷ outer)) (cond b (events.Start task (depth_of past)) (events.Defer task))
+    by : (b : Bool) → is_nestable nest task ≡ b
+        → Comes nest past (at begun (frames.Loop bound ended ∷ outer)) (cond b (events.Start task (depth_of past)) (events.Defer task))
         (after_event nest (at begun (frames.Loop bound ended ∷ outer)) (cond b (events.Start task (depth_of past)) (events.Defer task)))
     by true may = start refl (nested deep is may)
     by false may = defer deep is may
@@ -110,7 +113,8 @@ of_asked nest past begun (frames.Loop bound ended ∷ outer) event h = subst (Fo
     (of_loop nest past begun bound ended outer)
 
 -- what is open after one more event
-pub nesting_of_push : (nest : NestPlan) (past : List Event) (event : Event) → nesting_of nest (past ++ event ∷ []) ≡ after_event nest (nesting_of nest past) event
+pub nesting_of_push : (nest : NestPlan) (past : List Event) (event : Event)
+    → nesting_of nest (past ++ event ∷ []) ≡ after_event nest (nesting_of nest past) event
 unfolding nesting_of
 nesting_of_push nest past event = fold-append (after_event nest) (at 0 []) past (event ∷ [])
 
@@ -147,7 +151,8 @@ pub part_of_past : (nest : NestPlan) (past rest : List Event) (event : Event) �
     → IsNestPast nest past × (next_event nest past ≡ Some event)
 part_of_past nest past rest event h = let parts = split [] past h.each in (record { each = parts.0 }, parts.1)
   where
-    split : (before front : List Event) → ComesAfter nest before (front ++ event ∷ rest) → ComesAfter nest before front × (next_event nest (before ++ front) ≡ Some event)
+    split : (before front : List Event) → ComesAfter nest before (front ++ event ∷ rest)
+        → ComesAfter nest before front × (next_event nest (before ++ front) ≡ Some event)
     split before [] k = (tt, subst (λ b. next_event nest b ≡ Some event) (sym (append-nil before)) k.0)
     split before (x ∷ front) k =
         let parts = split (before ++ x ∷ []) front k.1 in

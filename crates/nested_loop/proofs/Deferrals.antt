@@ -1,16 +1,16 @@
 -- What one more event does to the deferred tasks, and to the depth.
-use Rattle.std.proofs.Common.{◌≡◌, ℕ, suc, ◌+◌, ◌-◌, ◌≤◌, length, Bool, true, false, cond, eqb, List, [], ◌∷◌, ◌++◌, drop, refl, sym, ap, ◌∙◌, subst, Option, Some, None, arith, append-nil}
+use Rattle.std.proofs.Common.{◌≡◌, ℕ, ◌+◌, ◌-◌, ◌≤◌, length, Bool, true, false, cond, eqb, List, [], ◌∷◌, ◌++◌, drop, refl, sym, ap, ◌∙◌, subst, Some, None, arith, append-nil}
 use Rattle.std.specs.Prelude.{◌||◌, ◌&&◌, not, slice_get, filter}
 use Rattle.std.specs.List.{AllByRecursion, filter_map, list_any}
 use Rattle.std.specs.Option.{option_to_list}
-use Rattle.std.proofs.Math.Bool.{or-false, or-true}
-use Rattle.std.proofs.lemmas.Bool.{eq-eqb, true≢false}
+use Rattle.std.proofs.Math.Bool.{or-false}
+use Rattle.std.proofs.lemmas.Bool.{eq-eqb}
 use Rattle.std.proofs.lemmas.Option.{none-some, same_Some}
 use Rattle.std.proofs.lemmas.List.Elements.{filter-append}
 use Rattle.std.proofs.lemmas.List.Folds.{list_any-append}
 use Rattle.list_laws.specs.Lists.{count}
-use Rattle.list_laws.proofs.Counts.{count-append, count_step, count_mono}
-use Rattle.list_laws.proofs.Elements.{AllByRecursion-append, AllByRecursion-map, push_induction}
+use Rattle.list_laws.proofs.Counts.{count-append, count_step}
+use Rattle.list_laws.proofs.Elements.{AllByRecursion-map, push_induction}
 use Rattle.list_laws.proofs.Filters.{filter-filter, filter_all, filter_congr}
 use Rattle.list_laws.proofs.Finds.{none_counted}
 use Rattle.list_laws.proofs.Places.{count-push, count_none}
@@ -41,7 +41,8 @@ deferred_push : (past : List Event) (event : Event) → deferred_tasks (past ++ 
     ≡ filter (λ t. not (starts t event)) (filter (λ t. not (is_started past t)) (filter_map deferred_by past ++ option_to_list (deferred_by event)))
 unfolding deferred_tasks
 deferred_push past event =
-    filter_congr (λ t. not (is_started (past ++ event ∷ []) t)) (λ t. not (is_started past t) && not (starts t event)) (filter_map deferred_by (past ++ event ∷ []))
+    filter_congr (λ t. not (is_started (past ++ event ∷ []) t)) (λ t. not (is_started past t) && not (starts t event))
+    (filter_map deferred_by (past ++ event ∷ []))
     (not_started_push past event)
     ∙ ap (filter (λ t. not (is_started past t) && not (starts t event))) (deferrals_push past event)
     ∙ sym (filter-filter (λ t. not (starts t event)) (λ t. not (is_started past t)) (filter_map deferred_by past ++ option_to_list (deferred_by event)))
@@ -121,7 +122,8 @@ without_first t (x ∷ xs) h once =
 
 count_filter : (p q : ℕ → Bool) (xs : List ℕ) → count p (filter q xs) ≤ count p xs
 count_filter p q [] = omega arith
-count_filter p q (x ∷ xs) = by (q x) (p x) (count_filter p q xs) (Rattle.list_laws.proofs.Counts.count-cons p x (filter q xs)) (Rattle.list_laws.proofs.Counts.count-cons p x xs)
+count_filter p q (x ∷ xs) = by (q x) (p x) (count_filter p q xs) (Rattle.list_laws.proofs.Counts.count-cons p x (filter q xs))
+    (Rattle.list_laws.proofs.Counts.count-cons p x xs)
   where
     by : (b c : Bool) → count p (filter q xs) ≤ count p xs → count p (x ∷ filter q xs) ≡ count p (filter q xs) + cond (p x) 1 0
         → count p (x ∷ xs) ≡ count p xs + cond (p x) 1 0 → count p (cond b (x ∷ filter q xs) (filter q xs)) ≤ count p (x ∷ xs)
@@ -142,7 +144,8 @@ deferred_less nest past t depth fits first =
 pub deferred_same : (past : List Event) (t depth : ℕ) → was_deferred past t ≡ false → deferred_tasks (past ++ events.Start t depth ∷ []) ≡ deferred_tasks past
 unfolding deferred_tasks
 deferred_same past t depth not_deferred =
-    let none = none_counted (λ u. eqb u t) (filter_map deferred_by past) (count_none (λ u. eqb u t) (filter_map deferred_by past) (deferrals_any t past ∙ not_deferred)) in
+    let none = none_counted (λ u. eqb u t) (filter_map deferred_by past)
+    (count_none (λ u. eqb u t) (filter_map deferred_by past) (deferrals_any t past ∙ not_deferred)) in
     deferred_push past (events.Start t depth)
     ∙ ap (λ ts. filter (λ u. not (eqb t u)) (filter (λ u. not (is_started past u)) ts)) (append-nil (filter_map deferred_by past))
     ∙ filter_all (λ u. not (eqb t u)) (filter (λ u. not (is_started past u)) (filter_map deferred_by past))
@@ -204,8 +207,10 @@ depth_less nest past depth fits = omega (arith, count-push is_loop past (events.
 pub depth_kept : (past : List Event) (event : Event) → is_loop event ≡ false → is_quit event ≡ false → depth_of (past ++ event ∷ []) ≡ depth_of past
 unfolding depth_of
 depth_kept past event no_loop no_quit =
-    let opened : count is_loop (past ++ event ∷ []) ≡ count is_loop past + 0 = count-push is_loop past event ∙ ap (λ b. count is_loop past + cond b 1 0) no_loop in
-    let quits : count is_quit (past ++ event ∷ []) ≡ count is_quit past + 0 = count-push is_quit past event ∙ ap (λ b. count is_quit past + cond b 1 0) no_quit in
+    let opened : count is_loop (past ++ event ∷ []) ≡ count is_loop past + 0 = count-push is_loop past event
+    ∙ ap (λ b. count is_loop past + cond b 1 0) no_loop in
+    let quits : count is_quit (past ++ event ∷ []) ≡ count is_quit past + 0 = count-push is_quit past event
+    ∙ ap (λ b. count is_quit past + cond b 1 0) no_quit in
     omega (arith, opened, quits)
 
 -- outside of all loops it is 0
@@ -236,7 +241,8 @@ ended_few nest = past_induction nest (λ past. AllByRecursion (HasEnded (length 
     (at past event (nesting_of nest past) (nesting_of nest (past ++ event ∷ [])) (comes nest past event next)
     (AllByRecursion-map (HasEnded (length past)) (HasEnded (length past + 1)) (nesting_of nest past).frames (more_ended (length past)) all) all))
   where
-    ended_one : (n : ℕ) (outer : List Frame) → AllByRecursion (HasEnded n) outer → AllByRecursion (HasEnded (n + 1)) outer → AllByRecursion (HasEnded (n + 1)) (task_ended outer)
+    ended_one : (n : ℕ) (outer : List Frame) → AllByRecursion (HasEnded n) outer → AllByRecursion (HasEnded (n + 1)) outer
+        → AllByRecursion (HasEnded (n + 1)) (task_ended outer)
     ended_one n [] few more = tt
     ended_one n (frames.Task task done ∷ outer) few more = more
     ended_one n (frames.Loop bound ended ∷ outer) few more = (omega (arith, few.0), more.1)

@@ -1,10 +1,9 @@
 -- The front of a nest is the front that the main queues choose.
-use Rattle.std.proofs.Common.{◌≡◌, ℕ, ◌+◌, ◌<◌, ◌≤◌, length, Bool, true, false, cond, eqb, List, [], ◌∷◌, ◌++◌, map, refl, sym, ap, ◌∙◌, subst, Option, Some, None, arith, length-append}
+use Rattle.std.proofs.Common.{◌≡◌, ℕ, ◌+◌, ◌<◌, length, Bool, true, false, cond, eqb, List, [], ◌∷◌, ◌++◌, map, refl, sym, ap, ◌∙◌, subst, Option, Some, None, arith, length-append}
 use Rattle.std.specs.Prelude.{◌||◌, ◌&&◌, not, nat_lt, slice_get, filter}
 use Rattle.std.specs.List.{AllByRecursion}
 use Rattle.std.specs.Option.{option_map, option_map_or}
-use Rattle.std.proofs.lemmas.Bool.{and_parts, le-ltb, lt-ltb, ltb-true}
-use Rattle.std.proofs.Math.Bool.{or-false}
+use Rattle.std.proofs.lemmas.Bool.{lt-ltb}
 use Rattle.std.proofs.lemmas.Option.{slice_get-map}
 use Rattle.list_laws.specs.Lists.{least, least_from, then_by, Ranks}
 use Rattle.list_laws.specs.Sorts.{Rises, SameMembers}
@@ -14,16 +13,15 @@ use Rattle.list_laws.proofs.Least.{least-map}
 use Rattle.list_laws.proofs.Ranks.{ranks_by}
 use Rattle.list_laws.proofs.Rises.{rises-filter}
 use Rattle.list_laws.proofs.Sorts.{rises-append}
-use Rattle.task_base.specs.Plan.{Plan}
 use Rattle.task_base.specs.declared.entry.Entry.{Entry}
 use Rattle.task_model.specs.MainQueues.{chosen_of, voters_of}
 use Rattle.task_model.specs.Orders.{Ordered, main_arrivals, ordered}
-use Rattle.task_model.specs.Posts.{Posted, is_main_taken, main_posts}
+use Rattle.task_model.specs.Posts.{is_main_taken, main_posts}
 use Rattle.queue_laws.specs.Orders.{ordered_below}
 use Rattle.queue_laws.proofs.Arrivals.{main_arrivals_rise}
 use Rattle.sequence_manager.specs.Postings.{MainPosting}
 use Rattle.nested_loop.specs.Plan.{NestPlan}
-use Rattle.nested_loop.specs.Nest.{NestPosted, class_of_post, front_task, goes_before, is_started, posted_by, posted_tasks, waiting_tasks, was_deferred}
+use Rattle.nested_loop.specs.Nest.{NestPosted, class_of_post, front_task, is_started, posted_by, posted_tasks, waiting_tasks, was_deferred}
 use Rattle.nested_loop.specs.Waiting.{Tells, posting_of_entry, posting_of_nest, queue_of_class, script_of}
 use Rattle.nested_loop.specs.declared.event.Event.{Event}
 use Rattle.nested_loop.specs.declared.event.Event.TheVariants as events
@@ -117,7 +115,8 @@ front_is nest past =
     ap (option_map (λ p. p.task)) (least_first (class_of_post nest) earlier (ranks_by (λ p. p.place)) (waiting_tasks past)
     (rises-filter earlier (λ p. not (was_deferred past p.task) && not (is_started past p.task)) (posted_tasks past) (posted_in_order past).rises))
     ∙ of_map (least (λ a b. nat_lt (class_of_post nest a) (class_of_post nest b)) (waiting_tasks past))
-    ∙ ap (option_map (λ m. m.task)) (sym (least-map (λ a b. nat_lt (class_of_post nest a) (class_of_post nest b)) (lesser_class nest) posting_of_nest (waiting_tasks past)
+    ∙ ap (option_map (λ m. m.task))
+    (sym (least-map (λ a b. nat_lt (class_of_post nest a) (class_of_post nest b)) (lesser_class nest) posting_of_nest (waiting_tasks past)
     (λ a b. ap (λ n. nat_lt n (class_of_posting nest (posting_of_nest b))) (class_in_script nest a.queue)
     ∙ ap (λ n. nat_lt (class_of_post nest a) n) (class_in_script nest b.queue))))
   where

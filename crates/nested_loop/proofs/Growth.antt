@@ -1,13 +1,11 @@
 -- What one more event does to the notions of the past.
-use Rattle.std.proofs.Common.{◌≡◌, ℕ, ◌+◌, Bool, true, false, cond, List, [], ◌∷◌, ◌++◌, length, refl, sym, ap, ◌∙◌, Option, Some, None, append_assoc, append-nil, arith, add-zero}
-use Rattle.std.specs.Prelude.{◌||◌, not, filter}
+use Rattle.std.proofs.Common.{◌≡◌, ℕ, ◌+◌, List, [], ◌∷◌, ◌++◌, length, refl, sym, ap, ◌∙◌, Option, Some, None, append_assoc, append-nil, arith, add-zero}
+use Rattle.std.specs.Prelude.{◌||◌}
 use Rattle.std.specs.List.{filter_map, list_any}
 use Rattle.std.specs.Option.{option_to_list}
 use Rattle.std.proofs.Math.Bool.{or-false}
 use Rattle.std.proofs.lemmas.List.Folds.{list_any-append}
-use Rattle.list_laws.specs.Lists.{count}
-use Rattle.list_laws.proofs.Places.{count-push}
-use Rattle.nested_loop.specs.Nest.{NestPosted, defers, deferred_by, deferred_tasks, is_loop, is_quit, is_started, posted_by, posted_from, posted_tasks, starts, was_deferred}
+use Rattle.nested_loop.specs.Nest.{defers, deferred_by, is_started, posted_by, posted_from, posted_tasks, starts, was_deferred}
 use Rattle.nested_loop.specs.declared.event.Event.{Event}
 
 pub is_started_push : (past : List Event) (event : Event) (t : ℕ) → is_started (past ++ event ∷ []) t ≡ (is_started past t || starts t event)
@@ -30,7 +28,8 @@ pub posted_tasks_push : (past : List Event) (event : Event) → posted_tasks (pa
 unfolding posted_tasks
 posted_tasks_push past event = posted_from-append 0 past event ∙ ap (λ n. posted_from 0 past ++ posted_by n event) (omega arith)
 
-pub deferrals_push : (past : List Event) (event : Event) → filter_map deferred_by (past ++ event ∷ []) ≡ filter_map deferred_by past ++ option_to_list (deferred_by event)
+pub deferrals_push : (past : List Event) (event : Event)
+    → filter_map deferred_by (past ++ event ∷ []) ≡ filter_map deferred_by past ++ option_to_list (deferred_by event)
 deferrals_push [] event = by (deferred_by event)
   where
     by : (o : Option ℕ) → Rattle.std.specs.List.cons_option o [] ≡ option_to_list o

@@ -1,32 +1,29 @@
 -- What the manager of the main queues is asked at each event of a nest, and what it then stands for.
-use Rattle.std.proofs.Common.{◌≡◌, ℕ, ◌+◌, ◌*◌, ◌<◌, ◌≤◌, ◌^◌, length, Bool, true, false, cond, eqb, List, [], ◌∷◌, ◌++◌, map, refl, sym, ap, ◌∙◌, subst, Option, Some, None, arith, length-append, append-nil}
-use Rattle.std.specs.Prelude.{◌||◌, not, filter, find}
+use Rattle.std.proofs.Common.{◌≡◌, ℕ, ◌+◌, ◌<◌, ◌^◌, length, Bool, true, false, eqb, List, [], ◌∷◌, ◌++◌, map, refl, sym, ap, ◌∙◌, subst, Option, Some, None, arith, length-append, append-nil}
+use Rattle.std.specs.Prelude.{◌||◌, not, filter}
 use Rattle.std.specs.List.{AllByRecursion}
 use Rattle.std.specs.Option.{option_map}
-use Rattle.std.proofs.Math.Bool.{or-false, or-true}
-use Rattle.std.proofs.lemmas.Bool.{eq-eqb, eqb-true, true≢false}
+use Rattle.std.proofs.Math.Bool.{or-false}
+use Rattle.std.proofs.lemmas.Bool.{eqb-true, true≢false}
 use Rattle.std.proofs.lemmas.List.{length-map, map-append}
 use Rattle.list_laws.specs.Lists.{count, keep}
 use Rattle.list_laws.proofs.Elements.{AllByRecursion-append, AllByRecursion-contains, AllByRecursion-map}
 use Rattle.list_laws.proofs.Filters.{filter-map}
 use Rattle.list_laws.proofs.Finds.{none_found}
 use Rattle.task_base.specs.declared.entry.Entry.{Entry}
-use Rattle.task_base.specs.declared.entry.Kind.{Kind}
 use Rattle.task_base.specs.declared.entry.Kind.TheVariants as kinds
-use Rattle.task_model.specs.MainQueues.{chosen_of}
-use Rattle.task_model.specs.Posts.{Posted, is_main_taken, main_post_of, main_posted_by, main_posts, main_takes, post_behind}
+use Rattle.task_model.specs.Posts.{Posted, is_main_taken, main_post_of, main_posted_by, main_posts}
 use Rattle.task_model.specs.Refusal.{is_closed}
-use Rattle.task_model.specs.Seats.{Running, running, running_after}
+use Rattle.task_model.specs.Seats.{Running, running}
 use Rattle.task_model.proofs.Growth.{is_main_taken_push, main_posts_push, running_push}
 use Rattle.sequence_manager.specs.Calls.{CanPost as MainCanPost, CanTake as MainCanTake, IsTaken, RunsMain, TakeAnswers, after_end, after_main, after_take}
-use Rattle.sequence_manager.specs.Pasts.{IsMainPast, IsPostedTo}
-use Rattle.sequence_manager.specs.Postings.{MainPosting, main_postings}
+use Rattle.sequence_manager.specs.Pasts.{IsPostedTo}
+use Rattle.sequence_manager.specs.Postings.{main_postings}
 use Rattle.sequence_manager.specs.StandsFor.{StandsFor}
 use Rattle.sequence_manager.specs.declared.manager.Manager.{Manager}
 use Rattle.nested_loop.specs.Keeping.{CanPost, CanTake, IsTakenFrom, Keeps, takes}
-use Rattle.nested_loop.specs.Nest.{IsNestPast, NestPosted, defers, front_task, is_started, next_event, posted_by, posted_tasks, starts, was_deferred}
+use Rattle.nested_loop.specs.Nest.{IsNestPast, NestPosted, defers, front_task, is_started, posted_by, posted_tasks, starts, was_deferred}
 use Rattle.nested_loop.specs.Plan.{NestPlan}
-use Rattle.nested_loop.specs.Room.{events_bound}
 use Rattle.nested_loop.specs.Sound.{IsSoundNest}
 use Rattle.nested_loop.specs.Waiting.{Tells, is_plain, posting_of_entry, posting_of_nest, script_of}
 use Rattle.nested_loop.specs.declared.event.Event.{Event}
@@ -35,8 +32,8 @@ use Rattle.nested_loop.specs.declared.waiting.Waiting.{Waiting}
 use Rattle.nested_loop.proofs.Choice.{chosen_declared}
 use Rattle.nested_loop.proofs.Front.{chosen_is_front, no_voters}
 use Rattle.nested_loop.proofs.Growth.{is_started_push, posted_tasks_push, was_deferred_push}
-use Rattle.nested_loop.proofs.Known.{next_within, past_within, posts_new}
-use Rattle.nested_loop.proofs.MainScript.{events_few, is_main_script, posted_to}
+use Rattle.nested_loop.proofs.Known.{past_within, posts_new}
+use Rattle.nested_loop.proofs.MainScript.{events_few, posted_to}
 use Rattle.nested_loop.proofs.Plain.{plain_past}
 
 -- ---- the test of what was taken
@@ -201,7 +198,8 @@ homes_there : (nest : NestPlan) (entries : List Entry) (manager : Manager) → S
     → AllByRecursion (λ p. p.home < length (script_of nest).queues) (main_posts entries)
 homes_there nest entries manager stands = AllByRecursion-map (λ p. IsPostedTo (script_of nest) p.task p.home) (λ p. p.home < length (script_of nest).queues)
     (main_posts entries)
-    (λ p among. AllByRecursion-contains (λ m. m.queue < length (script_of nest).queues) (main_postings (script_of nest)) (record { task = p.task; queue = p.home })
+    (λ p among. AllByRecursion-contains (λ m. m.queue < length (script_of nest).queues) (main_postings (script_of nest))
+    (record { task = p.task; queue = p.home })
     stands.script_fits.homes_there among)
     stands.past_fits.posted
 
@@ -237,7 +235,8 @@ tells_taken past entries task queue cell event it tells = record {
       ap (map posting_of_entry) (main_posts_push (entries ++ take ∷ []) end ∙ append-nil (main_posts (entries ++ take ∷ []))
       ∙ main_posts_push entries take ∙ append-nil (main_posts entries))
       ∙ tells.posts
-      ∙ ap (map posting_of_nest) (sym (posted_tasks_push past event ∙ ap (λ ps. posted_tasks past ++ ps) (it.no_post (length past)) ∙ append-nil (posted_tasks past)));
+      ∙ ap (map posting_of_nest)
+      (sym (posted_tasks_push past event ∙ ap (λ ps. posted_tasks past ++ ps) (it.no_post (length past)) ∙ append-nil (posted_tasks past)));
   taken = λ t.
       is_main_taken_push (entries ++ take ∷ []) end t ∙ or-false (is_main_taken (entries ++ take ∷ []) t)
       ∙ is_main_taken_push entries take t ∙ ap (λ b. b || eqb task t) (tells.taken t)

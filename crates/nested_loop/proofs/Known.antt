@@ -1,6 +1,6 @@
 -- What a sound nest posts: tasks and queues that are declared, no task twice, and so no more events than there is room for.
-use Rattle.std.proofs.Common.{◌≡◌, ℕ, zero, suc, ◌+◌, ◌*◌, ◌<◌, ◌≤◌, length, Bool, true, false, cond, eqb, List, [], ◌∷◌, ◌++◌, drop, refl, sym, ap, ◌∙◌, subst, Option, Some, None, arith, append-nil, length-append}
-use Rattle.std.specs.Prelude.{◌||◌, slice_get, sum_by, flat_map, find}
+use Rattle.std.proofs.Common.{◌≡◌, ℕ, ◌+◌, ◌*◌, ◌<◌, ◌≤◌, length, Bool, true, false, cond, eqb, List, [], ◌∷◌, ◌++◌, refl, sym, ap, subst, Option, Some, None, arith, length-append}
+use Rattle.std.specs.Prelude.{◌||◌, slice_get, sum_by, flat_map}
 use Rattle.std.specs.List.{AllByRecursion, list_any}
 use Rattle.std.specs.Option.{IfSome, option_map_or}
 use Rattle.std.proofs.lemmas.Bool.{eqb-true, eq-eqb, true≢false}
@@ -39,7 +39,8 @@ has_steps nest t done step h = by (slice_get nest.tasks t) refl h
     by None is k = absurd (none-some step k)
     by (Some task) is k = (task, is, k)
 
-action_is_sound : (nest : NestPlan) → IsSoundNest nest → (begun : ℕ) (action : NestAction) → slice_get nest.actions begun ≡ Some action → IsNestActionSound nest action
+action_is_sound : (nest : NestPlan) → IsSoundNest nest → (begun : ℕ) (action : NestAction) → slice_get nest.actions begun ≡ Some action
+    → IsNestActionSound nest action
 action_is_sound nest sound begun action h =
     subst (λ o. IfSome o (IsNestActionSound nest)) h (slice_get_all (IsNestActionSound nest) nest.actions begun sound.actions_sound)
 
@@ -67,7 +68,8 @@ posted_declared nest sound = past_induction nest (λ past. AllByRecursion (IsDec
     (posted_by (length past) event) all
     (posts_declared nest sound past (nesting_of nest past) event (nesting_of nest (past ++ event ∷ [])) (comes nest past event next))))
 
-one_declared : (nest : NestPlan) (ps : List NestPosted) (t : ℕ) → AllByRecursion (IsDeclared nest) ps → list_any (λ p. eqb p.task t) ps ≡ true → t < length nest.tasks
+one_declared : (nest : NestPlan) (ps : List NestPosted) (t : ℕ) → AllByRecursion (IsDeclared nest) ps → list_any (λ p. eqb p.task t) ps ≡ true
+    → t < length nest.tasks
 one_declared nest [] t all h = absurd (true≢false (sym h))
 one_declared nest (p ∷ ps) t all h = by (eqb p.task t) refl h (one_declared nest ps t all.1)
   where
@@ -201,7 +203,8 @@ posts_total nest t =
     let parts = count-append (λ u. eqb u t) (flat_map posts_of_task nest.tasks) (flat_map posts_of_action nest.actions) in
     let acts = times-flat_map t posts_of_action nest.actions in
     let tasks = times-flat_map t posts_of_task nest.tasks in
-    let each = sum_by-congr {A = NestTaskPlan} (λ task. sum_by (λ step. times t (posts_of_step step)) task.steps + 0) (λ task. times t (posts_of_task task)) nest.tasks
+    let each = sum_by-congr {A = NestTaskPlan} (λ task. sum_by (λ step. times t (posts_of_step step)) task.steps + 0)
+    (λ task. times t (posts_of_task task)) nest.tasks
     (λ task. let steps = times-flat_map t posts_of_step task.steps in omega (arith, steps)) in
     omega (arith, parts, acts, tasks, each)
 
@@ -225,7 +228,8 @@ posted_counts t = push_induction (λ past. count (λ p. eqb p.task t) (posted_ta
     omega (arith, same, grown, parts, one, more))
 
 -- no task was posted twice
-pub posted_once : (nest : NestPlan) → IsSoundNest nest → (past : List Event) → IsNestPast nest past → (t : ℕ) → count (λ p. eqb p.task t) (posted_tasks past) ≤ 1
+pub posted_once : (nest : NestPlan) → IsSoundNest nest → (past : List Event) → IsNestPast nest past → (t : ℕ)
+    → count (λ p. eqb p.task t) (posted_tasks past) ≤ 1
 posted_once nest sound past fits t =
     let within = spent (posts_it t) (posts_of t) (posts_weigh t) nest sound past fits in
     omega (arith, within, posts_total nest t, posted_counts t past, sound.posted_once t)

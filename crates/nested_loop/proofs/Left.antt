@@ -1,5 +1,5 @@
 -- What is left to do: each event takes its weight from it.
-use Rattle.std.proofs.Common.{◌≡◌, ℕ, zero, suc, ◌+◌, ◌*◌, ◌<◌, ◌≤◌, length, Bool, true, false, cond, eqb, List, [], ◌∷◌, ◌++◌, drop, refl, sym, ap, ◌∙◌, subst, Option, Some, None, arith, add-one}
+use Rattle.std.proofs.Common.{◌≡◌, ℕ, zero, suc, ◌+◌, ◌*◌, ◌<◌, ◌≤◌, length, Bool, true, false, cond, List, [], ◌∷◌, ◌++◌, drop, refl, sym, ap, ◌∙◌, Some, arith, add-one}
 use Rattle.std.specs.Prelude.{◌||◌, slice_get, sum_by}
 use Rattle.std.specs.Option.{option_map_or}
 use Rattle.std.proofs.lemmas.Bool.{eq-eqb, ne_eqb}
@@ -7,7 +7,7 @@ use Rattle.std.proofs.Math.Bool.{or-false, or-true}
 use Rattle.std.proofs.lemmas.Option.{none-some, same_Some}
 use Rattle.std.proofs.lemmas.List.Sums.{sum_by-cons}
 use Rattle.nested_loop.specs.Plan.{NestPlan, NestTaskPlan}
-use Rattle.nested_loop.specs.Nest.{IsNestPast, Nesting, defers, deferred_by, front_task, is_started, nesting_of, next_event, starts, steps_of, depth_of, task_ended, was_deferred}
+use Rattle.nested_loop.specs.Nest.{IsNestPast, Nesting, defers, is_started, starts, steps_of, depth_of, task_ended, was_deferred}
 use Rattle.nested_loop.specs.NestLaws.{was_posted}
 use Rattle.nested_loop.specs.declared.event.Event.{Event}
 use Rattle.nested_loop.specs.declared.event.Event.TheVariants as events
@@ -17,7 +17,7 @@ use Rattle.nested_loop.specs.declared.nest.NestAction.{NestAction}
 use Rattle.nested_loop.specs.declared.nest.NestAction.TheVariants as actions
 use Rattle.nested_loop.specs.declared.nest.NestStep.{NestStep}
 use Rattle.nested_loop.specs.declared.nest.NestStep.TheVariants as steps
-use Rattle.nested_loop.proofs.Comes.{Comes, IsChosen, act, run, say, post, loop, end, quit, start, defer, comes, past_induction}
+use Rattle.nested_loop.proofs.Comes.{Comes, act, run, say, post, loop, end, quit, start, defer}
 use Rattle.nested_loop.proofs.Growth.{is_started_push, was_deferred_push}
 use Rattle.nested_loop.proofs.Chosen.{chosen_not_started, chosen_posted, front_waits, waits_posted}
 
@@ -75,7 +75,8 @@ sum_from-congr f g i [] h = refl
 sum_from-congr f g i (x ∷ xs) h = let here = h i x in let rest = sum_from-congr f g (i + 1) xs h in omega (arith, here, rest)
 
 -- before the place of the change
-sum_from-behind : {A : Type 0} (f g : ℕ → A → ℕ) (i t : ℕ) (xs : List A) → ((u : ℕ) (y : A) → (t ≡ u → ⊥) → f u y ≡ g u y) → t < i → sum_from f i xs ≡ sum_from g i xs
+sum_from-behind : {A : Type 0} (f g : ℕ → A → ℕ) (i t : ℕ) (xs : List A) → ((u : ℕ) (y : A) → (t ≡ u → ⊥) → f u y ≡ g u y) → t < i
+    → sum_from f i xs ≡ sum_from g i xs
 sum_from-behind f g i t [] h lt = refl
 sum_from-behind f g i t (x ∷ xs) h lt =
     let here = h i x (λ same. omega (arith, same, lt)) in

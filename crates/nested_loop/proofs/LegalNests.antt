@@ -1,6 +1,6 @@
 -- What every legal log of a nest is like.
-use Rattle.std.proofs.Common.{◌≡◌, ℕ, ◌<◌, ◌≤◌, Bool, true, false, eqb, List, [], ◌∷◌, ◌++◌, refl, sym, ap, ◌∙◌, subst, Option, Some, None, arith, append-nil, append_assoc}
-use Rattle.std.specs.Prelude.{◌&&◌, slice_get}
+use Rattle.std.proofs.Common.{◌≡◌, ℕ, ◌<◌, ◌≤◌, true, false, eqb, List, [], ◌∷◌, ◌++◌, refl, sym, ap, ◌∙◌, subst, Option, Some, None, arith, append-nil, append_assoc}
+use Rattle.std.specs.Prelude.{slice_get}
 use Rattle.std.specs.List.{filter_map, list_any}
 use Rattle.std.proofs.lemmas.Bool.{and_from, eq-eqb, eqb-true, true≢false}
 use Rattle.std.proofs.lemmas.Option.{none-some}
@@ -8,13 +8,13 @@ use Rattle.list_laws.specs.Lists.{count}
 use Rattle.list_laws.proofs.Places.{count_once-push}
 use Rattle.nested_loop.specs.Plan.{NestPlan}
 use Rattle.nested_loop.specs.Nest.{ComesAfter, IsLegalNest, IsNestPast, Nesting, asked_by, deferred_tasks, depth_of, is_nestable, is_started, nesting_of, next_event, starts, task_ended, was_deferred}
-use Rattle.nested_loop.specs.NestLaws.{DeferredTasksStartInOrder, NestedTasksAreNestable, StartsBehind, TasksAreNested, TasksStartOnce, close_in_order, was_posted}
+use Rattle.nested_loop.specs.NestLaws.{DeferredTasksStartInOrder, NestedTasksAreNestable, StartsBehind, TasksAreNested, TasksStartOnce, close_in_order}
 use Rattle.nested_loop.specs.declared.event.Event.{Event}
 use Rattle.nested_loop.specs.declared.event.Event.TheVariants as events
 use Rattle.nested_loop.specs.declared.frame.Frame.{Frame}
 use Rattle.nested_loop.specs.declared.frame.Frame.TheVariants as frames
 use Rattle.nested_loop.proofs.Chosen.{chosen_not_started, chosen_posted, first_deferred_is, front_waits}
-use Rattle.nested_loop.proofs.Comes.{Comes, IsChosen, resumed, waited, nested, act, run, say, post, loop, end, quit, start, defer, comes, part_of_past, past_grows, past_induction}
+use Rattle.nested_loop.proofs.Comes.{Comes, IsChosen, resumed, waited, nested, act, run, say, post, loop, end, quit, start, defer, comes, part_of_past, past_induction}
 
 -- what is known where a task starts
 StartsAs : NestPlan → List Event → Event → Type 0
@@ -29,7 +29,8 @@ starts_as nest past now event after other = tt
 -- a task that starts behind a past is one that was chosen
 chosen_at : (nest : NestPlan) (past : List Event) (task depth : ℕ) → next_event nest past ≡ Some (events.Start task depth) → IsChosen nest past depth task
 unfolding StartsAs
-chosen_at nest past task depth next = starts_as nest past (nesting_of nest past) (events.Start task depth) (nesting_of nest (past ++ events.Start task depth ∷ []))
+chosen_at nest past task depth next = starts_as nest past (nesting_of nest past) (events.Start task depth)
+    (nesting_of nest (past ++ events.Start task depth ∷ []))
     (comes nest past (events.Start task depth) next)
 
 -- so it is at each place of a legal log
@@ -59,7 +60,9 @@ once nest t = past_induction nest (λ past. count (starts t) past ≤ 1) (omega 
 pub tasks_start_once : (nest : NestPlan) (log : List Event) → IsLegalNest nest log → TasksStartOnce log
 tasks_start_once nest log legal = record {
   once = λ t. once nest t log legal.is_past;
-  posted_before = λ past task depth behind. let at = chosen_behind nest log past task depth legal.is_past behind in chosen_posted nest past depth task at.0 at.1;
+  posted_before = λ past task depth behind.
+      let at = chosen_behind nest log past task depth legal.is_past behind in
+      chosen_posted nest past depth task at.0 at.1;
 }
 
 -- the tasks that are open, the innermost first
@@ -76,7 +79,8 @@ ended_tasks [] = refl
 ended_tasks (frames.Task task begun ∷ outer) = refl
 ended_tasks (frames.Loop bound ended ∷ outer) = refl
 
-opens : (open_ones : List ℕ) (task depth : ℕ) (rest : List Event) → close_in_order open_ones (events.Start task depth ∷ rest) ≡ close_in_order (task ∷ open_ones) rest
+opens : (open_ones : List ℕ) (task depth : ℕ) (rest : List Event)
+    → close_in_order open_ones (events.Start task depth ∷ rest) ≡ close_in_order (task ∷ open_ones) rest
 opens [] task depth rest = refl
 opens (x ∷ xs) task depth rest = refl
 
@@ -115,10 +119,12 @@ closes : (nest : NestPlan) (past : List Event) (now : Nesting) (event : Event) (
 unfolding open_tasks open_task passes
 closes nest past now event after rest (act {begun} {task} {queue} h) k = passes_post [] task queue rest k
 closes nest past now event after rest (run h) k = passes_loop [] 1 rest k
-closes nest past now event after rest (say {task = task} {value = value} {outer = outer} h) k = passes_say (open_tasks (frames.Task task 0 ∷ outer)) value rest k
+closes nest past now event after rest (say {task = task} {value = value} {outer = outer} h) k = passes_say
+    (open_tasks (frames.Task task 0 ∷ outer)) value rest k
 closes nest past now event after rest (post {task = task} {posted = posted} {queue = queue} {outer = outer} h) k =
     passes_post (open_tasks (frames.Task task 0 ∷ outer)) posted queue rest k
-closes nest past now event after rest (loop {task = task} {outer = outer} h) k = passes_loop (open_tasks (frames.Task task 0 ∷ outer)) (Rattle.std.proofs.Common.◌+◌ (depth_of past) 1) rest k
+closes nest past now event after rest (loop {task = task} {outer = outer} h) k = passes_loop (open_tasks (frames.Task task 0 ∷ outer))
+    (Rattle.std.proofs.Common.◌+◌ (depth_of past) 1) rest k
 closes nest past now event after rest (end {task = task} {outer = outer} h) k =
     and_from (eqb task task) (close_in_order (open_tasks outer) rest) (eq-eqb task task refl) (ap (λ os. close_in_order os rest) (sym (ended_tasks outer)) ∙ k)
 closes nest past now event after rest (quit {depth = depth} {outer = outer} h) k = passes_quit (open_tasks outer) depth rest k
@@ -135,8 +141,10 @@ none_open nest past begun (frames.Loop bound ended ∷ outer) h = absurd (none-s
 closed_from : (nest : NestPlan) (past rest : List Event) → ComesAfter nest past rest → next_event nest (past ++ rest) ≡ None
     → close_in_order (open_tasks (nesting_of nest past).frames) rest ≡ true
 unfolding next_event
-closed_from nest past [] h ends = none_open nest past (nesting_of nest past).begun (nesting_of nest past).frames (ap (next_event nest) (sym (append-nil past)) ∙ ends)
-closed_from nest past (event ∷ rest) h ends = closes nest past (nesting_of nest past) event (nesting_of nest (past ++ event ∷ [])) rest (comes nest past event h.0)
+closed_from nest past [] h ends = none_open nest past (nesting_of nest past).begun (nesting_of nest past).frames
+    (ap (next_event nest) (sym (append-nil past)) ∙ ends)
+closed_from nest past (event ∷ rest) h ends = closes nest past (nesting_of nest past) event (nesting_of nest (past ++ event ∷ [])) rest
+    (comes nest past event h.0)
     (closed_from nest (past ++ event ∷ []) rest h.1 (ap (next_event nest) (append_assoc past (event ∷ []) rest) ∙ ends))
 
 pub tasks_are_nested : (nest : NestPlan) (log : List Event) → IsLegalNest nest log → TasksAreNested log

@@ -1,14 +1,13 @@
 -- What the machine has made at each event: its parts are those that the event leaves.
-use Rattle.std.proofs.Common.{◌≡◌, ◌≢◌, ℕ, ◌+◌, ◌-◌, ◌<◌, ◌≤◌, ◌^◌, length, Bool, true, false, cond, eqb, drop, List, [], ◌∷◌, ◌++◌, refl, sym, ap, ◌∙◌, subst, Option, Some, None, arith}
+use Rattle.std.proofs.Common.{◌≡◌, ◌≢◌, ℕ, ◌+◌, ◌-◌, ◌<◌, ◌≤◌, ◌^◌, length, true, false, cond, eqb, drop, List, [], ◌∷◌, ◌++◌, refl, sym, ap, ◌∙◌, subst, Option, Some, None, arith}
 use Rattle.std.specs.Prelude.{◌||◌, slice_get}
 use Rattle.std.specs.List.{AllByRecursion}
 use Rattle.std.specs.Option.{option_map, option_or}
-use Rattle.std.proofs.Math.Bool.{or-true}
 use Rattle.std.proofs.lemmas.Bool.{eq-eqb, ne_eqb}
 use Rattle.list_laws.proofs.Elements.{AllByRecursion-map}
 use Rattle.nested_loop.specs.Ended.{HasEnded}
 use Rattle.nested_loop.specs.Keeping.{CanPost, CanTake, IsTakenFrom, Keeps}
-use Rattle.nested_loop.specs.Nest.{IsNestPast, Nesting, action_step, after_event, asked_by, bound_next, deferred_tasks, depth_of, front_task, is_nestable, left, loop_step, nested_step, nesting_of, next_event, outermost_step, step_begun, steps_of, task_ended, task_step, was_deferred}
+use Rattle.nested_loop.specs.Nest.{action_step, after_event, asked_by, deferred_tasks, depth_of, front_task, is_nestable, left, loop_step, nested_step, nesting_of, next_event, outermost_step, step_begun, steps_of, task_ended, task_step}
 use Rattle.nested_loop.specs.Plan.{NestPlan}
 use Rattle.nested_loop.specs.Room.{events_bound}
 use Rattle.nested_loop.specs.Stands.{IsTaken, Made, Stands}
@@ -23,11 +22,11 @@ use Rattle.nested_loop.specs.declared.nest.NestStep.TheVariants as steps
 use Rattle.nested_loop.specs.declared.waiting.Waiting.{Waiting}
 use Rattle.nested_loop.proofs.Chosen.{first_deferred_is, front_waits}
 use Rattle.nested_loop.proofs.Comes.{at}
-use Rattle.nested_loop.proofs.Deferrals.{deferred_kept, deferred_less, deferred_more, deferred_same, depth_few, depth_inside, depth_kept, depth_less, depth_more, depth_outside, ended_few}
+use Rattle.nested_loop.proofs.Deferrals.{deferred_kept, deferred_less, deferred_more, deferred_same, depth_few, depth_inside, depth_kept, depth_less, depth_more, ended_few}
 use Rattle.nested_loop.proofs.Kept.{keeps_resumed, keeps_still}
 use Rattle.nested_loop.proofs.Known.{past_within}
 use Rattle.nested_loop.proofs.MainScript.{events_few}
-use Rattle.nested_loop.proofs.Parts.{Parts, asked, has_room, is_open, made, with_first, without_first}
+use Rattle.nested_loop.proofs.Parts.{asked, has_room, made, with_first, without_first}
 use Rattle.task_base.specs.Rows.{Listed}
 
 module _ (nest : NestPlan) (past : List Event) (m : Machine) (stands : Stands nest past m) where
@@ -58,7 +57,8 @@ module _ (nest : NestPlan) (past : List Event) (m : Machine) (stands : Stands ne
 
   -- what waits, after an event that neither posts nor takes
   still : (event : Event) → ((place : ℕ) → Rattle.nested_loop.specs.Nest.posted_by place event ≡ [])
-      → ((t : ℕ) → (Rattle.nested_loop.specs.Nest.defers t event || Rattle.nested_loop.specs.Nest.starts t event) ≡ false) → Keeps nest (past ++ event ∷ []) m.waiting
+      → ((t : ℕ) → (Rattle.nested_loop.specs.Nest.defers t event || Rattle.nested_loop.specs.Nest.starts t event) ≡ false)
+      → Keeps nest (past ++ event ∷ []) m.waiting
   still event no_post none = keeps_still nest past event m.waiting no_post none stands.waiting
 
   -- ---- outside of all loops
@@ -79,7 +79,8 @@ module _ (nest : NestPlan) (past : List Event) (m : Machine) (stands : Stands ne
     }
 
     pub act_post : (task queue : ℕ) (waiting : Waiting) → slice_get nest.actions m.begun ≡ Some (actions.Post task queue)
-        → Keeps nest (past ++ events.Post task queue ∷ []) waiting → Made nest past (events.Post task queue) (record m { begun = m.begun + 1; waiting = waiting })
+        → Keeps nest (past ++ events.Post task queue ∷ []) waiting
+        → Made nest past (events.Post task queue) (record m { begun = m.begun + 1; waiting = waiting })
     act_post task queue waiting is keeps = made nest past (events.Post task queue) m (record m { begun = m.begun + 1; waiting = waiting }) stands (record {
       next = act_asked (events.Post task queue) (ap (option_map action_step) is);
       waiting = keeps;
@@ -122,7 +123,8 @@ module _ (nest : NestPlan) (past : List Event) (m : Machine) (stands : Stands ne
         ∙ ap (λ x. Some (task_step (depth_of past) task x)) is
 
     pub task_room : length past < events_bound nest
-    task_room = has_room nest past m (task_step (depth_of past) task (slice_get (steps_of nest task) begun)) stands (task_asked (slice_get (steps_of nest task) begun) refl)
+    task_room = has_room nest past m (task_step (depth_of past) task (slice_get (steps_of nest task) begun)) stands
+        (task_asked (slice_get (steps_of nest task) begun) refl)
 
     -- the frames where the next step is begun
     stepped : at m.begun (frames.Task task (begun + 1) ∷ left m.frames.items) ≡ step_begun m.begun m.frames.items
@@ -163,16 +165,18 @@ module _ (nest : NestPlan) (past : List Event) (m : Machine) (stands : Stands ne
 
     pub task_post : (posted queue : ℕ) (opened : Listed Frame) (waiting : Waiting) → slice_get (steps_of nest task) begun ≡ Some (steps.Post posted queue)
         → opened.items ≡ frames.Task task (begun + 1) ∷ left m.frames.items → m.frames.spare ≤ opened.spare
-        → Keeps nest (past ++ events.Post posted queue ∷ []) waiting → Made nest past (events.Post posted queue) (record m { frames = opened; waiting = waiting })
-    task_post posted queue opened waiting is items spare keeps = made nest past (events.Post posted queue) m (record m { frames = opened; waiting = waiting }) stands (record {
-      next = task_asked (Some (steps.Post posted queue)) is;
-      waiting = keeps;
-      deferred = stands.deferred ∙ sym (deferred_kept past (events.Post posted queue) (λ t. refl) refl);
-      nesting = ap (at m.begun) items ∙ stepped;
-      depth = stands.depth ∙ sym (depth_kept past (events.Post posted queue) refl refl);
-      frames_spare = omega (arith, spare);
-      deferred_spare = omega arith;
-    })
+        → Keeps nest (past ++ events.Post posted queue ∷ []) waiting
+        → Made nest past (events.Post posted queue) (record m { frames = opened; waiting = waiting })
+    task_post posted queue opened waiting is items spare keeps = made nest past (events.Post posted queue) m
+        (record m { frames = opened; waiting = waiting }) stands (record {
+          next = task_asked (Some (steps.Post posted queue)) is;
+          waiting = keeps;
+          deferred = stands.deferred ∙ sym (deferred_kept past (events.Post posted queue) (λ t. refl) refl);
+          nesting = ap (at m.begun) items ∙ stepped;
+          depth = stands.depth ∙ sym (depth_kept past (events.Post posted queue) refl refl);
+          frames_spare = omega (arith, spare);
+          deferred_spare = omega arith;
+        })
 
     pub task_loop : (bound : ℕ) (opened : Listed Frame) (after : Machine) → slice_get (steps_of nest task) begun ≡ Some (steps.Loop bound)
         → opened.items ≡ frames.Task task (begun + 1) ∷ left m.frames.items → m.frames.spare ≤ opened.spare
@@ -188,7 +192,8 @@ module _ (nest : NestPlan) (past : List Event) (m : Machine) (stands : Stands ne
               let first = with_first m.frames.items (frames.Task task begun) inside in
               ap (λ b. at b after.frames.items) (ap (λ x. x.begun) others)
               ∙ ap (at m.begun) (entered ∙ ap (λ fs. frames.Loop bound 0 ∷ fs) items)
-              ∙ ap (λ n. at m.begun (frames.Loop n 0 ∷ frames.Task task (begun + 1) ∷ left m.frames.items)) (sym (ap Rattle.nested_loop.specs.Nest.bound_of_step is))
+              ∙ ap (λ n. at m.begun (frames.Loop n 0 ∷ frames.Task task (begun + 1) ∷ left m.frames.items))
+              (sym (ap Rattle.nested_loop.specs.Nest.bound_of_step is))
               ∙ sym (ap (λ fs. after_event nest (at m.begun fs) (events.Loop (depth_of past + 1))) first);
           depth = ap (λ x. x.depth) others ∙ ap (λ d. d + 1) stands.depth ∙ sym (depth_more nest past (depth_of past + 1) stands.is_past);
           frames_spare = omega (arith, spare, less);
@@ -206,7 +211,8 @@ module _ (nest : NestPlan) (past : List Event) (m : Machine) (stands : Stands ne
 
     pub loop_depth : 1 ≤ m.depth
     loop_depth =
-        let deep = depth_inside nest past bound ended (left m.frames.items) stands.is_past (sym stands.frames ∙ with_first m.frames.items (frames.Loop bound ended) inside) in
+        let deep = depth_inside nest past bound ended (left m.frames.items) stands.is_past
+        (sym stands.frames ∙ with_first m.frames.items (frames.Loop bound ended) inside) in
         let is = stands.depth in
         omega (arith, deep, is)
 
@@ -216,12 +222,14 @@ module _ (nest : NestPlan) (past : List Event) (m : Machine) (stands : Stands ne
         (outermost_step (option_or (slice_get (deferred_tasks past) 0) (front_task nest past))) (nested_step nest (depth_of past) (front_task nest past))))
         (eq-eqb ended bound same)
 
-    outermost : ended ≢ bound → m.depth ≡ 1 → loop_step nest past bound ended ≡ outermost_step (option_or (slice_get (deferred_tasks past) 0) (front_task nest past))
+    outermost : ended ≢ bound → m.depth ≡ 1
+        → loop_step nest past bound ended ≡ outermost_step (option_or (slice_get (deferred_tasks past) 0) (front_task nest past))
     outermost other one =
         ap (λ b. cond b (events.Quit (depth_of past)) (cond (eqb (depth_of past) 1)
         (outermost_step (option_or (slice_get (deferred_tasks past) 0) (front_task nest past))) (nested_step nest (depth_of past) (front_task nest past))))
         (ne_eqb ended bound other)
-        ∙ ap (λ b. cond b (outermost_step (option_or (slice_get (deferred_tasks past) 0) (front_task nest past))) (nested_step nest (depth_of past) (front_task nest past)))
+        ∙ ap (λ b. cond b (outermost_step (option_or (slice_get (deferred_tasks past) 0) (front_task nest past)))
+        (nested_step nest (depth_of past) (front_task nest past)))
         (eq-eqb (depth_of past) 1 (sym stands.depth ∙ one))
 
     nested : ended ≢ bound → m.depth ≢ 1 → loop_step nest past bound ended ≡ nested_step nest (depth_of past) (front_task nest past)
@@ -229,7 +237,8 @@ module _ (nest : NestPlan) (past : List Event) (m : Machine) (stands : Stands ne
         ap (λ b. cond b (events.Quit (depth_of past)) (cond (eqb (depth_of past) 1)
         (outermost_step (option_or (slice_get (deferred_tasks past) 0) (front_task nest past))) (nested_step nest (depth_of past) (front_task nest past))))
         (ne_eqb ended bound other)
-        ∙ ap (λ b. cond b (outermost_step (option_or (slice_get (deferred_tasks past) 0) (front_task nest past))) (nested_step nest (depth_of past) (front_task nest past)))
+        ∙ ap (λ b. cond b (outermost_step (option_or (slice_get (deferred_tasks past) 0) (front_task nest past)))
+        (nested_step nest (depth_of past) (front_task nest past)))
         (ne_eqb (depth_of past) 1 (λ one. deep (stands.depth ∙ one)))
 
     -- the loop quits, where what waits and what is deferred are as they were
@@ -250,7 +259,8 @@ module _ (nest : NestPlan) (past : List Event) (m : Machine) (stands : Stands ne
     pub quits_full : (after : Machine) → ended ≡ bound → after ≡ record m { frames = after.frames; depth = m.depth - 1 }
         → after.frames.items ≡ left m.frames.items → m.frames.spare ≤ after.frames.spare → Made nest past (events.Quit m.depth) after
     quits_full after same others items spare = quits after (full same) (subst (Keeps nest past) (sym (ap (λ x. x.waiting) others)) stands.waiting)
-        (ap (λ x. x.deferred.items) others ∙ stands.deferred) (ap (λ x. x.deferred.spare) others) (ap (λ x. x.begun) others) (ap (λ x. x.depth) others) items spare
+        (ap (λ x. x.deferred.items) others ∙ stands.deferred) (ap (λ x. x.deferred.spare) others) (ap (λ x. x.begun) others)
+        (ap (λ x. x.depth) others) items spare
 
     pub quits_outermost : (taken after : Machine) → ended ≢ bound → m.depth ≡ 1 → IsTaken nest past None m taken
         → after ≡ record taken { frames = after.frames; depth = taken.depth - 1 } → after.frames.items ≡ left taken.frames.items
@@ -325,7 +335,8 @@ module _ (nest : NestPlan) (past : List Event) (m : Machine) (stands : Stands ne
     defers_front task waiting more other deep front not_may takes items spare =
         made nest past (events.Defer task) m (record m { waiting = waiting; deferred = more }) stands (record {
           next = loop_asked (events.Defer task)
-              (nested other deep ∙ ap (nested_step nest (depth_of past)) (sym front) ∙ ap (λ b. cond b (events.Start task (depth_of past)) (events.Defer task)) not_may);
+              (nested other deep ∙ ap (nested_step nest (depth_of past)) (sym front)
+              ∙ ap (λ b. cond b (events.Start task (depth_of past)) (events.Defer task)) not_may);
           waiting = takes (events.Defer task) (ap (λ b. b || false) (eq-eqb task task refl));
           deferred = items ∙ ap (λ ts. ts ++ task ∷ []) stands.deferred ∙ sym (deferred_more past task (front_waits nest past task (sym front)).not_started);
           nesting = refl;

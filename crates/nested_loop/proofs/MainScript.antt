@@ -1,20 +1,19 @@
 -- The script of a sound nest is one that the manager of the main queues can be made with.
-use Rattle.std.proofs.Common.{◌≡◌, ℕ, zero, suc, ◌+◌, ◌*◌, ◌<◌, ◌≤◌, ◌^◌, length, Bool, true, false, List, [], ◌∷◌, ◌++◌, map, refl, sym, ap, ◌∙◌, subst, Option, Some, None, arith, length-append, lit<, lit≤}
+use Rattle.std.proofs.Common.{◌≡◌, ℕ, zero, suc, ◌+◌, ◌*◌, ◌<◌, ◌≤◌, ◌^◌, length, List, [], ◌∷◌, ◌++◌, map, refl, sym, ap, subst, Option, Some, None, arith, length-append}
 use Rattle.std.specs.Prelude.{slice_get, flat_map, sum_by, Contains}
 use Rattle.std.specs.List.{AllByRecursion, cons_option, filter_map}
 use Rattle.std.specs.Option.{IfSome}
 use Rattle.std.proofs.lemmas.List.{length-map}
-use Rattle.std.proofs.lemmas.List.Concat.{length-flat_map}
 use Rattle.std.proofs.lemmas.List.Elements.{Contains-append_left, Contains-append_right}
 use Rattle.std.proofs.lemmas.List.Sums.{sum_by-cons}
 use Rattle.list_laws.proofs.Elements.{AllByRecursion-append, AllByRecursion-filter_map, AllByRecursion-map, AllByRecursion-mapped}
-use Rattle.list_laws.proofs.Made.{contains_cases, contains_filter_map, none_contained}
+use Rattle.list_laws.proofs.Made.{contains_filter_map}
 use Rattle.task_base.specs.declared.limits.TheConstants.{MOST_QUEUES}
 use Rattle.task_base.specs.declared.script.Action.{Action}
 use Rattle.task_base.specs.declared.script.Action.TheVariants as script_actions
 use Rattle.sequence_manager.specs.Pasts.{IsMainScript, IsPostedTo, IsQueueWithin}
-use Rattle.sequence_manager.specs.Postings.{MainPosting, main_postings, posting_of_action, postings_of_tasks}
-use Rattle.nested_loop.specs.Nest.{IsNestPast, Nesting, nesting_of, next_event}
+use Rattle.sequence_manager.specs.Postings.{main_postings, posting_of_action, postings_of_tasks}
+use Rattle.nested_loop.specs.Nest.{Nesting, nesting_of, next_event}
 use Rattle.nested_loop.specs.Plan.{NestPlan, NestTaskPlan}
 use Rattle.nested_loop.specs.Room.{events_bound}
 use Rattle.nested_loop.specs.Sound.{IsNestActionSound, IsNestStepSound, IsSoundNest}
@@ -56,7 +55,8 @@ tasks_from : (nest : NestPlan) (i : ℕ) (tasks : List NestTaskPlan)
 tasks_from nest i [] h = tt
 tasks_from nest i (task ∷ tasks) h = AllByRecursion-append (PostsThere nest) (main_of_task task) (flat_map main_of_task tasks)
     (all_of_lists (PostsThere nest) (IsNestStepSound nest (i + 0)) main_of_step task.steps (of_step nest (i + 0)) (h 0 task refl))
-    (tasks_from nest (i + 1) tasks (λ t other is. subst (λ n. AllByRecursion (IsNestStepSound nest n) other.steps) (omega arith) (h (t + 1) other (rw Rattle.std.proofs.Common.add-one is))))
+    (tasks_from nest (i + 1) tasks
+    (λ t other is. subst (λ n. AllByRecursion (IsNestStepSound nest n) other.steps) (omega arith) (h (t + 1) other (rw Rattle.std.proofs.Common.add-one is))))
 
 no_steps : (tasks : List NestTaskPlan) → postings_of_tasks (map (λ task. []) tasks) ≡ []
 no_steps [] = refl
@@ -113,7 +113,8 @@ is_main_script nest sound = record {
       (flat_map main_of_action nest.actions ++ flat_map main_of_task nest.tasks)
       (AllByRecursion-append (PostsThere nest) (flat_map main_of_action nest.actions) (flat_map main_of_task nest.tasks)
       (all_of_lists (PostsThere nest) (IsNestActionSound nest) main_of_action nest.actions (of_action nest) sound.actions_sound)
-      (tasks_from nest 0 nest.tasks (λ t task is. subst (λ n. AllByRecursion (IsNestStepSound nest n) task.steps) (omega arith) (sound.tasks_sound t task is)))));
+      (tasks_from nest 0 nest.tasks
+      (λ t task is. subst (λ n. AllByRecursion (IsNestStepSound nest n) task.steps) (omega arith) (sound.tasks_sound t task is)))));
 }
 
 in_lists : {A B : Type 0} (f : A → List B) (xs : List A) (i : ℕ) (x : A) (y : B) → slice_get xs i ≡ Some x → Contains (f x) y → Contains (flat_map f xs) y
@@ -123,21 +124,25 @@ in_lists f (z ∷ zs) zero x y is within = Contains-append_left (f z) (flat_map 
 in_lists f (z ∷ zs) (suc i) x y is within = Contains-append_right (f z) (flat_map f zs) y (in_lists f zs i x y is within)
 
 -- what is posted next is one of the script's posts
-pub posted_to : (nest : NestPlan) (past : List Event) (task queue : ℕ) → next_event nest past ≡ Some (events.Post task queue) → IsPostedTo (script_of nest) task queue
+pub posted_to : (nest : NestPlan) (past : List Event) (task queue : ℕ) → next_event nest past ≡ Some (events.Post task queue)
+    → IsPostedTo (script_of nest) task queue
 unfolding main_postings
 posted_to nest past task queue next =
-    Contains-append_right (postings_of_tasks (map (λ t. []) nest.tasks)) (filter_map posting_of_action (flat_map main_of_action nest.actions ++ flat_map main_of_task nest.tasks))
+    Contains-append_right (postings_of_tasks (map (λ t. []) nest.tasks))
+    (filter_map posting_of_action (flat_map main_of_action nest.actions ++ flat_map main_of_task nest.tasks))
     (record { task = task; queue = queue })
     (contains_filter_map posting_of_action (flat_map main_of_action nest.actions ++ flat_map main_of_task nest.tasks) (script_actions.Main task queue 0)
     (record { task = task; queue = queue })
-    (at (nesting_of nest past) (events.Post task queue) (nesting_of nest (past ++ events.Post task queue ∷ [])) (comes nest past (events.Post task queue) next) refl) refl)
+    (at (nesting_of nest past) (events.Post task queue) (nesting_of nest (past ++ events.Post task queue ∷ []))
+    (comes nest past (events.Post task queue) next) refl) refl)
   where
     Posts : Event → Type 0
     Posts (events.Post t q) = Contains (flat_map main_of_action nest.actions ++ flat_map main_of_task nest.tasks) (script_actions.Main t q 0)
     Posts event = Unit {0}
 
     among : (now : Nesting) (event : Event) (after : Nesting) → Comes nest past now event after → Posts event
-    among now event after (act {begun = begun} {task = t} {queue = q} h) = Contains-append_left (flat_map main_of_action nest.actions) (flat_map main_of_task nest.tasks)
+    among now event after (act {begun = begun} {task = t} {queue = q} h) = Contains-append_left (flat_map main_of_action nest.actions)
+        (flat_map main_of_task nest.tasks)
         (script_actions.Main t q 0) (in_lists main_of_action nest.actions begun (actions.Post t q) (script_actions.Main t q 0) h (0, omega arith, refl))
     among now event after (post {task = t} {done = done} {posted = posted} {queue = q} h) =
         let found = has_steps nest t done (steps.Post posted q) h in
@@ -151,7 +156,8 @@ posted_to nest past task queue next =
     at now event after comes_next is = subst Posts is (among now event after comes_next)
 
 -- the events bound is small
-bound_of_tasks : (tasks : List NestTaskPlan) → sum_by (λ task. 2 * length task.steps + 3) tasks ≡ 2 * sum_by (λ task. length task.steps) tasks + 3 * length tasks
+bound_of_tasks : (tasks : List NestTaskPlan)
+    → sum_by (λ task. 2 * length task.steps + 3) tasks ≡ 2 * sum_by (λ task. length task.steps) tasks + 3 * length tasks
 bound_of_tasks [] = refl
 bound_of_tasks (task ∷ tasks) =
     let rest = bound_of_tasks tasks in

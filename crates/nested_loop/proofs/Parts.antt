@@ -1,9 +1,9 @@
 -- One event of the machine, part by part.
-use Rattle.std.proofs.Common.{◌≡◌, ℕ, ◌+◌, ◌<◌, ◌≤◌, ◌^◌, length, Bool, true, false, List, [], ◌∷◌, ◌++◌, refl, sym, ap, ◌∙◌, subst, Option, Some, None, arith, length-append}
+use Rattle.std.proofs.Common.{◌≡◌, ◌+◌, ◌<◌, ◌≤◌, length, List, [], ◌∷◌, ◌++◌, refl, sym, ap, ◌∙◌, Some, None, arith, length-append}
 use Rattle.std.specs.Prelude.{slice_get}
 use Rattle.std.proofs.lemmas.Option.{none-some, same_Some}
 use Rattle.nested_loop.specs.Keeping.{Keeps}
-use Rattle.nested_loop.specs.Nest.{IsNestPast, Nesting, after_event, asked_by, deferred_tasks, depth_of, left, nesting_of, next_event}
+use Rattle.nested_loop.specs.Nest.{after_event, asked_by, deferred_tasks, depth_of, left, nesting_of, next_event}
 use Rattle.nested_loop.specs.Plan.{NestPlan}
 use Rattle.nested_loop.specs.Room.{events_bound}
 use Rattle.nested_loop.specs.Stands.{Made, Stands}
@@ -12,7 +12,6 @@ use Rattle.nested_loop.specs.declared.frame.Frame.{Frame}
 use Rattle.nested_loop.specs.declared.machine.Machine.{Machine}
 use Rattle.nested_loop.proofs.Comes.{at, nesting_of_push, past_grows}
 use Rattle.nested_loop.proofs.Known.{next_within}
-use Rattle.nested_loop.proofs.MainScript.{events_few}
 
 -- a list with a first element
 pub with_first : (xs : List Frame) (x : Frame) → slice_get xs 0 ≡ Some x → xs ≡ x ∷ left xs
@@ -24,7 +23,8 @@ without_first [] h = refl
 without_first (y ∷ ys) h = absurd (none-some y (sym h))
 
 -- what is open, as the machine has it
-pub is_open : (nest : NestPlan) (past : List Event) (machine : Machine) → Stands nest past machine → nesting_of nest past ≡ at machine.begun machine.frames.items
+pub is_open : (nest : NestPlan) (past : List Event) (machine : Machine) → Stands nest past machine
+    → nesting_of nest past ≡ at machine.begun machine.frames.items
 is_open nest past machine stands = ap (λ b. at b (nesting_of nest past).frames) (sym stands.begun) ∙ ap (at machine.begun) (sym stands.frames)
 
 -- what the machine is asked for

@@ -1,9 +1,8 @@
 -- What a past of plain entries leaves of the main queues: no fence, no closed queue, the classes of the script, no delay.
-use Rattle.std.proofs.Common.{◌≡◌, ℕ, ◌+◌, ◌<◌, length, Bool, true, false, cond, eqb, List, [], ◌∷◌, ◌++◌, map, refl, sym, ap, ◌∙◌, subst, Option, Some, None, arith, append-nil}
+use Rattle.std.proofs.Common.{◌≡◌, ℕ, ◌+◌, length, Bool, true, false, cond, eqb, List, [], ◌∷◌, ◌++◌, map, refl, sym, ap, ◌∙◌, subst, None}
 use Rattle.std.specs.Prelude.{◌||◌, ◌&&◌, nat_lt, slice_get}
-use Rattle.std.specs.List.{AllByRecursion, list_any}
+use Rattle.std.specs.List.{AllByRecursion}
 use Rattle.std.specs.Option.{option_map_or}
-use Rattle.std.proofs.Math.Bool.{or-false}
 use Rattle.std.proofs.lemmas.Bool.{and_parts, eqb-true, true≢false}
 use Rattle.std.proofs.lemmas.List.{map-append}
 use Rattle.list_laws.proofs.Elements.{AllByRecursion-append, AllByRecursion-back, AllByRecursion-front, push_induction}
@@ -13,9 +12,9 @@ use Rattle.task_base.specs.declared.entry.Entry.{Entry}
 use Rattle.task_base.specs.declared.entry.Kind.{Kind}
 use Rattle.task_base.specs.declared.entry.Kind.TheVariants as kinds
 use Rattle.task_model.specs.MainQueues.{class_of, class_after, fence_of, fence_after, immediate_fronts, is_delayed_task, streak_of, streak_after}
-use Rattle.task_model.specs.Orders.{Ordered, main_arrivals, drawing_by, next_draw}
+use Rattle.task_model.specs.Orders.{main_arrivals, drawing_by}
 use Rattle.task_model.specs.Past.{fold_past}
-use Rattle.task_model.specs.Posts.{Posted, is_delayed, main_posted_by, main_posts, post_behind}
+use Rattle.task_model.specs.Posts.{is_delayed, main_posted_by, main_posts}
 use Rattle.task_model.specs.Refusal.{is_closed, closes}
 use Rattle.task_model.proofs.Growth.{class_of_push, fence_of_push, is_closed_push, main_arrivals_push, main_posts_push, streak_of_push}
 use Rattle.nested_loop.specs.Waiting.{is_plain}

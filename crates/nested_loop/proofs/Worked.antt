@@ -1,7 +1,7 @@
 -- Short nests and their logs, by computing.
 use Rattle.std.proofs.Common.{◌≡◌, ℕ, suc, zero, true, false, List, [], ◌∷◌, ◌++◌, refl, Option, Some, None}
-use Rattle.nested_loop.specs.Plan.{NestPlan, NestTaskPlan}
-use Rattle.nested_loop.specs.Nest.{IsLegalNest, next_event, depth_of, is_started, was_deferred, posted_tasks, waiting_tasks, deferred_tasks, front_task, nesting_of}
+use Rattle.nested_loop.specs.Plan.{NestPlan}
+use Rattle.nested_loop.specs.Nest.{next_event, depth_of, is_started, was_deferred, posted_tasks, waiting_tasks, deferred_tasks, front_task, nesting_of}
 use Rattle.nested_loop.specs.declared.event.Event.{Event}
 use Rattle.nested_loop.specs.declared.event.Event.TheVariants as events
 use Rattle.nested_loop.specs.declared.nest.NestAction.{NestAction}

@@ -1,5 +1,4 @@
-use Rattle.std.proofs.Common.{◌≡◌, ◌+◌, ◌<◌, ◌≤◌, [], ◌∷◌, length, sym, ap, ◌∙◌, subst, arith, length-append}
-use Rattle.nested_loop.specs.Room.{events_bound}
+use Rattle.std.proofs.Common.{◌≡◌, ◌+◌, [], ◌∷◌, length, sym, ap, ◌∙◌, subst, arith, length-append}
 use Rattle.nested_loop.specs.Stands.{Stands}
 use Rattle.nested_loop.proofs.Known.{next_within}
 use Rattle.nested_loop.proofs.run.run_nest.Goals as goal

@@ -1,4 +1,4 @@
-use Rattle.std.proofs.Common.{◌+◌, ◌≤◌, [], length, refl, arith}
+use Rattle.std.proofs.Common.{refl, arith}
 use Rattle.nested_loop.specs.Nest.{deferred_tasks, depth_of, nesting_of}
 use Rattle.nested_loop.proofs.machine.Machine.new.Goals as goal
 

@@ -1,4 +1,4 @@
-use Rattle.std.proofs.Common.{◌≡◌, ◌<◌, ◌≤◌, true, false, sym, ap, ◌∙◌, subst, arith}
+use Rattle.std.proofs.Common.{◌≡◌, ◌<◌, ◌≤◌, true, false, sym, ap, ◌∙◌, subst}
 use Rattle.nested_loop.specs.Nest.{is_nestable}
 use Rattle.nested_loop.specs.Stands.{Made}
 use Rattle.nested_loop.proofs.Made.{can_take, deferred_free, defers_front, frames_free, loop_depth, loop_room, quits_full, quits_nested, quits_outermost, starts_nested, starts_outermost}
@@ -85,8 +85,8 @@ returns-in-Some-take c = λ past stands inside.
     (loop_room c.args.nest.now past c.args.self.now stands c.args.bound c.args.ended inside) in
     let may : is_nestable c.args.nest.now c.in-Some-take.task ≡ true = sym c.is_nestable.ensures ∙ c.if-is_nestable.true in
     subst (λ event. Made c.args.nest.now past event c.start-in-Some-take.new.self) (sym c.start-in-Some-take.ensures.event)
-    (starts_nested c.args.nest.now past c.args.self.now stands c.args.bound c.args.ended inside c.in-Some-take.task c.take.new.self c.start-in-Some-take.new.self
-    c.if-ended-bound.false c.if-self-eq1.false (c.in-Some-take.ensures.front c.args.nest.now past can) may
+    (starts_nested c.args.nest.now past c.args.self.now stands c.args.bound c.args.ended inside c.in-Some-take.task c.take.new.self
+    c.start-in-Some-take.new.self c.if-ended-bound.false c.if-self-eq1.false (c.in-Some-take.ensures.front c.args.nest.now past can) may
     (c.in-Some-take.ensures.taken c.args.nest.now past can)
     c.start-in-Some-take.ensures.others c.start-in-Some-take.ensures.frames c.start-in-Some-take.ensures.spare)
 
