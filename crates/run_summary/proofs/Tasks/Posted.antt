@@ -1,6 +1,6 @@
 -- The tasks that were accepted: each of them once the driver has no post left.
 use Rattle.std.proofs.Common.{◌≡◌, ℕ, zero, suc, ◌+◌, ◌<◌, ◌≤◌, Bool, true, false, cond, eqb, leb, List, [], ◌∷◌, ◌++◌, length, refl, sym, ap, subst, ◌∙◌, inl, inr, arith}
-use Rattle.std.specs.Prelude.{◌⊎◌, ◌&&◌, Contains, filter, flat_map}
+use Rattle.std.specs.Prelude.{◌⊎◌, ◌&&◌, Contains, filter}
 use Rattle.std.specs.List.{AllByRecursion}
 use Rattle.std.proofs.lemmas.Bool.{and_parts, eqb-true}
 use Rattle.task_base.specs.Plan.{Plan}
@@ -24,7 +24,7 @@ use Rattle.hist_model.specs.Legal.{IsLegal}
 use Rattle.hist_model.specs.Laws.Agenda.{Agenda, completes, next_agenda, agenda_after}
 use Rattle.hist_model.specs.Laws.Consistent.{is_pump, is_join}
 use Rattle.hist_model.proofs.Laws.Consistent.{posts_as, posted_as, posts_as_push}
-use Rattle.hist_model.proofs.Laws.DriverPostings.{times-append, actions_post}
+use Rattle.hist_model.proofs.Laws.DriverPostings.{actions_post, one_more}
 use Rattle.hist_model.proofs.Laws.Legal.{is_legal_push, entry_induction, legal_induction}
 use Rattle.hist_model.proofs.Laws.PostingCounts.{of_task}
 use Rattle.run_summary.proofs.Calm.{is_accepting, calm_logs}
@@ -141,10 +141,6 @@ posts_it t own past (actions.Main u q d) made kind (inr (inl h)) accepts = absur
 posts_it t own past (actions.Post u r d) made kind (inr (inr h)) accepts = absurd cc
 posts_it t own past (actions.Main u q d) made kind (inr (inr h)) accepts = absurd cc
 posts_it t own past x made kind how accepts = omega arith
-
--- an action posts before those behind it
-one_more : (t : ℕ) (x : Action) (xs : List Action) → actions_post t (x ∷ xs) ≡ times t (posts_of_action x) + actions_post t xs
-one_more t x xs = times-append t (posts_of_action x) (flat_map posts_of_action xs)
 
 -- what the script posts is left to be posted, or is accepted
 abbrev AreAccepted : Plan → ℕ → List Entry → Type 0
