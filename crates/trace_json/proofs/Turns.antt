@@ -15,6 +15,7 @@ use Rattle.hist_model.specs.Script.{IsWhole}
 use Rattle.hist_model.specs.Laws.Consistent.{DoesOneThing}
 use Rattle.hist_model.proofs.Laws.Legal.{legal_induction, is_legal_push}
 use Rattle.hist_model.proofs.Laws.Takes.{take_is, end_is, main_end_is}
+use Rattle.hist_model.proofs.Laws.JobEntries.{none_is}
 use Rattle.hist_model.proofs.Laws.OneThing.{main_take_free, job_take_free, job_step_holds, legal_does_one_thing}
 use Rattle.hist_model.proofs.Laws.Whole.{loses_nothing}
 use Rattle.trace_json.specs.declared.event.EventName.{EventName}
@@ -97,10 +98,6 @@ ran_nothing : (runs : Option Running) (holds : Option Holding) (h : Holding) →
 ran_nothing None holds h alone is = refl
 ran_nothing (Some w) holds h alone is = absurd (alone w h refl is)
 
-none_of : {A : Type 0} (o : Option A) → is_none o ≡ true → o ≡ None
-none_of None h = refl
-none_of (Some x) h = absurd cc
-
 -- what an entry that may come does to its own seat
 moves : (script : Plan) (past : List Entry) (seat : ℕ) (kind : Kind) → may_come script past seat kind ≡ true → IsAlone (running past seat) (holding past seat)
     → IsAlone (running_after (running past seat) kind) (holding_after (holding past seat) kind)
@@ -108,10 +105,10 @@ moves : (script : Plan) (past : List Entry) (seat : ℕ) (kind : Kind) → may_c
     (doing (running_after (running past seat) kind) (holding_after (holding past seat) kind))
 moves script past seat (kinds.Take task runner found) may before after =
     let free = and_parts (is_none (running past seat)) (is_none (holding past seat)) (take_is script past seat task runner found may).free in
-    let none : doing (running past seat) (holding past seat) ≡ None = rw (none_of (running past seat) free.0, none_of (holding past seat) free.1) refl in
+    let none : doing (running past seat) (holding past seat) ≡ None = rw (none_is (running past seat) free.0, none_is (holding past seat) free.1) refl in
     record { between = None; ends = sym none; begins = (refl, refl) }
 moves script past seat (kinds.MainTake task queue found) may before after =
-    let runs = none_of (running past seat) (main_take_free script past seat task queue found may) in
+    let runs = none_is (running past seat) (main_take_free script past seat task queue found may) in
     let holds = held_nothing _ (holding past seat) _ after refl in
     let none : doing (running past seat) (holding past seat) ≡ None = rw (runs, holds) refl in
     record { between = None; ends = sym none; begins = (refl, refl) }
@@ -124,7 +121,7 @@ moves script past seat (kinds.MainEnd task left) may before after =
     let holds = held_nothing (running past seat) (holding past seat) w before runs in
     record { between = None; ends = (rw (runs, task_is) refl, refl); begins = rw holds refl }
 moves script past seat (kinds.JobTake job id item) may before after =
-    let holds = none_of (holding past seat) (job_take_free script past seat job id item may) in
+    let holds = none_is (holding past seat) (job_take_free script past seat job id item may) in
     let runs = ran_nothing (running past seat) _ _ after refl in
     let none : doing (running past seat) (holding past seat) ≡ None = rw (runs, holds) refl in
     record { between = None; ends = sym none; begins = (refl, rw runs refl) }
