@@ -8,6 +8,7 @@ use Rattle.list_laws.proofs.Values.{eqb-same, some-injective}
 use Rattle.list_laws.specs.Lists.{Ranks, keep}
 use Rattle.pool_core.proofs.Accepted.{head_accepted, is_declared}
 use Rattle.pool_core.proofs.Following.{lane_fits, sequence_made}
+use Rattle.pool_core.proofs.Lists.{some_mapped}
 use Rattle.pool_core.proofs.Room.{groups_have_room}
 use Rattle.pool_core.specs.Choice.{IsBestOf, IsOffer, IsOffered, better_of, is_open, priority_in}
 use Rattle.pool_core.specs.Pasts.{IsPoolScript}
@@ -26,7 +27,7 @@ use Rattle.std.proofs.lemmas.Bool.{and_from, and_parts, eq-eqb, eqb-true, false�
 use Rattle.std.proofs.lemmas.List.Elements.{All-contains_itself, All-weaker}
 use Rattle.std.proofs.lemmas.Option.{none-some}
 use Rattle.std.specs.Option.{IfSome, option_map, option_map_or}
-use Rattle.std.specs.Prelude.{Contains, not, option_and_then, slice_get, ◌&&◌, ◌==◌, ◌⊎◌}
+use Rattle.std.specs.Prelude.{Contains, is_some, not, option_and_then, slice_get, ◌&&◌, ◌==◌, ◌⊎◌}
 use Rattle.task_base.specs.Groups.{is_best_effort}
 use Rattle.task_base.specs.Plan.{Plan}
 use Rattle.task_base.specs.Policy.{is_held_back}
@@ -236,6 +237,12 @@ best_offer script past pool seat (Some (source, rank)) stands known (offered, fi
           (waiting script past) (All-contains_itself (waiting script past));
     } in
     rw (only_best script past seat c best, found.2, found.3) refl
+
+-- so there is one exactly where the seat may take one
+pub offers_some : (script : Plan) (past : List Entry) (pool : Pool) (seat : ℕ) (best : Option (TaskSource × Rank)) → StandsFor script past pool
+    → seat ≤ script.workers → IsBestOf (IsOffer pool seat) best → is_some best ≡ is_some (best_of script past seat)
+offers_some script past pool seat best stands known bests =
+    ap is_some (best_offer script past pool seat best stands known bests) ∙ some_mapped (λ c. (c.source, rank_as c)) (best_of script past seat)
 
 -- where that is a sequence, it does not run, and has a head
 pub best_is_sequence : (script : Plan) (past : List Entry) (seat s : ℕ) (c : Candidate) → best_of script past seat ≡ Some c → c.source ≡ Sequence s

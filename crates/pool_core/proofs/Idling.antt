@@ -4,7 +4,7 @@ use Rattle.pool_core.specs.JobState.{is_at_work}
 use Rattle.list_laws.proofs.Places.{count-push}
 use Rattle.list_laws.proofs.Ranges.{range_split}
 use Rattle.list_laws.specs.Lists.{count, keep}
-use Rattle.pool_core.proofs.Choosing.{best_offer}
+use Rattle.pool_core.proofs.Choosing.{offers_some}
 use Rattle.pool_core.proofs.Lists.{any_more, some_kept, some_mapped}
 use Rattle.pool_core.specs.Calls.{is_any_ready, is_working, running_tasks}
 use Rattle.pool_core.specs.Choice.{IsBestOf, IsOffer}
@@ -29,7 +29,7 @@ pub counted_more : (script : Plan) (past : List Entry) (pool : Pool) (seat runni
     → IsCounted script past (seat + 1) (running + here) (ready || may)
 counted_more script past pool seat running here ready may place best stands worker known counted is here_is bests may_is = record {
   running_is = rw (here_is, place_is, counted.running_is, more) (sym (count-push (is_working past) (range_with_len 1 (seat - 1)) seat));
-  ready_is = rw (may_is, best_is, counted.ready_is, more)
+  ready_is = rw (may_is, offers_some script past pool seat best stands (omega (arith, known)) bests, counted.ready_is, more)
       (sym (any_more (λ worker. is_some (best_of script past worker)) (range_with_len 1 (seat - 1)) seat));
 }
   where
@@ -44,9 +44,6 @@ counted_more script past pool seat running here ready may place best stands work
       some_kept (λ (w : Running). not w.is_main) (running_of past seat),
       some_mapped holder_as (holding past seat),
     ) refl
-
-    best_is : is_some best ≡ is_some (best_of script past seat)
-    best_is = ap is_some (best_offer script past pool seat best stands (omega (arith, known)) bests) ∙ some_mapped _ (best_of script past seat)
 
 -- all of them
 pub counted_all : (script : Plan) (past : List Entry) (seat running : ℕ) (ready : Bool) → seat ≡ script.workers + 1 → IsCounted script past seat running ready

@@ -122,6 +122,11 @@ pub record KnowsTask (script : Plan) (past : List Entry) (pool : Pool) (runner t
   pub runner_known : KnowsRunner script past pool runner
   pub task_declared : task < length script.tasks
 
+-- the seat is one of the script's
+pub record KnowsSeat (script : Plan) (past : List Entry) (pool : Pool) (seat : ℕ) : Type 0 where
+  pub stands : StandsFor script past pool
+  pub known : seat ≤ script.workers
+
 -- shutdown has come to this phase
 pub record IsInPhase (script : Plan) (past : List Entry) (pool : Pool) (phase : Phase) : Type 0 where
   pub stands : StandsFor script past pool

@@ -1,6 +1,10 @@
-ghost use Rattle.std.specs.Prelude.{◌≡◌, ◌<◌, length, Some};
+ghost use Rattle.std.specs.Prelude.{◌≡◌, ◌<◌, List, length, Some, is_some};
 ghost use Rattle.list_laws.specs.Lists.{keep};
+ghost use Rattle.task_base.specs.Plan.{Plan};
+ghost use Rattle.task_base.specs.declared.entry.Entry.{Entry};
+ghost use Rattle.task_model.specs.Sources.{best_of};
 ghost use Rattle.task_sequence.specs.Sequences.{sequence_at};
+ghost use Rattle.pool_core.specs.Calls.{KnowsSeat};
 ghost use Rattle.pool_core.specs.Choice.{IsBestOf, IsOffer, IsOffered, better_of, is_open};
 ghost use Rattle.pool_core.specs.Refreshes.{HavePlaces, all_refreshed, is_meant, posted_at};
 ghost use Rattle.pool_core.specs.State.{HasPlace, given_rank, refreshed, rank_of_head};
@@ -12,6 +16,14 @@ use task_base::{Behaviour, Priority, RunnerId, SeatNo, SeqId, TaskId, TaskSource
 
 // The sources that wait: which one a seat takes, and the place of each sequence among them.
 impl Pool {
+    /// Whether there is a source that a seat may take now, which it would get if it runs nothing. Constant time.
+    pub fn has_work(&self, seat: SeatNo) -> bool
+        requires { (script : Plan) × (past : List Entry) × KnowsSeat script past self.now seat }
+        ensures { (script : Plan) (past : List Entry) → KnowsSeat script past self.now seat → result ≡ is_some (best_of script past seat) }
+    {
+        self.best(seat).is_some()
+    }
+
     // The best source that a seat may take, with its rank.
     pub(super) fn best(&self, seat: SeatNo) -> Option<(TaskSource, Rank)>
         requires { seat < length self.now.lanes }
