@@ -15,7 +15,7 @@ use Rattle.pool_core.proofs.Tables.{postings_at_start, priorities_at_start, seat
 use Rattle.pool_core.proofs.Tracking.{tracked_at_start}
 use Rattle.pool_core.specs.Groups.{empty_groups}
 use Rattle.pool_core.specs.Pasts.{IsPoolScript}
-use Rattle.pool_core.specs.Queues.{AreRoomy, HoldWaiting, belongs, empty_lane, empty_lanes, empty_queue, job_room, no_lane, queue_in, queue_of, rank_as, sequence_room}
+use Rattle.pool_core.specs.Queues.{AreRoomy, HoldWaiting, belongs, empty_lane, empty_lanes, empty_queue, is_representative, job_room, no_lane, queue_in, queue_of, rank_as, sequence_room}
 use Rattle.pool_core.specs.StandsFor.{StandsFor}
 use Rattle.pool_core.specs.State.{candidate_by, rank_by, runner_of, standing}
 use Rattle.pool_core.specs.declared.pool.Pool.{Pool}
@@ -29,12 +29,13 @@ use Rattle.std.proofs.lemmas.List.FromFn.{get_or-map-range_with_len, length-map-
 use Rattle.list_laws.specs.Lists.{keep}
 use Rattle.std.proofs.lemmas.Bool.{cases_lt, false≢true}
 use Rattle.std.specs.Option.{option_map}
-use Rattle.std.specs.Prelude.{is_some, map, nat_lt, option_and_then, replicate, slice_get}
+use Rattle.std.specs.Prelude.{filter, is_some, map, nat_lt, option_and_then, replicate, slice_get}
 use Rattle.task_base.specs.Plan.{JobPlan, Plan}
 use Rattle.task_base.specs.Runners.{sequence_count}
 use Rattle.task_base.specs.declared.source.TaskSource.{TaskSource}
 use Rattle.task_base.specs.declared.source.TaskSource.TheVariants.{Job, Sequence}
 use Rattle.task_model.specs.Past.{fold_past}
+use Rattle.task_model.specs.Seats.{worker_seats}
 use Rattle.task_model.specs.Posts.{posts}
 use Rattle.task_model.specs.Time.{now_of}
 use Rattle.task_runners.specs.Table.{table_of}
@@ -142,19 +143,21 @@ hold_at_start script limits = hold_from script [] [] priorities postings held (e
 pub stands_at_start : (script : Plan) (pool : Pool) → IsPoolScript script → pool.runners ≡ table_of script.runners script.background
     → pool.priorities.items ≡ map (λ r. r.traits.priority) script.runners
     → pool.sequences ≡ record { sequences = replicate (sequence_count script) fresh; room = length script.tasks } → pool.lanes ≡ empty_lanes script
+    → pool.representatives.items ≡ filter (is_representative script) (worker_seats script)
     → pool.groups ≡ empty_groups script → pool.delayed ≡ record { held = []; room = length script.tasks }
     → pool.tracker ≡ record { phase = phases.Running; policy = policies.All; block_items = 0; skip_items = 0 }
     → pool.postings.items ≡ replicate (length script.tasks) None → pool.seats.items ≡ replicate (script.workers + 1) None
     → pool.jobs.items ≡ map fresh_job script.jobs → pool.holders.items ≡ replicate (script.workers + 1) None → pool.moment ≡ 0
     → StandsFor script [] pool
 unfolding posts now_of fold_past
-stands_at_start script pool fits runners priorities sequences lanes groups delayed tracker postings seats jobs holders moment = record {
+stands_at_start script pool fits runners priorities sequences lanes representatives groups delayed tracker postings seats jobs holders moment = record {
   script_fits = fits;
   past_fits = past_at_start script;
   runners = runners;
   priorities = rw priorities (priorities_at_start script);
   lines = rw sequences (lines_at_start script);
   queues = rw lanes (hold_at_start script fits);
+  representatives = representatives;
   groups = rw groups (groups_at_start script);
   delayed = delayed;
   tracker = tracker ∙ sym (tracked_at_start script);

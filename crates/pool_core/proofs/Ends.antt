@@ -53,6 +53,7 @@ stands_at_end {script = script} {past = past} {pool = pool} {seat = seat} {w = w
       stands.script_fits tells refl runs
       (sequence_made script pool.lanes w.home w.task stands.script_fits stands.queues.roomy at.runner_declared at.task_declared)
       (λ other another. other_sequence pool.sequences s other _ another) (hold_standing script past pool stands);
+  representatives = stands.representatives;
   groups = groups_at_end script past pool.groups seat left w stands.script_fits stands.past_fits stands.groups at.runs at.is_pool;
   delayed = rw (unripe_kept past e refl) stands.delayed;
   tracker = rw (tracked_at_end script past seat left w at.post stands.past_fits at.runs at.is_pool at.accepted, stands.tracker) refl;

@@ -122,6 +122,7 @@ stands_with_job script past pool e job new groups tracker holders stands declare
   lines = rw (arrivals_same past e kind.ready) (lines_kept script past e (arrivals past) pool.sequences kind.runs kind.phase stands.lines);
   queues = hold_at_job script past (past ++ e ∷ []) pool.lanes job (job_at (slice_set pool.jobs.items job new) job) tracker.phase stands.queues declared
       (others_wait script past e job kind.sequences others) rank;
+  representatives = stands.representatives;
   groups = are;
   delayed = rw (unripe_kept past e kind.ready) stands.delayed;
   tracker = tracks;

@@ -52,6 +52,7 @@ stands_with script past pool e groups tracker stands leaves fits lines hold are 
   priorities = priorities_kept script past e pool.priorities.items leaves.priorities stands.priorities;
   lines = rw (arrivals_same past e leaves.ready) lines;
   queues = hold;
+  representatives = stands.representatives;
   groups = are;
   delayed = rw (unripe_kept past e leaves.ready) stands.delayed;
   tracker = is;

@@ -1,15 +1,15 @@
 -- Lists, places in them, and values that are there or not: facts of no one part of the pool.
-use Rattle.list_laws.proofs.Counts.{count-append, count_step}
+use Rattle.list_laws.proofs.Counts.{count-append, count-cons, count_step}
 use Rattle.list_laws.proofs.Filters.{filter-map, filter_congr_in, filter_none}
 use Rattle.list_laws.proofs.Ranges.{AllByRecursion-range}
 use Rattle.list_laws.proofs.Values.{some-injective}
 use Rattle.list_laws.specs.Lists.{count, holds_of, keep}
 use Rattle.std.proofs.Common.{Bool, List, None, Option, Some, [], ap, arith, cond, false, get_or, inl, inr, length, refl, suc, sym, true, zero, ℕ, ◌++◌, ◌+◌, ◌<◌, ◌∙◌, ◌∷◌, ◌≡◌, ◌≤◌}
-use Rattle.std.proofs.lemmas.Bool.{cases_lt}
+use Rattle.std.proofs.lemmas.Bool.{cases_lt, false_from_ne_true, true≢false}
 use Rattle.std.proofs.lemmas.List.{get_or-replicate, get_or_past, length-map, length-replicate}
 use Rattle.std.proofs.lemmas.List.Folds.{list_any-append}
 use Rattle.std.proofs.lemmas.List.FromFn.{fill_by_all}
-use Rattle.std.specs.List.{list_any, range_with_len}
+use Rattle.std.specs.List.{AllByRecursion, list_any, range_with_len}
 use Rattle.std.specs.Option.{option_map}
 use Rattle.std.specs.Prelude.{filter, is_some, replicate, slice_get, slice_index_or, ◌&&◌, ◌||◌}
 
@@ -59,6 +59,22 @@ or_none false c none = none
 pub any_more : {A : Type 0} (p : A → Bool) (xs : List A) (x : A) → list_any p (xs ++ x ∷ []) ≡ (list_any p xs || p x)
 any_more p xs x = list_any-append p xs (x ∷ []) ∙ ap (λ b. list_any p xs || b) (or_none (p x) false refl)
 
+-- what keeps each element that passes a test finds as many that do: one, or none
+pub any_filtered : {A : Type 0} (p q : A → Bool) (xs : List A) → ((x : A) → p x ≡ true → q x ≡ true) → list_any p (filter q xs) ≡ list_any p xs
+any_filtered p q [] keeps = refl
+any_filtered {A = A} p q (x ∷ xs) keeps = by (q x) refl (any_filtered p q xs keeps)
+  where
+    by : (b : Bool) → q x ≡ b → list_any p (filter q xs) ≡ list_any p xs
+        → list_any p (cond b (x ∷ filter q xs) (filter q xs)) ≡ (p x || list_any p xs)
+    by true is rest = ap (λ b. p x || b) rest
+    by false is rest = rw (false_from_ne_true (p x) (λ passes. true≢false (sym (keeps x passes) ∙ is))) rest
+
+-- what holds of each element holds of that at a place
+pub all_at : {A : Type 0} (P : A → Type 0) (xs : List A) (i : ℕ) (d : A) → AllByRecursion P xs → i < length xs → P (get_or xs i d)
+all_at P [] i d all less = absurd (omega (arith, less))
+all_at P (x ∷ xs) zero d all less = all.0
+all_at P (x ∷ xs) (suc i) d all less = all_at P xs i d all.1 (omega (arith, less))
+
 -- Counts.
 
 -- the first numbers of a range, and those behind them
@@ -74,6 +90,13 @@ pub count_places : {A : Type 0} (test : A → Bool) (xs : List A) (d : A) → co
 count_places test xs d = ap (count test) (fill_by_all (λ k. get_or xs k d) xs (length xs) d refl (λ k less. refl))
     ∙ ap length (filter-map test (λ k. get_or xs k d) (range_with_len 0 (length xs)))
     ∙ length-map (filter (λ k. test (get_or xs k d)) (range_with_len 0 (length xs))) (λ k. get_or xs k d)
+
+-- what passes one of two tests, where no element passes both
+pub count_parts : {A : Type 0} (p q r : A → Bool) (xs : List A) → AllByRecursion (λ x. cond (p x) 1 0 + cond (q x) 1 0 ≡ cond (r x) 1 0) xs
+    → count p xs + count q xs ≡ count r xs
+count_parts p q r [] parts = refl
+count_parts p q r (x ∷ xs) parts =
+    omega (arith, parts.0, count-cons p x xs, count-cons q x xs, count-cons r x xs, count_parts p q r xs parts.1)
 
 -- among the places from 0 on, a test that only some from 1 on pass counts these alone
 pub count_inside : (test mine : ℕ → Bool) (n more : ℕ) → test 0 ≡ false → ((k : ℕ) → 1 ≤ k → k < 1 + n → test k ≡ mine k)

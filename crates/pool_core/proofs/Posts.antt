@@ -149,6 +149,7 @@ stands_at_delayed_post script past pool seat place task runner delay can later =
       lines = tells.lines;
       queues = hold_from script past (past ++ e ∷ []) pool.priorities.items (slice_set pool.postings.items task (Some (posted_as script runner delay)))
           pool.sequences pool.lanes tells (λ j. jobs_wait script past e j refl) (hold_posted delay can);
+      representatives = s.representatives;
       groups = groups_kept script past e pool.groups refl s.groups;
       delayed = rw (unripe_at_delayed_post past seat task runner delay later s.past_fits.no_tick_ahead, s.delayed, s.moment, can.place_is) refl;
       tracker = rw (tracked_at_post script past seat task runner delay s.past_fits can.is_new, s.tracker) refl;
@@ -183,6 +184,7 @@ stands_at_post script past pool seat place task runner delay can now allowed =
       queues = hold_refreshed script past e pool.priorities.items table pool.sequences held pool.lanes home runner s.script_fits tells refl runs
           (sequence_made script pool.lanes runner task s.script_fits s.queues.roomy can.runner_declared can.task_declared)
           (λ other another. other_sequence pool.sequences home other _ another) (hold_posted delay can);
+      representatives = s.representatives;
       groups = groups_kept script past e pool.groups refl s.groups;
       delayed = rw (unripe_at_post past seat task runner delay now) s.delayed;
       tracker = rw (tracked_at_post script past seat task runner delay s.past_fits can.is_new, s.tracker) refl;

@@ -108,6 +108,7 @@ stands_given script past pool seat runner priority priorities lanes knows given 
   priorities = tells.priorities_are;
   lines = tells.lines;
   queues = hold_from script past (past ++ e ∷ []) priorities.items pool.postings.items pool.sequences lanes tells (λ j. jobs_wait script past e j refl) hold;
+  representatives = stands.representatives;
   groups = groups_kept script past e pool.groups refl stands.groups;
   delayed = rw (unripe_kept past e refl) stands.delayed;
   tracker = stands.tracker ∙ sym (tracked_kept script past e refl);

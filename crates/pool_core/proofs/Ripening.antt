@@ -191,6 +191,7 @@ ripens_with script past moment front p rest pool held lanes ripens is lines queu
   runners = ripens.runners;
   lines = subst (λ rs. AreLines script past rs held) (sym (known-push past front p)) lines;
   queues = queues;
+  representatives = ripens.representatives;
   groups = ripens.groups;
   delayed = dropped pool p rest (length script.tasks) ripens.delayed;
   tracker = ripens.tracker;

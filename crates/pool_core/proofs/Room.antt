@@ -23,7 +23,7 @@ use Rattle.std.proofs.Math.Bool.{and-false, and-true, and_assoc}
 use Rattle.task_model.specs.Seats.{Holding, Running, holding, running, worker_seats}
 use Rattle.task_model.specs.Time.{now_of}
 use Rattle.task_traits.specs.declared.traits.Priority.{Priority}
-use Rattle.thread_group.specs.Group.{GroupWork, has_room}
+use Rattle.thread_group.specs.Group.{GroupWork, has_room, load}
 use Rattle.thread_group.specs.Work.{is_best, is_best_blocked, is_blocked, scope_counts}
 use Rattle.thread_group.specs.declared.work.Work.{Work}
 use Rattle.thread_group.specs.declared.work.OpenScope as scopes
@@ -84,6 +84,13 @@ best_load_by : (script : Plan) (group : Group) (scope : Option scopes.OpenScope)
 best_load_by script group scope None = refl
 best_load_by script group scope (Some priority) = kept_holds is_best (is_in script group priority) (work_of scope priority)
 
+-- so a group does as much as the rules say
+pub load_is : (script : Plan) (past : List Entry) (group : Group) (work : GroupWork) → IsPoolScript script → IsPoolPast script past
+    → StandsForGroup script past group work → load work ≡ capacities.load_of script past (is_in script group)
+load_is script past group work limits fits stands = counted script past group work is_some
+    (λ seat. holds_of (is_in script group) (capacities.work_at script past seat)) limits fits stands refl
+    (λ seat. load_by script group (scope_of past (running past seat)) (capacities.work_at script past seat))
+
 scope_counts_as : (script : Plan) (past : List Entry) (o : Option capacities.OpenScope)
     → holds_of (scope_counts script.threshold (now_of past)) (option_map opened_as o) ≡ holds_of (capacities.scope_counts script past) o
 scope_counts_as script past None = refl
@@ -116,8 +123,7 @@ room_is : (script : Plan) (past : List Entry) (group : Group) (work : GroupWork)
     → StandsForGroup script past group work → has_room work priority ≡ capacities.has_room_in script past group priority
 unfolding capacities.load capacities.capacity capacities.best_load capacities.best_capacity
 room_is script past group work priority limits fits stands = rw (
-  counted script past group work is_some (λ seat. holds_of (is_in script group) (capacities.work_at script past seat)) limits fits stands refl
-      (λ seat. load_by script group (scope_of past (running past seat)) (capacities.work_at script past seat)),
+  load_is script past group work limits fits stands,
   counted script past group work (holds_of is_best) (λ seat. holds_of (is_best_in script group) (capacities.work_at script past seat))
       limits fits stands refl (λ seat. best_load_by script group (scope_of past (running past seat)) (capacities.work_at script past seat)),
   counted script past group work (holds_of (is_blocked work.threshold work.moment)) (capacities.is_blocked script past (is_in script group))

@@ -135,6 +135,7 @@ stands_at_shutdown script past pool seat removed in_phase = let stands = in_phas
   lines = lines_at_shutdown script past pool.sequences seat (pool.sequences.room + removed) stands.lines phase_is;
   queues = rw stands.runners (rw (placed_by_table script pool.priorities.items None pool.postings.items _ pool.lanes (length pool.postings.items))
       (hold_at_shutdown script past pool seat (pool.sequences.room + removed) stands phase_is));
+  representatives = stands.representatives;
   groups = groups_kept script past _ pool.groups refl stands.groups;
   delayed = rw (unripe_kept past (record { seat = seat; kind = kinds.Shutdown }) refl) stands.delayed;
   tracker = rw (tracked_at_shutdown script past seat phase_is) (ap {A = Tracked} {B = Tracked} (λ t. record t { phase = phases.Started }) stands.tracker);

@@ -194,6 +194,7 @@ stands_at_take script past pool seat s chosen = rw stands.runners (record {
   lines = tells.lines;
   queues = hold_refreshed script past e pool.priorities.items pool.postings.items pool.sequences (taken_out pool.sequences s) pool.lanes s runner
       stands.script_fits tells refl runs made (λ other another. other_sequence pool.sequences s other _ another) (hold_standing script past pool stands);
+  representatives = stands.representatives;
   groups = groups_at_take script past pool.groups seat task runner found stands.script_fits stands.groups can.worker can.known can.free
       can.holds_nothing (stands.past_fits.scopes_of_taken task (head_accepted script past s chosen.head chosen.is_head).2);
   delayed = rw (unripe_kept past e refl) stands.delayed;

@@ -92,7 +92,3 @@ job_left pool seat j = settled (record pool {
 -- the source is of higher priority, and any worker may take it
 abbrev pub is_better : Priority → Candidate → Bool
 is_better priority c = not (is_some c.seat) && nat_lt (importance priority) (importance c.priority)
-
--- the seat runs a task of the pool, or is inside a job
-abbrev pub is_at_work : Pool → ℕ → Bool
-is_at_work pool seat = is_some (slice_index_or pool.seats.items seat None) || is_some (slice_index_or pool.holders.items seat None)

@@ -14,5 +14,4 @@ pub mod JobCalls
 pub mod JobState
 pub mod Others
 pub mod Ripens
-pub mod Idling
 pub mod Refreshes

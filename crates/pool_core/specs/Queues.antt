@@ -1,5 +1,5 @@
 -- What the queues of sources stand for.
-use Rattle.std.specs.Prelude.{◌≡◌, ℕ, ◌+◌, ◌<◌, ◌==◌, Bool, true, false, not, ◌&&◌, if◌then◌else◌, List, [], map, replicate, length, Option, None, unwrap_or, slice_index_or, slice_set}
+use Rattle.std.specs.Prelude.{◌≡◌, ℕ, ◌+◌, ◌<◌, ◌==◌, Bool, true, false, not, ◌&&◌, ◌||◌, if◌then◌else◌, List, [], map, replicate, length, Option, None, unwrap_or, slice_index_or, slice_set}
 use Rattle.std.specs.List.{list_any, range_with_len}
 use Rattle.std.specs.Option.{option_map}
 use Rattle.task_base.specs.Plan.{Plan}
@@ -34,6 +34,10 @@ queue_of lanes lane best = queue_in best (slice_index_or lanes lane no_lane)
 -- a single-thread runner states the seat
 abbrev pub is_stated : Plan → ℕ → Bool
 is_stated script seat = list_any (λ r. holds_of (λ only. only == seat) (seat_of_kind r.kind)) script.runners
+
+-- the worker is the first one, or a runner states it: where some worker may take a source, one of these may
+abbrev pub is_representative : Plan → ℕ → Bool
+is_representative script seat = seat == 1 || is_stated script seat
 
 -- for how many sequences the queues of a lane are made: any may be in lane 0, those of runners in the lane of a seat that a
 -- runner states, and none in each other one

@@ -1,16 +1,17 @@
 -- How delayed tasks ripen in the course of a tick.
-use Rattle.std.specs.Prelude.{◌≡◌, ℕ, ◌+◌, ◌≤◌, true, nat_le, List, ◌++◌, map, length}
+use Rattle.std.specs.Prelude.{◌≡◌, ℕ, ◌+◌, ◌≤◌, true, nat_le, List, ◌++◌, filter, map, length}
 use Rattle.std.specs.List.{AllByRecursion}
 use Rattle.task_base.specs.Plan.{Plan}
 use Rattle.task_base.specs.declared.entry.Entry.{Entry}
 use Rattle.task_model.specs.Posts.{Posted, posts}
 use Rattle.task_model.specs.Keys.{arrivals, ripe_behind}
+use Rattle.task_model.specs.Seats.{worker_seats}
 use Rattle.task_runners.specs.Table.{table_of}
 use Rattle.pool_core.specs.Calls.{CanTick, after_tick}
 use Rattle.pool_core.specs.Groups.{AreGroups, ticked}
 use Rattle.pool_core.specs.Lines.{AreLines}
 use Rattle.pool_core.specs.Jobs.{AreJobs, AreHolders}
-use Rattle.pool_core.specs.Queues.{HoldBy}
+use Rattle.pool_core.specs.Queues.{HoldBy, is_representative}
 use Rattle.pool_core.specs.State.{standing}
 use Rattle.pool_core.specs.Tables.{unripe, ripening_of, tracked, ArePostings, ArePriorities, AreSeats}
 use Rattle.pool_core.specs.declared.pool.Pool.{Pool}
@@ -29,6 +30,7 @@ pub record Ripens (script : Plan) (past : List Entry) (moment : ℕ) (front rest
   pub runners : pool.runners ≡ table_of script.runners script.background
   pub lines : AreLines script past (arrivals past ++ map (ripe_behind past) front) pool.sequences
   pub queues : HoldBy script (standing script past pool.priorities.items pool.postings.items pool.sequences) pool.lanes
+  pub representatives : pool.representatives.items ≡ filter (is_representative script) (worker_seats script)
   pub groups : (seat : ℕ) → AreGroups script (after_tick past seat moment) pool.groups
   pub delayed : pool.delayed ≡ record { held = map ripening_of rest; room = length script.tasks }
   pub tracker : pool.tracker ≡ tracked script past

@@ -1,14 +1,15 @@
 -- What the pool stands for.
-use Rattle.std.specs.Prelude.{◌≡◌, ◌+◌, ◌≤◌, List, map, length}
+use Rattle.std.specs.Prelude.{◌≡◌, ◌+◌, ◌≤◌, List, filter, map, length}
 use Rattle.task_base.specs.Plan.{Plan}
 use Rattle.task_base.specs.declared.entry.Entry.{Entry}
 use Rattle.task_model.specs.Time.{now_of}
 use Rattle.task_model.specs.Posts.{posts}
 use Rattle.task_model.specs.Keys.{arrivals}
+use Rattle.task_model.specs.Seats.{worker_seats}
 use Rattle.task_runners.specs.Table.{table_of}
 use Rattle.pool_core.specs.Pasts.{IsPoolScript, IsPoolPast}
 use Rattle.pool_core.specs.Lines.{AreLines}
-use Rattle.pool_core.specs.Queues.{HoldWaiting}
+use Rattle.pool_core.specs.Queues.{HoldWaiting, is_representative}
 use Rattle.pool_core.specs.Groups.{AreGroups}
 use Rattle.pool_core.specs.Jobs.{AreJobs, AreHolders}
 use Rattle.pool_core.specs.Tables.{unripe, ripening_of, tracked, ArePostings, ArePriorities, AreSeats}
@@ -26,6 +27,8 @@ pub record StandsFor (script : Plan) (past : List Entry) (pool : Pool) : Type 0 
   pub lines : AreLines script past (arrivals past) pool.sequences
   -- the sources that would wait under the policy `all`, with their ranks
   pub queues : HoldWaiting script past pool.lanes
+  -- the workers that answer for all where it is asked whether one may take a source
+  pub representatives : pool.representatives.items ≡ filter (is_representative script) (worker_seats script)
   -- what each worker does of the groups' work: a task with its scope, or an item of a job
   pub groups : AreGroups script past pool.groups
   -- the delayed tasks that are not ripe

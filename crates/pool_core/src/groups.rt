@@ -1,6 +1,6 @@
-ghost use Rattle.std.specs.Prelude.{◌≡◌, ◌≤◌, IsSome, IsSomeAnd, Some, None};
+ghost use Rattle.std.specs.Prelude.{◌≡◌, ◌+◌, ◌<◌, ◌^◌, ◌≤◌, IsSome, IsSomeAnd, Some, None};
 ghost use Rattle.task_base.specs.declared.limits.TheConstants.{MOST_WORKERS};
-ghost use Rattle.thread_group.specs.Group.{work_at, with_work, with_scope, has_room};
+ghost use Rattle.thread_group.specs.Group.{work_at, with_work, with_scope, has_room, load};
 ghost use Rattle.pool_core.specs.Groups.{group_at, group_in, with_group, with_group_at, empty_groups, ticked};
 
 use task_base::{Priority, Scope, Script, SeatNo};
@@ -34,6 +34,14 @@ impl Groups {
         } else {
             self.foreground.may_start(priority)
         }
+    }
+
+    /// How many seats do work of the pool.
+    pub fn running(&self) -> u32
+        requires { load self.now.foreground + load self.now.background < 2 ^ 32 }
+        ensures { result ≡ load self.now.foreground + load self.now.background }
+    {
+        self.foreground.running() + self.background.running()
     }
 
     /// A seat has started on work of a group.

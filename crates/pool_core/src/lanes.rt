@@ -1,7 +1,8 @@
-ghost use Rattle.std.specs.Prelude.{◌≡◌, ◌+◌, ◌<◌, ◌^◌, Bool, length, IfOk};
+ghost use Rattle.std.specs.Prelude.{◌≡◌, ◌+◌, ◌<◌, ◌^◌, Bool, filter, length, IfOk};
 ghost use Rattle.list_laws.specs.Lists.{keep};
 ghost use Rattle.sequence_queue.specs.Ranked.{IsBest, IsMadeFor, with_rank};
-ghost use Rattle.pool_core.specs.Queues.{fits, queue_of, with_source, empty_lane, empty_lanes, sequence_room, job_room};
+ghost use Rattle.task_model.specs.Seats.{worker_seats};
+ghost use Rattle.pool_core.specs.Queues.{fits, queue_of, with_source, empty_lane, empty_lanes, is_representative, is_stated, sequence_room, job_room};
 
 use sequence_queue::{Rank, SourceQueue};
 use std::alloc::{AllocError, Global};
@@ -99,12 +100,40 @@ fn room(script: &Script, seat: SeatNo) -> (u32, u32)
             script.jobs.len() as u32,
         );
     }
-    let is_stated = script
+    (if is_stated(script, seat) { runners } else { 0 }, 0)
+}
+
+/// The workers that answer for all: the first one, and each that a single-thread runner states. Where some worker may take
+/// a source, one of these may. The error is want of memory.
+pub fn representatives(alloc: Global, script: &Script) -> Result<Vec<SeatNo>, AllocError>
+    requires { script.now.workers < 2 ^ 31 }
+    ensures { IfOk result (λ seats. seats.items ≡ filter (is_representative script.now) (worker_seats script.now)) }
+{
+    let mut seats = Vec::new(alloc);
+    for seat in 1..script.workers + 1 {
+        if is_representative(script, seat) {
+            seats.push(seat)?;
+        }
+    }
+    Ok(seats)
+}
+
+// Whether a worker is the first one, or a single-thread runner states it.
+fn is_representative(script: &Script, seat: SeatNo) -> bool
+    ensures { result ≡ is_representative script.now seat }
+{
+    seat == 1 || is_stated(script, seat)
+}
+
+// Whether a single-thread runner states the seat.
+fn is_stated(script: &Script, seat: SeatNo) -> bool
+    ensures { result ≡ is_stated script.now seat }
+{
+    script
         .runners
         .as_slice()
         .iter()
-        .any(|runner| runner.kind == RunnerKind::Single(seat));
-    (if is_stated { runners } else { 0 }, 0)
+        .any(|runner| runner.kind == RunnerKind::Single(seat))
 }
 
 // A rank, where its source belongs to the queue for best-effort sources, or to the other one.

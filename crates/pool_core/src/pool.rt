@@ -22,7 +22,7 @@ mod jobs;
 mod sources;
 
 use crate::groups::Groups;
-use crate::lanes::Lanes;
+use crate::lanes::{Lanes, representatives};
 use crate::pool_job::{Holder, PoolJob, fresh_jobs};
 use crate::pool_take::PoolTake;
 use crate::posting::Posting;
@@ -45,7 +45,7 @@ use task_traits::{effective, forbids};
 ///
 /// A call stands for the entry of its kind in the history. All memory is taken by `new`. A post, a take, an end, a scope, a
 /// policy and each call on a job take time logarithmic in the number of runners, tasks and jobs at most; a tick besides for
-/// each task that ripens; `idle` looks at each seat once, `reprio` at each task twice, and `start_shutdown` at each runner,
+/// each task that ripens; `is_any_ready` and `idle` look at each seat that a single-thread runner states, `reprio` at each task twice, and `start_shutdown` at each runner,
 /// task and job.
 #[derive(Drop)]
 pub struct Pool {
@@ -54,6 +54,8 @@ pub struct Pool {
     priorities: Vec<Priority>,
     sequences: Sequences,
     lanes: Lanes,
+    /// The workers that answer for all where it is asked whether one may take a source.
+    representatives: Vec<SeatNo>,
     groups: Groups,
     delayed: Delayed,
     tracker: Tracker,
@@ -78,6 +80,7 @@ impl Pool {
         let tasks = script.tasks.len() as u32;
         let (runners, sequences, lanes, delayed) = fresh_parts(alloc, script, tasks)?;
         let priorities = first_priorities(alloc, script)?;
+        let representatives = representatives(alloc, script)?;
         let jobs = fresh_jobs(alloc, script)?;
         let (postings, seats, holders) = empty_places(
             alloc,
@@ -89,6 +92,7 @@ impl Pool {
             priorities,
             sequences,
             lanes,
+            representatives,
             groups: Groups::new(script),
             delayed,
             tracker: Tracker::new(),
@@ -224,16 +228,10 @@ impl Pool {
         ensures not_yet { (script : Plan) (past : List Entry) → StandsFor script past self.now
             → IfErr result (λ not_yet. (not_yet.running ≡ running_tasks script past) × (not_yet.ready ≡ is_any_ready script past)) }
     {
-        let mut not_yet = NotYet {
-            running: 0,
-            ready: false,
-        };
-        for seat in 1..self.seats.len() {
-            not_yet.running += u32::from(self.is_working(seat));
-            not_yet.ready |= self.best(seat as SeatNo).is_some();
-        }
-        if not_yet.running > 0 || not_yet.ready {
-            return Err(not_yet);
+        let running = self.groups.running();
+        let ready = self.is_any_ready();
+        if running > 0 || ready {
+            return Err(NotYet { running, ready });
         }
         Ok(())
     }

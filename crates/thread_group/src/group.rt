@@ -75,6 +75,13 @@ impl Group {
                 || is_below(counts.best_running, self.best_limit, counts.best_blocked))
     }
 
+    /// How much work runs here.
+    pub fn running(&self) -> u32
+        ensures { result ≡ load self.now }
+    {
+        self.counts.running
+    }
+
     /// Whether as much work runs here as may.
     pub fn full(&self) -> bool
         ensures { result ≡ nat_le (capacity self.now) (load self.now) }

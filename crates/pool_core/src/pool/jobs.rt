@@ -18,7 +18,7 @@ ghost use Rattle.pool_core.specs.Groups.{group_at, group_in, in_background};
 ghost use Rattle.pool_core.specs.declared.pool_job.Holder.{Holder};
 ghost use Rattle.pool_core.specs.Calls.{TakeAnswers, after_take};
 ghost use Rattle.pool_core.specs.JobCalls.{CanEnter, CanJoin, CanPostJob, CanStep, IsJobChosen, KnowsJob, after_entering, after_job_cancel, after_job_post, after_step, entering, has_to_leave, joined_of};
-ghost use Rattle.pool_core.specs.JobState.{HaveJobPlaces, HasJobPlace, is_at_work, is_better, job_left, job_of, job_refreshed, jobs_refreshed_below, settled, settled_share, with_item_ended, with_item_started};
+ghost use Rattle.pool_core.specs.JobState.{HaveJobPlaces, HasJobPlace, is_better, job_left, job_of, job_refreshed, jobs_refreshed_below, settled, settled_share, with_item_ended, with_item_started};
 ghost use Rattle.pool_core.specs.StandsFor.{StandsFor};
 
 use crate::pool::Pool;
@@ -275,15 +275,6 @@ impl Pool {
         for job in 0..self.jobs.len() {
             self.refresh_job(job as JobId);
         }
-    }
-
-    // Whether a seat runs a task or is inside a job.
-    pub(super) fn is_working(&self, seat: usize) -> bool
-        requires seated { seat < length self.now.seats.items }
-        requires holds { seat < length self.now.holders.items }
-        ensures { result ≡ is_at_work self.now seat }
-    {
-        self.seats[seat].is_some() || self.holders[seat].is_some()
     }
 }
 

@@ -4,9 +4,10 @@ ghost use Rattle.task_base.specs.Plan.{Plan};
 ghost use Rattle.task_base.specs.declared.entry.Entry.{Entry};
 ghost use Rattle.task_model.specs.Sources.{best_of};
 ghost use Rattle.task_sequence.specs.Sequences.{sequence_at};
-ghost use Rattle.pool_core.specs.Calls.{KnowsSeat};
+ghost use Rattle.pool_core.specs.Calls.{KnowsSeat, is_any_ready};
 ghost use Rattle.pool_core.specs.Choice.{IsBestOf, IsOffer, IsOffered, better_of, is_open};
 ghost use Rattle.pool_core.specs.Refreshes.{HavePlaces, all_refreshed, is_meant, posted_at};
+ghost use Rattle.pool_core.specs.StandsFor.{StandsFor};
 ghost use Rattle.pool_core.specs.State.{HasPlace, given_rank, refreshed, rank_of_head};
 
 use crate::pool::Pool;
@@ -22,6 +23,20 @@ impl Pool {
         ensures { (script : Plan) (past : List Entry) → KnowsSeat script past self.now seat → result ≡ is_some (best_of script past seat) }
     {
         self.best(seat).is_some()
+    }
+
+    /// Whether some worker may take a source now, were none at work. Besides the first worker it asks those that
+    /// single-thread runners state, until one may, in constant time each.
+    pub fn is_any_ready(&self) -> bool
+        requires { (script : Plan) × (past : List Entry) × StandsFor script past self.now }
+        ensures { (script : Plan) (past : List Entry) → StandsFor script past self.now → result ≡ is_any_ready script past }
+    {
+        for seat in self.representatives.as_slice() {
+            if self.has_work(*seat) {
+                return true;
+            }
+        }
+        false
     }
 
     // The best source that a seat may take, with its rank.
