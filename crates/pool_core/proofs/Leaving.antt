@@ -1,20 +1,22 @@
--- What is let go before all are given their places anew: each comes to its place as if it had stayed.
+-- What is let go, or put elsewhere, before all are given their places anew: each comes to its place as if it had stayed.
+-- So it does not matter which way they are gone through.
 use Rattle.list_laws.proofs.Places.{slice_set-twice}
 use Rattle.list_laws.specs.Lists.{keep}
 use Rattle.pool_core.proofs.Places.{posted_is}
 use Rattle.pool_core.proofs.Queues.{shape_kept}
 use Rattle.pool_core.specs.Queues.{fits, no_lane, with_source}
-use Rattle.pool_core.specs.Refreshes.{HavePlaces, all_refreshed, placed, posted_at, with_place}
-use Rattle.pool_core.specs.State.{HasPlace, given_rank, lane_by, rank_by, sequence_by}
+use Rattle.pool_core.specs.Refreshes.{HavePlaces, all_refreshed, is_meant, placed, posted_at, with_place}
+use Rattle.pool_core.specs.State.{HasPlace, given_rank, lane_by, rank_by, refreshed, sequence_by}
 use Rattle.pool_core.specs.declared.lanes.Lane.{Lane}
 use Rattle.pool_core.specs.declared.pool.Pool.{Pool}
 use Rattle.pool_core.specs.declared.posting.Posting.{Posting}
 use Rattle.sequence_queue.specs.Ranked.{with_rank}
 use Rattle.sequence_queue.specs.declared.rank.Rank.{Rank}
-use Rattle.std.proofs.Common.{List, None, Option, Some, ap, arith, false, inl, inr, length, refl, subst, suc, sym, true, zero, ℕ, ◌+◌, ◌<◌, ◌^◌, ◌∙◌, ◌≡◌}
+use Rattle.std.proofs.Common.{List, None, Option, Some, ap, arith, false, inl, inr, length, refl, subst, suc, sym, true, zero, ℕ, ◌+◌, ◌<◌, ◌^◌, ◌∙◌, ◌≡◌, ◌≤◌}
 use Rattle.std.proofs.lemmas.Bool.{cases_eq, cases_lt, eqb-true}
-use Rattle.std.proofs.lemmas.List.{get_or-set_same, length-set, set_comm, set_past}
-use Rattle.std.specs.Prelude.{slice_index_or, slice_set}
+use Rattle.std.proofs.lemmas.List.{get_or-set_same, get_or_past, length-set, set_comm, set_past}
+use Rattle.std.proofs.lemmas.Option.{none-some}
+use Rattle.std.specs.Prelude.{slice_index_or, slice_set, ◌⊎◌}
 use Rattle.task_base.specs.Plan.{Plan}
 use Rattle.task_base.specs.Runners.{sequence_of}
 use Rattle.task_base.specs.declared.source.TaskSource.TheVariants.{Sequence}
@@ -106,28 +108,28 @@ placed_with table priorities runner postings held s one other (suc n) same =
     by (Some posting) is same = rw (← runner_meant runner postings n posting is)
         (still_with (lane_by table runner) s (sequence_of table runner n) (rank_by priorities runner (sequence_at held (sequence_of table runner n))) _ _ same)
 
--- a sequence that is let go comes to the same place
+-- a sequence that is let go, or held with another rank, comes to the same place
 placed_again : (table : Plan) (priorities : List Priority) (runner : ℕ) (postings : List (Option Posting)) (held : Held) (lanes : List Lane) (t n : ℕ)
-    (posting : Posting) → t < n → posted_at (Some runner) postings t ≡ Some posting
-    → placed table priorities (Some runner) postings held (with_source lanes (lane_by table runner) (Sequence (sequence_of table runner t)) None) n
+    (posting : Posting) (rank : Option Rank) → t < n → posted_at (Some runner) postings t ≡ Some posting
+    → placed table priorities (Some runner) postings held (with_source lanes (lane_by table runner) (Sequence (sequence_of table runner t)) rank) n
     ≡ placed table priorities (Some runner) postings held lanes n
-placed_again table priorities runner postings held lanes t zero posting less is = absurd (omega (arith, less))
-placed_again table priorities runner postings held lanes t (suc n) posting less is = elim (cases_eq t n) [
+placed_again table priorities runner postings held lanes t zero posting rank less is = absurd (omega (arith, less))
+placed_again table priorities runner postings held lanes t (suc n) posting rank less is = elim (cases_eq t n) [
   | inl last ↦ rw (← last, is, ← runner_meant runner postings t posting is)
       (placed_with table priorities runner postings held (sequence_of table runner t)
-      (with_source lanes (lane_by table runner) (Sequence (sequence_of table runner t)) None) lanes t
-      (later_counts lanes (lane_by table runner) (sequence_of table runner t) None) (rank_by priorities runner (sequence_at held (sequence_of table runner t))))
+      (with_source lanes (lane_by table runner) (Sequence (sequence_of table runner t)) rank) lanes t
+      (later_counts lanes (lane_by table runner) (sequence_of table runner t) rank) (rank_by priorities runner (sequence_at held (sequence_of table runner t))))
   | inr earlier ↦ ap (λ l. with_place table priorities held l n (posted_at (Some runner) postings n))
-      (placed_again table priorities runner postings held lanes t n posting (omega (arith, less, earlier)) is)
+      (placed_again table priorities runner postings held lanes t n posting rank (omega (arith, less, earlier)) is)
 ]
 
 -- so the pool is as if it had stayed, once all are given their places
-pub refreshed_again : (pool : Pool) (runner t : ℕ) (posting : Posting) → t < length pool.postings.items
+pub refreshed_again : (pool : Pool) (runner t : ℕ) (posting : Posting) (rank : Option Rank) → t < length pool.postings.items
     → posted_at (Some runner) pool.postings.items t ≡ Some posting
-    → all_refreshed (given_rank pool (sequence_by pool t posting) posting.runner None) (Some runner) ≡ all_refreshed pool (Some runner)
-refreshed_again pool runner t posting less is = rw (← runner_meant runner pool.postings.items t posting is)
+    → all_refreshed (given_rank pool (sequence_by pool t posting) posting.runner rank) (Some runner) ≡ all_refreshed pool (Some runner)
+refreshed_again pool runner t posting rank less is = rw (← runner_meant runner pool.postings.items t posting is)
     (ap (λ (l : List Lane). record pool { lanes = l })
-    (placed_again pool.runners pool.priorities.items runner pool.postings.items pool.sequences pool.lanes t (length pool.postings.items) posting less is))
+    (placed_again pool.runners pool.priorities.items runner pool.postings.items pool.sequences pool.lanes t (length pool.postings.items) posting rank less is))
 
 -- and each task that was posted has a place still
 pub places_left : (pool : Pool) (s runner : ℕ) (rank : Option Rank) → HavePlaces pool → HavePlaces (given_rank pool s runner rank)
@@ -150,3 +152,73 @@ places_left pool s runner rank places task posting known =
 pub leaving_place : (pool : Pool) (runner t : ℕ) (posting : Posting) → HavePlaces pool → posted_at (Some runner) pool.postings.items t ≡ Some posting
     → (length pool.runners.runners + t < 2 ^ 32) × HasPlace pool (sequence_by pool t posting) posting.runner
 leaving_place pool runner t posting places is = places t posting (posted_is (Some runner) pool.postings.items t posting is).0
+
+-- Last to first.
+
+-- the sequences of those of the runner's tasks that are no lesser than this one have their places: to give them these changes nothing
+pub record AreSettled (pool : Pool) (runner from : ℕ) : Type 0 where
+  pub again : (t : ℕ) (posting : Posting) → from ≤ t → posted_at (Some runner) pool.postings.items t ≡ Some posting
+      → (refreshed pool (sequence_of pool.runners runner t) runner).lanes ≡ pool.lanes
+
+-- where no task is left, all have
+pub settled_at_end : (pool : Pool) (runner from : ℕ) → length pool.postings.items ≤ from → AreSettled pool runner from
+settled_at_end pool runner from end = record {
+  again = λ t posting no_lesser is.
+      absurd (none-some posting (sym (ap (keep (is_meant (Some runner))) (get_or_past pool.postings.items t None (omega (arith, end, no_lesser)))) ∙ is));
+}
+
+-- one more that is not the runner's
+pub settled_without : (pool : Pool) (runner t from : ℕ) → from ≡ t + 1
+    → ((posting : Posting) → posted_at (Some runner) pool.postings.items t ≡ Some posting → ⊥) → AreSettled pool runner from → AreSettled pool runner t
+settled_without pool runner t from next none settled = record { again = λ k posting no_lesser is. by k posting no_lesser is (cases_eq k t) }
+  where
+    by : (k : ℕ) (posting : Posting) → t ≤ k → posted_at (Some runner) pool.postings.items k ≡ Some posting → (k ≡ t) ⊎ (k ≡ t → ⊥)
+        → (refreshed pool (sequence_of pool.runners runner k) runner).lanes ≡ pool.lanes
+    by k posting no_lesser is (inl same) = absurd (none posting (ap (posted_at (Some runner) pool.postings.items) (sym same) ∙ is))
+    by k posting no_lesser is (inr another) = settled.again k posting (omega (arith, no_lesser, another, next)) is
+
+-- one more that is given its place
+pub settled_with : (pool : Pool) (runner t from : ℕ) (posting : Posting) → from ≡ t + 1 → posted_at (Some runner) pool.postings.items t ≡ Some posting
+    → AreSettled pool runner from → AreSettled (refreshed pool (sequence_by pool t posting) posting.runner) runner t
+settled_with pool runner t from posting next posted settled = rw (← runner_meant runner pool.postings.items t posting posted)
+    record { again = λ k other no_lesser is. by k other no_lesser is (cases_eq k t) }
+  where
+    lane : ℕ
+    lane = lane_by pool.runners runner
+
+    mine : ℕ
+    mine = sequence_of pool.runners runner t
+
+    rank : ℕ → Option Rank
+    rank s = rank_by pool.priorities.items runner (sequence_at pool.sequences s)
+
+    its : (s : ℕ) → with_source pool.lanes lane (Sequence s) (rank s) ≡ pool.lanes → (s ≡ mine) ⊎ (s ≡ mine → ⊥)
+        → with_source (with_source pool.lanes lane (Sequence mine) (rank mine)) lane (Sequence s) (rank s)
+        ≡ with_source pool.lanes lane (Sequence mine) (rank mine)
+    its s was (inl own) = rw own (later_counts pool.lanes lane mine (rank mine) (rank mine))
+    its s was (inr another) = in_either_order pool.lanes lane mine s (rank mine) (rank s) (λ same. another (sym same))
+        ∙ ap (λ lanes. with_source lanes lane (Sequence mine) (rank mine)) was
+
+    by : (k : ℕ) (other : Posting) → t ≤ k → posted_at (Some runner) pool.postings.items k ≡ Some other → (k ≡ t) ⊎ (k ≡ t → ⊥)
+        → with_source (with_source pool.lanes lane (Sequence mine) (rank mine)) lane (Sequence (sequence_of pool.runners runner k))
+        (rank (sequence_of pool.runners runner k))
+        ≡ with_source pool.lanes lane (Sequence mine) (rank mine)
+    by k other no_lesser is (inl same) = rw same (later_counts pool.lanes lane mine (rank mine) (rank mine))
+    by k other no_lesser is (inr another) = its (sequence_of pool.runners runner k) (settled.again k other (omega (arith, no_lesser, another, next)) is)
+        (cases_eq (sequence_of pool.runners runner k) mine)
+
+-- where all have their places, to give them these changes nothing
+placed_stays : (pool : Pool) (runner n : ℕ) → AreSettled pool runner 0
+    → placed pool.runners pool.priorities.items (Some runner) pool.postings.items pool.sequences pool.lanes n ≡ pool.lanes
+placed_stays pool runner zero settled = refl
+placed_stays pool runner (suc n) settled = by (posted_at (Some runner) pool.postings.items n) refl
+    (placed pool.runners pool.priorities.items (Some runner) pool.postings.items pool.sequences pool.lanes n) (placed_stays pool runner n settled)
+  where
+    by : (o : Option Posting) → posted_at (Some runner) pool.postings.items n ≡ o → (so_far : List Lane) → so_far ≡ pool.lanes
+        → with_place pool.runners pool.priorities.items pool.sequences so_far n o ≡ pool.lanes
+    by None is so_far stays = stays
+    by (Some posting) is so_far stays = rw (← runner_meant runner pool.postings.items n posting is, stays) (settled.again n posting (omega arith) is)
+
+pub all_settled : (pool : Pool) (runner from : ℕ) → from ≤ 0 → AreSettled pool runner from → all_refreshed pool (Some runner) ≡ pool
+all_settled pool runner from first settled = ap (λ (l : List Lane). record pool { lanes = l }) (placed_stays pool runner (length pool.postings.items)
+    (record { again = λ t posting no_lesser is. settled.again t posting (omega (arith, first)) is }))

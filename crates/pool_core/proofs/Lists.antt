@@ -3,11 +3,10 @@ use Rattle.list_laws.proofs.Counts.{count-append, count-cons, count_step}
 use Rattle.list_laws.proofs.Filters.{filter-map, filter_congr_in, filter_none}
 use Rattle.list_laws.proofs.Ranges.{AllByRecursion-range}
 use Rattle.list_laws.proofs.Values.{some-injective}
-use Rattle.list_laws.specs.Lists.{count, holds_of, keep}
+use Rattle.list_laws.specs.Lists.{count, holds_of}
 use Rattle.std.proofs.Common.{Bool, List, None, Option, Some, [], ap, arith, cond, false, get_or, inl, inr, length, refl, suc, sym, true, zero, ℕ, ◌++◌, ◌+◌, ◌<◌, ◌∙◌, ◌∷◌, ◌≡◌, ◌≤◌}
 use Rattle.std.proofs.lemmas.Bool.{cases_lt, false_from_ne_true, true≢false}
 use Rattle.std.proofs.lemmas.List.{get_or-replicate, get_or_past, length-map, length-replicate}
-use Rattle.std.proofs.lemmas.List.Folds.{list_any-append}
 use Rattle.std.proofs.lemmas.List.FromFn.{fill_by_all}
 use Rattle.std.specs.List.{AllByRecursion, list_any, range_with_len}
 use Rattle.std.specs.Option.{option_map}
@@ -43,10 +42,6 @@ pub kept_is_some : {A : Type 0} (b : Bool) (x : A) → is_some (cond b (Some x) 
 kept_is_some true x = refl
 kept_is_some false x = refl
 
-pub some_kept : {A : Type 0} (test : A → Bool) (o : Option A) → is_some (keep test o) ≡ holds_of test o
-some_kept test None = refl
-some_kept test (Some x) = kept_is_some (test x) x
-
 pub kept_holds : {A : Type 0} (test : A → Bool) (b : Bool) (x : A) → holds_of test (cond b (Some x) None) ≡ (b && test x)
 kept_holds test true x = refl
 kept_holds test false x = refl
@@ -54,10 +49,6 @@ kept_holds test false x = refl
 pub or_none : (b c : Bool) → c ≡ false → (b || c) ≡ b
 or_none true c none = refl
 or_none false c none = none
-
--- a test of a list with one more element
-pub any_more : {A : Type 0} (p : A → Bool) (xs : List A) (x : A) → list_any p (xs ++ x ∷ []) ≡ (list_any p xs || p x)
-any_more p xs x = list_any-append p xs (x ∷ []) ∙ ap (λ b. list_any p xs || b) (or_none (p x) false refl)
 
 -- what keeps each element that passes a test finds as many that do: one, or none
 pub any_filtered : {A : Type 0} (p q : A → Bool) (xs : List A) → ((x : A) → p x ≡ true → q x ≡ true) → list_any p (filter q xs) ≡ list_any p xs

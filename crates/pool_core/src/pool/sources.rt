@@ -25,8 +25,8 @@ impl Pool {
         self.best(seat).is_some()
     }
 
-    /// Whether some worker may take a source now, were none at work. Besides the first worker it asks those that
-    /// single-thread runners state, until one may, in constant time each.
+    /// Whether there is a source that some worker may take now, be it at work or not. Constant time for the first worker, and
+    /// for each other one that a single-thread runner states.
     pub fn is_any_ready(&self) -> bool
         requires { (script : Plan) × (past : List Entry) × StandsFor script past self.now }
         ensures { (script : Plan) (past : List Entry) → StandsFor script past self.now → result ≡ is_any_ready script past }
@@ -94,9 +94,25 @@ impl Pool {
         self.lanes.put(lane, TaskSource::Sequence(seq), rank);
     }
 
+    // Gives the sequences of a runner whose priority has changed their places anew: where they stay in their heaps, in the
+    // order in which none passes another, and else after all were let go.
+    pub(super) fn place_anew(&mut self, runner: RunnerId, before: Priority, now: Priority)
+        requires { HavePlaces self.old }
+        ensures { self.new ≡ all_refreshed self.old (Some runner) }
+    {
+        if (before == Priority::BestEffort) != (now == Priority::BestEffort) {
+            self.let_go(runner);
+            self.refresh_all(Some(runner));
+        } else if before < now {
+            self.refresh_all(Some(runner));
+        } else {
+            self.refresh_back(runner);
+        }
+    }
+
     // Takes the sequence of each task of a runner from among the sources that wait, before they are given their places
     // anew: the last one first, since that of a heap in order leaves without a move.
-    pub(super) fn let_go(&mut self, runner: RunnerId)
+    fn let_go(&mut self, runner: RunnerId)
         requires { HavePlaces self.old }
         ensures places { HavePlaces self.new }
         ensures refreshed { all_refreshed self.new (Some runner) ≡ all_refreshed self.old (Some runner) }
@@ -119,6 +135,21 @@ impl Pool {
     {
         for task in 0..self.postings.len() {
             if let Some(posting) = self.posted(task, only) {
+                let seq = self.runners.seq_of(posting.runner, task as TaskId);
+                self.refresh(seq, posting.runner);
+            }
+        }
+    }
+
+    // Gives the sequence of each task of a runner its place among the sources that wait, last to first.
+    fn refresh_back(&mut self, runner: RunnerId)
+        requires { HavePlaces self.old }
+        ensures { self.new ≡ all_refreshed self.old (Some runner) }
+    {
+        let mut task = self.postings.len();
+        while task > 0 {
+            task -= 1;
+            if let Some(posting) = self.posted(task, Some(runner)) {
                 let seq = self.runners.seq_of(posting.runner, task as TaskId);
                 self.refresh(seq, posting.runner);
             }

@@ -7,4 +7,5 @@ use Rattle.pool_core.proofs.Idling.{may_take}
 use Rattle.pool_core.proofs.pool.Pool.is_any_ready.Given as goal
 
 abbrev pub invariant-loop-seat : goal.invariant-loop-seat
-invariant-loop-seat l = (script : Plan) (past : List Entry) → StandsFor script past l.self → list_any (may_take script past) (take l.seat-index l.seat-items) ≡ false
+invariant-loop-seat l = (script : Plan) (past : List Entry) → StandsFor script past l.self
+    → list_any (may_take script past) (take l.seat-index l.seat-items) ≡ false

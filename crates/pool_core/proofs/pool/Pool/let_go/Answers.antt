@@ -30,6 +30,6 @@ pub loop-task-preserved-in-Some : goal.loop-task-preserved-in-Some
 loop-task-preserved-in-Some c = rw (c.put.ensures, c.seq_of-seq.ensures) record {
   within = omega arith;
   places = places_left c.loop-task.self _ c.in-Some.posting.runner None c.loop-task.invariant.places;
-  refreshed = refreshed_again c.loop-task.self c.args.runner (c.loop-task.task - 1) c.in-Some.posting (omega arith)
+  refreshed = refreshed_again c.loop-task.self c.args.runner (c.loop-task.task - 1) c.in-Some.posting None (omega arith)
       (sym c.posted.ensures ∙ c.in-Some.is) ∙ c.loop-task.invariant.refreshed;
 }

@@ -8,8 +8,8 @@ use Rattle.task_traits.specs.declared.traits.Priority.TheVariants.{BestEffort}
 use denote.Enum.Bare.{same_true}
 use Rattle.pool_core.proofs.pool.Pool.reprio.Goals as goal
 
-pub let_go-requires : goal.let_go-requires
-let_go-requires c =
+pub place_anew-requires : goal.place_anew-requires
+place_anew-requires c =
     let pool = c.args.self.now in
     have_places c.requires.0 c.requires.1 pool (with_item pool.priorities c.args.runner c.args.priority) pool.tracker pool.sequences c.requires.2.stands
     (length-set pool.priorities.items c.args.runner c.args.priority) refl
@@ -22,5 +22,5 @@ returns-then-eq c script past seat knows =
     BestEffort) ∙ same_true the_type (search rules) _ _ (sym c.if-eq.ensures))
 
 pub returns : goal.returns
-returns c script past seat knows = rw (c.refresh_all.ensures ∙ c.let_go.ensures.refreshed)
+returns c script past seat knows = rw c.place_anew.ensures
     (stands_at_reprio script past c.args.self.now seat c.args.runner c.args.priority knows)
