@@ -21,10 +21,10 @@ use Rattle.std.proofs.lemmas.Map.Keys.{any_passes_from_place}
 use Rattle.std.proofs.lemmas.Option.{none-some}
 use Rattle.std.specs.List.{list_any, range_with_len}
 use Rattle.std.specs.Option.{option_map_or}
-use Rattle.std.specs.Prelude.{filter, is_some, not, option_and_then, slice_get, ◌&&◌, ◌==◌, ◌||◌}
+use Rattle.std.specs.Prelude.{filter, is_some, not, option_and_then, slice_get, ◌==◌, ◌||◌}
 use Rattle.task_base.specs.Groups.{Background, Foreground, Group, group_of, same_group}
 use Rattle.task_base.specs.Plan.{Plan}
-use Rattle.task_base.specs.Runners.{seat_of, seat_of_kind}
+use Rattle.task_base.specs.Runners.{seat_of_kind}
 use Rattle.task_base.specs.declared.entry.Entry.{Entry}
 use Rattle.task_base.specs.declared.script.Runner.{Runner}
 use Rattle.task_base.specs.declared.source.TaskSource.{TaskSource}

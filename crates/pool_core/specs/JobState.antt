@@ -1,6 +1,6 @@
 -- How the parts of the pool follow the jobs: each job is in the queue of its priority, with the rank that its items and its
 -- post give.
-use Rattle.std.specs.Prelude.{ℕ, zero, suc, ◌-◌, ◌<◌, Bool, true, ◌&&◌, ◌||◌, not, nat_lt, if◌then◌else◌, List, length, Some, None, is_some, slice_index_or}
+use Rattle.std.specs.Prelude.{ℕ, zero, suc, ◌-◌, ◌<◌, Bool, true, ◌&&◌, not, nat_lt, if◌then◌else◌, List, length, Some, None, is_some, slice_index_or}
 use Rattle.std.specs.Vec.{with_item}
 use Rattle.task_base.specs.Groups.{importance}
 use Rattle.task_base.specs.declared.source.TaskSource.TheVariants.{Job}
