@@ -1,5 +1,6 @@
 -- The number that a word writes.
 use Rattle.std.proofs.Common.{◌≡◌, ◌≢◌, ℕ, zero, suc, ◌<◌, ◌≤◌, ◌+◌, ◌*◌, ◌^◌, List, [], ◌∷◌, length, get_or, drop, Option, Some, None, IfSome, drop-cons, refl, sym, ap, ◌∙◌, ◌⊎◌, inl, inr, arith}
+use native.Mathlib.Nat.{pow-le-pow_right}
 use Rattle.std.specs.Char.{digit_value}
 use Rattle.std.specs.Fmt.{decimal}
 use Rattle.std.specs.Str.{all_ascii_digits, bytes_eq}
@@ -7,6 +8,7 @@ use Rattle.std.specs.Str.Parse.{digits_value, digits_value_after}
 use Rattle.std.proofs.Math.Bool.{and-false, and-true}
 use Rattle.std.proofs.lemmas.Bool.{and_parts, both_ways, cases_Bool, cases_lt, false_from_ne_true, lt-ltb, le-ltb}
 use Rattle.std.proofs.lemmas.List.{drop_all}
+use Rattle.std.proofs.lemmas.Grind.{pow_more}
 use Rattle.std.proofs.lemmas.Option.{cond_some}
 use Rattle.std.proofs.lemmas.Fmt.{decimal_digit, first_decimal, digits_decimal, digits_value-decimal, decimal-digits_value, decimal_nonempty}
 use Rattle.std.proofs.lemmas.Slice.Eq.{bytes_eq-Decides}
@@ -104,3 +106,18 @@ pub sum_of-end : (word : List ℕ) (n i : ℕ) → digits_value_after 10 n (drop
 sum_of-end word n i summed digits end fits =
     let none : drop i word ≡ [] = drop_all i word end in
     rw (← (rw none at digits), ← (rw none at summed), lt-ltb n (2 ^ 64) fits) refl
+
+-- ---- a sum of few digits
+
+-- with one digit more it is below the next power of ten
+short_more : (n i d : ℕ) → n < 10 ^ i → d ≤ 9 → n * 10 + d < 10 ^ (i + 1)
+short_more n i d short digit = let power : 10 ^ (i + 1) ≡ 10 ^ i * 10 = pow_more 10 i in omega (arith, power)
+
+-- and where these are 19 at most, it has at most 64 bits
+pub digit_fits : (n i d : ℕ) → n < 10 ^ i → i < 19 → d ≤ 9 → n * 10 + d < 2 ^ 64
+digit_fits n i d short few digit =
+    let next = short_more n i d short digit in
+    let ten : 0 < 10 = omega arith in
+    let within : i + 1 ≤ 19 = omega arith in
+    let most : 10 ^ (i + 1) ≤ 10 ^ 19 = pow-le-pow_right ten within in
+    omega (arith, next, most)

@@ -1,10 +1,26 @@
 ghost use Rattle.std.specs.Prelude.{◌≡◌, [], ◌∷◌, IfSome, map};
+ghost use Rattle.std.specs.Str.{bytes_eq};
 ghost use Rattle.log_model.specs.Fits.{NextFits, ReplyFits};
 ghost use Rattle.log_model.specs.LogText.{shown, next_part, reply_parts, reply_word, vote_word, scope_word, policy_word, priority_word, fence_word};
 ghost use Rattle.run_log.specs.Kinds.{reply_of, vote_of, scope_of, policy_of, priority_of, fence_of, next_of, ending_of};
 
 use crate::numerals::number_32;
 use task_base::{FenceAt, JobReply, Policy, Priority, Scope};
+
+/// Whether a word is this name. For names this is faster than `==`, which searches four bytes and more in groups.
+pub(crate) fn is_word(word: &[u8], name: &[u8]) -> bool
+    ensures { result ≡ bytes_eq word.now name.now }
+{
+    if word.len() != name.len() {
+        return false;
+    }
+    for i in 0..name.len() {
+        if word[i] != name[i] {
+            return false;
+        }
+    }
+    true
+}
 
 /// The reply of a post.
 pub(crate) fn reply_of(word: &[u8]) -> Option<bool>

@@ -5,7 +5,7 @@ ghost use Rattle.run_log.specs.Kinds.{kind_of, kind_alone, kind_with_one, kind_w
 ghost use Rattle.run_log.specs.Words.{texts};
 
 use crate::keywords::{
-    ending_of, fence_of, next_of, policy_of, priority_of, reply_of, scope_of, vote_of,
+    ending_of, fence_of, is_word, next_of, policy_of, priority_of, reply_of, scope_of, vote_of,
 };
 use crate::numerals::{number_8, number_32, number_64};
 use task_base::{JobReply, Kind};
@@ -38,13 +38,13 @@ fn kind_alone(name: &[u8]) -> Option<Kind>
     ensures words { IfSome result (λ kind. kind_words kind ≡ name.now ∷ []) }
     ensures fits { IfSome result KindFits }
 {
-    if name == b"mainnone".as_slice() {
+    if is_word(name, b"mainnone") {
         Some(Kind::MainNone)
-    } else if name == b"idle".as_slice() {
+    } else if is_word(name, b"idle") {
         Some(Kind::Idle)
-    } else if name == b"shutdown".as_slice() {
+    } else if is_word(name, b"shutdown") {
         Some(Kind::Shutdown)
-    } else if name == b"done".as_slice() {
+    } else if is_word(name, b"done") {
         Some(Kind::Done)
     } else {
         None
@@ -57,25 +57,25 @@ fn kind_with_one(name: &[u8], first: &[u8]) -> Option<Kind>
     ensures words { IfSome result (λ kind. kind_words kind ≡ name.now ∷ first.now ∷ []) }
     ensures fits { IfSome result KindFits }
 {
-    if name == b"tick".as_slice() {
+    if is_word(name, b"tick") {
         let now = number_64(first)?;
         Some(Kind::Tick { now })
-    } else if name == b"unblock".as_slice() {
+    } else if is_word(name, b"unblock") {
         let task = number_32(first)?;
         Some(Kind::Leave { task })
-    } else if name == b"policy".as_slice() {
+    } else if is_word(name, b"policy") {
         let policy = policy_of(first)?;
         Some(Kind::Policy { policy })
-    } else if name == b"unfence".as_slice() {
+    } else if is_word(name, b"unfence") {
         let queue = number_32(first)?;
         Some(Kind::Unfence { queue })
-    } else if name == b"close".as_slice() {
+    } else if is_word(name, b"close") {
         let queue = number_32(first)?;
         Some(Kind::Close { queue })
-    } else if name == b"cancel".as_slice() {
+    } else if is_word(name, b"cancel") {
         let job = number_32(first)?;
         Some(Kind::JobCancel { job })
-    } else if name == b"cancelled".as_slice() {
+    } else if is_word(name, b"cancelled") {
         let job = number_32(first)?;
         Some(Kind::Cancelled { job })
     } else {
@@ -89,28 +89,28 @@ fn kind_with_two(name: &[u8], first: &[u8], second: &[u8]) -> Option<Kind>
     ensures words { IfSome result (λ kind. kind_words kind ≡ name.now ∷ first.now ∷ second.now ∷ []) }
     ensures fits { IfSome result KindFits }
 {
-    if name == b"end".as_slice() {
+    if is_word(name, b"end") {
         let (task, left) = (number_32(first)?, number_64(second)?);
         Some(Kind::End { task, left })
-    } else if name == b"block".as_slice() {
+    } else if is_word(name, b"block") {
         let (task, scope) = (number_32(first)?, scope_of(second)?);
         Some(Kind::Enter { task, scope })
-    } else if name == b"reprio".as_slice() {
+    } else if is_word(name, b"reprio") {
         let (runner, priority) = (number_32(first)?, priority_of(second)?);
         Some(Kind::Reprio { runner, priority })
-    } else if name == b"fence".as_slice() {
+    } else if is_word(name, b"fence") {
         let (queue, at) = (number_32(first)?, fence_of(second)?);
         Some(Kind::Fence { queue, at })
-    } else if name == b"rank".as_slice() {
+    } else if is_word(name, b"rank") {
         let (queue, class) = (number_32(first)?, number_8(second)?);
         Some(Kind::Rank { queue, class })
-    } else if name == b"mainend".as_slice() {
+    } else if is_word(name, b"mainend") {
         let (task, left) = (number_32(first)?, number_64(second)?);
         Some(Kind::MainEnd { task, left })
-    } else if name == b"startjob".as_slice() {
+    } else if is_word(name, b"startjob") {
         let (job, ok) = (number_32(first)?, reply_of(second)?);
         Some(Kind::JobPost { job, ok })
-    } else if name == b"joined".as_slice() {
+    } else if is_word(name, b"joined") {
         let (job, reply) = (number_32(first)?, ending_of(second)?);
         Some(Kind::Joined { job, reply })
     } else {
@@ -124,23 +124,23 @@ fn kind_with_three(name: &[u8], first: &[u8], second: &[u8], third: &[u8]) -> Op
     ensures words { IfSome result (λ kind. kind_words kind ≡ name.now ∷ first.now ∷ second.now ∷ third.now ∷ []) }
     ensures fits { IfSome result KindFits }
 {
-    if name == b"take".as_slice() {
+    if is_word(name, b"take") {
         let (task, runner, found) = (number_32(first)?, number_32(second)?, number_64(third)?);
         Some(Kind::Take {
             task,
             runner,
             found,
         })
-    } else if name == b"vote".as_slice() {
+    } else if is_word(name, b"vote") {
         let (queue, voter, on) = (number_32(first)?, number_8(second)?, vote_of(third)?);
         Some(Kind::Vote { queue, voter, on })
-    } else if name == b"maintake".as_slice() {
+    } else if is_word(name, b"maintake") {
         let (task, queue, found) = (number_32(first)?, number_32(second)?, number_64(third)?);
         Some(Kind::MainTake { task, queue, found })
-    } else if name == b"jobtake".as_slice() {
+    } else if is_word(name, b"jobtake") {
         let (job, id, item) = (number_32(first)?, number_32(second)?, number_32(third)?);
         Some(Kind::JobTake { job, id, item })
-    } else if name == b"joined".as_slice() {
+    } else if is_word(name, b"joined") {
         joined_of(first, second, third)
     } else {
         None
@@ -154,7 +154,7 @@ fn joined_of(first: &[u8], second: &[u8], third: &[u8]) -> Option<Kind>
     ensures words { IfSome result (λ kind. kind_words kind ≡ codes "joined" ∷ first.now ∷ second.now ∷ third.now ∷ []) }
     ensures fits { IfSome result KindFits }
 {
-    if second != b"done".as_slice() {
+    if !is_word(second, b"done") {
         return None;
     }
     let (job, sum) = (number_32(first)?, number_64(third)?);
@@ -176,14 +176,14 @@ fn kind_with_four(
 {
     let (task, home) = (number_32(first)?, number_32(second)?);
     let (delay, ok) = (number_64(third)?, reply_of(fourth)?);
-    if name == b"post".as_slice() {
+    if is_word(name, b"post") {
         Some(Kind::Post {
             task,
             runner: home,
             delay,
             ok,
         })
-    } else if name == b"main".as_slice() {
+    } else if is_word(name, b"main") {
         Some(Kind::Main {
             task,
             queue: home,
@@ -210,7 +210,7 @@ fn kind_with_five(
 {
     let (job, id, item) = (number_32(first)?, number_32(second)?, number_32(third)?);
     let (value, next) = (number_64(fourth)?, next_of(fifth)?);
-    if name != b"jobstep".as_slice() {
+    if !is_word(name, b"jobstep") {
         return None;
     }
     Some(Kind::JobStep {

@@ -1,4 +1,4 @@
-ghost use Rattle.std.specs.Prelude.{◌≡◌, ◌<◌, ◌^◌, IfSome, decimal};
+ghost use Rattle.std.specs.Prelude.{◌≡◌, ◌<◌, ◌≤◌, ◌^◌, IfSome, decimal, length};
 ghost use Rattle.run_log.specs.Words.{number_of, sum_of};
 
 /// The number of at most 64 bits whose text the word is, if there is one.
@@ -14,6 +14,32 @@ pub(crate) fn number_64(word: &[u8]) -> Option<u64>
 
 // The number of at most 64 bits that digits write, if there is one. There may be zeros in front, and no digits write 0.
 fn sum_of(digits: &[u8]) -> Option<u64>
+    ensures { result ≡ sum_of digits.now }
+{
+    if digits.len() < 20 {
+        sum_of_few(digits)
+    } else {
+        sum_of_many(digits)
+    }
+}
+
+// The number that at most 19 digits write, if they are digits. It is below 10^19, and so below 2^64.
+fn sum_of_few(digits: &[u8]) -> Option<u64>
+    requires { length digits.now ≤ 19 }
+    ensures { result ≡ sum_of digits.now }
+{
+    let mut sum: u64 = 0;
+    for digit in digits {
+        if !digit.is_ascii_digit() {
+            return None;
+        }
+        sum = sum * 10 + u64::from(*digit - b'0');
+    }
+    Some(sum)
+}
+
+// The number of at most 64 bits that any number of digits write, if there is one.
+fn sum_of_many(digits: &[u8]) -> Option<u64>
     ensures { result ≡ sum_of digits.now }
 {
     let mut sum: u64 = 0;

@@ -1,7 +1,7 @@
 use Rattle.std.proofs.Common.{◌∙◌, arith}
 use Rattle.std.proofs.lemmas.Str.{digit_value_digit}
 use Rattle.run_log.proofs.Numbers.{sum_of-overflow, sum_of-end}
-use Rattle.run_log.proofs.numerals.sum_of.Goals as goal
+use Rattle.run_log.proofs.numerals.sum_of_many.Goals as goal
 
 pub returns-in_err-checked_mul : goal.returns-in_err-checked_mul
 returns-in_err-checked_mul c =
