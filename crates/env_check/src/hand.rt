@@ -1,5 +1,5 @@
 ghost use Rattle.std.specs.Prelude.{◌≡◌, ◌≢◌, ◌<◌, ℕ, [], ◌++◌, filter, length, slice_get, slice_set, Some};
-ghost use Rattle.task_base.specs.Steps.{is_act};
+ghost use Rattle.task_base.specs.Steps.{after, is_act};
 ghost use Rattle.task_body.specs.Passes.{PassView};
 ghost use Rattle.task_body.specs.declared.act.Act.TheVariants as acts;
 ghost use Rattle.env_check.specs.Hands.{told_by};
@@ -30,7 +30,7 @@ impl Drop for AtTask {
     /// What is left of the task is done, so that its cell comes free.
     fn drop(self) {
         let AtTask { work, next: _ } = self;
-        do_rest(work);
+        let _ = do_rest(work);
     }
 }
 
@@ -45,13 +45,16 @@ impl AtTask {
     }
 }
 
-/// Does all steps that are left of a task, and gives its parts up.
-pub fn do_rest(mut work: Assignment<ScriptBody>) {
+/// Does all steps that are left of a task, and gives its parts up. Answers what the task leaves.
+pub fn do_rest(mut work: Assignment<ScriptBody>) -> u64
+    ensures { result ≡ after work.whole work.found }
+{
     loop {
         match work.step() {
             Act::Finished => {
+                let left = work.value();
                 let _ = work.split_up();
-                return;
+                return left;
             }
             _ => {}
         }

@@ -60,7 +60,7 @@ fn acted(env: &mut Env<ScriptBody>, seat: SeatNo, work: Assignment<ScriptBody>, 
 {
     let task = work.task();
     let ok = env.act(seat, act);
-    do_rest(work);
+    let _ = do_rest(work);
     entry_of(task, act, ok).unwrap()
 }
 
@@ -150,7 +150,7 @@ pub fn next_of_worker(env: &mut Env<ScriptBody>, seat: SeatNo) -> Cause
                 runner: work.home(),
                 found: work.found(),
             };
-            do_rest(work);
+            let _ = do_rest(work);
             Cause::Best { next }
         }
     }

@@ -135,7 +135,7 @@ fn next_of_pump(env: &mut Env<ScriptBody>) -> Cause
                 queue: work.home(),
                 found: work.found(),
             };
-            do_rest(work);
+            let _ = do_rest(work);
             Cause::Wants { next }
         }
     }
