@@ -21,6 +21,7 @@ use Rattle.task_base.specs.declared.script.Action.{Action}
 use Rattle.task_base.specs.declared.script.Action.TheVariants as actions
 use Rattle.task_base.specs.declared.script.FenceAt.{FenceAt}
 use Rattle.task_base.specs.declared.script.FenceAt.TheVariants as fences
+use Rattle.task_base.specs.declared.step.Step.{Step}
 use Rattle.task_base.specs.declared.step.Step.TheVariants as steps
 use Rattle.task_traits.specs.declared.traits.Priority.{Priority}
 use Rattle.task_model.specs.Seats.{Running, holding, is_free, running}
@@ -29,7 +30,7 @@ use Rattle.hist_model.specs.Allowed.{IsAllowed}
 use Rattle.hist_model.specs.Legal.{IsIllegalAt, IsLegal, first_illegal}
 use Rattle.hist_model.specs.Script.{Current, IsWhole, behind, behind_action, current, current_from, is_finished, is_wanted, is_whole}
 use Rattle.hist_model.specs.Script.{same_fence, same_policy, wants}
-use Rattle.hist_model.specs.Views.{own_entries}
+use Rattle.hist_model.specs.Views.{IsSeatsAssignment, own_entries}
 use Rattle.hist_model.proofs.Laws.Legal.{first_illegal_none, first_illegal_some}
 use Rattle.hist_model.proofs.Laws.Own.{holding_own, running_own}
 use Rattle.task_body.specs.Bodies.{AssignmentView}
@@ -37,7 +38,7 @@ use Rattle.task_body.specs.Passes.{PassView}
 use Rattle.task_body.specs.declared.act.Act.{Act}
 use Rattle.task_body.specs.declared.act.Act.TheVariants as acts
 use Rattle.env_core.specs.Agenda.{counted}
-use Rattle.env_core.specs.Calls.{CanEnd, CanEndMain, EntersAct, IsNextAct, IsSeats, IsWantedNext, entry_of}
+use Rattle.env_core.specs.Calls.{CanEnd, CanEndMain, EntersAct, IsNextAct, IsWantedNext, entry_of}
 use Rattle.env_core.specs.Jobs.{IsHeld, held_by}
 use Rattle.env_core.specs.Views.{EnvView}
 use Rattle.env_check.specs.Causes.{Explains, HasInHand, HasMore, HoldsItem, IsAt, IsExplained, MayFollow, NamesAllowed, named_by, verdict_told}
@@ -260,15 +261,17 @@ can_end_main {view} {seat} at legal ended driver = record {
 }
 
 -- the entry of an act is that of the seat's task
-pub entered_is : {before after : EnvView} {seat : ℕ} {work : AssignmentView} {act : Act} {ok : Bool} → IsSeats before seat work
-    → (entered : EntersAct before after seat act ok) → entry_of work.task act ok ≡ Some entered.kind
-entered_is {before} {after} {seat} {work} {act} {ok} seats entered =
+pub entered_is : {before after : EnvView} {seat task home value : ℕ} {whole : List Step} {act : Act} {ok : Bool}
+    → IsSeatsAssignment before.script (own_entries seat before.history) seat task home value whole
+    → (entered : EntersAct before after seat act ok) → entry_of task act ok ≡ Some entered.kind
+entered_is {before = before} {seat = seat} {act = act} {ok = ok} seats entered =
     let same : entered.now ≡ seats.now = same_Some entered.now seats.now (sym entered.runs ∙ sym (running_own before.history seat) ∙ seats.runs) in
     ap (λ t. entry_of t act ok) (seats.task_is ∙ ap (λ (w : Running). w.task) (sym same)) ∙ entered.kind_is
 
 -- so it is allowed
-pub act_follows : {before after : EnvView} {seat : ℕ} {work : AssignmentView} {act : Act} {ok : Bool} (kind : Kind) → IsSeats before seat work
-    → EntersAct before after seat act ok → entry_of work.task act ok ≡ Some kind → MayFollow before.script before.history seat kind
+pub act_follows : {before after : EnvView} {seat task home value : ℕ} {whole : List Step} {act : Act} {ok : Bool} (kind : Kind)
+    → IsSeatsAssignment before.script (own_entries seat before.history) seat task home value whole
+    → EntersAct before after seat act ok → entry_of task act ok ≡ Some kind → MayFollow before.script before.history seat kind
 act_follows {before} {after} {seat} kind seats entered is =
     let same : entered.kind ≡ kind = same_Some entered.kind kind (sym (entered_is seats entered) ∙ is) in
     subst (MayFollow before.script before.history seat) same entered.enters.allowed

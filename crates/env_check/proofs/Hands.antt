@@ -54,14 +54,7 @@ pub hand_same : (before after : EnvView) (seat : ℕ) (hand : Hand) → after.sc
     → own_entries seat after.history ≡ own_entries seat before.history → IsInHand before seat hand → IsInHand after seat hand
 hand_same before after seat Free script own in_hand = ap (λ entries. is_free entries seat) own ∙ in_hand
 hand_same before after seat (Task at) script own in_hand = record {
-  seats = record {
-    now = in_hand.seats.now;
-    runs = ap (λ entries. running entries seat) own ∙ in_hand.seats.runs;
-    task_is = in_hand.seats.task_is;
-    home_is = in_hand.seats.home_is;
-    found_is = in_hand.seats.found_is;
-    whole_is = rw script in_hand.seats.whole_is;
-  };
+  seats = rw (script, own) in_hand.seats;
   due = rw own in_hand.due;
 }
 hand_same before after seat (Item pass) script own in_hand =

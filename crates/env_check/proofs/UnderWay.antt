@@ -21,7 +21,7 @@ use Rattle.task_base.specs.declared.step.Step.TheVariants as steps
 use Rattle.task_model.specs.Seats.{Holding, Running, acts_after, acts_done, holding, next_act, running, running_after, steps_of}
 use Rattle.pool_laws.proofs.Room.Capacity.{free_parts}
 use Rattle.hist_model.specs.Allowed.{by_task, enters, same_scope}
-use Rattle.hist_model.specs.Views.{own_entries}
+use Rattle.hist_model.specs.Views.{own_entries, IsSeatsAssignment}
 use Rattle.hist_model.proofs.Laws.Choice.{found}
 use Rattle.hist_model.proofs.Laws.OneThing.{legal_does_one_thing}
 use Rattle.hist_model.proofs.Laws.Own.{acts_done_own, holding_own, running_own}
@@ -30,7 +30,7 @@ use Rattle.task_body.specs.Passes.{PassView}
 use Rattle.task_body.specs.Progress.{OnlyComputes, Progress}
 use Rattle.task_body.specs.declared.act.Act.{Act}
 use Rattle.task_body.specs.declared.act.Act.TheVariants as acts
-use Rattle.env_core.specs.Calls.{EntersAct, HasTaken, HasTakenMain, IsNextAct, IsSeats, act_of, entry_of}
+use Rattle.env_core.specs.Calls.{EntersAct, HasTaken, HasTakenMain, IsNextAct, act_of, entry_of}
 use Rattle.env_core.specs.Jobs.{held_by}
 use Rattle.env_core.specs.Views.{EnvView, Enters}
 use Rattle.env_check.specs.Follows.{with_reply}
@@ -241,17 +241,11 @@ pub record GoesTo (before after : AssignmentView) (next : Act) : Type 0 where
   pub ends : next ≡ acts.Finished → after.rest ≡ []
 
 -- the seat has its task in hand where these act steps of it were entered
-at_behind : (view : EnvView) (seat : ℕ) (old work : AssignmentView) (next : Act) (done : List Step) → IsSeats view seat old → GoesTo old work next
+at_behind : (view : EnvView) (seat : ℕ) (old work : AssignmentView) (next : Act) (done : List Step)
+    → IsSeatsAssignment view.script (own_entries seat view.history) seat old.task old.home old.found old.whole → GoesTo old work next
     → filter is_act old.whole ≡ done ++ filter is_act old.rest → length done ≡ acts_done (own_entries seat view.history) seat → IsAtTask view seat work next
 at_behind view seat old work next done seats goes parted count = rw goes.same (record {
-  seats = record {
-    now = seats.now;
-    runs = seats.runs;
-    task_is = seats.task_is;
-    home_is = seats.home_is;
-    found_is = seats.found_is;
-    whole_is = seats.whole_is;
-  };
+  seats = seats;
   due = record {
     done = done;
     parted = parted ∙ ap (λ xs. done ++ xs) goes.reaches ∙ sym (append_assoc done (told_by next) (filter is_act work.rest));
@@ -262,31 +256,23 @@ at_behind view seat old work next done seats goes parted count = rw goes.same (r
 })
 
 -- a seat that has taken a task by its entry is at it
-at_taken : {before after : EnvView} {seat : ℕ} (old work : AssignmentView) (next : Act) (kind : Kind) (now : Running)
-    → ((was : Option Running) → running_after was kind ≡ Some now) → ((n : ℕ) → acts_after n kind ≡ 0)
-    → now ≡ record { task = old.task; home = old.home; found = old.found; is_main = now.is_main } → Enters before after seat kind
-    → old.whole ≡ steps_of before.script old.task → old.rest ≡ old.whole → GoesTo old work next → IsAtTask after seat work next
-at_taken {before} {after} {seat} old work next kind now starts begins is enters whole rest goes = at_behind after seat old work next [] (record {
-  now = now;
-  runs = runs_now enters ∙ starts (running (own_entries seat before.history) seat);
-  task_is = sym (ap (λ (w : Running). w.task) is);
-  home_is = sym (ap (λ (w : Running). w.home) is);
-  found_is = sym (ap (λ (w : Running). w.found) is);
-  whole_is = whole ∙ ap (λ s. steps_of s old.task) (sym (script_is enters)) ∙ ap (λ t. steps_of after.script t) (sym (ap (λ (w : Running). w.task) is));
-}) goes (ap (filter is_act) (sym rest)) (sym (acts_now enters ∙ begins (acts_done (own_entries seat before.history) seat)))
+at_taken : {before after : EnvView} {seat : ℕ} (old work : AssignmentView) (next : Act) (kind : Kind)
+    → ((n : ℕ) → acts_after n kind ≡ 0) → Enters before after seat kind
+    → IsSeatsAssignment after.script (own_entries seat after.history) seat old.task old.home old.found old.whole → old.rest ≡ old.whole
+    → GoesTo old work next → IsAtTask after seat work next
+at_taken {before} {after} {seat} old work next kind begins enters seats rest goes = at_behind after seat old work next [] seats goes
+    (ap (filter is_act) (sym rest)) (sym (acts_now enters ∙ begins (acts_done (own_entries seat before.history) seat)))
 
 -- a worker that has taken a task of the pool is at it
 pub at_task_taken : {before after : EnvView} {seat : ℕ} (old work : AssignmentView) (next : Act) → HasTaken before after seat old → GoesTo old work next
     → IsAtTask after seat work next
-at_task_taken old work next taken goes = at_taken old work next (kinds.Take old.task old.home old.found)
-    (record { task = old.task; home = old.home; found = old.found; is_main = false }) (λ was. refl) (λ n. refl) refl taken.enters taken.whole_is
+at_task_taken old work next taken goes = at_taken old work next (kinds.Take old.task old.home old.found) (λ n. refl) taken.enters taken.seats
     taken.rest_is goes
 
 -- the driver that has taken a main task is at it
 pub at_main_taken : {before after : EnvView} {seat : ℕ} (old work : AssignmentView) (next : Act) → HasTakenMain before after seat old
     → GoesTo old work next → IsAtTask after seat work next
-at_main_taken old work next taken goes = at_taken old work next (kinds.MainTake old.task old.home old.found)
-    (record { task = old.task; home = old.home; found = old.found; is_main = true }) (λ was. refl) (λ n. refl) refl taken.enters taken.whole_is
+at_main_taken old work next taken goes = at_taken old work next (kinds.MainTake old.task old.home old.found) (λ n. refl) taken.enters taken.seats
     taken.rest_is goes
 
 -- the entry of an act leaves what the seat runs, and counts one act step more

@@ -5,11 +5,10 @@ use Rattle.task_base.specs.declared.step.Step.{Step}
 use Rattle.task_base.specs.declared.step.Step.TheVariants as steps
 use Rattle.task_model.specs.Seats.{acts_done, is_free}
 use Rattle.hist_model.specs.Legal.{IsLegal}
-use Rattle.hist_model.specs.Views.{own_entries}
+use Rattle.hist_model.specs.Views.{own_entries, IsSeatsAssignment}
 use Rattle.task_body.specs.Bodies.{AssignmentView}
 use Rattle.task_body.specs.declared.act.Act.{Act}
 use Rattle.task_body.specs.declared.act.Act.TheVariants as acts
-use Rattle.env_core.specs.Calls.{IsSeats}
 use Rattle.env_core.specs.Jobs.{IsHeld}
 use Rattle.env_core.specs.Views.{EnvView}
 use Rattle.env_check.specs.declared.hand.Hand.{Hand}
@@ -35,7 +34,7 @@ pub record IsDue (whole rest : List Step) (next : Act) (n : ℕ) : Type 0 where
 
 -- the seat runs the task of this assignment, of which this act is due
 pub record IsAtTask (view : EnvView) (seat : ℕ) (work : AssignmentView) (next : Act) : Type 0 where
-  pub seats : IsSeats view seat work
+  pub seats : IsSeatsAssignment view.script (own_entries seat view.history) seat work.task work.home work.found work.whole
   pub due : IsDue work.whole work.rest next (acts_done (own_entries seat view.history) seat)
 
 -- nothing is in hand

@@ -2,7 +2,8 @@ ghost use Rattle.std.specs.Prelude.{◌≡◌, ◌≤◌, Option, true};
 ghost use Rattle.task_base.specs.declared.entry.Kind.{Kind as AnyKind};
 ghost use Rattle.task_model.specs.Seats.{is_free};
 ghost use Rattle.hist_model.specs.Legal.{IsLegal};
-ghost use Rattle.env_core.specs.Calls.{CanEnd, CanEndMain, EntersAct, IsFreeWorker, IsNextAct, IsSeats, entry_of};
+ghost use Rattle.hist_model.specs.Views.{IsSeatsAssignment, own_entries};
+ghost use Rattle.env_core.specs.Calls.{CanEnd, CanEndMain, EntersAct, IsFreeWorker, IsNextAct, entry_of};
 ghost use Rattle.env_core.specs.Jobs.{IsHeld};
 ghost use Rattle.env_check.specs.Causes.{Explains, MayFollow};
 ghost use Rattle.env_check.specs.Hands.{IsAtTask};
@@ -55,7 +56,7 @@ fn ended(env: &mut Env<ScriptBody>, seat: SeatNo, work: Assignment<ScriptBody>) 
 /// The entry of an act step, which is made.
 fn acted(env: &mut Env<ScriptBody>, seat: SeatNo, work: Assignment<ScriptBody>, act: Act) -> Kind
     requires next { IsNextAct env.old seat act }
-    requires seats { IsSeats env.old seat work }
+    requires seats { IsSeatsAssignment env.old.script (own_entries seat env.old.history) seat work.task work.home work.found work.whole }
     ensures { MayFollow env.old.script env.old.history seat result }
 {
     let task = work.task();

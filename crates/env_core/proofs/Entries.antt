@@ -19,11 +19,12 @@ use Rattle.env_core.specs.declared.agenda.Agenda.{Agenda}
 use Rattle.std.proofs.Common.{◌^◌}
 use Rattle.env_core.specs.Drawer.{AreBodies}
 use Rattle.env_core.specs.Holds.{Holds, IsAt}
-use Rattle.env_core.specs.Views.{Enters}
+use Rattle.env_core.specs.Views.{Enters, spare_of}
 use Rattle.hist_model.proofs.Laws.Entries.{entries_within, entries_within_limit}
 use Rattle.hist_model.proofs.Laws.Legal.{is_legal_push}
 use Rattle.hist_model.specs.Allowed.{IsAllowed}
 use Rattle.hist_model.specs.Legal.{IsLegal}
+use Rattle.script_model.specs.Laws.Sound.{IsSound}
 use Rattle.pool_core.proofs.Others.{stands_at_main, stands_at_still}
 use Rattle.pool_core.specs.Others.{is_still as pool_is_still}
 use Rattle.pool_core.specs.StandsFor.{StandsFor}
@@ -57,6 +58,12 @@ has_room {script = script} {log = log} e holds allowed =
       entries_within script (log.items ++ e ∷ []) holds.plan (legal_next script log.items e holds.legal allowed),
     )
 
+-- and then for one less
+spare_falls : (script : Plan) (past : List Entry) (e : Entry) → IsSound script → IsLegal script (past ++ e ∷ [])
+    → spare_of (record { script = script; history = past ++ e ∷ [] }) + 1 ≡ spare_of (record { script = script; history = past })
+unfolding spare_of
+spare_falls script past e plan legal = omega (arith, length-append past (e ∷ []), entries_within script (past ++ e ∷ []) plan legal)
+
 -- a call that adds an entry that is allowed enters it
 pub enters_is : {X : Type 0} {bodies : List (Option X)} {whole rest : X → List Step} {script : Plan} {log : Listed Entry} {pool : Pool}
     {manager : Manager} {place made : ℕ}
@@ -70,6 +77,7 @@ enters_is {script = script} {log = log} seat kind later holds allowed is =
       allowed = allowed;
       legal = legal;
       bounded = entries_within_limit script (log.items ++ (record { seat = seat; kind = kind }) ∷ []) holds.plan legal;
+      room = spare_falls script log.items (record { seat = seat; kind = kind }) holds.plan legal;
     })
 
 -- everything holds behind one more entry, where it does of each part

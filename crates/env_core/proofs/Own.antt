@@ -1,5 +1,5 @@
 -- What an entry by which a seat takes gives it: the assignment or the pass is the seat's own.
-use Rattle.std.proofs.Common.{◌≡◌, ℕ, List, [], ◌∷◌, ◌++◌, ◌∙◌, Option, Some}
+use Rattle.std.proofs.Common.{◌≡◌, ℕ, List, [], ◌∷◌, ◌++◌, refl, ◌∙◌, Option, Some}
 use Rattle.list_laws.proofs.Values.{eqb-same}
 use Rattle.task_base.specs.declared.entry.Entry.{Entry}
 use Rattle.task_base.specs.declared.entry.Kind.{Kind}
@@ -14,7 +14,14 @@ use Rattle.env_core.specs.Views.{EnvView, Enters}
 pub assignment_is_own : (before after : EnvView) (seat : ℕ) (kind : Kind) (now : Running) (whole : List Step) → Enters before after seat kind
     → ((old : Option Running) → running_after old kind ≡ Some now) → whole ≡ steps_of before.script now.task
     → IsSeatsAssignment after.script (own_entries seat after.history) seat now.task now.home now.found whole
-assignment_is_own before after seat kind now whole enters takes whole_is = rw enters.entered (now.is_main, runs, whole_is)
+assignment_is_own before after seat kind now whole enters takes whole_is = rw enters.entered (record {
+  now = now;
+  runs = runs;
+  task_is = refl;
+  home_is = refl;
+  found_is = refl;
+  whole_is = whole_is;
+})
   where
     e : Entry
     e = record { seat = seat; kind = kind }

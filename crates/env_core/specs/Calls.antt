@@ -49,26 +49,17 @@ pub record IsNextAct (view : EnvView) (seat : ℕ) (act : Act) : Type 0 where
   pub is_next : next_act view.script (own_entries seat view.history) seat ≡ Some step
   pub is_act : act ≡ act_of step
 
--- the assignment is the seat's: its task is what the seat runs, on its home, with what the take found and the task's steps
-pub record IsSeats (view : EnvView) (seat : ℕ) (work : AssignmentView) : Type 0 where
-  pub now : Running
-  pub runs : running (own_entries seat view.history) seat ≡ Some now
-  pub task_is : work.task ≡ now.task
-  pub home_is : work.home ≡ now.home
-  pub found_is : work.found ≡ now.found
-  pub whole_is : work.whole ≡ steps_of view.script now.task
-
 -- the seat's assignment is that of a task of the pool, has no step left, and all its act steps were entered
 pub record CanEnd (view : EnvView) (seat : ℕ) (work : AssignmentView) : Type 0 where
   pub known : seat ≤ view.script.workers
-  pub seats : IsSeats view seat work
+  pub seats : IsSeatsAssignment view.script (own_entries seat view.history) seat work.task work.home work.found work.whole
   pub is_pool : seats.now.is_main ≡ false
   pub none_left : work.rest ≡ []
   pub all_entered : acts_done (own_entries seat view.history) seat ≡ length (filter is_act work.whole)
 
 -- the seat's assignment is that of a main task, has no step left, and all its act steps were entered
 pub record CanEndMain (view : EnvView) (seat : ℕ) (work : AssignmentView) : Type 0 where
-  pub seats : IsSeats view seat work
+  pub seats : IsSeatsAssignment view.script (own_entries seat view.history) seat work.task work.home work.found work.whole
   pub is_main : seats.now.is_main ≡ true
   pub none_left : work.rest ≡ []
   pub all_entered : acts_done (own_entries seat view.history) seat ≡ length (filter is_act work.whole)

@@ -1,11 +1,11 @@
-ghost use Rattle.std.specs.Prelude.{◌≡◌, ℕ, ◌<◌, ◌↔◌, [], ◌∷◌, map, length, not, Bool, true, IsOk, IfOk, IfErr, IfSome, OnOk, OnErr, Some};
+ghost use Rattle.std.specs.Prelude.{◌≡◌, ℕ, ◌<◌, ◌≤◌, ◌↔◌, [], ◌∷◌, map, length, not, Bool, true, IsOk, IfOk, IfErr, IfSome, OnOk, OnErr, Some};
 ghost use Rattle.std.specs.Option.{option_map};
 ghost use Rattle.script_model.specs.Laws.Sound.{IsSound};
 ghost use Rattle.env_core.specs.Agenda.{counted};
 ghost use Rattle.env_core.specs.Calls.{IsWantedNext, IsFreeWorker, IsNextAct, CanEnd, CanEndMain};
 ghost use Rattle.env_core.specs.Calls.{MainTakeGives, EntersAct, lets_in};
 ghost use Rattle.env_core.specs.Drawer.{is_in_drawer, kept_if};
-ghost use Rattle.env_core.specs.Views.{Enters};
+ghost use Rattle.env_core.specs.Views.{Enters, spare_of};
 ghost use Rattle.hist_model.specs.Moments.{moment_behind};
 ghost use Rattle.hist_model.specs.Script.{current};
 ghost use Rattle.hist_model.specs.Views.{own_entries};
@@ -460,9 +460,10 @@ impl<B: TaskBody> Env<B> {
         self.main.is_cell_out(queue)
     }
 
-    /// The history. What bodies are left are dropped.
+    /// The history, with the room that is left for further entries. What bodies are left are dropped.
     pub fn into_log(self) -> Rows<Entry>
-        ensures { result.items ≡ self.history }
+        ensures items { result.items ≡ self.history }
+        ensures room { spare_of self ≤ result.spare }
     {
         self.log
     }

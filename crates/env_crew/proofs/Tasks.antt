@@ -19,6 +19,7 @@ use Rattle.task_model.specs.Seats.{Running, running, running_after, holding, is_
 use Rattle.task_model.specs.Sources.{best_of}
 use Rattle.task_model.proofs.Growth.{running_push, holding_push}
 use Rattle.hist_model.specs.Script.{is_finished}
+use Rattle.hist_model.specs.Views.{IsSeatsAssignment, own_entries}
 use Rattle.task_body.specs.Bodies.{AssignmentView}
 use Rattle.task_body.specs.Progress.{OnlyComputes, Progress}
 use Rattle.task_body.specs.declared.act.Act.{Act}
@@ -44,21 +45,13 @@ still_free old new free script seat rests = record {
 -- The take.
 
 -- a seat that has taken a task by its entry is at it
-taken_by : (old new : DeskView) (past : List Entry) (work : AssignmentView) (kind : Kind) (now : Running) → old.seat ≤ old.script.workers
-    → ((before : Option Running) → running_after before kind ≡ Some now) → ((n : ℕ) → acts_after n kind ≡ 0)
-    → now ≡ record { task = work.task; home = work.home; found = work.found; is_main = now.is_main }
-    → Holds old past new → Enters (view_at old past) (as_seen new) old.seat kind
-    → work.whole ≡ steps_of old.script work.task → work.rest ≡ work.whole → IsUnderWay new work
-taken_by old new past work kind now known starts begins is holds enters whole rest = record {
+taken_by : (old new : DeskView) (past : List Entry) (work : AssignmentView) (kind : Kind) → old.seat ≤ old.script.workers
+    → ((n : ℕ) → acts_after n kind ≡ 0) → Holds old past new → Enters (view_at old past) (as_seen new) old.seat kind
+    → IsSeatsAssignment new.script (own_entries old.seat new.seen) old.seat work.task work.home work.found work.whole → work.rest ≡ work.whole
+    → IsUnderWay new work
+taken_by old new past work kind known begins holds enters seats rest = record {
   known = rw (holds.seat_is, holds.script_is) known;
-  seats = record {
-    now = now;
-    runs = running_entered holds kind enters ∙ starts (running (mine old) old.seat);
-    task_is = sym (ap (λ (w : Running). w.task) is);
-    home_is = sym (ap (λ (w : Running). w.home) is);
-    found_is = sym (ap (λ (w : Running). w.found) is);
-    whole_is = whole ∙ ap (λ s. steps_of s work.task) (sym holds.script_is) ∙ ap (λ t. steps_of new.script t) (sym (ap (λ (w : Running). w.task) is));
-  };
+  seats = rw holds.seat_is seats;
   entered = record {
     done = [];
     parted = ap (filter is_act) (sym rest);
@@ -70,17 +63,14 @@ taken_by old new past work kind now known starts begins is holds enters whole re
 pub under_way_behind_take : (old new : DeskView) (past : List Entry) (work : AssignmentView) → IsFree old → Holds old past new
     → HasTaken (view_at old past) (as_seen new) old.seat work → IsUnderWay new work
 under_way_behind_take old new past work free holds taken =
-    taken_by old new past work (kinds.Take work.task work.home work.found)
-    (record { task = work.task; home = work.home; found = work.found; is_main = false }) free.known (λ before. refl) (λ n. refl) refl holds taken.enters
-    taken.whole_is taken.rest_is
+    taken_by old new past work (kinds.Take work.task work.home work.found) free.known (λ n. refl) holds taken.enters taken.seats taken.rest_is
 
 -- the driver has taken a main task
 pub under_way_behind_main_take : (old new : DeskView) (past : List Entry) (work : AssignmentView) → old.seat ≡ 0 → Holds old past new
     → HasTakenMain (view_at old past) (as_seen new) old.seat work → IsUnderWay new work
 under_way_behind_main_take old new past work driver holds taken =
-    taken_by old new past work (kinds.MainTake work.task work.home work.found)
-    (record { task = work.task; home = work.home; found = work.found; is_main = true }) (omega (arith, driver)) (λ before. refl) (λ n. refl) refl holds
-    taken.enters taken.whole_is taken.rest_is
+    taken_by old new past work (kinds.MainTake work.task work.home work.found) (omega (arith, driver)) (λ n. refl) holds taken.enters taken.seats
+    taken.rest_is
 
 -- The steps.
 
@@ -89,14 +79,7 @@ goes_on : (now : DeskView) (old new : AssignmentView) → IsUnderWay now old →
     → filter is_act old.rest ≡ filter is_act new.rest → IsUnderWay now new
 goes_on now old new under same none = rw same (record {
   known = under.known;
-  seats = record {
-    now = under.seats.now;
-    runs = under.seats.runs;
-    task_is = under.seats.task_is;
-    home_is = under.seats.home_is;
-    found_is = under.seats.found_is;
-    whole_is = under.seats.whole_is;
-  };
+  seats = under.seats;
   entered = record {
     done = under.entered.done;
     parted = under.entered.parted ∙ ap (λ s. under.entered.done ++ s) none;

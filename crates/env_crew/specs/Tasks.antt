@@ -7,9 +7,9 @@ use Rattle.task_base.specs.declared.entry.Kind.{Kind}
 use Rattle.task_base.specs.declared.entry.Kind.TheVariants as kinds
 use Rattle.task_base.specs.declared.step.Step.{Step}
 use Rattle.task_model.specs.Seats.{acts_done}
+use Rattle.hist_model.specs.Views.{IsSeatsAssignment}
 use Rattle.task_body.specs.Bodies.{AssignmentView}
-use Rattle.env_core.specs.Calls.{IsSeats}
-use Rattle.env_crew.specs.Desk.{DeskView, IsLater, as_seen, mine}
+use Rattle.env_crew.specs.Desk.{DeskView, IsLater, mine}
 
 -- of the act steps of all these steps so many were entered, and those of the rest were not
 pub record Parted (whole rest : List Step) (n : ℕ) : Type 0 where
@@ -20,7 +20,7 @@ pub record Parted (whole rest : List Step) (n : ℕ) : Type 0 where
 -- the seat runs the task of this assignment, and has entered the act steps of the steps that are done, and no others
 pub record IsUnderWay (d : DeskView) (work : AssignmentView) : Type 0 where
   pub known : d.seat ≤ d.script.workers
-  pub seats : IsSeats (as_seen d) d.seat work
+  pub seats : IsSeatsAssignment d.script (mine d) d.seat work.task work.home work.found work.whole
   pub entered : Parted work.whole work.rest (acts_done (mine d) d.seat)
 
 -- the entry of an act step
