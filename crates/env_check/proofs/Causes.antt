@@ -43,13 +43,14 @@ use Rattle.env_core.specs.Jobs.{IsHeld, held_by}
 use Rattle.env_core.specs.Views.{EnvView}
 use Rattle.env_check.specs.Causes.{Explains, HasInHand, HasMore, HoldsItem, IsAt, IsExplained, MayFollow, NamesAllowed, named_by, verdict_told}
 use Rattle.env_check.specs.Follows.{entry_by}
-use Rattle.env_check.specs.Hands.{AreInHand, IsAtTask, is_empty}
+use Rattle.env_check.specs.Hands.{AreInHand, IsAtTask, IsInHand, is_empty}
 use Rattle.env_check.specs.Verdicts.{verdict_at, verdict_of}
 use Rattle.env_check.specs.declared.cause.Cause.{Cause}
 use Rattle.env_check.specs.declared.cause.Cause.TheVariants as causes
 use Rattle.env_check.specs.declared.cause.Explanation.{Explanation}
 use Rattle.env_check.specs.declared.cause.Explanation.TheVariants as explanations
 use Rattle.env_check.specs.declared.hand.Hand.{Hand}
+use Rattle.env_check.specs.declared.hand.Hand.TheVariants.{Free}
 use Rattle.env_check.specs.declared.verdict.Verdict.TheVariants.{Illegal, Legal}
 use Rattle.env_check.proofs.Ends.{all_entered, driver_runs_main, worker_runs_pool}
 use Rattle.env_check.proofs.Scripted.{free_hand}
@@ -316,7 +317,7 @@ pub named_follows : (cause : Cause) (script : Plan) (past : List Entry) (seat : 
 named_follows (causes.Runs task k) script past seat kind next holds is = subst (MayFollow script past seat) (same_Some k next is) holds.1
 named_follows (causes.Holds job k) script past seat kind next holds is = subst (MayFollow script past seat) (same_Some k next is) holds.1
 named_follows (causes.Wants k) script past seat kind next holds is = subst (MayFollow script past seat) (same_Some k next is) holds.2
-named_follows (causes.Best k) script past seat kind next holds is = subst (MayFollow script past seat) (same_Some k next is) holds.2
+named_follows (causes.Best k edge) script past seat kind next holds is = subst (MayFollow script past seat) (same_Some k next is) holds.2
 named_follows cause script past seat kind next holds is = absurd (none-some next is)
 
 -- so what is said of a log names what is allowed
@@ -366,11 +367,20 @@ some_are (suc n) none = omega arith
 pub pass_held : {view : EnvView} {seat : ℕ} {pass : PassView} → IsHeld view seat pass → HoldsItem view.history seat pass.job
 pass_held {view} {seat} {pass} held = (held_by pass, sym (holding_own view.history seat) ∙ held.holds, refl)
 
+-- where workers are busy, a seat that has nothing in hand is the driver's
+pub free_driver : (view : EnvView) (seat : ℕ) → IsInHand view seat Free → (1 ≤ seat → is_free view.history seat ≡ false) → seat ≡ 0
+free_driver view zero in_hand busy = refl
+free_driver view (suc n) in_hand busy = absurd (true≢false (free_hand view (suc n) Free in_hand ∙ busy (omega arith)))
+
 -- What is left at the end of a log.
 
--- a seat that has something in hand has something left to do
+-- a seat that has something in hand is not free
+pub busy_not_free : {view : EnvView} {hands : List Hand} (seat : ℕ) → AreInHand view hands → HasInHand hands seat → is_free view.history seat ≡ false
+busy_not_free {view} {hands} seat are (hand, at, full) = sym (free_hand view seat hand (are.each seat hand at)) ∙ full
+
+-- so it has something left to do
 pub busy_has_more : {view : EnvView} {hands : List Hand} (seat : ℕ) → AreInHand view hands → HasInHand hands seat → HasMore view.script view.history seat
-busy_has_more {view} {hands} seat are (hand, at, full) = inl (sym (free_hand view seat hand (are.each seat hand at)) ∙ full)
+busy_has_more seat are busy = inl (busy_not_free seat are busy)
 
 -- and is a seat of the script
 pub busy_is_known : {view : EnvView} {hands : List Hand} (seat : ℕ) → AreInHand view hands → HasInHand hands seat → seat ≤ view.script.workers

@@ -5,6 +5,7 @@ pub mod Hands
 pub mod Judged
 pub mod Passes
 pub mod Posts
+pub mod Ranks
 pub mod Replies
 pub mod Scripted
 pub mod Takes

@@ -17,6 +17,7 @@ use Rattle.hist_model.specs.Views.{own_entries}
 use Rattle.pool_core.specs.Calls.{running_tasks, is_any_ready}
 use Rattle.env_check.specs.Follows.{entry_by, takes_source}
 use Rattle.env_check.specs.Hands.{is_empty}
+use Rattle.env_check.specs.Ranks.{edge_of}
 use Rattle.env_check.specs.declared.cause.Cause.{Cause}
 use Rattle.env_check.specs.declared.cause.Cause.TheVariants as causes
 use Rattle.env_check.specs.declared.cause.Explanation.{Explanation}
@@ -75,7 +76,9 @@ Explains causes.RunsNothing script past seat kind = IsFreeWorkers past seat × (
 Explains (causes.Runs task next) script past seat kind = RunsTask past seat task × MayFollow script past seat next
 Explains (causes.Holds job next) script past seat kind = HoldsItem past seat job × MayFollow script past seat next
 Explains (causes.Wants next) script past seat kind = (seat ≡ 0) × (is_free past seat ≡ true) × MayFollow script past seat next
-Explains (causes.Best next) script past seat kind = IsFreeWorkers past seat × (takes_source next ≡ true) × MayFollow script past seat next
+Explains (causes.Best next edge) script past seat kind =
+    IsFreeWorkers past seat × (takes_source next ≡ true) × MayFollow script past seat next
+    × (option_map (edge_of script past next) kind ≡ Some edge)
 Explains causes.NoSource script past seat kind =
     IsFreeWorkers past seat × (is_finished script past ≡ false) × (best_of script past seat ≡ None)
 Explains causes.Finished script past seat kind = (is_free past seat ≡ true) × (is_finished script past ≡ true)
@@ -93,7 +96,7 @@ abbrev pub named_by : Cause → Option Kind
 named_by (causes.Runs task next) = Some next
 named_by (causes.Holds job next) = Some next
 named_by (causes.Wants next) = Some next
-named_by (causes.Best next) = Some next
+named_by (causes.Best next edge) = Some next
 named_by cause = None
 
 -- the seat has something left to do: it runs or holds something, or it is the driver's and the script is not finished

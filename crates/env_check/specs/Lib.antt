@@ -1,4 +1,5 @@
 pub mod Hands
 pub mod Follows
 pub mod Verdicts
+pub mod Ranks
 pub mod Causes

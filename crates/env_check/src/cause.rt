@@ -16,8 +16,8 @@ pub enum Cause {
     Holds { job: JobId, next: Kind },
     /// The driver is free, and this is the entry that the script wants of it.
     Wants { next: Kind },
-    /// The worker is free, and this entry takes its best source.
-    Best { next: Kind },
+    /// The worker is free, and this entry takes its best source, which has this over the source that was taken.
+    Best { next: Kind, edge: Edge },
     /// The worker is free, and no source may be taken by it.
     NoSource,
     /// The script is finished: it wants nothing of the driver, and a worker that is free takes nothing more.
@@ -29,6 +29,23 @@ pub enum Cause {
     Inside { job: JobId, seats: u32 },
     /// The driver waits until shutdown is done: so much work blocks it.
     Blocked { count: u32 },
+}
+
+/// What the best source of a worker has over the source that an entry takes, by the first of the rules that tells them apart.
+#[derive(Clone, Copy, Debug)]
+pub enum Edge {
+    /// Nothing, they are one: the entry takes another task or item of it, under another number, or finds another value.
+    Same,
+    /// A higher priority.
+    Priority,
+    /// The same priority, and fewer seats are inside.
+    Inside,
+    /// The same priority, as many seats inside, and a lesser key.
+    Key,
+    /// Nothing: the other would go before it, and yet may not be taken.
+    Barred,
+    /// The other does not wait: its task has no key on that runner, or its job was not accepted.
+    Unready,
 }
 
 /// What is to be said of a log of a script.

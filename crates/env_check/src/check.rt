@@ -89,7 +89,7 @@ fn explain_at(
     match log.at(place as usize) {
         Some(entry) => Ok(Explanation::Barred {
             place,
-            cause: replay.explain(script, *entry),
+            cause: replay.explain(script, front, *entry),
         }),
         None => {
             let (seat, cause) = replay.explain_end(script);

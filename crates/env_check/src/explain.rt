@@ -1,4 +1,4 @@
-ghost use Rattle.std.specs.Prelude.{◌≡◌, ◌≤◌, Option, Some, None, IfSome, false, true};
+ghost use Rattle.std.specs.Prelude.{◌≡◌, ◌<◌, ◌≤◌, ◌^◌, Option, Some, None, IfSome, false, length, true};
 ghost use Rattle.std.specs.List.{list_all};
 ghost use Rattle.task_base.specs.declared.entry.Kind.{Kind as AnyKind};
 ghost use Rattle.task_model.specs.Seats.{is_free};
@@ -18,14 +18,44 @@ use task_body::ScriptBody;
 
 impl Replay {
     /// Why an entry may not come behind those that were followed.
-    pub fn explain(self, script: &Script, entry: Entry) -> Cause
-        requires { script.now ≡ self.script }
+    pub fn explain(self, script: &Script, past: &[Entry], entry: Entry) -> Cause
+        requires script { script.now ≡ self.script }
+        requires past { past.now ≡ self.history }
+        requires few { length past.now < 2 ^ 32 }
         ensures { Explains result self.script self.history entry.seat (Some entry.kind) }
     {
         match self.stray(script, &entry) {
             Some(cause) => cause,
-            None => self.next(script, entry.seat, reading_of(&entry.kind)),
+            None => self.expected(script, past, &entry),
         }
+    }
+
+    /// What a seat of the script does next in place of the entry, or why it may do nothing.
+    fn expected(self, script: &Script, past: &[Entry], entry: &Entry) -> Cause
+        requires script { script.now ≡ self.script }
+        requires past { past.now ≡ self.history }
+        requires few { length past.now < 2 ^ 32 }
+        requires known { entry.now.seat ≤ self.script.workers }
+        ensures { Explains result self.script self.history entry.now.seat (Some entry.now.kind) }
+    {
+        if entry.seat > 0 && self.is_free(entry.seat) {
+            return self.choice(script, past, entry);
+        }
+        self.next(script, entry.seat, reading_of(&entry.kind))
+    }
+
+    /// What a worker takes next that is free, or why it takes nothing.
+    fn choice(self, script: &Script, past: &[Entry], entry: &Entry) -> Cause
+        requires script { script.now ≡ self.script }
+        requires past { past.now ≡ self.history }
+        requires few { length past.now < 2 ^ 32 }
+        requires worker { 1 ≤ entry.now.seat }
+        requires known { entry.now.seat ≤ self.script.workers }
+        requires free { is_free self.history entry.now.seat ≡ true }
+        ensures { Explains result self.script self.history entry.now.seat (Some entry.now.kind) }
+    {
+        let Replay { mut env, hands } = self;
+        next_of_worker(&mut env, &hands, script, past, entry)
     }
 
     /// Why no seat, or no worker that is free, ever makes the entry.
@@ -67,10 +97,12 @@ impl Replay {
         }
     }
 
-    /// What a seat does next, or why it may do nothing. A tick is by this reading of the clock.
+    /// What the driver does next, or a worker that runs or holds something, or why it may do nothing. A tick is by this reading
+    /// of the clock.
     fn next(self, script: &Script, seat: SeatNo, reading: u64) -> Cause
         requires script { script.now ≡ self.script }
         requires known { seat ≤ self.script.workers }
+        requires busy { 1 ≤ seat → is_free self.history seat ≡ false }
         ensures { (kind : Option AnyKind) → Explains result self.script self.history seat kind }
     {
         let Replay { mut env, mut hands } = self;
@@ -88,26 +120,14 @@ fn next_of_seat(
 ) -> Cause
     requires script { script.now ≡ env.old.script }
     requires known { seat ≤ env.old.script.workers }
+    requires busy { 1 ≤ seat → is_free env.old.history seat ≡ false }
     requires hands { AreInHand env.old hands.old.items }
     ensures { (kind : Option AnyKind) → Explains result env.old.script env.old.history seat kind }
 {
     match take_hand(hands, seat) {
         Hand::Task(at) => next_of_task(env, seat, at),
         Hand::Item(pass) => next_of_item(env, script, seat, pass),
-        Hand::Free => next_of_free(env, seat, reading),
-    }
-}
-
-/// What a seat does next that is free, or why it may do nothing.
-fn next_of_free(env: &mut Env<ScriptBody>, seat: SeatNo, reading: u64) -> Cause
-    requires known { seat ≤ env.old.script.workers }
-    requires free { is_free env.old.history seat ≡ true }
-    ensures { (kind : Option AnyKind) → Explains result env.old.script env.old.history seat kind }
-{
-    if seat == 0 {
-        next_of_driver(env, reading)
-    } else {
-        next_of_worker(env, seat)
+        Hand::Free => next_of_driver(env, reading),
     }
 }
 

@@ -12,12 +12,13 @@ mod follow;
 mod hand;
 mod items;
 mod next;
+mod rank;
 mod replay;
 mod tasks;
 mod verdict;
 mod waits;
 mod wanted;
 
-pub use cause::{Cause, Explanation};
+pub use cause::{Cause, Edge, Explanation};
 pub use check::{check_log, check_prefix, explain_log};
 pub use verdict::Verdict;

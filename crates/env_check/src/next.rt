@@ -1,4 +1,4 @@
-ghost use Rattle.std.specs.Prelude.{◌≡◌, ◌≤◌, Option, true};
+ghost use Rattle.std.specs.Prelude.{◌≡◌, ◌<◌, ◌≤◌, ◌^◌, Option, length, true};
 ghost use Rattle.task_base.specs.declared.entry.Kind.{Kind as AnyKind};
 ghost use Rattle.task_model.specs.Seats.{is_free};
 ghost use Rattle.hist_model.specs.Legal.{IsLegal};
@@ -6,13 +6,14 @@ ghost use Rattle.hist_model.specs.Views.{IsSeatsAssignment, own_entries};
 ghost use Rattle.env_core.specs.Calls.{CanEnd, CanEndMain, EntersAct, IsFreeWorker, IsNextAct, entry_of};
 ghost use Rattle.env_core.specs.Jobs.{IsHeld};
 ghost use Rattle.env_check.specs.Causes.{Explains, MayFollow};
-ghost use Rattle.env_check.specs.Hands.{IsAtTask};
+ghost use Rattle.env_check.specs.Hands.{AreInHand, IsAtTask};
 
 use crate::cause::Cause;
-use crate::hand::{AtTask, do_rest};
+use crate::hand::{AtTask, Hand, do_rest};
 use crate::items::value_of;
+use crate::rank::edge_of;
 use env_core::Env;
-use task_base::{Kind, Script, SeatNo, TaskId};
+use task_base::{Entry, Kind, Script, SeatNo, TaskId};
 use task_body::{Act, Assignment, JobPass, ScriptBody, Taken};
 
 /// What a seat does next that runs a task: the act step that is told, or the end.
@@ -129,22 +130,36 @@ pub fn next_of_item(
     }
 }
 
-/// What a worker takes next that is free, or why it takes nothing.
-pub fn next_of_worker(env: &mut Env<ScriptBody>, seat: SeatNo) -> Cause
-    requires free { is_free env.old.history seat ≡ true }
-    requires worker { IsFreeWorker env.old seat }
-    ensures { (kind : Option AnyKind) → Explains result env.old.script env.old.history seat kind }
+/// What a worker takes next that is free, and by what rather than the entry, or why it takes nothing.
+pub fn next_of_worker(
+    env: &mut Env<ScriptBody>,
+    hands: &[Hand],
+    script: &Script,
+    past: &[Entry],
+    entry: &Entry,
+) -> Cause
+    requires hands { AreInHand env.old hands.now }
+    requires script { script.now ≡ env.old.script }
+    requires past { past.now ≡ env.old.history }
+    requires few { length past.now < 2 ^ 32 }
+    requires free { is_free env.old.history entry.now.seat ≡ true }
+    requires worker { IsFreeWorker env.old entry.now.seat }
+    ensures { Explains result env.old.script env.old.history entry.now.seat (Some entry.now.kind) }
 {
-    match env.take(seat) {
+    match env.take(entry.seat) {
         Taken::Over => Cause::Finished,
         Taken::Nothing => Cause::NoSource,
-        Taken::Item(pass) => Cause::Best {
-            next: Kind::JobTake {
+        Taken::Item(pass) => {
+            let next = Kind::JobTake {
                 job: pass.job(),
                 id: pass.id(),
                 item: pass.item(),
-            },
-        },
+            };
+            Cause::Best {
+                next,
+                edge: edge_of(script, past, hands, &next, &entry.kind),
+            }
+        }
         Taken::Task(work) => {
             let next = Kind::Take {
                 task: work.task(),
@@ -152,7 +167,10 @@ pub fn next_of_worker(env: &mut Env<ScriptBody>, seat: SeatNo) -> Cause
                 found: work.found(),
             };
             let _ = do_rest(work);
-            Cause::Best { next }
+            Cause::Best {
+                next,
+                edge: edge_of(script, past, hands, &next, &entry.kind),
+            }
         }
     }
 }

@@ -7,6 +7,8 @@ use Rattle.env_check.specs.Causes.{named_by}
 use Rattle.env_check.specs.Follows.{entry_by}
 use Rattle.env_check.specs.declared.cause.Cause.{Cause}
 use Rattle.env_check.specs.declared.cause.Cause.TheVariants as causes
+use Rattle.env_check.specs.declared.cause.Edge.{Edge}
+use Rattle.env_check.specs.declared.cause.Edge.TheVariants as edges
 use Rattle.env_check.specs.declared.cause.Explanation.{Explanation}
 use Rattle.env_check.specs.declared.cause.Explanation.TheVariants as explanations
 use Rattle.explain_text.specs.Plain.{around, seat_of}
@@ -19,17 +21,27 @@ cause_name causes.RunsNothing = codes "runs_nothing"
 cause_name (causes.Runs task next) = codes "runs"
 cause_name (causes.Holds job next) = codes "holds"
 cause_name (causes.Wants next) = codes "wants"
-cause_name (causes.Best next) = codes "best"
+cause_name (causes.Best next edge) = codes "best"
 cause_name causes.NoSource = codes "no_source"
 cause_name causes.Finished = codes "finished"
 cause_name (causes.NotIdle running ready) = codes "not_idle"
 cause_name (causes.Inside job seats) = codes "inside"
 cause_name (causes.Blocked count) = codes "blocked"
 
+-- what the best source has over another, as a key
+abbrev pub edge_key : Edge → List ℕ
+edge_key edges.Same = codes ",\"by\":\"same\""
+edge_key edges.Priority = codes ",\"by\":\"priority\""
+edge_key edges.Inside = codes ",\"by\":\"inside\""
+edge_key edges.Key = codes ",\"by\":\"key\""
+edge_key edges.Barred = codes ",\"by\":\"barred\""
+edge_key edges.Unready = codes ",\"by\":\"unready\""
+
 -- what a cause names beside its seat and its entry
 abbrev pub cause_keys : Cause → List ℕ
 cause_keys (causes.Runs task next) = around (codes ",\"task\":") task []
 cause_keys (causes.Holds job next) = around (codes ",\"job\":") job []
+cause_keys (causes.Best next edge) = edge_key edge
 cause_keys (causes.NotIdle running ready) =
     around (codes ",\"running\":") running (if ready then codes ",\"ready\":true" else codes ",\"ready\":false")
 cause_keys (causes.Inside job seats) = around (codes ",\"job\":") job (around (codes ",\"seats\":") seats [])

@@ -7,12 +7,23 @@ use Rattle.env_check.specs.Causes.{named_by}
 use Rattle.env_check.specs.Follows.{entry_by}
 use Rattle.env_check.specs.declared.cause.Cause.{Cause}
 use Rattle.env_check.specs.declared.cause.Cause.TheVariants as causes
+use Rattle.env_check.specs.declared.cause.Edge.{Edge}
+use Rattle.env_check.specs.declared.cause.Edge.TheVariants as edges
 use Rattle.env_check.specs.declared.cause.Explanation.{Explanation}
 use Rattle.env_check.specs.declared.cause.Explanation.TheVariants as explanations
 
 -- words around a number
 abbrev pub around : List ℕ → ℕ → List ℕ → List ℕ
 around words number rest = words ++ decimal number ++ rest
+
+-- what the best source has over another
+abbrev pub edge_words : Edge → List ℕ
+edge_words edges.Same = codes " is taken by: "
+edge_words edges.Priority = codes " (by priority) is taken by: "
+edge_words edges.Inside = codes " (by fewer inside) is taken by: "
+edge_words edges.Key = codes " (by key) is taken by: "
+edge_words edges.Barred = codes " (the other is barred) is taken by: "
+edge_words edges.Unready = codes " (the other is not ready) is taken by: "
 
 -- what stands against an entry of the seat
 abbrev pub cause_words : ℕ → Cause → List ℕ
@@ -22,7 +33,7 @@ cause_words seat causes.RunsNothing = around (codes "no task runs, and no item i
 cause_words seat (causes.Runs task next) = around (codes "seat ") seat (around (codes " runs task ") task (codes ", and may go on by: "))
 cause_words seat (causes.Holds job next) = around (codes "seat ") seat (around (codes " is inside job ") job (codes ", and may go on by: "))
 cause_words seat (causes.Wants next) = codes "the script wants of the driver: "
-cause_words seat (causes.Best next) = around (codes "the best source of seat ") seat (codes " is taken by: ")
+cause_words seat (causes.Best next edge) = around (codes "the best source of seat ") seat (edge_words edge)
 cause_words seat causes.NoSource = around (codes "nothing may be taken by seat ") seat []
 cause_words seat causes.Finished = around (codes "the script is finished, and nothing is left for seat ") seat []
 cause_words seat (causes.NotIdle running ready) =

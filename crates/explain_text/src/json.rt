@@ -1,9 +1,9 @@
 ghost use Rattle.std.specs.Prelude.{◌≡◌, ◌++◌, [], if◌then◌else◌, codes, decimal, IfOk, OnOk};
 ghost use Rattle.env_check.specs.Causes.{named_by};
-ghost use Rattle.explain_text.specs.Json.{bad_line_json, cause_keys, cause_name, cause_object, entry_key, named_key, told_json};
+ghost use Rattle.explain_text.specs.Json.{bad_line_json, cause_keys, cause_name, cause_object, edge_key, entry_key, named_key, told_json};
 
 use crate::plain::{named_by, seat_at};
-use env_check::{Cause, Explanation};
+use env_check::{Cause, Edge, Explanation};
 use itoa::Buffer;
 use run_log::json_row;
 use std::alloc::{AllocError, Global};
@@ -108,6 +108,7 @@ fn add_keys(text: &mut Vec<u8>, cause: &Cause) -> Result<(), AllocError>
     match *cause {
         Cause::Runs { task, .. } => add_number(text, b",\"task\":", task),
         Cause::Holds { job, .. } => add_number(text, b",\"job\":", job),
+        Cause::Best { edge, .. } => text.extend_from_slice(edge_key(edge)),
         Cause::NotIdle { running, ready } => {
             add_number(text, b",\"running\":", running)?;
             text.extend_from_slice(ready_key(ready))
@@ -118,6 +119,20 @@ fn add_keys(text: &mut Vec<u8>, cause: &Cause) -> Result<(), AllocError>
         }
         Cause::Blocked { count } => add_number(text, b",\"count\":", count),
         _ => Ok(()),
+    }
+}
+
+/// What the best source has over another, as a key.
+fn edge_key(edge: Edge) -> &'static [u8]
+    ensures { result.now ≡ edge_key edge }
+{
+    match edge {
+        Edge::Same => b",\"by\":\"same\"",
+        Edge::Priority => b",\"by\":\"priority\"",
+        Edge::Inside => b",\"by\":\"inside\"",
+        Edge::Key => b",\"by\":\"key\"",
+        Edge::Barred => b",\"by\":\"barred\"",
+        Edge::Unready => b",\"by\":\"unready\"",
     }
 }
 

@@ -1,8 +1,8 @@
 ghost use Rattle.std.specs.Prelude.{◌≡◌, ◌+◌, ◌≤◌, ◌++◌, [], if◌then◌else◌, codes, length, slice_get};
 ghost use Rattle.env_check.specs.Causes.{named_by};
-ghost use Rattle.explain_text.specs.Plain.{bad_line_text, cause_line, cause_words, next_line, seat_of, told_text, around};
+ghost use Rattle.explain_text.specs.Plain.{around, bad_line_text, cause_line, cause_words, edge_words, next_line, seat_of, told_text};
 
-use env_check::{Cause, Explanation};
+use env_check::{Cause, Edge, Explanation};
 use line_text::{Line, add, add_decimal};
 use task_base::{Entry, Kind, Place, SeatNo};
 
@@ -63,7 +63,7 @@ pub(crate) fn named_by(cause: &Cause) -> Option<Kind>
 {
     match *cause {
         Cause::Runs { next, .. } | Cause::Holds { next, .. } => Some(next),
-        Cause::Wants { next } | Cause::Best { next } => Some(next),
+        Cause::Wants { next } | Cause::Best { next, .. } => Some(next),
         _ => None,
     }
 }
@@ -117,7 +117,12 @@ fn add_words(line: &mut Line, seat: SeatNo, cause: &Cause)
             b", and may go on by: ",
         ),
         Cause::Wants { .. } => add(line, b"the script wants of the driver: "),
-        Cause::Best { .. } => add_one(line, b"the best source of seat ", seat, b" is taken by: "),
+        Cause::Best { edge, .. } => add_one(
+            line,
+            b"the best source of seat ",
+            seat,
+            edge_words(edge),
+        ),
         Cause::NoSource => add_one(line, b"nothing may be taken by seat ", seat, b""),
         Cause::Finished => add_one(
             line,
@@ -185,5 +190,20 @@ fn ready_words(ready: bool) -> &'static [u8]
         b"; something may be taken"
     } else {
         b""
+    }
+}
+
+/// What the best source has over another.
+fn edge_words(edge: Edge) -> &'static [u8]
+    ensures words { result.now ≡ edge_words edge }
+    ensures short { length result.now ≤ 39 }
+{
+    match edge {
+        Edge::Same => b" is taken by: ",
+        Edge::Priority => b" (by priority) is taken by: ",
+        Edge::Inside => b" (by fewer inside) is taken by: ",
+        Edge::Key => b" (by key) is taken by: ",
+        Edge::Barred => b" (the other is barred) is taken by: ",
+        Edge::Unready => b" (the other is not ready) is taken by: ",
     }
 }

@@ -25,10 +25,21 @@ slice_bounds-front-end c =
     let within : c.args.place ≤ length c.as_slice.result.now = omega (arith, at.within, ap length c.as_slice.ensures) in
     omega (arith, within, length-take-le c.args.place c.as_slice.result.now within)
 
-pub explain-requires : goal.explain-requires
-explain-requires c =
+pub explain-requires-clause-script : goal.explain-requires-clause-script
+explain-requires-clause-script c =
     let at = stops c.args.script.now c.args.log.now.items c.args.place c.requires.illegal in
     sym (c.follow_all.ensures.script (c.follow_all.ensures.place ∙ illegal_nowhere c.args.script.now _ (rw c.as_slice.ensures at.legal)))
+
+pub explain-requires-clause-past : goal.explain-requires-clause-past
+explain-requires-clause-past c =
+    let at = stops c.args.script.now c.args.log.now.items c.args.place c.requires.illegal in
+    sym (c.follow_all.ensures.followed (c.follow_all.ensures.place ∙ illegal_nowhere c.args.script.now _ (rw c.as_slice.ensures at.legal)))
+
+pub explain-requires-clause-few : goal.explain-requires-clause-few
+explain-requires-clause-few c =
+    let at = stops c.args.script.now c.args.log.now.items c.args.place c.requires.illegal in
+    let within : c.args.place ≤ length c.as_slice.result.now = omega (arith, at.within, ap length c.as_slice.ensures) in
+    omega (arith, length-take-le c.args.place c.as_slice.result.now within)
 
 pub explain_end-seat-requires-clause-script : goal.explain_end-seat-requires-clause-script
 explain_end-seat-requires-clause-script c =

@@ -1,5 +1,8 @@
-use Rattle.std.proofs.Common.{Some, ap, arith, sym, ◌∙◌}
+use Rattle.std.proofs.Common.{◌≡◌, Some, ap, arith, subst, sym, true, ◌∙◌}
+use Rattle.task_model.specs.Seats.{is_free}
+use Rattle.env_check.specs.Causes.{Explains}
 use Rattle.env_check.specs.declared.hand.Hand.TheVariants.{Free, Item, Task}
+use Rattle.env_check.proofs.Causes.{free_driver}
 use Rattle.env_check.proofs.Scripted.{free_hand}
 use Rattle.env_check.proofs.explain.next_of_seat.Goals as goal
 
@@ -19,8 +22,14 @@ next_of_item-requires c = record {
   held = c.requires.hands.each c.args.seat (Item c.in-Item.pass) (c.take_hand.ensures ∙ ap Some c.in-Item.is);
 }
 
-pub next_of_free-requires : goal.next_of_free-requires
-next_of_free-requires c = record {
-  known = c.requires.known;
-  free = sym (free_hand c.args.env.now c.args.seat Free (c.requires.hands.each c.args.seat Free (c.take_hand.ensures ∙ ap Some c.in-Free.is)));
-}
+pub next_of_driver-requires : goal.next_of_driver-requires
+next_of_driver-requires c =
+    let in_hand = c.requires.hands.each c.args.seat Free (c.take_hand.ensures ∙ ap Some c.in-Free.is) in
+    subst (λ s. is_free c.args.env.now.history s ≡ true) (free_driver c.args.env.now c.args.seat in_hand c.requires.busy)
+    (sym (free_hand c.args.env.now c.args.seat Free in_hand))
+
+pub returns-in-Free : goal.returns-in-Free
+returns-in-Free c kind =
+    let in_hand = c.requires.hands.each c.args.seat Free (c.take_hand.ensures ∙ ap Some c.in-Free.is) in
+    subst (λ s. Explains c.next_of_driver.result c.args.env.now.script c.args.env.now.history s kind)
+    (sym (free_driver c.args.env.now c.args.seat in_hand c.requires.busy)) (c.next_of_driver.ensures kind)

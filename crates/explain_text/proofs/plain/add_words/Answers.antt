@@ -7,7 +7,7 @@ pub returns-in-Holds-clause-items : goal.returns-in-Holds-clause-items
 returns-in-Holds-clause-items c = rw c.in-Holds.is c.add_two-in-Holds.ensures.items
 
 pub returns-in-Best-clause-items : goal.returns-in-Best-clause-items
-returns-in-Best-clause-items c = rw c.in-Best.is c.add_one-in-Best.ensures.items
+returns-in-Best-clause-items c = rw (c.in-Best.is, ← c.edge_words.ensures.words) c.add_one-in-Best.ensures.items
 
 pub returns-in-NoSource-clause-items : goal.returns-in-NoSource-clause-items
 returns-in-NoSource-clause-items c = rw c.in-NoSource.is c.add_one-in-NoSource.ensures.items

@@ -2,7 +2,7 @@ use Rattle.std.proofs.Common.{ap, subst, sym, ◌∙◌}
 use Rattle.std.specs.List.{list_all}
 use Rattle.env_check.specs.Causes.{HasInHand}
 use Rattle.env_check.specs.Hands.{AreInHand, is_empty}
-use Rattle.env_check.proofs.Causes.{busy_has_more, busy_is_known, driver_has_more}
+use Rattle.env_check.proofs.Causes.{busy_has_more, busy_is_known, busy_not_free, driver_has_more}
 use Rattle.env_check.proofs.replay.Replay.explain_end.Goals as goal
 
 pub returns-in-None-clause-more : goal.returns-in-None-clause-more
@@ -19,3 +19,8 @@ pub returns-in-Some-clause-more : goal.returns-in-Some-clause-more
 returns-in-Some-clause-more c =
     let are : AreInHand c.args.self c.self.inside.hands.items = rw (← c.self.view_is) c.self.invariant in
     busy_has_more c.in-Some.seat are (subst (λ hands. HasInHand hands c.in-Some.seat) c.deref.ensures.value c.in-Some.ensures.some)
+
+pub next-requires-in-Some-clause-busy : goal.next-requires-in-Some-clause-busy
+next-requires-in-Some-clause-busy c worker =
+    let are : AreInHand c.args.self c.self.inside.hands.items = rw (← c.self.view_is) c.self.invariant in
+    busy_not_free c.in-Some.seat are (subst (λ hands. HasInHand hands c.in-Some.seat) c.deref.ensures.value c.in-Some.ensures.some)
