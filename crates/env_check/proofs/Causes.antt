@@ -1,12 +1,12 @@
 -- Why an entry may not come: what the driver's action wants, what a task does next, and where a log goes wrong.
-use Rattle.std.proofs.Common.{◌≡◌, ◌↔◌, ◌⊎◌, inl, inr, ℕ, zero, suc, ◌+◌, ◌<◌, ◌≤◌, Bool, true, false, List, [], ◌∷◌, ◌++◌, length, take, refl, sym, ap, subst, ◌∙◌, Option, Some, None, arith}
+use Rattle.std.proofs.Common.{◌≡◌, ◌↔◌, ◌⊎◌, inl, inr, ℕ, zero, suc, ◌+◌, ◌≤◌, Bool, true, false, List, [], ◌∷◌, length, take, refl, sym, ap, subst, ◌∙◌, Option, Some, None, arith}
 use Rattle.std.proofs.Math.Seq.{take-append_seam}
 use Rattle.std.proofs.lemmas.Bool.{true≢false}
 use Rattle.std.proofs.lemmas.List.{length-append, take_all}
 use Rattle.std.proofs.lemmas.Option.{none-some, same_Some, slice_get_within}
 use Rattle.std.specs.List.{list_all}
 use Rattle.std.specs.Option.{IfSome, option_map, option_map_or}
-use Rattle.std.specs.Prelude.{is_none, not, if◌then◌else◌, slice_get}
+use Rattle.std.specs.Prelude.{is_none, not, if◌then◌else◌}
 use Rattle.list_laws.proofs.Values.{eqb-same}
 use Rattle.list_laws.specs.Lists.{holds_of}
 use Rattle.task_base.specs.Groups.{importance}

@@ -1,5 +1,5 @@
 -- Why a log is not legal and whole.
-use Rattle.std.specs.Prelude.{◌≡◌, ◌⊎◌, ℕ, ◌<◌, ◌≤◌, Bool, true, false, not, ◌||◌, List, ◌∷◌, length, slice_get, take, Option, Some, None}
+use Rattle.std.specs.Prelude.{◌≡◌, ◌⊎◌, ℕ, ◌<◌, ◌≤◌, Bool, true, false, not, ◌||◌, List, length, slice_get, take, Option, Some, None}
 use Rattle.std.specs.Option.{option_map}
 use Rattle.list_laws.specs.Lists.{holds_of}
 use Rattle.task_base.specs.Plan.{Plan}

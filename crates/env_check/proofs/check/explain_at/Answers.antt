@@ -5,7 +5,7 @@ use Rattle.task_base.specs.declared.entry.Entry.{Entry}
 use Rattle.env_check.specs.Causes.{Explains, HasMore, IsExplained}
 use Rattle.env_check.specs.declared.cause.Cause.{Cause}
 use Rattle.env_check.specs.declared.cause.Explanation.TheVariants as explanations
-use Rattle.env_check.proofs.Causes.{StopsAt, stops}
+use Rattle.env_check.proofs.Causes.{stops}
 use Rattle.env_check.proofs.Verdicts.{illegal_nowhere}
 use Rattle.env_check.proofs.check.explain_at.Goals as goal
 

@@ -1,5 +1,4 @@
-use Rattle.std.proofs.Common.{refl, ap, sym, ◌∙◌}
-use Rattle.task_model.specs.Jobs.{item_value}
+use Rattle.std.proofs.Common.{refl}
 use Rattle.env_check.proofs.Causes.{pass_held}
 use Rattle.env_check.proofs.next.next_of_item.Goals as goal
 

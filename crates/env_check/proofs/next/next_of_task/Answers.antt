@@ -1,4 +1,4 @@
-use Rattle.std.proofs.Common.{sym, ap, ◌∙◌}
+use Rattle.std.proofs.Common.{sym, ◌∙◌}
 use Rattle.env_check.proofs.Causes.{can_end, can_end_main, next_is_told}
 use Rattle.env_check.proofs.UnderWay.{runs_it}
 use Rattle.env_check.proofs.next.next_of_task.Goals as goal

@@ -1,11 +1,9 @@
-use Rattle.std.proofs.Common.{◌≡◌, ℕ, ◌+◌, ◌<◌, Bool, true, false, cond, List, [], ◌∷◌, ◌++◌, take, drop, get_or, length, refl, sym, ap, ◌∙◌, Option, Some, None, arith}
-use Rattle.std.proofs.lemmas.List.{length-take-le, take-append-drop, take_all, take_more}
+use Rattle.std.proofs.Common.{◌≡◌, ℕ, ◌+◌, ◌<◌, Bool, true, false, cond, List, take, drop, get_or, length, refl, Some, None, arith}
+use Rattle.std.proofs.lemmas.List.{length-take-le, take-append-drop, take_more}
 use Rattle.std.proofs.lemmas.Option.{same_Some}
 use Rattle.std.specs.Prelude.{nat_lt}
 use Rattle.task_base.specs.declared.entry.Entry.{Entry}
-use Rattle.task_base.specs.declared.source.Key.{Key}
 use Rattle.task_model.specs.Keys.{key_of}
-use Rattle.task_model.specs.Posts.{Posted}
 use Rattle.task_model.specs.Time.{is_tick_from, tick_from}
 use Rattle.pool_laws.proofs.Keys.Ready.{tick_from_push, tick_from_stays}
 use Rattle.env_check.specs.Ranks.{posted}
