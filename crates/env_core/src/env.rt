@@ -1,4 +1,4 @@
-ghost use Rattle.std.specs.Prelude.{◌≡◌, ℕ, ◌<◌, ◌≤◌, ◌↔◌, [], ◌∷◌, map, length, not, Bool, true, IsOk, IfOk, IfErr, IfSome, OnOk, OnErr, Some};
+ghost use Rattle.std.specs.Prelude.{◌≡◌, ℕ, ◌<◌, ◌≤◌, ◌↔◌, [], ◌∷◌, map, length, not, Bool, true, is_some, IsOk, IfOk, IfErr, IfSome, OnOk, OnErr, Some};
 ghost use Rattle.std.specs.Option.{option_map};
 ghost use Rattle.script_model.specs.Laws.Sound.{IsSound};
 ghost use Rattle.env_core.specs.Agenda.{counted};
@@ -7,7 +7,7 @@ ghost use Rattle.env_core.specs.Calls.{MainTakeGives, EntersAct, lets_in};
 ghost use Rattle.env_core.specs.Drawer.{is_in_drawer, kept_if};
 ghost use Rattle.env_core.specs.Views.{Enters, spare_of};
 ghost use Rattle.hist_model.specs.Moments.{moment_behind};
-ghost use Rattle.hist_model.specs.Script.{current};
+ghost use Rattle.hist_model.specs.Script.{current, is_finished};
 ghost use Rattle.hist_model.specs.Views.{own_entries};
 ghost use Rattle.pool_core.specs.Calls.{running_tasks, is_any_ready};
 ghost use Rattle.sequence_manager.specs.Queues.{is_out};
@@ -17,6 +17,7 @@ ghost use Rattle.task_model.specs.Phase.{phase_of};
 ghost use Rattle.task_model.specs.Refusal.{is_closed, is_refused};
 ghost use Rattle.task_model.specs.Seats.{runs_sequence};
 ghost use Rattle.task_traits.specs.declared.phase.Phase.TheVariants as phases;
+ghost use Rattle.task_model.specs.Sources.{best_of};
 ghost use Rattle.task_model.specs.Time.{now_of};
 
 mod jobs;
@@ -433,6 +434,28 @@ impl<B: TaskBody> Env<B> {
         ensures { IfSome (current self.now.script (own_entries 0 self.now.history)) (λ c. result ≡ counted (c.action ∷ []) c.made) }
     {
         self.agenda.made
+    }
+
+    /// Whether the driver has performed the script to its end.
+    pub fn is_finished(&self) -> bool
+        ensures { result ≡ is_finished self.now.script self.now.history }
+    {
+        self.agenda.is_finished(&self.script)
+    }
+
+    /// Whether there is a source that a seat may take now, which it would get if it runs nothing.
+    pub fn has_work(&self, seat: SeatNo) -> bool
+        requires { seat ≤ self.now.script.workers }
+        ensures { result ≡ is_some (best_of self.now.script self.now.history seat) }
+    {
+        self.pool.has_work(seat)
+    }
+
+    /// Whether there is a source that some worker may take now.
+    pub fn is_any_ready(&self) -> bool
+        ensures { result ≡ is_any_ready self.now.script self.now.history }
+    {
+        self.pool.is_any_ready()
     }
 
     /// Whether the drawer has the body of a task: until the task is taken, or its post refused.
