@@ -1,0 +1,6 @@
+use Rattle.std.specs.Prelude.{◌<◌, ℕ}
+use Rattle.env_roster.specs.Wakes.{MayTakeAt}
+use Rattle.env_roster.proofs.notes.Notes.find.Given as goal
+
+abbrev pub invariant-loop-seat : goal.invariant-loop-seat
+invariant-loop-seat g l = (seat : ℕ) → seat < l.seat → MayTakeAt l.env.script l.env.history l.self l.note seat → ⊥

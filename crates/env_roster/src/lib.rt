@@ -1,0 +1,12 @@
+//! The environment under the turn, with a note of who rests: a worker that found nothing may sleep, and whoever makes work
+//! for it later wakes it. Contracts see the environment and the note of each seat, and no wake is lost at any moment
+//! (`specs/Wakes.antt`).
+#![tactic(auto)]
+
+mod note;
+mod notes;
+mod roster;
+
+pub use note::{Note, Rest, Wake};
+pub use notes::Notes;
+pub use roster::{Roster, no_wake_is_lost};
