@@ -115,6 +115,17 @@ pub trait Desk {
         requires { IsFree (desk self.old) }
         ensures { Answers (desk self.old) (desk self.new) (Gives Self.Work.work (desk self.old).seat result) };
 
+    /// As `take`, but where it answers Nothing the seat is noted as one that rests, in the same hold: whoever makes work that
+    /// it may take wakes it, and it may `sleep` until then.
+    fn take_or_rest<R: Wait>(&mut self, rt: &R) -> Given<Self::Work>
+        requires { IsFree (desk self.old) }
+        ensures { Answers (desk self.old) (desk self.new) (Gives Self.Work.work (desk self.old).seat result) };
+
+    /// The seat's thread sleeps until the seat is woken, and not at all where it was woken since it was noted, or was not
+    /// noted when it asked last. It takes no turn.
+    fn sleep<R: Wait>(&mut self, rt: &R)
+        ensures { desk self.new ≡ desk self.old };
+
     /// The seat's task does its next act step. False where that is a post that is refused.
     fn act<R: Wait>(&mut self, rt: &R, act: Act) -> bool
         requires { IsNextAct (as_seen (desk self.old)) (desk self.old).seat act }

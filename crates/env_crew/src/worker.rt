@@ -1,6 +1,7 @@
 ghost use Rattle.std.specs.Prelude.{◌≡◌, ◌<◌, true};
 ghost use Rattle.hist_model.specs.Script.{is_finished};
-ghost use Rattle.env_crew.specs.Desk.{IsLater};
+ghost use Rattle.env_crew.specs.Calls.{Gives};
+ghost use Rattle.env_crew.specs.Desk.{Answers, IsLater};
 ghost use Rattle.env_crew.specs.Serving.{HasServed, IsFree};
 
 use crate::assigned::Assigned;
@@ -31,7 +32,18 @@ pub fn serve<D: Desk, G: Gate, R: Wait>(rt: &R, desk: &mut D, gate: &G) -> Serve
     ensures turned { (D.desk desk.old).turns < (D.desk desk.new).turns }
     ensures served { HasServed (D.desk desk.old) (D.desk desk.new) result }
 {
-    match desk.take(rt) {
+    serve_or(rt, desk, gate, false)
+}
+
+// As `serve`. Where the worker may rest, and there is nothing, its seat is noted as one that rests.
+fn serve_or<D: Desk, G: Gate, R: Wait>(rt: &R, desk: &mut D, gate: &G, may_rest: bool) -> Served
+    requires free { IsFree (D.desk desk.old) }
+    ensures free { IsFree (D.desk desk.new) }
+    ensures later { IsLater (D.desk desk.old) (D.desk desk.new) }
+    ensures turned { (D.desk desk.old).turns < (D.desk desk.new).turns }
+    ensures served { HasServed (D.desk desk.old) (D.desk desk.new) result }
+{
+    match ask(rt, desk, may_rest) {
         Given::Task(work) => {
             gate.before(desk.number(), work.task());
             let work = do_steps(rt, desk, work);
@@ -44,8 +56,20 @@ pub fn serve<D: Desk, G: Gate, R: Wait>(rt: &R, desk: &mut D, gate: &G) -> Serve
     Served::Worked
 }
 
+// Asks for work.
+fn ask<D: Desk, R: Wait>(rt: &R, desk: &mut D, may_rest: bool) -> Given<D::Work>
+    requires { IsFree (D.desk desk.old) }
+    ensures { Answers (D.desk desk.old) (D.desk desk.new) (Gives D.Work.work (D.desk desk.old).seat result) }
+{
+    if may_rest {
+        desk.take_or_rest(rt)
+    } else {
+        desk.take(rt)
+    }
+}
+
 /// What a worker's thread does (`WorkerThread::RunWorker` of `worker_thread.h`): it serves until there will be nothing
-/// any more. Where there is nothing for now it waits a little, longer each time.
+/// any more. Where there is nothing for now it waits a little, longer each time, and at last sleeps until it is woken.
 pub fn work<D: Desk, G: Gate, R: Wait>(rt: &R, desk: &mut D, gate: &G)
     requires free { IsFree (D.desk desk.old) }
     ensures free { IsFree (D.desk desk.new) }
@@ -54,8 +78,10 @@ pub fn work<D: Desk, G: Gate, R: Wait>(rt: &R, desk: &mut D, gate: &G)
 {
     let backoff = Backoff::new();
     for _ in rt.forever() {
-        match serve(rt, desk, gate) {
+        let may_rest = backoff.is_completed();
+        match serve_or(rt, desk, gate, may_rest) {
             Served::Worked => backoff.reset(),
+            Served::Nothing if may_rest => desk.sleep(rt),
             Served::Nothing => backoff.snooze(),
             Served::Over => return,
         }

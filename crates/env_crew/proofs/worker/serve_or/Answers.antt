@@ -1,7 +1,7 @@
 use Rattle.std.proofs.Common.{refl}
 use Rattle.env_crew.proofs.Tasks.{has_worked, longer_behind_work, may_end, rests_behind_work, still_free, still_pool, under_way_behind_take}
 use Rattle.env_crew.proofs.Visits.{free_behind_visit, gone_in, has_visited, longer_behind_visit}
-use Rattle.env_crew.proofs.worker.serve.Goals as goal
+use Rattle.env_crew.proofs.worker.serve_or.Goals as goal
 
 -- A task.
 
@@ -14,7 +14,7 @@ end-requires g c =
     let took = c.in-Task.ensures in
     let did = c.do_steps-work.ensures in
     may_end (g.D.Desk.desk c.do_steps-work.new.desk) (g.D.Work.Assigned.work c.do_steps-work.result) did.under_way
-    (still_pool (g.D.Desk.desk c.args.desk.now) (g.D.Desk.desk c.take.new.self) (g.D.Desk.desk c.do_steps-work.new.desk) took.past
+    (still_pool (g.D.Desk.desk c.args.desk.now) (g.D.Desk.desk c.ask.new.desk) (g.D.Desk.desk c.do_steps-work.new.desk) took.past
     (g.D.Work.Assigned.work c.in-Task.work) (g.D.Work.Assigned.work c.do_steps-work.result) took.holds took.answered did.acts did.under_way) did.none_left
 
 pub returns-in-Task : goal.returns-in-Task
@@ -23,7 +23,7 @@ returns-in-Task g c =
     let new = g.D.Desk.desk c.end.new.self in
     let took = c.in-Task.ensures in
     let ended = c.end.ensures in
-    let worked = has_worked old (g.D.Desk.desk c.take.new.self) (g.D.Desk.desk c.do_steps-work.new.desk) new took.past ended.past _ _ took.holds
+    let worked = has_worked old (g.D.Desk.desk c.ask.new.desk) (g.D.Desk.desk c.do_steps-work.new.desk) new took.past ended.past _ _ took.holds
     took.answered.enters c.do_steps-work.ensures.acts ended.holds ended.answered in
     record {
       free = still_free old new c.requires.free worked.later.script_is worked.later.seat_is
@@ -56,7 +56,7 @@ returns-in-Item g c =
     let new = g.D.Desk.desk c.do_items.new.desk in
     let took = c.in-Item.ensures in
     let did = c.do_items.ensures in
-    let visit = has_visited old (g.D.Desk.desk c.take.new.self) new took.past c.in-Item.pass took.holds took.answered.goes_in did.done in
+    let visit = has_visited old (g.D.Desk.desk c.ask.new.desk) new took.past c.in-Item.pass took.holds took.answered.goes_in did.done in
     record {
       free = still_free old new c.requires.free visit.later.script_is visit.later.seat_is (free_behind_visit visit did.free);
       later = visit.later;
