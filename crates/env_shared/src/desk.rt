@@ -4,11 +4,15 @@ ghost use Rattle.task_model.specs.Phase.{phase_of};
 ghost use Rattle.task_traits.specs.Behaviour.{forbids};
 ghost use Rattle.hist_model.specs.Views.{IsPrefix};
 ghost use Rattle.turn_table.specs.Shutdowns.{IsShutdownAt, has_shutdown};
-ghost use Rattle.env_shared.specs.Sits.{Seated};
+ghost use Rattle.env_crew.specs.Calls.{Gives};
+ghost use Rattle.env_crew.specs.Desk.{Answers};
+ghost use Rattle.env_crew.specs.Serving.{IsFree};
+ghost use Rattle.env_shared.specs.Sits.{Seated, desk_of};
 
 use crate::hold::Hold;
 use crate::shared::{EnvSeat, Shared};
 use env_crew::{Desk, Given};
+use env_roster::Rest;
 use shutdown_phase::StillBlocked;
 use std::marker::Model;
 use std::sync::Wait;
@@ -26,6 +30,8 @@ pub struct SharedDesk<'a, B: TaskBody> {
     shared: &'a Shared<B>,
     // It is away only within a call.
     seat: Option<EnvSeat<B>>,
+    // That the seat was noted when it asked last.
+    rest: Option<Rest>,
 }
 
 impl<'a, B: TaskBody> Model for SharedDesk<'a, B> {
@@ -52,6 +58,7 @@ impl<'a, B: TaskBody> SharedDesk<'a, B> {
         SharedDesk {
             shared,
             seat: Some(seat),
+            rest: None,
         }
     }
 
@@ -81,12 +88,49 @@ impl<'a, B: TaskBody> SharedDesk<'a, B> {
         place
     }
 
+    // Asks for work. Where there is nothing, the seat rests if it may.
+    fn ask<R: Wait>(&mut self, rt: &R, may_rest: bool) -> Given<Assignment<B>>
+        requires { IsFree (desk_of self.old) }
+        ensures { Answers (desk_of self.old) (desk_of self.new) (Gives (λ work. work) self.old.number result) }
+    {
+        self.rest = None;
+        let (mut env, hold) = Hold::begin(rt, self.shared, &mut self.seat);
+        match env.take(hold.number()) {
+            Taken::Task(work) => {
+                self.seat = Some(hold.enter(env));
+                Given::Task(work)
+            }
+            Taken::Item(pass) => {
+                self.seat = Some(hold.enter(env));
+                Given::Item(pass)
+            }
+            Taken::Nothing if may_rest => {
+                let (seat, rest) = hold.rest(env);
+                self.seat = Some(seat);
+                self.rest = Some(rest);
+                Given::Nothing
+            }
+            Taken::Nothing => {
+                self.seat = Some(hold.back(env));
+                Given::Nothing
+            }
+            Taken::Over => {
+                self.seat = Some(hold.back(env));
+                Given::Over
+            }
+        }
+    }
+
     /// The seat, which leaves the desk.
     pub fn into_seat(self) -> EnvSeat<B>
         ensures seat { result ≡ self.entry }
         ensures seated { Seated result }
     {
-        let SharedDesk { shared: _, seat } = self;
+        let SharedDesk {
+            shared: _,
+            seat,
+            rest: _,
+        } = self;
         seat.unwrap()
     }
 }
@@ -188,24 +232,16 @@ impl<'a, B: TaskBody> Desk for SharedDesk<'a, B> {
     }
 
     fn take<R: Wait>(&mut self, rt: &R) -> Given<Assignment<B>> {
-        let (mut env, hold) = Hold::begin(rt, self.shared, &mut self.seat);
-        match env.take(hold.number()) {
-            Taken::Task(work) => {
-                self.seat = Some(hold.enter(env));
-                Given::Task(work)
-            }
-            Taken::Item(pass) => {
-                self.seat = Some(hold.enter(env));
-                Given::Item(pass)
-            }
-            Taken::Nothing => {
-                self.seat = Some(hold.back(env));
-                Given::Nothing
-            }
-            Taken::Over => {
-                self.seat = Some(hold.back(env));
-                Given::Over
-            }
+        self.ask(rt, false)
+    }
+
+    fn take_or_rest<R: Wait>(&mut self, rt: &R) -> Given<Assignment<B>> {
+        self.ask(rt, true)
+    }
+
+    fn sleep<R: Wait>(&mut self, rt: &R) {
+        if let Some(rest) = self.rest.take() {
+            self.shared.sleep(rt, rest);
         }
     }
 

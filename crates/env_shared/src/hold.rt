@@ -1,5 +1,5 @@
-//! One hold of the turn, by a seat at a desk.
-ghost use Rattle.std.specs.Prelude.{◌≡◌, true, false};
+//! One hold of the turn, by a seat at a desk. Whoever is to be woken by it is woken once the turn is given back.
+ghost use Rattle.std.specs.Prelude.{◌≡◌, ◌≤◌, true, false};
 ghost use Rattle.hist_model.specs.Views.{own_entries};
 ghost use Rattle.env_crew.specs.Desk.{Holds, as_seen};
 ghost use Rattle.env_shared.specs.Holds.{HasEntered, found};
@@ -7,6 +7,7 @@ ghost use Rattle.env_shared.specs.Sits.{IsSat, Sits, desk_of, seat_there};
 
 use crate::shared::{EnvSeat, Shared};
 use env_core::Env;
+use env_roster::{Notes, Rest, Roster};
 use std::marker::Model;
 use std::snapshot::Snapshot;
 use std::sync::Wait;
@@ -20,19 +21,20 @@ use turn_table::Holding;
 pub struct Hold<'a, B: TaskBody> {
     shared: &'a Shared<B>,
     number: SeatNo,
-    holding: Holding<Box<Env<B>>>,
+    holding: Holding<Roster<B>>,
+    notes: Notes,
     seat: Snapshot<EnvSeat<B>>,
 }
 
 impl<'a, B: TaskBody> Model for Hold<'a, B> {
-    ghost use Rattle.std.specs.Prelude.{◌≡◌};
+    ghost use Rattle.std.specs.Prelude.{◌≡◌, ◌+◌, length};
     ghost use Rattle.env_shared.specs.Holds.{HoldView, HasTurn};
 
     ghost Value = { HoldView };
 
     ghost view = { λ h. record { of = h.shared.now; seat = h.seat.value; past = h.holding.seen } };
 
-    ghost invariant = { λ h. (h.seat.value.number ≡ h.number) × HasTurn h.shared.now h.seat.value h.holding };
+    ghost invariant = { λ h. (h.seat.value.number ≡ h.number) × HasTurn h.shared.now h.seat.value h.holding × (length h.notes ≡ h.shared.now.basis.workers + 1) };
 }
 
 impl<'a, B: TaskBody> Hold<'a, B> {
@@ -50,13 +52,16 @@ impl<'a, B: TaskBody> Hold<'a, B> {
         let seat = place.take().unwrap();
         let about = Snapshot::of(&seat);
         let number = seat.number();
-        let (env, holding) = shared.turnstile.turn(rt, seat);
+        let (roster, holding) = shared.turnstile.turn(rt, seat);
+        let (env, mut notes) = roster.open();
+        notes.awake(number);
         (
             env,
             Hold {
                 shared,
                 number,
                 holding,
+                notes,
                 seat: about,
             },
         )
@@ -80,9 +85,13 @@ impl<'a, B: TaskBody> Hold<'a, B> {
             shared,
             number: _,
             holding,
+            notes,
             seat: _,
         } = self;
-        shared.turnstile.enter(env, holding)
+        let (roster, wake) = Roster::shut(env, notes);
+        let seat = shared.turnstile.enter(roster, holding);
+        shared.wake(wake);
+        seat
     }
 
     /// Gives the turn back, with one more entry, which is a shutdown.
@@ -97,9 +106,13 @@ impl<'a, B: TaskBody> Hold<'a, B> {
             shared,
             number: _,
             holding,
+            notes,
             seat: _,
         } = self;
-        shared.turnstile.enter_shutdown(env, holding)
+        let (roster, wake) = Roster::shut(env, notes);
+        let seat = shared.turnstile.enter_shutdown(roster, holding);
+        shared.wake(wake);
+        seat
     }
 
     /// Gives the turn back as it was found.
@@ -113,8 +126,26 @@ impl<'a, B: TaskBody> Hold<'a, B> {
             shared,
             number: _,
             holding,
+            notes,
             seat: _,
         } = self;
-        shared.turnstile.back(env, holding)
+        let (roster, wake) = Roster::shut(env, notes);
+        let seat = shared.turnstile.back(roster, holding);
+        shared.wake(wake);
+        seat
+    }
+    /// Gives the turn back as it was found, with a note that the seat rests.
+    pub fn rest(self, env: Box<Env<B>>) -> (EnvSeat<B>, Rest)
+        requires found { env.value ≡ found self }
+        requires worker { 1 ≤ self.seat.number }
+        ensures sits { Sits self.entry.of result.0 }
+        ensures holds { Holds (desk_of self.entry.seat) self.entry.past (desk_of result.0) }
+        ensures seen { as_seen (desk_of result.0) ≡ env.value }
+        ensures noted { result.1 ≡ self.entry.seat.number }
+    {
+        let mut hold = self;
+        let number = hold.number;
+        let rest = hold.notes.rest(number);
+        (hold.back(env), rest)
     }
 }

@@ -10,15 +10,18 @@ ghost use Rattle.env_shared.specs.Sits.{Seated};
 use crate::desk::SharedDesk;
 use crate::workers::workers_of;
 use env_core::Env;
+use env_roster::{Rest, Roster, Wake};
 use job_source::{JobWorker, StepsWorker};
 use std::alloc::{AllocError, Global};
 use std::marker::Model;
-use task_base::{JobId, Rows, Script};
+use std::sync::Wait;
+use std::thread::Parker;
+use task_base::{JobId, Rows, Script, SeatNo};
 use task_body::TaskBody;
 use turn_table::{Seat, Turnstile};
 
 /// A seat of an environment that is shared.
-pub type EnvSeat<B> = Seat<Box<Env<B>>>;
+pub type EnvSeat<B> = Seat<Roster<B>>;
 
 /// An environment that many threads share (this project's own rule; a browser's threads share Chromium's
 /// `base/task/thread_pool` through its locks). Threads borrow it in a scope, or hold it by an `Arc`.
@@ -26,10 +29,11 @@ pub type EnvSeat<B> = Seat<Box<Env<B>>>;
 /// Contracts see which turnstile it stands under, with the script that it was opened with.
 #[derive(Drop)]
 pub struct Shared<B: TaskBody> {
-    // In a box, so that a hold moves a pointer and not the whole environment.
-    pub(crate) turnstile: Turnstile<Box<Env<B>>>,
+    pub(crate) turnstile: Turnstile<Roster<B>>,
     /// The work of each job, which no call of the environment touches.
     workers: Rows<StepsWorker>,
+    /// What the thread of each seat sleeps on.
+    beds: Rows<Parker>,
 }
 
 impl<B: TaskBody> Model for Shared<B> {
@@ -60,10 +64,19 @@ impl<B: TaskBody> Shared<B> {
         ensures seat { IfOk result (λ made. made.1 ≡ record { of = made.0; number = 0; seen = []; mine = []; made = 1; loads = 0; last = 0; turns = 0; told = false }) }
     {
         let workers = workers_of(alloc, &script)?;
-        let env = Box::new(alloc, Env::open(alloc, script, bodies)?)?;
-        match Turnstile::new(alloc, env) {
-            Ok((turnstile, seat)) => Ok((Shared { turnstile, workers }, seat)),
-            Err((_env, error)) => Err(error),
+        let count = script.workers;
+        let beds = beds(alloc, count)?;
+        let roster = Roster::new(alloc, Env::open(alloc, script, bodies)?, count)?;
+        match Turnstile::new(alloc, roster) {
+            Ok((turnstile, seat)) => Ok((
+                Shared {
+                    turnstile,
+                    workers,
+                    beds,
+                },
+                seat,
+            )),
+            Err((_roster, error)) => Err(error),
         }
     }
 
@@ -111,7 +124,40 @@ impl<B: TaskBody> Shared<B> {
         ensures rest { AllByRecursion (Tells result.0.history) rest.items }
         ensures seat { result.1 ≡ record first { of = closed self } }
     {
-        let (env, spent) = self.turnstile.close(first, rest);
-        (Box::into_inner(env), spent)
+        let (roster, spent) = self.turnstile.close(first, rest);
+        (roster.into_env(), spent)
     }
+
+    /// Has the thread of a seat that was noted sleep until the seat is woken, or not at all where it was woken since.
+    pub(crate) fn sleep<R: Wait>(&self, rt: &R, rest: Rest) {
+        if let Some(bed) = self.beds.at(rest.seat() as usize) {
+            bed.park(rt);
+        }
+    }
+
+    /// Wakes who is named, once the turn was given back.
+    pub(crate) fn wake(&self, wake: Wake) {
+        match wake {
+            Wake::Nobody => {}
+            Wake::One(seat) => {
+                if let Some(bed) = self.beds.at(seat as usize) {
+                    bed.unpark();
+                }
+            }
+            Wake::Everyone => {
+                for bed in self.beds.as_slice() {
+                    bed.unpark();
+                }
+            }
+        }
+    }
+}
+
+// What the threads of the driver and so many workers sleep on. The error is want of memory.
+fn beds(alloc: Global, workers: SeatNo) -> Result<Rows<Parker>, AllocError> {
+    let mut beds = Vec::with_capacity(alloc, workers as usize + 1)?;
+    for _ in 0..=workers {
+        beds.push(Parker::new())?;
+    }
+    Ok(Rows::from_vec(beds))
 }
