@@ -5,22 +5,16 @@
 //! table is named.
 #![tactic(auto)]
 
-mod complaint;
-mod frame;
 mod play;
-mod row;
-mod short;
-mod table;
 
 use anyhow::{Result, anyhow, ensure};
 use play::play;
-use row::Row;
+use row_table::{Row, begins_row, take_line};
 use std::process::ExitCode;
 use std::rt::{Env, Files};
 use std::sync::Wait;
 use std::thread::Threads;
 use std::{env, fs};
-use table::{begins_row, take_line};
 
 /// Plays the row that ends here, if there is one, prints its line, and answers whether it is as it should be: it holds, or
 /// fails where it must.

@@ -1,11 +1,11 @@
 //! Plays a row through the program's call.
-use crate::complaint::{unless_counts, unless_ends, unless_has, unless_same};
-use crate::frame::framed;
-use crate::row::{Form, Row, Want};
-use crate::short::{ShortSink, ShortSource};
 use env_app::run_words;
 use env_io::{
     Clock, HoldGate, ListClock, MemSink, MemSource, PieceSink, PieceSource, Sink, Source,
+};
+use row_table::{
+    Form, Row, ShortSink, ShortSource, Want, framed, unless_counts, unless_ends, unless_has,
+    unless_same,
 };
 use std::alloc::{AllocError, Global};
 use std::sync::Wait;
