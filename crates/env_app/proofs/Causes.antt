@@ -4,9 +4,9 @@ use Rattle.std.specs.Prelude.{◌⊎◌, IsSome, Result, Err, option_map}
 use Rattle.task_base.specs.declared.fault.Fault.TheVariants.{NotLegal, BadWords, BadScript, ReadFault, WriteFault, NoMemory, TooLarge}
 use Rattle.env_app.specs.declared.failure.Failure.{Failure}
 use Rattle.env_app.specs.declared.failure.Failure.TheVariants.{Common, NotTraced, BadReplies, BadNest}
-use Rattle.env_app.specs.declared.words.Command.{Command}
-use Rattle.env_app.specs.declared.words.Command.TheVariants.{Run, Check, Explain, Reply, Trace, Nest, Generate, Bench}
-use Rattle.env_app.specs.CommandLine.{IsJudge, TakesInput, WritesVerdict, takes_prefix}
+use Rattle.command_line.specs.declared.words.Command.{Command}
+use Rattle.command_line.specs.declared.words.Command.TheVariants.{Run, Check, Explain, Reply, Trace, Nest, Generate, Bench}
+use Rattle.command_line.specs.CommandLine.{IsJudge, TakesInput, WritesVerdict, takes_prefix}
 use Rattle.env_app.specs.Failures.{failure_status}
 use Rattle.env_app.specs.Outcome.{Ends, Does, EndsIn, HasCause, IsDone, IsReadToEnd, IsRefused, IsSteady, IsWithin, IsWritten, OfBytes, OfTaken, TookAll, TookMore, TookWithin, refusal_of}
 use Rattle.env_app.proofs.Verdicts.{SaysLegal, check_says, explain_says, trace_says}

@@ -5,8 +5,8 @@ use Rattle.task_base.specs.declared.fault.Fault.{Fault}
 use Rattle.task_base.specs.declared.fault.Fault.TheVariants.{WriteFault, NoMemory}
 use Rattle.env_app.specs.declared.failure.Failure.{Failure}
 use Rattle.env_app.specs.declared.failure.Failure.TheVariants.{Common}
-use Rattle.env_app.specs.declared.words.Command.TheVariants.{Run}
-use Rattle.env_app.specs.CommandLine.{WritesJson}
+use Rattle.command_line.specs.declared.words.Command.TheVariants.{Run}
+use Rattle.command_line.specs.CommandLine.{WritesJson}
 use Rattle.env_app.specs.Failures.{failure_status}
 use Rattle.env_app.specs.Outcome.{in_common}
 

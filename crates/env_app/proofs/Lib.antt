@@ -1,10 +1,7 @@
-pub mod Numbers
-pub mod Parses
 pub mod Passed
 pub mod Seats
 pub mod Verdicts
 pub mod Explained
 pub mod Outcomes
 pub mod Causes
-pub mod Worked
 pub mod Clocks

@@ -9,12 +9,12 @@ use Rattle.task_base.specs.declared.entry.Entry.{Entry}
 use Rattle.hist_model.specs.Legal.{IsLegal}
 use Rattle.hist_model.specs.Script.{IsWhole}
 use Rattle.script_model.specs.Grammar.{Reads, first_fault}
-use Rattle.env_app.specs.declared.words.Command.{Command}
-use Rattle.env_app.specs.declared.words.Command.TheVariants.{Run, Check, Explain, Reply, Trace, Nest}
+use Rattle.command_line.specs.declared.words.Command.{Command}
+use Rattle.command_line.specs.declared.words.Command.TheVariants.{Run, Check, Explain, Reply, Trace, Nest}
 use Rattle.env_app.specs.declared.failure.Failure.{Failure}
 use Rattle.env_app.specs.declared.failure.Failure.TheVariants.{Common, NotTraced, BadReplies, BadNest}
 use Rattle.env_app.specs.Failures.{is_verdict, failure_note, failure_status, note_line}
-use Rattle.env_app.specs.CommandLine.{TakesInput, WritesVerdict}
+use Rattle.command_line.specs.CommandLine.{TakesInput, WritesVerdict}
 use Rattle.env_app.specs.Judged.{verdict_status}
 use Rattle.env_app.specs.Outcome.{Ends, Does, EndsIn, Failed, HasSaid, IsCutOff, IsEnd, IsFailureOf, IsOfBytes, IsReadToEnd, IsVerdictOf, IsWritten, RunsTo, TookAll, WroteAll, WroteFront, in_common}
 use Rattle.env_crew.specs.Driving.{HasMomentsOf}

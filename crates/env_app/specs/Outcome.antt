@@ -22,12 +22,12 @@ use Rattle.nested_loop.specs.NestGrammar.{ReadsNest, nest_fault}
 use Rattle.nested_loop.specs.NestText.{nest_text}
 use Rattle.nested_loop.specs.Nest.{IsLegalNest}
 use Rattle.nested_loop.specs.declared.event.Event.{Event}
-use Rattle.env_app.specs.declared.words.Command.{Command}
-use Rattle.env_app.specs.declared.words.Command.TheVariants.{Run, Check, Explain, Reply, Trace, Nest, Generate, Bench}
+use Rattle.command_line.specs.declared.words.Command.{Command}
+use Rattle.command_line.specs.declared.words.Command.TheVariants.{Run, Check, Explain, Reply, Trace, Nest, Generate, Bench}
 use Rattle.env_app.specs.declared.failure.Failure.{Failure}
 use Rattle.env_app.specs.declared.failure.Failure.TheVariants.{Common, NotTraced, BadReplies, BadNest}
 use Rattle.env_app.specs.Failures.{failure_status}
-use Rattle.env_app.specs.CommandLine.{IsJudge, TakesInput, WritesVerdict}
+use Rattle.command_line.specs.CommandLine.{IsJudge, TakesInput, WritesVerdict}
 use Rattle.env_app.specs.Input.{script_part, part_behind}
 use Rattle.env_app.specs.Judged.{HasChecked, HasTraced, IsFoundIn}
 use Rattle.env_app.specs.Explained.{HasExplained}

@@ -1,10 +1,10 @@
 //! The mode `bench`.
 ghost use Rattle.std.specs.Prelude.{◌≡◌, ◌≢◌, ◌⊎◌, ◌+◌, ◌≤◌, ◌++◌, ℕ, Option, Some, Err, alloc_error, IfOk, IfErr, length};
 ghost use Rattle.run_summary.specs.Summary.{generated_totals};
-ghost use Rattle.env_app.specs.declared.words.Command.TheVariants.{Bench};
+ghost use Rattle.command_line.specs.declared.words.Command.TheVariants.{Bench};
 ghost use Rattle.env_app.specs.Outcome.{Ends, ends, RunsTo};
 ghost use Rattle.env_app.specs.Totals.{summary_text, total_line};
-ghost use Rattle.env_app.specs.declared.words.TheConstants.{MOST_SIZE};
+ghost use Rattle.command_line.specs.declared.words.TheConstants.{MOST_SIZE};
 
 use crate::runs::log_of_run;
 use crate::written::write_text;

@@ -4,7 +4,7 @@ ghost use Rattle.task_base.specs.declared.limits.TheConstants.{MOST_BYTES};
 ghost use Rattle.task_base.specs.Fault.{status_of};
 ghost use Rattle.script_model.specs.Laws.Sound.{IsSound};
 ghost use Rattle.env_app.specs.Judged.{IsFoundAt, verdict_text};
-ghost use Rattle.env_app.specs.declared.words.Command.TheVariants.{Check};
+ghost use Rattle.command_line.specs.declared.words.Command.TheVariants.{Check};
 ghost use Rattle.env_app.specs.Outcome.{ends, HasSaid, RunsTo, TookMore, TookWithin};
 
 use crate::judged::{Judged, judge_log};

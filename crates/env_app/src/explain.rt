@@ -6,7 +6,7 @@ ghost use Rattle.script_model.specs.Laws.Sound.{IsSound};
 ghost use Rattle.run_log.specs.TextLines.{IsBadLine, text_lines};
 ghost use Rattle.env_app.specs.Explained.{IsMeantBy, IsSaidAt, IsSaidOfBad, place_told, said_of};
 ghost use Rattle.env_app.specs.Judged.{verdict_text};
-ghost use Rattle.env_app.specs.declared.words.Command.TheVariants.{Explain};
+ghost use Rattle.command_line.specs.declared.words.Command.TheVariants.{Explain};
 ghost use Rattle.env_app.specs.Outcome.{ends, RunsTo, TookMore, TookWithin};
 
 use crate::check::{verdict_text, write_said};

@@ -1,8 +1,8 @@
 //! The mode `gen`.
 ghost use Rattle.std.specs.Prelude.{◌≡◌, ◌≢◌, ◌⊎◌, ◌≤◌, ℕ, Option, Some, Err, alloc_error, IfErr};
-ghost use Rattle.env_app.specs.declared.words.Command.TheVariants.{Generate};
+ghost use Rattle.command_line.specs.declared.words.Command.TheVariants.{Generate};
 ghost use Rattle.env_app.specs.Outcome.{Ends, ends, RunsTo};
-ghost use Rattle.env_app.specs.declared.words.TheConstants.{MOST_SIZE};
+ghost use Rattle.command_line.specs.declared.words.TheConstants.{MOST_SIZE};
 
 use crate::written::write_plan;
 use env_io::Sink;

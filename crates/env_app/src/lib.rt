@@ -22,7 +22,6 @@ mod replies;
 mod run;
 mod runs;
 mod trace;
-mod words;
 mod workers;
 mod written;
 

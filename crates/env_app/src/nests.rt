@@ -4,7 +4,7 @@ ghost use Rattle.task_base.specs.declared.limits.TheConstants.{MOST_BYTES};
 ghost use Rattle.nested_loop.specs.NestGrammar.{ReadsNest};
 ghost use Rattle.nested_loop.specs.Sound.{IsSoundNest};
 ghost use Rattle.env_app.specs.Failures.{failure_status};
-ghost use Rattle.env_app.specs.declared.words.Command.TheVariants as commands;
+ghost use Rattle.command_line.specs.declared.words.Command.TheVariants as commands;
 ghost use Rattle.env_app.specs.Outcome.{ends, EndsIn, IsNoNest, TookMore, TookWithin};
 
 use crate::failure::Failure;

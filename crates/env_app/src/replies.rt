@@ -4,7 +4,7 @@ ghost use Rattle.task_base.specs.declared.limits.TheConstants.{MOST_BYTES};
 ghost use Rattle.script_model.specs.Laws.Sound.{IsSound};
 ghost use Rattle.task_reply.specs.Elaborated.{IsElaboratedBy};
 ghost use Rattle.env_app.specs.Failures.{failure_status};
-ghost use Rattle.env_app.specs.declared.words.Command.TheVariants.{Reply};
+ghost use Rattle.command_line.specs.declared.words.Command.TheVariants.{Reply};
 ghost use Rattle.env_app.specs.Outcome.{ends, EndsIn, IsNotElaborated, TookMore, TookWithin};
 
 use crate::failure::Failure;

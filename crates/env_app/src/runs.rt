@@ -7,7 +7,7 @@ ghost use Rattle.hist_model.specs.Legal.{IsLegal};
 ghost use Rattle.hist_model.specs.Script.{IsWhole};
 ghost use Rattle.script_model.specs.Laws.Sound.{IsSound};
 ghost use Rattle.env_crew.specs.Driving.{HasMomentsOf};
-ghost use Rattle.env_app.specs.declared.words.Command.TheVariants.{Run};
+ghost use Rattle.command_line.specs.declared.words.Command.TheVariants.{Run};
 ghost use Rattle.env_app.specs.Outcome.{ends, RunsTo, TookMore, TookWithin, readings_of};
 
 use crate::bodies::bodies_of;

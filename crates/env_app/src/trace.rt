@@ -1,7 +1,7 @@
 //! The mode `trace`.
 ghost use Rattle.std.specs.Prelude.{◌≡◌, ◌≢◌, ℕ, Option, Some, Err, IfErr};
 ghost use Rattle.env_app.specs.Failures.{failure_status};
-ghost use Rattle.env_app.specs.declared.words.Command.TheVariants.{Trace};
+ghost use Rattle.command_line.specs.declared.words.Command.TheVariants.{Trace};
 ghost use Rattle.env_app.specs.Outcome.{ends, EndsIn, TookMore, TookWithin};
 
 use crate::failure::Failure;

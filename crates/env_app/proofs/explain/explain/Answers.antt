@@ -3,7 +3,7 @@ use Rattle.script_model.specs.Grammar.{Reads}
 use Rattle.env_app.specs.Explained.{IsSaidAt}
 use Rattle.env_app.specs.Input.{part_behind, script_part}
 use Rattle.env_app.specs.Judged.{verdict_text}
-use Rattle.env_app.specs.declared.words.Command.TheVariants.{Explain}
+use Rattle.command_line.specs.declared.words.Command.TheVariants.{Explain}
 use Rattle.env_app.proofs.Outcomes.{said_ends}
 use Rattle.env_app.proofs.Passed.{behind_within, script_within}
 use Rattle.env_app.proofs.explain.explain.Goals as goal

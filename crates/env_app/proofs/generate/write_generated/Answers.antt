@@ -1,6 +1,6 @@
 use Rattle.std.proofs.Common.{subst}
 use Rattle.script_model.specs.Canonical.{canonical}
-use Rattle.env_app.specs.declared.words.Command.TheVariants.{Generate}
+use Rattle.command_line.specs.declared.words.Command.TheVariants.{Generate}
 use Rattle.env_app.proofs.Outcomes.{ends_written, put_text}
 use Rattle.env_app.proofs.generate.write_generated.Goals as goal
 

@@ -1,6 +1,6 @@
 use Rattle.std.proofs.Common.{arith, ap, false, length}
 use Rattle.std.proofs.lemmas.Result.{err_from_is_err_and}
-use Rattle.env_app.specs.declared.words.Command.TheVariants.{Reply}
+use Rattle.command_line.specs.declared.words.Command.TheVariants.{Reply}
 use Rattle.env_app.specs.Outcome.{ends, output_of}
 use Rattle.env_app.proofs.Outcomes.{ends_cut}
 use Rattle.env_app.proofs.Passed.{behind_within, script_within}

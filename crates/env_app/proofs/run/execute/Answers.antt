@@ -1,5 +1,5 @@
 use Rattle.std.proofs.Common.{Some}
-use Rattle.env_app.specs.declared.words.Command.TheVariants.{Check, Explain, Generate, Bench}
+use Rattle.command_line.specs.declared.words.Command.TheVariants.{Check, Explain, Generate, Bench}
 use Rattle.env_app.specs.Outcome.{ends}
 use Rattle.env_app.proofs.Clocks.{kept_in_common}
 use Rattle.env_app.proofs.Outcomes.{ends_in_common}

@@ -1,4 +1,4 @@
-use Rattle.env_app.specs.declared.words.Command.TheVariants.{Run}
+use Rattle.command_line.specs.declared.words.Command.TheVariants.{Run}
 use Rattle.env_app.specs.Outcome.{ends, output_of}
 use Rattle.env_app.proofs.Outcomes.{ends_written}
 use Rattle.env_app.proofs.runs.run_script.Goals as goal

@@ -2,9 +2,9 @@
 use Rattle.std.proofs.Common.{◌≡◌, ℕ, true, false, List, [], ◌∷◌, map, codes, refl, Option, Some, None}
 use Rattle.std.specs.Fmt.{digits}
 use Rattle.clap.proofs.OnLiterals.{clap_on_literals}
-use Rattle.env_app.specs.declared.words.Command.{Command}
-use Rattle.env_app.specs.declared.words.Command.TheVariants.{Run, Check, Explain, Reply, Trace, Nest, Generate, Bench}
-use Rattle.env_app.specs.CommandLine.{number_named, command_of}
+use Rattle.command_line.specs.declared.words.Command.{Command}
+use Rattle.command_line.specs.declared.words.Command.TheVariants.{Run, Check, Explain, Reply, Trace, Nest, Generate, Bench}
+use Rattle.command_line.specs.CommandLine.{number_named, command_of}
 
 -- the words behind the program's name, and the command that they are, if they are one
 abbrev Row : Type 0

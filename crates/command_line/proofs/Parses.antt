@@ -12,7 +12,7 @@ use Rattle.clap.specs.declared.error.kind.ErrorKind.TheVariants.{OutOfMemory}
 use Rattle.clap.specs.declared.parser.matches.ArgMatches.{ArgMatches}
 use Rattle.clap.proofs.OnLiterals.{clap_on_literals}
 use Rattle.clap.proofs.WalkLemmas.{first_value-rows}
-use Rattle.env_app.specs.CommandLine.{taskenv, command_by, command_unless, command_of}
+use Rattle.command_line.specs.CommandLine.{taskenv, command_by, command_unless, command_of}
 
 -- the command is one of those of which clap says exactly what it makes of words
 simple : is_simple taskenv ≡ true

@@ -3,7 +3,7 @@ ghost use Rattle.script_model.specs.Words.{is_word};
 ghost use Rattle.clap.specs.Simple.{app_of, with_rule};
 ghost use Rattle.clap.specs.Values.{kind_of};
 ghost use Rattle.clap.specs.Walk.{rule_of};
-ghost use Rattle.env_app.specs.CommandLine.{IsSized, command_by, command_of, command_with, flag_argument, is_set, mode_argument, mode_named, number_named, seed_given, size_given, step_given, taskenv, value_argument};
+ghost use Rattle.command_line.specs.CommandLine.{IsSized, command_by, command_of, command_with, flag_argument, is_set, mode_argument, mode_named, number_named, seed_given, size_given, step_given, taskenv, value_argument};
 
 use clap::error::ErrorKind;
 use clap::{Arg, ArgAction};

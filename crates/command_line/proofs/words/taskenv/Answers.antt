@@ -1,7 +1,7 @@
 use Rattle.std.proofs.Common.{ap₂, ◌∙◌}
 use Rattle.std.proofs.lemmas.Result.{IfOk-weaker}
 use Rattle.clap.specs.Simple.{with_rule}
-use Rattle.env_app.proofs.words.taskenv.Goals as goal
+use Rattle.command_line.proofs.words.taskenv.Goals as goal
 
 pub returns : goal.returns
 returns c =

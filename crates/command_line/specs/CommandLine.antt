@@ -8,11 +8,11 @@ use Rattle.clap.specs.Simple.{App, new_app, new_rule, with_rule, matches_of}
 use Rattle.clap.specs.Kinds.{Kinds}
 use Rattle.clap.specs.Faults.{fault_of}
 use Rattle.clap.specs.declared.builder.action.ArgAction.TheVariants.{SetTrue}
-use Rattle.env_app.specs.declared.words.Command.{Command}
-use Rattle.env_app.specs.declared.words.Command.TheVariants.{Run, Check, Explain, Reply, Trace, Nest, Generate, Bench}
-use Rattle.env_app.specs.declared.words.Mode.{Mode}
-use Rattle.env_app.specs.declared.words.Mode.TheVariants as modes
-use Rattle.env_app.specs.declared.words.TheConstants.{USUAL_SIZE, MOST_SIZE}
+use Rattle.command_line.specs.declared.words.Command.{Command}
+use Rattle.command_line.specs.declared.words.Command.TheVariants.{Run, Check, Explain, Reply, Trace, Nest, Generate, Bench}
+use Rattle.command_line.specs.declared.words.Mode.{Mode}
+use Rattle.command_line.specs.declared.words.Mode.TheVariants as modes
+use Rattle.command_line.specs.declared.words.TheConstants.{USUAL_SIZE, MOST_SIZE}
 
 infixl 10 ◌>>=◌
 -- the second, made of the value of the first, if there is one

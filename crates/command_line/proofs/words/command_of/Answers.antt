@@ -1,7 +1,7 @@
 use Rattle.std.proofs.Common.{◌∙◌}
 use Rattle.std.proofs.lemmas.Result.{IfOk-weaker}
-use Rattle.env_app.proofs.Parses.{refused, taken}
-use Rattle.env_app.proofs.words.command_of.Goals as goal
+use Rattle.command_line.proofs.Parses.{refused, taken}
+use Rattle.command_line.proofs.words.command_of.Goals as goal
 
 pub returns-in-Err-clause-command : goal.returns-in-Err-clause-command
 returns-in-Err-clause-command c =
