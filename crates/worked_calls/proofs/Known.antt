@@ -1,13 +1,13 @@
 -- What a test knows behind its calls, and what that allows.
-use Rattle.std.proofs.Common.{◌≡◌, ℕ, List, [], length, refl, sym, ap, ◌∙◌, false}
-use Rattle.std.specs.Prelude.{filter, nat_le}
+use Rattle.std.proofs.Common.{◌≡◌, ℕ, List, [], length, refl, sym, ap, ◌∙◌, false, true}
+use Rattle.std.specs.Prelude.{filter}
 use Rattle.task_base.specs.Plan.{Plan}
 use Rattle.task_base.specs.Steps.{is_act}
 use Rattle.task_base.specs.declared.step.Step.{Step}
 use Rattle.task_body.specs.Bodies.{AssignmentView}
-use Rattle.env_core.specs.Calls.{CanEnd}
+use Rattle.env_core.specs.Calls.{CanEnd, CanEndMain}
 use Rattle.env_core.specs.Views.{EnvView}
-use Rattle.worked_calls.specs.Known.{IsLast, IsWork}
+use Rattle.worked_calls.specs.Known.{IsLast, IsLastMain, IsWork}
 
 -- a step of an assignment leaves what it is for
 pub still : (script : Plan) (task : ℕ) (old new : AssignmentView) → IsWork script task old → new ≡ record old { value = new.value; rest = new.rest }
@@ -33,6 +33,23 @@ can_end view seat task work is none last = record {
     whole_is = is.whole_is;
   };
   is_pool = refl;
+  none_left = none;
+  all_entered = last.all_entered ∙ sym (ap (λ (s : List Step). length (filter is_act s)) is.whole_is);
+}
+
+-- a driver whose main task has no step left may end it
+pub can_end_main : (view : EnvView) (task : ℕ) (work : AssignmentView) → IsWork view.script task work → work.rest ≡ [] → IsLastMain view task
+    → CanEndMain view 0 work
+can_end_main view task work is none last = record {
+  seats = record {
+    now = record { task = task; home = 0; found = 0; is_main = true };
+    runs = last.runs;
+    task_is = is.task_is;
+    home_is = is.home_is;
+    found_is = is.found_is;
+    whole_is = is.whole_is;
+  };
+  is_main = refl;
   none_left = none;
   all_entered = last.all_entered ∙ sym (ap (λ (s : List Step). length (filter is_act s)) is.whole_is);
 }

@@ -1,6 +1,6 @@
--- Whether a small script is sound, decided by computing: one without main queues, whose tasks post nothing.
-use Rattle.std.proofs.Common.{◌≡◌, ℕ, zero, suc, ◌+◌, ◌≤◌, Bool, true, false, cond, eqb, not, ◌&&◌, ◌||◌, List, [], ◌∷◌, ◌++◌, length, take, Some}
-use Rattle.std.proofs.Common.{refl, sym, ap, subst, ◌∙◌, append-nil, append_assoc, arith}
+-- Whether a small script is sound, decided by computing: one whose tasks post nothing.
+use Rattle.std.proofs.Common.{◌≡◌, ℕ, zero, suc, ◌+◌, ◌≤◌, Bool, true, false, cond, not, ◌&&◌, ◌||◌, List, [], ◌∷◌, ◌++◌, length, take, Some}
+use Rattle.std.proofs.Common.{refl, subst, append-nil, append_assoc, arith}
 use Rattle.std.specs.List.{list_any, AllByRecursion}
 use Rattle.std.specs.Prelude.{filter, nat_le, nat_lt, slice_get, sum_by}
 use Rattle.std.proofs.lemmas.Bool.{and_parts, false≢true, leb-true, not-true}
@@ -13,6 +13,7 @@ use Rattle.task_base.specs.declared.limits.TheConstants.{MOST_WORKERS, MOST_RUNN
 use Rattle.task_base.specs.declared.limits.TheConstants.{MOST_ITEMS, MOST_STEPS, MOST_TICKS, MOST_EVENTS, MOST_MICROSECONDS}
 use Rattle.task_base.specs.declared.script.Action.{Action}
 use Rattle.task_base.specs.declared.script.Action.TheVariants as actions
+use Rattle.task_base.specs.declared.script.MainQueue.{MainQueue}
 use Rattle.task_base.specs.declared.script.Runner.{Runner}
 use Rattle.task_base.specs.declared.script.RunnerKind.{RunnerKind}
 use Rattle.task_base.specs.declared.script.RunnerKind.TheVariants as kinds
@@ -20,7 +21,7 @@ use Rattle.task_base.specs.declared.step.Step.{Step}
 use Rattle.task_base.specs.declared.step.Step.TheVariants as steps
 use Rattle.script_model.specs.Bound.{events_bound_of}
 use Rattle.script_model.specs.Draft.{has_bad_scopes, is_shutdown, is_start_of, may_block_on, opens_scope, ticks_of}
-use Rattle.script_model.specs.Laws.Sound.{IsActionSound, IsConfigSound, IsInOrder, IsJobSound, IsSeatThere, IsSound, IsStepSound, IsStepWithin, IsTaskSound}
+use Rattle.script_model.specs.Laws.Sound.{IsActionSound, IsConfigSound, IsInOrder, IsJobSound, IsQueueWithin, IsSeatThere, IsSound, IsStepSound, IsStepWithin, IsTaskSound}
 use Rattle.script_model.specs.Laws.Sound.{IsWithinLimits}
 use Rattle.script_model.specs.Postings.{is_posted_once}
 use Rattle.hist_model.proofs.Laws.Differing.{posted_once_decides}
@@ -111,6 +112,23 @@ seats_there script (r ∷ rs) h =
     let parts = and_parts (is_unbound r.kind) (are_unbound rs) h in
     (seat_there script r.kind parts.0, seats_there script rs parts.1)
 
+-- the class and the voters of the queue are in their ranges
+abbrev pub is_small_queue : MainQueue → Bool
+is_small_queue queue = nat_le queue.class 7 && nat_le queue.voters 16
+
+abbrev pub are_small_queues : List MainQueue → Bool
+are_small_queues [] = true
+are_small_queues (q ∷ qs) = is_small_queue q && are_small_queues qs
+
+queue_within : (q : MainQueue) → is_small_queue q ≡ true → IsQueueWithin q
+queue_within q h = grind arith
+
+all_queues_within : (qs : List MainQueue) → are_small_queues qs ≡ true → AllByRecursion IsQueueWithin qs
+all_queues_within [] h = tt
+all_queues_within (q ∷ qs) h =
+    let parts = and_parts (is_small_queue q) (are_small_queues qs) h in
+    (queue_within q parts.0, all_queues_within qs parts.1)
+
 -- the steps are small, and scopes open and close in turn
 abbrev pub is_small_task : List Step → Bool
 is_small_task ss = are_small_steps ss && not (has_bad_scopes false ss)
@@ -159,10 +177,13 @@ jobs_sound (j ∷ js) h =
 
 -- Actions.
 
--- the action uses no main queue, and names what is declared
+-- the action names what is declared, and does no more to a main queue than to post to it and to pump
 abbrev pub is_small_action : Plan → Action → Bool
 is_small_action script (actions.Post task runner delay) = (nat_lt task (length script.tasks) && nat_lt runner (length script.runners) && nat_le delay 1000)
     && (not (opens_scope script.tasks task) || may_block_on script.runners runner)
+is_small_action script (actions.Main task queue delay) = (nat_lt task (length script.tasks) && nat_lt queue (length script.queues) && nat_le delay 1000)
+    && not (opens_scope script.tasks task)
+is_small_action script (actions.Pump count) = nat_le 1 count && nat_le count 1000
 is_small_action script (actions.Tick count) = nat_le 1 count && nat_le count 1000
 is_small_action script (actions.Policy policy) = true
 is_small_action script actions.Flush = true
@@ -185,6 +206,11 @@ action_sound script (actions.Post task runner delay) h =
     let parts = and_parts (nat_lt task (length script.tasks) && nat_lt runner (length script.runners) && nat_le delay 1000) _ h in
     let numbers = parts.0 in
     (record { task_declared = grind arith; runner_declared = grind arith; may_block = may_open _ _ parts.1 }, grind arith)
+action_sound script (actions.Main task queue delay) h =
+    let parts = and_parts (nat_lt task (length script.tasks) && nat_lt queue (length script.queues) && nat_le delay 1000) _ h in
+    let numbers = parts.0 in
+    (record { task_declared = grind arith; queue_declared = grind arith; no_scope = not-true _ parts.1 }, grind arith)
+action_sound script (actions.Pump count) h = grind arith
 action_sound script (actions.Tick count) h = grind arith
 action_sound script (actions.Policy policy) h = tt
 action_sound script actions.Flush h = tt
@@ -255,17 +281,19 @@ few_starts j (a ∷ todo) = at (is_start_of j a) (is_any_start a) (one_start j a
 -- the script is small, and what every script that is read is like
 abbrev pub is_small : Plan → Bool
 is_small script = (has_sound_config script && is_within_limits script)
-    && ((are_unbound script.runners && (are_small_tasks script.tasks && are_small_jobs script.jobs))
+    && ((are_unbound script.runners && (are_small_queues script.queues && (are_small_tasks script.tasks && are_small_jobs script.jobs)))
     && ((are_small_actions script script.actions && are_in_order [] script.actions)
     && (is_posted_once script && (nat_le (count is_any_start script.actions) 1 && nat_le (count is_shutdown script.actions) 1))))
 
-pub sound : (script : Plan) → script.queues ≡ [] → is_small script ≡ true → IsSound script
-sound script none h =
+pub sound : (script : Plan) → is_small script ≡ true → IsSound script
+sound script h =
     let first = and_parts (has_sound_config script && is_within_limits script) _ h in
     let ranges = and_parts (has_sound_config script) (is_within_limits script) first.0 in
-    let second = and_parts (are_unbound script.runners && (are_small_tasks script.tasks && are_small_jobs script.jobs)) _ first.1 in
+    let second = and_parts
+    (are_unbound script.runners && (are_small_queues script.queues && (are_small_tasks script.tasks && are_small_jobs script.jobs))) _ first.1 in
     let declared = and_parts (are_unbound script.runners) _ second.0 in
-    let declared_more = and_parts (are_small_tasks script.tasks) (are_small_jobs script.jobs) declared.1 in
+    let queues = and_parts (are_small_queues script.queues) _ declared.1 in
+    let declared_more = and_parts (are_small_tasks script.tasks) (are_small_jobs script.jobs) queues.1 in
     let third = and_parts (are_small_actions script script.actions && are_in_order [] script.actions) _ second.1 in
     let done = and_parts (are_small_actions script script.actions) (are_in_order [] script.actions) third.0 in
     let once = and_parts (is_posted_once script) _ third.1 in
@@ -276,7 +304,7 @@ sound script none h =
       limits = limits_sound script ranges.1;
       declarations = record {
         seats_there = seats_there script script.runners declared.0;
-        queues_within = rw none tt;
+        queues_within = all_queues_within script.queues queues.0;
         tasks_sound = λ t ss here. tasks_sound script script.tasks t t ss declared_more.0 here;
         jobs_sound = jobs_sound script.jobs declared_more.1;
       };

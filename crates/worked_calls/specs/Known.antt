@@ -1,5 +1,5 @@
 -- What a test knows behind its calls.
-use Rattle.std.specs.Prelude.{◌≡◌, ℕ, ◌≤◌, false, List, [], ◌∷◌, ◌++◌, length, Some, filter}
+use Rattle.std.specs.Prelude.{◌≡◌, ℕ, ◌≤◌, false, true, List, [], ◌∷◌, ◌++◌, length, Some, filter}
 use Rattle.task_base.specs.Plan.{Plan}
 use Rattle.task_base.specs.Steps.{is_act}
 use Rattle.task_base.specs.declared.entry.Entry.{Entry}
@@ -29,6 +29,11 @@ pub record IsLast (view : EnvView) (seat task : ℕ) : Type 0 where
   pub known : seat ≤ view.script.workers
   pub runs : running (own_entries seat view.history) seat ≡ Some (record { task = task; home = 0; found = 0; is_main = false })
   pub all_entered : acts_done (own_entries seat view.history) seat ≡ length (filter is_act (steps_of view.script task))
+
+-- the driver runs this task of the first main queue, which found nothing there, and whose act steps were all entered
+pub record IsLastMain (view : EnvView) (task : ℕ) : Type 0 where
+  pub runs : running (own_entries 0 view.history) 0 ≡ Some (record { task = task; home = 0; found = 0; is_main = true })
+  pub all_entered : acts_done (own_entries 0 view.history) 0 ≡ length (filter is_act (steps_of view.script task))
 
 -- the driver's seat, of which so many were drawn
 abbrev pub driver_seat : TurnKey → ℕ → SeatView

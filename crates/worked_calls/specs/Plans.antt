@@ -55,9 +55,15 @@ abbrev pub closing_plan : Plan
 closing_plan =
     task_plan (runner_of kinds.Parallel priorities.UserVisible behaviours.BlockShutdown false) 1 (actions.Post 0 0 5 ∷ actions.Shutdown ∷ [])
 
--- the driver posts a skip task when shutdown is over
+-- one worker, a runner and a main queue, and a driver that has a task done on each, and posts a third one, a skip task, when
+-- shutdown is over
 abbrev pub late_plan : Plan
-late_plan = task_plan (runner_of kinds.Parallel priorities.UserVisible behaviours.SkipOnShutdown false) 5 (actions.Shutdown ∷ actions.Post 0 0 0 ∷ [])
+late_plan = record
+    (idle_plan 1 (actions.Post 0 0 0 ∷ actions.Main 1 0 0 ∷ actions.Pump 1 ∷ actions.Shutdown ∷ actions.Post 2 0 0 ∷ [])) {
+      runners = runner_of kinds.Parallel priorities.UserVisible behaviours.SkipOnShutdown false ∷ [];
+      queues = record { class = 0; voters = 0 } ∷ [];
+      tasks = (steps.Add 5 ∷ []) ∷ (steps.Add 5 ∷ []) ∷ (steps.Add 5 ∷ []) ∷ [];
+    }
 
 -- the steps of a task that adds 1 in a blocking scope
 abbrev pub scoped_steps : Scope → List Step

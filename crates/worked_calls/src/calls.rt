@@ -5,7 +5,8 @@ ghost use Rattle.env_core.specs.Calls.{IsFreeWorker, IsNextAct, IsWantedNext};
 ghost use Rattle.env_core.specs.Jobs.{CanEndItem};
 ghost use Rattle.task_base.specs.Plan.{Plan};
 ghost use Rattle.task_base.specs.declared.entry.Kind.TheVariants as kinds;
-ghost use Rattle.worked_calls.specs.Known.{IsLast, IsWork, with_entry};
+ghost use Rattle.worked_calls.specs.Known.{IsLast, IsLastMain, IsWork, with_entry};
+ghost use Rattle.worked_calls.specs.Plans.{late_plan};
 
 use crate::bodies::{CountedBody, bodies_of};
 use env_core::Env;
@@ -88,6 +89,55 @@ pub fn end(
     };
     assert!(rt; work.value() == left);
     let _ = env.end(seat, work);
+}
+
+/// The driver takes this task, which was posted to the first main queue and finds nothing.
+pub fn take_main(
+    rt: &impl Abort,
+    env: &mut Env<CountedBody>,
+    task: TaskId,
+) -> Assignment<CountedBody>
+    requires { IsWantedNext env.old 0 kinds.MainNone }
+    ensures entered { env.new ≡ with_entry env.old 0 (kinds.MainTake task 0 0) }
+    ensures work { IsWork env.old.script task result }
+{
+    let Some(work) = env.main_take(0) else {
+        panic!(rt; "no front is open")
+    };
+    assert!(rt; work.task() == task);
+    assert!(rt; work.home() == 0);
+    assert!(rt; work.found() == 0);
+    work
+}
+
+/// The driver ends its task, which has no step left and leaves this value.
+pub fn end_main(
+    rt: &impl Abort,
+    env: &mut Env<CountedBody>,
+    task: TaskId,
+    mut work: Assignment<CountedBody>,
+    left: u64,
+)
+    requires work { IsWork env.old.script task work }
+    requires last { IsLastMain env.old task }
+    ensures { env.new ≡ with_entry env.old 0 (kinds.MainEnd task left) }
+{
+    let Act::Finished = work.step() else {
+        panic!(rt; "task {task} has more steps")
+    };
+    assert!(rt; work.value() == left);
+    let _ = env.main_end(0, work);
+}
+
+/// The bodies of the three tasks that are in the drawer, and the cells of the runner and the main queue that are out.
+pub fn assert_kept(rt: &impl Abort, env: &Env<CountedBody>, in_drawer: [bool; 3], out: [bool; 2])
+    requires { env.now.script ≡ late_plan }
+{
+    assert_eq!(rt;
+        [env.has_body(0), env.has_body(1), env.has_body(2)],
+        in_drawer
+    );
+    assert_eq!(rt; [env.is_cell_out(0, 0), env.is_main_cell_out(0)], out);
 }
 
 /// A worker takes this item of the first job, under the number 0.

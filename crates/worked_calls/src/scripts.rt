@@ -5,8 +5,8 @@ ghost use Rattle.worked_calls.specs.Plans.{runner_of, scope_plan, scoped_steps, 
 
 use std::alloc::{AllocError, Global};
 use task_base::{
-    Action, Behaviour, Job, Policy, Priority, Rows, Runner, RunnerKind, Scope, Script, Step, Task,
-    Traits,
+    Action, Behaviour, Job, MainQueue, Policy, Priority, Rows, Runner, RunnerKind, Scope, Script,
+    Step, Task, Traits,
 };
 
 /// A post of a task to the first runner, without a delay.
@@ -118,7 +118,23 @@ pub fn closing(alloc: Global) -> Result<Script, AllocError>
     one_task(alloc, runner, 1, vec![in alloc; post, Action::Shutdown]?)
 }
 
-/// The driver posts a skip task when shutdown is over.
+/// Three tasks that add 5.
+fn three_tasks(alloc: Global) -> Result<Rows<Task>, AllocError>
+    ensures { IfOk result (λ tasks. tasks.items ≡ (Step.Add 5 ∷ []) ∷ (Step.Add 5 ∷ []) ∷ (Step.Add 5 ∷ []) ∷ []) }
+{
+    let first = Task {
+        steps: adding(alloc, 5)?,
+    };
+    let second = Task {
+        steps: adding(alloc, 5)?,
+    };
+    let third = Task {
+        steps: adding(alloc, 5)?,
+    };
+    Ok(Rows::from_vec(vec![in alloc; first, second, third]?))
+}
+
+/// The driver posts a task to the runner and one to the main queue, which it does, and a skip task when shutdown is over.
 pub fn late(alloc: Global) -> Result<Script, AllocError>
     ensures { IfOk result (λ script. script ≡ late_plan) }
 {
@@ -128,7 +144,23 @@ pub fn late(alloc: Global) -> Result<Script, AllocError>
         Behaviour::SkipOnShutdown,
         false,
     );
-    one_task(alloc, runner, 5, vec![in alloc; Action::Shutdown, post(0)]?)
+    let queue = MainQueue {
+        class: 0,
+        voters: 0,
+    };
+    let main = Action::Main {
+        task: 1,
+        queue: 0,
+        delay: 0,
+    };
+    let pump = Action::Pump { count: 1 };
+    let actions = vec![in alloc; post(0), main, pump, Action::Shutdown, post(2)]?;
+    Ok(Script {
+        runners: Rows::from_vec(vec![in alloc; runner]?),
+        queues: Rows::from_vec(vec![in alloc; queue]?),
+        tasks: three_tasks(alloc)?,
+        ..idle_script(alloc, 1, actions)
+    })
 }
 
 /// The tasks of a script with scopes: one that adds 1 in a scope, and one that adds 2.
