@@ -1,4 +1,5 @@
-//! Tests of the crates below that are lists of calls, with gates and threads of their own, and the bodies that they run.
+//! Tests of the crates below that are lists of calls, with gates and threads of their own, and what other tests use too:
+//! the bodies that they run, and texts of logs.
 #![tactic(auto)]
 
 #[cfg(test)]
@@ -22,7 +23,9 @@ mod notes;
 mod one_env;
 #[cfg(test)]
 mod scripts;
+mod texts;
 #[cfg(test)]
 mod threads;
 
 pub use bodies::{CountedBody, Word, bodies_of};
+pub use texts::text_of;

@@ -1,6 +1,5 @@
 //! Logs by their text.
-use env_io::MemSink;
-use run_log::write_log;
+use crate::texts::text_of;
 use std::alloc::Global;
 use std::process::Abort;
 use std::str;
@@ -15,11 +14,10 @@ pub fn assert_log(
     lines: &str,
 ) -> Result<(), Fail> {
     assert!(rt; log.len() < 100);
-    let mut sink = MemSink::new(alloc, Vec::new(alloc), 4096)?;
-    assert!(rt; write_log(&mut sink, log).is_ok());
+    let written = text_of(alloc, log)?;
     let text = format!(in alloc; "taskenv log 2\n{lines}total {}\n", log.len())?;
     assert_eq!(rt;
-        str::from_utf8(sink.bytes()).unwrap_or("no text"),
+        str::from_utf8(written.bytes()).unwrap_or("no text"),
         text.as_str()
     );
     Ok(())

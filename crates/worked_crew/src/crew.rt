@@ -1,21 +1,21 @@
 //! Runs on threads, with bodies and gates of the tests' own.
 use env_app::run_crew;
 use env_io::{Gate, ListClock};
-use std::hint;
 use std::sync::Arc;
 use std::sync::atomic::{AtomicU64, Ordering};
 use std::test::Fail;
+use std::{hint, str};
 use task_script::read_script;
-use worked_calls::{Word, bodies_of};
+use worked_calls::{Word, bodies_of, text_of};
 
-/// A gate that numbers its calls from 1, and keeps for each of three tasks the number of its call, and how many steps
+/// A gate that numbers its calls from 1, and keeps for each of two tasks the number of its call, and how many steps
 /// were done before it.
 #[derive(Drop)]
 struct LookingGate {
     word: Word,
     calls: AtomicU64,
-    places: [AtomicU64; 3],
-    steps: [AtomicU64; 3],
+    places: [AtomicU64; 2],
+    steps: [AtomicU64; 2],
 }
 
 impl Gate for LookingGate {
@@ -30,17 +30,21 @@ impl Gate for LookingGate {
     }
 }
 
-/// Three tasks of rising priority, under a policy that holds all work back until they are posted.
-const RISING: &str = "workers 1\n\
-    runner 0 parallel best_effort skip\n\
-    runner 1 parallel user_visible skip\n\
-    runner 2 parallel user_blocking skip\n\
-    task 0 add 1\ntask 1 add 1\ntask 2 add 1\n\
-    policy none\npost 0 0 0\npost 1 1 0\npost 2 2 0\npolicy all\nflush\n";
+/// Two tasks of one sequence, under a policy that holds all work back until they are posted. The second one finds what the
+/// first one left.
+const ALONG: &str = "workers 1\n\
+    runner 0 sequenced user_visible skip\n\
+    task 0 add 5\ntask 1 mul 3\n\
+    policy none\npost 0 0 0\npost 1 0 0\npolicy all\nflush\n";
+
+/// The log of its only run.
+const ALONG_LOG: &str = "taskenv log 2\n\
+    0 0 policy none\n1 0 post 0 0 0 ok\n2 0 post 1 0 0 ok\n3 0 policy all\n\
+    4 1 take 0 0 0\n5 1 end 0 5\n6 1 take 1 0 5\n7 1 end 1 15\n8 0 idle\ntotal 9\n";
 
 #[test]
 fn gate_is_passed_once_a_task_before_its_first_step(rt: HostRuntime) -> Result<(), Fail> {
-    let Ok(script) = read_script(rt.alloc(), RISING.as_bytes()) else {
+    let Ok(script) = read_script(rt.alloc(), ALONG.as_bytes()) else {
         panic!(rt; "the script is not read")
     };
     let word = Arc::new(rt.alloc(), AtomicU64::new(0))?;
@@ -48,21 +52,27 @@ fn gate_is_passed_once_a_task_before_its_first_step(rt: HostRuntime) -> Result<(
     let gate = LookingGate {
         word: Arc::try_clone(&word)?,
         calls: AtomicU64::new(0),
-        places: [AtomicU64::new(0), AtomicU64::new(0), AtomicU64::new(0)],
-        steps: [AtomicU64::new(0), AtomicU64::new(0), AtomicU64::new(0)],
+        places: [AtomicU64::new(0), AtomicU64::new(0)],
+        steps: [AtomicU64::new(0), AtomicU64::new(0)],
     };
     let mut clock = ListClock::new(Vec::new(rt.alloc()));
     let env = run_crew(&rt, rt.alloc(), &script, bodies, &mut clock, &gate)?;
-    assert_eq!(rt; env.into_log().len(), 12);
-    assert_eq!(rt; gate.calls.load(Ordering::SeqCst), 3);
-    for (place, wanted) in gate.places.iter().zip([3, 2, 1]) {
+    let log = env.into_log();
+    assert!(rt; log.len() < 100);
+    let text = text_of(rt.alloc(), &log)?;
+    assert_eq!(rt;
+        str::from_utf8(text.bytes()).unwrap_or("no text"),
+        ALONG_LOG
+    );
+    assert_eq!(rt; gate.calls.load(Ordering::SeqCst), 2);
+    for (place, wanted) in gate.places.iter().zip([1, 2]) {
         assert_eq!(rt; place.load(Ordering::SeqCst), wanted);
     }
     // Each task is stepped once for its step, and once more to see that none is left.
-    for (steps, wanted) in gate.steps.iter().zip([4, 2, 0]) {
+    for (steps, wanted) in gate.steps.iter().zip([0, 2]) {
         assert_eq!(rt; steps.load(Ordering::SeqCst), wanted);
     }
-    assert_eq!(rt; word.load(Ordering::SeqCst), 6);
+    assert_eq!(rt; word.load(Ordering::SeqCst), 4);
     Ok(())
 }
 
