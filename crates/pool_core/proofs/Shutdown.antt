@@ -32,7 +32,7 @@ use Rattle.pool_core.proofs.LineGrowth.{lines_at_done, lines_at_shutdown}
 use Rattle.pool_core.proofs.Pasts.{past_kept}
 use Rattle.pool_core.proofs.Places.{all_declared, hold_placed, placed_by_table, unposted_is_empty}
 use Rattle.pool_core.proofs.Tables.{postings_kept, priorities_kept, seats_kept}
-use Rattle.pool_core.proofs.Tracking.{tracked_at_done, tracked_at_policy, tracked_at_shutdown}
+use Rattle.pool_core.proofs.Tracking.{counted_is, tracked_at_done, tracked_at_policy, tracked_at_shutdown}
 use Rattle.pool_core.specs.Calls.{IsInPhase, after_done, after_policy, after_shutdown}
 use Rattle.pool_core.specs.Refreshes.{IsUnposted, placed, refreshed_below}
 use Rattle.pool_core.specs.StandsFor.{StandsFor}
@@ -52,7 +52,7 @@ use Rattle.task_base.specs.declared.policy.Policy.{Policy}
 use Rattle.pool_laws.specs.Choice.{source_waiting}
 use Rattle.task_model.specs.Phase.{phase_of}
 use Rattle.task_sequence.specs.Sequences.{Held, Waiting, first_of, fresh, may_stay, purged, sequence_at}
-use Rattle.task_tracker.specs.Tracked.{Tracked}
+use Rattle.task_tracker.specs.Tracked.{Tracked, blocker_count}
 use Rattle.task_base.specs.declared.entry.Kind.TheVariants as kinds
 use Rattle.task_sequence.specs.Sequences as sequences
 use Rattle.task_traits.specs.declared.phase.Phase.TheVariants as phases
@@ -148,6 +148,10 @@ stands_at_shutdown script past pool seat removed in_phase = let stands = in_phas
 }
 
 -- The end, after which no source waits, and a policy, which the tracker keeps.
+
+-- what the tracker counts is what shutdown waits for
+pub count_is : (script : Plan) (past : List Entry) (pool : Pool) → StandsFor script past pool → blocker_count pool.tracker ≡ blockers_of script past
+count_is script past pool stands = rw stands.tracker (counted_is script past)
 
 -- where nothing blocks shutdown that has started, no job waits
 no_job_waits : (script : Plan) (past : List Entry) (j : ℕ) → phase_of past ≡ phases.Started → blockers_of script past ≡ 0 → j < length script.jobs

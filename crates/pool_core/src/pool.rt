@@ -272,6 +272,14 @@ impl Pool {
         self.refresh_jobs();
     }
 
+    /// How many pieces of work shutdown waits for, or would wait for if it started now. Constant time.
+    pub fn blockers(&self) -> u32
+        requires { (script : Plan) × (past : List Entry) × StandsFor script past self.now }
+        ensures { (script : Plan) (past : List Entry) → StandsFor script past self.now → result ≡ blockers_of script past }
+    {
+        self.tracker.blockers()
+    }
+
     /// The driver ends shutdown, which it has started, unless something still blocks it. From then on nothing is accepted, and
     /// nothing starts.
     pub fn try_done(&mut self) -> Result<(), StillBlocked>

@@ -1,18 +1,7 @@
-use Rattle.pool_core.proofs.Shutdown.{stands_at_done}
-use Rattle.pool_core.proofs.Tracking.{counted_is}
-use Rattle.pool_core.specs.StandsFor.{StandsFor}
-use Rattle.pool_core.specs.declared.pool.Pool.{Pool}
-use Rattle.std.proofs.Common.{Err, List, Ok, Result, refl, subst, sym, ◌∙◌, ◌≡◌}
+use Rattle.pool_core.proofs.Shutdown.{count_is, stands_at_done}
+use Rattle.std.proofs.Common.{Err, Ok, Result, refl, subst, sym, ◌∙◌, ◌≡◌}
 use Rattle.std.specs.Prelude.{IfErr, IsOk, OnOk}
-use Rattle.task_base.specs.Plan.{Plan}
-use Rattle.task_base.specs.declared.entry.Entry.{Entry}
-use Rattle.task_model.specs.Blockers.{blockers_of}
-use Rattle.task_tracker.specs.Tracked.{blocker_count}
 use Rattle.pool_core.proofs.pool.Pool.try_done.Goals as goal
-
--- what the tracker counts is what shutdown waits for
-count_is : (script : Plan) (past : List Entry) (pool : Pool) → StandsFor script past pool → blocker_count pool.tracker ≡ blockers_of script past
-count_is script past pool stands = rw stands.tracker (counted_is script past)
 
 -- what holds where there is a value, from what holds there
 given_ok : {T E P Q : Type 0} (r : Result T E) → (IsOk r → P → Q) → OnOk r P → OnOk r Q
