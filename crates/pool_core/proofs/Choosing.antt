@@ -5,12 +5,13 @@ use Rattle.pool_core.proofs.JobViews.{enters_parts}
 use Rattle.pool_core.proofs.JobQueues.{job_made}
 use Rattle.list_laws.proofs.Elements.{slice_get_all}
 use Rattle.list_laws.proofs.Values.{eqb-same, some-injective}
-use Rattle.list_laws.specs.Lists.{Ranks, keep}
+use Rattle.list_laws.specs.Lists.{Ranks, holds_of, keep}
 use Rattle.pool_core.proofs.Accepted.{head_accepted, is_declared}
 use Rattle.pool_core.proofs.Following.{lane_fits, sequence_made}
 use Rattle.pool_core.proofs.Lists.{some_mapped}
 use Rattle.pool_core.proofs.Room.{groups_have_room}
-use Rattle.pool_core.specs.Choice.{IsBestOf, IsOffer, IsOffered, better_of, is_open, priority_in}
+use Rattle.pool_core.specs.Calls.{is_own}
+use Rattle.pool_core.specs.Choice.{IsBestOf, IsOffer, IsOffered, better_of, is_open, is_single, priority_in}
 use Rattle.pool_core.specs.Pasts.{IsPoolScript}
 use Rattle.pool_core.specs.Queues.{belongs, lane_of, queue_of, rank_as, same}
 use Rattle.pool_core.specs.StandsFor.{StandsFor}
@@ -25,16 +26,18 @@ use Rattle.sequence_queue.specs.declared.rank.Rank.{Rank}
 use Rattle.std.proofs.Common.{Bool, List, None, Option, Some, ap, arith, cond, false, inl, inr, length, refl, subst, sym, true, ℕ, ◌+◌, ◌<◌, ◌∙◌, ◌≡◌, ◌≤◌}
 use Rattle.std.proofs.lemmas.Bool.{and_from, and_parts, eq-eqb, eqb-true, false≢true, not-true}
 use Rattle.std.proofs.lemmas.List.Elements.{All-contains_itself, All-weaker}
-use Rattle.std.proofs.lemmas.Option.{none-some}
+use Rattle.std.proofs.lemmas.Option.{none-some, slice_get_past}
 use Rattle.std.specs.Option.{IfSome, option_map, option_map_or}
 use Rattle.std.specs.Prelude.{Contains, is_some, not, option_and_then, slice_get, ◌&&◌, ◌==◌, ◌⊎◌}
 use Rattle.task_base.specs.Groups.{is_best_effort}
 use Rattle.task_base.specs.Plan.{Plan}
 use Rattle.task_base.specs.Policy.{is_held_back}
-use Rattle.task_base.specs.Runners.{seat_of, seat_of_kind, sequence_count}
+use Rattle.task_base.specs.Runners.{is_parallel, seat_of, seat_of_kind, sequence_count, sequence_of}
 use Rattle.task_base.specs.declared.entry.Entry.{Entry}
 use Rattle.task_base.specs.declared.policy.Policy.{Policy}
 use Rattle.task_base.specs.declared.script.Runner.{Runner}
+use Rattle.task_base.specs.declared.script.RunnerKind.{RunnerKind}
+use Rattle.task_base.specs.declared.script.RunnerKind.TheVariants.{Parallel, Sequenced, Single}
 use Rattle.task_base.specs.declared.source.TaskSource.{TaskSource}
 use Rattle.task_base.specs.declared.source.TaskSource.TheVariants.{Job, Sequence}
 use Rattle.task_model.specs.Capacity.{has_room}
@@ -263,6 +266,46 @@ best_is_job script past seat j c is named =
     let inside = job_within script past j c (ap (source_waiting script past) (sym named) ∙ free.candidate) in
     let waits = waiting_job script past j c inside.1 in
     (waits.0, inside.0, waits.1, waits.2, waits.3)
+
+-- Whether it is one for this seat alone.
+
+-- a sequence's number names the seat of its runner: it is the runner's own, or no runner's where that is parallel
+seat_by_sequence : (script : Plan) (runner task : ℕ) → seat_of script (sequence_of script runner task) ≡ seat_of script runner
+seat_by_sequence script runner task = by (slice_get script.runners runner) refl
+  where
+    seat_in : Option Runner → Option ℕ
+    seat_in o = option_and_then (λ r. seat_of_kind r.kind) o
+
+    by_kind : (kind : RunnerKind) → seat_of script runner ≡ seat_of_kind kind
+        → seat_of script (cond (is_parallel kind) (length script.runners + task) runner) ≡ seat_of_kind kind
+    by_kind Parallel is = ap seat_in (slice_get_past script.runners (length script.runners + task) (omega arith))
+    by_kind Sequenced is = is
+    by_kind (Single seat) is = is
+
+    by : (o : Option Runner) → slice_get script.runners runner ≡ o
+        → seat_of script (cond (holds_of (λ r. is_parallel r.kind) o) (length script.runners + task) runner) ≡ seat_in o
+    by None is = ap seat_in is
+    by (Some r) is = by_kind r.kind (ap seat_in is)
+
+-- the best source is for one seat alone exactly where it is the sequence of a single-thread runner
+pub own_is : (script : Plan) (past : List Entry) (pool : Pool) (seat : ℕ) (best : Option (TaskSource × Rank)) → StandsFor script past pool
+    → seat ≤ script.workers → IsBestOf (IsOffer pool seat) best → is_single pool.runners best ≡ is_own (best_of script past seat)
+own_is script past pool seat best stands known bests =
+    rw (stands.runners, best_offer script past pool seat best stands known bests) (by (best_of script past seat) refl)
+  where
+    seated : (c : Candidate) (source : TaskSource) → best_of script past seat ≡ Some c → c.source ≡ source
+        → is_single script (Some (source, rank_as c)) ≡ is_some c.seat
+    seated c (Sequence s) is named =
+        let known = best_is_sequence script past seat s c is named in
+        let head : Ready = known.0 in
+        ap (λ n. is_some (seat_of script n)) (sym (head_accepted script past s head known.3).1)
+        ∙ ap is_some (seat_by_sequence script head.posted.home head.posted.task)
+        ∙ ap (λ (d : Candidate). is_some d.seat) known.4
+    seated c (Job j) is named = ap (λ (d : Candidate). is_some d.seat) (best_is_job script past seat j c is named).4
+
+    by : (o : Option Candidate) → best_of script past seat ≡ o → is_single script (option_map (λ c. (c.source, rank_as c)) o) ≡ is_own o
+    by None is = refl
+    by (Some c) is = seated c c.source is refl
 
 -- The best of several queues.
 

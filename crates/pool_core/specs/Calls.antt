@@ -1,5 +1,5 @@
 -- What each call of the pool asks of its caller, and answers.
-use Rattle.std.specs.Prelude.{◌≡◌, ℕ, ◌<◌, ◌≤◌, Bool, false, List, [], ◌∷◌, ◌++◌, length, Some, None, is_some, ◌||◌}
+use Rattle.std.specs.Prelude.{◌≡◌, ℕ, ◌<◌, ◌≤◌, Bool, false, List, [], ◌∷◌, ◌++◌, length, Option, Some, None, is_some, ◌||◌}
 use Rattle.std.specs.List.{list_any}
 use Rattle.task_base.specs.Plan.{Plan}
 use Rattle.task_base.specs.Runners.{sequence_of, sequence_count}
@@ -11,7 +11,7 @@ use Rattle.task_base.specs.declared.step.Scope.{Scope}
 use Rattle.task_traits.specs.declared.phase.Phase.{Phase}
 use Rattle.task_traits.specs.declared.traits.Priority.{Priority}
 use Rattle.task_base.specs.declared.limits.TheConstants.{LAST_MOMENT, MOST_MICROSECONDS}
-use Rattle.list_laws.specs.Lists.{count}
+use Rattle.list_laws.specs.Lists.{count, holds_of}
 use Rattle.task_model.specs.Phase.{phase_of}
 use Rattle.task_model.specs.Posts.{post_of}
 use Rattle.task_model.specs.Time.{now_of}
@@ -20,7 +20,7 @@ use Rattle.task_model.specs.Sequences.{head_of}
 use Rattle.task_model.specs.Cells.{cell_of}
 use Rattle.task_model.specs.Seats.{Running, running, holding, worker_seats, runs_sequence}
 use Rattle.task_model.specs.Capacity.{OpenScope, open_scope}
-use Rattle.task_model.specs.Sources.{best_of, sequence_candidate, job_candidate}
+use Rattle.task_model.specs.Sources.{Candidate, best_of, sequence_candidate, job_candidate}
 use Rattle.task_model.specs.Jobs.{JobPosted, claimed, free_id, job_post_of}
 use Rattle.pool_laws.specs.Seats.{runs_pool_task}
 use Rattle.pool_core.specs.StandsFor.{StandsFor}
@@ -167,3 +167,7 @@ running_tasks script past = count (is_working past) (worker_seats script)
 -- some worker may take a source
 abbrev pub is_any_ready : Plan → List Entry → Bool
 is_any_ready script past = list_any (λ worker. is_some (best_of script past worker)) (worker_seats script)
+
+-- there is a source, and one seat alone may take it
+abbrev pub is_own : Option Candidate → Bool
+is_own best = holds_of (λ c. is_some c.seat) best

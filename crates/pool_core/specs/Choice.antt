@@ -1,6 +1,9 @@
 -- Which source a seat takes, among those that the queues hold.
-use Rattle.std.specs.Prelude.{◌≡◌, ◌⊎◌, ℕ, Bool, true, false, ◌&&◌, if◌then◌else◌, Option, Some, None}
+use Rattle.std.specs.Prelude.{◌≡◌, ◌⊎◌, ℕ, Bool, true, false, ◌&&◌, if◌then◌else◌, Option, Some, None, is_some}
+use Rattle.task_base.specs.Plan.{Plan}
+use Rattle.task_base.specs.Runners.{seat_of}
 use Rattle.task_base.specs.declared.source.TaskSource.{TaskSource}
+use Rattle.task_base.specs.declared.source.TaskSource.TheVariants.{Job, Sequence}
 use Rattle.task_traits.specs.declared.traits.Priority.{Priority}
 use Rattle.task_traits.specs.declared.traits.Priority.TheVariants.{BestEffort, UserVisible}
 use Rattle.task_traits.specs.declared.traits.Behaviour.TheVariants.{BlockShutdown}
@@ -42,3 +45,9 @@ abbrev pub better_of : Option (TaskSource × Rank) → Option (TaskSource × Ran
 better_of None second = second
 better_of (Some first) None = Some first
 better_of (Some first) (Some second) = if rank_below second.1 first.1 then Some second else Some first
+
+-- there is a source, and it is the sequence of a single-thread runner, which has the runner's number
+abbrev pub is_single : Plan → Option (TaskSource × Rank) → Bool
+is_single script None = false
+is_single script (Some (Sequence s, rank)) = is_some (seat_of script s)
+is_single script (Some (Job j, rank)) = false

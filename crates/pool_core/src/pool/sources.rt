@@ -4,8 +4,8 @@ ghost use Rattle.task_base.specs.Plan.{Plan};
 ghost use Rattle.task_base.specs.declared.entry.Entry.{Entry};
 ghost use Rattle.task_model.specs.Sources.{best_of};
 ghost use Rattle.task_sequence.specs.Sequences.{sequence_at};
-ghost use Rattle.pool_core.specs.Calls.{KnowsSeat, is_any_ready};
-ghost use Rattle.pool_core.specs.Choice.{IsBestOf, IsOffer, IsOffered, better_of, is_open};
+ghost use Rattle.pool_core.specs.Calls.{KnowsSeat, is_any_ready, is_own};
+ghost use Rattle.pool_core.specs.Choice.{IsBestOf, IsOffer, IsOffered, better_of, is_open, is_single};
 ghost use Rattle.pool_core.specs.Refreshes.{HavePlaces, all_refreshed, is_meant, posted_at};
 ghost use Rattle.pool_core.specs.StandsFor.{StandsFor};
 ghost use Rattle.pool_core.specs.State.{HasPlace, given_rank, refreshed, rank_of_head};
@@ -23,6 +23,15 @@ impl Pool {
         ensures { (script : Plan) (past : List Entry) → KnowsSeat script past self.now seat → result ≡ is_some (best_of script past seat) }
     {
         self.best(seat).is_some()
+    }
+
+    /// Whether the source that a seat would get is one that no other seat may take: a sequence of a single-thread runner, which
+    /// states this seat. Constant time.
+    pub fn has_own_work(&self, seat: SeatNo) -> bool
+        requires { (script : Plan) × (past : List Entry) × KnowsSeat script past self.now seat }
+        ensures { (script : Plan) (past : List Entry) → KnowsSeat script past self.now seat → result ≡ is_own (best_of script past seat) }
+    {
+        self.is_single(self.best(seat))
     }
 
     /// Whether there is a source that some worker may take now, be it at work or not. Constant time for the first worker, and
@@ -74,6 +83,19 @@ impl Pool {
         let background = self.runners.background(priority);
         self.tracker.may_run(priority, Behaviour::BlockShutdown)
             && self.groups.has_room(background, priority)
+    }
+
+    // Whether there is a source, and it is the sequence of a single-thread runner, which has the runner's number.
+    fn is_single(&self, source: Option<(TaskSource, Rank)>) -> bool
+        requires { length self.now.priorities.items ≡ length self.now.runners.runners }
+        ensures { result ≡ is_single self.now.runners source }
+    {
+        match source {
+            Some((TaskSource::Sequence(seq), _)) => {
+                (seq as usize) < self.priorities.len() && self.runners.seat_of(seq).is_some()
+            }
+            Some((TaskSource::Job(_), _)) | None => false,
+        }
     }
 
     // Gives a sequence its place among the sources that wait, by its list, its cell and its runner's present priority.
