@@ -16,6 +16,10 @@ use crossbeam_utils::Backoff;
 use hist_model::Chronicle;
 use std::sync::Wait;
 
+/// How often a seat waits a little, longer each time, between two tries for the turn. Meanwhile the seat that had it last may
+/// have it again, with all that it needs in its processor's cache.
+const WAITS: u32 = 6;
+
 impl<V: Chronicle> Turnstile<V> {
     // One try for the turn. A lost try changes nothing.
     fn try_grab(&self, token: &mut Token<V>) -> bool
@@ -45,7 +49,9 @@ impl<V: Chronicle> Turnstile<V> {
             if self.try_grab(token) {
                 return;
             }
-            backoff.snooze();
+            for _ in 0..WAITS {
+                backoff.snooze();
+            }
         }
         unreachable!()
     }
