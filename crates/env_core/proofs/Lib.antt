@@ -12,3 +12,5 @@ pub mod Starts
 pub mod JobEntries
 pub mod JobCalls
 pub mod Own
+pub mod Waits
+pub mod Worked

@@ -5,3 +5,4 @@ pub mod Drawer
 pub mod Holds
 pub mod Jobs
 pub mod Calls
+pub mod Waits

@@ -6,6 +6,7 @@ ghost use Rattle.env_core.specs.Calls.{IsWantedNext, IsFreeWorker, IsNextAct, Ca
 ghost use Rattle.env_core.specs.Calls.{MainTakeGives, EntersAct, lets_in};
 ghost use Rattle.env_core.specs.Drawer.{is_in_drawer, kept_if};
 ghost use Rattle.env_core.specs.Views.{Enters, spare_of};
+ghost use Rattle.env_core.specs.Waits.{may_go_on};
 ghost use Rattle.hist_model.specs.Moments.{moment_behind};
 ghost use Rattle.hist_model.specs.Script.{current, is_finished};
 ghost use Rattle.hist_model.specs.Views.{own_entries};
@@ -441,6 +442,26 @@ impl<B: TaskBody> Env<B> {
         ensures { result ≡ is_finished self.now.script self.now.history }
     {
         self.agenda.is_finished(&self.script)
+    }
+
+    /// Whether what the driver's action waits for has come. True where it waits for nothing.
+    pub fn may_go_on(&self) -> bool
+        ensures { result ≡ may_go_on self.now.script self.now.history }
+    {
+        let made = self.agenda.made;
+        let Some(action) = self.action() else {
+            return true;
+        };
+        match action {
+            Action::Flush => self.pool.idle().is_ok(),
+            Action::Join { job } => match self.pool.joined(job) {
+                Ok(_) => true,
+                Err(not_yet) => not_yet.ready,
+            },
+            Action::Cancel { job } => made == 0 || self.pool.cancelled(job).is_ok(),
+            Action::Shutdown => made == 0 || self.pool.blockers() == 0,
+            _ => true,
+        }
     }
 
     /// Whether there is a source that a seat may take now, which it would get if it runs nothing.
