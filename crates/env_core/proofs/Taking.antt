@@ -9,7 +9,7 @@ use Rattle.env_core.proofs.Wanted.{item_allowed, take_allowed, wanted_by_script}
 use Rattle.env_core.specs.Calls.{IsFreeWorker, IsWantedNext}
 use Rattle.env_core.specs.Holds.{Holds}
 use Rattle.env_core.specs.Jobs.{HasTakenItem}
-use Rattle.env_core.specs.Views.{Enters}
+use Rattle.env_core.specs.Views.{EnvView, Enters}
 use Rattle.hist_model.proofs.Laws.Choice.{best_is, chosen_is}
 use Rattle.hist_model.proofs.Laws.Own.{holding_own, running_own}
 use Rattle.hist_model.specs.Allowed.{IsAllowed}
@@ -17,13 +17,13 @@ use Rattle.hist_model.specs.Script.{is_finished}
 use Rattle.hist_model.specs.Views.{own_entries}
 use Rattle.list_laws.proofs.Elements.{AllByRecursion-contains}
 use Rattle.pool_core.proofs.Accepted.{head_accepted}
-use Rattle.pool_core.specs.Calls.{CanTake, IsEntered, IsTaken}
+use Rattle.pool_core.specs.Calls.{CanTake, IsEntered, IsTaken, KnowsSeat}
 use Rattle.pool_core.specs.Pasts.{IsDeclared}
 use Rattle.pool_core.specs.declared.pool.Pool.{Pool}
 use Rattle.sequence_manager.specs.declared.manager.Manager.{Manager}
 use Rattle.pool_laws.proofs.Room.Capacity.{free_parts}
 use Rattle.sequence_manager.specs.Calls.{CanTake as MainCanTake, IsTaken as MainIsTaken}
-use Rattle.std.proofs.Common.{Bool, List, Option, Some, [], ap, false, length, refl, subst, sym, ℕ, ◌++◌, ◌<◌, ◌∙◌, ◌∷◌, ◌≡◌}
+use Rattle.std.proofs.Common.{Bool, List, Option, Some, [], ap, false, length, refl, subst, sym, ℕ, ◌++◌, ◌<◌, ◌≤◌, ◌∙◌, ◌∷◌, ◌≡◌}
 use Rattle.std.proofs.lemmas.Option.{get_or_from_slice_get, slice_get-get_or}
 use Rattle.std.specs.Prelude.{slice_get, slice_index_or, ◌==◌}
 use Rattle.task_base.specs.Plan.{Plan}
@@ -48,6 +48,13 @@ can_take {script = script} {log = log} seat holds free = record {
   free = sym (running_own log.items seat) ∙ (free_parts (own_entries seat log.items) seat free.free).0;
   holds_nothing = sym (holding_own log.items seat) ∙ (free_parts (own_entries seat log.items) seat free.free).1;
 }
+
+-- the pool may be asked for what a seat of the script would get
+pub knows_seat : {X : Type 0} {bodies : List (Option X)} {whole rest : X → List Step} {script : Plan} {log : Listed Entry} {pool : Pool}
+    {manager : Manager} {place made : ℕ}
+    (view : EnvView) (seat : ℕ) → Holds bodies whole rest script log pool manager place made → record { script = script; history = log.items } ≡ view
+    → seat ≤ view.script.workers → KnowsSeat script log.items pool seat
+knows_seat view seat holds is known = record { stands = holds.stands; known = subst (λ (v : EnvView). seat ≤ v.script.workers) (sym is) known }
 
 -- the script is finished exactly where all actions are complete
 pub unfinished : {X : Type 0} {bodies : List (Option X)} {whole rest : X → List Step} {script : Plan} {log : Listed Entry} {pool : Pool}

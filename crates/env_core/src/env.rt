@@ -10,7 +10,7 @@ ghost use Rattle.env_core.specs.Waits.{may_go_on};
 ghost use Rattle.hist_model.specs.Moments.{moment_behind};
 ghost use Rattle.hist_model.specs.Script.{current, is_finished};
 ghost use Rattle.hist_model.specs.Views.{own_entries};
-ghost use Rattle.pool_core.specs.Calls.{running_tasks, is_any_ready};
+ghost use Rattle.pool_core.specs.Calls.{running_tasks, is_any_ready, is_own};
 ghost use Rattle.sequence_manager.specs.Queues.{is_out};
 ghost use Rattle.task_base.specs.Runners.{sequence_of};
 ghost use Rattle.task_model.specs.Blockers.{blockers_of};
@@ -470,6 +470,14 @@ impl<B: TaskBody> Env<B> {
         ensures { result ≡ is_some (best_of self.now.script self.now.history seat) }
     {
         self.pool.has_work(seat)
+    }
+
+    /// Whether the source that a seat may take now, and would get if it runs nothing, is one that no other seat may take.
+    pub fn has_own_work(&self, seat: SeatNo) -> bool
+        requires { seat ≤ self.now.script.workers }
+        ensures { result ≡ is_own (best_of self.now.script self.now.history seat) }
+    {
+        self.pool.has_own_work(seat)
     }
 
     /// Whether there is a source that some worker may take now.
