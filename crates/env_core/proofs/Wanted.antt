@@ -17,9 +17,8 @@ use Rattle.list_laws.proofs.Options.{AllByRecursion-not_any}
 use Rattle.list_laws.proofs.Tests.{list_all-from_recursion}
 use Rattle.list_laws.proofs.Values.{eqb-same, some-injective}
 use Rattle.pool_core.specs.Calls.{IsEntered, IsTaken}
-use Rattle.pool_core.specs.Pasts.{IsPoolScript}
 use Rattle.pool_laws.proofs.Seats.Running.{free_is_quiet}
-use Rattle.script_model.specs.Laws.Sound.{IsActionSound, IsSeatThere, IsSound, IsStepSound, IsStepWithin}
+use Rattle.script_model.specs.Laws.Sound.{IsActionSound, IsSound, IsStepSound, IsStepWithin}
 use Rattle.sequence_manager.specs.Pasts.{IsPostedTo}
 use Rattle.std.proofs.Common.{Bool, List, None, Option, Some, [], ap, arith, eqb, false, length, refl, subst, suc, sym, true, ℕ, ⊎_elim, ◌<◌, ◌∙◌, ◌≡◌, ◌≤◌}
 use Rattle.std.proofs.lemmas.Bool.{and_parts, eq-eqb, eqb-true, le-leb, leb-true, or_cases}
@@ -28,7 +27,6 @@ use Rattle.std.specs.List.{list_all}
 use Rattle.std.specs.Option.{option_map, option_map_or}
 use Rattle.std.specs.Prelude.{Contains, filter, is_none, is_some, nat_lt, not, slice_get, unwrap_or, ◌&&◌, ◌||◌}
 use Rattle.task_base.specs.Plan.{Plan}
-use Rattle.task_base.specs.Runners.{seat_of_kind}
 use Rattle.task_base.specs.Steps.{after, is_act}
 use Rattle.task_base.specs.declared.entry.Entry.{Entry}
 use Rattle.task_base.specs.declared.entry.Kind.{Kind}
@@ -38,8 +36,6 @@ use Rattle.task_traits.specs.declared.traits.Priority.{Priority}
 use Rattle.task_base.specs.declared.script.Action.{Action}
 use Rattle.task_base.specs.declared.script.FenceAt.{FenceAt}
 use Rattle.task_base.specs.declared.script.MainQueue.{MainQueue}
-use Rattle.task_base.specs.declared.script.RunnerKind.{RunnerKind}
-use Rattle.task_base.specs.declared.script.RunnerKind.TheVariants.{Parallel, Sequenced, Single}
 use Rattle.task_base.specs.declared.step.Scope.{Scope}
 use Rattle.task_base.specs.declared.step.Scope.TheVariants.{May, Will}
 use Rattle.task_base.specs.declared.step.Step.{Step}
