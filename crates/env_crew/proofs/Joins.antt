@@ -47,15 +47,19 @@ pub record Joining (start now : DeskView) : Type 0 where
   pub grows : mine now ≡ mine start ++ made
   pub rests : is_free (mine now) 0 ≡ true
 
--- a call that entered nothing
-pub join_waits : (start now new : DeskView) (past : List Entry) → Joining start now → Holds now past new → as_seen new ≡ view_at now past → Joining start new
-join_waits start now new past was holds kept = record {
-  later = later_trans start now new was.later (later_kept holds kept);
+-- the driver entered nothing meanwhile
+pub join_stays : (start now new : DeskView) → Joining start now → IsLater now new → mine new ≡ mine now → Joining start new
+join_stays start now new was later same = record {
+  later = later_trans start now new was.later later;
   made = was.made;
   inside = was.inside;
-  grows = mine_kept holds kept ∙ was.grows;
-  rests = ap (λ own. is_free own 0) (mine_kept holds kept) ∙ was.rests;
+  grows = same ∙ was.grows;
+  rests = ap (λ own. is_free own 0) same ∙ was.rests;
 }
+
+-- a call that entered nothing
+pub join_waits : (start now new : DeskView) (past : List Entry) → Joining start now → Holds now past new → as_seen new ≡ view_at now past → Joining start new
+join_waits start now new past was holds kept = join_stays start now new was (later_kept holds kept) (mine_kept holds kept)
 
 -- the driver, which has gone in, may end its item
 pub join_enters : (start now inside : DeskView) (past : List Entry) (job : ℕ) (pass : PassView) → Joining start now → start.seat ≡ 0 → Holds now past inside

@@ -23,6 +23,10 @@ use Rattle.env_crew.specs.declared.desk.Given.TheVariants as given
 abbrev pub HasEntered : ℕ → Kind → EnvView → EnvView → Type 0
 HasEntered seat kind before after = Enters before after seat kind
 
+-- the seat entered nothing
+abbrev pub HasLooked : EnvView → EnvView → Type 0
+HasLooked before after = after ≡ before
+
 -- the seat's task ended, and left its value
 abbrev pub HasEnded : ℕ → AssignmentView → EnvView → EnvView → Type 0
 HasEnded seat work before after = Enters before after seat (kinds.End work.task work.value)

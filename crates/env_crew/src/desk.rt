@@ -4,7 +4,7 @@ ghost use Rattle.task_model.specs.Jobs.{item_value};
 ghost use Rattle.task_base.specs.declared.entry.Kind.TheVariants as kinds;
 ghost use Rattle.env_core.specs.Calls.{IsNextAct, CanEnd, CanEndMain};
 ghost use Rattle.env_core.specs.Jobs.{CanEndItem};
-ghost use Rattle.env_crew.specs.Calls.{Gives, GivesItem, GivesMain, HasActed, HasEnded, HasEndedMain, HasStepped};
+ghost use Rattle.env_crew.specs.Calls.{Gives, GivesItem, GivesMain, HasActed, HasEnded, HasEndedMain, HasLooked, HasStepped};
 ghost use Rattle.env_crew.specs.Calls.{HasEntered, HasPosted, HasPostedJob, HasPostedMain, HasTicked, TriesCancelled, TriesDone, TriesIdle, TriesJoined};
 ghost use Rattle.env_crew.specs.Desk.{DeskView, Answers, as_seen};
 ghost use Rattle.env_crew.specs.Driving.{IsWanted};
@@ -121,8 +121,13 @@ pub trait Desk {
         requires { IsFree (desk self.old) }
         ensures { Answers (desk self.old) (desk self.new) (Gives Self.Work.work (desk self.old).seat result) };
 
+    /// The driver, which waits, has its seat noted as one that rests: whoever brings about what it waits for wakes it, and it
+    /// may `sleep` until then. Where that has come already, it is woken at once.
+    fn rest<R: Wait>(&mut self, rt: &R)
+        ensures { Answers (desk self.old) (desk self.new) HasLooked };
+
     /// The seat's thread sleeps until the seat is woken, and not at all where it was woken since it was noted, or was not
-    /// noted when it asked last. It takes no turn.
+    /// noted by its last `take_or_rest` or `rest`. It takes no turn.
     fn sleep<R: Wait>(&mut self, rt: &R)
         ensures { desk self.new ≡ desk self.old };
 

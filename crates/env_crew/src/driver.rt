@@ -100,8 +100,8 @@ fn perform<D: Desk, C: Clock, G: Gate, R: Wait>(
 }
 
 /// Performs a script from its start, at the driver's desk. While an action waits, it serves the spare desks,
-/// each once in a round, and then waits a little: those are the desks of workers that got no thread of their own. Each
-/// tick reads the clock once.
+/// each once in a round, and then waits a little: those are the desks of workers that got no thread of their own. Where
+/// there are none, and it has waited for long, it sleeps until it is woken. Each tick reads the clock once.
 pub fn drive<D: Desk, C: Clock, G: Gate, R: Wait>(
     rt: &R,
     desk: &mut D,

@@ -6,6 +6,7 @@ mod assigned;
 mod desk;
 mod driver;
 mod items;
+mod patience;
 mod steps;
 mod waits;
 mod worker;

@@ -8,8 +8,8 @@ ghost use Rattle.env_crew.specs.Driving.{AllFree, HasDone, IsAt, IsWanted, SameD
 
 use crate::desk::Desk;
 use crate::items::do_items;
+use crate::patience::Patience;
 use crate::worker::serve;
-use crossbeam_utils::Backoff;
 use env_io::Gate;
 use std::sync::Wait;
 use task_base::{JobId, Rows};
@@ -27,6 +27,30 @@ fn serve_each<D: Desk, G: Gate, R: Wait>(rt: &R, spare: &mut Rows<D>, gate: &G)
     }
 }
 
+/// What the driver does while it waits: it serves the spare desks, each once, and waits a little, longer each time. Where there
+/// are none and it has waited for long, it sleeps until it is woken. Woken too soon, it sleeps again.
+fn pause<D: Desk, G: Gate, R: Wait>(
+    rt: &R,
+    desk: &mut D,
+    spare: &mut Rows<D>,
+    gate: &G,
+    patience: &mut Patience,
+)
+    requires free { AllFree D.desk spare.old.items }
+    ensures later { IsLater (D.desk desk.old) (D.desk desk.new) }
+    ensures entered { mine (D.desk desk.new) ≡ mine (D.desk desk.old) }
+    ensures free { AllFree D.desk spare.new.items }
+    ensures same { SameDesks D.desk spare.old.items spare.new.items }
+{
+    if patience.is_over() && spare.is_empty() {
+        desk.rest(rt);
+        desk.sleep(rt);
+    } else {
+        serve_each(rt, spare, gate);
+        patience.wait();
+    }
+}
+
 /// Waits until the pool is idle.
 pub(crate) fn flush<D: Desk, G: Gate, R: Wait>(rt: &R, desk: &mut D, spare: &mut Rows<D>, gate: &G)
     requires wanted { IsWanted (D.desk desk.old) kinds.Idle }
@@ -36,14 +60,11 @@ pub(crate) fn flush<D: Desk, G: Gate, R: Wait>(rt: &R, desk: &mut D, spare: &mut
     ensures free { AllFree D.desk spare.new.items }
     ensures same { SameDesks D.desk spare.old.items spare.new.items }
 {
-    let backoff = Backoff::new();
+    let mut patience = Patience::new();
     for _ in rt.forever() {
         match desk.try_idle(rt) {
             Ok(()) => return,
-            Err(_) => {
-                serve_each(rt, spare, gate);
-                backoff.snooze();
-            }
+            Err(_) => pause(rt, desk, spare, gate, &mut patience),
         }
     }
     unreachable!()
@@ -63,14 +84,11 @@ pub(crate) fn finish_shutdown<D: Desk, G: Gate, R: Wait>(
     ensures free { AllFree D.desk spare.new.items }
     ensures same { SameDesks D.desk spare.old.items spare.new.items }
 {
-    let backoff = Backoff::new();
+    let mut patience = Patience::new();
     for _ in rt.forever() {
         match desk.try_done(rt) {
             Ok(()) => return,
-            Err(_) => {
-                serve_each(rt, spare, gate);
-                backoff.snooze();
-            }
+            Err(_) => pause(rt, desk, spare, gate, &mut patience),
         }
     }
     unreachable!()
@@ -91,14 +109,11 @@ pub(crate) fn finish_cancel<D: Desk, G: Gate, R: Wait>(
     ensures free { AllFree D.desk spare.new.items }
     ensures same { SameDesks D.desk spare.old.items spare.new.items }
 {
-    let backoff = Backoff::new();
+    let mut patience = Patience::new();
     for _ in rt.forever() {
         match desk.try_cancelled(rt, job) {
             Ok(()) => return,
-            Err(_) => {
-                serve_each(rt, spare, gate);
-                backoff.snooze();
-            }
+            Err(_) => pause(rt, desk, spare, gate, &mut patience),
         }
     }
     unreachable!()
@@ -121,19 +136,16 @@ pub(crate) fn join<D: Desk, G: Gate, R: Wait>(
     ensures free { AllFree D.desk spare.new.items }
     ensures same { SameDesks D.desk spare.old.items spare.new.items }
 {
-    let backoff = Backoff::new();
+    let mut patience = Patience::new();
     for _ in rt.forever() {
         match desk.try_joined(rt, job) {
             Ok(_) => return,
             Err(_) => match desk.job_take(rt, job) {
                 Some(pass) => {
                     do_items(rt, desk, pass);
-                    backoff.reset();
+                    patience.reset();
                 }
-                None => {
-                    serve_each(rt, spare, gate);
-                    backoff.snooze();
-                }
+                None => pause(rt, desk, spare, gate, &mut patience),
             },
         }
     }

@@ -5,12 +5,14 @@ use Rattle.env_crew.proofs.waits.finish_cancel.Goals as goal
 
 pub loop-preserved : goal.loop-preserved
 loop-preserved g c =
-    let was = c.loop.invariant in (
+    let was = c.loop.invariant in
+    let asked = c.in-Err.ensures in (
       _,
       _,
-      c.serve_each.ensures.free,
-      desks_trans g.D.Desk.desk c.args.spare.now.items c.loop.spare.items c.serve_each.new.spare.items was.3 c.serve_each.ensures.same,
-      later_trans (g.D.Desk.desk c.args.desk.now) (g.D.Desk.desk c.loop.desk) (g.D.Desk.desk c.try_cancelled.new.self) was.4
-          (later_kept c.in-Err.ensures.holds c.in-Err.ensures.answered.kept),
-      mine_kept c.in-Err.ensures.holds c.in-Err.ensures.answered.kept ∙ was.5,
+      c.pause.ensures.free,
+      desks_trans g.D.Desk.desk c.args.spare.now.items c.loop.spare.items c.pause.new.spare.items was.3 c.pause.ensures.same,
+      later_trans (g.D.Desk.desk c.args.desk.now) (g.D.Desk.desk c.loop.desk) (g.D.Desk.desk c.pause.new.desk) was.4
+          (later_trans (g.D.Desk.desk c.loop.desk) (g.D.Desk.desk c.try_cancelled.new.self) (g.D.Desk.desk c.pause.new.desk)
+          (later_kept asked.holds asked.answered.kept) c.pause.ensures.later),
+      c.pause.ensures.entered ∙ mine_kept asked.holds asked.answered.kept ∙ was.5,
     )

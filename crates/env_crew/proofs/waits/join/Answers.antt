@@ -1,5 +1,5 @@
 use Rattle.task_base.specs.declared.entry.Kind.TheVariants as kinds
-use Rattle.env_crew.proofs.Joins.{join_ends, join_enters, join_goes_on, join_waits, wanted_inside, wants_inside}
+use Rattle.env_crew.proofs.Joins.{join_ends, join_enters, join_goes_on, join_stays, join_waits, wanted_inside, wants_inside}
 use Rattle.env_crew.proofs.Spares.{desks_trans}
 use Rattle.env_crew.proofs.waits.join.Goals as goal
 
@@ -52,7 +52,8 @@ loop-preserved g c =
     let was = c.loop.invariant in (
       _,
       _,
-      c.serve_each.ensures.free,
-      desks_trans g.D.Desk.desk c.args.spare.now.items c.loop.spare.items c.serve_each.new.spare.items was.3 c.serve_each.ensures.same,
-      join_waits _ _ _ took.past (join_waits _ _ _ asked.past was.4 asked.holds asked.answered.kept) took.holds took.answered.kept,
+      c.pause.ensures.free,
+      desks_trans g.D.Desk.desk c.args.spare.now.items c.loop.spare.items c.pause.new.spare.items was.3 c.pause.ensures.same,
+      join_stays _ _ _ (join_waits _ _ _ took.past (join_waits _ _ _ asked.past was.4 asked.holds asked.answered.kept) took.holds took.answered.kept)
+          c.pause.ensures.later c.pause.ensures.entered,
     )
