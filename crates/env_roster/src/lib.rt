@@ -1,5 +1,5 @@
-//! The environment under the turn, with a note of who rests: a worker that found nothing may sleep, and whoever makes work
-//! for it later wakes it. Contracts see the environment and the note of each seat, and no wake is lost at any moment
+//! The environment under the turn, with a note of who rests: a seat that found nothing to do may sleep, and whoever brings it
+//! something to do wakes it. Contracts see the environment and the note of each seat, and no wake is lost at any moment
 //! (`specs/Wakes.antt`).
 #![tactic(auto)]
 

@@ -1,6 +1,3 @@
-ghost use Rattle.std.specs.Prelude.{◌≡◌};
-
-use std::marker::Model;
 use task_base::SeatNo;
 
 /// What is noted of a seat.
@@ -8,7 +5,7 @@ use task_base::SeatNo;
 pub enum Note {
     /// It is awake: it has held the turn since it was woken.
     Awake,
-    /// It found nothing, and sleeps until it is woken.
+    /// It found nothing to do, and sleeps until it is woken.
     Resting,
     /// It was woken, or is about to be, and hasn't held the turn since.
     Woken,
@@ -23,26 +20,13 @@ pub enum Wake {
 }
 
 /// That a seat was noted as one that rests. Only the note gives it, so who sleeps for it is woken (`no_wake_is_lost`).
-///
-/// Contracts see the seat.
 #[derive(Debug, Drop)]
 pub struct Rest {
-    pub(crate) seat: SeatNo,
-}
-
-impl Model for Rest {
-    ghost use Rattle.std.specs.Prelude.{ℕ};
-
-    ghost Value = { ℕ };
-
-    ghost view = { λ r. r.seat };
+    _noted: (),
 }
 
 impl Rest {
-    /// The seat.
-    pub fn seat(&self) -> SeatNo
-        ensures { result ≡ self.now }
-    {
-        self.seat
+    pub(crate) fn new() -> Rest {
+        Rest { _noted: () }
     }
 }

@@ -1,5 +1,5 @@
-ghost use Rattle.std.specs.Prelude.{◌≡◌, ◌<◌, ◌≤◌, ◌+◌, false, length, replicate, slice_set, IfOk, IfSome, IfNone};
-ghost use Rattle.env_roster.specs.Wakes.{NobodyMayTake, NobodyRests, NoWakeIsLost, MayTakeAt, after_wake, wakes_well};
+ghost use Rattle.std.specs.Prelude.{◌≡◌, ◌<◌, ◌≤◌, ◌+◌, Bool, false, length, replicate, slice_set, IfOk, IfSome, IfNone};
+ghost use Rattle.env_roster.specs.Wakes.{HasWorkAt, IsHandedOn, IsPick, NobodyHasWork, NobodyRests, NoWakeIsLost, after_wake, has_own, has_to_do, has_work, wakes_well};
 ghost use Rattle.env_roster.specs.declared.note.Note.TheVariants as kinds;
 
 use crate::note::{Note, Rest, Wake};
@@ -48,23 +48,25 @@ impl Notes {
         requires { seat < length self.old }
         ensures { self.new ≡ slice_set self.old seat kinds.Awake }
     {
-        self.notes[seat as usize] = Note::Awake;
+        let note = &mut self.notes[seat as usize];
+        // Who only reads leaves what other processors have in their caches.
+        if *note != Note::Awake {
+            *note = Note::Awake;
+        }
     }
 
-    /// The seat found nothing, and rests from now on. Who has the answer may sleep once it has given the turn back.
+    /// The seat found nothing to do, and rests from now on. Who has the answer may sleep once it has given the turn back.
     pub fn rest(&mut self, seat: SeatNo) -> Rest
-        requires worker { 1 ≤ seat }
-        requires known { seat < length self.old }
-        ensures noted { self.new ≡ slice_set self.old seat kinds.Resting }
-        ensures seat { result ≡ seat }
+        requires { seat < length self.old }
+        ensures { self.new ≡ slice_set self.old seat kinds.Resting }
     {
         self.notes[seat as usize] = Note::Resting;
         self.some_rest = true;
-        Rest { seat }
+        Rest::new()
     }
 
-    /// Sees whom to wake, and notes it: everyone where the script is finished; nobody where no seat may take a source, or
-    /// where one that was woken before may; else the first seat that rests and may take one.
+    /// Sees whom to wake, and notes it: everyone where the script is finished; else a seat that rests and has work of its own,
+    /// at once; else, unless a seat that was woken before has something to do, the first that rests and has.
     pub(crate) fn rouse<B: TaskBody>(&mut self, env: &Env<B>) -> Wake
         requires seats { length self.old ≡ env.now.script.workers + 1 }
         ensures kept { NoWakeIsLost env.now.script env.now.history self.new }
@@ -79,13 +81,7 @@ impl Notes {
             self.some_rest = false;
             return Wake::Everyone;
         }
-        if !env.is_any_ready() {
-            return Wake::Nobody;
-        }
-        if self.find(Note::Woken, env).is_some() {
-            return Wake::Nobody;
-        }
-        let Some(seat) = self.find(Note::Resting, env) else {
+        let Some(seat) = self.pick(env) else {
             return Wake::Nobody;
         };
         self.notes[seat as usize] = Note::Woken;
@@ -93,14 +89,45 @@ impl Notes {
         Wake::One(seat)
     }
 
-    // The first seat with this note that may take a source.
-    fn find<B: TaskBody>(&self, note: Note, env: &Env<B>) -> Option<SeatNo>
+    // Whom to wake while the script goes on.
+    fn pick<B: TaskBody>(&self, env: &Env<B>) -> Option<SeatNo>
         requires seats { length self.now ≡ env.now.script.workers + 1 }
-        ensures found { IfSome result (MayTakeAt env.now.script env.now.history self.now note) }
-        ensures none { IfNone result (NobodyMayTake env.now.script env.now.history self.now note) }
+        ensures some { IfSome result (IsPick env.now.script env.now.history self.now) }
+        ensures all { IfNone result (IsHandedOn (has_to_do env.now.script env.now.history) self.now) }
+        ensures own { IfNone result (IsHandedOn (has_own env.now.script env.now.history) self.now) }
     {
-        for seat in 1..self.notes.len() {
-            if self.notes[seat] == note && env.has_work(seat as SeatNo) {
+        if !env.is_any_ready() {
+            return self.driver(env);
+        }
+        if let Some(seat) = self.find(env, Note::Resting, true) {
+            return Some(seat);
+        }
+        if self.find(env, Note::Woken, false).is_some() {
+            return None;
+        }
+        self.find(env, Note::Resting, false)
+    }
+
+    // The driver, where it rests and may go on.
+    fn driver<B: TaskBody>(&self, env: &Env<B>) -> Option<SeatNo>
+        requires seats { length self.now ≡ env.now.script.workers + 1 }
+        ensures some { IfSome result (HasWorkAt (has_to_do env.now.script env.now.history) self.now kinds.Resting) }
+        ensures none { IfNone result (HasWorkAt (has_to_do env.now.script env.now.history) self.now kinds.Resting 0 → ⊥) }
+    {
+        if self.notes[0] == Note::Resting && env.may_go_on() {
+            return Some(0);
+        }
+        None
+    }
+
+    // The first seat with this note that has something to do; of its own, where that is asked.
+    fn find<B: TaskBody>(&self, env: &Env<B>, note: Note, own: bool) -> Option<SeatNo>
+        requires seats { length self.now ≡ env.now.script.workers + 1 }
+        ensures found { IfSome result (HasWorkAt (has_work env.now.script env.now.history own) self.now note) }
+        ensures none { IfNone result (NobodyHasWork (has_work env.now.script env.now.history own) self.now note) }
+    {
+        for seat in 0..self.notes.len() {
+            if self.notes[seat] == note && has_work(env, seat as SeatNo, own) {
                 return Some(seat as SeatNo);
             }
         }
@@ -118,4 +145,18 @@ impl Notes {
         }
         false
     }
+}
+
+// Whether a seat has something to do; of its own, where that is asked.
+fn has_work<B: TaskBody>(env: &Env<B>, seat: SeatNo, own: bool) -> bool
+    requires { seat ≤ env.now.script.workers }
+    ensures { result ≡ has_work env.now.script env.now.history own seat }
+{
+    if seat == 0 {
+        return !own && env.may_go_on();
+    }
+    if own {
+        return env.has_own_work(seat);
+    }
+    env.has_work(seat)
 }

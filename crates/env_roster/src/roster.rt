@@ -1,5 +1,5 @@
 ghost use Rattle.std.specs.Prelude.{◌≡◌, ◌+◌, length, replicate, IfOk};
-ghost use Rattle.env_roster.specs.Wakes.{NoWakeIsLost, after_wake, wakes_well};
+ghost use Rattle.env_roster.specs.Wakes.{NoWakeIsLost, after_wake, names_seats, wakes_well};
 ghost use Rattle.env_roster.specs.declared.note.Note.TheVariants as kinds;
 
 use crate::note::Wake;
@@ -64,6 +64,7 @@ impl<B: TaskBody> Roster<B> {
         ensures env { result.0.env ≡ env.value }
         ensures noted { result.0.notes ≡ after_wake result.1 notes }
         ensures needed { wakes_well env.value.script env.value.history notes result.1 }
+        ensures known { names_seats env.value.script.workers result.1 }
     {
         let mut notes = notes;
         let wake = notes.rouse(&env);
@@ -78,9 +79,11 @@ impl<B: TaskBody> Roster<B> {
     }
 }
 
-/// No wake is lost. Whatever stands under the turn while nobody holds it: where a seat that rests may take a source, a seat
-/// that may take one was woken and hasn't held the turn since, or is about to be woken by who held the turn last; and where the
-/// script is finished nobody rests. Nothing is claimed of the sleep itself, nor of when a seat that was woken runs.
+/// No wake is lost. Whatever stands under the turn while nobody holds it: where a seat that rests has something to do, a seat
+/// that has was woken and hasn't held the turn since, or is about to be woken by who held the turn last; the same holds of work
+/// that only one seat may take; and where the script is finished nobody rests. The driver has something to do where what it
+/// waits for has come, a worker where it may take a source. Nothing is claimed of the sleep itself, nor of when a seat that was
+/// woken runs.
 pub fn no_wake_is_lost<B: TaskBody>(roster: &Roster<B>)
     ensures { NoWakeIsLost roster.now.env.script roster.now.env.history roster.now.notes }
 {

@@ -30,7 +30,7 @@ pub struct SharedDesk<'a, B: TaskBody> {
     shared: &'a Shared<B>,
     // It is away only within a call.
     seat: Option<EnvSeat<B>>,
-    // That the seat was noted when it asked last.
+    // That the seat was noted, and hasn't slept since.
     rest: Option<Rest>,
 }
 
@@ -241,8 +241,15 @@ impl<'a, B: TaskBody> Desk for SharedDesk<'a, B> {
 
     fn sleep<R: Wait>(&mut self, rt: &R) {
         if let Some(rest) = self.rest.take() {
-            self.shared.sleep(rt, rest);
+            self.shared.sleep(rt, self.number(), rest);
         }
+    }
+
+    fn rest<R: Wait>(&mut self, rt: &R) {
+        let (env, hold) = Hold::begin(rt, self.shared, &mut self.seat);
+        let (seat, rest) = hold.rest(env);
+        self.seat = Some(seat);
+        self.rest = Some(rest);
     }
 
     fn act<R: Wait>(&mut self, rt: &R, act: Act) -> bool {

@@ -134,14 +134,13 @@ impl<'a, B: TaskBody> Hold<'a, B> {
         shared.wake(wake);
         seat
     }
+
     /// Gives the turn back as it was found, with a note that the seat rests.
     pub fn rest(self, env: Box<Env<B>>) -> (EnvSeat<B>, Rest)
-        requires found { env.value ≡ found self }
-        requires worker { 1 ≤ self.seat.number }
+        requires { env.value ≡ found self }
         ensures sits { Sits self.entry.of result.0 }
         ensures holds { Holds (desk_of self.entry.seat) self.entry.past (desk_of result.0) }
         ensures seen { as_seen (desk_of result.0) ≡ env.value }
-        ensures noted { result.1 ≡ self.entry.seat.number }
     {
         let mut hold = self;
         let number = hold.number;

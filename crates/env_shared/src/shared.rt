@@ -5,6 +5,7 @@ ghost use Rattle.env_core.specs.Calls.{AreFresh};
 ghost use Rattle.hist_model.specs.Legal.{IsLegal};
 ghost use Rattle.task_model.specs.Jobs.{item_value};
 ghost use Rattle.turn_table.specs.Seats.{Rising, Tells, closed};
+ghost use Rattle.env_roster.specs.Wakes.{names_seats};
 ghost use Rattle.env_shared.specs.Sits.{Seated};
 
 use crate::desk::SharedDesk;
@@ -37,7 +38,7 @@ pub struct Shared<B: TaskBody> {
 }
 
 impl<B: TaskBody> Model for Shared<B> {
-    ghost use Rattle.std.specs.Prelude.{◌≡◌, true};
+    ghost use Rattle.std.specs.Prelude.{◌≡◌, ◌+◌, true, length};
     ghost use Rattle.script_model.specs.Laws.Sound.{IsSound};
     ghost use Rattle.turn_table.specs.Seats.{TurnKey};
     ghost use Rattle.env_shared.specs.Workers.{steps_of_jobs};
@@ -46,7 +47,8 @@ impl<B: TaskBody> Model for Shared<B> {
 
     ghost view = { λ s. s.turnstile };
 
-    ghost invariant = { λ s. IsSound s.turnstile.basis × (s.turnstile.stands ≡ true) × (s.workers.items ≡ steps_of_jobs s.turnstile.basis) };
+    ghost invariant = { λ s. IsSound s.turnstile.basis × (s.turnstile.stands ≡ true) × (s.workers.items ≡ steps_of_jobs s.turnstile.basis)
+        × (length s.beds.items ≡ s.turnstile.basis.workers + 1) };
 }
 
 impl<B: TaskBody> Shared<B> {
@@ -129,21 +131,19 @@ impl<B: TaskBody> Shared<B> {
     }
 
     /// Has the thread of a seat that was noted sleep until the seat is woken, or not at all where it was woken since.
-    pub(crate) fn sleep<R: Wait>(&self, rt: &R, rest: Rest) {
-        if let Some(bed) = self.beds.at(rest.seat() as usize) {
-            bed.park(rt);
-        }
+    pub(crate) fn sleep<R: Wait>(&self, rt: &R, seat: SeatNo, _noted: Rest)
+        requires { seat ≤ self.now.basis.workers }
+    {
+        self.bed(seat).park(rt);
     }
 
     /// Wakes who is named, once the turn was given back.
-    pub(crate) fn wake(&self, wake: Wake) {
+    pub(crate) fn wake(&self, wake: Wake)
+        requires { names_seats self.now.basis.workers wake }
+    {
         match wake {
             Wake::Nobody => {}
-            Wake::One(seat) => {
-                if let Some(bed) = self.beds.at(seat as usize) {
-                    bed.unpark();
-                }
-            }
+            Wake::One(seat) => self.bed(seat).unpark(),
             Wake::Everyone => {
                 for bed in self.beds.as_slice() {
                     bed.unpark();
@@ -151,12 +151,23 @@ impl<B: TaskBody> Shared<B> {
             }
         }
     }
+
+    // What the thread of a seat sleeps on.
+    fn bed(&self, seat: SeatNo) -> &Parker
+        requires { seat ≤ self.now.basis.workers }
+    {
+        let _turnstile = &self.turnstile;
+        self.beds.at(seat as usize).unwrap()
+    }
 }
 
 // What the threads of the driver and so many workers sleep on. The error is want of memory.
-fn beds(alloc: Global, workers: SeatNo) -> Result<Rows<Parker>, AllocError> {
+fn beds(alloc: Global, workers: SeatNo) -> Result<Rows<Parker>, AllocError>
+    requires { workers < 2 ^ 31 }
+    ensures { IfOk result (λ beds. length beds.items ≡ workers + 1) }
+{
     let mut beds = Vec::with_capacity(alloc, workers as usize + 1)?;
-    for _ in 0..=workers {
+    for _ in 0..workers + 1 {
         beds.push(Parker::new())?;
     }
     Ok(Rows::from_vec(beds))
