@@ -23,7 +23,8 @@ pub record IsAt (script : Plan) (past : List Entry) (place made : ℕ) : Type 0 
   pub made_is : counted (agenda script (own_entries 0 past)).actions (agenda script (own_entries 0 past)).made ≡ made
 
 -- the script is one that was read; the history is legal, the pool and the main queues stand for it, the drawer has the bodies
--- of what may still be taken, the driver's place is known, and there is room for each entry that may come
+-- of what may still be taken, the driver's place is known, and there is room for each entry that may come and for no more: what
+-- a call took beside its entries would show
 pub record Holds {X : Type 0} (bodies : List (Option X)) (whole rest : X → List Step) (script : Plan) (log : Listed Entry) (pool : Pool)
     (manager : Manager) (place made : ℕ) : Type 0 where
   pub plan : IsSound script
@@ -32,4 +33,4 @@ pub record Holds {X : Type 0} (bodies : List (Option X)) (whole rest : X → Lis
   pub main : MainStandsFor script log.items manager
   pub drawer : AreBodies bodies whole rest script log.items
   pub driver : IsAt script log.items place made
-  pub room : events_bound_of script ≤ length log.items + log.spare
+  pub room : events_bound_of script ≡ length log.items + log.spare

@@ -86,14 +86,13 @@ impl<B: TaskBody> Env<B> {
         let pool = Pool::new(alloc, &script)?;
         let main = Manager::new(alloc, &script)?;
         let bodies = drawer(alloc, bodies)?;
-        let mut log = Rows::new(alloc);
-        log.reserve(events_bound(&script) as usize)?;
+        let log = Vec::with_capacity(alloc, events_bound(&script) as usize)?;
         Ok(Env {
             script,
             pool,
             main,
             bodies,
-            log,
+            log: Rows::from_vec(log),
             agenda: Agenda { place: 0, made: 0 },
         })
     }
@@ -515,7 +514,7 @@ impl<B: TaskBody> Env<B> {
     /// The history, with the room that is left for further entries. What bodies are left are dropped.
     pub fn into_log(self) -> Rows<Entry>
         ensures items { result.items ≡ self.history }
-        ensures room { spare_of self ≤ result.spare }
+        ensures room { result.spare ≡ spare_of self }
     {
         self.log
     }

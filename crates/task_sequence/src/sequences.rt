@@ -21,10 +21,12 @@ pub struct Sequences {
     lines: Vec<Line>,
     /// How many tasks may be held at once.
     most: u32,
+    /// How many tasks the memory of the nodes is for, which no call changes.
+    capacity: usize,
 }
 
 impl Model for Sequences {
-    ghost use Rattle.std.specs.Prelude.{◌-◌, ◌≤◌};
+    ghost use Rattle.std.specs.Prelude.{◌≡◌, ◌-◌, ◌≤◌};
     ghost use Rattle.slab.specs.Slab.{slab_len};
     ghost use Rattle.task_sequence.specs.Sequences.{Held};
 
@@ -34,7 +36,8 @@ impl Model for Sequences {
 
     ghost view = { λ s. record { sequences = sequences_of s.nodes.slots s.lines.items; room = s.most - slab_len s.nodes } };
 
-    ghost invariant = { λ s. IsWhole s.nodes.slots s.lines.items (slab_len s.nodes) × (slab_len s.nodes ≤ s.most) × (s.most ≤ s.nodes.capacity) };
+    ghost invariant = { λ s. IsWhole s.nodes.slots s.lines.items (slab_len s.nodes) × (slab_len s.nodes ≤ s.most) × (s.most ≤ s.capacity)
+        × (s.nodes.capacity ≡ s.capacity) };
 }
 
 impl Sequences {
@@ -44,10 +47,12 @@ impl Sequences {
     {
         let nodes = Slab::with_capacity(alloc, tasks as usize)?;
         let lines = fresh_lines(alloc, sequences)?;
+        let capacity = nodes.capacity();
         Ok(Sequences {
             nodes,
             lines,
             most: tasks,
+            capacity,
         })
     }
 

@@ -1,4 +1,4 @@
-ghost use Rattle.std.specs.Prelude.{◌≡◌, ◌<◌, ◌≤◌, ◌++◌, ◌↔◌, [], length, drop, slice_get, min, All, IfOk, IfNone, IsNone};
+ghost use Rattle.std.specs.Prelude.{◌≡◌, ℕ, ◌<◌, ◌++◌, ◌↔◌, [], length, drop, slice_get, All, IfOk, IfNone, IsNone};
 ghost use Rattle.std.specs.VecDeque.{deque_capacity};
 ghost use Rattle.work_queue.specs.Lanes.{IsBelow, all_held, comes_before, emptied, lane_of, popped, pushed};
 ghost use Rattle.list_laws.specs.Sorts.{Rises};
@@ -127,8 +127,8 @@ impl WorkQueue {
 fn reload_if_empty(immediate: &mut VecDeque<Queued>, incoming: &mut VecDeque<Queued>)
     ensures items { immediate.new.items ++ incoming.new.items ≡ immediate.old.items ++ incoming.old.items }
     ensures reloaded { immediate.new.items ≡ [] → incoming.new.items ≡ [] }
-    ensures room { min (deque_capacity immediate.new) (deque_capacity incoming.new)
-        ≡ min (deque_capacity immediate.old) (deque_capacity incoming.old) }
+    ensures room { (room : ℕ) → deque_capacity immediate.old ≡ room → deque_capacity incoming.old ≡ room
+        → (deque_capacity immediate.new ≡ room) × (deque_capacity incoming.new ≡ room) }
 {
     if immediate.is_empty() {
         mem::swap(immediate, incoming);
