@@ -17,7 +17,8 @@ use Rattle.env_check.specs.Follows.{Follows, entry_by}
 use Rattle.env_check.specs.Hands.{AreInHand}
 use Rattle.env_check.specs.declared.hand.Hand.{Hand}
 use Rattle.env_check.proofs.Judged.{entered, in_place, may_not}
-use Rattle.env_check.proofs.Replies.{joined_reply, not_cancelled, not_done, not_idle, not_joined}
+use Rattle.env_check.proofs.Replies.{joined_reply}
+use Rattle.env_core.proofs.Waiting.{not_cancelled, not_done, not_idle, not_joined}
 use Rattle.env_check.proofs.Scripted.{hands_stay, refused}
 use Rattle.env_check.proofs.Wishes.{joined_with_any_reply, wanted_next}
 

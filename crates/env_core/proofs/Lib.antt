@@ -13,4 +13,5 @@ pub mod JobEntries
 pub mod JobCalls
 pub mod Own
 pub mod Waits
+pub mod Waiting
 pub mod Worked

@@ -4,5 +4,7 @@
 
 mod agenda;
 mod env;
+mod laws;
 
 pub use env::Env;
+pub use laws::who_waits_may_enter_nothing;
