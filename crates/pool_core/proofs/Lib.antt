@@ -15,6 +15,7 @@ pub mod Room
 pub mod Lines
 pub mod LineGrowth
 pub mod Queues
+pub mod LaneReads
 pub mod JobQueues
 pub mod Following
 pub mod AtSeat

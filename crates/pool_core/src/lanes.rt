@@ -1,4 +1,4 @@
-ghost use Rattle.std.specs.Prelude.{◌≡◌, ◌+◌, ◌<◌, ◌^◌, Bool, filter, length, IfOk};
+ghost use Rattle.std.specs.Prelude.{◌≡◌, ◌+◌, ◌<◌, ◌^◌, Bool, true, false, Some, None, filter, length, IfOk};
 ghost use Rattle.list_laws.specs.Lists.{keep};
 ghost use Rattle.sequence_queue.specs.Ranked.{IsBest, IsMadeFor, with_rank};
 ghost use Rattle.task_model.specs.Seats.{worker_seats};
@@ -53,9 +53,16 @@ impl Lanes {
         requires made { (best : Bool) → IsMadeFor (queue_of self.old lane best) source }
         ensures { self.new ≡ with_source self.old lane source rank }
     {
-        let lane = &mut self.lanes[lane as usize];
-        put_in(&mut lane.best_effort, source, fitting(true, rank));
-        put_in(&mut lane.others, source, fitting(false, rank));
+        self.lanes[lane as usize].put(source, rank);
+    }
+
+    /// Doesn't hold a source of a lane, whatever was before.
+    pub fn let_go(&mut self, lane: SeatNo, source: TaskSource)
+        requires there { lane < length self.old }
+        requires made { (best : Bool) → IsMadeFor (queue_of self.old lane best) source }
+        ensures { self.new ≡ with_source self.old lane source None }
+    {
+        self.lanes[lane as usize].let_go(source);
     }
 
     /// The best source of a lane, with its rank.
@@ -83,6 +90,33 @@ impl Lane {
             best_effort: SourceQueue::new(alloc, sequences, jobs)?,
             others: SourceQueue::new(alloc, sequences, jobs)?,
         })
+    }
+
+    // Holds a source with this rank in the queue that it belongs to, or doesn't hold it, whatever was before.
+    fn put(&mut self, source: TaskSource, rank: Option<Rank>)
+        requires best_effort { IsMadeFor self.old.best_effort source }
+        requires others { IsMadeFor self.old.others source }
+        ensures best_effort { self.new.best_effort ≡ with_rank self.old.best_effort source (keep (fits true) rank) }
+        ensures others { self.new.others ≡ with_rank self.old.others source (keep (fits false) rank) }
+    {
+        match rank {
+            Some(rank) if rank.priority == Priority::BestEffort => {
+                hold(&mut self.best_effort, &mut self.others, source, rank);
+            }
+            Some(rank) => hold(&mut self.others, &mut self.best_effort, source, rank),
+            None => self.let_go(source),
+        }
+    }
+
+    // Doesn't hold a source, whatever was before.
+    fn let_go(&mut self, source: TaskSource)
+        requires best_effort { IsMadeFor self.old.best_effort source }
+        requires others { IsMadeFor self.old.others source }
+        ensures best_effort { self.new.best_effort ≡ with_rank self.old.best_effort source None }
+        ensures others { self.new.others ≡ with_rank self.old.others source None }
+    {
+        self.best_effort.remove(source);
+        self.others.remove(source);
     }
 }
 
@@ -136,26 +170,15 @@ fn is_stated(script: &Script, seat: SeatNo) -> bool
         .any(|runner| runner.kind == RunnerKind::Single(seat))
 }
 
-// A rank, where its source belongs to the queue for best-effort sources, or to the other one.
-fn fitting(best_effort: bool, rank: Option<Rank>) -> Option<Rank>
-    ensures { result ≡ keep (fits best_effort) rank }
+// Holds a source in a queue with this rank, and not in the lane's other queue, whatever was before.
+fn hold(queue: &mut SourceQueue, other: &mut SourceQueue, source: TaskSource, rank: Rank)
+    requires queue { IsMadeFor queue.old source }
+    requires other { IsMadeFor other.old source }
+    ensures queue { queue.new ≡ with_rank queue.old source (Some rank) }
+    ensures other { other.new ≡ with_rank other.old source None }
 {
-    rank.filter(|rank| (rank.priority == Priority::BestEffort) == best_effort)
-}
-
-// Holds a source with this rank, or doesn't hold it, whatever was before.
-fn put_in(queue: &mut SourceQueue, source: TaskSource, rank: Option<Rank>)
-    requires { IsMadeFor queue.old source }
-    ensures { queue.new ≡ with_rank queue.old source rank }
-{
-    match rank {
-        Some(rank) => {
-            if !queue.rekey(source, rank) {
-                queue.insert(source, rank);
-            }
-        }
-        None => {
-            queue.remove(source);
-        }
+    other.remove(source);
+    if !queue.rekey(source, rank) {
+        queue.insert(source, rank);
     }
 }

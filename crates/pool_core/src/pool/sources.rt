@@ -1,4 +1,4 @@
-ghost use Rattle.std.specs.Prelude.{◌≡◌, ◌<◌, List, length, Some, is_some};
+ghost use Rattle.std.specs.Prelude.{◌≡◌, ◌<◌, List, length, Some, None, is_some};
 ghost use Rattle.list_laws.specs.Lists.{keep};
 ghost use Rattle.task_base.specs.Plan.{Plan};
 ghost use Rattle.task_base.specs.declared.entry.Entry.{Entry};
@@ -116,6 +116,15 @@ impl Pool {
         self.lanes.put(lane, TaskSource::Sequence(seq), rank);
     }
 
+    // Doesn't hold a sequence among the sources that wait, whatever was before.
+    fn remove(&mut self, seq: SeqId, runner: RunnerId)
+        requires { HasPlace self.old seq runner }
+        ensures { self.new ≡ given_rank self.old seq runner None }
+    {
+        let lane = self.runners.seat_of(runner).unwrap_or(0);
+        self.lanes.let_go(lane, TaskSource::Sequence(seq));
+    }
+
     // Gives the sequences of a runner whose priority has changed their places anew: where they stay in their heaps, in the
     // order in which none passes another, and else after all were let go.
     pub(super) fn place_anew(&mut self, runner: RunnerId, before: Priority, now: Priority)
@@ -144,7 +153,7 @@ impl Pool {
             task -= 1;
             if let Some(posting) = self.posted(task, Some(runner)) {
                 let seq = self.runners.seq_of(posting.runner, task as TaskId);
-                self.put(seq, posting.runner, None);
+                self.remove(seq, posting.runner);
             }
         }
     }

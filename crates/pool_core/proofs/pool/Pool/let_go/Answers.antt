@@ -20,14 +20,14 @@ seq_of-seq-requires-clause-fits c =
     (sym c.posted.ensures ∙ c.in-Some.is) in
     place.0
 
-pub put-requires : goal.put-requires
-put-requires c =
+pub remove-requires : goal.remove-requires
+remove-requires c =
     let place = leaving_place c.loop-task.self c.args.runner (c.loop-task.task - 1) c.in-Some.posting c.loop-task.invariant.places
     (sym c.posted.ensures ∙ c.in-Some.is) in
     rw c.seq_of-seq.ensures place.1
 
 pub loop-task-preserved-in-Some : goal.loop-task-preserved-in-Some
-loop-task-preserved-in-Some c = rw (c.put.ensures, c.seq_of-seq.ensures) record {
+loop-task-preserved-in-Some c = rw (c.remove.ensures, c.seq_of-seq.ensures) record {
   within = omega arith;
   places = places_left c.loop-task.self _ c.in-Some.posting.runner None c.loop-task.invariant.places;
   refreshed = refreshed_again c.loop-task.self c.args.runner (c.loop-task.task - 1) c.in-Some.posting None (omega arith)
