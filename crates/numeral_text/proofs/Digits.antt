@@ -1,26 +1,20 @@
--- Decimal digits as `parse` takes them.
-use Rattle.std.proofs.Common.{◌≡◌, ℕ, ◌<◌, true, cond, ltb, List, Some, None, Result, Ok, Err, refl, inl, inr}
-use Rattle.std.specs.Result.{result_ok, OkIff}
-use Rattle.std.specs.Str.{all_ascii_digits, IsUtf8}
+-- The number that decimal digits write, a digit at a time.
+use Rattle.std.proofs.Common.{◌≡◌, ℕ, ◌^◌, ◌<◌, ◌≤◌, true, List, length, get_or, take, IsTrue, None, refl, arith, rules, tests}
+use Rattle.std.specs.Char.{is_ascii_digit}
+use Rattle.std.specs.Str.{all_ascii_digits}
 use Rattle.std.specs.Str.Parse.{digits_value}
-use Rattle.std.proofs.lemmas.Bool.{cases_lt, lt-ltb, le-ltb}
-use Rattle.std.proofs.lemmas.Str.{IsUtf8-from_ascii}
-use Rattle.std.proofs.lemmas.Fmt.{IsAscii-from_digits}
-use Rattle.std.proofs.lemmas.Str.Parse.{IsNumeralModel, numerals_by_value, tells_all_ascii_digits}
+use Rattle.std.proofs.lemmas.Bool.{le-ltb}
+use Rattle.std.proofs.lemmas.Str.Parse.{IsNumeralModel, digit_at, digits_value-take-le, numerals_by_value, tells_all_ascii_digits}
+use Rattle.numeral_text.specs.Numeral.{value_of}
 
 -- the model's digits and their value are those of `parse`
 pub numerals : IsNumeralModel (λ word. all_ascii_digits word ≡ true) (digits_value 10)
 numerals = numerals_by_value _ tells_all_ascii_digits
 
--- digits are text
-pub IsUtf8-from_digits : (word : List ℕ) → all_ascii_digits word ≡ true → IsUtf8 word
-IsUtf8-from_digits word digits = IsUtf8-from_ascii word (IsAscii-from_digits word (numerals.to word digits))
+-- each byte of digits is one
+pub digit_in : (digits : List ℕ) (i : ℕ) → all_ascii_digits digits ≡ true → i < length digits → IsTrue (is_ascii_digit (get_or digits i 0))
+digit_in digits i only within = let digit = digit_at digits i (numerals.to digits only) within in search (rules, tests)
 
--- what is parsed where the only other reason to fail is the width
-pub result_ok-parsed : {E P : Type 0} (r : Result ℕ E) (n limit : ℕ) → P → OkIff r (P × (n < limit)) n → result_ok r ≡ cond (ltb n limit) (Some n) None
-result_ok-parsed (Ok x) n limit p h = rw (lt-ltb n limit h.0.1, h.1) refl
-result_ok-parsed (Err e) n limit p h =
-    elim (cases_lt n limit) [
-      | inl lt ↦ absurd (h (p, lt))
-      | inr le ↦ rw (le-ltb n limit le) refl
-    ]
+-- where the first of them write more than 64 bits, so do all
+pub value_of-wide : (digits : List ℕ) (i : ℕ) → 2 ^ 64 ≤ digits_value 10 (take i digits) → None ≡ value_of digits
+value_of-wide digits i wide = rw (le-ltb (digits_value 10 digits) (2 ^ 64) (omega (arith, digits_value-take-le 10 digits i (omega arith)))) refl

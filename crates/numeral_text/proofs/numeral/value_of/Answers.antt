@@ -1,17 +1,18 @@
-use Rattle.std.proofs.Common.{length, ◌∙◌}
-use Rattle.std.proofs.lemmas.Bool.{and_parts, ltb-true}
-use Rattle.std.proofs.lemmas.Str.Parse.{parse_digits}
-use Rattle.numeral_text.proofs.Digits.{numerals, IsUtf8-from_digits, result_ok-parsed}
+use Rattle.std.proofs.Common.{◌+◌, ◌∙◌, arith}
+use Rattle.std.proofs.lemmas.Bool.{and_parts}
+use Rattle.std.proofs.lemmas.Int.Digits.{digits_value_more}
+use Rattle.numeral_text.proofs.Digits.{digit_in, value_of-wide}
 use Rattle.numeral_text.proofs.numeral.value_of.Goals as goal
 
-pub returns-in-Ok : goal.returns-in-Ok
-returns-in-Ok c =
-    let parts = and_parts _ _ c.requires in
-    let parsed = rw c.in-Ok.ensures.cases.0 at c.parse.ensures.value.0 in
-    c.ok.ensures.value ∙ result_ok-parsed c.parse.result _ _ (ltb-true 0 (length c.args.numeral.now) parts.1)
-    (parse_digits numerals 64 c.args.numeral.now _ parsed parts.0)
+pub with_digit-requires : goal.with_digit-requires
+with_digit-requires c = digit_in c.args.numeral.now c.loop-digit.digit-index (and_parts _ _ c.requires).0 c.loop-digit-test.true
 
-pub returns-in-Err : goal.returns-in-Err
-returns-in-Err c =
-    let parts = and_parts _ _ c.requires in
-    absurd (c.in-Err.ensures.cases.0 (IsUtf8-from_digits c.args.numeral.now parts.0))
+pub returns-in_err-number : goal.returns-in_err-number
+returns-in_err-number c =
+    let more = digits_value_more 10 c.args.numeral.now c.loop-digit.digit-index c.loop-digit-test.true in
+    c.from_residual.ensures ∙ value_of-wide c.args.numeral.now (c.loop-digit.digit-index + 1) (omega (arith, c.in_err-number.ensures.value))
+
+pub loop-digit-preserved : goal.loop-digit-preserved
+loop-digit-preserved c =
+    let more = digits_value_more 10 c.args.numeral.now c.loop-digit.digit-index c.loop-digit-test.true in
+    record { fits = c.in_ok-number.ensures.fits; summed = omega (arith, c.in_ok-number.ensures.value) }

@@ -1,0 +1,9 @@
+use Rattle.std.proofs.Common.{◌≡◌, ◌<◌, ◌^◌, take}
+use Rattle.std.specs.Str.Parse.{digits_value}
+use Rattle.numeral_text.proofs.numeral.value_of.Given as goal
+
+abbrev pub invariant-loop-digit : goal.invariant-loop-digit
+invariant-loop-digit l = record {
+  fits : l.number < 2 ^ 64;
+  summed : l.number ≡ digits_value 10 (take l.digit-index l.numeral);
+}
