@@ -1,4 +1,4 @@
-ghost use Rattle.std.specs.Prelude.{◌≡◌, ◌≢◌, ℕ, ◌+◌, ◌-◌, ◌<◌, ◌≤◌, ◌==◌, ◌^◌, List, All, IfOk, Err, length, min};
+ghost use Rattle.std.specs.Prelude.{◌≡◌, ◌≢◌, ℕ, ◌+◌, ◌-◌, ◌/◌, ◌<◌, ◌≤◌, ◌==◌, ◌^◌, List, All, IfOk, Err, count_by, length, min};
 ghost use Rattle.std.specs.List.{position, position_or_len};
 ghost use Rattle.task_base.specs.declared.entry.Entry.{Entry};
 ghost use Rattle.log_model.specs.declared.version.Version.{Version};
@@ -13,8 +13,16 @@ use memchr::memchr;
 use std::alloc::{AllocError, Global};
 use task_base::{Entry, Place, Rows};
 
+// How many bytes the shortest line of an entry has: `0 0 idle` and its line feed.
+const SHORTEST_LINE: usize = 9;
+
+// How many bytes are looked at in one piece for line feeds. The count of a piece fits a byte, so that a step of the loop can
+// take sixteen bytes.
+const PIECE: usize = 224;
+
 /// Reads the text of a log, of version 2 where its first line says so, else of version 1. The time that it takes grows
-/// with the number of bytes alone, and it takes memory for the entries alone.
+/// with the number of bytes alone. It takes memory for the entries alone, before it reads the first: for as many as there
+/// are line feeds, and at most for one in every nine bytes.
 ///
 /// The errors are bytes that are the text of no log, and want of memory. Which of the two comes is open where memory
 /// runs out before the first bad line is met.
@@ -45,7 +53,7 @@ fn entries_of(alloc: Global, bytes: &[u8]) -> Result<(Vec<Entry>, &[u8]), AllocE
     ensures read { IfOk result (λ read. IsRead bytes.now read.0.items read.1.now) }
     ensures few { IfOk result (λ read. length read.0.items ≤ length bytes.now) }
 {
-    let mut entries = Vec::new(alloc);
+    let mut entries = Vec::with_capacity(alloc, most_entries(bytes))?;
     let mut rest = bytes;
     loop {
         let (line, behind) = rest.split_at(line_end(rest));
@@ -55,6 +63,41 @@ fn entries_of(alloc: Global, bytes: &[u8]) -> Result<(Vec<Entry>, &[u8]), AllocE
         entries.push(entry)?;
         rest = behind;
     }
+}
+
+// For how many entries there is room in the bytes: each has a line feed, and no line is shorter than the shortest.
+fn most_entries(bytes: &[u8]) -> usize
+    ensures { result ≡ min (count_by (λ byte. byte == 10) bytes.now) (length bytes.now / 9) }
+{
+    count_feeds(bytes).min(bytes.len() / SHORTEST_LINE)
+}
+
+// How many line feeds there are.
+fn count_feeds(bytes: &[u8]) -> usize
+    ensures { result ≡ count_by (λ byte. byte == 10) bytes.now }
+{
+    let mut feeds = 0;
+    let mut rest = bytes;
+    while !rest.is_empty() {
+        let (piece, behind) = rest.split_at(rest.len().min(PIECE));
+        feeds += usize::from(feeds_in(piece));
+        rest = behind;
+    }
+    feeds
+}
+
+// How many line feeds a piece has.
+fn feeds_in(piece: &[u8]) -> u8
+    requires { length piece.now ≤ 224 }
+    ensures { result ≡ count_by (λ byte. byte == 10) piece.now }
+{
+    let mut feeds: u8 = 0;
+    for byte in piece {
+        if *byte == b'\n' {
+            feeds += 1;
+        }
+    }
+    feeds
 }
 
 // Where the first line ends: behind its line feed, or with the bytes.

@@ -10,9 +10,9 @@ use Rattle.run_log.proofs.read.entries_of.Goals as goal
 pub loop-entry-init : goal.loop-entry-init
 unfolding log_lines
 loop-entry-init c = record {
-  same = rw c.new-entries.ensures.items refl;
-  fit = rw c.new-entries.ensures.items (λ k d within. absurd (omega arith));
-  few = rw c.new-entries.ensures.items (omega arith);
+  same = rw c.in_ok-entries.ensures.items refl;
+  fit = rw c.in_ok-entries.ensures.items (λ k d within. absurd (omega arith));
+  few = rw c.in_ok-entries.ensures.items (omega arith);
 }
 
 pub returns-in_default-clause-read : goal.returns-in_default-clause-read
