@@ -1,5 +1,4 @@
 pub mod Passed
-pub mod Seats
 pub mod Verdicts
 pub mod Explained
 pub mod Outcomes

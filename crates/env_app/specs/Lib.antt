@@ -1,4 +1,3 @@
-pub mod Crew
 pub mod Failures
 pub mod Input
 pub mod Judged

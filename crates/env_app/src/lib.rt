@@ -8,7 +8,6 @@
 mod bench;
 mod bodies;
 mod check;
-mod crew;
 mod explain;
 mod failure;
 mod generate;
@@ -22,10 +21,8 @@ mod replies;
 mod run;
 mod runs;
 mod trace;
-mod workers;
 mod written;
 
-pub use crew::run_crew;
 pub use failure::Failure;
 pub use notes::tell;
 pub use run::run_words;

@@ -11,10 +11,10 @@ ghost use Rattle.command_line.specs.declared.words.Command.TheVariants.{Run};
 ghost use Rattle.env_app.specs.Outcome.{ends, RunsTo, TookMore, TookWithin, readings_of};
 
 use crate::bodies::bodies_of;
-use crate::crew::run_crew;
 use crate::load::{script_of, take_all};
 use crate::written::write;
 use env_io::{Clock, Gate, Sink, Source, StepClock};
+use env_threads::run_crew;
 use std::alloc::{AllocError, Global};
 use std::sync::Wait;
 use std::thread::Threads;

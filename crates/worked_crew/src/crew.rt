@@ -1,6 +1,6 @@
 //! Runs on threads, with bodies and gates of the tests' own.
-use env_app::run_crew;
 use env_io::{Gate, ListClock};
+use env_threads::run_crew;
 use std::sync::Arc;
 use std::sync::atomic::{AtomicU64, Ordering};
 use std::test::Fail;

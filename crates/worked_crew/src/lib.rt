@@ -1,4 +1,4 @@
-//! Tests of the program's run on threads as a call, with bodies and gates of their own.
+//! Tests of the run of a script on threads as a call, with bodies and gates of their own.
 #![tactic(auto)]
 
 #[cfg(test)]

@@ -27,7 +27,7 @@ use Rattle.env_crew.specs.Driving.{AllFree, HasMomentsOf, SameDesks}
 use Rattle.env_crew.specs.Serving.{IsFree}
 use Rattle.env_shared.specs.Sits.{Seated, desk_of}
 use Rattle.env_shared.proofs.Sits.{same_environment}
-use Rattle.env_app.specs.Crew.{IsWorker, AreWorkers, refused, ArePromised, IsSpare, AreSpare, AreBack}
+use Rattle.env_threads.specs.Crew.{IsWorker, AreWorkers, refused, ArePromised, IsSpare, AreSpare, AreBack}
 
 -- Numbers of refused starts.
 

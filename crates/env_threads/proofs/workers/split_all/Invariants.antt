@@ -1,6 +1,6 @@
 use Rattle.std.proofs.Common.{◌≡◌, ◌+◌, ◌≤◌, length}
-use Rattle.env_app.specs.Crew.{AreWorkers, IsDriver}
-use Rattle.env_app.proofs.workers.split_all.Given as goal
+use Rattle.env_threads.specs.Crew.{AreWorkers, IsDriver}
+use Rattle.env_threads.proofs.workers.split_all.Given as goal
 
 abbrev pub invariant-loop : goal.invariant-loop
 invariant-loop g l = record {

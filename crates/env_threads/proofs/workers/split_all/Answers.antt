@@ -1,6 +1,6 @@
 use Rattle.std.proofs.Common.{◌≡◌, ◌+◌, ◌∙◌, ◌∷◌, [], ap, length, length-append, arith}
-use Rattle.env_app.proofs.Seats.{fresh, workers_push}
-use Rattle.env_app.proofs.workers.split_all.Goals as goal
+use Rattle.env_threads.proofs.Seats.{fresh, workers_push}
+use Rattle.env_threads.proofs.workers.split_all.Goals as goal
 
 pub loop-preserved : goal.loop-preserved
 loop-preserved g c =

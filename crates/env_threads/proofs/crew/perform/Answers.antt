@@ -1,7 +1,7 @@
 use Rattle.std.proofs.Common.{◌≡◌, ◌∙◌, ap}
-use Rattle.env_app.proofs.Seats.{driver_finished, driver_free, spare_later}
+use Rattle.env_threads.proofs.Seats.{driver_finished, driver_free, spare_later}
 use Rattle.env_shared.proofs.Sits.{same_environment}
-use Rattle.env_app.proofs.crew.perform.Goals as goal
+use Rattle.env_threads.proofs.crew.perform.Goals as goal
 
 pub drive-requires-clause-free : goal.drive-requires-clause-free
 drive-requires-clause-free g c κs within i d d_is = (c.requires.spare.each i d d_is).free

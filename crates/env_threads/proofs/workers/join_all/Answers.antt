@@ -1,9 +1,9 @@
 use Rattle.std.proofs.Common.{◌≡◌, ◌+◌, ◌-◌, ◌∙◌, ◌++◌, ◌∷◌, [], length, refl, ap, arith, length-append, Some, None}
 use Rattle.list_laws.proofs.Elements.{slice_get-end}
-use Rattle.env_app.specs.Crew.{AreSpare, IsWorker, refused}
-use Rattle.env_app.proofs.Seats.{leaves_free, promised_front, refused_none, refused_some, spare_pop, spare_there, workers_push}
-use Rattle.env_app.proofs.workers.join_all.Goals.{in-Some-start, in-None+in-Some-pop}
-use Rattle.env_app.proofs.workers.join_all.Goals as goal
+use Rattle.env_threads.specs.Crew.{AreSpare, IsWorker, refused}
+use Rattle.env_threads.proofs.Seats.{leaves_free, promised_front, refused_none, refused_some, spare_pop, spare_there, workers_push}
+use Rattle.env_threads.proofs.workers.join_all.Goals.{in-Some-start, in-None+in-Some-pop}
+use Rattle.env_threads.proofs.workers.join_all.Goals as goal
 
 pub unreachable-requires : goal.unreachable-requires
 unreachable-requires g c =

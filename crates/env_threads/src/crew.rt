@@ -7,7 +7,7 @@ ghost use Rattle.hist_model.specs.Script.{IsWhole};
 ghost use Rattle.script_model.specs.Laws.Sound.{IsSound};
 ghost use Rattle.env_core.specs.Calls.{AreFresh};
 ghost use Rattle.env_crew.specs.Driving.{HasMomentsOf};
-ghost use Rattle.env_app.specs.Crew.{AreBack, ArePromised, AreSpare, IsDriver, refused};
+ghost use Rattle.env_threads.specs.Crew.{AreBack, ArePromised, AreSpare, IsDriver, refused};
 
 use crate::workers::{Start, join_all, split_all, start_all, with_room};
 use env_core::Env;

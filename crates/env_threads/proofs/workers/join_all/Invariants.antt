@@ -1,6 +1,6 @@
 use Rattle.std.proofs.Common.{◌≡◌, ◌+◌, ◌≤◌, length}
-use Rattle.env_app.specs.Crew.{AreSpare, ArePromised, AreWorkers, refused}
-use Rattle.env_app.proofs.workers.join_all.Given as goal
+use Rattle.env_threads.specs.Crew.{AreSpare, ArePromised, AreWorkers, refused}
+use Rattle.env_threads.proofs.workers.join_all.Given as goal
 
 -- the first seats came back, and the others are started or spare
 abbrev pub invariant-loop-start : goal.invariant-loop-start

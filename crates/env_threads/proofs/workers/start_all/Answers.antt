@@ -1,7 +1,7 @@
 use Rattle.std.proofs.Common.{◌≡◌, ◌+◌, ◌-◌, ◌∙◌, ◌∷◌, [], length, ap, arith, length-append, Some, None}
-use Rattle.env_app.specs.Crew.{IsWorker}
-use Rattle.env_app.proofs.Seats.{its_own, last_left, promised_some, promised_none, refused_some, refused_none, sits_spare, spare_push}
-use Rattle.env_app.proofs.workers.start_all.Goals as goal
+use Rattle.env_threads.specs.Crew.{IsWorker}
+use Rattle.env_threads.proofs.Seats.{its_own, last_left, promised_some, promised_none, refused_some, refused_none, sits_spare, spare_push}
+use Rattle.env_threads.proofs.workers.start_all.Goals as goal
 
 pub start-requires-clause-worker : goal.start-requires-clause-worker
 start-requires-clause-worker g c κs within =

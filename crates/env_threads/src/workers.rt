@@ -1,6 +1,6 @@
 //! The workers' seats, and the threads that serve them.
 ghost use Rattle.std.specs.Prelude.{◌≡◌, ◌<◌, ◌≤◌, [], length, true, IfOk, IfErr};
-ghost use Rattle.env_app.specs.Crew.{AreSpare, ArePromised, AreWorkers, IsDriver, IsWorker, refused};
+ghost use Rattle.env_threads.specs.Crew.{AreSpare, ArePromised, AreWorkers, IsDriver, IsWorker, refused};
 
 use env_crew::{Desk, work};
 use env_io::Gate;
@@ -52,7 +52,7 @@ pub fn split_all<B: TaskBody>(
 pub struct GivesBack<B: TaskBody>(Snapshot<EnvSeat<B>>);
 
 impl<B: TaskBody> Promise<EnvSeat<B>> for GivesBack<B> {
-    ghost use Rattle.env_app.specs.Crew.{IsWorker};
+    ghost use Rattle.env_threads.specs.Crew.{IsWorker};
 
     ghost kept_by = { λ p seat. IsWorker p.0.value.of p.0.value.number seat };
 }
