@@ -16,11 +16,13 @@ pub illegal_told : (told : Explanation) (place : ℕ) → place_told told ≡ So
 illegal_told explanations.Legal place is = absurd cc
 illegal_told (explanations.Barred at cause) place is = cc
 illegal_told (explanations.Unfinished at seat cause) place is = cc
+illegal_told (explanations.AtWork at busy) place is = cc
 
 pub legal_told : (told : Explanation) → place_told told ≡ None → verdict_told told ≡ Legal
 legal_told explanations.Legal is = refl
 legal_told (explanations.Barred at cause) is = absurd cc
 legal_told (explanations.Unfinished at seat cause) is = absurd cc
+legal_told (explanations.AtWork at busy) is = absurd cc
 
 -- the place is within the log, or its length
 pub told_within : (script : Plan) (log : List Entry) (told : Explanation) (place : ℕ) → verdict_told told ≡ verdict_of script log

@@ -8,7 +8,7 @@ use Rattle.log_model.specs.LogText.{lines_before, version_of}
 use Rattle.run_log.specs.Spelling.{IsMeant}
 use Rattle.run_log.specs.TextLines.{IsBadLine, text_lines}
 use Rattle.env_check.specs.declared.cause.Explanation.{Explanation}
-use Rattle.env_check.specs.declared.cause.Explanation.TheVariants.{Legal, Barred, Unfinished}
+use Rattle.env_check.specs.declared.cause.Explanation.TheVariants.{Legal, Barred, Unfinished, AtWork}
 use Rattle.env_check.specs.Causes.{IsExplained, NamesAllowed, verdict_told}
 use Rattle.env_check.specs.Verdicts.{verdict_of}
 use Rattle.explain_text.specs.Json.{bad_line_json, told_json}
@@ -21,6 +21,7 @@ abbrev pub place_told : Explanation → Option ℕ
 place_told Legal = None
 place_told (Barred place cause) = Some place
 place_told (Unfinished place seat cause) = Some place
+place_told (AtWork place busy) = Some place
 
 -- what is said of a log that is found wrong at this line, or nowhere, in words or in JSON
 abbrev pub said_of : Bool → Option ℕ → List Entry → Explanation → List ℕ

@@ -109,6 +109,7 @@ fn place_told(told: &Explanation) -> Option<u32>
         Explanation::Legal => None,
         Explanation::Barred { place, .. } => Some(place),
         Explanation::Unfinished { place, .. } => Some(place),
+        Explanation::AtWork { place, .. } => Some(place),
     }
 }
 

@@ -329,6 +329,7 @@ names_allowed script log (explanations.Barred place cause) explained = λ e next
     (subst (λ (x : Entry). Explains cause script (take place log) x.seat (Some x.kind)) same explained.2) named
 names_allowed script log (explanations.Unfinished place seat cause) explained = λ next named.
     named_follows cause script log seat None next explained.3 named
+names_allowed script log (explanations.AtWork place busy) explained = tt
 
 -- a log is said to be legal exactly where its verdict is
 pub legal_told : (script : Plan) (log : List Entry) (told : Explanation) → verdict_told told ≡ verdict_of script log
@@ -341,6 +342,7 @@ legal_told script log told is =
     by explanations.Legal same = refl
     by (explanations.Barred place cause) same = absurd cc
     by (explanations.Unfinished place seat cause) same = absurd cc
+    by (explanations.AtWork place busy) same = absurd cc
 
 -- where there is no action to be told the script is finished
 pub finished_at : (script : Plan) (past : List Entry) → None ≡ option_map (λ (c : Current). c.action) (current script (own_entries 0 past))

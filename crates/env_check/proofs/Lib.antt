@@ -1,3 +1,5 @@
+pub mod AtWork
+pub mod Bars
 pub mod Causes
 pub mod Ends
 pub mod Fresh

@@ -1,6 +1,7 @@
 -- Why a log is not legal and whole.
 use Rattle.std.specs.Prelude.{◌≡◌, ◌⊎◌, ℕ, ◌<◌, ◌≤◌, Bool, true, false, not, ◌||◌, List, length, slice_get, take, Option, Some, None}
-use Rattle.std.specs.Option.{option_map}
+use Rattle.std.specs.List.{filter_map}
+use Rattle.std.specs.Option.{option_map, option_or}
 use Rattle.list_laws.specs.Lists.{holds_of}
 use Rattle.task_base.specs.Plan.{Plan}
 use Rattle.task_base.specs.declared.entry.Entry.{Entry}
@@ -9,19 +10,25 @@ use Rattle.task_base.specs.declared.entry.Kind.TheVariants as kinds
 use Rattle.task_base.specs.declared.script.Action.{Action}
 use Rattle.task_base.specs.declared.script.Action.TheVariants as actions
 use Rattle.task_model.specs.Blockers.{blockers_of}
-use Rattle.task_model.specs.Seats.{Holding, Running, holding, inside, is_free, running}
+use Rattle.task_model.specs.Seats.{Holding, Running, all_seats, holding, inside, is_free, running}
 use Rattle.task_model.specs.Sources.{best_of}
 use Rattle.hist_model.specs.Allowed.{IsAllowed}
 use Rattle.hist_model.specs.Script.{Current, current, is_finished}
 use Rattle.hist_model.specs.Views.{own_entries}
 use Rattle.pool_core.specs.Calls.{running_tasks, is_any_ready}
+use Rattle.env_check.specs.Bars.{bar_of, is_room_for}
 use Rattle.env_check.specs.Follows.{entry_by, takes_source}
 use Rattle.env_check.specs.Hands.{is_empty}
 use Rattle.env_check.specs.Ranks.{edge_of}
+use Rattle.env_check.specs.declared.cause.Bar.{Bar}
+use Rattle.env_check.specs.declared.cause.Bar.TheVariants as bars
+use Rattle.env_check.specs.declared.cause.Busy.{Busy}
 use Rattle.env_check.specs.declared.cause.Cause.{Cause}
 use Rattle.env_check.specs.declared.cause.Cause.TheVariants as causes
 use Rattle.env_check.specs.declared.cause.Explanation.{Explanation}
 use Rattle.env_check.specs.declared.cause.Explanation.TheVariants as explanations
+use Rattle.env_check.specs.declared.cause.Work.{Work}
+use Rattle.env_check.specs.declared.cause.Work.TheVariants as works
 use Rattle.env_check.specs.declared.hand.Hand.{Hand}
 use Rattle.env_check.specs.declared.verdict.Verdict.{Verdict}
 use Rattle.env_check.specs.declared.verdict.Verdict.TheVariants as verdicts
@@ -31,6 +38,7 @@ abbrev pub verdict_told : Explanation → Verdict
 verdict_told explanations.Legal = verdicts.Legal
 verdict_told (explanations.Barred place cause) = verdicts.Illegal place
 verdict_told (explanations.Unfinished place seat cause) = verdicts.Illegal place
+verdict_told (explanations.AtWork place busy) = verdicts.Illegal place
 
 -- a task makes the entry, by its act steps or at its end, or a job, at the end of an item
 abbrev pub is_of_work : Kind → Bool
@@ -68,6 +76,11 @@ pub record IsAt (script : Plan) (past : List Entry) (seat : ℕ) (action : Actio
   pub free : is_free past 0 ≡ true
   pub action_is : option_map (λ (c : Current). c.action) (current script (own_entries 0 past)) ≡ Some action
 
+-- this is against the take of the source that the entry takes; where it is the limits, they leave no room for it
+pub record IsBarred (script : Plan) (past : List Entry) (seat : ℕ) (kind : Option Kind) (bar : Bar) : Type 0 where
+  pub first : option_map (bar_of script past seat) kind ≡ Some bar
+  pub no_room : bar ≡ bars.Limit → holds_of (is_room_for script past) kind ≡ false
+
 -- the cause holds of an entry of this seat after the past; of the end of a log, where there is no kind of entry
 abbrev pub Explains : Cause → Plan → List Entry → ℕ → Option Kind → Type 0
 Explains causes.NoSeat script past seat kind = script.workers < seat
@@ -79,8 +92,8 @@ Explains (causes.Wants next) script past seat kind = (seat ≡ 0) × (is_free pa
 Explains (causes.Best next edge) script past seat kind =
     IsFreeWorkers past seat × (takes_source next ≡ true) × MayFollow script past seat next
     × (option_map (edge_of script past next) kind ≡ Some edge)
-Explains causes.NoSource script past seat kind =
-    IsFreeWorkers past seat × (is_finished script past ≡ false) × (best_of script past seat ≡ None)
+Explains (causes.NoSource bar) script past seat kind =
+    IsFreeWorkers past seat × (is_finished script past ≡ false) × (best_of script past seat ≡ None) × IsBarred script past seat kind bar
 Explains causes.Finished script past seat kind = (is_free past seat ≡ true) × (is_finished script past ≡ true)
 Explains (causes.NotIdle running ready) script past seat kind =
     IsAt script past seat actions.Flush × (running ≡ running_tasks script past) × (ready ≡ is_any_ready script past)
@@ -103,13 +116,25 @@ named_by cause = None
 abbrev pub HasMore : Plan → List Entry → ℕ → Type 0
 HasMore script past seat = (is_free past seat ≡ false) ⊎ ((seat ≡ 0) × (is_finished script past ≡ false))
 
--- what is said of the log holds: the cause that bars an entry of it, or what a seat has left to do at its end
+-- what a seat runs, or holds an item of
+abbrev pub work_of : List Entry → ℕ → Option Work
+work_of past seat = option_or (option_map (λ (w : Running). works.Task w.task) (running past seat))
+    (option_map (λ (h : Holding). works.Item h.job) (holding past seat))
+
+-- the seats that run or hold something, each with that
+abbrev pub at_work : Plan → List Entry → List Busy
+at_work script past = filter_map (λ seat. option_map (λ work. record { seat = seat; work = work }) (work_of past seat)) (all_seats script)
+
+-- what is said of the log holds: the cause that bars an entry of it, or what a seat has left to do at its end,
+-- or that the script is finished, and which seats still run or hold something
 abbrev pub IsExplained : Plan → List Entry → Explanation → Type 0
 IsExplained script log explanations.Legal = Unit {0}
 IsExplained script log (explanations.Barred place cause) =
     (e : Entry) × (slice_get log place ≡ Some e) × Explains cause script (take place log) e.seat (Some e.kind)
 IsExplained script log (explanations.Unfinished place seat cause) =
     (place ≡ length log) × (seat ≤ script.workers) × HasMore script log seat × Explains cause script log seat None
+IsExplained script log (explanations.AtWork place busy) =
+    (place ≡ length log) × (is_finished script log ≡ true) × (busy.items ≡ at_work script log) × (2 ≤ length busy.items)
 
 -- the entry that is named is allowed at the place at which the log is illegal
 abbrev pub NamesAllowed : Plan → List Entry → Explanation → Type 0
@@ -118,6 +143,7 @@ NamesAllowed script log (explanations.Barred place cause) = (e : Entry) (next : 
     → IsAllowed script (take place log) (entry_by e.seat next)
 NamesAllowed script log (explanations.Unfinished place seat cause) = (next : Kind) → named_by cause ≡ Some next
     → IsAllowed script log (entry_by seat next)
+NamesAllowed script log (explanations.AtWork place busy) = Unit {0}
 
 -- the seat has something in hand
 abbrev pub HasInHand : List Hand → ℕ → Type 0

@@ -1,5 +1,7 @@
 -- What a seat has in hand while a log is followed.
-use Rattle.std.specs.Prelude.{◌≡◌, ◌≢◌, ℕ, ◌+◌, Bool, true, false, List, [], ◌∷◌, ◌++◌, filter, length, slice_get, Some}
+use Rattle.std.specs.Prelude.{◌≡◌, ◌≢◌, ℕ, ◌+◌, Bool, true, false, List, [], ◌∷◌, ◌++◌, filter, length, slice_get, Option, Some, None, option_and_then}
+use Rattle.std.specs.List.{filter_map, range_with_len}
+use Rattle.std.specs.Option.{option_map}
 use Rattle.task_base.specs.Steps.{is_act}
 use Rattle.task_base.specs.declared.step.Step.{Step}
 use Rattle.task_base.specs.declared.step.Step.TheVariants as steps
@@ -11,6 +13,9 @@ use Rattle.task_body.specs.declared.act.Act.{Act}
 use Rattle.task_body.specs.declared.act.Act.TheVariants as acts
 use Rattle.env_core.specs.Jobs.{IsHeld}
 use Rattle.env_core.specs.Views.{EnvView}
+use Rattle.env_check.specs.declared.cause.Busy.{Busy}
+use Rattle.env_check.specs.declared.cause.Work.{Work}
+use Rattle.env_check.specs.declared.cause.Work.TheVariants as works
 use Rattle.env_check.specs.declared.hand.Hand.{Hand}
 use Rattle.env_check.specs.declared.hand.Hand.TheVariants.{Free, Task, Item}
 
@@ -53,3 +58,17 @@ pub record AreInHand (view : EnvView) (hands : List Hand) : Type 0 where
   pub legal : IsLegal view.script view.history
   pub all : length hands ≡ view.script.workers + 1
   pub each : (seat : ℕ) (hand : Hand) → slice_get hands seat ≡ Some hand → IsInHand view seat hand
+
+-- what a seat runs or holds that has this in hand
+abbrev pub work_in : Hand → Option Work
+work_in Free = None
+work_in (Task at) = Some (works.Task at.work.task)
+work_in (Item pass) = Some (works.Item pass.job)
+
+-- the seat, if it has something in hand, with what it runs or holds
+abbrev pub busy_at : List Hand → ℕ → Option Busy
+busy_at hands seat = option_map (λ work. record { seat = seat; work = work }) (option_and_then work_in (slice_get hands seat))
+
+-- the seats below a number that have something in hand
+abbrev pub busy_below : List Hand → ℕ → List Busy
+busy_below hands n = filter_map (busy_at hands) (range_with_len 0 n)

@@ -18,8 +18,8 @@ pub enum Cause {
     Wants { next: Kind },
     /// The worker is free, and this entry takes its best source, which has this over the source that was taken.
     Best { next: Kind, edge: Edge },
-    /// The worker is free, and no source may be taken by it.
-    NoSource,
+    /// The worker is free, and no source may be taken by it: this is against the one that the entry takes.
+    NoSource { bar: Bar },
     /// The script is finished: it wants nothing of the driver, and a worker that is free takes nothing more.
     Finished,
     /// The driver waits until the pool is idle: so many workers run a task or are inside a job, and some worker may take a
@@ -48,8 +48,51 @@ pub enum Edge {
     Unready,
 }
 
-/// What is to be said of a log of a script.
+/// Why a worker that may take nothing may not take the source that an entry takes: the first of these that holds.
 #[derive(Clone, Copy, Debug)]
+pub enum Bar {
+    /// The task was not accepted on that runner, or the job was not accepted.
+    Unaccepted,
+    /// The task was taken before.
+    Taken,
+    /// The job is cancelled.
+    Cancelled,
+    /// The phase of shutdown forbids it.
+    Forbidden,
+    /// The task is delayed, and is not ripe yet.
+    Unripe,
+    /// A task of its sequence runs.
+    Busy,
+    /// All items of the job are claimed.
+    Claimed,
+    /// As many seats are inside the job as may be.
+    Full,
+    /// Its runner is a single-thread one of another seat.
+    OtherSeat,
+    /// The policy holds it back.
+    Held,
+    /// There is no room for its priority by the limits.
+    Limit,
+}
+
+/// What a seat runs, or is inside of.
+#[derive(Clone, Copy, Debug)]
+pub enum Work {
+    /// It runs this task.
+    Task { task: TaskId },
+    /// It holds an item of this job.
+    Item { job: JobId },
+}
+
+/// A seat that runs or holds something.
+#[derive(Clone, Copy, Debug)]
+pub struct Busy {
+    pub seat: SeatNo,
+    pub work: Work,
+}
+
+/// What is to be said of a log of a script.
+#[derive(Debug, Drop)]
 pub enum Explanation {
     /// Each entry may come after those before it, and nothing is left to be done.
     Legal,
@@ -63,5 +106,11 @@ pub enum Explanation {
         place: u32,
         seat: SeatNo,
         cause: Cause,
+    },
+    /// Each entry may come, and the script is finished, but at the log's end, which is this place, several seats still run or
+    /// hold something: these.
+    AtWork {
+        place: u32,
+        busy: Vec<Busy>,
     },
 }

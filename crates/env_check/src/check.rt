@@ -91,10 +91,7 @@ fn explain_at(
             place,
             cause: replay.explain(script, front, *entry),
         }),
-        None => {
-            let (seat, cause) = replay.explain_end(script);
-            Ok(Explanation::Unfinished { place, seat, cause })
-        }
+        None => replay.explain_end(alloc, script, place),
     }
 }
 

@@ -1,24 +1,28 @@
-ghost use Rattle.std.specs.Prelude.{◌≡◌, ◌<◌, ◌≤◌, ◌^◌, Option, Some, None, IfSome, false, length, true};
+ghost use Rattle.std.specs.Prelude.{◌≡◌, ◌<◌, ◌≤◌, ◌^◌, Option, Some, None, IfOk, IfSome, false, length, true};
 ghost use Rattle.std.specs.List.{list_all};
+ghost use Rattle.script_model.specs.Laws.Sound.{IsSound};
 ghost use Rattle.task_base.specs.declared.entry.Kind.{Kind as AnyKind};
 ghost use Rattle.task_model.specs.Seats.{is_free};
 ghost use Rattle.hist_model.specs.Script.{is_whole};
-ghost use Rattle.env_check.specs.Causes.{Explains, HasInHand, HasMore, is_of_work};
+ghost use Rattle.env_check.specs.Causes.{Explains, HasInHand, HasMore, IsExplained, is_of_work, verdict_told};
 ghost use Rattle.env_check.specs.Follows.{takes_source};
-ghost use Rattle.env_check.specs.Hands.{AreInHand, is_empty};
+ghost use Rattle.env_check.specs.Hands.{AreInHand, busy_below, is_empty, work_in};
+ghost use Rattle.env_check.specs.declared.verdict.Verdict.{Verdict};
 
-use crate::cause::Cause;
+use crate::cause::{Busy, Cause, Explanation, Work};
 use crate::hand::{Hand, take_hand};
 use crate::next::{next_of_item, next_of_task, next_of_worker};
 use crate::replay::Replay;
 use crate::wanted::next_of_driver;
 use env_core::Env;
-use task_base::{Entry, Kind, Script, SeatNo};
+use std::alloc::{AllocError, Global};
+use task_base::{Entry, Kind, Place, Script, SeatNo};
 use task_body::ScriptBody;
 
 impl Replay {
     /// Why an entry may not come behind those that were followed.
     pub fn explain(self, script: &Script, past: &[Entry], entry: Entry) -> Cause
+        requires plan { IsSound self.script }
         requires script { script.now ≡ self.script }
         requires past { past.now ≡ self.history }
         requires few { length past.now < 2 ^ 32 }
@@ -32,6 +36,7 @@ impl Replay {
 
     /// What a seat of the script does next in place of the entry, or why it may do nothing.
     fn expected(self, script: &Script, past: &[Entry], entry: &Entry) -> Cause
+        requires plan { IsSound self.script }
         requires script { script.now ≡ self.script }
         requires past { past.now ≡ self.history }
         requires few { length past.now < 2 ^ 32 }
@@ -46,6 +51,7 @@ impl Replay {
 
     /// What a worker takes next that is free, or why it takes nothing.
     fn choice(self, script: &Script, past: &[Entry], entry: &Entry) -> Cause
+        requires plan { IsSound self.script }
         requires script { script.now ≡ self.script }
         requires past { past.now ≡ self.history }
         requires few { length past.now < 2 ^ 32 }
@@ -82,9 +88,32 @@ impl Replay {
         None
     }
 
-    /// What is left to be done where the log ends behind the entries that were followed, and of which seat: the first one
-    /// that runs or holds something, or else the driver.
-    pub fn explain_end(self, script: &Script) -> (SeatNo, Cause)
+    /// What is left to be done where the log ends at this place, behind the entries that were followed. The error is want of
+    /// memory.
+    pub fn explain_end(
+        self,
+        alloc: Global,
+        script: &Script,
+        place: Place,
+    ) -> Result<Explanation, AllocError>
+        requires plan { IsSound self.script }
+        requires script { script.now ≡ self.script }
+        requires place { place ≡ length self.history }
+        requires more { is_whole self.script self.history ≡ false }
+        ensures verdict { IfOk result (λ told. verdict_told told ≡ Verdict.Illegal place) }
+        ensures cause { IfOk result (λ told. IsExplained self.script self.history told) }
+    {
+        let busy = busy_seats(alloc, &self.hands, script.workers + 1)?;
+        if busy.len() > 1 && self.env.is_finished() {
+            return Ok(Explanation::AtWork { place, busy });
+        }
+        let (seat, cause) = self.left(script);
+        Ok(Explanation::Unfinished { place, seat, cause })
+    }
+
+    /// What is left to be done where the log ends, and of which seat: the first one that runs or holds something, or else the
+    /// driver.
+    fn left(self, script: &Script) -> (SeatNo, Cause)
         requires script { script.now ≡ self.script }
         requires more { is_whole self.script self.history ≡ false }
         ensures known { result.0 ≤ self.script.workers }
@@ -128,6 +157,34 @@ fn next_of_seat(
         Hand::Task(at) => next_of_task(env, seat, at),
         Hand::Item(pass) => next_of_item(env, script, seat, pass),
         Hand::Free => next_of_driver(env, reading),
+    }
+}
+
+/// The seats below a number that have something in hand, each with what it runs or holds. The error is want of memory.
+fn busy_seats(alloc: Global, hands: &[Hand], seats: u32) -> Result<Vec<Busy>, AllocError>
+    requires { seats ≡ length hands.now }
+    ensures { IfOk result (λ busy. busy.items ≡ busy_below hands.now seats) }
+{
+    let mut busy = Vec::new(alloc);
+    for seat in 0..seats {
+        match work_in(&hands[seat as usize]) {
+            None => {}
+            Some(work) => busy.push(Busy { seat, work })?,
+        }
+    }
+    Ok(busy)
+}
+
+/// What a seat runs or holds that has this in hand.
+fn work_in(hand: &Hand) -> Option<Work>
+    ensures { result ≡ work_in hand.now }
+{
+    match hand {
+        Hand::Free => None,
+        Hand::Task(at) => Some(Work::Task {
+            task: at.work.task(),
+        }),
+        Hand::Item(pass) => Some(Work::Item { job: pass.job() }),
     }
 }
 

@@ -4,6 +4,7 @@
 
 mod act;
 mod asks;
+mod bar;
 mod cause;
 mod check;
 mod driver;
@@ -19,6 +20,6 @@ mod verdict;
 mod waits;
 mod wanted;
 
-pub use cause::{Cause, Edge, Explanation};
+pub use cause::{Bar, Busy, Cause, Edge, Explanation, Work};
 pub use check::{check_log, check_prefix, explain_log};
 pub use verdict::Verdict;

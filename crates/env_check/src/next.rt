@@ -1,4 +1,5 @@
 ghost use Rattle.std.specs.Prelude.{◌≡◌, ◌<◌, ◌≤◌, ◌^◌, Option, length, true};
+ghost use Rattle.script_model.specs.Laws.Sound.{IsSound};
 ghost use Rattle.task_base.specs.declared.entry.Kind.{Kind as AnyKind};
 ghost use Rattle.task_model.specs.Seats.{is_free};
 ghost use Rattle.hist_model.specs.Legal.{IsLegal};
@@ -8,6 +9,7 @@ ghost use Rattle.env_core.specs.Jobs.{IsHeld};
 ghost use Rattle.env_check.specs.Causes.{Explains, MayFollow};
 ghost use Rattle.env_check.specs.Hands.{AreInHand, IsAtTask};
 
+use crate::bar::bar_of;
 use crate::cause::Cause;
 use crate::hand::{AtTask, Hand, do_rest};
 use crate::items::value_of;
@@ -138,6 +140,7 @@ pub fn next_of_worker(
     past: &[Entry],
     entry: &Entry,
 ) -> Cause
+    requires plan { IsSound env.old.script }
     requires hands { AreInHand env.old hands.now }
     requires script { script.now ≡ env.old.script }
     requires past { past.now ≡ env.old.history }
@@ -148,7 +151,9 @@ pub fn next_of_worker(
 {
     match env.take(entry.seat) {
         Taken::Over => Cause::Finished,
-        Taken::Nothing => Cause::NoSource,
+        Taken::Nothing => Cause::NoSource {
+            bar: bar_of(env, hands, script, past, entry),
+        },
         Taken::Item(pass) => {
             let next = Kind::JobTake {
                 job: pass.job(),

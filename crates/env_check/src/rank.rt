@@ -167,7 +167,7 @@ fn job_rank(script: &Script, past: &[Entry], hands: &[Hand], job: JobId) -> Opti
 }
 
 /// The priority of a job.
-fn job_priority(script: &Script, job: JobId) -> Priority
+pub fn job_priority(script: &Script, job: JobId) -> Priority
     ensures { result ≡ priority_of_job script.now job }
 {
     match script.jobs.at(job as usize) {
@@ -177,7 +177,7 @@ fn job_priority(script: &Script, job: JobId) -> Priority
 }
 
 /// How many seats are inside a job.
-fn seats_inside(hands: &[Hand], job: JobId) -> usize
+pub fn seats_inside(hands: &[Hand], job: JobId) -> usize
     ensures { (view : EnvView) → AreInHand view hands.now → result ≡ length (inside view.script view.history job) }
 {
     items_in_hand(hands, job)
@@ -203,7 +203,7 @@ fn is_item_of(hand: &Hand, job: JobId) -> bool
 
 /// The priority of a runner by now.
 #[tactic(auto, unfolding(task_model::specs::Capacity::priority_of))]
-fn priority_of(script: &Script, past: &[Entry], runner: RunnerId) -> Priority
+pub fn priority_of(script: &Script, past: &[Entry], runner: RunnerId) -> Priority
     ensures { result ≡ priority_of script.now past.now runner }
 {
     past.iter()
@@ -236,7 +236,7 @@ fn priority_after(runner: RunnerId, now: Priority, kind: &Kind) -> Priority
 }
 
 /// The post of a task that was accepted, if it was.
-fn post_of(past: &[Entry], task: TaskId) -> Option<Post>
+pub fn post_of(past: &[Entry], task: TaskId) -> Option<Post>
     requires { length past.now < 2 ^ 32 }
     ensures { option_map posted result ≡ post_of past.now task }
 {
@@ -252,7 +252,7 @@ fn post_of(past: &[Entry], task: TaskId) -> Option<Post>
 }
 
 /// The key of a task that was accepted, where it has one.
-fn key_of(past: &[Entry], post: &Post) -> Option<Key>
+pub fn key_of(past: &[Entry], post: &Post) -> Option<Key>
     requires { length past.now < 2 ^ 32 }
     ensures { result ≡ key_of past.now (posted post.now) }
 {
@@ -351,7 +351,7 @@ fn key_at(place: Place) -> Key
 }
 
 /// The first post of a job, if there is one.
-fn job_post_of(past: &[Entry], job: JobId) -> Option<JobPost>
+pub fn job_post_of(past: &[Entry], job: JobId) -> Option<JobPost>
     requires { length past.now < 2 ^ 32 }
     ensures { option_map job_posted result ≡ job_post_of past.now job }
 {

@@ -1,9 +1,9 @@
 ghost use Rattle.std.specs.Prelude.{◌≡◌, ◌++◌, [], if◌then◌else◌, codes, decimal, IfOk, OnOk};
 ghost use Rattle.env_check.specs.Causes.{named_by};
-ghost use Rattle.explain_text.specs.Json.{bad_line_json, cause_keys, cause_name, cause_object, edge_key, entry_key, named_key, told_json};
+ghost use Rattle.explain_text.specs.Json.{at_work_object, bad_line_json, bar_key, busy_object, busy_objects, cause_keys, cause_name, cause_object, edge_key, entry_key, named_key, told_json};
 
 use crate::plain::{named_by, seat_at};
-use env_check::{Cause, Edge, Explanation};
+use env_check::{Bar, Busy, Cause, Edge, Explanation, Work};
 use itoa::Buffer;
 use run_log::json_row;
 use std::alloc::{AllocError, Global};
@@ -19,14 +19,15 @@ pub fn told_json(
 ) -> Result<Vec<u8>, AllocError>
     ensures { IfOk result (λ text. text.items ≡ told_json line log.now told.now) }
 {
-    match *told {
+    match told {
         Explanation::Legal => Ok(Vec::new(alloc)),
         Explanation::Barred { place, cause } => {
-            cause_object(alloc, line, place, seat_at(log, place), &cause, b"")
+            cause_object(alloc, line, *place, seat_at(log, *place), cause, b"")
         }
         Explanation::Unfinished { place, seat, cause } => {
-            cause_object(alloc, line, place, seat, &cause, b",\"unfinished\":true")
+            cause_object(alloc, line, *place, *seat, cause, b",\"unfinished\":true")
         }
+        Explanation::AtWork { busy, .. } => at_work_object(alloc, line, busy),
     }
 }
 
@@ -73,6 +74,45 @@ fn cause_object(
     Ok(text)
 }
 
+/// The object that names the seats that run or hold something. The error is want of memory.
+fn at_work_object(alloc: Global, line: u32, busy: &[Busy]) -> Result<Vec<u8>, AllocError>
+    ensures { IfOk result (λ text. text.items ≡ at_work_object line busy.now) }
+{
+    let mut text = Vec::new(alloc);
+    add_number(&mut text, b"{\"line\":", line)?;
+    text.extend_from_slice(b",\"cause\":\"at_work\",\"seats\":[")?;
+    add_objects(&mut text, busy)?;
+    text.extend_from_slice(b"],\"unfinished\":true}\n")?;
+    Ok(text)
+}
+
+/// Adds the objects of seats that run or hold something, with commas between them. The error is want of memory.
+fn add_objects(text: &mut Vec<u8>, busy: &[Busy]) -> Result<(), AllocError>
+    ensures { OnOk result (text.new.items ≡ text.old.items ++ busy_objects busy.now) }
+{
+    let Some((first, others)) = busy.split_first() else {
+        return Ok(());
+    };
+    add_object(text, first)?;
+    for other in others {
+        text.extend_from_slice(b",")?;
+        add_object(text, other)?;
+    }
+    Ok(())
+}
+
+/// Adds the object of a seat, and of what it runs or holds. The error is want of memory.
+fn add_object(text: &mut Vec<u8>, busy: &Busy) -> Result<(), AllocError>
+    ensures { OnOk result (text.new.items ≡ text.old.items ++ busy_object busy.now) }
+{
+    add_number(text, b"{\"seat\":", busy.seat)?;
+    match busy.work {
+        Work::Task { task } => add_number(text, b",\"task\":", task)?,
+        Work::Item { job } => add_number(text, b",\"job\":", job)?,
+    }
+    text.extend_from_slice(b"}")
+}
+
 /// Adds words and a number behind them. The error is want of memory.
 fn add_number(text: &mut Vec<u8>, words: &[u8], number: u32) -> Result<(), AllocError>
     ensures { OnOk result (text.new.items ≡ text.old.items ++ words.now ++ decimal number) }
@@ -93,7 +133,7 @@ fn cause_name(cause: &Cause) -> &'static [u8]
         Cause::Holds { .. } => b"holds",
         Cause::Wants { .. } => b"wants",
         Cause::Best { .. } => b"best",
-        Cause::NoSource => b"no_source",
+        Cause::NoSource { .. } => b"no_source",
         Cause::Finished => b"finished",
         Cause::NotIdle { .. } => b"not_idle",
         Cause::Inside { .. } => b"inside",
@@ -109,6 +149,7 @@ fn add_keys(text: &mut Vec<u8>, cause: &Cause) -> Result<(), AllocError>
         Cause::Runs { task, .. } => add_number(text, b",\"task\":", task),
         Cause::Holds { job, .. } => add_number(text, b",\"job\":", job),
         Cause::Best { edge, .. } => text.extend_from_slice(edge_key(edge)),
+        Cause::NoSource { bar } => text.extend_from_slice(bar_key(bar)),
         Cause::NotIdle { running, ready } => {
             add_number(text, b",\"running\":", running)?;
             text.extend_from_slice(ready_key(ready))
@@ -133,6 +174,25 @@ fn edge_key(edge: Edge) -> &'static [u8]
         Edge::Key => b",\"by\":\"key\"",
         Edge::Barred => b",\"by\":\"barred\"",
         Edge::Unready => b",\"by\":\"unready\"",
+    }
+}
+
+/// What is against the take of the source that an entry takes, as a key.
+fn bar_key(bar: Bar) -> &'static [u8]
+    ensures { result.now ≡ bar_key bar }
+{
+    match bar {
+        Bar::Unaccepted => b",\"why\":\"unaccepted\"",
+        Bar::Taken => b",\"why\":\"taken\"",
+        Bar::Cancelled => b",\"why\":\"cancelled\"",
+        Bar::Forbidden => b",\"why\":\"forbidden\"",
+        Bar::Unripe => b",\"why\":\"unripe\"",
+        Bar::Busy => b",\"why\":\"busy\"",
+        Bar::Claimed => b",\"why\":\"claimed\"",
+        Bar::Full => b",\"why\":\"full\"",
+        Bar::OtherSeat => b",\"why\":\"other_seat\"",
+        Bar::Held => b",\"why\":\"held\"",
+        Bar::Limit => b",\"why\":\"limit\"",
     }
 }
 

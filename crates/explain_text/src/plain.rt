@@ -1,28 +1,33 @@
-ghost use Rattle.std.specs.Prelude.{◌≡◌, ◌+◌, ◌≤◌, ◌++◌, [], if◌then◌else◌, codes, length, slice_get};
+ghost use Rattle.std.specs.Prelude.{◌≡◌, ◌+◌, ◌≤◌, ◌++◌, [], if◌then◌else◌, codes, decimal, flat_map, length, slice_get};
 ghost use Rattle.env_check.specs.Causes.{named_by};
-ghost use Rattle.explain_text.specs.Plain.{around, bad_line_text, cause_line, cause_words, edge_words, next_line, seat_of, told_text};
+ghost use Rattle.explain_text.specs.Plain.{around, at_work_line, bad_line_text, bar_words, busy_words, cause_line, cause_words, edge_words, more_words, next_line, seat_of, told_text};
 
-use env_check::{Cause, Edge, Explanation};
+use env_check::{Bar, Busy, Cause, Edge, Explanation, Work};
+use itoa::Buffer;
 use line_text::{Line, add, add_decimal};
 use task_base::{Entry, Kind, Place, SeatNo};
+
+/// How many seats that run or hold something a line names at most.
+const SHOWN: usize = 4;
 
 /// What is said of a log, in one line of at most 256 bytes; of a legal log nothing.
 pub fn told_text(log: &[Entry], told: &Explanation) -> Line
     ensures { result.items ≡ told_text log.now told.now }
 {
     let mut line = Line::new();
-    match *told {
+    match told {
         Explanation::Legal => {}
         Explanation::Barred { place, cause } => add_cause(
             &mut line,
-            place,
-            seat_at(log, place),
-            &cause,
+            *place,
+            seat_at(log, *place),
+            cause,
         ),
         Explanation::Unfinished { place, seat, cause } => {
             add(&mut line, b"unfinished: ");
-            add_cause(&mut line, place, seat, &cause);
+            add_cause(&mut line, *place, *seat, cause);
         }
+        Explanation::AtWork { busy, .. } => add_at_work(&mut line, busy),
     }
     line
 }
@@ -66,6 +71,72 @@ pub(crate) fn named_by(cause: &Cause) -> Option<Kind>
         Cause::Wants { next } | Cause::Best { next, .. } => Some(next),
         _ => None,
     }
+}
+
+/// Adds the first seats that run or hold something, and how many more there are.
+fn add_at_work(line: &mut Line, busy: &[Busy])
+    requires { line.old.items ≡ [] }
+    ensures { line.new.items ≡ at_work_line busy.now }
+{
+    add(line, b"unfinished: the script is finished");
+    let shown = SHOWN.min(busy.len());
+    add_seats(line, &busy[..shown]);
+    add_more(line, busy.len().saturating_sub(SHOWN));
+}
+
+/// Adds how many seats are left, and the end of the line.
+fn add_more(line: &mut Line, count: usize)
+    requires { length line.old.items ≤ 202 }
+    ensures { line.new.items ≡ line.old.items ++ more_words count }
+{
+    if count > 0 {
+        add(line, b"; and ");
+        add_decimal(line, count as u64);
+        add(line, b" more\n");
+    } else {
+        add(line, b"\n");
+    }
+}
+
+/// Adds at most four seats, and what each runs or holds.
+fn add_seats(line: &mut Line, busy: &[Busy])
+    requires line { length line.old.items ≤ 34 }
+    requires few { length busy.now ≤ 4 }
+    ensures items { line.new.items ≡ line.old.items ++ flat_map busy_words busy.now }
+    ensures short { length line.new.items ≤ 202 }
+{
+    for one in busy {
+        add_busy(line, one);
+    }
+}
+
+/// Adds a seat, and what it runs or holds.
+fn add_busy(line: &mut Line, busy: &Busy)
+    requires { length line.old.items ≤ 160 }
+    ensures items { line.new.items ≡ line.old.items ++ busy_words busy.now }
+    ensures short { length line.new.items ≤ length line.old.items + 42 }
+{
+    add(line, b"; seat ");
+    add_short(line, busy.seat);
+    match busy.work {
+        Work::Task { task } => {
+            add(line, b" runs task ");
+            add_short(line, task);
+        }
+        Work::Item { job } => {
+            add(line, b" is inside job ");
+            add_short(line, job);
+        }
+    }
+}
+
+/// Adds a number of at most ten digits.
+fn add_short(line: &mut Line, number: u32)
+    requires { length line.old.items ≤ 246 }
+    ensures items { line.new.items ≡ line.old.items ++ decimal number }
+    ensures short { length line.new.items ≤ length line.old.items + 10 }
+{
+    add(line, Buffer::new().format(number).as_bytes());
 }
 
 /// Adds the cause, and the entry that it names.
@@ -123,7 +194,12 @@ fn add_words(line: &mut Line, seat: SeatNo, cause: &Cause)
             seat,
             edge_words(edge),
         ),
-        Cause::NoSource => add_one(line, b"nothing may be taken by seat ", seat, b""),
+        Cause::NoSource { bar } => add_one(
+            line,
+            b"nothing may be taken by seat ",
+            seat,
+            bar_words(bar),
+        ),
         Cause::Finished => add_one(
             line,
             b"the script is finished, and nothing is left for seat ",
@@ -205,5 +281,25 @@ fn edge_words(edge: Edge) -> &'static [u8]
         Edge::Key => b" (by key) is taken by: ",
         Edge::Barred => b" (the other is barred) is taken by: ",
         Edge::Unready => b" (the other is not ready) is taken by: ",
+    }
+}
+
+/// What is against the take of the source that an entry takes.
+fn bar_words(bar: Bar) -> &'static [u8]
+    ensures words { result.now ≡ bar_words bar }
+    ensures short { length result.now ≤ 32 }
+{
+    match bar {
+        Bar::Unaccepted => b"; this was not accepted",
+        Bar::Taken => b"; this was taken before",
+        Bar::Cancelled => b"; this job is cancelled",
+        Bar::Forbidden => b"; shutdown forbids this",
+        Bar::Unripe => b"; this is not ripe yet",
+        Bar::Busy => b"; this sequence runs",
+        Bar::Claimed => b"; all items of this are claimed",
+        Bar::Full => b"; this job is full",
+        Bar::OtherSeat => b"; this is another seat's runner",
+        Bar::Held => b"; the policy holds this back",
+        Bar::Limit => b"; the limits leave no room",
     }
 }

@@ -1,29 +1,23 @@
-use Rattle.std.proofs.Common.{◌≡◌, ◌≤◌, ℕ, List, None, Some, ap, arith, length, refl, subst, sym, take, ◌∙◌}
+use Rattle.std.proofs.Common.{◌≤◌, List, Some, ap, arith, length, refl, subst, sym, take, ◌∙◌}
 use Rattle.std.proofs.lemmas.List.{length-take-le, take_all}
+use Rattle.std.specs.Prelude.{IfOk}
 use Rattle.task_base.specs.Plan.{Plan}
 use Rattle.task_base.specs.declared.entry.Entry.{Entry}
-use Rattle.env_check.specs.Causes.{Explains, HasMore, IsExplained}
-use Rattle.env_check.specs.declared.cause.Cause.{Cause}
-use Rattle.env_check.specs.declared.cause.Explanation.TheVariants as explanations
+use Rattle.env_check.specs.Causes.{Explains, IsExplained}
 use Rattle.env_check.proofs.Causes.{stops}
 use Rattle.env_check.proofs.Verdicts.{illegal_nowhere}
 use Rattle.env_check.proofs.check.explain_at.Goals as goal
-
--- what is left at the end of the history is left at the end of the log
-ends_there : (script s : Plan) (log history : List Entry) (place seat : ℕ) (cause : Cause) → s ≡ script → history ≡ log → place ≡ length log
-    → seat ≤ s.workers → HasMore s history seat → Explains cause s history seat None → IsExplained script log (explanations.Unfinished place seat cause)
-ends_there script s log history place seat cause script_is history_is end known more holds = (
-  end,
-  subst (λ (x : Plan). seat ≤ x.workers) script_is known,
-  subst (λ (l : List Entry). HasMore script l seat) history_is (subst (λ (x : Plan). HasMore x history seat) script_is more),
-  subst (λ (l : List Entry). Explains cause script l seat None) history_is (subst (λ (x : Plan). Explains cause x history seat None) script_is holds),
-)
 
 pub slice_bounds-front-end : goal.slice_bounds-front-end
 slice_bounds-front-end c =
     let at = stops c.args.script.now c.args.log.now.items c.args.place c.requires.illegal in
     let within : c.args.place ≤ length c.as_slice.result.now = omega (arith, at.within, ap length c.as_slice.ensures) in
     omega (arith, within, length-take-le c.args.place c.as_slice.result.now within)
+
+pub explain-requires-clause-plan : goal.explain-requires-clause-plan
+explain-requires-clause-plan c =
+    let at = stops c.args.script.now c.args.log.now.items c.args.place c.requires.illegal in
+    rw (c.follow_all.ensures.script (c.follow_all.ensures.place ∙ illegal_nowhere c.args.script.now _ (rw c.as_slice.ensures at.legal))) c.requires.plan
 
 pub explain-requires-clause-script : goal.explain-requires-clause-script
 explain-requires-clause-script c =
@@ -41,13 +35,26 @@ explain-requires-clause-few c =
     let within : c.args.place ≤ length c.as_slice.result.now = omega (arith, at.within, ap length c.as_slice.ensures) in
     omega (arith, length-take-le c.args.place c.as_slice.result.now within)
 
-pub explain_end-seat-requires-clause-script : goal.explain_end-seat-requires-clause-script
-explain_end-seat-requires-clause-script c =
+pub explain_end-requires-clause-plan : goal.explain_end-requires-clause-plan
+explain_end-requires-clause-plan c =
+    let at = stops c.args.script.now c.args.log.now.items c.args.place c.requires.illegal in
+    rw (c.follow_all.ensures.script (c.follow_all.ensures.place ∙ illegal_nowhere c.args.script.now _ (rw c.as_slice.ensures at.legal))) c.requires.plan
+
+pub explain_end-requires-clause-script : goal.explain_end-requires-clause-script
+explain_end-requires-clause-script c =
     let at = stops c.args.script.now c.args.log.now.items c.args.place c.requires.illegal in
     sym (c.follow_all.ensures.script (c.follow_all.ensures.place ∙ illegal_nowhere c.args.script.now _ (rw c.as_slice.ensures at.legal)))
 
-pub explain_end-seat-requires-clause-more : goal.explain_end-seat-requires-clause-more
-explain_end-seat-requires-clause-more c =
+pub explain_end-requires-clause-place : goal.explain_end-requires-clause-place
+explain_end-requires-clause-place c =
+    let at = stops c.args.script.now c.args.log.now.items c.args.place c.requires.illegal in
+    let none = c.follow_all.ensures.place ∙ illegal_nowhere c.args.script.now _ (rw c.as_slice.ensures at.legal) in
+    let end : length c.args.log.now.items ≤ c.args.place = c.in-None.ensures.past_end.0 refl in
+    let all = c.follow_all.ensures.followed none ∙ ap (take c.args.place) c.as_slice.ensures ∙ take_all c.args.place c.args.log.now.items end in
+    rw all (omega (arith, at.within, end))
+
+pub explain_end-requires-clause-more : goal.explain_end-requires-clause-more
+explain_end-requires-clause-more c =
     let at = stops c.args.script.now c.args.log.now.items c.args.place c.requires.illegal in
     let none = c.follow_all.ensures.place ∙ illegal_nowhere c.args.script.now _ (rw c.as_slice.ensures at.legal) in
     let end : length c.args.log.now.items ≤ c.args.place = c.in-None.ensures.past_end.0 refl in
@@ -73,6 +80,6 @@ returns-in-None-clause-cause c =
     let none = c.follow_all.ensures.place ∙ illegal_nowhere c.args.script.now _ (rw c.as_slice.ensures at.legal) in
     let end : length c.args.log.now.items ≤ c.args.place = c.in-None.ensures.past_end.0 refl in
     let all = c.follow_all.ensures.followed none ∙ ap (take c.args.place) c.as_slice.ensures ∙ take_all c.args.place c.args.log.now.items end in
-    ends_there c.args.script.now c.follow_all.new.replay.script c.args.log.now.items c.follow_all.new.replay.history c.args.place
-    c.explain_end-seat.result.0 c.explain_end-seat.result.1 (c.follow_all.ensures.script none) all (omega (arith, at.within, end))
-    c.explain_end-seat.ensures.known c.explain_end-seat.ensures.more c.explain_end-seat.ensures.cause
+    subst (λ (l : List Entry). IfOk c.explain_end.result (IsExplained c.args.script.now l)) all
+    (subst (λ (x : Plan). IfOk c.explain_end.result (IsExplained x c.follow_all.new.replay.history)) (c.follow_all.ensures.script none)
+    c.explain_end.ensures.cause)

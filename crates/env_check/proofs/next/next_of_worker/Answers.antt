@@ -6,6 +6,7 @@ use Rattle.task_base.specs.declared.entry.Kind.{Kind}
 use Rattle.task_base.specs.declared.entry.Kind.TheVariants as kinds
 use Rattle.env_check.specs.Ranks.{edge_of}
 use Rattle.env_check.specs.declared.cause.Edge.{Edge}
+use Rattle.env_check.proofs.Bars.{barred}
 use Rattle.env_check.proofs.next.next_of_worker.Goals as goal
 
 -- what was found of the script and the log holds of what they are
@@ -17,11 +18,29 @@ edge_told s script p past next kind edge script_is past_is is = ap (λ (x : Edge
 pub take-requires : goal.take-requires
 take-requires c = c.requires.worker
 
+pub bar_of-requires-clause-plan : goal.bar_of-requires-clause-plan
+bar_of-requires-clause-plan c = rw c.in-Nothing.ensures.kept c.requires.plan
+
+pub bar_of-requires-clause-hands : goal.bar_of-requires-clause-hands
+bar_of-requires-clause-hands c = rw c.in-Nothing.ensures.kept c.requires.hands
+
+pub bar_of-requires-clause-script : goal.bar_of-requires-clause-script
+bar_of-requires-clause-script c = rw c.in-Nothing.ensures.kept c.requires.script
+
+pub bar_of-requires-clause-past : goal.bar_of-requires-clause-past
+bar_of-requires-clause-past c = rw c.in-Nothing.ensures.kept c.requires.past
+
 pub returns-in-Over : goal.returns-in-Over
 returns-in-Over c = (c.requires.free, c.in-Over.ensures.finished)
 
 pub returns-in-Nothing : goal.returns-in-Nothing
-returns-in-Nothing c = ((c.requires.worker.worker, c.requires.free), c.in-Nothing.ensures.unfinished, c.in-Nothing.ensures.none)
+returns-in-Nothing c = (
+  (c.requires.worker.worker, c.requires.free),
+  c.in-Nothing.ensures.unfinished,
+  c.in-Nothing.ensures.none,
+  barred c.args.env.now.script c.args.env.now.history c.requires.plan c.requires.hands.legal c.args.entry.now.seat c.in-Nothing.ensures.none
+      c.args.entry.now.kind c.bar_of.result (rw c.in-Nothing.ensures.kept at c.bar_of.ensures),
+)
 
 pub returns-in-Item : goal.returns-in-Item
 returns-in-Item c = (

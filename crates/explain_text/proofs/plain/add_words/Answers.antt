@@ -10,7 +10,7 @@ pub returns-in-Best-clause-items : goal.returns-in-Best-clause-items
 returns-in-Best-clause-items c = rw (c.in-Best.is, ← c.edge_words.ensures.words) c.add_one-in-Best.ensures.items
 
 pub returns-in-NoSource-clause-items : goal.returns-in-NoSource-clause-items
-returns-in-NoSource-clause-items c = rw c.in-NoSource.is c.add_one-in-NoSource.ensures.items
+returns-in-NoSource-clause-items c = rw (c.in-NoSource.is, ← c.bar_words.ensures.words) c.add_one-in-NoSource.ensures.items
 
 pub returns-in-Finished-clause-items : goal.returns-in-Finished-clause-items
 returns-in-Finished-clause-items c = rw c.in-Finished.is c.add_one-in-Finished.ensures.items

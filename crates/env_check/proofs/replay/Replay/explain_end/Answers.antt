@@ -1,26 +1,14 @@
-use Rattle.std.proofs.Common.{ap, subst, sym, ◌∙◌}
-use Rattle.std.specs.List.{list_all}
-use Rattle.env_check.specs.Causes.{HasInHand}
-use Rattle.env_check.specs.Hands.{AreInHand, is_empty}
-use Rattle.env_check.proofs.Causes.{busy_has_more, busy_is_known, busy_not_free, driver_has_more}
+use Rattle.std.proofs.Common.{ap, arith, sym, ◌∙◌}
+use Rattle.task_base.specs.Plan.{Plan}
+use Rattle.env_check.specs.Hands.{AreInHand}
+use Rattle.env_check.proofs.AtWork.{at_work_told}
 use Rattle.env_check.proofs.replay.Replay.explain_end.Goals as goal
 
-pub returns-in-None-clause-more : goal.returns-in-None-clause-more
-returns-in-None-clause-more c =
-    let are : AreInHand c.args.self c.self.inside.hands.items = rw (← c.self.view_is) c.self.invariant in
-    driver_has_more are (ap (list_all is_empty) (sym c.deref.ensures.value) ∙ c.first_busy.ensures.none c.in-None.is) c.requires.more
-
-pub returns-in-Some-clause-known : goal.returns-in-Some-clause-known
-returns-in-Some-clause-known c =
-    let are : AreInHand c.args.self c.self.inside.hands.items = rw (← c.self.view_is) c.self.invariant in
-    busy_is_known c.in-Some.seat are (subst (λ hands. HasInHand hands c.in-Some.seat) c.deref.ensures.value c.in-Some.ensures.some)
-
-pub returns-in-Some-clause-more : goal.returns-in-Some-clause-more
-returns-in-Some-clause-more c =
-    let are : AreInHand c.args.self c.self.inside.hands.items = rw (← c.self.view_is) c.self.invariant in
-    busy_has_more c.in-Some.seat are (subst (λ hands. HasInHand hands c.in-Some.seat) c.deref.ensures.value c.in-Some.ensures.some)
-
-pub next-requires-in-Some-clause-busy : goal.next-requires-in-Some-clause-busy
-next-requires-in-Some-clause-busy c worker =
-    let are : AreInHand c.args.self c.self.inside.hands.items = rw (← c.self.view_is) c.self.invariant in
-    busy_not_free c.in-Some.seat are (subst (λ hands. HasInHand hands c.in-Some.seat) c.deref.ensures.value c.in-Some.ensures.some)
+pub returns-then-is_finished-clause-cause : goal.returns-then-is_finished-clause-cause
+returns-then-is_finished-clause-cause c =
+    let are : AreInHand c.args.self c.self.inside.hands.items = rw (← c.self.view_is) c.self.invariant in (
+      c.requires.place,
+      rw (← c.self.view_is) (sym c.is_finished.ensures ∙ c.if-is_finished.true),
+      (rw (c.deref.ensures.value, ap (λ (p : Plan). p.workers) (c.script.view_is ∙ c.requires.script)) at c.in_ok-busy.ensures) ∙ at_work_told are,
+      omega (arith, c.len.ensures, c.if-len-gt1.true, c.in_ok-busy.busy.ok.0),
+    )
