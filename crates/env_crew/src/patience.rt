@@ -1,6 +1,6 @@
 use crossbeam_utils::Backoff;
 
-// How many looks that find nothing the driver makes before it may rest. A wait is mostly short, and a sleep costs two wakes.
+// How many looks that find nothing the driver makes before it may rest. A wait is mostly short.
 const LOOKS_BEFORE_REST: u32 = 200;
 
 /// How long the driver goes on looking for what it waits for, before it rests. No clause speaks of it: nothing is claimed of
