@@ -29,7 +29,7 @@ use Rattle.std.proofs.lemmas.List.FromFn.{get_or-map-range_with_len, length-map-
 use Rattle.list_laws.specs.Lists.{keep}
 use Rattle.std.proofs.lemmas.Bool.{cases_lt, false≢true}
 use Rattle.std.specs.Option.{option_map}
-use Rattle.std.specs.Prelude.{filter, is_some, map, nat_lt, option_and_then, replicate, slice_get}
+use Rattle.std.specs.Prelude.{filter, is_some, map, nat_lt, option_and_then, replicate, slice_get, slice_index_or}
 use Rattle.task_base.specs.Plan.{JobPlan, Plan}
 use Rattle.task_base.specs.Runners.{sequence_count}
 use Rattle.task_base.specs.declared.source.TaskSource.{TaskSource}
@@ -99,11 +99,12 @@ lane_there lanes lane best source made = elim (cases_lt lane (length lanes)) [
     none false (Job j) made = omega (arith, made)
 
 -- nothing waits
-hold_at_start : (script : Plan) → IsPoolScript script → HoldWaiting script [] (empty_lanes script)
-hold_at_start script limits = hold_from script [] [] priorities postings held (empty_lanes script)
+hold_at_start : (script : Plan) (held : Held) → held.sequences ≡ replicate (sequence_count script) fresh → IsPoolScript script
+    → HoldWaiting script [] (empty_lanes script)
+hold_at_start script held fresh_all limits = hold_from script [] [] priorities postings held (empty_lanes script)
     (record {
       fits = past_at_start script;
-      lines = lines_at_start script;
+      lines = lines_at_start script held fresh_all;
       postings_are = postings_at_start script;
       priorities_are = priorities_at_start script;
     }) (λ j. refl) (record {
@@ -113,9 +114,6 @@ hold_at_start script limits = hold_from script [] [] priorities postings held (e
   where
     priorities : List Priority
     priorities = map (λ r. r.traits.priority) script.runners
-
-    held : Held
-    held = record { sequences = replicate (sequence_count script) fresh; room = length script.tasks }
 
     postings : List (Option Posting)
     postings = replicate (length script.tasks) None
@@ -132,7 +130,7 @@ hold_at_start script limits = hold_from script [] [] priorities postings held (e
       where
         by : (o : Option ℕ) → option_and_then (λ r. option_map (candidate_by script s r) (rank_by priorities r (sequence_at held s))) o ≡ None
         by None = refl
-        by (Some r) = ap (λ q. option_map (candidate_by script s r) (rank_by priorities r q)) (replicated (sequence_count script) s fresh)
+        by (Some r) = ap (λ q. option_map (candidate_by script s r) (rank_by priorities r q)) (ap (λ ss. slice_index_or ss s fresh) fresh_all ∙ replicated (sequence_count script) s fresh)
     no_candidate (Job j) = no_job_waits script j
 
     no_rank : (lane : ℕ) (best : Bool) (source : TaskSource)
@@ -142,7 +140,7 @@ hold_at_start script limits = hold_from script [] [] priorities postings held (e
 -- a pool made of new parts stands for a history that has not begun
 pub stands_at_start : (script : Plan) (pool : Pool) → IsPoolScript script → pool.runners ≡ table_of script.runners script.background
     → pool.priorities.items ≡ map (λ r. r.traits.priority) script.runners
-    → pool.sequences ≡ record { sequences = replicate (sequence_count script) fresh; room = length script.tasks } → pool.lanes ≡ empty_lanes script
+    → pool.sequences.sequences ≡ replicate (sequence_count script) fresh → pool.sequences.room ≡ length script.tasks → pool.lanes ≡ empty_lanes script
     → pool.representatives.items ≡ filter (is_representative script) (worker_seats script)
     → pool.groups ≡ empty_groups script → pool.delayed ≡ record { held = []; room = length script.tasks }
     → pool.tracker ≡ record { phase = phases.Running; policy = policies.All; block_items = 0; skip_items = 0 }
@@ -150,13 +148,13 @@ pub stands_at_start : (script : Plan) (pool : Pool) → IsPoolScript script → 
     → pool.jobs.items ≡ map fresh_job script.jobs → pool.holders.items ≡ replicate (script.workers + 1) None → pool.moment ≡ 0
     → StandsFor script [] pool
 unfolding posts now_of fold_past
-stands_at_start script pool fits runners priorities sequences lanes representatives groups delayed tracker postings seats jobs holders moment = record {
+stands_at_start script pool fits runners priorities sequences room lanes representatives groups delayed tracker postings seats jobs holders moment = record {
   script_fits = fits;
   past_fits = past_at_start script;
   runners = runners;
   priorities = rw priorities (priorities_at_start script);
-  lines = rw sequences (lines_at_start script);
-  queues = rw lanes (hold_at_start script fits);
+  lines = lines_at_start script pool.sequences sequences;
+  queues = rw lanes (hold_at_start script pool.sequences sequences fits);
   representatives = representatives;
   groups = rw groups (groups_at_start script);
   delayed = delayed;
@@ -166,5 +164,5 @@ stands_at_start script pool fits runners priorities sequences lanes representati
   jobs = rw jobs (jobs_at_start script);
   holders = rw holders (holders_at_start script);
   moment = moment;
-  room = rw (delayed, sequences) (omega arith);
+  room = rw (delayed, room) (omega arith);
 }

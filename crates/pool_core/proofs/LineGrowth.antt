@@ -22,7 +22,7 @@ use Rattle.std.proofs.Common.{Bool, List, None, Some, [], ap, arith, cond, eqb, 
 use Rattle.std.proofs.lemmas.Bool.{and_from, and_left, and_parts, and_right, false_from_ne_true, not-true, not_from_false, or_right, true≢false}
 use Rattle.std.proofs.lemmas.List.{get_or-map, get_or-replicate, length-map, length-replicate}
 use Rattle.std.specs.List.{AllByRecursion}
-use Rattle.std.specs.Prelude.{Contains, filter, not, replicate, ◌&&◌, ◌==◌, ◌||◌}
+use Rattle.std.specs.Prelude.{Contains, filter, not, replicate, slice_index_or, ◌&&◌, ◌==◌, ◌||◌}
 use Rattle.task_base.specs.Plan.{Plan}
 use Rattle.task_base.specs.Runners.{sequence_count, sequence_of}
 use Rattle.task_base.specs.declared.entry.Entry.{Entry}
@@ -46,15 +46,17 @@ use Rattle.task_sequence.specs.Sequences as sequences
 use Rattle.task_traits.specs.declared.phase.Phase.TheVariants as phases
 use Rattle.task_traits.specs.declared.traits.Behaviour.TheVariants as behaviours
 
-pub lines_at_start : (script : Plan)
-    → AreLines script [] (arrivals []) (record { sequences = replicate (sequence_count script) fresh; room = length script.tasks })
+pub lines_at_start : (script : Plan) (held : Held) → held.sequences ≡ replicate (sequence_count script) fresh → AreLines script [] (arrivals []) held
 unfolding arrivals cell_of fold_past running runs_sequence
-lines_at_start script = record {
-  all = length-replicate (sequence_count script) fresh;
-  tasks = λ s there. ap (λ x. x.tasks) (get_or-replicate (sequence_count script) s fresh fresh there);
-  cells = λ s there. ap (λ x. x.cell) (get_or-replicate (sequence_count script) s fresh fresh there) ∙ sym (home s);
+lines_at_start script held fresh_all = record {
+  all = ap length fresh_all ∙ length-replicate (sequence_count script) fresh;
+  tasks = λ s there. ap (λ x. x.tasks) (at s there);
+  cells = λ s there. ap (λ x. x.cell) (at s there) ∙ sym (home s);
 }
   where
+    at : (s : ℕ) → s < sequence_count script → sequence_at held s ≡ fresh
+    at s there = ap (λ ss. slice_index_or ss s fresh) fresh_all ∙ get_or-replicate (sequence_count script) s fresh fresh there
+
     home : (s : ℕ) → cond (runs_sequence script [] s) None (Some (cell_of script [] s)) ≡ Some 0
     home s = ap (λ b. cond b None (Some 0)) (list_any_never (λ seat. false) (all_seats script) (λ seat. refl))
 
@@ -116,9 +118,9 @@ pub lines_at_take : (script : Plan) (past : List Entry) (held : Held) (seat s fo
     → head_of script past s ≡ Some head
     → AreLines script (next past seat (kinds.Take head.posted.task head.posted.home found))
     (arrivals (next past seat (kinds.Take head.posted.task head.posted.home found)))
-    (record { sequences = with_sequence held s (record { tasks = behind_first (sequence_at held s).tasks; cell = None }); room = held.room + 1 })
+    (record held { sequences = with_sequence held s (record { tasks = behind_first (sequence_at held s).tasks; cell = None }); room = held.room + 1 })
 lines_at_take script past held seat s found head fits are known free there is_head =
-    subst (λ rs. AreLines script later rs (record { sequences = with_sequence held s taken; room = held.room + 1 })) (sym (arrivals_same past e refl))
+    subst (λ rs. AreLines script later rs (record held { sequences = with_sequence held s taken; room = held.room + 1 })) (sym (arrivals_same past e refl))
     (lines_with script later (arrivals past) held s taken (held.room + 1) are.all there (here, out)
     (λ t another there_t. (
       are.tasks t there_t ∙ ap (map (waiting_of script)) (sym (left t ∙ unmarked t another)),
@@ -255,9 +257,9 @@ lines_at_end script past held seat left w fits are runs pool =
 pub lines_at_shutdown : (script : Plan) (past : List Entry) (held : Held) (seat room : ℕ) → AreLines script past (arrivals past) held
     → phase_of past ≡ phases.Running
     → AreLines script (after_shutdown past seat) (arrivals (after_shutdown past seat))
-    (record { sequences = map (purged phases.Started) held.sequences; room = room })
+    (record held { sequences = map (purged phases.Started) held.sequences; room = room })
 lines_at_shutdown script past held seat room are running =
-    subst (λ rs. AreLines script later rs (record { sequences = map (purged phases.Started) held.sequences; room = room }))
+    subst (λ rs. AreLines script later rs (record held { sequences = map (purged phases.Started) held.sequences; room = room }))
     (sym (arrivals_same past e refl)) (record {
       all = length-map held.sequences (purged phases.Started) ∙ are.all;
       tasks = λ s there. ap (λ x. x.tasks) (at s there) ∙ ap (filter (may_stay phases.Started)) (are.tasks s there)

@@ -138,7 +138,7 @@ Shows script past arrived sequence s = (sequence.tasks ≡ map (waiting_of scrip
 pub lines_with : (script : Plan) (past : List Entry) (arrived : List Ready) (held : Held) (q : ℕ) (sequence : sequences.Sequence) (room : ℕ)
     → length held.sequences ≡ sequence_count script → q < sequence_count script → Shows script past arrived sequence q
     → ((s : ℕ) → (q == s) ≡ false → s < sequence_count script → Shows script past arrived (sequence_at held s) s)
-    → AreLines script past arrived (record { sequences = with_sequence held q sequence; room = room })
+    → AreLines script past arrived (record held { sequences = with_sequence held q sequence; room = room })
 lines_with script past arrived held q sequence room all there here others = record {
   all = length-set held.sequences q sequence ∙ all;
   tasks = λ s known. (shows s known).0;
@@ -146,7 +146,7 @@ lines_with script past arrived held q sequence room all there here others = reco
 }
   where
     later : Held
-    later = record { sequences = with_sequence held q sequence; room = room }
+    later = record held { sequences = with_sequence held q sequence; room = room }
 
     by : (s : ℕ) (b : Bool) → (q == s) ≡ b → s < sequence_count script → Shows script past arrived (sequence_at later s) s
     by s true is known = subst (λ t. Shows script past arrived (sequence_at later t) t) (eqb-true q s is)

@@ -71,7 +71,7 @@ purged_empty sequence none = ap (λ tasks. record sequence { tasks = filter (may
 -- the queues hold what waits once shutdown has started, when each task's sequence, and then each job, has been given its place again
 hold_at_shutdown : (script : Plan) (past : List Entry) (pool : Pool) (seat room : ℕ) → StandsFor script past pool → phase_of past ≡ phases.Running
     → HoldWaiting script (after_shutdown past seat) (jobs_placed phases.Started pool.jobs.items (placed script pool.priorities.items None pool.postings.items
-    (record { sequences = map (purged phases.Started) pool.sequences.sequences; room = room }) pool.lanes (length pool.postings.items))
+    (record pool.sequences { sequences = map (purged phases.Started) pool.sequences.sequences; room = room }) pool.lanes (length pool.postings.items))
     (length pool.jobs.items))
 hold_at_shutdown script past pool seat room stands phase_is =
     rw stands.jobs.all (hold_all_jobs script past later phases.Started pool.jobs.items _ (standing script past pool.priorities.items pool.postings.items left)
@@ -85,7 +85,7 @@ hold_at_shutdown script past pool seat room stands phase_is =
     }))) (λ j. refl) job_rank)
   where
     left : Held
-    left = record { sequences = map (purged phases.Started) pool.sequences.sequences; room = room }
+    left = record pool.sequences { sequences = map (purged phases.Started) pool.sequences.sequences; room = room }
 
     e : Entry
     e = record { seat = seat; kind = kinds.Shutdown }
@@ -125,7 +125,7 @@ hold_at_shutdown script past pool seat room stands phase_is =
 pub stands_at_shutdown : (script : Plan) (past : List Entry) (pool : Pool) (seat removed : ℕ) → IsInPhase script past pool phases.Running
     → StandsFor script (after_shutdown past seat) (jobs_refreshed_below (refreshed_below (record pool {
       tracker = record pool.tracker { phase = phases.Started };
-      sequences = record { sequences = map (purged phases.Started) pool.sequences.sequences; room = pool.sequences.room + removed };
+      sequences = record pool.sequences { sequences = map (purged phases.Started) pool.sequences.sequences; room = pool.sequences.room + removed };
     }) None (length pool.postings.items)) (length pool.jobs.items))
 stands_at_shutdown script past pool seat removed in_phase = let stands = in_phase.stands in let phase_is = in_phase.phase_is in record {
   script_fits = stands.script_fits;

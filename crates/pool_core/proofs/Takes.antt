@@ -125,7 +125,7 @@ nothing_chosen script past pool seat can best = by (best_of script past seat) (b
 
 -- the sequences without the first task of one, whose cell is out
 abbrev pub taken_out : Held → ℕ → Held
-taken_out held s = record { sequences = with_sequence held s (record { tasks = behind_first (sequence_at held s).tasks; cell = None }); room = held.room + 1 }
+taken_out held s = record held { sequences = with_sequence held s (record { tasks = behind_first (sequence_at held s).tasks; cell = None }); room = held.room + 1 }
 
 -- the groups with work of a priority that a seat has started on
 abbrev pub working : Plan → Groups → ℕ → Priority → Groups

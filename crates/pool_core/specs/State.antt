@@ -81,7 +81,7 @@ refreshed pool s runner = given_rank pool s runner (rank_by pool.priorities.item
 
 -- the sequences with one more task at the end of a list
 abbrev pub pushed : Held → ℕ → Waiting → Held
-pushed held s waiting = record {
+pushed held s waiting = record held {
   sequences = with_sequence held s (record (sequence_at held s) { tasks = (sequence_at held s).tasks ++ waiting ∷ [] });
   room = held.room - 1;
 }

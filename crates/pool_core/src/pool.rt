@@ -380,7 +380,8 @@ fn fresh_parts(
     requires fits { IsPoolScript script.now }
     requires tasks { tasks ≡ length script.now.tasks }
     ensures runners { IfOk result (λ parts. parts.0 ≡ table_of script.now.runners script.now.background) }
-    ensures sequences { IfOk result (λ parts. parts.1 ≡ record { sequences = replicate (length script.now.runners + tasks) fresh; room = tasks }) }
+    ensures sequences { IfOk result (λ parts. parts.1.sequences ≡ replicate (length script.now.runners + tasks) fresh) }
+    ensures room { IfOk result (λ parts. parts.1.room ≡ tasks) }
     ensures lanes { IfOk result (λ parts. parts.2 ≡ empty_lanes script.now) }
     ensures delayed { IfOk result (λ parts. parts.3 ≡ record { held = []; room = tasks }) }
 {

@@ -69,15 +69,11 @@ fresh_lines_say : (count : ℕ) → sequences_of [] (replicate count fresh_line)
 fresh_lines_say zero = refl
 fresh_lines_say (suc count) = ap (λ ss. fresh ∷ ss) (fresh_lines_say count)
 
--- what stands in the nodes and lines
-abbrev held_of : List (Option Node) → List Line → ℕ → Held
-held_of slots lines most = record { sequences = sequences_of slots lines; room = most - count_by is_some slots }
-
 -- without a node, and with fresh lines, the sequences are fresh
-pub fresh_view : (slots : List (Option Node)) (lines : List Line) (count room : ℕ) → slots ≡ [] → lines ≡ replicate count fresh_line
-    → held_of slots lines room ≡ record { sequences = replicate count fresh; room = room }
-fresh_view slots lines count room none all =
-    ap (λ s. held_of s lines room) none
-    ∙ ap (λ l. held_of [] l room) all
-    ∙ ap (λ ss. record { sequences = ss; room = room - 0 }) (fresh_lines_say count)
-    ∙ ap (λ n. record { sequences = replicate count fresh; room = n }) (sub-zero room)
+pub fresh_view : (slots : List (Option Node)) (lines : List Line) (count : ℕ) → slots ≡ [] → lines ≡ replicate count fresh_line
+    → sequences_of slots lines ≡ replicate count fresh
+fresh_view slots lines count none all = ap (λ s. sequences_of s lines) none ∙ ap (λ l. sequences_of [] l) all ∙ fresh_lines_say count
+
+-- without a node all room is left
+pub fresh_room : (slots : List (Option Node)) (room : ℕ) → slots ≡ [] → room - count_by is_some slots ≡ room
+fresh_room slots room none = ap (λ s. room - count_by is_some s) none ∙ sub-zero room

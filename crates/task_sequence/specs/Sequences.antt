@@ -17,10 +17,11 @@ pub record Sequence : Type 0 where
   pub tasks : List Waiting
   pub cell : Option ℕ
 
--- the sequences by their number, and how many more tasks there is room for
+-- the sequences by their number, how many more tasks there is room for, and for how many tasks in all memory is taken
 pub record Held : Type 0 where
   pub sequences : List Sequence
   pub room : ℕ
+  pub capacity : ℕ
 
 -- no tasks, and a cell at home that holds 0
 abbrev pub fresh : Sequence

@@ -21,8 +21,6 @@ pub struct Sequences {
     lines: Vec<Line>,
     /// How many tasks may be held at once.
     most: u32,
-    /// How many tasks the memory of the nodes is for, which no call changes.
-    capacity: usize,
 }
 
 impl Model for Sequences {
@@ -34,25 +32,24 @@ impl Model for Sequences {
 
     ghost use Rattle.task_sequence.specs.Lines.{IsWhole, sequences_of};
 
-    ghost view = { λ s. record { sequences = sequences_of s.nodes.slots s.lines.items; room = s.most - slab_len s.nodes } };
+    ghost view = { λ s. record { sequences = sequences_of s.nodes.slots s.lines.items; room = s.most - slab_len s.nodes; capacity = s.nodes.capacity } };
 
-    ghost invariant = { λ s. IsWhole s.nodes.slots s.lines.items (slab_len s.nodes) × (slab_len s.nodes ≤ s.most) × (s.most ≤ s.capacity)
-        × (s.nodes.capacity ≡ s.capacity) };
+    ghost invariant = { λ s. IsWhole s.nodes.slots s.lines.items (slab_len s.nodes) × (slab_len s.nodes ≤ s.most)
+        × (s.most ≤ s.nodes.capacity) };
 }
 
 impl Sequences {
     /// Sequences without tasks, whose cells hold 0, with room for so many tasks in all. The error is want of memory.
     pub fn new(alloc: Global, sequences: u32, tasks: u32) -> Result<Sequences, AllocError>
-        ensures { IfOk result (λ s. s ≡ record { sequences = replicate sequences fresh; room = tasks }) }
+        ensures sequences { IfOk result (λ s. s.sequences ≡ replicate sequences fresh) }
+        ensures room { IfOk result (λ s. s.room ≡ tasks) }
     {
         let nodes = Slab::with_capacity(alloc, tasks as usize)?;
         let lines = fresh_lines(alloc, sequences)?;
-        let capacity = nodes.capacity();
         Ok(Sequences {
             nodes,
             lines,
             most: tasks,
-            capacity,
         })
     }
 
@@ -61,7 +58,7 @@ impl Sequences {
         requires there { seq < length self.old.sequences }
         requires room { 0 < self.old.room }
         requires above { All (λ w. key_below w.key key ≡ true) (sequence_at self.old seq).tasks }
-        ensures { let before = sequence_at self.old seq in self.new ≡ record {
+        ensures { let before = sequence_at self.old seq in self.new ≡ record self.old {
           sequences = with_sequence self.old seq (record before {
             tasks = before.tasks ++ (record { task = task; key = key; effective = effective }) ∷ [];
           });
@@ -106,7 +103,7 @@ impl Sequences {
         requires home { IsSome (sequence_at self.old seq).cell }
         ensures given { let before = sequence_at self.old seq in result ≡ given_of before.tasks before.cell }
         ensures none { IsNone result ↔ ((sequence_at self.old seq).tasks ≡ []) }
-        ensures taken { OnSome result (self.new ≡ record {
+        ensures taken { OnSome result (self.new ≡ record self.old {
           sequences = with_sequence self.old seq (record { tasks = behind_first (sequence_at self.old seq).tasks; cell = None });
           room = self.old.room + 1;
         }) }
@@ -129,7 +126,7 @@ impl Sequences {
     /// Removes the tasks that the phase forbids to start, and answers how many these were. The others keep their order.
     pub fn purge(&mut self, phase: Phase) -> u32
         ensures removed { result ≡ sum_by (forbidden_in phase) self.old.sequences }
-        ensures left { self.new ≡ record {
+        ensures left { self.new ≡ record self.old {
           sequences = map (purged phase) self.old.sequences;
           room = self.old.room + result;
         } }
