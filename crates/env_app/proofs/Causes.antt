@@ -8,7 +8,9 @@ use Rattle.command_line.specs.declared.words.Command.{Command}
 use Rattle.command_line.specs.declared.words.Command.TheVariants.{Run, Check, Explain, Reply, Trace, Nest, Generate, Bench}
 use Rattle.command_line.specs.CommandLine.{IsJudge, TakesInput, WritesVerdict, takes_prefix}
 use Rattle.env_app.specs.Failures.{failure_status}
-use Rattle.env_app.specs.Outcome.{Ends, Does, EndsIn, HasCause, IsDone, IsReadToEnd, IsRefused, IsSteady, IsWithin, IsWritten, OfBytes, OfTaken, TookAll, TookMore, TookWithin, refusal_of}
+use Rattle.app_streams.specs.Ends.{Ends, IsSteady}
+use Rattle.app_streams.specs.Taken.{IsReadToEnd, IsWithin, OfBytes, OfTaken, TookAll, TookMore, TookWithin}
+use Rattle.env_app.specs.Outcome.{Does, EndsIn, HasCause, IsDone, IsRefused, IsWritten, refusal_of}
 use Rattle.env_app.proofs.Verdicts.{SaysLegal, check_says, explain_says, trace_says}
 
 -- ---- what can not be

@@ -1,4 +1,3 @@
-pub mod Passed
 pub mod Verdicts
 pub mod Explained
 pub mod Outcomes

@@ -1,61 +1,20 @@
 -- What the answers of the parts of a command say together.
-use Rattle.std.proofs.Common.{◌≡◌, ◌≢◌, ◌≤◌, ◌+◌, ℕ, Bool, true, false, List, [], ◌++◌, length, take, codes, Option, Some, None, refl, sym, ap, subst, ◌∙◌, inl, inr, append-nil, arith}
-use Rattle.std.specs.Prelude.{◌⊎◌, alloc_error, IfErr, IfSome, OnOk, OnErr, Result, Ok, Err}
-use Rattle.std.proofs.lemmas.List.{take_all, length-append, length-take}
+use Rattle.std.proofs.Common.{◌≡◌, ◌+◌, ℕ, false, List, ◌++◌, codes, Option, Some, refl, sym, ap, inl, inr}
+use Rattle.std.specs.Prelude.{Result, Ok, Err}
 use Rattle.task_base.specs.declared.fault.Fault.{Fault}
 use Rattle.task_base.specs.declared.fault.Fault.TheVariants.{NotLegal, BadWords, BadScript, ReadFault, WriteFault, NoMemory, TooLarge}
-use Rattle.task_base.specs.Plan.{Plan}
-use Rattle.task_base.specs.declared.entry.Entry.{Entry}
-use Rattle.hist_model.specs.Legal.{IsLegal}
-use Rattle.hist_model.specs.Script.{IsWhole}
-use Rattle.script_model.specs.Grammar.{Reads, first_fault}
 use Rattle.command_line.specs.declared.words.Command.{Command}
-use Rattle.command_line.specs.declared.words.Command.TheVariants.{Run, Check, Explain, Reply, Trace, Nest}
 use Rattle.env_app.specs.declared.failure.Failure.{Failure}
 use Rattle.env_app.specs.declared.failure.Failure.TheVariants.{Common, NotTraced, BadReplies, BadNest}
 use Rattle.env_app.specs.Failures.{is_verdict, failure_note, failure_status, note_line}
 use Rattle.command_line.specs.CommandLine.{TakesInput, WritesVerdict}
 use Rattle.env_app.specs.Judged.{verdict_status}
-use Rattle.env_app.specs.Outcome.{Ends, Does, EndsIn, Failed, HasSaid, IsCutOff, IsEnd, IsFailureOf, IsOfBytes, IsReadToEnd, IsVerdictOf, IsWritten, RunsTo, TookAll, WroteAll, WroteFront, in_common}
-use Rattle.env_crew.specs.Driving.{HasMomentsOf}
-use Rattle.env_io.specs.Bytes.{Gives, Gains}
-use Rattle.env_io.proofs.Bytes.{Gives-trans}
-
--- a front of a piece that came behind other bytes makes them so much longer
-pub gives_more : (a b c : Option (List ℕ)) (before piece : List ℕ) (n : ℕ) → n ≤ length piece → Gives a before b → Gives b (take n piece) c
-    → (taken : List ℕ) × Gives a taken c × (length taken ≡ length before + n)
-gives_more a b c before piece n within first second = (
-  before ++ take n piece,
-  Gives-trans a b c before (take n piece) first second,
-  omega (arith, length-append before (take n piece), length-take n piece),
-)
-
--- a whole text is a front of it
-pub wrote_front : {E : Type 0} (result : Result (Unit {0}) E) (before after : Option (List ℕ)) (text : List ℕ) → OnOk result (Gains before text after)
-    → OnErr result ((n : ℕ) × Gains before (take n text) after) → WroteFront before after text
-wrote_front (Ok done) before after text whole part = (length text, rw (take_all (length text) text (omega arith)) whole)
-wrote_front (Err e) before after text whole part = part
-
--- what was put was put whole, or else this holds
-pub put_or : {E P R : Type 0} (result : Result (Unit {0}) E) → OnOk result P → OnErr result R → R ⊎ P
-put_or (Ok done) whole failed = inr whole
-put_or (Err e) whole failed = inl failed
+use Rattle.app_streams.specs.Ends.{Ends}
+use Rattle.app_streams.specs.Taken.{IsReadToEnd, TookAll}
+use Rattle.app_streams.proofs.Writers.{IsPut}
+use Rattle.env_app.specs.Outcome.{Does, EndsIn, HasSaid, IsCutOff, IsEnd, IsFailureOf, IsOfBytes, IsVerdictOf, IsWritten, RunsTo, in_common}
 
 -- ---- the ends of a command
-
--- what a writer says of a text: how far it was written, and why no further
-pub record IsPut (sink : Ends) (text : List ℕ) (result : Result (Unit {0}) Fault) : Type 0 where
-  pub all : OnOk result (WroteAll sink.before sink.after text)
-  pub cut : result ≡ Err WriteFault → WroteFront sink.before sink.after text
-  pub failed : result ≡ Err WriteFault → Failed sink
-  pub faults : IfErr result (λ fault. (fault ≡ WriteFault) ⊎ (fault ≡ NoMemory alloc_error))
-
--- of a writer that takes no memory
-pub put_text : (sink : Ends) (text : List ℕ) (result : Result (Unit {0}) Fault) → OnOk result (WroteAll sink.before sink.after text)
-    → (result ≡ Err WriteFault → WroteFront sink.before sink.after text) → (result ≡ Err WriteFault → Failed sink) → IfErr result (λ fault. fault ≡ WriteFault)
-    → IsPut sink text result
-put_text sink text (Ok done) all cut failed faults = record { all = all; cut = cut; failed = failed; faults = tt }
-put_text sink text (Err fault) all cut failed faults = record { all = all; cut = cut; failed = failed; faults = inl faults }
 
 -- where the text that the command writes was not written to its end, this ends it
 pub ends_cut : (command : Command) (told : ℕ → Option ℕ) (source sink : Ends) (status : ℕ) (text : List ℕ) (fault : Fault)
@@ -146,8 +105,3 @@ is_end command told source sink failure status runs is = let of = is_of failure 
     is_of (NotTraced line) runs = (runs.0, runs.3)
     is_of (BadReplies line reason) runs = runs
     is_of (BadNest line reason) runs = runs
-
--- nothing was added to what is as it was
-pub gains_nothing : (held : Option (List ℕ)) → Gains held [] held
-gains_nothing None = λ there. refl
-gains_nothing (Some bytes) = λ there. ap Some (sym (append-nil bytes))

@@ -17,13 +17,14 @@ use Rattle.run_log.proofs.LogLines.{bad_is_no_log}
 use Rattle.env_check.specs.declared.verdict.Verdict.{Verdict}
 use Rattle.env_check.specs.declared.verdict.Verdict.TheVariants.{Legal, Illegal}
 use Rattle.env_check.specs.Verdicts.{prefix_verdict_at, prefix_verdict_of, verdict_at, verdict_of}
-use Rattle.env_app.specs.Input.{part_behind, script_part}
+use Rattle.app_streams.specs.Parts.{part_behind, script_part}
 use Rattle.env_app.specs.Explained.{HasExplained, IsSaidAt}
 use Rattle.task_base.specs.declared.rows.Rows.{Rows}
 use Rattle.env_app.specs.declared.judged.Judged.{Judged}
 use Rattle.env_app.specs.declared.judged.Judged.TheVariants.{Right, Wrong}
 use Rattle.env_app.specs.Judged.{HasLegalLog, HasChecked, HasTraced, IsFoundAt, IsFoundIn, IsJudged, IsLegalLog, IsTraced, line_in, verdict_on, verdict_status}
-use Rattle.env_app.specs.Outcome.{Ends, IsWritten}
+use Rattle.app_streams.specs.Ends.{Ends}
+use Rattle.env_app.specs.Outcome.{IsWritten}
 
 -- ---- legal and whole
 

@@ -13,7 +13,7 @@ use Rattle.env_check.specs.Causes.{IsExplained, NamesAllowed, verdict_told}
 use Rattle.env_check.specs.Verdicts.{verdict_of}
 use Rattle.explain_text.specs.Json.{bad_line_json, told_json}
 use Rattle.explain_text.specs.Plain.{bad_line_text, told_text}
-use Rattle.env_app.specs.Input.{script_part, part_behind}
+use Rattle.app_streams.specs.Parts.{script_part, part_behind}
 use Rattle.env_app.specs.Judged.{IsTextOf, line_in, verdict_status, verdict_text}
 
 -- the place that an explanation is of, if the log is not a legal, whole one

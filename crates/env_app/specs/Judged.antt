@@ -16,7 +16,7 @@ use Rattle.trace_json.specs.Trace.{trace_of}
 use Rattle.trace_json.specs.Text.{trace_text}
 use Rattle.env_app.specs.declared.judged.Judged.{Judged}
 use Rattle.env_app.specs.declared.judged.Judged.TheVariants.{Right, Wrong}
-use Rattle.env_app.specs.Input.{script_part, part_behind}
+use Rattle.app_streams.specs.Parts.{script_part, part_behind}
 
 -- the text is that of this log, in one of the two versions
 pub record IsTextOf (text : List ℕ) (log : List Entry) : Type 0 where

@@ -1,5 +1,4 @@
 pub mod Failures
-pub mod Input
 pub mod Judged
 pub mod Explained
 pub mod Totals

@@ -1,17 +1,16 @@
 -- What a command did, by what it read and what it wrote.
-use Rattle.std.specs.Prelude.{◌≡◌, ◌≢◌, ◌⊎◌, ◌<◌, ◌≤◌, ℕ, Bool, false, if◌then◌else◌, List, [], ◌++◌, All, length, take, codes, Option, Some, None, IfSome, IsSome, option_map, Result, Ok, Err}
+use Rattle.std.specs.Prelude.{◌≡◌, ◌≢◌, ◌⊎◌, ◌<◌, ◌≤◌, ℕ, Bool, false, List, All, length, Option, Some, None, IsSome, option_map, Result, Ok, Err}
 use Rattle.task_base.specs.Plan.{Plan}
 use Rattle.task_base.specs.declared.limits.TheConstants.{MOST_BYTES}
 use Rattle.task_base.specs.declared.entry.Entry.{Entry}
 use Rattle.task_base.specs.declared.fault.Fault.{Fault}
 use Rattle.task_base.specs.declared.fault.Fault.TheVariants.{NotLegal, BadWords, BadScript, ReadFault, WriteFault, NoMemory, TooLarge}
-use Rattle.env_io.specs.Bytes.{Gives, Gains, Rose}
 use Rattle.env_io.specs.Readings.{no_step, step_readings}
 use Rattle.script_model.specs.Canonical.{canonical}
 use Rattle.script_model.specs.Laws.Sound.{IsSound}
 use Rattle.script_model.specs.Grammar.{Reads, first_fault, script_read}
 use Rattle.log_model.specs.Fits.{Fits}
-use Rattle.log_model.specs.LogText.{log_json, log_text}
+use Rattle.log_model.specs.LogText.{log_text}
 use Rattle.hist_model.specs.Legal.{IsLegal}
 use Rattle.hist_model.specs.Script.{IsWhole}
 use Rattle.env_crew.specs.Driving.{HasMomentsOf}
@@ -24,20 +23,19 @@ use Rattle.nested_loop.specs.Nest.{IsLegalNest}
 use Rattle.nested_loop.specs.declared.event.Event.{Event}
 use Rattle.command_line.specs.declared.words.Command.{Command}
 use Rattle.command_line.specs.declared.words.Command.TheVariants.{Run, Check, Explain, Reply, Trace, Nest, Generate, Bench}
+use Rattle.app_streams.specs.Parts.{script_part, part_behind}
+use Rattle.app_streams.specs.Ends.{Ends, Failed, IsSteady}
+use Rattle.app_streams.specs.Taken.{IsReadToEnd, OfBytes, IsWithin, TookMore, TookWithin, OfTaken}
+use Rattle.app_streams.specs.Written.{WroteAll, WroteFront, output_of}
 use Rattle.env_app.specs.declared.failure.Failure.{Failure}
 use Rattle.env_app.specs.declared.failure.Failure.TheVariants.{Common, NotTraced, BadReplies, BadNest}
 use Rattle.env_app.specs.Failures.{failure_status}
 use Rattle.command_line.specs.CommandLine.{IsJudge, TakesInput, WritesVerdict}
-use Rattle.env_app.specs.Input.{script_part, part_behind}
 use Rattle.env_app.specs.Judged.{HasChecked, HasTraced, IsFoundIn}
 use Rattle.env_app.specs.Explained.{HasExplained}
 use Rattle.env_app.specs.Totals.{summary_text}
 use Rattle.run_summary.specs.Summary.{generated_totals}
 use Rattle.task_script.specs.Generated.{generated}
-
--- what a run writes of its log: its text, or its JSON form and a line feed
-abbrev pub output_of : Bool → List Entry → List ℕ
-output_of json log = if json then log_json log ++ codes "\n" else log_text log
 
 -- the readings of a run: those of a step, where there is one, and else what the clock tells
 abbrev pub readings_of : Option ℕ → (ℕ → Option ℕ) → ℕ → Option ℕ
@@ -78,84 +76,6 @@ pub record HasNested (bytes : List ℕ) (Written : List ℕ → Type 0) : Type 0
   pub reads : ReadsNest bytes nest
   pub legal : IsLegalNest nest log
   pub written : Written (nest_text log)
-
--- the whole text was added to what the sink holds
-abbrev pub WroteAll : Option (List ℕ) → Option (List ℕ) → List ℕ → Type 0
-WroteAll before after text = Gains before text after
-
--- a front of the text was added to what the sink holds
-abbrev pub WroteFront : Option (List ℕ) → Option (List ℕ) → List ℕ → Type 0
-WroteFront before after text = (n : ℕ) × Gains before (take n text) after
-
--- the bytes that one side of the outside tells and its count of failures, before a call and after it
-pub record Ends : Type 0 where
-  pub before : Option (List ℕ)
-  pub after : Option (List ℕ)
-  pub faults_before : ℕ
-  pub faults_after : ℕ
-
-abbrev pub ends : Option (List ℕ) → Option (List ℕ) → ℕ → ℕ → Ends
-ends before after faults_before faults_after = record { before = before; after = after; faults_before = faults_before; faults_after = faults_after }
-
--- the source was read to its end
-abbrev pub IsReadToEnd : Ends → Type 0
-IsReadToEnd source = IfSome source.after (λ rest. rest ≡ [])
-
--- this holds of the bytes that came, where the source tells them
-abbrev pub OfBytes : Ends → (List ℕ → Type 0) → Type 0
-OfBytes source P = (bytes : List ℕ) → source.before ≡ Some bytes → P bytes
-
--- the bytes are within the limit of the input
-abbrev pub IsWithin : List ℕ → Type 0
-IsWithin bytes = length bytes ≤ MOST_BYTES
-
--- more bytes were taken than the limit
-abbrev pub TookMore : Ends → Type 0
-TookMore source = (taken : List ℕ) × Gives source.before taken source.after × (MOST_BYTES < length taken)
-
--- no more bytes were taken than the limit
-abbrev pub TookWithin : Ends → Type 0
-TookWithin source = (taken : List ℕ) × Gives source.before taken source.after × (length taken ≤ MOST_BYTES)
-
--- the side failed in the call
-abbrev pub Failed : Ends → Type 0
-Failed side = Rose side.faults_before side.faults_after
-
--- the side did not fail once in the call
-abbrev pub IsSteady : Ends → Type 0
-IsSteady side = side.faults_after ≡ side.faults_before
-
--- these bytes were taken from a source to its end, within the limit: those that it told, where it tells them
-pub record TookAll (source : Ends) (bytes : List ℕ) : Type 0 where
-  pub end : IsReadToEnd source
-  pub within : IsWithin bytes
-  pub all : OfBytes source (λ told. bytes ≡ told)
-
--- and this holds of those bytes
-pub record OfTaken (source : Ends) (P : List ℕ → Type 0) : Type 0 where
-  pub bytes : List ℕ
-  pub took : TookAll source bytes
-  pub holds : P bytes
-
--- the fault is why a source could not be read to its end
-abbrev pub IsNotTaken : Ends → Fault → Type 0
-IsNotTaken source ReadFault = Failed source
-IsNotTaken source TooLarge = OfBytes source (λ bytes. MOST_BYTES < length bytes)
-IsNotTaken source (NoMemory error) = Unit {0}
-IsNotTaken source (NotLegal line) = ⊥
-IsNotTaken source BadWords = ⊥
-IsNotTaken source (BadScript line reason) = ⊥
-IsNotTaken source WriteFault = ⊥
-
--- the fault is why bytes gave no script
-abbrev pub IsNoScript : List ℕ → Fault → Type 0
-IsNoScript bytes (BadScript line reason) = first_fault bytes ≡ Some (line, reason)
-IsNoScript bytes (NoMemory error) = Unit {0}
-IsNoScript bytes (NotLegal line) = ⊥
-IsNoScript bytes BadWords = ⊥
-IsNoScript bytes ReadFault = ⊥
-IsNoScript bytes WriteFault = ⊥
-IsNoScript bytes TooLarge = ⊥
 
 -- the failure is why replies gave no script
 abbrev pub IsNotElaborated : Plan → List ℕ → Failure → Type 0

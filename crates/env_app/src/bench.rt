@@ -2,12 +2,13 @@
 ghost use Rattle.std.specs.Prelude.{◌≡◌, ◌≢◌, ◌⊎◌, ◌+◌, ◌≤◌, ◌++◌, ℕ, Option, Some, Err, alloc_error, IfOk, IfErr, length};
 ghost use Rattle.run_summary.specs.Summary.{generated_totals};
 ghost use Rattle.command_line.specs.declared.words.Command.TheVariants.{Bench};
-ghost use Rattle.env_app.specs.Outcome.{Ends, ends, RunsTo};
+ghost use Rattle.app_streams.specs.Ends.{Ends, ends};
+ghost use Rattle.env_app.specs.Outcome.{RunsTo};
 ghost use Rattle.env_app.specs.Totals.{summary_text, total_line};
 ghost use Rattle.command_line.specs.declared.words.TheConstants.{MOST_SIZE};
 
 use crate::runs::log_of_run;
-use crate::written::write_text;
+use app_streams::write_text;
 use env_io::{Gate, Sink, StepClock};
 use line_text::{Line, add, add_number};
 use run_summary::{Cells, Summary, runs_of_generated_scripts_add_up, summary};

@@ -5,12 +5,12 @@ ghost use Rattle.task_base.specs.Fault.{status_of};
 ghost use Rattle.script_model.specs.Laws.Sound.{IsSound};
 ghost use Rattle.env_app.specs.Judged.{IsFoundAt, verdict_text};
 ghost use Rattle.command_line.specs.declared.words.Command.TheVariants.{Check};
-ghost use Rattle.env_app.specs.Outcome.{ends, HasSaid, RunsTo, TookMore, TookWithin};
+ghost use Rattle.app_streams.specs.Ends.{ends};
+ghost use Rattle.app_streams.specs.Taken.{TookMore, TookWithin};
+ghost use Rattle.env_app.specs.Outcome.{HasSaid, RunsTo};
 
 use crate::judged::{Judged, judge_log};
-use crate::load::{script_of, take_all};
-use crate::parts::parts_of;
-use crate::written::write_text;
+use app_streams::{parts_of, script_of, take_all, write_text};
 use env_io::{Sink, Source};
 use line_text::{Line, add, add_decimal};
 use std::alloc::{AllocError, Global};

@@ -7,11 +7,12 @@ ghost use Rattle.run_log.specs.TextLines.{IsBadLine, text_lines};
 ghost use Rattle.env_app.specs.Explained.{IsMeantBy, IsSaidAt, IsSaidOfBad, place_told, said_of};
 ghost use Rattle.env_app.specs.Judged.{verdict_text};
 ghost use Rattle.command_line.specs.declared.words.Command.TheVariants.{Explain};
-ghost use Rattle.env_app.specs.Outcome.{ends, RunsTo, TookMore, TookWithin};
+ghost use Rattle.app_streams.specs.Ends.{ends};
+ghost use Rattle.app_streams.specs.Taken.{TookMore, TookWithin};
+ghost use Rattle.env_app.specs.Outcome.{RunsTo};
 
 use crate::check::{verdict_text, write_said};
-use crate::load::{script_of, take_all};
-use crate::parts::parts_of;
+use app_streams::{parts_of, script_of, take_all};
 use env_check::{Explanation, explain_log};
 use env_io::{Sink, Source};
 use explain_text::{bad_line_json, bad_line_text, told_json, told_text};

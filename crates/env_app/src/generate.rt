@@ -1,10 +1,11 @@
 //! The mode `gen`.
 ghost use Rattle.std.specs.Prelude.{◌≡◌, ◌≢◌, ◌⊎◌, ◌≤◌, ℕ, Option, Some, Err, alloc_error, IfErr};
 ghost use Rattle.command_line.specs.declared.words.Command.TheVariants.{Generate};
-ghost use Rattle.env_app.specs.Outcome.{Ends, ends, RunsTo};
+ghost use Rattle.app_streams.specs.Ends.{Ends, ends};
+ghost use Rattle.env_app.specs.Outcome.{RunsTo};
 ghost use Rattle.command_line.specs.declared.words.TheConstants.{MOST_SIZE};
 
-use crate::written::write_plan;
+use app_streams::write_plan;
 use env_io::Sink;
 use std::alloc::Global;
 use task_base::Fault;

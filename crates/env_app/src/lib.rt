@@ -11,17 +11,13 @@ mod check;
 mod explain;
 mod failure;
 mod generate;
-mod input;
 mod judged;
-mod load;
 mod nests;
 mod notes;
-mod parts;
 mod replies;
 mod run;
 mod runs;
 mod trace;
-mod written;
 
 pub use failure::Failure;
 pub use notes::tell;

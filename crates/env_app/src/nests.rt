@@ -5,11 +5,12 @@ ghost use Rattle.nested_loop.specs.NestGrammar.{ReadsNest};
 ghost use Rattle.nested_loop.specs.Sound.{IsSoundNest};
 ghost use Rattle.env_app.specs.Failures.{failure_status};
 ghost use Rattle.command_line.specs.declared.words.Command.TheVariants as commands;
-ghost use Rattle.env_app.specs.Outcome.{ends, EndsIn, IsNoNest, TookMore, TookWithin};
+ghost use Rattle.app_streams.specs.Ends.{ends};
+ghost use Rattle.app_streams.specs.Taken.{TookMore, TookWithin};
+ghost use Rattle.env_app.specs.Outcome.{EndsIn, IsNoNest};
 
 use crate::failure::Failure;
-use crate::load::take_all;
-use crate::written::write_nest_log;
+use app_streams::{take_all, write_nest_log};
 use env_io::{Sink, Source};
 use nested_loop::{Nest, NestFault, read_nest, run_nest};
 use std::alloc::Global;

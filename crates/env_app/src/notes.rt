@@ -1,7 +1,7 @@
 ghost use Rattle.std.specs.Prelude.{◌≡◌, ◌⊎◌, true};
 ghost use Rattle.env_io.specs.Bytes.{Gains, Rose};
 ghost use Rattle.env_app.specs.Failures.{is_verdict, note_line};
-ghost use Rattle.env_app.specs.Outcome.{WroteFront};
+ghost use Rattle.app_streams.specs.Written.{WroteFront};
 
 use crate::failure::Failure;
 use env_io::{Sink, put_all};

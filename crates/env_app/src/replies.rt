@@ -5,13 +5,13 @@ ghost use Rattle.script_model.specs.Laws.Sound.{IsSound};
 ghost use Rattle.task_reply.specs.Elaborated.{IsElaboratedBy};
 ghost use Rattle.env_app.specs.Failures.{failure_status};
 ghost use Rattle.command_line.specs.declared.words.Command.TheVariants.{Reply};
-ghost use Rattle.env_app.specs.Outcome.{ends, EndsIn, IsNotElaborated, TookMore, TookWithin};
+ghost use Rattle.app_streams.specs.Ends.{ends};
+ghost use Rattle.app_streams.specs.Taken.{TookMore, TookWithin};
+ghost use Rattle.env_app.specs.Outcome.{EndsIn, IsNotElaborated};
 
 use crate::failure::Failure;
-use crate::load::{script_of, take_all};
-use crate::parts::parts_of;
 use crate::runs::log_of_run;
-use crate::written::write;
+use app_streams::{parts_of, script_of, take_all, write};
 use env_io::{Clock, Gate, Sink, Source};
 use std::alloc::Global;
 use std::sync::Wait;

@@ -11,7 +11,10 @@ ghost use Rattle.env_app.specs.Failures.{failure_status, is_verdict, note_line};
 ghost use Rattle.env_app.specs.Judged.{HasChecked, HasLegalLog, HasTraced, IsLegalLog};
 ghost use Rattle.env_app.specs.Explained.{HasExplained};
 ghost use Rattle.env_app.specs.Totals.{summary_text};
-ghost use Rattle.env_app.specs.Outcome.{ends, HasNested, HasReplied, HasRun, in_common, WroteAll, WroteFront, IsEnd, IsVerdictOf, IsWritten, OfTaken, TookMore, TookWithin, EndsIn, HasCause, readings_of};
+ghost use Rattle.app_streams.specs.Ends.{ends};
+ghost use Rattle.app_streams.specs.Taken.{OfTaken, TookMore, TookWithin};
+ghost use Rattle.app_streams.specs.Written.{WroteAll, WroteFront};
+ghost use Rattle.env_app.specs.Outcome.{HasNested, HasReplied, HasRun, in_common, IsEnd, IsVerdictOf, IsWritten, EndsIn, HasCause, readings_of};
 
 use crate::bench::run_generated;
 use crate::check::judge;

@@ -8,11 +8,12 @@ ghost use Rattle.hist_model.specs.Script.{IsWhole};
 ghost use Rattle.script_model.specs.Laws.Sound.{IsSound};
 ghost use Rattle.env_crew.specs.Driving.{HasMomentsOf};
 ghost use Rattle.command_line.specs.declared.words.Command.TheVariants.{Run};
-ghost use Rattle.env_app.specs.Outcome.{ends, RunsTo, TookMore, TookWithin, readings_of};
+ghost use Rattle.app_streams.specs.Ends.{ends};
+ghost use Rattle.app_streams.specs.Taken.{TookMore, TookWithin};
+ghost use Rattle.env_app.specs.Outcome.{RunsTo, readings_of};
 
 use crate::bodies::bodies_of;
-use crate::load::{script_of, take_all};
-use crate::written::write;
+use app_streams::{script_of, take_all, write};
 use env_io::{Clock, Gate, Sink, Source, StepClock};
 use env_threads::run_crew;
 use std::alloc::{AllocError, Global};

@@ -2,13 +2,13 @@
 ghost use Rattle.std.specs.Prelude.{◌≡◌, ◌≢◌, ℕ, Option, Some, Err, IfErr};
 ghost use Rattle.env_app.specs.Failures.{failure_status};
 ghost use Rattle.command_line.specs.declared.words.Command.TheVariants.{Trace};
-ghost use Rattle.env_app.specs.Outcome.{ends, EndsIn, TookMore, TookWithin};
+ghost use Rattle.app_streams.specs.Ends.{ends};
+ghost use Rattle.app_streams.specs.Taken.{TookMore, TookWithin};
+ghost use Rattle.env_app.specs.Outcome.{EndsIn};
 
 use crate::failure::Failure;
 use crate::judged::{Judged, judge_log};
-use crate::load::{script_of, take_all};
-use crate::parts::parts_of;
-use crate::written::write_events;
+use app_streams::{parts_of, script_of, take_all, write_events};
 use env_io::{Sink, Source};
 use std::alloc::Global;
 use task_base::Fault;

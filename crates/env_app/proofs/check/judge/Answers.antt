@@ -1,10 +1,10 @@
 use Rattle.std.proofs.Common.{ℕ, List, arith, ap, length, subst, ◌∙◌}
 use Rattle.script_model.specs.Grammar.{Reads}
-use Rattle.env_app.specs.Input.{part_behind, script_part}
+use Rattle.app_streams.specs.Parts.{part_behind, script_part}
 use Rattle.env_app.specs.Judged.{IsFoundAt, verdict_text}
 use Rattle.command_line.specs.declared.words.Command.TheVariants.{Check}
 use Rattle.env_app.proofs.Outcomes.{said_ends}
-use Rattle.env_app.proofs.Passed.{behind_within, script_within}
+use Rattle.app_streams.proofs.Passed.{behind_within, script_within}
 use Rattle.env_app.proofs.check.judge.Goals as goal
 
 pub script_of-requires : goal.script_of-requires

@@ -1,7 +1,8 @@
 use Rattle.std.proofs.Common.{subst}
 use Rattle.script_model.specs.Canonical.{canonical}
 use Rattle.command_line.specs.declared.words.Command.TheVariants.{Generate}
-use Rattle.env_app.proofs.Outcomes.{ends_written, put_text}
+use Rattle.app_streams.proofs.Writers.{put_text}
+use Rattle.env_app.proofs.Outcomes.{ends_written}
 use Rattle.env_app.proofs.generate.write_generated.Goals as goal
 
 pub returns-clause-outcome : goal.returns-clause-outcome

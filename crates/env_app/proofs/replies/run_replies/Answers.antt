@@ -1,9 +1,10 @@
 use Rattle.std.proofs.Common.{arith, ap, false, length}
 use Rattle.std.proofs.lemmas.Result.{err_from_is_err_and}
 use Rattle.command_line.specs.declared.words.Command.TheVariants.{Reply}
-use Rattle.env_app.specs.Outcome.{ends, output_of}
+use Rattle.app_streams.specs.Ends.{ends}
+use Rattle.app_streams.specs.Written.{output_of}
 use Rattle.env_app.proofs.Outcomes.{ends_cut}
-use Rattle.env_app.proofs.Passed.{behind_within, script_within}
+use Rattle.app_streams.proofs.Passed.{behind_within, script_within}
 use Rattle.env_app.proofs.replies.run_replies.Goals as goal
 
 pub script_of-requires : goal.script_of-requires

@@ -1,6 +1,6 @@
 use Rattle.std.proofs.Common.{Some}
 use Rattle.command_line.specs.declared.words.Command.TheVariants.{Check, Explain, Generate, Bench}
-use Rattle.env_app.specs.Outcome.{ends}
+use Rattle.app_streams.specs.Ends.{ends}
 use Rattle.env_app.proofs.Clocks.{kept_in_common}
 use Rattle.env_app.proofs.Outcomes.{ends_in_common}
 use Rattle.env_app.proofs.run.execute.Goals as goal

@@ -1,5 +1,6 @@
 use Rattle.command_line.specs.declared.words.Command.TheVariants.{Run}
-use Rattle.env_app.specs.Outcome.{ends, output_of}
+use Rattle.app_streams.specs.Ends.{ends}
+use Rattle.app_streams.specs.Written.{output_of}
 use Rattle.env_app.proofs.Outcomes.{ends_written}
 use Rattle.env_app.proofs.runs.run_script.Goals as goal
 

@@ -1,9 +1,9 @@
 use Rattle.std.proofs.Common.{ℕ, false, List, Some, arith, ap, subst, refl, length, ◌∙◌}
 use Rattle.script_model.specs.Grammar.{Reads}
-use Rattle.env_app.specs.Input.{part_behind, script_part}
+use Rattle.app_streams.specs.Parts.{part_behind, script_part}
 use Rattle.env_app.specs.Judged.{IsFoundAt, IsFoundIn}
-use Rattle.env_app.proofs.Outcomes.{gains_nothing}
-use Rattle.env_app.proofs.Passed.{behind_within, script_within}
+use Rattle.app_streams.proofs.Writers.{gains_nothing}
+use Rattle.app_streams.proofs.Passed.{behind_within, script_within}
 use Rattle.env_app.proofs.trace.trace.Goals as goal
 
 pub script_of-requires : goal.script_of-requires

@@ -4,8 +4,8 @@ use Rattle.std.proofs.lemmas.List.{take_rest}
 use Rattle.run_log.specs.TextLines.{text_lines}
 use Rattle.run_log.proofs.SplitLines.{YieldsList-from_lines}
 use Rattle.run_log.proofs.Turns.{turn_of, end_of}
-use Rattle.env_app.proofs.Passed.{all_script, line_within, rest_behind, nothing_behind, one_more, script_before}
-use Rattle.env_app.proofs.parts.parts_of.Goals as goal
+use Rattle.app_streams.proofs.Passed.{all_script, line_within, rest_behind, nothing_behind, one_more, script_before}
+use Rattle.app_streams.proofs.parts.parts_of.Goals as goal
 
 pub overflow_add-next : goal.overflow_add-next
 overflow_add-next c =

@@ -1,6 +1,6 @@
 use Rattle.std.proofs.Common.{arith}
-use Rattle.env_app.proofs.Outcomes.{gives_more}
-use Rattle.env_app.proofs.input.read_input.Goals as goal
+use Rattle.app_streams.proofs.Taken.{gives_more}
+use Rattle.app_streams.proofs.input.read_input.Goals as goal
 
 pub returns-then-count-len-clause-large : goal.returns-then-count-len-clause-large
 returns-then-count-len-clause-large g c =

@@ -1,6 +1,6 @@
 ghost use Rattle.std.specs.Prelude.{◌≡◌};
 ghost use Rattle.std.specs.Io.BufRead.{strip_last};
-ghost use Rattle.env_app.specs.Input.{is_mark, part_behind, script_part};
+ghost use Rattle.app_streams.specs.Parts.{is_mark, part_behind, script_part};
 
 use script_lines::without_return;
 

@@ -4,7 +4,7 @@ use Rattle.std.specs.List.{concat}
 use Rattle.std.proofs.lemmas.List.{drop_all, drop_at, drop_more, length-append, take-append-drop, take_all, take_at, take_more}
 use Rattle.run_log.specs.TextLines.{text_lines}
 use Rattle.run_log.proofs.LinesOfText.{concat-text_lines}
-use Rattle.env_app.specs.Input.{is_mark, before_mark, behind_mark, script_part, part_behind}
+use Rattle.app_streams.specs.Parts.{is_mark, before_mark, behind_mark, script_part, part_behind}
 
 concat_append : (xs ys : List (List ℕ)) → concat (xs ++ ys) ≡ concat xs ++ concat ys
 concat_append [] ys = refl

@@ -4,7 +4,7 @@ ghost use Rattle.script_model.specs.Canonical.{canonical};
 ghost use Rattle.trace_json.specs.Text.{trace_text};
 ghost use Rattle.trace_json.specs.Trace.{trace_of};
 ghost use Rattle.nested_loop.specs.NestText.{nest_text};
-ghost use Rattle.env_app.specs.Outcome.{WroteAll, WroteFront, output_of};
+ghost use Rattle.app_streams.specs.Written.{WroteAll, WroteFront, output_of};
 
 use env_io::{Sink, put_all};
 use nested_loop::{Event, write_nest};

@@ -2,7 +2,8 @@ ghost use Rattle.std.specs.Prelude.{◌≡◌, ◌≢◌, ◌≤◌, Err, IfOk, 
 ghost use Rattle.task_base.specs.declared.limits.TheConstants.{MOST_BYTES};
 ghost use Rattle.script_model.specs.Grammar.{Reads};
 ghost use Rattle.script_model.specs.Laws.Sound.{IsSound};
-ghost use Rattle.env_app.specs.Outcome.{ends, IsNoScript, IsNotTaken, TookAll, TookMore, TookWithin};
+ghost use Rattle.app_streams.specs.Ends.{ends};
+ghost use Rattle.app_streams.specs.Taken.{IsNoScript, IsNotTaken, TookAll, TookMore, TookWithin};
 
 use crate::input::{InputFault, read_input};
 use env_io::Source;
@@ -10,7 +11,8 @@ use std::alloc::Global;
 use task_base::{Fault, Script};
 use task_script::{ScriptFault, read_script};
 
-/// Takes the bytes of a source, to its end.
+/// Takes the bytes of a source, to its end. `ReadFault` says that the source failed, and `TooLarge` that more than
+/// `MOST_BYTES` bytes came.
 pub fn take_all<S: Source>(alloc: Global, source: &mut S) -> Result<Vec<u8>, Fault>
     ensures whole { IfOk result (λ bytes. TookAll (ends (S.left source.old) (S.left source.new) (S.faults source.old) (S.faults source.new)) bytes.items) }
     ensures failed { IfErr result (IsNotTaken (ends (S.left source.old) (S.left source.new) (S.faults source.old) (S.faults source.new))) }
@@ -26,7 +28,7 @@ pub fn take_all<S: Source>(alloc: Global, source: &mut S) -> Result<Vec<u8>, Fau
     }
 }
 
-/// Reads a script.
+/// Reads a script. `BadScript` has the first bad line, which counts from 1, and its first reason.
 pub fn script_of(alloc: Global, bytes: &[u8]) -> Result<Script, Fault>
     requires { length bytes.now ≤ MOST_BYTES }
     ensures read { IfOk result (λ script. Reads bytes.now script) }

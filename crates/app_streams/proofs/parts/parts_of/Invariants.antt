@@ -1,6 +1,6 @@
 use Rattle.std.proofs.Common.{length}
-use Rattle.env_app.proofs.Passed.{IsPassed}
-use Rattle.env_app.proofs.parts.parts_of.Given as goal
+use Rattle.app_streams.proofs.Passed.{IsPassed}
+use Rattle.app_streams.proofs.parts.parts_of.Given as goal
 
 abbrev pub invariant-loop-line : goal.invariant-loop-line
 invariant-loop-line l = record {
