@@ -1,34 +1,30 @@
 -- Where a worker may take nothing, and nothing else is against a source, there is no room for it.
-use Rattle.std.proofs.Common.{◌≡◌, ℕ, ◌+◌, ◌<◌, Bool, true, false, cond, List, [], length, refl, sym, ap, subst, ◌∙◌, Option, Some, None, ⊎_elim, arith}
-use Rattle.std.proofs.lemmas.Bool.{and_parts, eqb-true, or_cases}
+use Rattle.std.proofs.Common.{◌≡◌, ℕ, ◌+◌, ◌<◌, Bool, true, false, cond, List, [], length, refl, sym, ap, subst, ◌∙◌, Option, Some, None, arith}
+use Rattle.std.proofs.lemmas.Bool.{eqb-true}
 use Rattle.std.proofs.lemmas.List.Elements.{All-contains}
 use Rattle.std.proofs.lemmas.Option.{same_Some, slice_get_within}
 use Rattle.std.specs.List.{AllByRecursion}
 use Rattle.std.specs.Option.{option_map_or}
-use Rattle.std.specs.Prelude.{◌==◌, ◌&&◌, ◌||◌, not, nat_lt, is_none, slice_get, Contains}
+use Rattle.std.specs.Prelude.{◌==◌, ◌&&◌, not, nat_lt, is_none, slice_get, Contains}
 use Rattle.list_laws.specs.Lists.{holds_of}
 use Rattle.list_laws.proofs.Elements.{AllByRecursion-append, AllByRecursion-contains}
 use Rattle.list_laws.proofs.Finds.{find_contains}
 use Rattle.list_laws.proofs.Made.{contains_not_empty}
 use Rattle.list_laws.proofs.Values.{eqb-same}
-use Rattle.script_model.specs.Laws.Sound.{IsActionSound, IsRunnerPost, IsSound, IsStepSound}
+use Rattle.script_model.specs.Laws.Sound.{IsSound}
 use Rattle.task_base.specs.Plan.{JobPlan, Plan}
-use Rattle.task_base.specs.Runners.{is_parallel, seat_of, sequence_count, sequence_of}
+use Rattle.task_base.specs.Runners.{is_parallel, seat_of, sequence_of}
 use Rattle.task_base.specs.declared.entry.Entry.{Entry}
 use Rattle.task_base.specs.declared.entry.Kind.{Kind}
 use Rattle.task_base.specs.declared.entry.Kind.TheVariants as kinds
-use Rattle.task_base.specs.declared.script.Action.{Action}
-use Rattle.task_base.specs.declared.script.Action.TheVariants as actions
 use Rattle.task_base.specs.declared.source.Key.{Key}
 use Rattle.task_base.specs.declared.source.TaskSource.TheVariants.{Sequence}
-use Rattle.task_base.specs.declared.step.Step.{Step}
-use Rattle.task_base.specs.declared.step.Step.TheVariants as steps
 use Rattle.task_model.specs.Capacity.{has_room, priority_of, priority_of_job}
 use Rattle.task_model.specs.Jobs.{JobPosted, claimed, has_unclaimed, is_cancelled, is_job_accepted, job_post_of, may_enter}
 use Rattle.task_model.specs.Keys.{Ready, key_of}
 use Rattle.task_model.specs.Past.{fold_past}
 use Rattle.task_model.specs.Policies.{is_held}
-use Rattle.task_model.specs.Posts.{Posted, is_taken, post_of, posted_by, posts}
+use Rattle.task_model.specs.Posts.{InOrder, Posted, is_taken, post_of, posted_by, posts}
 use Rattle.task_model.specs.Refusal.{is_forbidden, is_job_forbidden}
 use Rattle.task_model.specs.Seats.{runs_sequence}
 use Rattle.task_model.specs.Sequences.{eligible, head_of}
@@ -38,87 +34,47 @@ use Rattle.pool_laws.specs.Choice.{source_waiting}
 use Rattle.pool_laws.specs.Keys.{IsHead}
 use Rattle.pool_laws.proofs.Choice.Candidates.{free_is_waiting, job_in, sequence_in}
 use Rattle.pool_laws.proofs.Choice.Least.{head_is, no_best, no_head}
-use Rattle.pool_laws.proofs.Keys.Posts.{in_order_found}
-use Rattle.hist_model.specs.Allowed.{by_script, by_task, enters, may_come}
+use Rattle.hist_model.specs.Allowed.{IsAllowed}
 use Rattle.hist_model.specs.Legal.{IsLegal}
-use Rattle.hist_model.specs.Script.{wants}
-use Rattle.hist_model.specs.Views.{own_entries}
-use Rattle.hist_model.proofs.Laws.BySound.{entered_soundly, wanted_soundly}
-use Rattle.hist_model.proofs.Laws.Legal.{entry_induction}
+use Rattle.hist_model.proofs.Laws.Legal.{legal_induction}
 use Rattle.hist_model.proofs.Laws.OrderKeys.{among_eligible}
 use Rattle.hist_model.proofs.Laws.PostedOnce.{each_is_accepted_once}
-use Rattle.env_check.specs.Bars.{bar_of, has_place, is_others, is_room_for, job_bar, posted_bar, task_bar}
+use Rattle.pool_core.specs.Pasts.{IsDeclared}
+use Rattle.pool_core.proofs.Accepted.{one_post}
+use Rattle.pool_core.proofs.Lines.{sequence_there}
+use Rattle.env_core.proofs.Wanted.{post_is_sound}
+use Rattle.past_lookup.specs.Runners.{is_others}
+use Rattle.env_check.specs.Bars.{bar_of, has_place, is_room_for, job_bar, posted_bar, task_bar}
 use Rattle.env_check.specs.Causes.{IsBarred}
 use Rattle.env_check.specs.declared.cause.Bar.{Bar}
 use Rattle.env_check.specs.declared.cause.Bar.TheVariants as bars
 
 -- Accepted tasks are declared, and so are their runners.
 
--- an action posts what is declared
-action_posts : (script : Plan) (own : List Entry) (x : Action) (made : List Entry) (task runner delay : ℕ) (ok : Bool) → IsActionSound script x
-    → wants own x made (kinds.Post task runner delay ok) ≡ true → IsRunnerPost script task runner
-action_posts script own (actions.Post t r d) made task runner delay ok sound h =
-    let outer = and_parts (task == t && runner == r) (delay == d) h in
-    let inner = and_parts (task == t) (runner == r) outer.0 in
-    rw (eqb-true task t inner.0, eqb-true runner r inner.1) sound.0
-action_posts script own x made task runner delay ok sound h = absurd cc
+-- what an entry that may come adds is declared
+added : (script : Plan) (past : List Entry) (seat : ℕ) (kind : Kind) → IsSound script → IsLegal script past
+    → IsAllowed script past (record { seat = seat; kind = kind }) → AllByRecursion (IsDeclared script) (posted_by past kind)
+added script past seat (kinds.Post task runner delay true) sound legal allowed =
+    let posted = post_is_sound script past seat task runner delay true sound legal allowed in ((posted.1, posted.0), tt)
+added script past seat (kinds.Post task runner delay false) sound legal allowed = tt
+added script past seat kind sound legal allowed = tt
 
--- so does a step
-step_posts : (script : Plan) (of : ℕ) (step : Step) (task runner delay : ℕ) (ok : Bool) → IsStepSound script of step
-    → enters of step (kinds.Post task runner delay ok) ≡ true → IsRunnerPost script task runner
-step_posts script of (steps.Post t r d) task runner delay ok sound h =
-    let outer = and_parts (task == t && runner == r) (delay == d) h in
-    let inner = and_parts (task == t) (runner == r) outer.0 in
-    rw (eqb-true task t inner.0, eqb-true runner r inner.1) sound.1
-step_posts script of step task runner delay ok sound h = absurd cc
-
--- so a post that may come is one of what is declared
-post_declared : (script : Plan) (past : List Entry) (seat task runner delay : ℕ) (ok : Bool) → IsSound script
-    → (by_script script past seat (kinds.Post task runner delay ok) || by_task script past seat (kinds.Post task runner delay ok)) ≡ true
-    → IsRunnerPost script task runner
-post_declared script past seat task runner delay ok sound h =
-    let kind = kinds.Post task runner delay ok in
-    ⊎_elim
-    (λ by. let w = wanted_soundly script past seat kind sound by in
-    action_posts script (own_entries 0 past) w.action w.made task runner delay ok w.sound w.wanted)
-    (λ by. let e = entered_soundly script past seat kind sound by in step_posts script e.now.task e.step task runner delay ok e.sound e.entered)
-    (or_cases (by_script script past seat kind) (by_task script past seat kind) h)
-
-abbrev AreDeclared : Plan → List Posted → Type 0
-AreDeclared script ps = AllByRecursion (λ p. IsRunnerPost script p.task p.home) ps
-
-added : (script : Plan) (past : List Entry) (seat : ℕ) (kind : Kind) → IsSound script → may_come script past seat kind ≡ true
-    → AreDeclared script (posted_by past kind)
-unfolding may_come
-added script past seat (kinds.Post task runner delay true) sound may =
-    let kind = kinds.Post task runner delay true in
-    (post_declared script past seat task runner delay true sound (and_parts (by_script script past seat kind || by_task script past seat kind) _ may).0, tt)
-added script past seat (kinds.Post task runner delay false) sound may = tt
-added script past seat kind sound may = tt
-
-none_at_first : (script : Plan) → AreDeclared script (posts [])
+none_at_first : (script : Plan) → AllByRecursion (IsDeclared script) (posts [])
 unfolding posts fold_past
 none_at_first script = tt
 
-are_declared : (script : Plan) (past : List Entry) → IsSound script → IsLegal script past → AreDeclared script (posts past)
-are_declared script past sound = entry_induction script (λ before. AreDeclared script (posts before)) (none_at_first script) (λ before e known may all.
-    subst (AreDeclared script) (sym (posts_push before e))
-    (AllByRecursion-append (λ p. IsRunnerPost script p.task p.home) (posts before) (posted_by before e.kind)
-    all (added script before e.seat e.kind sound may))) past
+are_declared : (script : Plan) (past : List Entry) → IsSound script → IsLegal script past → AllByRecursion (IsDeclared script) (posts past)
+are_declared script past sound = legal_induction script (λ before. AllByRecursion (IsDeclared script) (posts before)) (none_at_first script)
+    (λ before e legal allowed all. subst (AllByRecursion (IsDeclared script)) (sym (posts_push before e))
+    (AllByRecursion-append (IsDeclared script) (posts before) (posted_by before e.kind) all (added script before e.seat e.kind sound legal allowed))) past
 
 module _ (script : Plan) (past : List Entry) (sound : IsSound script) (legal : IsLegal script past) where
-  declared : (p : Posted) → Contains (posts past) p → IsRunnerPost script p.task p.home
-  declared p among =
-      AllByRecursion-contains (λ q. IsRunnerPost script q.task q.home) (posts past) p (are_declared script past sound legal) among
+  declared : (p : Posted) → Contains (posts past) p → IsDeclared script p
+  declared p among = AllByRecursion-contains (IsDeclared script) (posts past) p (are_declared script past sound legal) among
 
   -- the post of a task is an accepted one, of what is declared
-  pub post_is_declared : (t : ℕ) (p : Posted) → post_of past t ≡ Some p → IsRunnerPost script p.task p.home
+  pub post_is_declared : (t : ℕ) (p : Posted) → post_of past t ≡ Some p → IsDeclared script p
   post_is_declared t p is = declared p (find_contains (λ q. q.task == t) (posts past) p is)
-
-  -- an accepted task has one post
-  one_post : (p : Posted) → Contains (posts past) p → post_of past p.task ≡ Some p
-  one_post p among = AllByRecursion-contains (λ q. post_of past q.task ≡ Some q) (posts past) p
-      (in_order_found (posts past) (each_is_accepted_once script past sound.once.posted_once legal).pool) among
 
   -- tasks of one sequence are of one runner
   one_home : (p q : Posted) → Contains (posts past) p → Contains (posts past) q
@@ -127,13 +83,16 @@ module _ (script : Plan) (past : List Entry) (sound : IsSound script) (legal : I
       by (holds_of (λ r. is_parallel r.kind) (slice_get script.runners p.home)) (holds_of (λ r. is_parallel r.kind) (slice_get script.runners q.home)) same
     where
       p_there : p.home < length script.runners
-      p_there = (declared p first).runner_declared
+      p_there = (declared p first).0
 
       q_there : q.home < length script.runners
-      q_there = (declared q second).runner_declared
+      q_there = (declared q second).0
+
+      in_order : InOrder (posts past)
+      in_order = (each_is_accepted_once script past sound.once.posted_once legal).pool
 
       of_one : p.task ≡ q.task → p.home ≡ q.home
-      of_one is = ap (λ (x : Posted). x.home) (same_Some p q (sym (one_post p first) ∙ ap (post_of past) is ∙ one_post q second))
+      of_one is = ap (λ (x : Posted). x.home) (same_Some p q (sym (one_post past p in_order first) ∙ ap (post_of past) is ∙ one_post past q in_order second))
 
       by : (a b : Bool) → cond a (length script.runners + p.task) p.home ≡ cond b (length script.runners + q.task) q.home → p.home ≡ q.home
       by true true is = of_one (omega (arith, is))
@@ -142,19 +101,6 @@ module _ (script : Plan) (past : List Entry) (sound : IsSound script) (legal : I
       by false false is = is
 
   -- What is left where nothing else is against a task.
-
-  sequence_there : (p : Posted) → Contains (posts past) p → sequence_of script p.home p.task < sequence_count script
-  sequence_there p among = by (holds_of (λ r. is_parallel r.kind) (slice_get script.runners p.home))
-    where
-      runner_there : p.home < length script.runners
-      runner_there = (declared p among).runner_declared
-
-      task_there : p.task < length script.tasks
-      task_there = (declared p among).task_declared
-
-      by : (b : Bool) → cond b (length script.runners + p.task) p.home < length script.runners + length script.tasks
-      by true = omega (arith, task_there)
-      by false = omega (arith, runner_there)
 
   -- none of the causes before the limits is against the task
   record IsFree (seat : ℕ) (p : Posted) : Type 0 where
@@ -216,8 +162,9 @@ module _ (script : Plan) (past : List Entry) (sound : IsSound script) (legal : I
       let home : head.posted.home ≡ p.home = one_home script past sound legal head.posted p is.accepted among
       (eqb-true (sequence_of script head.posted.home head.posted.task) s is.of_sequence) in
       let c : Candidate = sequence_candidate script past s head in
+      let known = declared script past sound legal p among in
       let waits : source_waiting script past (Sequence s) ≡ Some c =
-      sequence_in script past s (sequence_there script past sound legal p among) ∙ rw (free.idle, head_is_it) refl in
+      sequence_in script past s (sequence_there script p.home p.task known.0 known.1) ∙ rw (free.idle, head_is_it) refl in
       ap (λ h. has_room script past (priority_of script past h)) (sym home)
       ∙ no_room_for c waits (ap (λ h. is_held past (priority_of script past h)) home ∙ free.not_held)
       (ap (λ h. option_map_or (λ s. s == seat) (seat_of script h) true) home ∙ ones_own seat (seat_of script p.home) free.not_others)

@@ -1,9 +1,8 @@
 -- Why a worker may not take a source, where it may take none.
 use Rattle.std.specs.Prelude.{ℕ, ◌==◌, Bool, false, not, nat_lt, if◌then◌else◌, List, length, is_none}
 use Rattle.std.specs.Option.{option_map_or}
-use Rattle.list_laws.specs.Lists.{holds_of}
 use Rattle.task_base.specs.Plan.{Plan}
-use Rattle.task_base.specs.Runners.{seat_of, sequence_of}
+use Rattle.task_base.specs.Runners.{sequence_of}
 use Rattle.task_base.specs.declared.entry.Entry.{Entry}
 use Rattle.task_base.specs.declared.entry.Kind.{Kind}
 use Rattle.task_base.specs.declared.entry.Kind.TheVariants.{JobTake, Take}
@@ -14,12 +13,9 @@ use Rattle.task_model.specs.Policies.{is_held}
 use Rattle.task_model.specs.Posts.{Posted, is_taken, post_of}
 use Rattle.task_model.specs.Refusal.{is_forbidden, is_job_forbidden}
 use Rattle.task_model.specs.Seats.{inside, runs_sequence}
+use Rattle.past_lookup.specs.Runners.{is_others}
 use Rattle.env_check.specs.declared.cause.Bar.{Bar}
 use Rattle.env_check.specs.declared.cause.Bar.TheVariants as bars
-
--- the runner is a single-thread one of another seat
-abbrev pub is_others : Plan → ℕ → ℕ → Bool
-is_others script seat runner = holds_of (λ only. not (only == seat)) (seat_of script runner)
 
 -- what is against the take of an accepted task: it was taken, may not start in the phase, or has no key yet; or its sequence
 -- runs, is another seat's, or is held back

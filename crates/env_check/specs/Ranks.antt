@@ -1,5 +1,5 @@
 -- By what one source goes before another.
-use Rattle.std.specs.Prelude.{ℕ, ◌+◌, ◌==◌, Bool, false, not, ◌&&◌, ◌||◌, nat_lt, if◌then◌else◌, List, length, slice_get, Option, Some, None, option_and_then}
+use Rattle.std.specs.Prelude.{ℕ, ◌==◌, Bool, false, not, ◌&&◌, ◌||◌, nat_lt, if◌then◌else◌, List, length, slice_get, Option, Some, None, option_and_then}
 use Rattle.std.specs.Option.{option_map}
 use Rattle.list_laws.specs.Lists.{holds_of}
 use Rattle.task_base.specs.Groups.{importance}
@@ -19,17 +19,7 @@ use Rattle.env_check.specs.declared.cause.Edge.{Edge}
 use Rattle.env_check.specs.declared.cause.Edge.TheVariants as edges
 use Rattle.env_check.specs.declared.hand.Hand.{Hand}
 use Rattle.env_check.specs.declared.hand.Hand.TheVariants as hands
-use Rattle.env_check.specs.declared.rank.JobPost.{JobPost}
-use Rattle.env_check.specs.declared.rank.Post.{Post}
 use Rattle.env_check.specs.declared.rank.Rank.{Rank}
-
--- the accepted task that a post is of
-abbrev pub posted : Post → Posted
-posted post = record { place = post.place; task = post.task; home = post.runner; delay = post.delay; ripe = post.moment + post.delay }
-
--- the first post of a job, as the past tells of it
-abbrev pub job_posted : JobPost → JobPosted
-job_posted post = record { place = post.place; ok = post.ok }
 
 -- the key of an accepted task that is this runner's, where it has one
 abbrev pub key_at_home : List Entry → ℕ → Posted → Option Key

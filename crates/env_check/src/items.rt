@@ -1,13 +1,13 @@
 ghost use Rattle.std.specs.Prelude.{◌≡◌, ◌↔◌, ◌≤◌, ◌&&◌, ◌==◌, IsTrue};
 ghost use Rattle.list_laws.specs.Lists.{holds_of};
-ghost use Rattle.task_model.specs.Jobs.{item_value};
 ghost use Rattle.task_model.specs.Seats.{holding};
 ghost use Rattle.env_core.specs.Calls.{IsWantedNext};
 ghost use Rattle.env_check.specs.Follows.{Follows, entry_by};
 
 use crate::hand::{Hand, take_item};
 use crate::replay::Replay;
-use task_base::{JobId, Kind, Script, SeatNo, apply};
+use past_lookup::value_of;
+use task_base::{JobId, Kind, Script, SeatNo};
 use task_body::JobPass;
 
 // The items of jobs.
@@ -120,19 +120,5 @@ fn is_job_take(kind: &Kind, job: JobId, id: u32, item: u32) -> bool
             item: i,
         } => j == job && d == id && i == item,
         _ => false,
-    }
-}
-
-/// The value of an item of a job: the job's steps, applied to its number.
-pub(crate) fn value_of(script: &Script, job: JobId, item: u32) -> u64
-    ensures { result ≡ item_value script.now job item }
-{
-    match script.jobs.at(job as usize) {
-        None => u64::from(item),
-        Some(job) => job
-            .steps
-            .as_slice()
-            .iter()
-            .fold(u64::from(item), |value, step| apply(step, value)),
     }
 }

@@ -12,9 +12,9 @@ ghost use Rattle.env_check.specs.Hands.{AreInHand, IsAtTask};
 use crate::bar::bar_of;
 use crate::cause::Cause;
 use crate::hand::{AtTask, Hand, do_rest};
-use crate::items::value_of;
 use crate::rank::edge_of;
 use env_core::Env;
+use past_lookup::value_of;
 use task_base::{Entry, Kind, Script, SeatNo, TaskId};
 use task_body::{Act, Assignment, JobPass, ScriptBody, Taken};
 

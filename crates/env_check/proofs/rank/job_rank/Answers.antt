@@ -9,8 +9,9 @@ use Rattle.task_model.specs.Capacity.{priority_of_job}
 use Rattle.task_model.specs.Jobs.{job_post_of}
 use Rattle.task_model.specs.Keys.{key_at}
 use Rattle.task_model.specs.Seats.{inside}
-use Rattle.env_check.specs.Ranks.{accepted_rank, job_posted, job_rank}
-use Rattle.env_check.specs.declared.rank.JobPost.{JobPost}
+use Rattle.past_lookup.specs.Jobs.{job_posted}
+use Rattle.past_lookup.specs.declared.jobs.JobPost.{JobPost}
+use Rattle.env_check.specs.Ranks.{accepted_rank, job_rank}
 use Rattle.env_check.specs.declared.rank.Rank.{Rank}
 use Rattle.env_check.proofs.rank.job_rank.Goals as goal
 

@@ -2,8 +2,8 @@ use Rattle.std.proofs.Common.{◌≡◌, take}
 use Rattle.std.specs.Option.{option_map}
 use Rattle.task_model.specs.Posts.{post_of}
 use Rattle.task_model.specs.Time.{now_of}
-use Rattle.env_check.specs.Ranks.{posted}
-use Rattle.env_check.proofs.rank.post_of.Given as goal
+use Rattle.past_lookup.specs.Posts.{posted}
+use Rattle.past_lookup.proofs.posts.post_of.Given as goal
 
 abbrev pub invariant-loop-entry : goal.invariant-loop-entry
 invariant-loop-entry l = record {

@@ -4,7 +4,7 @@ use Rattle.task_base.specs.declared.entry.Entry.{Entry}
 use Rattle.task_model.specs.Jobs.{JobPosted, job_post_after, job_post_of}
 use Rattle.task_model.specs.Past.{fold_past}
 use Rattle.task_model.proofs.Growth.{job_post_of_push}
-use Rattle.env_check.proofs.rank.job_post_of.Goals as goal
+use Rattle.past_lookup.proofs.jobs.job_post_of.Goals as goal
 
 -- the post behind one more entry
 post_more : (past : List Entry) (i j : ℕ) (d : Entry) (old new : Option JobPosted) → i < length past → old ≡ job_post_of (take i past) j

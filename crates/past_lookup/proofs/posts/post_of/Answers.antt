@@ -1,21 +1,21 @@
 use Rattle.std.proofs.Common.{◌≡◌, ℕ, ◌+◌, ◌<◌, ◌∙◌, ◌==◌, List, Option, ap, arith, get_or, length, refl, sym, take}
 use Rattle.std.proofs.lemmas.List.{length-take-le, take_all, take_more}
+use Rattle.std.proofs.lemmas.List.Folds.{find-append}
 use Rattle.std.specs.Option.{option_or}
 use Rattle.std.specs.Prelude.{find}
 use Rattle.task_base.specs.declared.entry.Entry.{Entry}
 use Rattle.task_model.specs.Past.{fold_past}
 use Rattle.task_model.specs.Posts.{Posted, post_of, posted_by, posts}
 use Rattle.task_model.specs.Time.{now_after, now_of}
-use Rattle.task_model.proofs.Growth.{now_of_push}
-use Rattle.pool_laws.proofs.Keys.Posts.{post_of_grows}
-use Rattle.env_check.proofs.rank.post_of.Goals as goal
+use Rattle.task_model.proofs.Growth.{now_of_push, posts_push}
+use Rattle.past_lookup.proofs.posts.post_of.Goals as goal
 
 -- the post behind one more entry
 post_more : (past : List Entry) (i t : ℕ) (d : Entry) (old new : Option Posted) → i < length past → old ≡ post_of (take i past) t
     → new ≡ option_or old (find (λ p. p.task == t) (posted_by (take i past) (get_or past i d).kind)) → new ≡ post_of (take (i + 1) past) t
-post_more past i t d old new below is grows = rw (take_more past i d below)
+post_more past i t d old new below is grows = rw (take_more past i d below, posts_push (take i past) (get_or past i d))
     (grows ∙ ap (λ o. option_or o (find (λ p. p.task == t) (posted_by (take i past) (get_or past i d).kind))) is
-    ∙ sym (post_of_grows (take i past) (get_or past i d) t))
+    ∙ sym (find-append (λ p. p.task == t) (posts (take i past)) (posted_by (take i past) (get_or past i d).kind)))
 
 -- and the moment
 moment_more : (past : List Entry) (i : ℕ) (d : Entry) (old new : ℕ) → i < length past → old ≡ now_of (take i past)

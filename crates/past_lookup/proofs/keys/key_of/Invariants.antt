@@ -1,6 +1,6 @@
 use Rattle.std.proofs.Common.{◌≡◌, ◌+◌, None, take}
 use Rattle.task_model.specs.Time.{tick_from}
-use Rattle.env_check.proofs.rank.key_of.Given as goal
+use Rattle.past_lookup.proofs.keys.key_of.Given as goal
 
 abbrev pub invariant-loop-entry : goal.invariant-loop-entry
 invariant-loop-entry l = record {

@@ -1,8 +1,8 @@
 use Rattle.std.proofs.Common.{◌≡◌, take}
 use Rattle.std.specs.Option.{option_map}
 use Rattle.task_model.specs.Jobs.{job_post_of}
-use Rattle.env_check.specs.Ranks.{job_posted}
-use Rattle.env_check.proofs.rank.job_post_of.Given as goal
+use Rattle.past_lookup.specs.Jobs.{job_posted}
+use Rattle.past_lookup.proofs.jobs.job_post_of.Given as goal
 
 abbrev pub invariant-loop-entry : goal.invariant-loop-entry
 invariant-loop-entry l = record {

@@ -1,37 +1,39 @@
-use Rattle.std.proofs.Common.{◌≡◌, ℕ, ◌+◌, ◌<◌, Bool, true, false, cond, List, take, drop, get_or, length, refl, Some, None, arith}
+use Rattle.std.proofs.Common.{◌≡◌, ℕ, ◌+◌, ◌<◌, Bool, true, false, cond, List, [], ◌∷◌, take, drop, get_or, length, refl, ap, Some, None, arith}
+use Rattle.std.proofs.Math.Nat.{zero-add}
 use Rattle.std.proofs.lemmas.List.{length-take-le, take-append-drop, take_more}
 use Rattle.std.proofs.lemmas.Option.{same_Some}
+use Rattle.std.specs.List.{position_from}
 use Rattle.std.specs.Prelude.{nat_lt}
+use Rattle.list_laws.proofs.Options.{position-append}
 use Rattle.task_base.specs.declared.entry.Entry.{Entry}
 use Rattle.task_model.specs.Keys.{key_of}
 use Rattle.task_model.specs.Time.{is_tick_from, tick_from}
-use Rattle.pool_laws.proofs.Keys.Ready.{tick_from_push, tick_from_stays}
-use Rattle.env_check.specs.Ranks.{posted}
-use Rattle.env_check.specs.declared.rank.Post.{Post}
-use Rattle.env_check.proofs.rank.key_of.Goals as goal
+use Rattle.past_lookup.specs.Posts.{posted}
+use Rattle.past_lookup.specs.declared.posts.Post.{Post}
+use Rattle.past_lookup.proofs.keys.key_of.Goals as goal
 
--- the first tick of the moment or a later one is here, where none is before and this one is
-tick_here : (past : List Entry) (i : ℕ) (d : Entry) (moment : ℕ) → i < length past → tick_from (take i past) moment ≡ None
-    → is_tick_from moment (get_or past i d).kind ≡ true → tick_from past moment ≡ Some i
-tick_here past i d moment below none is =
-    let here : tick_from (take (i + 1) past) moment ≡ Some i =
-    rw (take_more past i d below, tick_from_push (take i past) (get_or past i d) moment, none, is, length-take-le i past (omega (arith, below))) refl in
-    rw (← take-append-drop (i + 1) past) (tick_from_stays (take (i + 1) past) (drop (i + 1) past) moment i here)
-
--- none is so far, where none was before and this one is none
+-- no tick is of the moment or a later one so far, where none was before and this entry is none
 tick_later : (past : List Entry) (i : ℕ) (d : Entry) (moment : ℕ) → i < length past → tick_from (take i past) moment ≡ None
     → is_tick_from moment (get_or past i d).kind ≡ false → tick_from (take (i + 1) past) moment ≡ None
-tick_later past i d moment below none is = rw (take_more past i d below, tick_from_push (take i past) (get_or past i d) moment, none, is) refl
+unfolding tick_from
+tick_later past i d moment below none is =
+    rw (take_more past i d below, position-append (λ e. is_tick_from moment e.kind) 0 (take i past) (get_or past i d ∷ []), none, is) refl
+
+-- the first such tick is here, where none was before and this entry is one
+tick_here : (past : List Entry) (i : ℕ) (d : Entry) (moment : ℕ) → i < length past → tick_from (take i past) moment ≡ None
+    → is_tick_from moment (get_or past i d).kind ≡ true → tick_from past moment ≡ Some i
+unfolding tick_from
+tick_here past i d moment below none is =
+    let test : Entry → Bool = λ e. is_tick_from moment e.kind in
+    let here : position_from test 0 (take (i + 1) past) ≡ Some i =
+    rw (take_more past i d below, position-append test 0 (take i past) (get_or past i d ∷ []), none, is, length-take-le i past (omega (arith, below)))
+    (ap (λ n. Some n) (zero-add i)) in
+    rw (← take-append-drop (i + 1) past) (rw (position-append test 0 (take (i + 1) past) (drop (i + 1) past), here) refl)
 
 -- a post with a delay has the key that it got at the tick
 key_is : (past : List Entry) (post : Post) (place : ℕ) → nat_lt 0 post.delay ≡ true → tick_from past (post.moment + post.delay) ≡ Some place
     → Some (record { place = place; ripe = post.moment + post.delay; post = post.place }) ≡ key_of past (posted post)
 key_is past post place delayed is = rw (delayed, is) refl
-
--- and before that it has none
-no_key : (past : List Entry) (post : Post) → nat_lt 0 post.delay ≡ true → tick_from past (post.moment + post.delay) ≡ None
-    → None ≡ key_of past (posted post)
-no_key past post delayed is = rw (delayed, is) refl
 
 ripe_told : (b : Bool) (m r : ℕ) → Some r ≡ cond b (Some m) None → (b ≡ true) × (r ≡ m)
 ripe_told true m r is = (refl, same_Some r m is)
