@@ -3,7 +3,6 @@ use Rattle.std.proofs.Common.{◌≡◌, ◌≢◌, ℕ, Bool, true, false, Opti
 use Rattle.std.specs.Prelude.{alloc_error, IfErr, Result, Ok, Err}
 use Rattle.task_base.specs.declared.fault.Fault.{Fault}
 use Rattle.task_base.specs.declared.fault.Fault.TheVariants.{WriteFault, NoMemory}
-use Rattle.env_app.specs.declared.failure.Failure.{Failure}
 use Rattle.env_app.specs.declared.failure.Failure.TheVariants.{Common}
 use Rattle.command_line.specs.declared.words.Command.TheVariants.{Run}
 use Rattle.command_line.specs.CommandLine.{WritesJson}

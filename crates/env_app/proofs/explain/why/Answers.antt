@@ -1,5 +1,5 @@
-use Rattle.std.proofs.Common.{◌≡◌, ◌≤◌, arith, inl, refl, sym, ◌∙◌}
-use Rattle.log_model.specs.LogText.{lines_before, version_of}
+use Rattle.std.proofs.Common.{arith, inl, refl, sym, ◌∙◌}
+use Rattle.log_model.specs.LogText.{version_of}
 use Rattle.env_app.proofs.Explained.{illegal_told, told_within}
 use Rattle.env_app.proofs.Verdicts.{few_entries, one_before}
 use Rattle.env_app.proofs.explain.why.Goals as goal

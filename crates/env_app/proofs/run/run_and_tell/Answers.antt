@@ -1,4 +1,4 @@
-use Rattle.std.proofs.Common.{◌⊎◌, List, ℕ, inl, inr, ◌∙◌}
+use Rattle.std.proofs.Common.{◌∙◌}
 use Rattle.env_app.proofs.Outcomes.{is_end, no_verdict}
 use Rattle.env_app.proofs.Causes.{cause_of_failure}
 use Rattle.env_app.proofs.run.run_and_tell.Goals as goal
