@@ -8,7 +8,6 @@ use crate::assigned::Assigned;
 use crate::desk::{Desk, Given};
 use crate::items::do_items;
 use crate::steps::do_steps;
-use crossbeam_utils::Backoff;
 use env_io::Gate;
 use std::sync::Wait;
 
@@ -69,20 +68,17 @@ fn ask<D: Desk, R: Wait>(rt: &R, desk: &mut D, may_rest: bool) -> Given<D::Work>
 }
 
 /// What a worker's thread does (`WorkerThread::RunWorker` of `worker_thread.h`): it serves until there will be nothing
-/// any more. Where there is nothing for now it waits a little, longer each time, and at last sleeps until it is woken.
+/// any more. Where there is nothing for now it rests at once, and sleeps until it is woken.
 pub fn work<D: Desk, G: Gate, R: Wait>(rt: &R, desk: &mut D, gate: &G)
     requires free { IsFree (D.desk desk.old) }
     ensures free { IsFree (D.desk desk.new) }
     ensures later { IsLater (D.desk desk.old) (D.desk desk.new) }
     ensures finished { is_finished (D.desk desk.new).script (D.desk desk.new).seen ≡ true }
 {
-    let backoff = Backoff::new();
     for _ in rt.forever() {
-        let may_rest = backoff.is_completed();
-        match serve_or(rt, desk, gate, may_rest) {
-            Served::Worked => backoff.reset(),
-            Served::Nothing if may_rest => desk.sleep(rt),
-            Served::Nothing => backoff.snooze(),
+        match serve_or(rt, desk, gate, true) {
+            Served::Worked => {}
+            Served::Nothing => desk.sleep(rt),
             Served::Over => return,
         }
     }

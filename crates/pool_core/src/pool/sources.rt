@@ -63,8 +63,10 @@ impl Pool {
         requires { lane < length self.now.lanes }
         ensures { IsBestOf (IsOffered self.now lane best_effort) result }
     {
+        // An empty lane is seen at once, so it comes first.
+        let best = self.lanes.best(lane, best_effort)?;
         if self.is_open(best_effort) {
-            self.lanes.best(lane, best_effort)
+            Some(best)
         } else {
             None
         }
