@@ -2,10 +2,10 @@
 use Rattle.std.proofs.Common.{◌≡◌, ◌≤◌, ℕ, false, List, length, refl, sym, ◌∙◌, Option, Some, None, IfSome}
 use Rattle.task_base.specs.Plan.{Plan}
 use Rattle.task_base.specs.declared.entry.Entry.{Entry}
-use Rattle.env_check.specs.declared.cause.Explanation.{Explanation}
-use Rattle.env_check.specs.declared.cause.Explanation.TheVariants as explanations
+use Rattle.next_entry.specs.declared.cause.Explanation.{Explanation}
+use Rattle.next_entry.specs.declared.cause.Explanation.TheVariants as explanations
 use Rattle.env_check.specs.declared.verdict.Verdict.TheVariants.{Legal, Illegal}
-use Rattle.env_check.specs.Causes.{verdict_told}
+use Rattle.env_explain.specs.Explained.{verdict_told}
 use Rattle.env_check.specs.Verdicts.{verdict_of}
 use Rattle.run_log.specs.Spelling.{IsMeant}
 use Rattle.env_app.specs.Explained.{IsMeantBy, place_told}

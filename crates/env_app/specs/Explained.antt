@@ -7,9 +7,9 @@ use Rattle.log_model.specs.declared.version.Version.{Version}
 use Rattle.log_model.specs.LogText.{lines_before, version_of}
 use Rattle.run_log.specs.Spelling.{IsMeant}
 use Rattle.run_log.specs.TextLines.{IsBadLine, text_lines}
-use Rattle.env_check.specs.declared.cause.Explanation.{Explanation}
-use Rattle.env_check.specs.declared.cause.Explanation.TheVariants.{Legal, Barred, Unfinished, AtWork}
-use Rattle.env_check.specs.Causes.{IsExplained, NamesAllowed, verdict_told}
+use Rattle.next_entry.specs.declared.cause.Explanation.{Explanation}
+use Rattle.next_entry.specs.declared.cause.Explanation.TheVariants.{Legal, Barred, Unfinished, AtWork}
+use Rattle.env_explain.specs.Explained.{IsExplained, NamesAllowed, verdict_told}
 use Rattle.env_check.specs.Verdicts.{verdict_of}
 use Rattle.explain_text.specs.Json.{bad_line_json, told_json}
 use Rattle.explain_text.specs.Plain.{bad_line_text, told_text}

@@ -1,6 +1,6 @@
 -- The end of a task that a seat has in hand: where it may come, and what is in hand behind it.
 use Rattle.std.proofs.Common.{◌≡◌, ℕ, ◌≤◌, Bool, true, false, List, [], ◌∷◌, ◌++◌, length, refl, sym, ap, ◌∙◌, Option, Some, None}
-use Rattle.std.proofs.Common.{◌≢◌, ◌⊎◌, ⊎_elim, inl, inr, append-nil, arith}
+use Rattle.std.proofs.Common.{◌≢◌, ◌⊎◌, ⊎_elim, inl, inr, arith}
 use Rattle.std.proofs.lemmas.Bool.{and_parts, eq-eqb, eqb-true, false_from_ne_true, ne_eqb}
 use Rattle.std.proofs.lemmas.List.{length-append}
 use Rattle.std.proofs.lemmas.Option.{same_Some}
@@ -26,27 +26,10 @@ use Rattle.task_body.specs.declared.act.Act.{Act}
 use Rattle.task_body.specs.declared.act.Act.TheVariants as acts
 use Rattle.env_core.specs.Calls.{CanEnd, CanEndMain}
 use Rattle.env_core.specs.Views.{EnvView, Enters}
-use Rattle.env_core.proofs.Plans.{main_runs, pool_runs}
-use Rattle.env_check.specs.Hands.{IsAtTask, IsDue, told_by}
-use Rattle.env_check.proofs.Hands.{holds_now, runs_now}
-use Rattle.env_check.proofs.UnderWay.{runs_it}
-
--- Whose task it is.
-
--- a worker runs a task of the pool
-pub worker_runs_pool : (script : Plan) (past : List Entry) (seat : ℕ) (w : Running) → IsLegal script past → 1 ≤ seat → running past seat ≡ Some w
-    → w.is_main ≡ false
-worker_runs_pool script past seat w legal worker runs = false_from_ne_true w.is_main
-    (λ main. let driver : seat ≡ 0 = (main_runs script past seat w legal runs main).driver in absurd (omega (arith, driver, worker)))
-
--- the driver runs a main task
-pub driver_runs_main : (script : Plan) (past : List Entry) (seat : ℕ) (w : Running) → IsLegal script past → seat ≡ 0 → running past seat ≡ Some w
-    → w.is_main ≡ true
-driver_runs_main script past seat w legal driver runs = by w.is_main refl
-  where
-    by : (main : Bool) → w.is_main ≡ main → main ≡ true
-    by true is = refl
-    by false is = let worker : 1 ≤ seat = (pool_runs script past seat w legal runs is).worker in absurd (omega (arith, driver, worker))
+use Rattle.env_core.proofs.Plans.{pool_runs}
+use Rattle.seat_hand.specs.Hands.{IsAtTask, IsDue}
+use Rattle.seat_hand.proofs.Hands.{holds_now, runs_now}
+use Rattle.seat_hand.proofs.UnderWay.{all_entered, driver_runs_main, runs_it, worker_runs_pool}
 
 -- The end of a task.
 
@@ -116,12 +99,6 @@ done_leaves : (script : Plan) (past : List Entry) (seat left value : ℕ) (w : R
 done_leaves script past seat left value w all is = rw (eq-eqb _ _ all, ← is) (eqb-turned left value)
 
 module _ {view : EnvView} {seat : ℕ} {work : AssignmentView} {next : Act} (at : IsAtTask view seat work next) where
-  -- all act steps were entered where no step is left
-  pub all_entered : next ≡ acts.Finished → acts_done (own_entries seat view.history) seat ≡ length (filter is_act work.whole)
-  all_entered ended = let done = at.due.done in
-      sym (ap length (at.due.parted ∙ ap (λ n. done ++ told_by n ++ filter is_act work.rest) ended
-      ∙ ap (λ xs. done ++ [] ++ filter is_act xs) (at.due.ends ended) ∙ append-nil (done ++ []) ∙ append-nil done) ∙ at.due.count)
-
   -- whether all of the task is done, where no step is left
   done_at_end : (task left : ℕ) → next ≡ acts.Finished
       → holds_of (is_done view.script view.history seat task left) (running view.history seat)
@@ -130,7 +107,7 @@ module _ {view : EnvView} {seat : ℕ} {work : AssignmentView} {next : Act} (at 
       let w = at.seats.now in
       ap (holds_of (is_done view.script view.history seat task left)) (runs_it at)
       ∙ ap (λ b. w.task == task && b) (done_leaves view.script view.history seat left (after work.whole work.found) w
-      (sym (acts_done_own view.history seat) ∙ all_entered ended ∙ ap (λ xs. length (filter is_act xs)) at.seats.whole_is)
+      (sym (acts_done_own view.history seat) ∙ all_entered at ended ∙ ap (λ xs. length (filter is_act xs)) at.seats.whole_is)
       (ap (λ xs. after xs work.found) at.seats.whole_is ∙ ap (after (steps_of view.script w.task)) at.seats.found_is))
       ∙ ap (λ t. t == task && after work.whole work.found == left) (sym at.seats.task_is)
 
@@ -163,7 +140,7 @@ module _ {view : EnvView} {seat : ℕ} {work : AssignmentView} {next : Act} (at 
     seats = at.seats;
     is_pool = worker_runs_pool view.script view.history seat at.seats.now legal worker (runs_it at);
     none_left = at.due.ends (ends_at ends);
-    all_entered = all_entered (ends_at ends);
+    all_entered = all_entered at (ends_at ends);
   }
 
   -- the driver whose main task is all done may end it
@@ -173,7 +150,7 @@ module _ {view : EnvView} {seat : ℕ} {work : AssignmentView} {next : Act} (at 
     seats = at.seats;
     is_main = driver_runs_main view.script view.history seat at.seats.now legal driver (runs_it at);
     none_left = at.due.ends (ends_at ends);
-    all_entered = all_entered (ends_at ends);
+    all_entered = all_entered at (ends_at ends);
   }
 
 -- Where it may come.

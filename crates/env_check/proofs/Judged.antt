@@ -5,7 +5,8 @@ use Rattle.std.specs.Prelude.{nat_le}
 use Rattle.task_base.specs.declared.entry.Kind.{Kind}
 use Rattle.hist_model.specs.Allowed.{is_allowed, may_come}
 use Rattle.env_core.specs.Views.{EnvView, Enters}
-use Rattle.env_check.specs.Follows.{Follows, entry_by}
+use Rattle.seat_hand.specs.Entries.{entry_by}
+use Rattle.env_check.specs.Follows.{Follows}
 
 -- an entry whose kind may not come is refused
 pub may_not : (before after : EnvView) (seat : ℕ) (kind : Kind) → may_come before.script before.history seat kind ≡ false

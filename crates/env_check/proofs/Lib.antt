@@ -1,17 +1,11 @@
-pub mod AtWork
-pub mod Bars
-pub mod Causes
 pub mod Ends
 pub mod Fresh
-pub mod Hands
 pub mod Judged
 pub mod Passes
 pub mod Posts
-pub mod Ranks
 pub mod Replies
 pub mod Scripted
 pub mod Takes
-pub mod UnderWay
 pub mod Verdicts
 pub mod Waited
 pub mod Whole

@@ -22,13 +22,14 @@ use Rattle.task_body.specs.Passes.{PassView}
 use Rattle.env_core.specs.Calls.{IsWantedNext}
 use Rattle.env_core.specs.Jobs.{CanEndItem, HasGoneOn, HasLeft, IsHeld}
 use Rattle.env_core.specs.Views.{EnvView, Enters}
-use Rattle.env_check.specs.Follows.{Follows, entry_by}
-use Rattle.env_check.specs.Hands.{AreInHand}
-use Rattle.env_check.specs.declared.hand.Hand.{Hand}
-use Rattle.env_check.specs.declared.hand.Hand.TheVariants.{Item}
-use Rattle.env_check.proofs.Hands.{holds_now, runs_now, script_is}
+use Rattle.seat_hand.specs.Entries.{entry_by}
+use Rattle.seat_hand.specs.Hands.{AreInHand}
+use Rattle.seat_hand.specs.declared.hand.Hand.{Hand}
+use Rattle.seat_hand.specs.declared.hand.Hand.TheVariants.{Item}
+use Rattle.seat_hand.proofs.Hands.{holds_now, runs_now, script_is}
+use Rattle.seat_hand.proofs.UnderWay.{item_holds}
+use Rattle.env_check.specs.Follows.{Follows}
 use Rattle.env_check.proofs.Judged.{came, in_place}
-use Rattle.env_check.proofs.UnderWay.{item_holds}
 use Rattle.env_check.proofs.Wishes.{next_alike}
 
 -- Going in.

@@ -15,7 +15,8 @@ use Rattle.hist_model.specs.Script.{wants}
 use Rattle.hist_model.specs.Views.{own_entries}
 use Rattle.env_core.specs.Calls.{IsWantedNext}
 use Rattle.env_core.specs.Views.{EnvView, Enters}
-use Rattle.env_check.specs.Follows.{Follows, entry_by}
+use Rattle.seat_hand.specs.Entries.{entry_by}
+use Rattle.env_check.specs.Follows.{Follows}
 use Rattle.env_check.proofs.Judged.{came, in_place}
 use Rattle.env_check.proofs.Replies.{only_reply}
 use Rattle.env_check.proofs.Wishes.{next_alike}

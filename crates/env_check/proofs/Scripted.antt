@@ -1,49 +1,27 @@
 -- Entries that the driver makes by the script: it has nothing in hand, and its entry is judged by the one that was entered.
-use Rattle.std.proofs.Common.{◌≡◌, ℕ, ◌≤◌, Bool, true, false, List, get_or, length, Option, Some, None, refl, sym, ap, ◌∙◌, arith}
+use Rattle.std.proofs.Common.{◌≡◌, ℕ, Bool, true, false, List, Option, refl, sym, ap, ◌∙◌}
 use Rattle.std.proofs.lemmas.Bool.{eq-eqb, eqb-true, true≢false}
-use Rattle.std.proofs.lemmas.Option.{slice_get_read}
 use Rattle.std.proofs.Math.Bool.{beq}
-use Rattle.std.specs.Prelude.{is_none, not, ◌&&◌, ◌==◌}
+use Rattle.std.specs.Prelude.{not, ◌==◌}
 use Rattle.task_base.specs.declared.entry.Kind.{Kind}
 use Rattle.task_base.specs.declared.entry.Kind.TheVariants as kinds
 use Rattle.task_model.specs.Refusal.{is_job_forbidden}
-use Rattle.task_model.specs.Seats.{Holding, Running, holding_after, is_free, running, running_after}
+use Rattle.task_model.specs.Seats.{Holding, Running, holding_after, is_free, running_after}
 use Rattle.task_model.specs.Time.{now_of}
 use Rattle.hist_model.specs.Allowed.{by_script}
 use Rattle.hist_model.specs.Moments.{moment_behind}
-use Rattle.hist_model.proofs.Laws.Own.{holding_own, running_own}
 use Rattle.env_core.specs.Views.{EnvView, Enters}
 use Rattle.env_core.proofs.Plans.{driver_holds_nothing, driver_runs_nothing}
-use Rattle.env_check.specs.Follows.{Follows, entry_by}
-use Rattle.env_check.specs.Hands.{AreInHand, IsInHand, is_empty}
-use Rattle.env_check.specs.declared.hand.Hand.{Hand}
-use Rattle.env_check.specs.declared.hand.Hand.TheVariants.{Free, Task, Item}
-use Rattle.env_check.proofs.Hands.{all_stay, free_stays}
+use Rattle.seat_hand.specs.Entries.{entry_by}
+use Rattle.seat_hand.specs.Hands.{AreInHand, IsInHand, is_empty}
+use Rattle.seat_hand.specs.declared.hand.Hand.{Hand}
+use Rattle.seat_hand.specs.declared.hand.Hand.TheVariants.{Free, Task, Item}
+use Rattle.seat_hand.proofs.Free.{free_hand}
+use Rattle.seat_hand.proofs.Hands.{all_stay, free_stays}
+use Rattle.env_check.specs.Follows.{Follows}
 use Rattle.env_check.proofs.Judged.{in_place, may_not}
 use Rattle.env_check.proofs.Replies.{job_reply, own_moment}
 use Rattle.env_check.proofs.Wishes.{is_scripted, job_wanted_with_any_reply, unscripted, wanted_at_any_moment, wanted_next}
-
--- a seat is free exactly where its hand is empty
-pub free_hand : (view : EnvView) (seat : ℕ) (hand : Hand) → IsInHand view seat hand → is_empty hand ≡ is_free view.history seat
-free_hand view seat Free in_hand = sym (rw (← running_own view.history seat, ← holding_own view.history seat) in_hand)
-free_hand view seat (Task at) in_hand = rw (← running_own view.history seat, in_hand.seats.runs) refl
-free_hand view seat (Item pass) in_hand = rw (← holding_own view.history seat, in_hand.holds) (no_none (running view.history seat))
-  where
-    no_none : (o : Option Running) → false ≡ (is_none o && false)
-    no_none None = refl
-    no_none (Some w) = refl
-
--- what is in hand at a place of the hands that was read
-pub hand_at : (view : EnvView) (hands : List Hand) (seat : ℕ) (hand : Hand) → AreInHand view hands → seat ≤ view.script.workers
-    → hand ≡ get_or hands seat hand → is_empty hand ≡ is_free view.history seat
-hand_at view hands seat hand are known read = free_hand view seat hand (are.each seat hand
-    (slice_get_read hands (length hands) seat hand refl (omega (arith, are.all, known)) read))
-
--- a hand other than the free one is not empty
-pub not_empty : (hand : Hand) → (hand ≡ Free → ⊥) → is_empty hand ≡ false
-not_empty Free other = absurd (other refl)
-not_empty (Task at) other = refl
-not_empty (Item pass) other = refl
 
 -- where the script wants an entry of a seat, that seat is free
 scripted_is_free : (view : EnvView) (hands : List Hand) (seat : ℕ) (kind : Kind) → AreInHand view hands

@@ -28,7 +28,8 @@ use Rattle.hist_model.proofs.Laws.Choice.{found}
 use Rattle.hist_model.proofs.Laws.Takes.{IsReadyWorker, by_driver, job_take_is, ready_worker}
 use Rattle.env_core.specs.Calls.{IsWantedNext}
 use Rattle.env_core.specs.Views.{EnvView, Enters}
-use Rattle.env_check.specs.Follows.{Follows, asks_front, entry_by, takes_source}
+use Rattle.seat_hand.specs.Entries.{entry_by, takes_source}
+use Rattle.env_check.specs.Follows.{Follows, asks_front}
 use Rattle.env_check.proofs.Judged.{came, in_place}
 use Rattle.env_check.proofs.Wishes.{next_alike}
 

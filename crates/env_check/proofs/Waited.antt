@@ -13,9 +13,10 @@ use Rattle.hist_model.specs.Allowed.{by_script}
 use Rattle.env_core.specs.Calls.{IsIdle}
 use Rattle.env_core.specs.Jobs.{TriesToCancel, TriesToJoin}
 use Rattle.env_core.specs.Views.{EnvView, Enters}
-use Rattle.env_check.specs.Follows.{Follows, entry_by}
-use Rattle.env_check.specs.Hands.{AreInHand}
-use Rattle.env_check.specs.declared.hand.Hand.{Hand}
+use Rattle.seat_hand.specs.Entries.{entry_by}
+use Rattle.seat_hand.specs.Hands.{AreInHand}
+use Rattle.seat_hand.specs.declared.hand.Hand.{Hand}
+use Rattle.env_check.specs.Follows.{Follows}
 use Rattle.env_check.proofs.Judged.{entered, in_place, may_not}
 use Rattle.env_check.proofs.Replies.{joined_reply}
 use Rattle.env_core.proofs.Waiting.{not_cancelled, not_done, not_idle, not_joined}

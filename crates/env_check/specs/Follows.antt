@@ -5,27 +5,12 @@ use Rattle.task_base.specs.declared.entry.Kind.{Kind}
 use Rattle.task_base.specs.declared.entry.Kind.TheVariants as kinds
 use Rattle.hist_model.specs.Allowed.{is_allowed, may_come}
 use Rattle.env_core.specs.Views.{EnvView, Enters}
-
--- the entry of a seat
-abbrev pub entry_by : ℕ → Kind → Entry
-entry_by seat kind = record { seat = seat; kind = kind }
-
--- the entry with another reply, where it has one
-abbrev pub with_reply : Kind → Bool → Kind
-with_reply (kinds.Post task runner delay ok) reply = kinds.Post task runner delay reply
-with_reply (kinds.Main task queue delay ok) reply = kinds.Main task queue delay reply
-with_reply kind reply = kind
+use Rattle.seat_hand.specs.Entries.{takes_source}
 
 -- the answer says whether the entry may come, and where it may the history has it at its end
 pub record Follows (before after : EnvView) (entry : Entry) (answer : Bool) : Type 0 where
   pub judged : answer ≡ is_allowed before.script before.history entry
   pub goes_on : answer ≡ true → after ≡ record before { history = before.history ++ entry ∷ [] }
-
--- the entry takes a source of the pool
-abbrev pub takes_source : Kind → Bool
-takes_source (kinds.Take task runner found) = true
-takes_source (kinds.JobTake job id item) = true
-takes_source kind = false
 
 -- a worker has taken its best source by this entry, or there was nothing that it might take, and nothing was entered
 abbrev pub TakesBest : EnvView → EnvView → ℕ → Option Kind → Type 0

@@ -1,6 +1,2 @@
-pub mod Hands
 pub mod Follows
 pub mod Verdicts
-pub mod Ranks
-pub mod Bars
-pub mod Causes

@@ -2,30 +2,29 @@ ghost use Rattle.std.specs.Prelude.{◌≡◌, ◌≤◌, ℕ, true};
 ghost use Rattle.std.specs.List.{list_any};
 ghost use Rattle.hist_model.specs.Allowed.{by_task, enters};
 ghost use Rattle.env_core.specs.Views.{Enters};
-ghost use Rattle.env_check.specs.Hands.{told_by};
-ghost use Rattle.env_check.specs.Follows.{Follows, entry_by, with_reply};
+ghost use Rattle.seat_hand.specs.Hands.{told_by};
+ghost use Rattle.seat_hand.specs.Entries.{entry_by, with_reply};
+ghost use Rattle.env_check.specs.Follows.{Follows};
 
-use crate::hand::{AtTask, Hand, advance, take_task};
 use crate::replay::Replay;
+use seat_hand::{AtTask, Hand, advance, take_task};
 use task_base::{Kind, QueueId, RunnerId, Scope, SeatNo, Step, TaskId};
 use task_body::Act;
 
-impl AtTask {
-    /// Whether the next act step makes this entry.
-    pub(crate) fn makes(&self, kind: &Kind) -> bool
-        ensures { result ≡ list_any (λ step. enters self.now.work.task step kind.now) (told_by self.now.next) }
-    {
-        match self.next {
-            Act::Post {
-                task,
-                runner,
-                delay,
-            } => is_post(kind, task, runner, delay),
-            Act::Main { task, queue, delay } => is_main_post(kind, task, queue, delay),
-            Act::Enter(scope) => is_enter(kind, self.work.task(), scope),
-            Act::Leave => is_leave(kind, self.work.task()),
-            Act::Did(_) | Act::Finished => false,
-        }
+/// Whether the next act step of a task makes this entry.
+pub fn makes(at: &AtTask, kind: &Kind) -> bool
+    ensures { result ≡ list_any (λ step. enters at.now.work.task step kind.now) (told_by at.now.next) }
+{
+    match at.next {
+        Act::Post {
+            task,
+            runner,
+            delay,
+        } => is_post(kind, task, runner, delay),
+        Act::Main { task, queue, delay } => is_main_post(kind, task, queue, delay),
+        Act::Enter(scope) => is_enter(kind, at.work.task(), scope),
+        Act::Leave => is_leave(kind, at.work.task()),
+        Act::Did(_) | Act::Finished => false,
     }
 }
 

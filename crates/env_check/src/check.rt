@@ -2,10 +2,8 @@ ghost use Rattle.std.specs.Prelude.{◌≡◌, ◌↔◌, [], None, IfOk};
 ghost use Rattle.script_model.specs.Laws.Sound.{IsSound};
 ghost use Rattle.hist_model.specs.Legal.{IsLegal, first_illegal};
 ghost use Rattle.hist_model.specs.Script.{IsWhole};
-ghost use Rattle.env_check.specs.Causes.{IsExplained, NamesAllowed, verdict_told};
 ghost use Rattle.env_check.specs.Verdicts.{prefix_verdict_of, verdict_of};
 
-use crate::cause::Explanation;
 use crate::replay::Replay;
 use crate::verdict::Verdict;
 use std::alloc::{AllocError, Global};
@@ -48,55 +46,8 @@ pub fn check_prefix(
     }
 }
 
-/// Judges a log as `check_log` does, and says why it is illegal: which entry would be allowed in the place of the first one
-/// that may not come, or what stands against any. It takes at most twice as long. The error is want of memory.
-pub fn explain_log(
-    alloc: Global,
-    script: &Script,
-    log: &Rows<Entry>,
-) -> Result<Explanation, AllocError>
-    requires { IsSound script.now }
-    ensures verdict { IfOk result (λ told. verdict_told told ≡ verdict_of script.now log.now.items) }
-    ensures legal { IfOk result (λ told. (told ≡ Explanation.Legal) ↔ (IsLegal script.now log.now.items × IsWhole script.now log.now.items)) }
-    ensures cause { IfOk result (λ told. IsExplained script.now log.now.items told) }
-    ensures named { IfOk result (λ told. NamesAllowed script.now log.now.items told) }
-{
-    let verdict = check_log(alloc, script, log)?;
-    match verdict {
-        Verdict::Legal => Ok(Explanation::Legal),
-        Verdict::Illegal { place } => {
-            let told = explain_at(alloc, script, log, place)?;
-            Ok(told)
-        }
-    }
-}
-
-/// Why a log is illegal at a place: follows the log up to there, and looks at what may come. The error is want of memory.
-fn explain_at(
-    alloc: Global,
-    script: &Script,
-    log: &Rows<Entry>,
-    place: u32,
-) -> Result<Explanation, AllocError>
-    requires plan { IsSound script.now }
-    requires illegal { verdict_of script.now log.now.items ≡ Verdict.Illegal place }
-    ensures verdict { IfOk result (λ told. verdict_told told ≡ Verdict.Illegal place) }
-    ensures cause { IfOk result (λ told. IsExplained script.now log.now.items told) }
-{
-    let mut replay = Replay::open(alloc, script)?;
-    let front = &log.as_slice()[..place as usize];
-    follow_all(&mut replay, script, front);
-    match log.at(place as usize) {
-        Some(entry) => Ok(Explanation::Barred {
-            place,
-            cause: replay.explain(script, front, *entry),
-        }),
-        None => replay.explain_end(alloc, script, place),
-    }
-}
-
 /// Goes on by these entries as far as they may come. Answers the place of the first one that may not, if there is one.
-fn follow_all(replay: &mut Replay, script: &Script, entries: &[Entry]) -> Option<u32>
+pub fn follow_all(replay: &mut Replay, script: &Script, entries: &[Entry]) -> Option<u32>
     requires plan { IsSound script.now }
     requires script { replay.old.script ≡ script.now }
     requires empty { replay.old.history ≡ [] }

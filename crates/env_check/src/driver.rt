@@ -1,4 +1,5 @@
-ghost use Rattle.env_check.specs.Follows.{Follows, entry_by};
+ghost use Rattle.seat_hand.specs.Entries.{entry_by};
+ghost use Rattle.env_check.specs.Follows.{Follows};
 
 use crate::replay::Replay;
 use task_base::{FenceAt, JobId, Kind, Policy, Priority, QueueId, RunnerId, SeatNo};

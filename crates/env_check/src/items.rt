@@ -2,11 +2,12 @@ ghost use Rattle.std.specs.Prelude.{◌≡◌, ◌↔◌, ◌≤◌, ◌&&◌, �
 ghost use Rattle.list_laws.specs.Lists.{holds_of};
 ghost use Rattle.task_model.specs.Seats.{holding};
 ghost use Rattle.env_core.specs.Calls.{IsWantedNext};
-ghost use Rattle.env_check.specs.Follows.{Follows, entry_by};
+ghost use Rattle.seat_hand.specs.Entries.{entry_by};
+ghost use Rattle.env_check.specs.Follows.{Follows};
 
-use crate::hand::{Hand, take_item};
 use crate::replay::Replay;
 use past_lookup::value_of;
+use seat_hand::{Hand, take_item};
 use task_base::{JobId, Kind, Script, SeatNo};
 use task_body::JobPass;
 

@@ -4,22 +4,15 @@
 
 mod act;
 mod asks;
-mod bar;
-mod cause;
 mod check;
 mod driver;
-mod explain;
 mod follow;
-mod hand;
 mod items;
-mod next;
-mod rank;
 mod replay;
 mod tasks;
 mod verdict;
 mod waits;
-mod wanted;
 
-pub use cause::{Bar, Busy, Cause, Edge, Explanation, Work};
-pub use check::{check_log, check_prefix, explain_log};
+pub use check::{check_log, check_prefix, follow_all};
+pub use replay::Replay;
 pub use verdict::Verdict;

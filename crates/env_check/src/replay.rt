@@ -6,11 +6,12 @@ ghost use Rattle.hist_model.specs.Script.{is_wanted, is_whole};
 ghost use Rattle.hist_model.specs.Views.{own_entries};
 ghost use Rattle.script_model.specs.Laws.Sound.{IsSound};
 ghost use Rattle.env_core.specs.Calls.{AreFresh};
-ghost use Rattle.env_check.specs.Hands.{is_empty};
+ghost use Rattle.seat_hand.specs.Hands.{AreInHand, is_empty};
 
+use crate::act::makes;
 use crate::asks::asks;
-use crate::hand::Hand;
 use env_core::Env;
+use seat_hand::Hand;
 use std::alloc::{AllocError, Global};
 use std::marker::Model;
 use task_base::{Kind, Rows, Script, SeatNo, Step};
@@ -27,7 +28,7 @@ pub struct Replay {
 
 impl Model for Replay {
     ghost use Rattle.env_core.specs.Views.{EnvView};
-    ghost use Rattle.env_check.specs.Hands.{AreInHand};
+    ghost use Rattle.seat_hand.specs.Hands.{AreInHand};
 
     ghost Value = { EnvView };
 
@@ -46,6 +47,15 @@ impl Replay {
         let env = Env::open(alloc, script.copy(alloc)?, bodies_of(alloc, script)?)?;
         let hands = free_hands(alloc, script.workers + 1)?;
         Ok(Replay { env, hands })
+    }
+
+    /// The environment as the entries so far have left it, and what each seat has in hand.
+    pub fn into_parts(self) -> (Env<ScriptBody>, Vec<Hand>)
+        ensures env { result.0 ≡ self }
+        ensures hands { AreInHand self result.1.items }
+    {
+        let Replay { env, hands } = self;
+        (env, hands)
     }
 
     /// Whether the script is finished, no seat runs a task, and none holds an item.
@@ -68,14 +78,14 @@ impl Replay {
         ensures { result ≡ by_task self.now.script self.now.history seat kind.now }
     {
         match &self.hands[seat as usize] {
-            Hand::Task(at) => at.makes(kind),
+            Hand::Task(at) => makes(at, kind),
             Hand::Free => false,
             Hand::Item(_) => false,
         }
     }
 
     /// Whether the seat runs nothing and is inside no job.
-    pub(crate) fn is_free(&self, seat: SeatNo) -> bool
+    pub fn is_free(&self, seat: SeatNo) -> bool
         requires { seat ≤ self.now.script.workers }
         ensures { result ≡ is_free self.now.history seat }
     {

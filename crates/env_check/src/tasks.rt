@@ -4,11 +4,11 @@ ghost use Rattle.task_base.specs.Steps.{after};
 ghost use Rattle.task_model.specs.Seats.{is_free, running};
 ghost use Rattle.hist_model.specs.Allowed.{has_done};
 ghost use Rattle.env_core.specs.Calls.{IsWantedNext};
-ghost use Rattle.env_core.specs.Views.{Enters};
-ghost use Rattle.env_check.specs.Follows.{Follows, TakesBest, TakesFront, entry_by};
+ghost use Rattle.seat_hand.specs.Entries.{entry_by};
+ghost use Rattle.env_check.specs.Follows.{Follows, TakesBest, TakesFront};
 
-use crate::hand::{AtTask, Hand, advance, take_task};
 use crate::replay::Replay;
+use seat_hand::{AtTask, Hand, advance, take_task};
 use task_base::{Kind, QueueId, RunnerId, SeatNo, TaskId};
 use task_body::{Act, Taken};
 
@@ -149,27 +149,25 @@ impl Replay {
         ensures { result ≡ holds_of (λ w. w.task == task && has_done self.now.script self.now.history seat left w) (running self.now.history seat) }
     {
         match &self.hands[seat as usize] {
-            Hand::Task(at) => at.has_done(task, left),
+            Hand::Task(at) => has_ended(at, task, left),
             Hand::Free => false,
             Hand::Item(_) => false,
         }
     }
 }
 
-impl AtTask {
-    /// Whether it is this task, no step is left, and it leaves this value.
-    fn has_done(&self, task: TaskId, left: u64) -> bool
-        ensures ended { self.now.next ≡ Act.Finished → self.now.work.rest ≡ [] → result ≡ (self.now.work.task == task
-            && after self.now.work.whole self.now.work.found == left) }
-        ensures not_ended { self.now.next ≢ Act.Finished → result ≡ false }
-    {
-        match self.next {
-            Act::Finished => {
-                let value = self.work.value();
-                self.work.task() == task && value == left
-            }
-            _ => false,
+/// Whether it is this task, no step of it is left, and it leaves this value.
+fn has_ended(at: &AtTask, task: TaskId, left: u64) -> bool
+    ensures ended { at.now.next ≡ Act.Finished → at.now.work.rest ≡ [] → result ≡ (at.now.work.task == task
+        && after at.now.work.whole at.now.work.found == left) }
+    ensures not_ended { at.now.next ≢ Act.Finished → result ≡ false }
+{
+    match at.next {
+        Act::Finished => {
+            let value = at.work.value();
+            at.work.task() == task && value == left
         }
+        _ => false,
     }
 }
 

@@ -1,5 +1,6 @@
 ghost use Rattle.std.specs.Prelude.{◌≡◌, ◌↔◌, IsTrue};
-ghost use Rattle.env_check.specs.Follows.{Follows, entry_by};
+ghost use Rattle.seat_hand.specs.Entries.{entry_by};
+ghost use Rattle.env_check.specs.Follows.{Follows};
 
 use crate::replay::Replay;
 use task_base::{JobId, JobReply, Kind, NotYet, SeatNo};

@@ -3,19 +3,19 @@ use Rattle.std.specs.Prelude.{ℕ, Bool, true, false, if◌then◌else◌, List,
 use Rattle.task_base.specs.declared.entry.Entry.{Entry}
 use Rattle.task_base.specs.declared.entry.Kind.{Kind}
 use Rattle.log_model.specs.LogText.{json_of}
-use Rattle.env_check.specs.Causes.{named_by}
-use Rattle.env_check.specs.Follows.{entry_by}
-use Rattle.env_check.specs.declared.cause.Bar.{Bar}
-use Rattle.env_check.specs.declared.cause.Bar.TheVariants as bars
-use Rattle.env_check.specs.declared.cause.Busy.{Busy}
-use Rattle.env_check.specs.declared.cause.Cause.{Cause}
-use Rattle.env_check.specs.declared.cause.Cause.TheVariants as causes
-use Rattle.env_check.specs.declared.cause.Edge.{Edge}
-use Rattle.env_check.specs.declared.cause.Edge.TheVariants as edges
-use Rattle.env_check.specs.declared.cause.Explanation.{Explanation}
-use Rattle.env_check.specs.declared.cause.Explanation.TheVariants as explanations
-use Rattle.env_check.specs.declared.cause.Work.{Work}
-use Rattle.env_check.specs.declared.cause.Work.TheVariants as works
+use Rattle.seat_hand.specs.Entries.{entry_by}
+use Rattle.next_entry.specs.Causes.{named_by}
+use Rattle.next_entry.specs.declared.cause.Bar.{Bar}
+use Rattle.next_entry.specs.declared.cause.Bar.TheVariants as bars
+use Rattle.next_entry.specs.declared.cause.Busy.{Busy}
+use Rattle.next_entry.specs.declared.cause.Cause.{Cause}
+use Rattle.next_entry.specs.declared.cause.Cause.TheVariants as causes
+use Rattle.next_entry.specs.declared.cause.Edge.{Edge}
+use Rattle.next_entry.specs.declared.cause.Edge.TheVariants as edges
+use Rattle.next_entry.specs.declared.cause.Explanation.{Explanation}
+use Rattle.next_entry.specs.declared.cause.Explanation.TheVariants as explanations
+use Rattle.next_entry.specs.declared.cause.Work.{Work}
+use Rattle.next_entry.specs.declared.cause.Work.TheVariants as works
 use Rattle.explain_text.specs.Plain.{around, seat_of}
 
 -- the word of a cause

@@ -1,10 +1,10 @@
 ghost use Rattle.std.specs.Prelude.{◌≡◌, ◌++◌, [], if◌then◌else◌, codes, decimal, IfOk, OnOk};
-ghost use Rattle.env_check.specs.Causes.{named_by};
+ghost use Rattle.next_entry.specs.Causes.{named_by};
 ghost use Rattle.explain_text.specs.Json.{at_work_object, bad_line_json, bar_key, busy_object, busy_objects, cause_keys, cause_name, cause_object, edge_key, entry_key, named_key, told_json};
 
 use crate::plain::{named_by, seat_at};
-use env_check::{Bar, Busy, Cause, Edge, Explanation, Work};
 use itoa::Buffer;
+use next_entry::{Bar, Busy, Cause, Edge, Explanation, Work};
 use run_log::json_row;
 use std::alloc::{AllocError, Global};
 use task_base::{Entry, Kind, Place, SeatNo};

@@ -1,10 +1,10 @@
 ghost use Rattle.std.specs.Prelude.{◌≡◌, ◌+◌, ◌≤◌, ◌++◌, [], if◌then◌else◌, codes, decimal, flat_map, length, slice_get};
-ghost use Rattle.env_check.specs.Causes.{named_by};
+ghost use Rattle.next_entry.specs.Causes.{named_by};
 ghost use Rattle.explain_text.specs.Plain.{around, at_work_line, bad_line_text, bar_words, busy_words, cause_line, cause_words, edge_words, more_words, next_line, seat_of, told_text};
 
-use env_check::{Bar, Busy, Cause, Edge, Explanation, Work};
 use itoa::Buffer;
 use line_text::{Line, add, add_decimal};
+use next_entry::{Bar, Busy, Cause, Edge, Explanation, Work};
 use task_base::{Entry, Kind, Place, SeatNo};
 
 /// How many seats that run or hold something a line names at most.

@@ -1,9 +1,9 @@
 use Rattle.env_core.specs.Calls.{EntersAct}
 use Rattle.list_laws.proofs.Places.{slice_set-twice}
-use Rattle.env_check.specs.Hands.{AreInHand}
-use Rattle.env_check.specs.declared.hand.Hand.TheVariants.{Free, Task}
-use Rattle.env_check.proofs.Hands.{all_in_hand}
-use Rattle.env_check.proofs.UnderWay.{GoesTo, at_acted, enters_kind, may_act, some_task, task_there}
+use Rattle.seat_hand.specs.Hands.{AreInHand}
+use Rattle.seat_hand.specs.declared.hand.Hand.TheVariants.{Free, Task}
+use Rattle.seat_hand.proofs.Hands.{all_in_hand}
+use Rattle.seat_hand.proofs.UnderWay.{GoesTo, at_acted, enters_kind, may_act, some_task, task_there}
 use Rattle.env_check.proofs.replay.Replay.act.Goals as goal
 
 pub take_task-requires : goal.take_task-requires

@@ -1,12 +1,12 @@
 use Rattle.std.proofs.Common.{◌∙◌, refl, sym, true, arith}
 use Rattle.task_base.specs.declared.entry.Kind.TheVariants as kinds
 use Rattle.env_core.specs.Views.{Enters}
-use Rattle.env_check.specs.Hands.{AreInHand}
-use Rattle.env_check.specs.declared.hand.Hand.TheVariants.{Free, Task}
+use Rattle.seat_hand.specs.Hands.{AreInHand}
+use Rattle.seat_hand.specs.declared.hand.Hand.TheVariants.{Free, Task}
+use Rattle.seat_hand.proofs.Hands.{all_in_hand}
+use Rattle.seat_hand.proofs.UnderWay.{task_holds_nothing, task_there}
 use Rattle.env_check.proofs.Ends.{driver_ends_none, end_comes, ends_by, free_behind_end, may_end, one_end}
-use Rattle.env_check.proofs.Hands.{all_in_hand}
 use Rattle.env_check.proofs.Judged.{came, in_place, may_not}
-use Rattle.env_check.proofs.UnderWay.{task_holds_nothing, task_there}
 use Rattle.env_check.proofs.replay.Replay.end.Goals as goal
 
 pub returns-then-seat-eq0 : goal.returns-then-seat-eq0

@@ -1,9 +1,9 @@
 use Rattle.std.proofs.Common.{ap, sym}
 use Rattle.list_laws.specs.Lists.{holds_of}
-use Rattle.env_check.specs.Hands.{AreInHand}
-use Rattle.env_check.specs.declared.hand.Hand.TheVariants.{Free, Task, Item}
+use Rattle.seat_hand.specs.Hands.{AreInHand}
+use Rattle.seat_hand.specs.declared.hand.Hand.TheVariants.{Free, Task, Item}
+use Rattle.seat_hand.proofs.UnderWay.{free_runs_nothing, item_runs_nothing, read_there}
 use Rattle.env_check.proofs.Ends.{done_is, is_done}
-use Rattle.env_check.proofs.UnderWay.{free_runs_nothing, item_runs_nothing, read_there}
 use Rattle.env_check.proofs.replay.Replay.has_done.Goals as goal
 
 pub returns-in-Task : goal.returns-in-Task
@@ -11,7 +11,7 @@ returns-in-Task c =
     let view = c.args.self.now in
     let are : AreInHand view c.self.inside.hands.items = rw (← c.self.view_is) c.self.invariant in
     let at = read_there are c.args.seat c.index.result.now (Task c.in-Task.at) c.requires c.index.ensures c.in-Task.is in
-    done_is (are.each c.args.seat (Task c.in-Task.at) at) c.args.task c.args.left c.has_done.result c.has_done.ensures.ended c.has_done.ensures.not_ended
+    done_is (are.each c.args.seat (Task c.in-Task.at) at) c.args.task c.args.left c.has_ended.result c.has_ended.ensures.ended c.has_ended.ensures.not_ended
 
 pub returns-in-Free : goal.returns-in-Free
 returns-in-Free c =

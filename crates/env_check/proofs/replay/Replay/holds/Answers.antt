@@ -1,9 +1,9 @@
 use Rattle.std.proofs.Common.{◌∙◌, ap, sym}
 use Rattle.list_laws.specs.Lists.{holds_of}
-use Rattle.env_check.specs.Hands.{AreInHand}
-use Rattle.env_check.specs.declared.hand.Hand.TheVariants.{Free, Task, Item}
+use Rattle.seat_hand.specs.Hands.{AreInHand}
+use Rattle.seat_hand.specs.declared.hand.Hand.TheVariants.{Free, Task, Item}
+use Rattle.seat_hand.proofs.UnderWay.{free_holds_nothing, item_holds, read_there, task_holds_nothing}
 use Rattle.env_check.proofs.Passes.{is_item}
-use Rattle.env_check.proofs.UnderWay.{free_holds_nothing, item_holds, read_there, task_holds_nothing}
 use Rattle.env_check.proofs.replay.Replay.holds.Goals as goal
 
 pub returns-in-Item : goal.returns-in-Item

@@ -1,7 +1,7 @@
 use Rattle.std.proofs.Common.{◌∙◌, sym}
-use Rattle.env_check.specs.Hands.{AreInHand}
-use Rattle.env_check.specs.declared.hand.Hand.TheVariants.{Free, Task, Item}
-use Rattle.env_check.proofs.UnderWay.{by_told, free_runs_nothing, item_runs_nothing, no_task, read_there}
+use Rattle.seat_hand.specs.Hands.{AreInHand}
+use Rattle.seat_hand.specs.declared.hand.Hand.TheVariants.{Free, Task, Item}
+use Rattle.seat_hand.proofs.UnderWay.{by_told, free_runs_nothing, item_runs_nothing, no_task, read_there}
 use Rattle.env_check.proofs.replay.Replay.is_by_task.Goals as goal
 
 pub returns-in-Task : goal.returns-in-Task

@@ -1,6 +1,6 @@
 use Rattle.std.proofs.Common.{ap, sym, ◌∙◌}
-use Rattle.env_check.specs.Hands.{is_empty}
-use Rattle.env_check.proofs.Scripted.{hand_at, not_empty}
+use Rattle.seat_hand.specs.Hands.{is_empty}
+use Rattle.seat_hand.proofs.Free.{hand_at, not_empty}
 use Rattle.env_check.proofs.replay.Replay.is_free.Goals as goal
 
 pub returns-in-Free : goal.returns-in-Free

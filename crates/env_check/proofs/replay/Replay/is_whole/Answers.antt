@@ -1,6 +1,6 @@
 use Rattle.std.proofs.Common.{false, true, refl, sym, ap, ◌∙◌}
 use Rattle.std.specs.List.{list_all}
-use Rattle.env_check.specs.Hands.{is_empty}
+use Rattle.seat_hand.specs.Hands.{is_empty}
 use Rattle.env_check.proofs.Whole.{finished_told, whole_told}
 use Rattle.env_check.proofs.replay.Replay.is_whole.Goals as goal
 

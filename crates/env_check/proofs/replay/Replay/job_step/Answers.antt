@@ -4,12 +4,12 @@ use Rattle.task_base.specs.declared.entry.Kind.TheVariants as kinds
 use Rattle.task_model.specs.Jobs.{item_value}
 use Rattle.env_core.specs.Jobs.{HasGoneOn, HasLeft}
 use Rattle.list_laws.proofs.Places.{slice_set-twice}
-use Rattle.env_check.specs.Hands.{AreInHand}
-use Rattle.env_check.specs.declared.hand.Hand.TheVariants.{Free, Item}
-use Rattle.env_check.proofs.Hands.{all_in_hand}
+use Rattle.seat_hand.specs.Hands.{AreInHand}
+use Rattle.seat_hand.specs.declared.hand.Hand.TheVariants.{Free, Item}
+use Rattle.seat_hand.proofs.Hands.{all_in_hand}
+use Rattle.seat_hand.proofs.UnderWay.{item_runs_nothing, item_there}
 use Rattle.env_check.proofs.Judged.{may_not}
 use Rattle.env_check.proofs.Passes.{free_behind_leave, held_on, judged_step, may_step, none_is, not_held, other_value, pass_is, some_item}
-use Rattle.env_check.proofs.UnderWay.{item_runs_nothing, item_there}
 use Rattle.env_check.proofs.replay.Replay.job_step.Goals as goal
 
 pub returns-then-not-holds : goal.returns-then-not-holds

@@ -2,9 +2,9 @@ use Rattle.std.proofs.Common.{◌≤◌, arith}
 use Rattle.task_base.specs.declared.entry.Kind.TheVariants as kinds
 use Rattle.env_core.specs.Jobs.{HasJoinedIn, HasNoItem}
 use Rattle.env_core.proofs.Wanted.{wanted_by_script}
-use Rattle.env_check.specs.Hands.{AreInHand}
-use Rattle.env_check.specs.declared.hand.Hand.TheVariants.{Item}
-use Rattle.env_check.proofs.Hands.{all_in_hand}
+use Rattle.seat_hand.specs.Hands.{AreInHand}
+use Rattle.seat_hand.specs.declared.hand.Hand.TheVariants.{Item}
+use Rattle.seat_hand.proofs.Hands.{all_in_hand}
 use Rattle.env_check.proofs.Judged.{may_not}
 use Rattle.env_check.proofs.Passes.{barred, held_behind, item_wanted, judged_item}
 use Rattle.env_check.proofs.replay.Replay.join_in.Goals as goal

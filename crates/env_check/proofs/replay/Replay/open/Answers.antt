@@ -1,6 +1,6 @@
 use Rattle.std.proofs.Common.{◌≡◌, ◌+◌, ℕ, ap, sym, ◌∙◌}
 use Rattle.std.specs.Prelude.{replicate}
-use Rattle.env_check.specs.declared.hand.Hand.TheVariants.{Free}
+use Rattle.seat_hand.specs.declared.hand.Hand.TheVariants.{Free}
 use Rattle.env_check.proofs.Whole.{free_at_first}
 use Rattle.env_check.proofs.replay.Replay.open.Goals as goal
 

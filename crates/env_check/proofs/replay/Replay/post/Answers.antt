@@ -1,7 +1,7 @@
 use Rattle.std.proofs.Common.{refl, sym}
 use Rattle.task_base.specs.declared.entry.Kind.TheVariants as kinds
 use Rattle.env_core.specs.Views.{Enters}
-use Rattle.env_check.specs.Hands.{AreInHand}
+use Rattle.seat_hand.specs.Hands.{AreInHand}
 use Rattle.env_check.proofs.Judged.{may_not}
 use Rattle.env_check.proofs.Posts.{judged_post, no_post, post_wanted}
 use Rattle.env_check.proofs.Scripted.{hands_stay}

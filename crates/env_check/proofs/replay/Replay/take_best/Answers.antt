@@ -1,12 +1,12 @@
 use Rattle.hist_model.proofs.Laws.Own.{holding_own, running_own}
 use Rattle.env_core.specs.Calls.{HasNothing, HasTaken, IsOver}
 use Rattle.env_core.specs.Jobs.{HasTakenItem}
-use Rattle.env_check.specs.Hands.{AreInHand}
-use Rattle.env_check.specs.declared.hand.Hand.TheVariants.{Item, Task}
-use Rattle.env_check.proofs.Hands.{all_in_hand}
+use Rattle.seat_hand.specs.Hands.{AreInHand}
+use Rattle.seat_hand.specs.declared.hand.Hand.TheVariants.{Item, Task}
+use Rattle.seat_hand.proofs.Hands.{all_in_hand}
+use Rattle.seat_hand.proofs.UnderWay.{at_task_taken}
 use Rattle.env_check.proofs.Passes.{held_behind}
 use Rattle.env_check.proofs.Takes.{none_at_end, none_best}
-use Rattle.env_check.proofs.UnderWay.{at_task_taken}
 use Rattle.env_check.proofs.replay.Replay.take_best.Goals as goal
 
 pub take-requires : goal.take-requires

@@ -2,11 +2,11 @@ use Rattle.std.proofs.Common.{◌≤◌, refl, arith}
 use Rattle.task_base.specs.declared.entry.Kind.TheVariants as kinds
 use Rattle.env_core.specs.Calls.{HasNoMain, HasTakenMain}
 use Rattle.env_core.proofs.Wanted.{wanted_by_script}
-use Rattle.env_check.specs.Hands.{AreInHand}
-use Rattle.env_check.specs.declared.hand.Hand.TheVariants.{Task}
-use Rattle.env_check.proofs.Hands.{all_in_hand}
+use Rattle.seat_hand.specs.Hands.{AreInHand}
+use Rattle.seat_hand.specs.declared.hand.Hand.TheVariants.{Task}
+use Rattle.seat_hand.proofs.Hands.{all_in_hand}
+use Rattle.seat_hand.proofs.UnderWay.{at_main_taken}
 use Rattle.env_check.proofs.Scripted.{hands_stay}
-use Rattle.env_check.proofs.UnderWay.{at_main_taken}
 use Rattle.env_check.proofs.replay.Replay.take_front.Goals as goal
 
 pub invariant_of-self : goal.invariant_of-self

@@ -1,6 +1,0 @@
-use Rattle.std.proofs.Common.{◌≡◌}
-use Rattle.env_check.specs.Hands.{busy_below}
-use Rattle.env_check.proofs.explain.busy_seats.Given as goal
-
-abbrev pub invariant-loop-seat : goal.invariant-loop-seat
-invariant-loop-seat l = l.busy.items ≡ busy_below l.hands l.seat

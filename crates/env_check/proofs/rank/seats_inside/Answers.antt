@@ -1,6 +1,0 @@
-use Rattle.std.proofs.Common.{◌∙◌}
-use Rattle.env_check.proofs.Ranks.{inside_told}
-use Rattle.env_check.proofs.rank.seats_inside.Goals as goal
-
-pub returns : goal.returns
-returns c view are = c.items_in_hand.ensures ∙ inside_told c.args.job are

@@ -1,0 +1,127 @@
+-- Where a log goes wrong, and what is left at its end.
+use Rattle.std.proofs.Common.{◌≡◌, ◌↔◌, inl, inr, ℕ, zero, suc, ◌+◌, ◌≤◌, Bool, true, false, List, ◌∷◌, length, take, refl, sym, ap, subst, ◌∙◌, Option, Some, None, arith}
+use Rattle.std.proofs.Math.Seq.{take-append_seam}
+use Rattle.std.proofs.lemmas.Bool.{true≢false}
+use Rattle.std.proofs.lemmas.List.{length-append, take_all}
+use Rattle.std.proofs.lemmas.Option.{none-some, same_Some, slice_get_within}
+use Rattle.std.specs.List.{list_all}
+use Rattle.std.specs.Prelude.{is_none}
+use Rattle.task_base.specs.Plan.{Plan}
+use Rattle.task_base.specs.declared.entry.Entry.{Entry}
+use Rattle.task_base.specs.declared.entry.Kind.{Kind}
+use Rattle.task_model.specs.Seats.{is_free}
+use Rattle.hist_model.specs.Allowed.{IsAllowed}
+use Rattle.hist_model.specs.Legal.{IsIllegalAt, IsLegal, first_illegal}
+use Rattle.hist_model.specs.Script.{IsWhole, is_finished, is_whole}
+use Rattle.hist_model.proofs.Laws.Legal.{first_illegal_none, first_illegal_some}
+use Rattle.env_core.specs.Views.{EnvView}
+use Rattle.seat_hand.specs.Entries.{entry_by}
+use Rattle.seat_hand.specs.Hands.{AreInHand, IsInHand, is_empty}
+use Rattle.seat_hand.specs.declared.hand.Hand.{Hand}
+use Rattle.seat_hand.specs.declared.hand.Hand.TheVariants.{Free}
+use Rattle.seat_hand.proofs.Free.{free_hand}
+use Rattle.next_entry.specs.Causes.{Explains, MayFollow, named_by}
+use Rattle.next_entry.specs.declared.cause.Cause.{Cause}
+use Rattle.next_entry.specs.declared.cause.Cause.TheVariants as causes
+use Rattle.next_entry.specs.declared.cause.Explanation.{Explanation}
+use Rattle.next_entry.specs.declared.cause.Explanation.TheVariants as explanations
+use Rattle.env_check.specs.Verdicts.{verdict_at, verdict_of}
+use Rattle.env_check.specs.declared.verdict.Verdict.TheVariants.{Illegal, Legal}
+use Rattle.env_check.proofs.Verdicts.{legal_answer}
+use Rattle.env_check.proofs.Whole.{whole_told}
+use Rattle.env_explain.specs.Explained.{HasInHand, HasMore, IsExplained, NamesAllowed, verdict_told}
+
+-- Where a log goes wrong.
+
+-- a log is legal up to this place, and if it ends there it is not whole
+pub record StopsAt (script : Plan) (log : List Entry) (place : ℕ) : Type 0 where
+  pub within : place ≤ length log
+  pub legal : IsLegal script (take place log)
+  pub open_end : length log ≤ place → is_whole script log ≡ false
+
+-- so it is with the place of each verdict
+pub stops : (script : Plan) (log : List Entry) (place : ℕ) → verdict_of script log ≡ Illegal place → StopsAt script log place
+unfolding verdict_of
+stops script log place verdict = by (first_illegal script log) (is_whole script log) refl refl verdict
+  where
+    at_place : IsIllegalAt script log place → StopsAt script log place
+    at_place at =
+        let long : length log ≡ length at.past + length (at.entry ∷ at.rest) = ap length at.parts ∙ length-append at.past (at.entry ∷ at.rest) in
+        record {
+          within = omega (arith, long, at.place_is);
+          legal = rw (at.parts, ← at.place_is, take-append_seam at.past (at.entry ∷ at.rest)) at.legal_before;
+          open_end = λ end. absurd (omega (arith, long, at.place_is, end));
+        }
+
+    by : (o : Option ℕ) (whole : Bool) → first_illegal script log ≡ o → is_whole script log ≡ whole → verdict_at script log o ≡ Illegal place
+        → StopsAt script log place
+    by (Some p) whole is same told = let here : p ≡ place = cc in at_place (first_illegal_some script log place (is ∙ ap Some here))
+    by None true is same told = absurd cc
+    by None false is same told =
+        let end : length log ≡ place = cc in
+        record {
+          within = omega (arith, end);
+          legal = rw (← end, take_all (length log) log (omega arith)) (sym (first_illegal_none script log) ∙ ap is_none is);
+          open_end = λ more. same;
+        }
+
+-- an entry that a cause names is allowed where the cause holds
+pub named_follows : (cause : Cause) (script : Plan) (past : List Entry) (seat : ℕ) (kind : Option Kind) (next : Kind) → Explains cause script past seat kind
+    → named_by cause ≡ Some next → IsAllowed script past (entry_by seat next)
+named_follows (causes.Runs task k) script past seat kind next holds is = subst (MayFollow script past seat) (same_Some k next is) holds.1
+named_follows (causes.Holds job k) script past seat kind next holds is = subst (MayFollow script past seat) (same_Some k next is) holds.1
+named_follows (causes.Wants k) script past seat kind next holds is = subst (MayFollow script past seat) (same_Some k next is) holds.2
+named_follows (causes.Best k edge) script past seat kind next holds is = subst (MayFollow script past seat) (same_Some k next is) holds.2
+named_follows cause script past seat kind next holds is = absurd (none-some next is)
+
+-- so what is said of a log names what is allowed
+pub names_allowed : (script : Plan) (log : List Entry) (told : Explanation) → IsExplained script log told → NamesAllowed script log told
+names_allowed script log explanations.Legal explained = tt
+names_allowed script log (explanations.Barred place cause) explained = λ e next at named.
+    let same : explained.0 ≡ e = same_Some explained.0 e (sym explained.1 ∙ at) in
+    named_follows cause script (take place log) e.seat (Some e.kind) next
+    (subst (λ (x : Entry). Explains cause script (take place log) x.seat (Some x.kind)) same explained.2) named
+names_allowed script log (explanations.Unfinished place seat cause) explained = λ next named.
+    named_follows cause script log seat None next explained.3 named
+names_allowed script log (explanations.AtWork place busy) explained = tt
+
+-- a log is said to be legal exactly where its verdict is
+pub legal_told : (script : Plan) (log : List Entry) (told : Explanation) → verdict_told told ≡ verdict_of script log
+    → (told ≡ explanations.Legal) ↔ (IsLegal script log × IsWhole script log)
+legal_told script log told is =
+    let legal = legal_answer script log (verdict_told told) is in
+    (λ same. legal.0 (ap verdict_told same), λ both. by told (legal.1 both))
+  where
+    by : (t : Explanation) → verdict_told t ≡ Legal → t ≡ explanations.Legal
+    by explanations.Legal same = refl
+    by (explanations.Barred place cause) same = absurd cc
+    by (explanations.Unfinished place seat cause) same = absurd cc
+    by (explanations.AtWork place busy) same = absurd cc
+
+-- where workers are busy, a seat that has nothing in hand is the driver's
+pub free_driver : (view : EnvView) (seat : ℕ) → IsInHand view seat Free → (1 ≤ seat → is_free view.history seat ≡ false) → seat ≡ 0
+free_driver view zero in_hand busy = refl
+free_driver view (suc n) in_hand busy = absurd (true≢false (free_hand view (suc n) Free in_hand ∙ busy (omega arith)))
+
+-- What is left at the end of a log.
+
+-- a seat that has something in hand is not free
+pub busy_not_free : {view : EnvView} {hands : List Hand} (seat : ℕ) → AreInHand view hands → HasInHand hands seat → is_free view.history seat ≡ false
+busy_not_free {view} {hands} seat are (hand, at, full) = sym (free_hand view seat hand (are.each seat hand at)) ∙ full
+
+-- so it has something left to do
+pub busy_has_more : {view : EnvView} {hands : List Hand} (seat : ℕ) → AreInHand view hands → HasInHand hands seat → HasMore view.script view.history seat
+busy_has_more seat are busy = inl (busy_not_free seat are busy)
+
+-- and is a seat of the script
+pub busy_is_known : {view : EnvView} {hands : List Hand} (seat : ℕ) → AreInHand view hands → HasInHand hands seat → seat ≤ view.script.workers
+busy_is_known {view} {hands} seat are (hand, at, full) = omega (arith, slice_get_within hands seat hand at, are.all)
+
+-- where none has and the history is not whole, the driver has
+pub driver_has_more : {view : EnvView} {hands : List Hand} → AreInHand view hands → list_all is_empty hands ≡ true
+    → is_whole view.script view.history ≡ false → HasMore view.script view.history 0
+driver_has_more {view} {hands} are free more = inr (refl, by (is_finished view.script view.history) refl)
+  where
+    by : (finished : Bool) → is_finished view.script view.history ≡ finished → finished ≡ false
+    by true is = absurd (true≢false (whole_told view hands are true true (sym is) (sym free) ∙ more))
+    by false is = refl

@@ -1,0 +1,22 @@
+use Rattle.std.proofs.Common.{sym, ◌∙◌}
+use Rattle.next_entry.specs.declared.cause.Explanation.TheVariants as explanations
+use Rattle.env_explain.proofs.Explained.{legal_told, names_allowed}
+use Rattle.env_explain.proofs.logs.explain_log.Goals as goal
+
+pub returns-in-Legal-clause-verdict : goal.returns-in-Legal-clause-verdict
+returns-in-Legal-clause-verdict c = sym c.in-Legal.is ∙ c.in_ok-verdict.ensures.verdict
+
+pub returns-in-Legal-clause-legal : goal.returns-in-Legal-clause-legal
+returns-in-Legal-clause-legal c = legal_told c.args.script.now c.args.log.now.items explanations.Legal (returns-in-Legal-clause-verdict c)
+
+pub returns-in_ok-told-in-Illegal-clause-verdict : goal.returns-in_ok-told-in-Illegal-clause-verdict
+returns-in_ok-told-in-Illegal-clause-verdict c = c.in_ok-told-in-Illegal.ensures.verdict ∙ sym c.in-Illegal.is ∙ c.in_ok-verdict.ensures.verdict
+
+pub returns-in_ok-told-in-Illegal-clause-legal : goal.returns-in_ok-told-in-Illegal-clause-legal
+returns-in_ok-told-in-Illegal-clause-legal c = legal_told c.args.script.now c.args.log.now.items _ (returns-in_ok-told-in-Illegal-clause-verdict c)
+
+pub returns-in_ok-told-in-Illegal-clause-named : goal.returns-in_ok-told-in-Illegal-clause-named
+returns-in_ok-told-in-Illegal-clause-named c = names_allowed c.args.script.now c.args.log.now.items _ c.in_ok-told-in-Illegal.ensures.cause
+
+pub explain_at-requires : goal.explain_at-requires
+explain_at-requires c = record { plan = c.requires; illegal = sym c.in_ok-verdict.ensures.verdict ∙ c.in-Illegal.is }

@@ -1,0 +1,3 @@
+pub mod Ranks
+pub mod Bars
+pub mod Causes

@@ -1,0 +1,21 @@
+-- Entries of seats.
+use Rattle.std.specs.Prelude.{ℕ, Bool, true, false}
+use Rattle.task_base.specs.declared.entry.Entry.{Entry}
+use Rattle.task_base.specs.declared.entry.Kind.{Kind}
+use Rattle.task_base.specs.declared.entry.Kind.TheVariants as kinds
+
+-- the entry of a seat
+abbrev pub entry_by : ℕ → Kind → Entry
+entry_by seat kind = record { seat = seat; kind = kind }
+
+-- the entry with another reply, where it has one
+abbrev pub with_reply : Kind → Bool → Kind
+with_reply (kinds.Post task runner delay ok) reply = kinds.Post task runner delay reply
+with_reply (kinds.Main task queue delay ok) reply = kinds.Main task queue delay reply
+with_reply kind reply = kind
+
+-- the entry takes a source of the pool
+abbrev pub takes_source : Kind → Bool
+takes_source (kinds.Take task runner found) = true
+takes_source (kinds.JobTake job id item) = true
+takes_source kind = false
