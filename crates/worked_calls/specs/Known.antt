@@ -13,6 +13,10 @@ use Rattle.env_crew.specs.Desk.{DeskView, mine}
 use Rattle.env_crew.specs.Serving.{IsFree}
 use Rattle.env_shared.specs.Sits.{desk_of}
 
+-- the environment of a script of which nothing is done
+abbrev pub at_start : Plan → EnvView
+at_start script = record { script = script; history = [] }
+
 -- the environment with one more entry
 abbrev pub with_entry : EnvView → ℕ → Kind → EnvView
 with_entry view seat kind = record view { history = view.history ++ record { seat = seat; kind = kind } ∷ [] }

@@ -1,17 +1,51 @@
 //! Runs in which the worker has no thread: the driver serves it at a spare desk.
-ghost use Rattle.std.specs.Prelude.{◌≡◌};
+ghost use Rattle.std.specs.Prelude.{◌≡◌, IfOk};
 ghost use Rattle.script_model.specs.Laws.Sound.{IsSound};
+ghost use Rattle.worked_calls.specs.Known.{IsBack, IsOf, driver_seat, worker_seat};
 
-use crate::desk_calls::{log_of_two, open};
+use crate::bodies::CountedBody;
+use crate::desk_calls::{log_of_two, open_two};
 use crate::logs::assert_log;
 use env_crew::drive;
 use env_io::{OpenGate, StepClock};
+use env_shared::{EnvSeat, Shared};
 use std::alloc::{AllocError, Global};
 use std::process::Abort;
 use std::sync::Wait;
 use std::test::Fail;
 use task_base::{Entry, Rows, Script};
 use task_script::read_script;
+
+/// Performs a script of one worker at these two seats, by readings so far apart. The worker's desk is a spare one.
+fn drive_seats<R: Wait + Abort>(
+    rt: &R,
+    alloc: Global,
+    shared: &Shared<CountedBody>,
+    script: &Script,
+    first: EnvSeat<CountedBody>,
+    second: EnvSeat<CountedBody>,
+    step: u64,
+) -> Result<(EnvSeat<CountedBody>, EnvSeat<CountedBody>), AllocError>
+    requires plan { IsSound script.now }
+    requires one { script.now.workers ≡ 1 }
+    requires script { shared.now.basis ≡ script.now }
+    requires first { first ≡ driver_seat shared.now 2 }
+    requires second { second ≡ worker_seat shared.now 1 }
+    ensures first { IfOk result (λ back. IsBack shared.now 0 2 back.0) }
+    ensures second { IfOk result (λ back. IsOf shared.now 1 back.1) }
+{
+    let mut driver = shared.desk(first);
+    let worker = shared.desk(second);
+    let mut spare = Rows::from_vec(vec![in alloc; worker]?);
+    let mut clock = StepClock::new(step);
+    drive(rt, &mut driver, &mut spare, script, &mut clock, &OpenGate);
+    let first = driver.into_seat();
+    let Some(desk) = spare.pop() else {
+        panic!(rt; "the spare desk is away")
+    };
+    let second = desk.into_seat();
+    Ok((first, second))
+}
 
 /// The log of a script of one worker, by readings so far apart.
 fn drive_alone<R: Wait + Abort>(
@@ -24,28 +58,25 @@ fn drive_alone<R: Wait + Abort>(
     requires one { script.now.workers ≡ 1 }
 {
     let copy = script.copy(alloc)?;
-    let (shared, first) = open(alloc, copy)?;
-    let (first, second) = shared.split(first);
-    let mut driver = shared.desk(first);
-    let worker = shared.desk(second);
-    let mut spare = Rows::from_vec(vec![in alloc; worker]?);
-    let mut clock = StepClock::new(step);
-    drive(rt, &mut driver, &mut spare, script, &mut clock, &OpenGate);
-    let first = driver.into_seat();
-    let Some(desk) = spare.pop() else {
-        panic!(rt; "the spare desk is away")
-    };
-    drop(spare);
-    let second = desk.into_seat();
+    let (shared, first, second) = open_two(alloc, copy)?;
+    let (first, second) = drive_seats(rt, alloc, &shared, script, first, second, step)?;
     log_of_two(alloc, shared, first, second)
 }
 
-/// Such a run of this text, by readings that are 10 apart, has this log.
-fn assert_alone<R: Wait + Abort>(rt: &R, alloc: Global, text: &str, log: &str) -> Result<(), Fail> {
+/// The script of a short text.
+fn script_of(rt: &impl Abort, alloc: Global, text: &str) -> Script
+    ensures { IsSound result }
+{
     assert!(rt; text.len() < 1000);
     let Ok(script) = read_script(alloc, text.as_bytes()) else {
         panic!(rt; "the script is not read")
     };
+    script
+}
+
+/// Such a run of this text, by readings that are 10 apart, has this log.
+fn assert_alone<R: Wait + Abort>(rt: &R, alloc: Global, text: &str, log: &str) -> Result<(), Fail> {
+    let script = script_of(rt, alloc, text);
     assert!(rt; script.workers == 1);
     let entries = drive_alone(rt, alloc, &script, 10)?;
     assert_log(rt, alloc, &entries, log)

@@ -1,30 +1,46 @@
 //! Calls on one environment, with the answers that a test wants.
-ghost use Rattle.std.specs.Prelude.{◌≡◌, ℕ, [], IfOk, None, Some};
+ghost use Rattle.std.specs.Prelude.{◌≡◌, ℕ, Bool, true, IfOk, None, Some};
 ghost use Rattle.script_model.specs.Laws.Sound.{IsSound};
 ghost use Rattle.env_core.specs.Calls.{IsFreeWorker, IsNextAct, IsWantedNext};
 ghost use Rattle.env_core.specs.Jobs.{CanEndItem};
 ghost use Rattle.task_base.specs.Plan.{Plan};
 ghost use Rattle.task_base.specs.declared.entry.Kind.TheVariants as kinds;
-ghost use Rattle.worked_calls.specs.Known.{IsLast, IsLastMain, IsWork, with_entry};
+ghost use Rattle.worked_calls.specs.Known.{IsLast, IsLastMain, IsWork, at_start, with_entry};
 ghost use Rattle.worked_calls.specs.Plans.{late_plan};
 
-use crate::bodies::{CountedBody, bodies_of};
+use crate::bodies::{CountedBody, Word, bodies_of};
 use env_core::Env;
 use std::alloc::{AllocError, Global};
 use std::process::Abort;
 use std::sync::Arc;
 use std::sync::atomic::AtomicU64;
-use task_base::{JobId, NotYet, Script, SeatNo, TaskId};
+use task_base::{JobId, Script, SeatNo, TaskId};
 use task_body::{Act, Assignment, JobPass, Taken};
+
+/// The environment of a script, whose bodies share the word.
+pub fn open_with(alloc: Global, script: Script, word: &Word) -> Result<Env<CountedBody>, AllocError>
+    requires { IsSound script }
+    ensures { IfOk result (λ env. env ≡ at_start script) }
+{
+    let bodies = bodies_of(alloc, &script, word)?;
+    Env::open(alloc, script, bodies)
+}
 
 /// The environment of a script.
 pub fn open(alloc: Global, script: Script) -> Result<Env<CountedBody>, AllocError>
     requires { IsSound script }
-    ensures { IfOk result (λ env. env ≡ record { script = script; history = [] }) }
+    ensures { IfOk result (λ env. env ≡ at_start script) }
 {
     let word = Arc::new(alloc, AtomicU64::new(0))?;
-    let bodies = bodies_of(alloc, &script, &word)?;
-    Env::open(alloc, script, bodies)
+    open_with(alloc, script, &word)
+}
+
+/// The driver posts this task to the first runner, which lets it in.
+pub fn post(rt: &impl Abort, env: &mut Env<CountedBody>, task: TaskId)
+    requires { (ok : Bool) → IsWantedNext env.old 0 (kinds.Post task 0 0 ok) }
+    ensures { env.new ≡ with_entry env.old 0 (kinds.Post task 0 0 true) }
+{
+    assert!(rt; env.post(0, task, 0, 0));
 }
 
 /// A worker takes this task, which was posted to the first runner and finds nothing.
@@ -45,9 +61,7 @@ pub fn take(
             assert!(rt; work.found() == 0);
             work
         }
-        Taken::Item(_) => panic!(rt; "seat {seat} gets an item"),
-        Taken::Nothing => panic!(rt; "seat {seat} gets nothing"),
-        Taken::Over => panic!(rt; "there is nothing any more"),
+        Taken::Item(_) | Taken::Nothing | Taken::Over => panic!(rt; "the worker gets no task"),
     }
 }
 
@@ -58,9 +72,8 @@ pub fn take_nothing(rt: &impl Abort, env: &mut Env<CountedBody>, seat: SeatNo)
 {
     match env.take(seat) {
         Taken::Nothing => {}
-        Taken::Item(_) => panic!(rt; "seat {seat} gets an item"),
-        Taken::Task(_work) => panic!(rt; "seat {seat} gets a task"),
-        Taken::Over => panic!(rt; "there is nothing any more"),
+        Taken::Item(_) | Taken::Over => panic!(rt; "the worker gets an item, or it is over"),
+        Taken::Task(_work) => panic!(rt; "the worker gets a task"),
     }
 }
 
@@ -85,7 +98,7 @@ pub fn end(
     ensures { env.new ≡ with_entry env.old seat (kinds.End task left) }
 {
     let Act::Finished = work.step() else {
-        panic!(rt; "task {task} has more steps")
+        panic!(rt; "the task has more steps")
     };
     assert!(rt; work.value() == left);
     let _ = env.end(seat, work);
@@ -123,7 +136,7 @@ pub fn end_main(
     ensures { env.new ≡ with_entry env.old 0 (kinds.MainEnd task left) }
 {
     let Act::Finished = work.step() else {
-        panic!(rt; "task {task} has more steps")
+        panic!(rt; "the task has more steps")
     };
     assert!(rt; work.value() == left);
     let _ = env.main_end(0, work);
@@ -153,9 +166,8 @@ pub fn take_item(rt: &impl Abort, env: &mut Env<CountedBody>, seat: SeatNo, item
             assert!(rt; pass.item() == item);
             pass
         }
-        Taken::Task(_work) => panic!(rt; "seat {seat} gets a task"),
-        Taken::Nothing => panic!(rt; "seat {seat} gets nothing"),
-        Taken::Over => panic!(rt; "there is nothing any more"),
+        Taken::Task(_work) => panic!(rt; "the worker gets a task"),
+        Taken::Nothing | Taken::Over => panic!(rt; "the worker gets nothing"),
     }
 }
 
@@ -173,7 +185,7 @@ pub fn go_on(
     ensures pass { result ≡ record pass { item = next } }
 {
     let Some(kept) = env.job_step(seat, pass, value) else {
-        panic!(rt; "seat {seat} leaves")
+        panic!(rt; "the seat leaves")
     };
     assert!(rt; kept.item() == next);
     kept
@@ -185,7 +197,7 @@ pub fn leave(rt: &impl Abort, env: &mut Env<CountedBody>, seat: SeatNo, pass: Jo
     ensures { env.new ≡ with_entry env.old seat (kinds.JobStep pass.job pass.id pass.item value None) }
 {
     let None = env.job_step(seat, pass, value) else {
-        panic!(rt; "seat {seat} goes on")
+        panic!(rt; "the seat goes on")
     };
 }
 
@@ -196,12 +208,6 @@ pub fn not_cancelled(rt: &impl Abort, env: &mut Env<CountedBody>, job: JobId)
 {
     match env.try_cancelled(0, job) {
         Ok(()) => panic!(rt; "nobody is inside"),
-        Err(not_yet) => assert_eq!(rt;
-            not_yet,
-            NotYet {
-                running: 1,
-                ready: false
-            }
-        ),
+        Err(not_yet) => assert!(rt; not_yet.running == 1 && !not_yet.ready),
     }
 }

@@ -6,20 +6,21 @@ ghost use Rattle.env_core.specs.Calls.{IsNextAct};
 ghost use Rattle.env_crew.specs.Desk.{IsLater, as_seen, mine, with_own};
 ghost use Rattle.env_crew.specs.Serving.{IsFree};
 ghost use Rattle.env_shared.specs.Sits.{desk_of};
-ghost use Rattle.worked_calls.specs.Known.{IsBack, IsLast, IsOf, IsWork, driver_seat};
+ghost use Rattle.worked_calls.specs.Known.{IsBack, IsLast, IsOf, IsWork, driver_seat, worker_seat};
 
 use crate::bodies::{CountedBody, bodies_of};
-use env_crew::{Desk, Given};
+use env_crew::{Desk, Given, Served, serve};
+use env_io::OpenGate;
 use env_shared::{EnvSeat, Shared, SharedDesk};
 use std::alloc::{AllocError, Global};
 use std::process::Abort;
 use std::sync::atomic::AtomicU64;
 use std::sync::{Arc, Wait};
-use task_base::{Entry, Rows, Scope, Script, TaskId};
+use task_base::{Behaviour, Entry, Rows, Scope, Script, TaskId};
 use task_body::{Act, Assignment};
 
 /// The shared environment of a script, with the driver's seat.
-pub fn open(
+fn open(
     alloc: Global,
     script: Script,
 ) -> Result<(Shared<CountedBody>, EnvSeat<CountedBody>), AllocError>
@@ -30,6 +31,52 @@ pub fn open(
     let word = Arc::new(alloc, AtomicU64::new(0))?;
     let bodies = bodies_of(alloc, &script, &word)?;
     Shared::open(alloc, script, bodies)
+}
+
+/// The shared environment of a script of one worker, with the driver's seat and the worker's.
+pub fn open_two(
+    alloc: Global,
+    script: Script,
+) -> Result<
+    (
+        Shared<CountedBody>,
+        EnvSeat<CountedBody>,
+        EnvSeat<CountedBody>,
+    ),
+    AllocError,
+>
+    requires sound { IsSound script }
+    requires one { script.workers ≡ 1 }
+    ensures script { IfOk result (λ made. made.0.basis ≡ script) }
+    ensures first { IfOk result (λ made. made.1 ≡ driver_seat made.0 2) }
+    ensures second { IfOk result (λ made. made.2 ≡ worker_seat made.0 1) }
+{
+    let (shared, first) = open(alloc, script)?;
+    let (first, second) = shared.split(first);
+    Ok((shared, first, second))
+}
+
+/// A shared environment of two workers, and the seats of the driver and of both workers.
+pub type Three = (
+    Shared<CountedBody>,
+    EnvSeat<CountedBody>,
+    EnvSeat<CountedBody>,
+    EnvSeat<CountedBody>,
+);
+
+/// The shared environment of a script of two workers, with all its seats.
+pub fn open_three(alloc: Global, script: Script) -> Result<Three, AllocError>
+    requires sound { IsSound script }
+    requires two { script.workers ≡ 2 }
+    ensures script { IfOk result (λ made. made.0.basis ≡ script) }
+    ensures first { IfOk result (λ made. made.1 ≡ driver_seat made.0 3) }
+    ensures one { IfOk result (λ made. made.2 ≡ worker_seat made.0 1) }
+    ensures two { IfOk result (λ made. made.3 ≡ worker_seat made.0 2) }
+{
+    let (shared, first) = open(alloc, script)?;
+    let (first, one) = shared.split(first);
+    let (first, two) = shared.split(first);
+    Ok((shared, first, one, two))
 }
 
 /// Closes a shared environment of one worker, and gives its log.
@@ -83,9 +130,7 @@ pub fn take<R: Wait + Abort>(
             assert!(rt; work.found() == 0);
             work
         }
-        Given::Item(_) => panic!(rt; "the script has no job"),
-        Given::Nothing => panic!(rt; "there is nothing to take"),
-        Given::Over => panic!(rt; "there is nothing any more"),
+        Given::Item(_) | Given::Nothing | Given::Over => panic!(rt; "the worker gets no task"),
     }
 }
 
@@ -120,8 +165,36 @@ pub fn end<R: Wait + Abort>(
     ensures later { IsLater (desk_of desk.old) (desk_of desk.new) }
 {
     let Act::Finished = work.step() else {
-        panic!(rt; "task {task} has more steps")
+        panic!(rt; "the task has more steps")
     };
     assert!(rt; work.value() == left);
     desk.end(rt, work);
+}
+
+/// A worker is served, with this answer.
+pub fn assert_served<R: Wait + Abort>(
+    rt: &R,
+    worker: &mut SharedDesk<'_, CountedBody>,
+    wanted: Served,
+)
+    requires { IsFree (desk_of worker.old) }
+    ensures free { IsFree (desk_of worker.new) }
+    ensures later { IsLater (desk_of worker.old) (desk_of worker.new) }
+{
+    assert_eq!(rt; serve(rt, worker, &OpenGate), wanted);
+}
+
+/// A worker sees, without the turn, from which place on skip work is refused, or that it is not.
+pub fn assert_shut(rt: &impl Abort, worker: &mut SharedDesk<'_, CountedBody>, wanted: Option<u64>)
+    ensures of { worker.new.of ≡ worker.old.of }
+    ensures number { worker.new.number ≡ worker.old.number }
+{
+    assert_eq!(rt; worker.shut_to(Behaviour::SkipOnShutdown), wanted);
+}
+
+/// It is told nothing of block work.
+pub fn assert_block_untold(rt: &impl Abort, worker: &mut SharedDesk<'_, CountedBody>)
+    ensures { worker.new ≡ worker.old }
+{
+    assert!(rt; worker.shut_to(Behaviour::BlockShutdown).is_none());
 }

@@ -1,20 +1,20 @@
 //! Desks of one shared environment, of which one thread goes from one to another.
 use crate::calls::step;
-use crate::desk_calls::{end, enter, leave, log_of_three, log_of_two, open, take};
+use crate::desk_calls::{
+    assert_block_untold, assert_served, assert_shut, end, enter, leave, log_of_three, log_of_two,
+    open_three, open_two, take,
+};
 use crate::logs::assert_log;
 use crate::scripts::{closing, first, will};
-use env_crew::{Desk, Served, serve};
-use env_io::OpenGate;
+use env_crew::{Desk, Served};
 use std::test::Fail;
-use task_base::{Behaviour, Scope};
+use task_base::Scope;
 use task_body::Act;
 
 #[test]
 fn three_desks_by_turns(rt: HostRuntime) -> Result<(), Fail> {
     let script = will(rt.alloc())?;
-    let (shared, first) = open(rt.alloc(), script)?;
-    let (first, one) = shared.split(first);
-    let (first, two) = shared.split(first);
+    let (shared, first, one, two) = open_three(rt.alloc(), script)?;
     let mut driver = shared.desk(first);
     let mut worker = shared.desk(one);
     let mut other = shared.desk(two);
@@ -47,16 +47,15 @@ fn three_desks_by_turns(rt: HostRuntime) -> Result<(), Fail> {
 #[test]
 fn serve_answers_as_its_take(rt: HostRuntime) -> Result<(), Fail> {
     let script = first(rt.alloc())?;
-    let (shared, first) = open(rt.alloc(), script)?;
-    let (first, second) = shared.split(first);
+    let (shared, first, second) = open_two(rt.alloc(), script)?;
     let mut driver = shared.desk(first);
     let mut worker = shared.desk(second);
-    assert_eq!(rt; serve(&rt, &mut worker, &OpenGate), Served::Nothing);
+    assert_served(&rt, &mut worker, Served::Nothing);
     assert!(rt; driver.post(&rt, 0, 0, 0));
-    assert_eq!(rt; serve(&rt, &mut worker, &OpenGate), Served::Worked);
-    assert_eq!(rt; serve(&rt, &mut worker, &OpenGate), Served::Nothing);
-    assert_eq!(rt; driver.try_idle(&rt), Ok(()));
-    assert_eq!(rt; serve(&rt, &mut worker, &OpenGate), Served::Over);
+    assert_served(&rt, &mut worker, Served::Worked);
+    assert_served(&rt, &mut worker, Served::Nothing);
+    assert!(rt; driver.try_idle(&rt).is_ok());
+    assert_served(&rt, &mut worker, Served::Over);
     let first = driver.into_seat();
     let second = worker.into_seat();
     let log = log_of_two(rt.alloc(), shared, first, second)?;
@@ -71,16 +70,15 @@ fn serve_answers_as_its_take(rt: HostRuntime) -> Result<(), Fail> {
 #[test]
 fn shutdown_is_seen_without_the_turn(rt: HostRuntime) -> Result<(), Fail> {
     let script = closing(rt.alloc())?;
-    let (shared, first) = open(rt.alloc(), script)?;
-    let (first, second) = shared.split(first);
+    let (shared, first, second) = open_two(rt.alloc(), script)?;
     let mut driver = shared.desk(first);
     let mut worker = shared.desk(second);
     assert!(rt; driver.post(&rt, 0, 0, 5));
-    assert_eq!(rt; worker.shut_to(Behaviour::SkipOnShutdown), None);
-    assert_eq!(rt; worker.shut_to(Behaviour::BlockShutdown), None);
+    assert_shut(&rt, &mut worker, None);
+    assert_block_untold(&rt, &mut worker);
     driver.start_shutdown(&rt);
-    assert_eq!(rt; worker.shut_to(Behaviour::SkipOnShutdown), Some(1));
-    assert_eq!(rt; worker.shut_to(Behaviour::BlockShutdown), None);
+    assert_shut(&rt, &mut worker, Some(1));
+    assert_block_untold(&rt, &mut worker);
     let first = driver.into_seat();
     let second = worker.into_seat();
     let log = log_of_two(rt.alloc(), shared, first, second)?;

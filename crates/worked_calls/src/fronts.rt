@@ -1,10 +1,29 @@
 //! The shutdown front of a turnstile over an environment.
+ghost use Rattle.std.specs.Prelude.{◌≡◌};
+
+use crate::bodies::CountedBody;
 use crate::calls::open;
 use crate::logs::assert_log;
 use crate::scripts::closing;
+use env_core::Env;
+use std::process::Abort;
 use std::test::Fail;
 use task_base::Rows;
-use turn_table::Turnstile;
+use turn_table::{Seat, Turnstile};
+
+/// A seat reads this front.
+fn assert_front(
+    rt: &impl Abort,
+    turnstile: &Turnstile<Env<CountedBody>>,
+    seat: &mut Seat<Env<CountedBody>>,
+    wanted: Option<u64>,
+)
+    requires { seat.old.of ≡ turnstile.now }
+    ensures of { seat.new.of ≡ seat.old.of }
+    ensures number { seat.new.number ≡ seat.old.number }
+{
+    assert_eq!(rt; turnstile.front(seat), wanted);
+}
 
 #[test]
 fn front_is_read_while_the_turn_is_held(rt: HostRuntime) -> Result<(), Fail> {
@@ -17,12 +36,12 @@ fn front_is_read_while_the_turn_is_held(rt: HostRuntime) -> Result<(), Fail> {
     let (mut env, holding) = turnstile.turn(&rt, first);
     assert!(rt; env.post(0, 0, 0, 5));
     let first = turnstile.enter(env, holding);
-    assert_eq!(rt; turnstile.front(&mut worker), None);
+    assert_front(&rt, &turnstile, &mut worker, None);
     let (mut env, holding) = turnstile.turn(&rt, first);
     env.start_shutdown(0);
     let first = turnstile.enter_shutdown(env, holding);
     let (env, holding) = turnstile.turn(&rt, first);
-    assert_eq!(rt; turnstile.front(&mut worker), Some(1));
+    assert_front(&rt, &turnstile, &mut worker, Some(1));
     let first = turnstile.back(env, holding);
     let rest = Rows::from_vec(vec![in rt.alloc(); worker]?);
     let (env, _closed) = turnstile.close(first, rest);

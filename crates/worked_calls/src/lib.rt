@@ -8,6 +8,8 @@ mod bodies;
 #[cfg(test)]
 mod calls;
 #[cfg(test)]
+mod counts;
+#[cfg(test)]
 mod desk_calls;
 #[cfg(test)]
 mod desks;

@@ -1,11 +1,16 @@
 //! How long bodies live, where they and cells are, and how often work runs. Each body holds one share of a word.
 ghost use Rattle.std.specs.Prelude.{◌≡◌, ◌∷◌, []};
+ghost use Rattle.worked_calls.specs.Known.{at_start};
+ghost use Rattle.worked_calls.specs.Plans.{late_plan};
+ghost use Rattle.worked_calls.specs.Lives.{first_done, main_done};
 
-use crate::bodies::{Word, bodies_of};
-use crate::calls::{assert_kept, end, end_main, step, take, take_main};
+use crate::bodies::{CountedBody, Word};
+use crate::calls::{assert_kept, end, end_main, open_with, post, step, take, take_main};
+use crate::counts::{assert_raised, assert_shares};
 use crate::logs::assert_log;
 use crate::scripts::{late, will};
 use env_core::Env;
+use std::process::Abort;
 use std::sync::Arc;
 use std::sync::atomic::{AtomicU64, Ordering};
 use std::test::Fail;
@@ -16,43 +21,64 @@ use task_body::{Act, OnceBody, TaskBody, Work};
 fn env_is_dropped_with_bodies_in_the_drawer(rt: HostRuntime) -> Result<(), Fail> {
     let word = Arc::new(rt.alloc(), AtomicU64::new(0))?;
     let script = will(rt.alloc())?;
-    let bodies = bodies_of(rt.alloc(), &script, &word)?;
-    let env = Env::open(rt.alloc(), script, bodies)?;
-    assert_eq!(rt; Arc::strong_count(&word), 3);
+    let env = open_with(rt.alloc(), script, &word)?;
+    assert_shares(&rt, &word, 3);
     drop(env);
-    assert_eq!(rt; Arc::strong_count(&word), 1);
-    assert_eq!(rt; word.load(Ordering::SeqCst), 0);
+    assert_shares(&rt, &word, 1);
+    assert_raised(&rt, &word, 0);
     Ok(())
+}
+
+/// A worker does the first task.
+fn do_first(rt: &impl Abort, env: &mut Env<CountedBody>)
+    requires { env.old ≡ at_start late_plan }
+    ensures { env.new ≡ first_done }
+{
+    post(rt, env, 0);
+    assert_kept(rt, env, [true, true, true], [false, false]);
+    let mut work = take(rt, env, 1, 0);
+    assert_kept(rt, env, [false, true, true], [true, false]);
+    step(rt, &mut work, Act::Did(1));
+    end(rt, env, 1, 0, work, 5);
+}
+
+/// The driver does the second task.
+fn do_main(rt: &impl Abort, env: &mut Env<CountedBody>)
+    requires { env.old ≡ first_done }
+    ensures { env.new ≡ main_done }
+{
+    assert!(rt; env.main_post(0, 1, 0, 0));
+    assert_kept(rt, env, [false, true, true], [false, false]);
+    let mut work = take_main(rt, env, 1);
+    assert_kept(rt, env, [false, false, true], [false, true]);
+    step(rt, &mut work, Act::Did(1));
+    end_main(rt, env, 1, work, 5);
+    assert_kept(rt, env, [false, false, true], [false, false]);
+}
+
+/// Shutdown is over, and the third task is refused.
+fn refuse_last(rt: &impl Abort, env: &mut Env<CountedBody>, word: &Word)
+    requires { env.old ≡ main_done }
+{
+    env.start_shutdown(0);
+    match env.try_done(0) {
+        Ok(()) => {}
+        Err(_) => panic!(rt; "nothing blocks shutdown"),
+    }
+    assert_shares(rt, word, 2);
+    assert!(rt; !env.post(0, 2, 0, 0));
+    assert_kept(rt, env, [false, false, false], [false, false]);
+    assert_shares(rt, word, 1);
 }
 
 #[test]
 fn a_take_or_a_refused_post_empties_the_drawer(rt: HostRuntime) -> Result<(), Fail> {
     let word = Arc::new(rt.alloc(), AtomicU64::new(0))?;
     let script = late(rt.alloc())?;
-    let bodies = bodies_of(rt.alloc(), &script, &word)?;
-    let mut env = Env::open(rt.alloc(), script, bodies)?;
-    env.post(0, 0, 0, 0);
-    assert_kept(&rt, &env, [true, true, true], [false, false]);
-    let mut work = take(&rt, &mut env, 1, 0);
-    assert_kept(&rt, &env, [false, true, true], [true, false]);
-    step(&rt, &mut work, Act::Did(1));
-    end(&rt, &mut env, 1, 0, work, 5);
-    env.main_post(0, 1, 0, 0);
-    assert_kept(&rt, &env, [false, true, true], [false, false]);
-    let mut work = take_main(&rt, &mut env, 1);
-    assert_kept(&rt, &env, [false, false, true], [false, true]);
-    step(&rt, &mut work, Act::Did(1));
-    end_main(&rt, &mut env, 1, work, 5);
-    assert_kept(&rt, &env, [false, false, true], [false, false]);
-    env.start_shutdown(0);
-    match env.try_done(0) {
-        Ok(()) => {}
-        Err(_) => panic!(rt; "nothing blocks shutdown"),
-    }
-    assert_eq!(rt; Arc::strong_count(&word), 2);
-    assert!(rt; !env.post(0, 2, 0, 0));
-    assert_kept(&rt, &env, [false, false, false], [false, false]);
-    assert_eq!(rt; Arc::strong_count(&word), 1);
+    let mut env = open_with(rt.alloc(), script, &word)?;
+    do_first(&rt, &mut env);
+    do_main(&rt, &mut env);
+    refuse_last(&rt, &mut env, &word);
     assert_log(
         &rt,
         rt.alloc(),
@@ -80,6 +106,11 @@ impl Work for Raise {
     }
 }
 
+/// A body does its next step.
+fn assert_step(rt: &impl Abort, body: &mut impl TaskBody, cell: &mut Cell, wanted: Act) {
+    assert_eq!(rt; body.step(cell), wanted);
+}
+
 #[test]
 fn once_body_runs_its_work_at_its_first_step(rt: HostRuntime) -> Result<(), Fail> {
     let word = Arc::new(rt.alloc(), AtomicU64::new(0))?;
@@ -89,11 +120,11 @@ fn once_body_runs_its_work_at_its_first_step(rt: HostRuntime) -> Result<(), Fail
     let steps = Rows::from_vec(vec![in rt.alloc(); Step::Add(5)]?);
     let mut body = OnceBody::new(steps, work);
     let mut cell = Cell::new();
-    assert_eq!(rt; word.load(Ordering::SeqCst), 0);
-    assert_eq!(rt; body.step(&mut cell), Act::Did(1));
-    assert_eq!(rt; word.load(Ordering::SeqCst), 1);
-    assert_eq!(rt; body.step(&mut cell), Act::Finished);
-    assert_eq!(rt; word.load(Ordering::SeqCst), 1);
-    assert_eq!(rt; cell.value(), 5);
+    assert_raised(&rt, &word, 0);
+    assert_step(&rt, &mut body, &mut cell, Act::Did(1));
+    assert_raised(&rt, &word, 1);
+    assert_step(&rt, &mut body, &mut cell, Act::Finished);
+    assert_raised(&rt, &word, 1);
+    assert!(rt; cell.value() == 5);
     Ok(())
 }

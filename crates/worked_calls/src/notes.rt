@@ -1,7 +1,15 @@
 //! What a fault prints.
-use std::alloc::AllocError;
+use std::alloc::{AllocError, Global};
+use std::process::Abort;
 use std::test::Fail;
 use task_base::Fault;
+
+/// A fault prints this note.
+fn assert_note(rt: &impl Abort, alloc: Global, fault: &Fault, note: &str) -> Result<(), Fail> {
+    let shown = format!(in alloc; "{fault}")?;
+    assert_eq!(rt; shown.as_str(), note);
+    Ok(())
+}
 
 #[test]
 fn a_fault_prints_its_note(rt: HostRuntime) -> Result<(), Fail> {
@@ -17,8 +25,7 @@ fn a_fault_prints_its_note(rt: HostRuntime) -> Result<(), Fail> {
         (Fault::NoMemory(AllocError), "no memory"),
         (Fault::TooLarge, "too large"),
     ] {
-        let shown = format!(in rt.alloc(); "{fault}")?;
-        assert_eq!(rt; shown.as_str(), note);
+        assert_note(&rt, rt.alloc(), &fault, note)?;
     }
     Ok(())
 }

@@ -1,5 +1,7 @@
 //! Lists of calls on one environment.
-use crate::calls::{end, go_on, leave, not_cancelled, open, step, take, take_item, take_nothing};
+use crate::calls::{
+    end, go_on, leave, not_cancelled, open, post, step, take, take_item, take_nothing,
+};
 use crate::logs::assert_log;
 use crate::scripts::{cancelling, may, will, yielding};
 use std::test::Fail;
@@ -10,8 +12,8 @@ use task_body::Act;
 fn will_block(rt: HostRuntime) -> Result<(), Fail> {
     let script = will(rt.alloc())?;
     let mut env = open(rt.alloc(), script)?;
-    env.post(0, 0, 0, 0);
-    env.post(0, 1, 0, 0);
+    post(&rt, &mut env, 0);
+    post(&rt, &mut env, 1);
     let mut long = take(&rt, &mut env, 1, 0);
     take_nothing(&rt, &mut env, 2);
     step(&rt, &mut long, Act::Enter(Scope::Will));
@@ -37,8 +39,8 @@ fn will_block(rt: HostRuntime) -> Result<(), Fail> {
 fn may_block(rt: HostRuntime) -> Result<(), Fail> {
     let script = may(rt.alloc())?;
     let mut env = open(rt.alloc(), script)?;
-    env.post(0, 0, 0, 0);
-    env.post(0, 1, 0, 0);
+    post(&rt, &mut env, 0);
+    post(&rt, &mut env, 1);
     let mut long = take(&rt, &mut env, 1, 0);
     step(&rt, &mut long, Act::Enter(Scope::May));
     env.act(1, Act::Enter(Scope::May));
@@ -68,7 +70,7 @@ fn job_yields(rt: HostRuntime) -> Result<(), Fail> {
     let mut env = open(rt.alloc(), script)?;
     env.job_post(0, 0);
     let pass = take_item(&rt, &mut env, 1, 0);
-    env.post(0, 0, 0, 0);
+    post(&rt, &mut env, 0);
     leave(&rt, &mut env, 1, pass, 1);
     let mut work = take(&rt, &mut env, 1, 0);
     step(&rt, &mut work, Act::Did(1));

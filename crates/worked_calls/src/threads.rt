@@ -3,7 +3,7 @@ ghost use Rattle.std.specs.Prelude.{◌≡◌, IfErr, IfOk};
 ghost use Rattle.worked_calls.specs.Known.{CanAsk};
 
 use crate::bodies::CountedBody;
-use crate::desk_calls::{log_of_three, open};
+use crate::desk_calls::{log_of_three, open_three};
 use crate::scripts::{quiet, will};
 use env_crew::{Desk, Given, serve};
 use env_io::Gate;
@@ -84,9 +84,8 @@ fn attend<R: Wait + Abort>(
             Given::Nothing => {
                 gate.nothing.fetch_add(1, Ordering::SeqCst);
             }
-            Given::Over => panic!(rt; "there is nothing any more"),
+            Given::Item(_) | Given::Over => panic!(rt; "an item, or it is over"),
             Given::Task(_work) => panic!(rt; "a task that nobody posted"),
-            Given::Item(_) => panic!(rt; "the script has no job"),
         }
     }
     serve(rt, &mut worker, gate);
@@ -189,15 +188,18 @@ fn scoped<R: Threads + Wait + Abort + Sync>(
     )
 }
 
+/// So often a worker found nothing.
+fn assert_nothing(rt: &impl Abort, gate: &HeldGate, wanted: u32) {
+    assert_eq!(rt; gate.nothing.load(Ordering::SeqCst), wanted);
+}
+
 #[test]
 fn nobody_takes_what_is_not_posted(rt: HostRuntime) -> Result<(), Fail> {
     let gate = HeldGate::new();
     let script = quiet(rt.alloc())?;
-    let (shared, first) = open(rt.alloc(), script)?;
-    let (first, one) = shared.split(first);
-    let (first, two) = shared.split(first);
+    let (shared, first, one, two) = open_three(rt.alloc(), script)?;
     let (one, two) = scoped(&rt, &shared, one, two, &gate, 100);
-    assert_eq!(rt; gate.nothing.load(Ordering::SeqCst), 200);
+    assert_nothing(&rt, &gate, 200);
     let log = log_of_three(rt.alloc(), shared, first, one, two)?;
     assert!(rt; log.is_empty());
     Ok(())
@@ -207,16 +209,14 @@ fn nobody_takes_what_is_not_posted(rt: HostRuntime) -> Result<(), Fail> {
 fn no_turn_is_held_at_the_gate(rt: HostRuntime) -> Result<(), Fail> {
     let gate = HeldGate::new();
     let script = will(rt.alloc())?;
-    let (shared, first) = open(rt.alloc(), script)?;
-    let (first, one) = shared.split(first);
-    let (first, two) = shared.split(first);
+    let (shared, first, one, two) = open_three(rt.alloc(), script)?;
     let mut driver = shared.desk(first);
     assert!(rt; driver.post(&rt, 0, 0, 0));
     let first = driver.into_seat();
     let (one, two) = scoped(&rt, &shared, one, two, &gate, 0);
-    assert_eq!(rt; gate.nothing.load(Ordering::SeqCst), 100);
+    assert_nothing(&rt, &gate, 100);
     assert!(rt; !gate.failed.load(Ordering::SeqCst));
     let log = log_of_three(rt.alloc(), shared, first, one, two)?;
-    assert_eq!(rt; log.len(), 5);
+    assert!(rt; log.len() == 5);
     Ok(())
 }

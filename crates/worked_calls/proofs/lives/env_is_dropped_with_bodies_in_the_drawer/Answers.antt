@@ -1,5 +1,5 @@
 use Rattle.worked_calls.proofs.Plans.{will_sound}
 use Rattle.worked_calls.proofs.lives.env_is_dropped_with_bodies_in_the_drawer.Goals as goal
 
-pub open-requires-clause-plan : goal.open-requires-clause-plan
-open-requires-clause-plan g c = rw c.in_ok-script.ensures will_sound
+pub open_with-requires : goal.open_with-requires
+open_with-requires g c = rw c.in_ok-script.ensures will_sound

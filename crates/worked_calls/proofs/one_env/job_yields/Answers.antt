@@ -31,7 +31,7 @@ post-requires g c ok = simp (
 pub leave-requires : goal.leave-requires
 unfolding holding
 leave-requires g c = simp (
-  c.post.ensures.enters.entered,
+  c.post.ensures,
   c.take_item-pass.ensures.entered,
   c.take_item-pass.ensures.pass,
   c.job_post.ensures.enters.entered,
@@ -43,7 +43,7 @@ pub take-work-requires : goal.take-work-requires
 unfolding holding running
 take-work-requires g c = simp (
   c.leave.ensures,
-  c.post.ensures.enters.entered,
+  c.post.ensures,
   c.take_item-pass.ensures.entered,
   c.job_post.ensures.enters.entered,
   c.in_ok-env.ensures,
@@ -55,7 +55,7 @@ unfolding running acts_done
 end-requires-clause-last g c = simp (
   c.take-work.ensures.entered,
   c.leave.ensures,
-  c.post.ensures.enters.entered,
+  c.post.ensures,
   c.take_item-pass.ensures.entered,
   c.job_post.ensures.enters.entered,
   c.in_ok-env.ensures,
@@ -68,7 +68,7 @@ take_item-pass-requires-2 g c = simp (
   c.end.ensures,
   c.take-work.ensures.entered,
   c.leave.ensures,
-  c.post.ensures.enters.entered,
+  c.post.ensures,
   c.take_item-pass.ensures.entered,
   c.job_post.ensures.enters.entered,
   c.in_ok-env.ensures,
@@ -83,7 +83,7 @@ go_on-pass-requires g c = simp (
   c.end.ensures,
   c.take-work.ensures.entered,
   c.leave.ensures,
-  c.post.ensures.enters.entered,
+  c.post.ensures,
   c.take_item-pass.ensures.entered,
   c.take_item-pass.ensures.pass,
   c.job_post.ensures.enters.entered,
@@ -101,7 +101,7 @@ leave-requires-2 g c = simp (
   c.end.ensures,
   c.take-work.ensures.entered,
   c.leave.ensures,
-  c.post.ensures.enters.entered,
+  c.post.ensures,
   c.take_item-pass.ensures.entered,
   c.take_item-pass.ensures.pass,
   c.job_post.ensures.enters.entered,
@@ -118,7 +118,7 @@ try_idle-requires g c = simp (
   c.end.ensures,
   c.take-work.ensures.entered,
   c.leave.ensures,
-  c.post.ensures.enters.entered,
+  c.post.ensures,
   c.take_item-pass.ensures.entered,
   c.job_post.ensures.enters.entered,
   c.in_ok-env.ensures,

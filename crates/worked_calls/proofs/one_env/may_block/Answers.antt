@@ -16,13 +16,13 @@ post-requires g c ok = simp (c.in_ok-env.ensures, c.in_ok-script.ensures) (recor
 
 pub post-requires-2 : goal.post-requires-2
 unfolding is_wanted current
-post-requires-2 g c ok = simp (c.post.ensures.enters.entered, c.in_ok-env.ensures, c.in_ok-script.ensures) (record { driver = refl; wanted = refl })
+post-requires-2 g c ok = simp (c.post.ensures, c.in_ok-env.ensures, c.in_ok-script.ensures) (record { driver = refl; wanted = refl })
 
 pub take-long-requires : goal.take-long-requires
 unfolding holding running
 take-long-requires g c = simp (
-  c.post-2.ensures.enters.entered,
-  c.post.ensures.enters.entered,
+  c.post-2.ensures,
+  c.post.ensures,
   c.in_ok-env.ensures,
   c.in_ok-script.ensures,
 ) (record { worker = omega arith; known = omega arith; free = refl })
@@ -31,8 +31,8 @@ pub act-requires : goal.act-requires
 unfolding running acts_done
 act-requires g c = simp (
   c.take-long.ensures.entered,
-  c.post-2.ensures.enters.entered,
-  c.post.ensures.enters.entered,
+  c.post-2.ensures,
+  c.post.ensures,
   c.in_ok-env.ensures,
   c.in_ok-script.ensures,
 ) (record { known = omega arith; step = steps.Block scopes.May; is_next = refl; is_act = refl })
@@ -43,8 +43,8 @@ tick-requires g c now = simp (
   c.act.ensures.enters.enters.entered,
   sym (some-injective c.act.ensures.enters.kind_is),
   c.take-long.ensures.entered,
-  c.post-2.ensures.enters.entered,
-  c.post.ensures.enters.entered,
+  c.post-2.ensures,
+  c.post.ensures,
   c.in_ok-env.ensures,
   c.in_ok-script.ensures,
 ) (record { driver = refl; wanted = refl })
@@ -56,8 +56,8 @@ take_nothing-requires g c = simp (
   c.act.ensures.enters.enters.entered,
   sym (some-injective c.act.ensures.enters.kind_is),
   c.take-long.ensures.entered,
-  c.post-2.ensures.enters.entered,
-  c.post.ensures.enters.entered,
+  c.post-2.ensures,
+  c.post.ensures,
   c.in_ok-env.ensures,
   c.in_ok-script.ensures,
 ) (record { worker = omega arith; known = omega arith; free = refl })
@@ -70,8 +70,8 @@ tick-requires-2 g c now = simp (
   c.act.ensures.enters.enters.entered,
   sym (some-injective c.act.ensures.enters.kind_is),
   c.take-long.ensures.entered,
-  c.post-2.ensures.enters.entered,
-  c.post.ensures.enters.entered,
+  c.post-2.ensures,
+  c.post.ensures,
   c.in_ok-env.ensures,
   c.in_ok-script.ensures,
 ) (record { driver = refl; wanted = refl })
@@ -85,8 +85,8 @@ take-short-requires g c = simp (
   c.act.ensures.enters.enters.entered,
   sym (some-injective c.act.ensures.enters.kind_is),
   c.take-long.ensures.entered,
-  c.post-2.ensures.enters.entered,
-  c.post.ensures.enters.entered,
+  c.post-2.ensures,
+  c.post.ensures,
   c.in_ok-env.ensures,
   c.in_ok-script.ensures,
 ) (record { worker = omega arith; known = omega arith; free = refl })
@@ -101,8 +101,8 @@ end-requires-clause-last g c = simp (
   c.act.ensures.enters.enters.entered,
   sym (some-injective c.act.ensures.enters.kind_is),
   c.take-long.ensures.entered,
-  c.post-2.ensures.enters.entered,
-  c.post.ensures.enters.entered,
+  c.post-2.ensures,
+  c.post.ensures,
   c.in_ok-env.ensures,
   c.in_ok-script.ensures,
 ) (record { known = omega arith; runs = refl; all_entered = refl })
@@ -118,8 +118,8 @@ act-requires-2 g c = simp (
   c.act.ensures.enters.enters.entered,
   sym (some-injective c.act.ensures.enters.kind_is),
   c.take-long.ensures.entered,
-  c.post-2.ensures.enters.entered,
-  c.post.ensures.enters.entered,
+  c.post-2.ensures,
+  c.post.ensures,
   c.in_ok-env.ensures,
   c.in_ok-script.ensures,
 ) (record { known = omega arith; step = steps.Unblock; is_next = refl; is_act = refl })
@@ -137,8 +137,8 @@ end-requires-2-clause-last g c = simp (
   c.act.ensures.enters.enters.entered,
   sym (some-injective c.act.ensures.enters.kind_is),
   c.take-long.ensures.entered,
-  c.post-2.ensures.enters.entered,
-  c.post.ensures.enters.entered,
+  c.post-2.ensures,
+  c.post.ensures,
   c.in_ok-env.ensures,
   c.in_ok-script.ensures,
 ) (record { known = omega arith; runs = refl; all_entered = refl })
@@ -157,8 +157,8 @@ try_idle-requires g c = simp (
   c.act.ensures.enters.enters.entered,
   sym (some-injective c.act.ensures.enters.kind_is),
   c.take-long.ensures.entered,
-  c.post-2.ensures.enters.entered,
-  c.post.ensures.enters.entered,
+  c.post-2.ensures,
+  c.post.ensures,
   c.in_ok-env.ensures,
   c.in_ok-script.ensures,
 ) (record { driver = refl; wanted = refl })
