@@ -1,12 +1,63 @@
 //! Runs on threads, with bodies and gates of the tests' own.
+ghost use Rattle.script_model.specs.Laws.Sound.{IsSound};
+
 use env_io::{Gate, ListClock};
 use env_threads::run_crew;
-use std::sync::Arc;
+use std::alloc::{AllocError, Global};
+use std::process::Abort;
 use std::sync::atomic::{AtomicU64, Ordering};
+use std::sync::{Arc, Wait};
 use std::test::Fail;
+use std::thread::Threads;
 use std::{hint, str};
+use task_base::{Entry, Rows, Script};
 use task_script::read_script;
 use worked_calls::{Word, bodies_of, text_of};
+
+/// The script of a short text.
+fn script_of(rt: &impl Abort, alloc: Global, text: &str) -> Script
+    ensures { IsSound result }
+{
+    assert!(rt; text.len() < 1000);
+    let Ok(script) = read_script(alloc, text.as_bytes()) else {
+        panic!(rt; "the script is not read")
+    };
+    script
+}
+
+/// The log of a run of this script on threads. Its bodies share the word.
+fn log_of<R: Threads + Wait + Sync, G: Gate>(
+    rt: &R,
+    alloc: Global,
+    script: &Script,
+    word: &Word,
+    gate: &G,
+) -> Result<Rows<Entry>, AllocError>
+    requires { IsSound script.now }
+{
+    let bodies = bodies_of(alloc, script, word)?;
+    let mut clock = ListClock::new(Vec::new(alloc));
+    let env = run_crew(rt, alloc, script, bodies, &mut clock, gate)?;
+    Ok(env.into_log())
+}
+
+/// The log is this text.
+fn assert_log(
+    rt: &impl Abort,
+    alloc: Global,
+    log: &Rows<Entry>,
+    wanted: &str,
+) -> Result<(), AllocError> {
+    assert!(rt; log.len() < 100);
+    let text = text_of(alloc, log)?;
+    assert_eq!(rt; str::from_utf8(text.bytes()).unwrap_or("no text"), wanted);
+    Ok(())
+}
+
+/// What threads have counted.
+fn assert_count(rt: &impl Abort, count: &AtomicU64, wanted: u64) {
+    assert_eq!(rt; count.load(Ordering::SeqCst), wanted);
+}
 
 /// A gate that numbers its calls from 1, and keeps for each of two tasks the number of its call, and how many steps
 /// were done before it.
@@ -16,6 +67,18 @@ struct LookingGate {
     calls: AtomicU64,
     places: [AtomicU64; 2],
     steps: [AtomicU64; 2],
+}
+
+impl LookingGate {
+    /// The steps are counted by the word.
+    fn new(word: Word) -> LookingGate {
+        LookingGate {
+            word,
+            calls: AtomicU64::new(0),
+            places: [AtomicU64::new(0), AtomicU64::new(0)],
+            steps: [AtomicU64::new(0), AtomicU64::new(0)],
+        }
+    }
 }
 
 impl Gate for LookingGate {
@@ -44,35 +107,18 @@ const ALONG_LOG: &str = "taskenv log 2\n\
 
 #[test]
 fn gate_is_passed_once_a_task_before_its_first_step(rt: HostRuntime) -> Result<(), Fail> {
-    let Ok(script) = read_script(rt.alloc(), ALONG.as_bytes()) else {
-        panic!(rt; "the script is not read")
-    };
     let word = Arc::new(rt.alloc(), AtomicU64::new(0))?;
-    let bodies = bodies_of(rt.alloc(), &script, &word)?;
-    let gate = LookingGate {
-        word: Arc::try_clone(&word)?,
-        calls: AtomicU64::new(0),
-        places: [AtomicU64::new(0), AtomicU64::new(0)],
-        steps: [AtomicU64::new(0), AtomicU64::new(0)],
-    };
-    let mut clock = ListClock::new(Vec::new(rt.alloc()));
-    let env = run_crew(&rt, rt.alloc(), &script, bodies, &mut clock, &gate)?;
-    let log = env.into_log();
-    assert!(rt; log.len() < 100);
-    let text = text_of(rt.alloc(), &log)?;
-    assert_eq!(rt;
-        str::from_utf8(text.bytes()).unwrap_or("no text"),
-        ALONG_LOG
-    );
-    assert_eq!(rt; gate.calls.load(Ordering::SeqCst), 2);
-    for (place, wanted) in gate.places.iter().zip([1, 2]) {
-        assert_eq!(rt; place.load(Ordering::SeqCst), wanted);
-    }
+    let gate = LookingGate::new(Arc::try_clone(&word)?);
+    let script = script_of(&rt, rt.alloc(), ALONG);
+    let log = log_of(&rt, rt.alloc(), &script, &word, &gate)?;
+    assert_log(&rt, rt.alloc(), &log, ALONG_LOG)?;
+    assert_count(&rt, &gate.calls, 2);
+    assert_count(&rt, &gate.places[0], 1);
+    assert_count(&rt, &gate.places[1], 2);
     // Each task is stepped once for its step, and once more to see that none is left.
-    for (steps, wanted) in gate.steps.iter().zip([0, 2]) {
-        assert_eq!(rt; steps.load(Ordering::SeqCst), wanted);
-    }
-    assert_eq!(rt; word.load(Ordering::SeqCst), 4);
+    assert_count(&rt, &gate.steps[0], 0);
+    assert_count(&rt, &gate.steps[1], 2);
+    assert_count(&rt, &word, 4);
     Ok(())
 }
 
@@ -113,18 +159,14 @@ const SIDE_BY_SIDE: &str = "workers 3\n\
 
 #[test]
 fn each_worker_has_a_thread_of_its_own(rt: HostRuntime) -> Result<(), Fail> {
-    let Ok(script) = read_script(rt.alloc(), SIDE_BY_SIDE.as_bytes()) else {
-        panic!(rt; "the script is not read")
-    };
     let word = Arc::new(rt.alloc(), AtomicU64::new(0))?;
-    let bodies = bodies_of(rt.alloc(), &script, &word)?;
     let gate = MeetingGate {
         came: AtomicU64::new(0),
         met: AtomicU64::new(0),
     };
-    let mut clock = ListClock::new(Vec::new(rt.alloc()));
-    let env = run_crew(&rt, rt.alloc(), &script, bodies, &mut clock, &gate)?;
-    assert_eq!(rt; env.into_log().len(), 10);
-    assert_eq!(rt; gate.met.load(Ordering::SeqCst), 3);
+    let script = script_of(&rt, rt.alloc(), SIDE_BY_SIDE);
+    let log = log_of(&rt, rt.alloc(), &script, &word, &gate)?;
+    assert!(rt; log.len() == 10);
+    assert_count(&rt, &gate.met, 3);
     Ok(())
 }
