@@ -1,5 +1,5 @@
 -- What is known at a desk, by its own entries.
-use Rattle.std.proofs.Common.{◌≡◌, ℕ, ◌+◌, ◌≤◌, Bool, true, false, List, [], ◌∷◌, ◌++◌, length, refl, sym, ap, subst, ◌∙◌, append_assoc, arith, Some}
+use Rattle.std.proofs.Common.{◌≡◌, ℕ, ◌+◌, ◌≤◌, Bool, true, false, List, [], ◌∷◌, ◌++◌, length, refl, sym, ap, ◌∙◌, append_assoc, arith, Some}
 use Rattle.std.specs.Prelude.{filter}
 use Rattle.list_laws.proofs.Values.{eqb-same, some-injective}
 use Rattle.task_base.specs.Plan.{Plan}
@@ -22,7 +22,7 @@ use Rattle.env_crew.specs.Desk.{DeskView, Holds, IsLater, as_seen, mine, view_at
 use Rattle.env_crew.specs.Driving.{IsWanted}
 use Rattle.env_crew.specs.Serving.{IsFree}
 use Rattle.env_shared.specs.Sits.{Seated, desk_of}
-use Rattle.worked_calls.specs.Known.{CanAsk, IsAtDesk, IsLast, IsWork, driver_seat, worker_seat}
+use Rattle.worked_calls.specs.Known.{CanAsk, IsAtDesk, IsLast, driver_seat, worker_seat}
 
 -- A hold of the turn.
 

@@ -1,6 +1,5 @@
 use Rattle.std.proofs.Common.{◌∙◌, refl}
 use Rattle.task_base.specs.declared.entry.Kind.TheVariants as kinds
-use Rattle.task_model.specs.Seats.{holding, running}
 use Rattle.hist_model.specs.Script.{current, is_wanted}
 use Rattle.worked_calls.proofs.Seated.{at_entered, driver_first, wanted}
 use Rattle.worked_calls.proofs.Plans.{closing_sound}
