@@ -93,6 +93,16 @@ impl Gate for LookingGate {
     }
 }
 
+/// The gate was passed by task 0 and then by task 1, when all steps of task 0 were done.
+fn assert_passed(rt: &impl Abort, gate: &LookingGate) {
+    assert_count(rt, &gate.calls, 2);
+    assert_count(rt, &gate.places[0], 1);
+    assert_count(rt, &gate.places[1], 2);
+    // Task 0 is stepped once for its step, and once more to see that none is left.
+    assert_count(rt, &gate.steps[0], 0);
+    assert_count(rt, &gate.steps[1], 2);
+}
+
 /// Two tasks of one sequence, under a policy that holds all work back until they are posted. The second one finds what the
 /// first one left.
 const ALONG: &str = "workers 1\n\
@@ -112,12 +122,7 @@ fn gate_is_passed_once_a_task_before_its_first_step(rt: HostRuntime) -> Result<(
     let script = script_of(&rt, rt.alloc(), ALONG);
     let log = log_of(&rt, rt.alloc(), &script, &word, &gate)?;
     assert_log(&rt, rt.alloc(), &log, ALONG_LOG)?;
-    assert_count(&rt, &gate.calls, 2);
-    assert_count(&rt, &gate.places[0], 1);
-    assert_count(&rt, &gate.places[1], 2);
-    // Each task is stepped once for its step, and once more to see that none is left.
-    assert_count(&rt, &gate.steps[0], 0);
-    assert_count(&rt, &gate.steps[1], 2);
+    assert_passed(&rt, &gate);
     assert_count(&rt, &word, 4);
     Ok(())
 }
