@@ -68,16 +68,16 @@ runs_accepted script past seat w fits runs pool =
 -- no other seat runs a task of its sequence
 pub others_run_others : (script : Plan) (past : List Entry) (seat : ℕ) (w : Running) → IsPoolPast script past → running past seat ≡ Some w → w.is_main ≡ false
     → (other : ℕ) → (seat == other) ≡ false → holds_of (runs_of script (sequence_of script w.home w.task)) (running past other) ≡ false
-others_run_others script past seat w fits runs pool other another = by (running past other) refl
+others_run_others script past seat w fits runs pool other another = by_running (running past other) refl
   where
     apart : (v : Running) → running past other ≡ Some v → (b : Bool) → v.is_main ≡ b → runs_of script (sequence_of script w.home w.task) v ≡ false
     apart v also true main = rw main refl
     apart v also false is_pool = rw is_pool (ne_eqb _ _ (λ same. eqb-false seat other another
         (fits.one_sequence seat other w v runs also pool is_pool (sym same))))
 
-    by : (o : Option Running) → running past other ≡ o → holds_of (runs_of script (sequence_of script w.home w.task)) o ≡ false
-    by None also = refl
-    by (Some v) also = apart v also v.is_main refl
+    by_running : (o : Option Running) → running past other ≡ o → holds_of (runs_of script (sequence_of script w.home w.task)) o ≡ false
+    by_running None also = refl
+    by_running (Some v) also = apart v also v.is_main refl
 
 -- the tasks of declared posts are declared
 tasks_declared : (script : Plan) (ps : List Posted) → AllByRecursion (IsDeclared script) ps → AllByRecursion (λ p. p.task < length script.tasks) ps

@@ -18,7 +18,8 @@ use Rattle.pool_laws.proofs.Seats.Cells.{cell_at_end, cell_same}
 use Rattle.pool_laws.proofs.Seats.Running.{runs_at_end, runs_at_main, runs_at_other_end, runs_at_take, runs_same}
 use Rattle.pool_laws.specs.Keys.{ready_below}
 use Rattle.pool_laws.specs.Seats.{moves_cells, moves_main, moves_running, runs_pool_task}
-use Rattle.std.proofs.Common.{Bool, List, None, Some, [], ap, arith, cond, eqb, false, get_or, length, map, refl, subst, sym, true, ℕ, ◌++◌, ◌+◌, ◌<◌, ◌∙◌, ◌∷◌, ◌≡◌, ◌≤◌}
+use Rattle.std.proofs.Common.{Bool, List, None, Some, [], ap, arith, cond, eqb, false, get_or, length}
+use Rattle.std.proofs.Common.{map, refl, subst, sym, true, ℕ, ◌++◌, ◌+◌, ◌<◌, ◌∙◌, ◌∷◌, ◌≡◌, ◌≤◌}
 use Rattle.std.proofs.lemmas.Bool.{and_from, and_left, and_parts, and_right, false_from_ne_true, not-true, not_from_false, or_right, true≢false}
 use Rattle.std.proofs.lemmas.List.{get_or-map, get_or-replicate, length-map, length-replicate}
 use Rattle.std.specs.List.{AllByRecursion}
@@ -176,14 +177,14 @@ lines_at_take script past held seat s found head fits are known free there is_he
         (sym (head_is_first_arrival script past s fits.arrivals_are_ready) ∙ is_head) (eqb-same head.posted.task) one))
 
     no_member : (t : ℕ) → (s == t) ≡ false → (r : Ready) → (marks r ≡ true → r ≡ head) → (joins t r && not (marks r)) ≡ joins t r
-    no_member t another r only = by (marks r) refl
+    no_member t another r only = by_test (marks r) refl
       where
         of_head : joins t head ≡ false
         of_head = and_left (is_of script t head.posted) (may_start script past head.posted) (ap (λ q. eqb q t) accepted.1 ∙ another)
 
-        by : (b : Bool) → marks r ≡ b → (joins t r && not b) ≡ joins t r
-        by true is = and_right (joins t r) false refl ∙ sym (ap (joins t) (only is) ∙ of_head)
-        by false is = unturned (joins t r)
+        by_test : (b : Bool) → marks r ≡ b → (joins t r && not b) ≡ joins t r
+        by_test true is = and_right (joins t r) false refl ∙ sym (ap (joins t) (only is) ∙ of_head)
+        by_test false is = unturned (joins t r)
           where
             unturned : (b : Bool) → (b && true) ≡ b
             unturned true = refl

@@ -12,7 +12,8 @@ use Rattle.pool_core.specs.State.{pushed}
 use Rattle.pool_laws.proofs.Keys.Arrivals.{head_is_first_arrival}
 use Rattle.pool_laws.proofs.Seats.Running.{seat_runs}
 use Rattle.pool_laws.specs.Keys.{ready_below}
-use Rattle.std.proofs.Common.{Bool, List, None, Some, [], ap, arith, cond, drop, eqb, false, length, map, refl, subst, sym, true, ℕ, ◌++◌, ◌+◌, ◌-◌, ◌<◌, ◌∙◌, ◌∷◌, ◌≡◌, ◌≤◌}
+use Rattle.std.proofs.Common.{Bool, List, None, Some, [], ap, arith, cond, drop, eqb, false, length, map}
+use Rattle.std.proofs.Common.{refl, subst, sym, true, ℕ, ◌++◌, ◌+◌, ◌-◌, ◌<◌, ◌∙◌, ◌∷◌, ◌≡◌, ◌≤◌}
 use Rattle.std.proofs.lemmas.Bool.{and_from, and_right, eqb-false, eqb-true}
 use Rattle.std.proofs.lemmas.List.{append-nil, get_or-set_other, get_or-set_same, length-set, map-append}
 use Rattle.std.proofs.lemmas.List.Elements.{All-from_recursion, filter-append}
@@ -36,11 +37,11 @@ use Rattle.task_sequence.specs.Sequences as sequences
 -- the sequence of an accepted task is one of the script's
 pub sequence_there : (script : Plan) (runner task : ℕ) → runner < length script.runners → task < length script.tasks
     → sequence_of script runner task < sequence_count script
-sequence_there script runner task declared task_declared = by (holds_of (λ r. is_parallel r.kind) (slice_get script.runners runner))
+sequence_there script runner task declared task_declared = by_parallel (holds_of (λ r. is_parallel r.kind) (slice_get script.runners runner))
   where
-    by : (b : Bool) → cond b (length script.runners + task) runner < length script.runners + length script.tasks
-    by true = omega arith
-    by false = omega arith
+    by_parallel : (b : Bool) → cond b (length script.runners + task) runner < length script.runners + length script.tasks
+    by_parallel true = omega arith
+    by_parallel false = omega arith
 
 -- the sequence of a task that runs is one of the script's
 pub running_there : (script : Plan) (past : List Entry) (seat : ℕ) (w : Running) → IsPoolPast script past → running past seat ≡ Some w → w.is_main ≡ false
@@ -148,14 +149,14 @@ lines_with script past arrived held q sequence room all there here others = reco
     later : Held
     later = record held { sequences = with_sequence held q sequence; room = room }
 
-    by : (s : ℕ) (b : Bool) → (q == s) ≡ b → s < sequence_count script → Shows script past arrived (sequence_at later s) s
-    by s true is known = subst (λ t. Shows script past arrived (sequence_at later t) t) (eqb-true q s is)
+    at_each : (s : ℕ) (b : Bool) → (q == s) ≡ b → s < sequence_count script → Shows script past arrived (sequence_at later s) s
+    at_each s true is known = subst (λ t. Shows script past arrived (sequence_at later t) t) (eqb-true q s is)
         (subst (λ x. Shows script past arrived x q) (sym (get_or-set_same held.sequences q sequence fresh (omega (arith, there, all)))) here)
-    by s false another known = subst (λ x. Shows script past arrived x s)
+    at_each s false another known = subst (λ x. Shows script past arrived x s)
         (sym (get_or-set_other held.sequences q s sequence fresh (λ same. eqb-false q s another (sym same)))) (others s another known)
 
     shows : (s : ℕ) → s < sequence_count script → Shows script past arrived (sequence_at later s) s
-    shows s known = by s (eqb q s) refl known
+    shows s known = at_each s (eqb q s) refl known
 
 -- one more arrival
 line_push : (script : Plan) (past : List Entry) (known : List Ready) (r : Ready) (s : ℕ) → line_in script past (known ++ r ∷ []) s

@@ -4,12 +4,12 @@ use Rattle.list_laws.proofs.Filters.{filter-map, filter_congr_in, filter_none}
 use Rattle.list_laws.proofs.Ranges.{AllByRecursion-range}
 use Rattle.list_laws.proofs.Values.{some-injective}
 use Rattle.list_laws.specs.Lists.{count, holds_of}
-use Rattle.std.proofs.Common.{Bool, List, None, Option, Some, [], ap, arith, cond, false, get_or, inl, inr, length, refl, suc, sym, true, zero, ℕ, ◌++◌, ◌+◌, ◌<◌, ◌∙◌, ◌∷◌, ◌≡◌, ◌≤◌}
+use Rattle.std.proofs.Common.{Bool, List, None, Option, Some, [], ap, arith, cond, false, get_or, inl, inr}
+use Rattle.std.proofs.Common.{length, refl, suc, sym, true, zero, ℕ, ◌++◌, ◌+◌, ◌<◌, ◌∙◌, ◌∷◌, ◌≡◌, ◌≤◌}
 use Rattle.std.proofs.lemmas.Bool.{cases_lt, false_from_ne_true, true≢false}
 use Rattle.std.proofs.lemmas.List.{get_or-replicate, get_or_past, length-map, length-replicate}
 use Rattle.std.proofs.lemmas.List.FromFn.{fill_by_all}
 use Rattle.std.specs.List.{AllByRecursion, list_any, range_with_len}
-use Rattle.std.specs.Option.{option_map}
 use Rattle.std.specs.Prelude.{filter, is_some, replicate, slice_get, slice_index_or, ◌&&◌, ◌||◌}
 
 -- Places.
@@ -33,11 +33,7 @@ get_there (x ∷ xs) (suc i) less = get_there xs i (omega (arith, less))
 pub same_inside : {A : Type 0} {o : Option (Option A)} {x y : A} → o ≡ Some (Some x) → o ≡ Some (Some y) → x ≡ y
 same_inside is also = some-injective (some-injective (sym is ∙ also))
 
--- a mapped value is there where the value is, and a kept one where it passes
-pub some_mapped : {A B : Type 0} (f : A → B) (o : Option A) → is_some (option_map f o) ≡ is_some o
-some_mapped f None = refl
-some_mapped f (Some x) = refl
-
+-- a value that is kept where a test passes is there where it does
 pub kept_is_some : {A : Type 0} (b : Bool) (x : A) → is_some (cond b (Some x) None) ≡ b
 kept_is_some true x = refl
 kept_is_some false x = refl
@@ -53,12 +49,12 @@ or_none false c none = none
 -- what keeps each element that passes a test finds as many that do: one, or none
 pub any_filtered : {A : Type 0} (p q : A → Bool) (xs : List A) → ((x : A) → p x ≡ true → q x ≡ true) → list_any p (filter q xs) ≡ list_any p xs
 any_filtered p q [] keeps = refl
-any_filtered {A = A} p q (x ∷ xs) keeps = by (q x) refl (any_filtered p q xs keeps)
+any_filtered {A = A} p q (x ∷ xs) keeps = by_test (q x) refl (any_filtered p q xs keeps)
   where
-    by : (b : Bool) → q x ≡ b → list_any p (filter q xs) ≡ list_any p xs
+    by_test : (b : Bool) → q x ≡ b → list_any p (filter q xs) ≡ list_any p xs
         → list_any p (cond b (x ∷ filter q xs) (filter q xs)) ≡ (p x || list_any p xs)
-    by true is rest = ap (λ b. p x || b) rest
-    by false is rest = rw (false_from_ne_true (p x) (λ passes. true≢false (sym (keeps x passes) ∙ is))) rest
+    by_test true is rest = ap (λ b. p x || b) rest
+    by_test false is rest = rw (false_from_ne_true (p x) (λ passes. true≢false (sym (keeps x passes) ∙ is))) rest
 
 -- what holds of each element holds of that at a place
 pub all_at : {A : Type 0} (P : A → Type 0) (xs : List A) (i : ℕ) (d : A) → AllByRecursion P xs → i < length xs → P (get_or xs i d)

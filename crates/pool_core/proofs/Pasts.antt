@@ -3,7 +3,7 @@ use Rattle.pool_laws.proofs.Seats.Whose.{RunsBehind, runs_behind}
 use Rattle.list_laws.proofs.Elements.{AllByRecursion-append}
 use Rattle.list_laws.proofs.Values.{eqb-same}
 use Rattle.pool_core.proofs.Accepted.{head_accepted, new_is_not_taken, one_post, runs_accepted}
-use Rattle.pool_core.proofs.Insides.{inside_at_driver, inside_at_start, inside_at_task, inside_kept}
+use Rattle.pool_core.proofs.Jobs.Insides.{inside_at_driver, inside_at_start, inside_at_task, inside_kept}
 use Rattle.pool_core.proofs.TakenKeys.{keys_at_post, keys_at_start, keys_at_take, keys_kept}
 use Rattle.pool_core.specs.Calls.{after_end, after_enter, after_leave, after_post, after_tick, next}
 use Rattle.pool_core.specs.Holdings.{AreInside}
@@ -17,7 +17,8 @@ use Rattle.pool_laws.proofs.Seats.Running.{running_same, seat_runs}
 use Rattle.pool_laws.specs.Keys.{moves_posts}
 use Rattle.pool_laws.specs.Room.{scopes}
 use Rattle.pool_laws.specs.Seats.{moves_holding, moves_main, moves_running, RunsPoolTask}
-use Rattle.std.proofs.Common.{Bool, List, None, Option, Some, [], ap, arith, cond, false, inl, inr, length, refl, subst, sym, true, ℕ, ◌++◌, ◌<◌, ◌∙◌, ◌∷◌, ◌≡◌, ◌≤◌}
+use Rattle.std.proofs.Common.{Bool, List, None, Option, Some, [], ap, arith, cond, false, inl, inr}
+use Rattle.std.proofs.Common.{length, refl, subst, sym, true, ℕ, ◌++◌, ◌<◌, ◌∙◌, ◌∷◌, ◌≡◌, ◌≤◌}
 use Rattle.std.proofs.lemmas.Bool.{both_ways, eqb-false, eqb-true, false_from_ne_true, ne_eqb, or_cases, or_from, or_left, or_parts, or_right, true≢false}
 use Rattle.std.proofs.lemmas.List.Elements.{Contains-append_left}
 use Rattle.std.proofs.lemmas.Option.{none-some, same_Some}
@@ -83,11 +84,11 @@ past_next script past e taken n c = record {
 }
   where
     accepted : (t : ℕ) → (is_taken past t ≡ true) ⊎ (takes t e.kind ≡ true) → (p : Posted) × (post_of (past ++ e ∷ []) t ≡ Some p)
-    accepted t before = let (p, is) = by before in (p, rw (post_of_grows past e t, is) refl)
+    accepted t before = let (p, is) = by_before before in (p, rw (post_of_grows past e t, is) refl)
       where
-        by : (is_taken past t ≡ true) ⊎ (takes t e.kind ≡ true) → (p : Posted) × (post_of past t ≡ Some p)
-        by (inl was) = c.taken_was_accepted t was
-        by (inr takes_now) = n.was_accepted t takes_now
+        by_before : (is_taken past t ≡ true) ⊎ (takes t e.kind ≡ true) → (p : Posted) × (post_of past t ≡ Some p)
+        by_before (inl was) = c.taken_was_accepted t was
+        by_before (inr takes_now) = n.was_accepted t takes_now
 
     ended : (t : ℕ) → (is_ended past t ≡ true) ⊎ (ends t e.kind ≡ true) → is_taken past t ≡ true
     ended t (inl was) = c.ended_was_taken t was
@@ -201,14 +202,16 @@ past_at_post script past seat task runner delay true fits declared known new =
     let e : Entry = record { seat = seat; kind = kinds.Post task runner delay true } in
     past_still script past e (runs_no_more past e refl) (λ t. (refl, refl))
     (posts_in_order past e task runner delay refl new fits.in_order) ((declared, known), tt) (omega arith) fits.moment_fits
-    (λ t h. refl) (inside_kept script past e refl refl fits.inside) (keys_at_post past seat task runner delay true (new_is_not_taken script past task fits new).0 fits.taken_have_keys) fits
+    (λ t h. refl) (inside_kept script past e refl refl fits.inside)
+    (keys_at_post past seat task runner delay true (new_is_not_taken script past task fits new).0 fits.taken_have_keys) fits
 
 pub past_at_tick : (script : Plan) (past : List Entry) (seat moment : ℕ) → IsPoolPast script past → now_of past ≤ moment → moment ≤ LAST_MOMENT
     → IsPoolPast script (after_tick past seat moment)
 past_at_tick script past seat moment fits later last =
     let e : Entry = record { seat = seat; kind = kinds.Tick moment } in
     past_still script past e (runs_no_more past e refl) (λ t. (refl, refl))
-    (rw (posts_same past e refl) fits.in_order) tt later last (λ t h. refl) (inside_kept script past e refl refl fits.inside) (keys_kept past e refl (λ t. refl) fits.taken_have_keys) fits
+    (rw (posts_same past e refl) fits.in_order) tt later last (λ t h. refl) (inside_kept script past e refl refl fits.inside)
+    (keys_kept past e refl (λ t. refl) fits.taken_have_keys) fits
 
 pub past_at_take : (script : Plan) (past : List Entry) (seat s found : ℕ) (head : Ready) → IsPoolPast script past → 1 ≤ seat → seat ≤ script.workers
     → holding past seat ≡ None → head_of script past s ≡ Some head → runs_sequence script past s ≡ false
@@ -301,14 +304,16 @@ past_at_enter script past seat scope w fits runs pool =
     past_still script past e (runs_no_more past e refl) (λ t. (refl, refl))
     (rw (posts_same past e refl) fits.in_order) tt (omega arith) fits.moment_fits
     (λ t free. rw (ne_eqb w.task t
-    (λ same. both_ways (is_taken past t) free (ap (is_taken past) (sym same) ∙ (fits.runs seat w runs pool).taken))) refl) (inside_kept script past e refl refl fits.inside)
+    (λ same. both_ways (is_taken past t) free (ap (is_taken past) (sym same) ∙ (fits.runs seat w runs pool).taken))) refl)
+    (inside_kept script past e refl refl fits.inside)
     (keys_kept past e refl (λ t. refl) fits.taken_have_keys) fits
 
 pub past_at_leave : (script : Plan) (past : List Entry) (seat : ℕ) (w : Running) → IsPoolPast script past → IsPoolPast script (after_leave past seat w.task)
 past_at_leave script past seat w fits =
     let e : Entry = record { seat = seat; kind = kinds.Leave w.task } in
     past_still script past e (runs_no_more past e refl) (λ t. (refl, refl))
-    (rw (posts_same past e refl) fits.in_order) tt (omega arith) fits.moment_fits (λ t free. closed (w.task == t) None refl) (inside_kept script past e refl refl fits.inside)
+    (rw (posts_same past e refl) fits.in_order) tt (omega arith) fits.moment_fits (λ t free. closed (w.task == t) None refl)
+    (inside_kept script past e refl refl fits.inside)
     (keys_kept past e refl (λ t. refl) fits.taken_have_keys) fits
   where
     closed : (b : Bool) (o : Option OpenScope) → o ≡ None → cond b None o ≡ None

@@ -97,13 +97,13 @@ unfolding priority_of
 priorities_at_start script = record {
   all = length-map script.runners (λ r. r.traits.priority);
   each = λ runner less. slice_get-map (λ r. r.traits.priority) script.runners runner
-      ∙ by (slice_get script.runners runner) (get_there script.runners runner less);
+      ∙ by_runner (slice_get script.runners runner) (get_there script.runners runner less);
 }
   where
-    by : (o : Option Runner) → is_some o ≡ true
+    by_runner : (o : Option Runner) → is_some o ≡ true
         → option_map (λ r. r.traits.priority) o ≡ Some (option_map_or (λ r. r.traits.priority) o BestEffort)
-    by None none = absurd (true≢false (sym none))
-    by (Some r) some = refl
+    by_runner None none = absurd (true≢false (sym none))
+    by_runner (Some r) some = refl
 
 pub priorities_kept : (script : Plan) (past : List Entry) (e : Entry) (priorities : List Priority) → moves_priorities e.kind ≡ false
     → ArePriorities script past priorities → ArePriorities script (past ++ e ∷ []) priorities
@@ -154,7 +154,7 @@ seats_kept script past e seats still are = seats_same script past e seats (λ se
 -- a main task is no task of the pool
 pub pool_running_at_main : (past : List Entry) (e : Entry) → moves_main e.kind ≡ true → runs_pool_task past e.seat ≡ false
     → (seat : ℕ) → pool_running (past ++ e ∷ []) seat ≡ pool_running past seat
-pool_running_at_main past e main apart seat = by (e.seat == seat) refl
+pool_running_at_main past e main apart seat = by_seat (e.seat == seat) refl
   where
     before : (o : Option Running) → holds_of (λ w. not w.is_main) o ≡ false → keep (λ w. not w.is_main) o ≡ None
     before None h = refl
@@ -165,10 +165,10 @@ pool_running_at_main past e main apart seat = by (e.seat == seat) refl
     after (kinds.MainEnd task left) h o = refl
     after kind h o = absurd (true≢false (sym h))
 
-    by : (b : Bool) → (e.seat == seat) ≡ b → pool_running (past ++ e ∷ []) seat ≡ pool_running past seat
-    by true here = rw (running_here past e seat here, after e.kind main (running past e.seat), ← eqb-true e.seat seat here)
+    by_seat : (b : Bool) → (e.seat == seat) ≡ b → pool_running (past ++ e ∷ []) seat ≡ pool_running past seat
+    by_seat true here = rw (running_here past e seat here, after e.kind main (running past e.seat), ← eqb-true e.seat seat here)
         (sym (before (running past e.seat) apart))
-    by false other = rw (running_other past e seat other) refl
+    by_seat false other = rw (running_other past e seat other) refl
 
 pub seats_at_main : (script : Plan) (past : List Entry) (e : Entry) (seats : List (Option ℕ)) → moves_main e.kind ≡ true → runs_pool_task past e.seat ≡ false
     → AreSeats script past seats → AreSeats script (past ++ e ∷ []) seats

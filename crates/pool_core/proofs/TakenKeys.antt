@@ -34,12 +34,12 @@ pub ready_posted : (past : List Entry) → AllByRecursion (HasKey past) (ready p
 unfolding ready
 ready_posted past = AllByRecursion-filter_map (Contains (posts past)) (HasKey past)
     (λ p. option_map (λ key. record { posted = p; key = key }) (key_of past p)) (posts past)
-    (λ p r among made. by p r among (key_of past p) refl made) (AllByRecursion-contains_itself (posts past))
+    (λ p r among made. by_posted p r among (key_of past p) refl made) (AllByRecursion-contains_itself (posts past))
   where
-    by : (p : Posted) (r : Ready) → Contains (posts past) p → (o : Option Key) → key_of past p ≡ o
+    by_posted : (p : Posted) (r : Ready) → Contains (posts past) p → (o : Option Key) → key_of past p ≡ o
         → option_map (λ key. record { posted = p; key = key }) o ≡ Some r → HasKey past r
-    by p r among None is made = absurd (none-some r made)
-    by p r among (Some key) is made = subst (HasKey past) (some-injective made) (among, is)
+    by_posted p r among None is made = absurd (none-some r made)
+    by_posted p r among (Some key) is made = subst (HasKey past) (some-injective made) (among, is)
 
 pub arrivals_posted : (past : List Entry) → SameMembers (arrivals past) (ready past)
     → AllByRecursion (HasKey past) (arrivals past)
@@ -59,11 +59,11 @@ keys_at_start p among taken = absurd (true≢false (sym taken))
 
 -- a key stays
 some_key_stays : (past : List Entry) (e : Entry) (p : Posted) → is_some (key_of past p) ≡ true → is_some (key_of (past ++ e ∷ []) p) ≡ true
-some_key_stays past e p some = by (key_of past p) refl some
+some_key_stays past e p some = by_key (key_of past p) refl some
   where
-    by : (o : Option Key) → key_of past p ≡ o → is_some o ≡ true → is_some (key_of (past ++ e ∷ []) p) ≡ true
-    by None is h = absurd (true≢false (sym h))
-    by (Some key) is h = ap is_some (key_of_stays past (e ∷ []) p key is)
+    by_key : (o : Option Key) → key_of past p ≡ o → is_some o ≡ true → is_some (key_of (past ++ e ∷ []) p) ≡ true
+    by_key None is h = absurd (true≢false (sym h))
+    by_key (Some key) is h = ap is_some (key_of_stays past (e ∷ []) p key is)
 
 -- what is taken behind an entry was taken before it, or at it
 taken_cases : (past : List Entry) (e : Entry) (t : ℕ) → is_taken (past ++ e ∷ []) t ≡ true → (is_taken past t ≡ true) ⊎ (takes t e.kind ≡ true)
@@ -72,11 +72,11 @@ taken_cases past e t taken = or_cases (is_taken past t) (takes t e.kind) (sym (i
 -- an entry that neither posts to the pool nor takes
 pub keys_kept : (past : List Entry) (e : Entry) → moves_posts e.kind ≡ false → ((t : ℕ) → takes t e.kind ≡ false) → TakenHaveKeys past
     → TakenHaveKeys (past ++ e ∷ [])
-keys_kept past e still none have p among taken = by (taken_cases past e p.task taken)
+keys_kept past e still none have p among taken = by_taken (taken_cases past e p.task taken)
   where
-    by : (is_taken past p.task ≡ true) ⊎ (takes p.task e.kind ≡ true) → is_some (key_of (past ++ e ∷ []) p) ≡ true
-    by (inl before) = some_key_stays past e p (have p (subst (λ ps. Contains ps p) (posts_same past e still) among) before)
-    by (inr now) = absurd (true≢false (sym now ∙ none p.task))
+    by_taken : (is_taken past p.task ≡ true) ⊎ (takes p.task e.kind ≡ true) → is_some (key_of (past ++ e ∷ []) p) ≡ true
+    by_taken (inl before) = some_key_stays past e p (have p (subst (λ ps. Contains ps p) (posts_same past e still) among) before)
+    by_taken (inr now) = absurd (true≢false (sym now ∙ none p.task))
 
 -- a post of a task that was not taken
 pub keys_at_post : (past : List Entry) (seat task runner delay : ℕ) (ok : Bool) → is_taken past task ≡ false → TakenHaveKeys past
@@ -84,24 +84,24 @@ pub keys_at_post : (past : List Entry) (seat task runner delay : ℕ) (ok : Bool
 keys_at_post past seat task runner delay false untaken have p among taken =
     keys_kept past (record { seat = seat; kind = kinds.Post task runner delay false }) refl (λ t. refl) have p among taken
 keys_at_post past seat task runner delay true untaken have p among taken =
-    by (Contains-push_cases (posts past) (post_behind past task runner delay) p (subst (λ ps. Contains ps p) (posts_push past e) among))
+    by_side (Contains-push_cases (posts past) (post_behind past task runner delay) p (subst (λ ps. Contains ps p) (posts_push past e) among))
     (taken_cases past e p.task taken)
   where
     e : Entry
     e = record { seat = seat; kind = kinds.Post task runner delay true }
 
-    by : Contains (posts past) p ⊎ (post_behind past task runner delay ≡ p) → (is_taken past p.task ≡ true) ⊎ (false ≡ true)
+    by_side : Contains (posts past) p ⊎ (post_behind past task runner delay ≡ p) → (is_taken past p.task ≡ true) ⊎ (false ≡ true)
         → is_some (key_of (past ++ e ∷ []) p) ≡ true
-    by (inl old) (inl before) = some_key_stays past e p (have p old before)
-    by (inr new) (inl before) = absurd (true≢false (sym before ∙ ap (λ q. is_taken past q.task) (sym new) ∙ untaken))
-    by either (inr now) = absurd (true≢false (sym now))
+    by_side (inl old) (inl before) = some_key_stays past e p (have p old before)
+    by_side (inr new) (inl before) = absurd (true≢false (sym before ∙ ap (λ q. is_taken past q.task) (sym new) ∙ untaken))
+    by_side either (inr now) = absurd (true≢false (sym now))
 
 -- a take of a head, where each task was posted once
 pub keys_at_take : (script : Plan) (past : List Entry) (seat s found : ℕ) (head : Ready) → SameMembers (arrivals past) (ready past)
     → ((p : Posted) → Contains (posts past) p → post_of past p.task ≡ Some p) → head_of script past s ≡ Some head → TakenHaveKeys past
     → TakenHaveKeys (next past seat (kinds.Take head.posted.task head.posted.home found))
 keys_at_take script past seat s found head same one is_head have p among taken =
-    some_key_stays past e p (by (taken_cases past e p.task taken))
+    some_key_stays past e p (by_taken (taken_cases past e p.task taken))
   where
     e : Entry
     e = record { seat = seat; kind = kinds.Take head.posted.task head.posted.home found }
@@ -112,8 +112,8 @@ keys_at_take script past seat s found head same one is_head have p among taken =
     key : HasKey past head
     key = head_key script past s head same is_head
 
-    by : (is_taken past p.task ≡ true) ⊎ ((head.posted.task == p.task) ≡ true) → is_some (key_of past p) ≡ true
-    by (inl before) = have p old before
-    by (inr now) =
+    by_taken : (is_taken past p.task ≡ true) ⊎ ((head.posted.task == p.task) ≡ true) → is_some (key_of past p) ≡ true
+    by_taken (inl before) = have p old before
+    by_taken (inr now) =
         let is : head.posted ≡ p = some-injective (sym (one head.posted key.0) ∙ ap (post_of past) (eqb-true head.posted.task p.task now) ∙ one p old) in
         ap (λ q. is_some (key_of past q)) (sym is) ∙ ap is_some key.1

@@ -7,7 +7,9 @@ use Rattle.pool_core.specs.Others.{is_still, keeps_counts}
 use Rattle.pool_core.specs.Pasts.{IsPoolPast, IsPoolScript}
 use Rattle.pool_core.specs.Tables.{tracked}
 use Rattle.pool_laws.proofs.Shutdown.Tasks.{blocks_and_skips}
-use Rattle.pool_laws.proofs.Shutdown.Blockers.{block_part_at_cancel, block_part_at_end, block_part_at_job_post, block_part_at_job_take, block_part_at_leave, block_part_at_post, block_part_at_step, block_part_same, skip_part_at_end, skip_part_at_job_take, skip_part_at_leave, skip_part_at_post, skip_part_at_step, skip_part_at_take, skip_part_same}
+use Rattle.pool_laws.proofs.Shutdown.Blockers.{block_part_at_cancel, block_part_at_end, block_part_at_job_post, block_part_at_job_take, block_part_at_leave}
+use Rattle.pool_laws.proofs.Shutdown.Blockers.{block_part_at_post, block_part_at_step, block_part_same, skip_part_at_end, skip_part_at_job_take}
+use Rattle.pool_laws.proofs.Shutdown.Blockers.{skip_part_at_leave, skip_part_at_post, skip_part_at_step, skip_part_at_take, skip_part_same}
 use Rattle.pool_laws.specs.Seats.{holds_job}
 use Rattle.list_laws.proofs.Values.{eqb-same}
 use Rattle.std.proofs.Math.Bool.{and-false, and-true}
@@ -339,7 +341,8 @@ pub counts_at_cancel : (script : Plan) (past : List Entry) (job : ℕ) → job <
 counts_at_cancel script past job declared = omega (arith, block_at_cancel script past 0 job declared)
 
 pub tracked_at_cancel : (script : Plan) (past : List Entry) (seat job : ℕ) → job < length script.jobs
-    → tracked script (next past seat (kinds.JobCancel job)) ≡ record (tracked script past) { block_items = block_part script past - cancel_share script past job }
+    → tracked script (next past seat (kinds.JobCancel job))
+    ≡ record (tracked script past) { block_items = block_part script past - cancel_share script past job }
 tracked_at_cancel script past seat job declared =
     let e : Entry = record { seat = seat; kind = kinds.JobCancel job } in
     tracked_is script (past ++ e ∷ []) (phase_of past) (policy_of past) _ (skip_part script past) (phase_of_push past e) (policy_of_push past e)

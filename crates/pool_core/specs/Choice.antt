@@ -36,6 +36,11 @@ abbrev pub IsBestOf : (TaskSource → Rank → Type 0) → Option (TaskSource ×
 IsBestOf offered None = (source : TaskSource) (rank : Rank) → offered source rank → ⊥
 IsBestOf offered (Some (source, rank)) = offered source rank × ((other : TaskSource) (r : Rank) → offered other r → rank_below r rank ≡ false)
 
+-- whether an open queue of the lane holds a source
+abbrev pub HasOffer : Pool → ℕ → Bool → Type 0
+HasOffer pool lane true = (best : Bool) × (source : TaskSource) × (rank : Rank) × IsOffered pool lane best source rank
+HasOffer pool lane false = (best : Bool) (source : TaskSource) (rank : Rank) → ¬ IsOffered pool lane best source rank
+
 -- what a seat may take: of lane 0, and of its own
 abbrev pub IsOffer : Pool → ℕ → TaskSource → Rank → Type 0
 IsOffer pool seat source rank = (lane : ℕ) × (best : Bool) × ((lane ≡ 0) ⊎ (lane ≡ seat)) × IsOffered pool lane best source rank

@@ -1,14 +1,14 @@
-ghost use Rattle.std.specs.Prelude.{◌≡◌, ◌<◌, List, length, Some, None, is_some};
+ghost use Rattle.std.specs.Prelude.{◌≡◌, ◌<◌, ◌+◌, ◌^◌, List, length, Some, None, is_some};
 ghost use Rattle.list_laws.specs.Lists.{keep};
 ghost use Rattle.task_base.specs.Plan.{Plan};
 ghost use Rattle.task_base.specs.declared.entry.Entry.{Entry};
 ghost use Rattle.task_model.specs.Sources.{best_of};
 ghost use Rattle.task_sequence.specs.Sequences.{sequence_at};
 ghost use Rattle.pool_core.specs.Calls.{KnowsSeat, is_any_ready, is_own};
-ghost use Rattle.pool_core.specs.Choice.{IsBestOf, IsOffer, IsOffered, better_of, is_open, is_single};
+ghost use Rattle.pool_core.specs.Choice.{HasOffer, IsBestOf, IsOffer, IsOffered, better_of, is_open, is_single};
 ghost use Rattle.pool_core.specs.Refreshes.{HavePlaces, all_refreshed, is_meant, posted_at};
 ghost use Rattle.pool_core.specs.StandsFor.{StandsFor};
-ghost use Rattle.pool_core.specs.State.{HasPlace, given_rank, refreshed, rank_of_head};
+ghost use Rattle.pool_core.specs.State.{HasPlace, given_rank, refreshed, rank_of_head, sequence_by};
 
 use crate::pool::Pool;
 use crate::posting::Posting;
@@ -22,7 +22,7 @@ impl Pool {
         requires { (script : Plan) × (past : List Entry) × KnowsSeat script past self.now seat }
         ensures { (script : Plan) (past : List Entry) → KnowsSeat script past self.now seat → result ≡ is_some (best_of script past seat) }
     {
-        self.best(seat).is_some()
+        self.offers(0) || self.offers(seat)
     }
 
     /// Whether the source that a seat would get is one that no other seat may take: a sequence of a single-thread runner, which
@@ -31,17 +31,21 @@ impl Pool {
         requires { (script : Plan) × (past : List Entry) × KnowsSeat script past self.now seat }
         ensures { (script : Plan) (past : List Entry) → KnowsSeat script past self.now seat → result ≡ is_own (best_of script past seat) }
     {
-        self.is_single(self.best(seat))
+        self.offers(seat) && self.is_single(self.best(seat))
     }
 
-    /// Whether there is a source that some worker may take now, be it at work or not. Constant time for the first worker, and
-    /// for each other one that a single-thread runner states.
+    /// Whether there is a source that some worker may take now, be it at work or not. Constant time for what any worker may
+    /// take, and for each one that a single-thread runner states.
     pub fn is_any_ready(&self) -> bool
         requires { (script : Plan) × (past : List Entry) × StandsFor script past self.now }
         ensures { (script : Plan) (past : List Entry) → StandsFor script past self.now → result ≡ is_any_ready script past }
     {
-        for seat in self.representatives.as_slice() {
-            if self.has_work(*seat) {
+        let seats = self.representatives.as_slice();
+        if self.offers(0) {
+            return !seats.is_empty();
+        }
+        for seat in seats {
+            if self.offers(*seat) {
                 return true;
             }
         }
@@ -56,6 +60,14 @@ impl Pool {
         let best_effort = better(self.offer(0, true), self.offer(seat, true));
         let others = better(self.offer(0, false), self.offer(seat, false));
         better(others, best_effort)
+    }
+
+    // Whether a queue of the lane whose work may start holds a source.
+    fn offers(&self, lane: SeatNo) -> bool
+        requires { lane < length self.now.lanes }
+        ensures { HasOffer self.now lane result }
+    {
+        self.offer(lane, false).is_some() || self.offer(lane, true).is_some()
     }
 
     // The best source of one queue, unless its work may not start.
@@ -154,7 +166,7 @@ impl Pool {
         while task > 0 {
             task -= 1;
             if let Some(posting) = self.posted(task, Some(runner)) {
-                let seq = self.runners.seq_of(posting.runner, task as TaskId);
+                let seq = self.seq_at(task, posting);
                 self.remove(seq, posting.runner);
             }
         }
@@ -168,7 +180,7 @@ impl Pool {
     {
         for task in 0..self.postings.len() {
             if let Some(posting) = self.posted(task, only) {
-                let seq = self.runners.seq_of(posting.runner, task as TaskId);
+                let seq = self.seq_at(task, posting);
                 self.refresh(seq, posting.runner);
             }
         }
@@ -183,7 +195,7 @@ impl Pool {
         while task > 0 {
             task -= 1;
             if let Some(posting) = self.posted(task, Some(runner)) {
-                let seq = self.runners.seq_of(posting.runner, task as TaskId);
+                let seq = self.seq_at(task, posting);
                 self.refresh(seq, posting.runner);
             }
         }
@@ -195,6 +207,14 @@ impl Pool {
         ensures { result ≡ posted_at only self.now.postings.items task }
     {
         self.postings[task].filter(|posting| only.unwrap_or(posting.runner) == posting.runner)
+    }
+
+    // The sequence of a task that was posted so.
+    fn seq_at(&self, task: usize, posting: Posting) -> SeqId
+        requires { (length self.now.runners.runners + task < 2 ^ 32) × HasPlace self.now (sequence_by self.now task posting) posting.runner }
+        ensures { result ≡ sequence_by self.now task posting }
+    {
+        self.runners.seq_of(posting.runner, task as TaskId)
     }
 
     // The rank of a sequence, where it doesn't run and has a head.

@@ -13,14 +13,14 @@ use Rattle.pool_core.proofs.lanes.representatives.Goals as goal
 one_more : (script : Plan) (seats : List ℕ) (seat : ℕ) (b : Bool) → 1 ≤ seat → seats ≡ filter (is_representative script) (range_with_len 1 (seat - 1))
     → is_representative script seat ≡ b
     → cond b (seats ++ seat ∷ []) seats ≡ filter (is_representative script) (range_with_len 1 (seat + 1 - 1))
-one_more script seats seat b from are is = by b ∙ sym (
+one_more script seats seat b from are is = by_test b ∙ sym (
     ap (filter (is_representative script)) (range_split 1 (seat - 1) 0 (seat + 1 - 1) seat (omega (arith, from)) (omega (arith, from)))
     ∙ filter-append (is_representative script) (range_with_len 1 (seat - 1)) (seat ∷ [])
     ∙ rw (are, is) refl)
   where
-    by : (c : Bool) → cond c (seats ++ seat ∷ []) seats ≡ seats ++ cond c (seat ∷ []) []
-    by true = refl
-    by false = sym (append-nil seats)
+    by_test : (c : Bool) → cond c (seats ++ seat ∷ []) seats ≡ seats ++ cond c (seat ∷ []) []
+    by_test true = refl
+    by_test false = sym (append-nil seats)
 
 pub loop-seat-preserved : goal.loop-seat-preserved
 loop-seat-preserved c = elim c.if-is_representative.branch [

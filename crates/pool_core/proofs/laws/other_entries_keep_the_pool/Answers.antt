@@ -1,4 +1,4 @@
-use Rattle.pool_core.proofs.Others.{stands_at_main, stands_at_still}
+use Rattle.pool_core.proofs.Calls.Others.{stands_at_main, stands_at_still}
 use Rattle.pool_core.proofs.laws.other_entries_keep_the_pool.Goals as goal
 
 pub returns : goal.returns

@@ -1,4 +1,4 @@
-use Rattle.pool_core.proofs.LaneReads.{made_in_lane}
+use Rattle.pool_core.proofs.Sources.LaneReads.{made_in_lane}
 use Rattle.std.proofs.Common.{false, true}
 use Rattle.pool_core.proofs.lanes.Lanes.put.Goals as goal
 

@@ -1,4 +1,4 @@
-use Rattle.pool_core.proofs.Shutdown.{count_is}
+use Rattle.pool_core.proofs.Calls.Shutdown.{count_is}
 use Rattle.std.proofs.Common.{◌∙◌}
 use Rattle.pool_core.proofs.pool.Pool.blockers.Goals as goal
 

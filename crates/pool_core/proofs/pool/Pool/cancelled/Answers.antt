@@ -1,6 +1,6 @@
 use Rattle.std.proofs.Common.{refl, arith}
 use Rattle.std.proofs.lemmas.Bool.{eq-eqb, eqb-true}
-use Rattle.pool_core.proofs.JobStands.{inside_held}
+use Rattle.pool_core.proofs.Jobs.JobStands.{inside_held}
 use Rattle.pool_core.proofs.pool.Pool.cancelled.Goals as goal
 
 pub returns-then-running-gt0-clause-ok : goal.returns-then-running-gt0-clause-ok

@@ -1,6 +1,7 @@
-use Rattle.pool_core.proofs.AtSeat.{cell_is_out, closed_at, closed_work, its_counts, posting_is, posting_there, runner_is_home, runner_there, seat_fits, sequence_is, task_is, task_there}
-use Rattle.pool_core.proofs.Ends.{stands_at_end}
-use Rattle.pool_core.proofs.Following.{has_place}
+use Rattle.pool_core.proofs.Works.AtSeat.{cell_is_out, closed_at, closed_work, its_counts, posting_is, posting_there, runner_is_home}
+use Rattle.pool_core.proofs.Works.AtSeat.{runner_there, seat_fits, sequence_is, task_is, task_there}
+use Rattle.pool_core.proofs.Calls.Ends.{stands_at_end}
+use Rattle.pool_core.proofs.Sources.Following.{has_place}
 use Rattle.pool_core.proofs.Lines.{sequence_there}
 use Rattle.std.proofs.Common.{arith, ◌∙◌}
 use Rattle.std.proofs.lemmas.List.{length-set}

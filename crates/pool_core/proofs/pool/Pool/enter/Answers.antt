@@ -1,5 +1,5 @@
-use Rattle.pool_core.proofs.AtSeat.{closed_at, closed_work, seat_fits}
-use Rattle.pool_core.proofs.Scopes.{stands_at_enter}
+use Rattle.pool_core.proofs.Works.AtSeat.{closed_at, closed_work, seat_fits}
+use Rattle.pool_core.proofs.Calls.Scopes.{stands_at_enter}
 use Rattle.pool_core.proofs.pool.Pool.enter.Goals as goal
 
 pub enter_scope-requires-clause-worker : goal.enter_scope-requires-clause-worker

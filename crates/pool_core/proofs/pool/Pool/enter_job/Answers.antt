@@ -1,6 +1,6 @@
 use Rattle.job_source.specs.declared.source.TheConstants.{MOST_INSIDE}
-use Rattle.pool_core.proofs.JobStands.{held_is, held_of, job_is, stands_at_job_take}
-use Rattle.pool_core.proofs.JobViews.{entered_is, entering_parts}
+use Rattle.pool_core.proofs.Jobs.JobStands.{held_is, held_of, job_is, stands_at_job_take}
+use Rattle.pool_core.proofs.Jobs.JobViews.{entered_is, entering_parts}
 use Rattle.pool_core.proofs.Tracking.{few_blockers}
 use Rattle.pool_core.specs.JobCalls.{CanEnter, entering}
 use Rattle.pool_core.specs.JobState.{job_of}

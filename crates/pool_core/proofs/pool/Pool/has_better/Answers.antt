@@ -1,4 +1,4 @@
-use Rattle.pool_core.proofs.Yields.{better_found}
+use Rattle.pool_core.proofs.Jobs.Yields.{better_found}
 use Rattle.std.proofs.Common.{false, sym, true, ◌∙◌}
 use Rattle.pool_core.proofs.pool.Pool.has_better.Goals as goal
 

@@ -1,5 +1,5 @@
 use Rattle.list_laws.proofs.Counts.{count_le}
-use Rattle.pool_core.proofs.Idling.{running_is}
+use Rattle.pool_core.proofs.Sources.Idling.{running_is}
 use Rattle.std.proofs.Common.{arith, refl, sym, ◌∙◌}
 use Rattle.std.proofs.lemmas.Bool.{false≢true}
 use Rattle.std.specs.Prelude.{is_some}

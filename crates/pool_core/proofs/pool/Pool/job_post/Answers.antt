@@ -1,4 +1,4 @@
-use Rattle.pool_core.proofs.JobStands.{held_is, held_of, let_in, stands_at_job_post}
+use Rattle.pool_core.proofs.Jobs.JobStands.{held_is, held_of, let_in, stands_at_job_post}
 use Rattle.pool_core.proofs.Tracking.{few_blockers}
 use Rattle.pool_core.specs.declared.pool_job.PoolJob.{PoolJob}
 use Rattle.std.proofs.Common.{Bool, ap, false, not, true, ◌+◌, ◌∙◌, ◌≡◌}

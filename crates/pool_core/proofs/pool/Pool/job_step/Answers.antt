@@ -1,6 +1,7 @@
-use Rattle.pool_core.proofs.AtJob.{has_holder, holder_is, item_counted, item_is_held, item_work, job_counted, job_place, job_there, knows_job, seat_fits, seat_there}
-use Rattle.pool_core.proofs.JobStands.{held_is, held_of, stands_at_goes_on, stands_at_job_left, stepped_job}
-use Rattle.pool_core.proofs.JobViews.{next_is}
+use Rattle.pool_core.proofs.Jobs.AtJob.{has_holder, holder_is, item_counted, item_is_held, item_work, job_counted}
+use Rattle.pool_core.proofs.Jobs.AtJob.{job_place, job_there, knows_job, seat_fits, seat_there}
+use Rattle.pool_core.proofs.Jobs.JobStands.{held_is, held_of, stands_at_goes_on, stands_at_job_left, stepped_job}
+use Rattle.pool_core.proofs.Jobs.JobViews.{next_is}
 use Rattle.pool_core.specs.JobState.{job_of}
 use Rattle.pool_core.specs.JobCalls.{CanStep, has_to_leave}
 use Rattle.pool_core.specs.declared.pool_job.Holder.{Holder}
@@ -10,7 +11,7 @@ use Rattle.pool_core.specs.Jobs.{view_of}
 use Rattle.pool_core.specs.declared.pool.Pool.{Pool}
 use Rattle.std.proofs.lemmas.Bool.{false≢true}
 use Rattle.std.specs.Prelude.{is_some, slice_get, slice_index_or}
-use Rattle.pool_core.proofs.HeldItems.{none_by}
+use Rattle.pool_core.proofs.Jobs.HeldItems.{none_by}
 use Rattle.task_base.specs.Plan.{Plan}
 use Rattle.task_base.specs.declared.entry.Entry.{Entry}
 use Rattle.task_model.specs.Seats.{Holding}
@@ -63,7 +64,10 @@ leave_job-requires-clause-works c = item_work c.requires.3
 pub leave_job-requires-clause-counted : goal.leave_job-requires-clause-counted
 leave_job-requires-clause-counted c =
     let can = c.requires.3 in
-    rw (new_is c.args.value c.done-next.result can c.holder-job.ensures c.index_mut.ensures.value c.done-next.ensures.state, holder_is can c.holder-job.ensures) (item_counted _ can refl)
+    rw (
+      new_is c.args.value c.done-next.result can c.holder-job.ensures c.index_mut.ensures.value c.done-next.ensures.state,
+      holder_is can c.holder-job.ensures,
+    ) (item_counted _ can refl)
 
 pub leave_job-requires-clause-open : goal.leave_job-requires-clause-open
 leave_job-requires-clause-open c =

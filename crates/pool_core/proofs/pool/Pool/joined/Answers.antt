@@ -1,8 +1,8 @@
 use Rattle.std.proofs.Common.{Bool, None, Option, Some, ap, sym, ℕ, ◌≡◌, ◌∙◌}
 use Rattle.std.specs.Prelude.{IfErr, IfOk, Result}
 use Rattle.std.specs.Option.{ok_or}
-use Rattle.pool_core.proofs.JobStands.{held_is, inside_held}
-use Rattle.pool_core.proofs.JobViews.{joined_is, may_enter_is}
+use Rattle.pool_core.proofs.Jobs.JobStands.{held_is, inside_held}
+use Rattle.pool_core.proofs.Jobs.JobViews.{joined_is, may_enter_is}
 use Rattle.pool_core.specs.JobCalls.{joined_of}
 use Rattle.pool_core.specs.Jobs.{job_as}
 use Rattle.pool_core.specs.PoolJobs.{joined_in, may_enter_in}

@@ -1,5 +1,5 @@
-use Rattle.pool_core.proofs.AtSeat.{open_at, open_work, seat_fits}
-use Rattle.pool_core.proofs.Scopes.{stands_at_leave}
+use Rattle.pool_core.proofs.Works.AtSeat.{open_at, open_work, seat_fits}
+use Rattle.pool_core.proofs.Calls.Scopes.{stands_at_leave}
 use Rattle.pool_core.proofs.pool.Pool.leave.Goals as goal
 
 pub leave_scope-requires-clause-worker : goal.leave_scope-requires-clause-worker

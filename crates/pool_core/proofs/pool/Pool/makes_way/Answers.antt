@@ -1,5 +1,5 @@
-use Rattle.pool_core.proofs.JobStands.{held_is}
-use Rattle.pool_core.proofs.Yields.{makes_way_by}
+use Rattle.pool_core.proofs.Jobs.JobStands.{held_is}
+use Rattle.pool_core.proofs.Jobs.Yields.{makes_way_by}
 use Rattle.pool_core.specs.declared.pool_job.PoolJob.{PoolJob}
 use Rattle.std.proofs.Common.{ap, false, sym, true, ◌∙◌}
 use Rattle.task_model.specs.Capacity.{priority_of_job}

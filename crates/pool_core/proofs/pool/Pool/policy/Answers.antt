@@ -1,4 +1,4 @@
-use Rattle.pool_core.proofs.Shutdown.{stands_at_policy}
+use Rattle.pool_core.proofs.Calls.Shutdown.{stands_at_policy}
 use Rattle.pool_core.proofs.pool.Pool.policy.Goals as goal
 
 pub returns : goal.returns

@@ -1,6 +1,6 @@
 use Rattle.pool_core.proofs.Accepted.{posts_leave_room}
 use Rattle.pool_core.proofs.Delays.{few_unripe, other_posts}
-use Rattle.pool_core.proofs.Posts.{can_arrive, effective_as, stands_at_delayed_post, stands_at_post, stands_at_refusal}
+use Rattle.pool_core.proofs.Calls.Posts.{can_arrive, effective_as, stands_at_delayed_post, stands_at_post, stands_at_refusal}
 use Rattle.pool_core.proofs.Tracking.{few_blockers}
 use Rattle.pool_core.specs.Tables.{ripening_of, unripe}
 use Rattle.std.proofs.Common.{Bool, ap, arith, false, le-ltb, lt-ltb, not, refl, true, ◌∙◌, ◌≡◌}

@@ -1,4 +1,4 @@
-use Rattle.pool_core.proofs.Places.{next_refreshed, place_at}
+use Rattle.pool_core.proofs.Sources.Places.{next_refreshed, place_at}
 use Rattle.pool_core.proofs.pool.Pool.refresh_all.Goals.{in-Some, in_default}
 use Rattle.pool_core.specs.Refreshes.{refreshed_below}
 use Rattle.pool_core.specs.State.{refreshed}
@@ -13,35 +13,19 @@ none_by (Some x) not_some = absurd (not_some x refl)
 pub loop-task-init : goal.loop-task-init
 loop-task-init c = refl
 
-pub overflow_cast-task : goal.overflow_cast-task
-overflow_cast-task c =
-    let place = place_at c.args.self.now c.loop-task.self c.args.only c.loop-task.task c.in-Some.posting c.requires c.loop-task.invariant
-    (sym c.posted.ensures ∙ c.in-Some.is) in
-    omega (arith, place.0)
-
-pub seq_of-seq-requires-clause-declared : goal.seq_of-seq-requires-clause-declared
-seq_of-seq-requires-clause-declared c =
-    let place = place_at c.args.self.now c.loop-task.self c.args.only c.loop-task.task c.in-Some.posting c.requires c.loop-task.invariant
-    (sym c.posted.ensures ∙ c.in-Some.is) in
-    place.1.declared
-
-pub seq_of-seq-requires-clause-fits : goal.seq_of-seq-requires-clause-fits
-seq_of-seq-requires-clause-fits c =
-    let place = place_at c.args.self.now c.loop-task.self c.args.only c.loop-task.task c.in-Some.posting c.requires c.loop-task.invariant
-    (sym c.posted.ensures ∙ c.in-Some.is) in
-    place.0
+pub seq_at-seq-requires : goal.seq_at-seq-requires
+seq_at-seq-requires c = place_at c.args.self.now c.loop-task.self c.args.only c.loop-task.task c.in-Some.posting c.requires c.loop-task.invariant
+    (sym c.posted.ensures ∙ c.in-Some.is)
 
 pub refresh-requires : goal.refresh-requires
-refresh-requires c =
-    let place = place_at c.args.self.now c.loop-task.self c.args.only c.loop-task.task c.in-Some.posting c.requires c.loop-task.invariant
-    (sym c.posted.ensures ∙ c.in-Some.is) in
-    rw c.seq_of-seq.ensures place.1
+refresh-requires c = rw c.seq_at-seq.ensures (place_at c.args.self.now c.loop-task.self c.args.only c.loop-task.task c.in-Some.posting c.requires
+    c.loop-task.invariant (sym c.posted.ensures ∙ c.in-Some.is)).1
 
 pub loop-task-preserved : goal.loop-task-preserved
 loop-task-preserved c = elim c.match-posted.branch [
   | in-Some w ↦ next_refreshed c.args.self.now c.loop-task.self c.match-posted.self c.args.only c.loop-task.task (Some w.in-Some.posting)
       c.loop-task.invariant (sym w.in-Some.is ∙ c.posted.ensures)
-      (w.self-is ∙ w.refresh.ensures ∙ ap (λ s. refreshed c.loop-task.self s w.in-Some.posting.runner) w.seq_of-seq.ensures)
+      (w.self-is ∙ w.refresh.ensures ∙ ap (λ s. refreshed c.loop-task.self s w.in-Some.posting.runner) w.seq_at-seq.ensures)
   | in_default w ↦ next_refreshed c.args.self.now c.loop-task.self c.match-posted.self c.args.only c.loop-task.task None c.loop-task.invariant
       (sym (none_by c.posted.result w.in_default.not-Some) ∙ c.posted.ensures) w.self-is
 ]

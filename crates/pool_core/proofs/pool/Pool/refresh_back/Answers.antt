@@ -1,4 +1,4 @@
-use Rattle.pool_core.proofs.Leaving.{all_settled, leaving_place, places_left, refreshed_again, settled_at_end, settled_with, settled_without}
+use Rattle.pool_core.proofs.Sources.Leaving.{all_settled, leaving_place, places_left, refreshed_again, settled_at_end, settled_with, settled_without}
 use Rattle.pool_core.specs.Refreshes.{posted_at}
 use Rattle.pool_core.specs.State.{rank_by, sequence_by}
 use Rattle.sequence_queue.specs.declared.rank.Rank.{Rank}
@@ -6,29 +6,13 @@ use Rattle.std.proofs.Common.{Option, Some, arith, refl, sym, ℕ, ◌-◌, ◌�
 use Rattle.task_sequence.specs.Sequences.{sequence_at}
 use Rattle.pool_core.proofs.pool.Pool.refresh_back.Goals as goal
 
-pub overflow_cast-task : goal.overflow_cast-task
-overflow_cast-task c =
-    let place = leaving_place c.loop-task.self c.args.runner (c.loop-task.task - 1) c.in-Some.posting c.loop-task.invariant.places
-    (sym c.posted.ensures ∙ c.in-Some.is) in
-    omega (arith, place.0)
-
-pub seq_of-seq-requires-clause-declared : goal.seq_of-seq-requires-clause-declared
-seq_of-seq-requires-clause-declared c =
-    let place = leaving_place c.loop-task.self c.args.runner (c.loop-task.task - 1) c.in-Some.posting c.loop-task.invariant.places
-    (sym c.posted.ensures ∙ c.in-Some.is) in
-    place.1.declared
-
-pub seq_of-seq-requires-clause-fits : goal.seq_of-seq-requires-clause-fits
-seq_of-seq-requires-clause-fits c =
-    let place = leaving_place c.loop-task.self c.args.runner (c.loop-task.task - 1) c.in-Some.posting c.loop-task.invariant.places
-    (sym c.posted.ensures ∙ c.in-Some.is) in
-    place.0
+pub seq_at-seq-requires : goal.seq_at-seq-requires
+seq_at-seq-requires c = leaving_place c.loop-task.self c.args.runner (c.loop-task.task - 1) c.in-Some.posting c.loop-task.invariant.places
+    (sym c.posted.ensures ∙ c.in-Some.is)
 
 pub refresh-requires : goal.refresh-requires
-refresh-requires c =
-    let place = leaving_place c.loop-task.self c.args.runner (c.loop-task.task - 1) c.in-Some.posting c.loop-task.invariant.places
-    (sym c.posted.ensures ∙ c.in-Some.is) in
-    rw c.seq_of-seq.ensures place.1
+refresh-requires c = rw c.seq_at-seq.ensures (leaving_place c.loop-task.self c.args.runner (c.loop-task.task - 1) c.in-Some.posting c.loop-task.invariant.places
+    (sym c.posted.ensures ∙ c.in-Some.is)).1
 
 pub loop-task-init : goal.loop-task-init
 loop-task-init c = record {
@@ -46,7 +30,7 @@ loop-task-preserved-in-Some c =
     let posted : posted_at (Some c.args.runner) pool.postings.items task ≡ Some posting = sym c.posted.ensures ∙ c.in-Some.is in
     let seq : ℕ = sequence_by pool task posting in
     let rank : Option Rank = rank_by pool.priorities.items posting.runner (sequence_at pool.sequences seq) in
-    rw (c.refresh.ensures, c.seq_of-seq.ensures) record {
+    rw (c.refresh.ensures, c.seq_at-seq.ensures) record {
       within = omega arith;
       places = places_left pool seq posting.runner rank c.loop-task.invariant.places;
       refreshed = refreshed_again pool c.args.runner task posting rank (omega arith) posted ∙ c.loop-task.invariant.refreshed;

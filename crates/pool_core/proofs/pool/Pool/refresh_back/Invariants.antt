@@ -1,6 +1,6 @@
 use Rattle.pool_core.specs.Refreshes.{HavePlaces, all_refreshed}
 use Rattle.std.specs.Prelude.{Some, length, ◌≡◌, ◌≤◌}
-use Rattle.pool_core.proofs.Leaving.{AreSettled}
+use Rattle.pool_core.proofs.Sources.Leaving.{AreSettled}
 use Rattle.pool_core.proofs.pool.Pool.refresh_back.Given as goal
 
 abbrev pub invariant-loop-task : goal.invariant-loop-task

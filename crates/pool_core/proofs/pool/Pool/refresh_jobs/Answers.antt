@@ -1,5 +1,5 @@
 use Rattle.std.proofs.Common.{arith}
-use Rattle.pool_core.proofs.JobQueues.{still_placed}
+use Rattle.pool_core.proofs.Jobs.JobQueues.{still_placed}
 use Rattle.pool_core.proofs.pool.Pool.refresh_jobs.Goals as goal
 
 pub refresh_job-requires : goal.refresh_job-requires

@@ -1,5 +1,5 @@
-use Rattle.pool_core.proofs.Places.{have_places}
-use Rattle.pool_core.proofs.Reprio.{stands_at_reprio, stands_at_same}
+use Rattle.pool_core.proofs.Sources.Places.{have_places}
+use Rattle.pool_core.proofs.Calls.Reprio.{stands_at_reprio, stands_at_same}
 use Rattle.std.proofs.Common.{arith, refl, rules, sym, ◌∙◌}
 use Rattle.std.proofs.lemmas.List.{get_or_read, length-set}
 use Rattle.std.specs.Vec.{with_item}

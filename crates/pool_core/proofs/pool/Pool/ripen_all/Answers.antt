@@ -1,4 +1,4 @@
-use Rattle.pool_core.proofs.Ticks.{ripens_at_start, stands_at_tick, step_can, step_ripens, step_smaller, steps}
+use Rattle.pool_core.proofs.Calls.Ticks.{ripens_at_start, stands_at_tick, step_can, step_ripens, step_smaller, steps}
 use Rattle.pool_core.specs.Calls.{after_tick}
 use Rattle.pool_core.specs.StandsFor.{StandsFor}
 use Rattle.pool_core.specs.Tables.{unripe}

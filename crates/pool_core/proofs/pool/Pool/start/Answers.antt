@@ -1,5 +1,6 @@
 use Rattle.pool_core.proofs.Accepted.{head_accepted}
-use Rattle.pool_core.proofs.Takes.{stands_at_take, taken_accepted, taken_given, taken_is, taken_out, taken_place, taken_posting, taken_posting_is, taken_priority, working}
+use Rattle.pool_core.proofs.Calls.Takes.{stands_at_take, taken_accepted, taken_given, taken_is, taken_out, taken_place}
+use Rattle.pool_core.proofs.Calls.Takes.{taken_posting, taken_posting_is, taken_priority, working}
 use Rattle.pool_core.proofs.Tracking.{few_blockers}
 use Rattle.pool_core.specs.Tables.{posting_of}
 use Rattle.std.proofs.Common.{arith, OnSome, refl, subst, sym, ◌∙◌, ◌≡◌}

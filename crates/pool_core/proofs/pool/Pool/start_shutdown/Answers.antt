@@ -1,5 +1,5 @@
-use Rattle.pool_core.proofs.Places.{have_job_places, have_places, job_place_kept}
-use Rattle.pool_core.proofs.Shutdown.{stands_at_shutdown}
+use Rattle.pool_core.proofs.Sources.Places.{have_job_places, have_places, job_place_kept}
+use Rattle.pool_core.proofs.Calls.Shutdown.{stands_at_shutdown}
 use Rattle.std.proofs.Common.{None, ap, length, refl, ◌∙◌}
 use Rattle.std.proofs.lemmas.List.{length-map}
 use Rattle.pool_core.proofs.pool.Pool.start_shutdown.Goals as goal

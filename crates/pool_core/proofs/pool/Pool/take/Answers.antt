@@ -1,4 +1,4 @@
-use Rattle.pool_core.proofs.Takes.{chosen_from, job_chosen_from, nothing_chosen}
+use Rattle.pool_core.proofs.Calls.Takes.{chosen_from, job_chosen_from, nothing_chosen}
 use Rattle.pool_core.specs.Choice.{IsBestOf, IsOffer}
 use Rattle.std.proofs.Common.{arith, subst}
 use Rattle.pool_core.proofs.pool.Pool.take.Goals as goal

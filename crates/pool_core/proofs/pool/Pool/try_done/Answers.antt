@@ -1,4 +1,4 @@
-use Rattle.pool_core.proofs.Shutdown.{count_is, stands_at_done}
+use Rattle.pool_core.proofs.Calls.Shutdown.{count_is, stands_at_done}
 use Rattle.std.proofs.Common.{Err, Ok, Result, refl, subst, sym, ◌∙◌, ◌≡◌}
 use Rattle.std.specs.Prelude.{IfErr, IsOk, OnOk}
 use Rattle.pool_core.proofs.pool.Pool.try_done.Goals as goal

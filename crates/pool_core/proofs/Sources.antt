@@ -1,0 +1,8 @@
+-- The queues of sources, and what is chosen from them.
+pub mod Queues
+pub mod LaneReads
+pub mod Following
+pub mod Choosing
+pub mod Places
+pub mod Leaving
+pub mod Idling
