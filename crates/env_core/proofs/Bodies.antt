@@ -3,7 +3,7 @@ use Rattle.env_core.specs.Drawer.{kept_if}
 use Rattle.std.proofs.Math.Bool.{and-false, and-true}
 use Rattle.env_core.specs.Calls.{AreFresh}
 use Rattle.env_core.specs.Drawer.{AreBodies, empties, is_in_drawer, refuses, was_refused}
-use Rattle.hist_model.proofs.Laws.PostingCounts.{counted, of_task, posted_at_most_once, posted_in_push}
+use Rattle.hist_model.proofs.Laws.Postings.Counts.{counted, of_task, posted_at_most_once, posted_in_push}
 use Rattle.hist_model.specs.Laws.Postings.{kind_posts, posted_in}
 use Rattle.hist_model.specs.Legal.{IsLegal}
 use Rattle.list_laws.proofs.Counts.{count-append}
@@ -84,30 +84,30 @@ was_refused_push past e t = list_any-append (λ x. refuses t x.kind) past (e ∷
 -- an entry that neither takes the task nor refuses it, and one that does
 drawer_kept : (past : List Entry) (e : Entry) (t : ℕ) → empties t e.kind ≡ false → is_in_drawer (past ++ e ∷ []) t ≡ is_in_drawer past t
 drawer_kept past e t h = rw (is_taken_push past e t, is_main_taken_push past e t, was_refused_push past e t)
-    (by (is_taken past t) (is_main_taken past t) (was_refused past t) (takes t e.kind) (main_takes t e.kind) (refuses t e.kind) h)
+    (by_taken (is_taken past t) (is_main_taken past t) (was_refused past t) (takes t e.kind) (main_takes t e.kind) (refuses t e.kind) h)
   where
-    by : (a b c x y z : Bool) → (x || y || z) ≡ false → not ((a || x) || (b || y) || (c || z)) ≡ not (a || b || c)
-    by a b c true y z k = absurd cc
-    by a b c false true z k = absurd cc
-    by a b c false false true k = absurd cc
-    by true b c false false false k = refl
-    by false true c false false false k = refl
-    by false false true false false false k = refl
-    by false false false false false false k = refl
+    by_taken : (a b c x y z : Bool) → (x || y || z) ≡ false → not ((a || x) || (b || y) || (c || z)) ≡ not (a || b || c)
+    by_taken a b c true y z k = absurd cc
+    by_taken a b c false true z k = absurd cc
+    by_taken a b c false false true k = absurd cc
+    by_taken true b c false false false k = refl
+    by_taken false true c false false false k = refl
+    by_taken false false true false false false k = refl
+    by_taken false false false false false false k = refl
 
 -- an entry that takes the task or refuses its post
 drawer_without : (past : List Entry) (e : Entry) (t : ℕ) → empties t e.kind ≡ true → is_in_drawer (past ++ e ∷ []) t ≡ false
 drawer_without past e t h = rw (is_taken_push past e t, is_main_taken_push past e t, was_refused_push past e t)
-    (by (is_taken past t) (is_main_taken past t) (was_refused past t) (takes t e.kind) (main_takes t e.kind) (refuses t e.kind) h)
+    (by_taken (is_taken past t) (is_main_taken past t) (was_refused past t) (takes t e.kind) (main_takes t e.kind) (refuses t e.kind) h)
   where
-    by : (a b c x y z : Bool) → (x || y || z) ≡ true → not ((a || x) || (b || y) || (c || z)) ≡ false
-    by true b c x y z k = refl
-    by false b c true y z k = refl
-    by false true c false y z k = refl
-    by false false c false true z k = refl
-    by false false true false false z k = refl
-    by false false false false false true k = refl
-    by false false false false false false k = absurd cc
+    by_taken : (a b c x y z : Bool) → (x || y || z) ≡ true → not ((a || x) || (b || y) || (c || z)) ≡ false
+    by_taken true b c x y z k = refl
+    by_taken false b c true y z k = refl
+    by_taken false true c false y z k = refl
+    by_taken false false c false true z k = refl
+    by_taken false false true false false z k = refl
+    by_taken false false false false false true k = refl
+    by_taken false false false false false false k = absurd cc
 
 -- how often a task was accepted, by the pool or by a main queue
 abbrev accepts : ℕ → List Entry → ℕ
@@ -130,13 +130,13 @@ posted_or_refused t = push_induction (λ past. accepts t past + count (λ e. ref
     refused task true = omega arith
     refused task false = omega arith
 
-    by : (past : List Entry) (kind : Kind)
+    by_past : (past : List Entry) (kind : Kind)
         → of_task t (posted_by past kind) + of_task t (main_posted_by past kind) + cond (refuses t kind) 1 0 ≤ times t (kind_posts kind)
-    by past (kinds.Post task runner delay true) = omega (arith, accepted (post_behind past task runner delay) task (eqb task t))
-    by past (kinds.Post task runner delay false) = omega (arith, refused task (eqb task t))
-    by past (kinds.Main task queue delay true) = omega (arith, accepted (post_behind past task queue delay) task (eqb task t))
-    by past (kinds.Main task queue delay false) = omega (arith, refused task (eqb task t))
-    by past kind = omega arith
+    by_past past (kinds.Post task runner delay true) = omega (arith, accepted (post_behind past task runner delay) task (eqb task t))
+    by_past past (kinds.Post task runner delay false) = omega (arith, refused task (eqb task t))
+    by_past past (kinds.Main task queue delay true) = omega (arith, accepted (post_behind past task queue delay) task (eqb task t))
+    by_past past (kinds.Main task queue delay false) = omega (arith, refused task (eqb task t))
+    by_past past kind = omega arith
 
     next : (past : List Entry) (e : Entry) → accepts t past + count (λ x. refuses t x.kind) past ≤ times t (posted_in past)
         → accepts t (past ++ e ∷ []) + count (λ x. refuses t x.kind) (past ++ e ∷ []) ≤ times t (posted_in (past ++ e ∷ []))
@@ -148,7 +148,7 @@ posted_or_refused t = push_induction (λ past. accepts t past + count (λ e. ref
       count-push (λ (x : Entry). refuses t x.kind) past e,
       posted_in_push t past e,
     )
-        (omega (arith, before, by past e.kind))
+        (omega (arith, before, by_past past e.kind))
 
 -- so an accepted task was not refused
 not_refused : (script : Plan) (past : List Entry) (t : ℕ) → IsPostedOnce script → IsLegal script past → 1 ≤ accepts t past → was_refused past t ≡ false

@@ -1,6 +1,6 @@
 -- The driver's place in its script, as the history grows.
 use Rattle.env_core.specs.Agenda.{counted, entries_of, moved_on, passed, passed_on}
-use Rattle.env_core.specs.Holds.{IsAt}
+use Rattle.env_core.specs.Ledger.{IsAt}
 use Rattle.hist_model.specs.Allowed.{by_script}
 use Rattle.env_core.specs.declared.agenda.Agenda.{Agenda}
 use Rattle.hist_model.specs.Laws.Agenda.{agenda, agenda_from, completes, first_of, next_agenda}
@@ -10,9 +10,9 @@ use Rattle.hist_model.specs.Legal.{IsLegal}
 use Rattle.hist_model.specs.Script.{Current, behind, behind_action, behind_join, behind_pump, current, is_finished, is_joined, is_main_end, is_main_none, wants}
 use Rattle.hist_model.specs.Views.{own_entries}
 use Rattle.hist_model.proofs.Laws.Agenda.{agenda_push, current_is_first}
-use Rattle.hist_model.proofs.Laws.Entries.{entries_within_limit}
+use Rattle.hist_model.proofs.Laws.Entries.Bound.{entries_within_limit}
 use Rattle.hist_model.proofs.Laws.LegalPast.{legal_past}
-use Rattle.hist_model.proofs.Laws.OneThing.{wanted_by}
+use Rattle.hist_model.proofs.Laws.OneThing.{wanted_by, join_wants}
 use Rattle.hist_model.proofs.Laws.Own.{own_entries_push}
 use Rattle.hist_model.proofs.Laws.Takes.{by_driver}
 use Rattle.list_laws.proofs.Counts.{count_le}
@@ -52,7 +52,7 @@ nothing_counts (actions.Join job ∷ xs) = refl
 nothing_counts (x ∷ xs) = refl
 
 -- at the start the driver is at the first action
-pub driver_at_start : (script : Plan) → IsSound script → IsAt script [] 0 0
+pub driver_at_start : (script : Plan) → IsSound script → IsAt script [] (record { place = 0; made = 0 })
 unfolding agenda
 driver_at_start script plan =
     let fresh = fresh_agenda script script.actions plan.actions.each_sound in
@@ -63,9 +63,9 @@ driver_at_start script plan =
     }
 
 -- an entry of a worker
-pub driver_waits : (script : Plan) (past : List Entry) (e : Entry) (place made : ℕ) → (e.seat == 0) ≡ false → IsAt script past place made
-    → IsAt script (past ++ e ∷ []) place made
-driver_waits script past e place made other at =
+pub driver_waits : (script : Plan) (past : List Entry) (e : Entry) (a : Agenda) → (e.seat == 0) ≡ false → IsAt script past a
+    → IsAt script (past ++ e ∷ []) a
+driver_waits script past e a other at =
     let same : own_entries 0 (past ++ e ∷ []) ≡ own_entries 0 past = rw (own_entries_push past e 0, other) refl in
     record { within = at.within; actions_are = rw same at.actions_are; made_is = rw same at.made_is }
 
@@ -73,30 +73,30 @@ driver_waits script past e place made other at =
 first_waits : (xs : List Action) (own : List Entry) (x : Action) (rest : List Action) → (agenda_from xs own).actions ≡ x ∷ rest
     → behind_action x (agenda_from xs own).made ≡ None
 first_waits [] own x rest h = absurd cc
-first_waits (y ∷ ys) own x rest h = by (behind_action y own) refl (first_waits ys) h
+first_waits (y ∷ ys) own x rest h = by_behind_action (behind_action y own) refl (first_waits ys) h
   where
     taken : Option (List Entry) → laws.Agenda
     taken o = option_map_or (λ left. agenda_from ys left) o (record { actions = y ∷ ys; made = own })
 
-    by : (o : Option (List Entry)) → behind_action y own ≡ o
+    by_behind_action : (o : Option (List Entry)) → behind_action y own ≡ o
         → ((left : List Entry) (z : Action) (more : List Action) → (agenda_from ys left).actions ≡ z ∷ more → behind_action z
         (agenda_from ys left).made ≡ None)
         → (taken o).actions ≡ x ∷ rest → behind_action x (taken o).made ≡ None
-    by None is next k = let same : y ≡ x = cc in rw (← same) is
-    by (Some left) is next k = next left x rest k
+    by_behind_action None is next k = let same : y ≡ x = cc in rw (← same) is
+    by_behind_action (Some left) is next k = next left x rest k
 
 -- a pump that is not complete has ended fewer main tasks than it is to end
 pump_waits : (n : ℕ) (made : List Entry) → 1 ≤ n → behind_pump n made ≡ None → count (λ e. is_main_end e.kind) made < n
 pump_waits n [] some waits = omega (arith, some)
-pump_waits n (e ∷ made) some waits = by (is_main_none e.kind) (is_main_end e.kind) waits (pump_waits n made some) (pump_waits (n - 1) made)
+pump_waits n (e ∷ made) some waits = by_main_none (is_main_none e.kind) (is_main_end e.kind) waits (pump_waits n made some) (pump_waits (n - 1) made)
   where
-    by : (none ends : Bool) → cond (none || (ends && leb n 1)) (Some made) (behind_pump (cond ends (n - 1) n) made) ≡ None
+    by_main_none : (none ends : Bool) → cond (none || (ends && leb n 1)) (Some made) (behind_pump (cond ends (n - 1) n) made) ≡ None
         → (behind_pump n made ≡ None → count (λ x. is_main_end x.kind) made < n)
         → (1 ≤ n - 1 → behind_pump (n - 1) made ≡ None → count (λ x. is_main_end x.kind) made < n - 1)
         → length (cond ends (e ∷ filter (λ x. is_main_end x.kind) made) (filter (λ x. is_main_end x.kind) made)) < n
-    by true ends k same less = absurd cc
-    by false false k same less = same k
-    by false true k same less = last (leb n 1) refl k
+    by_main_none true ends k same less = absurd cc
+    by_main_none false false k same less = same k
+    by_main_none false true k same less = last (leb n 1) refl k
       where
         last : (b : Bool) → leb n 1 ≡ b → cond b (Some made) (behind_pump (n - 1) made) ≡ None
             → suc (count (λ x. is_main_end x.kind) made) < n
@@ -106,12 +106,12 @@ pump_waits n (e ∷ made) some waits = by (is_main_none e.kind) (is_main_end e.k
 -- a join that is not complete has no reply yet
 join_waits : (made : List Entry) → behind_join made ≡ None → count (λ e. is_joined e.kind) made ≡ 0
 join_waits [] waits = refl
-join_waits (e ∷ made) waits = by (is_joined e.kind) waits (join_waits made)
+join_waits (e ∷ made) waits = by_joined (is_joined e.kind) waits (join_waits made)
   where
-    by : (joined : Bool) → cond joined (Some made) (behind_join made) ≡ None → (behind_join made ≡ None → count (λ x. is_joined x.kind) made ≡ 0)
+    by_joined : (joined : Bool) → cond joined (Some made) (behind_join made) ≡ None → (behind_join made ≡ None → count (λ x. is_joined x.kind) made ≡ 0)
         → length (cond joined (e ∷ filter (λ x. is_joined x.kind) made) (filter (λ x. is_joined x.kind) made)) ≡ 0
-    by true k none = absurd cc
-    by false k none = none k
+    by_joined true k none = absurd cc
+    by_joined false k none = none k
 
 -- whether the driver makes such an entry inside a pump by the script
 abbrev pub is_of_pump : Kind → Bool
@@ -169,17 +169,18 @@ agenda_next : (script : Plan) (e : Entry) (x : Action) (rest : List Action) (mad
 agenda_next script e x rest made b plan s =
     let (is, behind, within) = place_at script.actions b.place x rest s.actions_are in
     let sound = subst (AllByRecursion (IsActionSound script)) (sym s.actions_are) (all_from _ script.actions b.place plan.actions.each_sound) in
-    (by (completes x made e.kind) (fresh_agenda script rest sound.1) behind within, is, sound.0)
+    (by_completes (completes x made e.kind) (fresh_agenda script rest sound.1) behind within, is, sound.0)
   where
-    by : (c : Bool) → agenda_from rest [] ≡ record { actions = rest; made = [] } → drop (suc b.place) script.actions ≡ rest → b.place < length script.actions
+    by_completes : (c : Bool) → agenda_from rest [] ≡ record { actions = rest; made = [] } → drop (suc b.place) script.actions ≡ rest
+        → b.place < length script.actions
         → StandsAt script (cond c (agenda_from rest []) (record { actions = x ∷ rest; made = made ++ e ∷ [] }))
         (cond c (passed b) (record { place = b.place; made = counted (x ∷ rest) (made ++ e ∷ []) }))
-    by true fresh behind within = record {
+    by_completes true fresh behind within = record {
       within = omega (arith, within);
       actions_are = rw (fresh, add-one) (sym behind);
       made_is = ap (λ a. counted a.actions a.made) fresh ∙ nothing_counts rest;
     }
-    by false fresh behind within = record { within = s.within; actions_are = s.actions_are; made_is = refl }
+    by_completes false fresh behind within = record { within = s.within; actions_are = s.actions_are; made_is = refl }
 
 -- what an entry makes of a place
 abbrev Moves : Plan → Agenda → Agenda → Action → List Action → List Entry → Entry → Type 0
@@ -197,14 +198,14 @@ moves_other : (script : Plan) (b : Agenda) (x : Action) (rest : List Action) (ma
     → Moves script b (moved_on script.actions b) x rest made e
 moves_other script b x rest made e other sound is waits counts =
     let so_far : b.made ≡ length made = sym counts ∙ all_count x rest made other in
-    rw (is, completes_is x made e.kind other waits, all_more, so_far) (by (eqb (length made + 1) (entries_of x)))
+    rw (is, completes_is x made e.kind other waits, all_more, so_far) (by_last (eqb (length made + 1) (entries_of x)))
   where
     all_more : counted (x ∷ rest) (made ++ e ∷ []) ≡ length made + 1
     all_more = all_count x rest (made ++ e ∷ []) other ∙ length-append made (e ∷ [])
 
-    by : (c : Bool) → cond c (passed b) (record { place = b.place; made = length made + 1 }) ≡ cond c (passed b) (record b { made = length made + 1 })
-    by true = refl
-    by false = refl
+    by_last : (c : Bool) → cond c (passed b) (record { place = b.place; made = length made + 1 }) ≡ cond c (passed b) (record b { made = length made + 1 })
+    by_last true = refl
+    by_last false = refl
 
 -- the entries of a pump: most leave the place, the end of a main task counts, and where there is none the pump is complete
 pump_stays : (script : Plan) (b : Agenda) (x : Action) (rest : List Action) (made : List Entry) (e : Entry) → is_pump x ≡ true
@@ -222,11 +223,11 @@ pump_ends script b (actions.Pump n) rest made e pump none ends sound is waits co
     let more : count (λ (y : Entry). is_main_end y.kind) (made ++ e ∷ []) ≡ b.made + 1 = count-push (λ (y : Entry). is_main_end y.kind) made e
     ∙ ap (λ k. count (λ (y : Entry). is_main_end y.kind) made + cond k 1 0) ends ∙ omega (arith, counts) in
     let last : leb n (b.made + 1) ≡ eqb (b.made + 1) n = grind (arith, pump_waits n made sound.0 waits, counts) in
-    rw (is, none, ends, more, counts, last) (by (eqb (b.made + 1) n))
+    rw (is, none, ends, more, counts, last) (by_last (eqb (b.made + 1) n))
   where
-    by : (c : Bool) → cond c (passed b) (record { place = b.place; made = b.made + 1 }) ≡ cond c (passed b) (record b { made = b.made + 1 })
-    by true = refl
-    by false = refl
+    by_last : (c : Bool) → cond c (passed b) (record { place = b.place; made = b.made + 1 }) ≡ cond c (passed b) (record b { made = b.made + 1 })
+    by_last true = refl
+    by_last false = refl
 pump_ends script b x rest made e pump none ends sound is waits counts = absurd cc
 
 -- where no main task is found the pump is complete
@@ -254,8 +255,8 @@ join_ends script b x rest made e join joined sound is waits counts = absurd cc
 
 -- an entry of the driver moves its place as it does that of its action
 driver_to : (script : Plan) (past : List Entry) (e : Entry) (b later : Agenda) (c : Current) → IsSound script → (e.seat == 0) ≡ true
-    → IsAt script past b.place b.made → current script (own_entries 0 past) ≡ Some c
-    → ((rest : List Action) (made : List Entry) → Moves script b later c.action rest made e) → IsAt script (past ++ e ∷ []) later.place later.made
+    → IsAt script past b → current script (own_entries 0 past) ≡ Some c
+    → ((rest : List Action) (made : List Entry) → Moves script b later c.action rest made e) → IsAt script (past ++ e ∷ []) later
 unfolding agenda
 driver_to script past e b later c plan driver at now moves =
     let own = own_entries 0 past in
@@ -297,33 +298,26 @@ moves_wanted script b own x front e w h rest made = moves_other script b x rest 
 
 -- an entry by the script that counts
 pub driver_moves : (script : Plan) (past : List Entry) (e : Entry) (a : Agenda) → IsSound script → by_script script past e.seat e.kind ≡ true
-    → is_counted e.kind ≡ true → IsAt script past a.place a.made
-    → IsAt script (past ++ e ∷ []) (moved_on script.actions a).place (moved_on script.actions a).made
+    → is_counted e.kind ≡ true → IsAt script past a → IsAt script (past ++ e ∷ []) (moved_on script.actions a)
 driver_moves script past e a plan by counts at =
     let c = wanted_by script past e.seat e.kind by in
     driver_to script past e a (moved_on script.actions a) c.value plan (eq-eqb e.seat 0 (by_driver script past e.seat e.kind by)) at c.is
     (moves_wanted script a (own_entries 0 past) c.value.action c.value.made e c.passes counts)
 
 -- inside a join, an entry of the driver other than the reply leaves its place
-pub driver_joins_on : (script : Plan) (past : List Entry) (e : Entry) (place made : ℕ) (c : Current) → IsSound script → e.seat ≡ 0
-    → current script (own_entries 0 past) ≡ Some c → is_join c.action ≡ true → is_joined e.kind ≡ false → IsAt script past place made
-    → IsAt script (past ++ e ∷ []) place made
-driver_joins_on script past e place made c plan driver now join joined at =
-    let b : Agenda = record { place = place; made = made } in
-    driver_to script past e b b c plan (eq-eqb e.seat 0 driver) at now (λ rest front. join_stays script b c.action rest front e join joined)
-
--- an action that wants the take of an item is a join
-join_wants : (own : List Entry) (x : Action) (made : List Entry) (job id item : ℕ) → wants own x made (kinds.JobTake job id item) ≡ true → is_join x ≡ true
-join_wants own (actions.Join j) made job id item w = refl
-join_wants own x made job id item w = absurd cc
+pub driver_joins_on : (script : Plan) (past : List Entry) (e : Entry) (a : Agenda) (c : Current) → IsSound script → e.seat ≡ 0
+    → current script (own_entries 0 past) ≡ Some c → is_join c.action ≡ true → is_joined e.kind ≡ false → IsAt script past a
+    → IsAt script (past ++ e ∷ []) a
+driver_joins_on script past e a c plan driver now join joined at =
+    driver_to script past e a a c plan (eq-eqb e.seat 0 driver) at now (λ rest front. join_stays script a c.action rest front e join joined)
 
 -- so does the take of an item that the script wants
-pub driver_goes_in : (script : Plan) (past : List Entry) (seat job id item place made : ℕ) → IsSound script
-    → by_script script past seat (kinds.JobTake job id item) ≡ true → IsAt script past place made
-    → IsAt script (past ++ (record { seat = seat; kind = kinds.JobTake job id item }) ∷ []) place made
-driver_goes_in script past seat job id item place made plan by at =
+pub driver_goes_in : (script : Plan) (past : List Entry) (seat job id item : ℕ) (a : Agenda) → IsSound script
+    → by_script script past seat (kinds.JobTake job id item) ≡ true → IsAt script past a
+    → IsAt script (past ++ (record { seat = seat; kind = kinds.JobTake job id item }) ∷ []) a
+driver_goes_in script past seat job id item a plan by at =
     let c = wanted_by script past seat (kinds.JobTake job id item) by in
-    driver_joins_on script past (record { seat = seat; kind = kinds.JobTake job id item }) place made c.value plan
+    driver_joins_on script past (record { seat = seat; kind = kinds.JobTake job id item }) a c.value plan
     (by_driver script past seat (kinds.JobTake job id item) by) c.is
     (join_wants (own_entries 0 past) c.value.action c.value.made job id item c.passes) refl at
 
@@ -335,20 +329,18 @@ wants_main_take own x made kinds.MainNone w h = absurd cc
 wants_main_take own x made kind w h = absurd cc
 
 -- the take of a main task leaves the driver's place
-pub driver_takes : (script : Plan) (past : List Entry) (e : Entry) (place made : ℕ) → IsSound script → by_script script past e.seat e.kind ≡ true
-    → is_of_pump e.kind ≡ true → is_main_none e.kind ≡ false → is_main_end e.kind ≡ false → IsAt script past place made
-    → IsAt script (past ++ e ∷ []) place made
-driver_takes script past e place made plan by pumps none ends at =
+pub driver_takes : (script : Plan) (past : List Entry) (e : Entry) (a : Agenda) → IsSound script → by_script script past e.seat e.kind ≡ true
+    → is_of_pump e.kind ≡ true → is_main_none e.kind ≡ false → is_main_end e.kind ≡ false → IsAt script past a
+    → IsAt script (past ++ e ∷ []) a
+driver_takes script past e a plan by pumps none ends at =
     let c = wanted_by script past e.seat e.kind by in
-    let b : Agenda = record { place = place; made = made } in
-    driver_to script past e b b c.value plan (eq-eqb e.seat 0 (by_driver script past e.seat e.kind by)) at c.is
-    (λ rest front. pump_stays script b c.value.action rest front e
+    driver_to script past e a a c.value plan (eq-eqb e.seat 0 (by_driver script past e.seat e.kind by)) at c.is
+    (λ rest front. pump_stays script a c.value.action rest front e
     (wants_main_take (own_entries 0 past) c.value.action c.value.made e.kind c.passes pumps) none ends)
 
 -- where no main task is found the driver passes on to the next action
 pub driver_passes : (script : Plan) (past : List Entry) (seat : ℕ) (a : Agenda) → IsSound script → by_script script past seat kinds.MainNone ≡ true
-    → IsAt script past a.place a.made
-    → IsAt script (past ++ (record { seat = seat; kind = kinds.MainNone }) ∷ []) (passed_on script.actions a).place (passed_on script.actions a).made
+    → IsAt script past a → IsAt script (past ++ (record { seat = seat; kind = kinds.MainNone }) ∷ []) (passed_on script.actions a)
 driver_passes script past seat a plan by at =
     let c = wanted_by script past seat kinds.MainNone by in
     let e : Entry = record { seat = seat; kind = kinds.MainNone } in
@@ -358,39 +350,36 @@ driver_passes script past seat a plan by at =
 
 -- the end of a main task counts for its pump
 pub driver_ends : (script : Plan) (past : List Entry) (e : Entry) (a : Agenda) (w : Running) → IsSound script → IsLegal script past
-    → running past 0 ≡ Some w → e.seat ≡ 0 → is_main_end e.kind ≡ true → is_main_none e.kind ≡ false → IsAt script past a.place a.made
-    → IsAt script (past ++ e ∷ []) (moved_on script.actions a).place (moved_on script.actions a).made
+    → running past 0 ≡ Some w → e.seat ≡ 0 → is_main_end e.kind ≡ true → is_main_none e.kind ≡ false → IsAt script past a
+    → IsAt script (past ++ e ∷ []) (moved_on script.actions a)
 driver_ends script past e a w plan legal runs driver ends none at =
     let (c, now, pump) = (legal_past script past legal).one_thing.pumps w runs in
     driver_to script past e a (moved_on script.actions a) c plan (eq-eqb e.seat 0 driver) at now
     (λ rest front. pump_ends script a c.action rest front e pump none ends)
 
 -- while a task runs, its entries other than its end leave the driver's place
-pub task_waits : (script : Plan) (past : List Entry) (e : Entry) (place made : ℕ) (w : Running) → IsSound script → IsLegal script past
-    → running past e.seat ≡ Some w → is_main_end e.kind ≡ false → is_main_none e.kind ≡ false → IsAt script past place made
-    → IsAt script (past ++ e ∷ []) place made
-task_waits script past e place made w plan legal runs ends none at = by (eqb e.seat 0) refl
+pub task_waits : (script : Plan) (past : List Entry) (e : Entry) (a : Agenda) (w : Running) → IsSound script → IsLegal script past
+    → running past e.seat ≡ Some w → is_main_end e.kind ≡ false → is_main_none e.kind ≡ false → IsAt script past a
+    → IsAt script (past ++ e ∷ []) a
+task_waits script past e a w plan legal runs ends none at = by_seat (eqb e.seat 0) refl
   where
-    b : Agenda
-    b = record { place = place; made = made }
-
-    by : (c : Bool) → eqb e.seat 0 ≡ c → IsAt script (past ++ e ∷ []) place made
-    by false other = driver_waits script past e place made other at
-    by true driver =
+    by_seat : (c : Bool) → eqb e.seat 0 ≡ c → IsAt script (past ++ e ∷ []) a
+    by_seat false other = driver_waits script past e a other at
+    by_seat true driver =
         let (c, now, pump) = (legal_past script past legal).one_thing.pumps w (ap (running past) (sym (eqb-true e.seat 0 driver)) ∙ runs) in
-        driver_to script past e b b c plan driver at now (λ rest front. pump_stays script b c.action rest front e pump none ends)
+        driver_to script past e a a c plan driver at now (λ rest front. pump_stays script a c.action rest front e pump none ends)
 
 -- while a seat holds an item, its entries other than a reply leave the driver's place
-pub holder_waits : (script : Plan) (past : List Entry) (e : Entry) (place made : ℕ) (h : Holding) → IsSound script → IsLegal script past
-    → holding past e.seat ≡ Some h → is_joined e.kind ≡ false → IsAt script past place made → IsAt script (past ++ e ∷ []) place made
-holder_waits script past e place made h plan legal holds joined at = by (eqb e.seat 0) refl
+pub holder_waits : (script : Plan) (past : List Entry) (e : Entry) (a : Agenda) (h : Holding) → IsSound script → IsLegal script past
+    → holding past e.seat ≡ Some h → is_joined e.kind ≡ false → IsAt script past a → IsAt script (past ++ e ∷ []) a
+holder_waits script past e a h plan legal holds joined at = by_seat (eqb e.seat 0) refl
   where
-    by : (c : Bool) → eqb e.seat 0 ≡ c → IsAt script (past ++ e ∷ []) place made
-    by false other = driver_waits script past e place made other at
-    by true is =
+    by_seat : (c : Bool) → eqb e.seat 0 ≡ c → IsAt script (past ++ e ∷ []) a
+    by_seat false other = driver_waits script past e a other at
+    by_seat true is =
         let driver = eqb-true e.seat 0 is in
         let (c, now, join) = (legal_past script past legal).one_thing.joins h (ap (holding past) (sym driver) ∙ holds) in
-        driver_joins_on script past e place made c plan driver now join joined at
+        driver_joins_on script past e a c plan driver now join joined at
 
 -- what is behind a complete action is part of what there was
 behind_within : (n : ℕ) (own left : List Entry) → behind n own ≡ Some left → length left ≤ length own
@@ -401,22 +390,23 @@ behind_within (suc n) (e ∷ own) left h = omega (arith, behind_within n own lef
 -- what is behind a complete pump is part of what there was
 pump_within : (n : ℕ) (own left : List Entry) → behind_pump n own ≡ Some left → length left ≤ length own
 pump_within n [] left h = absurd cc
-pump_within n (e ∷ own) left h = by (is_main_none e.kind || (is_main_end e.kind && leb n 1)) h (pump_within (cond (is_main_end e.kind) (n - 1) n) own left)
+pump_within n (e ∷ own) left h = by_main_none (is_main_none e.kind || (is_main_end e.kind && leb n 1)) h
+    (pump_within (cond (is_main_end e.kind) (n - 1) n) own left)
   where
-    by : (b : Bool) → cond b (Some own) (behind_pump (cond (is_main_end e.kind) (n - 1) n) own) ≡ Some left
+    by_main_none : (b : Bool) → cond b (Some own) (behind_pump (cond (is_main_end e.kind) (n - 1) n) own) ≡ Some left
         → (behind_pump (cond (is_main_end e.kind) (n - 1) n) own ≡ Some left → length left ≤ length own) → length left ≤ suc (length own)
-    by true k next = let same : own ≡ left = same_Some own left k in rw same (omega arith)
-    by false k next = omega (arith, next k)
+    by_main_none true k next = let same : own ≡ left = same_Some own left k in rw same (omega arith)
+    by_main_none false k next = omega (arith, next k)
 
 -- what is behind a complete join is part of what there was
 join_within : (own left : List Entry) → behind_join own ≡ Some left → length left ≤ length own
 join_within [] left h = absurd cc
-join_within (e ∷ own) left h = by (is_joined e.kind) h (join_within own left)
+join_within (e ∷ own) left h = by_joined (is_joined e.kind) h (join_within own left)
   where
-    by : (b : Bool) → cond b (Some own) (behind_join own) ≡ Some left → (behind_join own ≡ Some left → length left ≤ length own)
+    by_joined : (b : Bool) → cond b (Some own) (behind_join own) ≡ Some left → (behind_join own ≡ Some left → length left ≤ length own)
         → length left ≤ suc (length own)
-    by true k next = let same : own ≡ left = same_Some own left k in rw same (omega arith)
-    by false k next = omega (arith, next k)
+    by_joined true k next = let same : own ≡ left = same_Some own left k in rw same (omega arith)
+    by_joined false k next = omega (arith, next k)
 
 -- what is behind a complete action is part of what there was
 action_within : (x : Action) (own left : List Entry) → behind_action x own ≡ Some left → length left ≤ length own
@@ -430,12 +420,12 @@ action_within x own left h = behind_within 1 own left h
 -- the first action has made no more entries than there are
 agenda_within : (xs : List Action) (own : List Entry) → length (agenda_from xs own).made ≤ length own
 agenda_within [] own = omega arith
-agenda_within (x ∷ xs) own = by (behind_action x own) refl (agenda_within xs)
+agenda_within (x ∷ xs) own = by_behind_action (behind_action x own) refl (agenda_within xs)
   where
-    by : (o : Option (List Entry)) → behind_action x own ≡ o → ((left : List Entry) → length (agenda_from xs left).made ≤ length left)
+    by_behind_action : (o : Option (List Entry)) → behind_action x own ≡ o → ((left : List Entry) → length (agenda_from xs left).made ≤ length left)
         → length (option_map_or (λ left. agenda_from xs left) o (record { actions = x ∷ xs; made = own })).made ≤ length own
-    by None is next = omega arith
-    by (Some left) is next = omega (arith, next left, action_within x own left is)
+    by_behind_action None is next = omega arith
+    by_behind_action (Some left) is next = omega (arith, next left, action_within x own left is)
 
 -- no more count than were made
 counted_within : (xs : List Action) (made : List Entry) → counted xs made ≤ length made
@@ -445,10 +435,9 @@ counted_within (actions.Join job ∷ xs) made = count_le (λ (e : Entry). is_joi
 counted_within (x ∷ xs) made = omega arith
 
 -- a legal history is short, so the current action has made few entries
-pub few_entries_made : (script : Plan) (past : List Entry) (place made : ℕ) → IsSound script → IsLegal script past → IsAt script past place made
-    → made < 2 ^ 31
+pub few_entries_made : (script : Plan) (past : List Entry) (a : Agenda) → IsSound script → IsLegal script past → IsAt script past a → a.made < 2 ^ 31
 unfolding agenda
-few_entries_made script past place made plan legal at = omega (
+few_entries_made script past a plan legal at = omega (
   arith,
   agenda_within script.actions (own_entries 0 past),
   counted_within (agenda script (own_entries 0 past)).actions (agenda script (own_entries 0 past)).made,
@@ -458,11 +447,10 @@ few_entries_made script past place made plan legal at = omega (
 )
 
 -- the script is finished exactly where all actions are complete
-pub finished_is : (script : Plan) (past : List Entry) (place made : ℕ) → IsAt script past place made
-    → is_finished script past ≡ (place == length script.actions)
+pub finished_is : (script : Plan) (past : List Entry) (a : Agenda) → IsAt script past a → is_finished script past ≡ (a.place == length script.actions)
 unfolding is_finished
-finished_is script past place made at = rw (current_is_first script (own_entries 0 past), at.actions_are)
-    (none_from script.actions place (agenda script (own_entries 0 past)).made at.within)
+finished_is script past a at = rw (current_is_first script (own_entries 0 past), at.actions_are)
+    (none_from script.actions a.place (agenda script (own_entries 0 past)).made at.within)
   where
     none_from : (xs : List Action) (n : ℕ) (front : List Entry) → n ≤ length xs → is_none (first_of (drop n xs) front) ≡ eqb n (length xs)
     none_from [] zero front h = refl
@@ -472,31 +460,31 @@ finished_is script past place made at = rw (current_is_first script (own_entries
         let same : eqb (suc n) (suc (length xs)) ≡ eqb n (length xs) = grind arith in rw same (none_from xs n front (omega (arith, h)))
 
 -- the driver is at the action of its place
-pub action_at : (script : Plan) (past : List Entry) (place made : ℕ) → IsAt script past place made
-    → slice_get script.actions place ≡ option_map (λ (c : Current). c.action) (current script (own_entries 0 past))
-action_at script past place made at = rw (current_is_first script (own_entries 0 past), at.actions_are)
-    (first_from script.actions place (agenda script (own_entries 0 past)).made)
+pub action_at : (script : Plan) (past : List Entry) (a : Agenda) → IsAt script past a
+    → slice_get script.actions a.place ≡ option_map (λ (c : Current). c.action) (current script (own_entries 0 past))
+action_at script past a at = rw (current_is_first script (own_entries 0 past), at.actions_are)
+    (first_from script.actions a.place (agenda script (own_entries 0 past)).made)
   where
     first_from : (xs : List Action) (n : ℕ) (front : List Entry) → slice_get xs n ≡ option_map (λ (c : Current). c.action) (first_of (drop n xs) front)
-    first_from [] n front = by n
+    first_from [] n front = at_each n
       where
-        by : (k : ℕ) → slice_get [] k ≡ option_map (λ (c : Current). c.action) (first_of (drop k []) front)
-        by zero = refl
-        by (suc k) = refl
+        at_each : (k : ℕ) → slice_get [] k ≡ option_map (λ (c : Current). c.action) (first_of (drop k []) front)
+        at_each zero = refl
+        at_each (suc k) = refl
     first_from (x ∷ xs) zero front = refl
     first_from (x ∷ xs) (suc n) front = first_from xs n front
 
 -- and that action has made so many entries that count
-pub made_at : (script : Plan) (past : List Entry) (place made : ℕ) → IsAt script past place made
-    → IfSome (current script (own_entries 0 past)) (λ c. made ≡ counted (c.action ∷ []) c.made)
-made_at script past place made at = rw (current_is_first script (own_entries 0 past))
-    (by (agenda script (own_entries 0 past)).actions (agenda script (own_entries 0 past)).made at.made_is)
+pub made_at : (script : Plan) (past : List Entry) (a : Agenda) → IsAt script past a
+    → IfSome (current script (own_entries 0 past)) (λ c. a.made ≡ counted (c.action ∷ []) c.made)
+made_at script past a at = rw (current_is_first script (own_entries 0 past))
+    (by_agenda (agenda script (own_entries 0 past)).actions (agenda script (own_entries 0 past)).made at.made_is)
   where
     first_counts : (x : Action) (rest : List Action) (front : List Entry) → counted (x ∷ rest) front ≡ counted (x ∷ []) front
     first_counts (actions.Pump n) rest front = refl
     first_counts (actions.Join job) rest front = refl
     first_counts x rest front = refl
 
-    by : (xs : List Action) (front : List Entry) → counted xs front ≡ made → IfSome (first_of xs front) (λ c. made ≡ counted (c.action ∷ []) c.made)
-    by [] front is = tt
-    by (x ∷ rest) front is = sym is ∙ first_counts x rest front
+    by_agenda : (xs : List Action) (front : List Entry) → counted xs front ≡ a.made → IfSome (first_of xs front) (λ c. a.made ≡ counted (c.action ∷ []) c.made)
+    by_agenda [] front is = tt
+    by_agenda (x ∷ rest) front is = sym is ∙ first_counts x rest front

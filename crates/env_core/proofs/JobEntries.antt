@@ -1,6 +1,6 @@
 -- The entries of jobs: which job the script names in one, and what the rules ask of it besides; and that a join goes on.
-use Rattle.env_core.proofs.Plans.{action_is}
-use Rattle.env_core.proofs.Wanted.{wanted_by_script}
+use Rattle.hist_model.proofs.Laws.BySound.{current_is_one}
+use Rattle.env_core.proofs.Wanted.{driver_allowed, wanted_by_script}
 use Rattle.env_core.specs.Calls.{IsWantedNext}
 use Rattle.env_core.specs.Jobs.{CanEndItem, held_by}
 use Rattle.env_core.specs.Views.{EnvView}
@@ -8,7 +8,7 @@ use Rattle.task_body.specs.Passes.{PassView}
 use Rattle.env_core.proofs.Starts.{IsAtWork, driver_entry, follows_start, is_busy, joined_was_posted}
 use Rattle.hist_model.proofs.Laws.Agenda.{current_stays, finished_stays, next_begins}
 use Rattle.hist_model.proofs.Laws.Claims.{claimed_is}
-use Rattle.hist_model.proofs.Laws.EntriesJobs.{claimed_within}
+use Rattle.hist_model.proofs.Laws.Entries.Jobs.{claimed_within}
 use Rattle.hist_model.proofs.Laws.Legal.{legal_induction}
 use Rattle.hist_model.proofs.Laws.OneThing.{legal_does_one_thing, wanted_by}
 use Rattle.hist_model.proofs.Laws.Own.{holding_own, own_entries_push}
@@ -80,21 +80,16 @@ pub job_declared : (view : EnvView) (seat j : ℕ) (kind : Kind) → named_job k
 job_declared view seat j kind is sound next =
     let c = wanted_by view.script view.history seat kind (wanted_by_script view seat kind next) in
     names_declared view.script (own_entries 0 view.history) c.value.action c.value.made kind j is c.passes
-    (action_is (IsActionSound view.script) view.script (own_entries 0 view.history) c.value sound.actions.each_sound c.is)
+    (current_is_one (IsActionSound view.script) view.script (own_entries 0 view.history) c.value sound.actions.each_sound c.is)
 
 -- What the rules ask of each entry besides.
-
--- what the script wants may come at the driver's seat
-driver_may : (view : EnvView) (seat : ℕ) (kind : Kind) → IsWantedNext view seat kind → may_come view.script view.history seat kind ≡ true
-    → IsAllowed view.script view.history (record { seat = seat; kind = kind })
-driver_may view seat kind wanted may = rw (le-leb seat view.script.workers (omega (arith, wanted.driver)), may) refl
 
 -- a post with the right reply
 pub job_post_allowed : (view : EnvView) (seat job : ℕ) (ok : Bool) → IsWantedNext view seat (kinds.JobPost job ok)
     → ok ≡ not (is_job_forbidden view.script view.history job)
     → IsAllowed view.script view.history (record { seat = seat; kind = kinds.JobPost job ok })
 unfolding may_come
-job_post_allowed view seat job ok wanted reply = driver_may view seat (kinds.JobPost job ok) wanted
+job_post_allowed view seat job ok wanted reply = driver_allowed view seat (kinds.JobPost job ok) wanted.driver
     (rw (wanted_by_script view seat (kinds.JobPost job ok) wanted, reply) (says (is_job_forbidden view.script view.history job)))
   where
     says : (refused : Bool) → is_reply refused (not refused) ≡ true
@@ -111,7 +106,7 @@ pub record IsOpenJob (script : Plan) (past : List Entry) (job id item : ℕ) : T
 pub job_take_allowed : (view : EnvView) (seat job id item : ℕ) → IsWantedNext view seat (kinds.JobTake job id item)
     → IsOpenJob view.script view.history job id item → IsAllowed view.script view.history (record { seat = seat; kind = kinds.JobTake job id item })
 unfolding may_come
-job_take_allowed view seat job id item wanted is = driver_may view seat (kinds.JobTake job id item) wanted
+job_take_allowed view seat job id item wanted is = driver_allowed view seat (kinds.JobTake job id item) wanted.driver
     (rw (
       wanted_by_script view seat (kinds.JobTake job id item) wanted,
       is.may,
@@ -143,19 +138,12 @@ job_step_allowed view seat value pass next can next_is = rw (
     same None = refl
     same (Some n) = eqb-same n
 
--- a cancel
-pub job_cancel_allowed : (view : EnvView) (seat job : ℕ) → IsWantedNext view seat (kinds.JobCancel job)
-    → IsAllowed view.script view.history (record { seat = seat; kind = kinds.JobCancel job })
-unfolding may_come
-job_cancel_allowed view seat job wanted =
-    driver_may view seat (kinds.JobCancel job) wanted (wanted_by_script view seat (kinds.JobCancel job) wanted)
-
 -- the end of a join, where nobody is inside and there is a reply
 pub joined_allowed : (view : EnvView) (seat job : ℕ) (reply : JobReply) → IsWantedNext view seat (kinds.Joined job reply)
     → is_empty view.script view.history job ≡ true → reply_of view.script view.history job ≡ Some reply
     → IsAllowed view.script view.history (record { seat = seat; kind = kinds.Joined job reply })
 unfolding may_come
-joined_allowed view seat job reply wanted empty is = driver_may view seat (kinds.Joined job reply) wanted
+joined_allowed view seat job reply wanted empty is = driver_allowed view seat (kinds.Joined job reply) wanted.driver
     (rw (wanted_by_script view seat (kinds.Joined job reply) wanted, empty, is) (same reply))
   where
     same : (r : JobReply) → same_reply r r ≡ true
@@ -181,7 +169,7 @@ CancelGoesFirst script past = (c : Current) (j : ℕ) → current script (own_en
 cancel_next : (script : Plan) (past : List Entry) (e : Entry) → IsLegal script past → e.seat ≡ 0 → may_come script past 0 e.kind ≡ true
     → CancelGoesFirst script past → (d : Current) (j : ℕ) → current script (own_entries 0 past ++ e ∷ []) ≡ Some d → d.action ≡ actions.Cancel j
     → 1 ≤ length d.made → (is_cancelled past j || cancels j e.kind) ≡ true
-cancel_next script past e legal driver may known d j now is some = by (current script own) refl
+cancel_next script past e legal driver may known d j now is some = by_current (current script own) refl
   where
     own : List Entry
     own = own_entries 0 past
@@ -202,9 +190,9 @@ cancel_next script past e legal driver may known d j now is some = by (current s
         apart : IsAtWork script past e.kind → ⊥
         apart w = true≢false (sym (ap (λ (x : Current). is_busy x.action) (same_Some c w.now (sym was ∙ w.is)) ∙ w.busy) ∙ ap is_busy same)
 
-    by : (o : Option Current) → current script own ≡ o → (is_cancelled past j || cancels j e.kind) ≡ true
-    by None was = absurd (none-some d (sym (finished_stays script own e was) ∙ now))
-    by (Some c) was = at (completes c.action c.made e.kind) refl
+    by_current : (o : Option Current) → current script own ≡ o → (is_cancelled past j || cancels j e.kind) ≡ true
+    by_current None was = absurd (none-some d (sym (finished_stays script own e was) ∙ now))
+    by_current (Some c) was = at (completes c.action c.made e.kind) refl
       where
         at : (b : Bool) → completes c.action c.made e.kind ≡ b → (is_cancelled past j || cancels j e.kind) ≡ true
         at true ends = absurd (omega (arith, some, ap (λ xs. length xs) (next_begins script own e c d was ends now)))
@@ -227,23 +215,23 @@ cancel_goes_first script = legal_induction script (CancelGoesFirst script) nothi
 
     next : (before : List Entry) (e : Entry) → IsLegal script before → IsAllowed script before e → CancelGoesFirst script before
         → CancelGoesFirst script (before ++ e ∷ [])
-    next before e legal allowed known d j now is some = is_cancelled_push before e j ∙ by (eqb e.seat 0) refl
+    next before e legal allowed known d j now is some = is_cancelled_push before e j ∙ by_seat (eqb e.seat 0) refl
       where
         may : may_come script before e.seat e.kind ≡ true
         may = (and_parts (leb e.seat script.workers) (may_come script before e.seat e.kind) allowed).1
 
-        by : (b : Bool) → eqb e.seat 0 ≡ b → (is_cancelled before j || cancels j e.kind) ≡ true
-        by true driver =
+        by_seat : (b : Bool) → eqb e.seat 0 ≡ b → (is_cancelled before j || cancels j e.kind) ≡ true
+        by_seat true driver =
             let at = eqb-true e.seat 0 driver in
             cancel_next script before e legal at (subst (λ s. may_come script before s e.kind ≡ true) at may) known d j
             (rw (own_entries_push before e 0, driver) at now) is some
-        by false other = rw (known d j (rw (own_entries_push before e 0, other) at now) is some) refl
+        by_seat false other = rw (known d j (rw (own_entries_push before e 0, other) at now) is some) refl
 
 -- the end of the wait for a job that is cancelled, where nobody is inside
 pub cancelled_allowed : (view : EnvView) (seat job : ℕ) → IsLegal view.script view.history → IsWantedNext view seat (kinds.Cancelled job)
     → is_empty view.script view.history job ≡ true → IsAllowed view.script view.history (record { seat = seat; kind = kinds.Cancelled job })
 unfolding may_come
-cancelled_allowed view seat job legal next empty = driver_may view seat (kinds.Cancelled job) next (rw (wanted, cancelled, empty) refl)
+cancelled_allowed view seat job legal next empty = driver_allowed view seat (kinds.Cancelled job) next.driver (rw (wanted, cancelled, empty) refl)
   where
     wanted : by_script view.script view.history seat (kinds.Cancelled job) ≡ true
     wanted = wanted_by_script view seat (kinds.Cancelled job) next
@@ -271,18 +259,18 @@ record HasNoReply (script : Plan) (past : List Entry) (j : ℕ) : Type 0 where
   not_forbidden : is_job_forbidden script past j ≡ false
 
 no_reply : (script : Plan) (past : List Entry) (j : ℕ) → reply_of script past j ≡ None → HasNoReply script past j
-no_reply script past j h = by (holds_of (λ p. not p.ok) (job_post_of past j)) (is_finished_job script past j) (is_cancelled past j)
+no_reply script past j h = by_refused (holds_of (λ p. not p.ok) (job_post_of past j)) (is_finished_job script past j) (is_cancelled past j)
     (is_job_forbidden script past j) refl refl refl refl h
   where
-    by : (a b c d : Bool) → holds_of (λ p. not p.ok) (job_post_of past j) ≡ a → is_finished_job script past j ≡ b → is_cancelled past j ≡ c
+    by_refused : (a b c d : Bool) → holds_of (λ p. not p.ok) (job_post_of past j) ≡ a → is_finished_job script past j ≡ b → is_cancelled past j ≡ c
         → is_job_forbidden script past j ≡ d
         → cond a (Some replies.Refused) (cond b (Some (replies.Finished (job_sum past j)))
         (cond c (Some replies.Cancelled) (cond d (Some replies.Stopped) None))) ≡ None → HasNoReply script past j
-    by true b c d ra rb rc rd k = absurd cc
-    by false true c d ra rb rc rd k = absurd cc
-    by false false true d ra rb rc rd k = absurd cc
-    by false false false true ra rb rc rd k = absurd cc
-    by false false false false ra rb rc rd k = record { not_refused = ra; unfinished = rb; not_cancelled = rc; not_forbidden = rd }
+    by_refused true b c d ra rb rc rd k = absurd cc
+    by_refused false true c d ra rb rc rd k = absurd cc
+    by_refused false false true d ra rb rc rd k = absurd cc
+    by_refused false false false true ra rb rc rd k = absurd cc
+    by_refused false false false false ra rb rc rd k = record { not_refused = ra; unfinished = rb; not_cancelled = rc; not_forbidden = rd }
 
 -- a job that has items lets somebody in
 some_cap : (script : Plan) (j n : ℕ) → IsSound script → n < items_of script j → 1 ≤ cap_of script j

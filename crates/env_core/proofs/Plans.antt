@@ -34,22 +34,6 @@ use Rattle.task_base.specs.declared.step.Step.TheVariants as steps
 
 -- The actions of the driver.
 
--- what holds of each of some actions holds of the first that is not complete
-current_from_is : (P : Action → Type 0) (xs : List Action) (own : List Entry) (c : Current) → AllByRecursion P xs → current_from xs own ≡ Some c → P c.action
-current_from_is P [] own c all is = absurd (none-some c is)
-current_from_is P (x ∷ xs) own c all is = at (behind_action x own) (λ left. current_from_is P xs left c all.1) is
-  where
-    at : (o : Option (List Entry)) → ((left : List Entry) → current_from xs left ≡ Some c → P c.action)
-        → option_map_or (λ left. current_from xs left) o (Some (record { action = x; made = own })) ≡ Some c → P c.action
-    at None next k = subst P (ap (λ (y : Current). y.action) (same_Some _ c k)) all.0
-    at (Some left) next k = next left k
-
--- what holds of each action of the script holds of the one that the driver is at
-pub action_is : (P : Action → Type 0) (script : Plan) (own : List Entry) (c : Current) → AllByRecursion P script.actions → current script own ≡ Some c
-    → P c.action
-unfolding current
-action_is P script own c all is = current_from_is P script.actions own c all is
-
 -- an action that wants a post is that post
 pub wants_post : (own : List Entry) (action : Action) (made : List Entry) (task runner delay : ℕ) (ok : Bool)
     → wants own action made (kinds.Post task runner delay ok) ≡ true → action ≡ actions.Post task runner delay
@@ -200,13 +184,13 @@ driver_holds_nothing script past seat kind legal wanted = at (holding past 0) re
 
 -- a worker that does not work runs nothing and holds nothing
 idle_is_free : (script : Plan) (past : List Entry) (seat : ℕ) → IsLegal script past → 1 ≤ seat → is_working past seat ≡ false → is_free past seat ≡ true
-idle_is_free script past seat legal worker idle = by (running past seat) (holding past seat) refl idle
+idle_is_free script past seat legal worker idle = by_running (running past seat) (holding past seat) refl idle
   where
-    by : (r : Option Running) (h : Option Holding) → running past seat ≡ r → (holds_of (λ w. not w.is_main) r || is_some h) ≡ false
+    by_running : (r : Option Running) (h : Option Holding) → running past seat ≡ r → (holds_of (λ w. not w.is_main) r || is_some h) ≡ false
         → (is_none r && is_none h) ≡ true
-    by None None is k = refl
-    by None (Some h) is k = absurd cc
-    by (Some w) h is k = of_main w.is_main refl
+    by_running None None is k = refl
+    by_running None (Some h) is k = absurd cc
+    by_running (Some w) h is k = of_main w.is_main refl
       where
         of_main : (main : Bool) → w.is_main ≡ main → (is_none (Some w) && is_none h) ≡ true
         of_main true main =

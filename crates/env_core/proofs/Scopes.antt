@@ -7,7 +7,7 @@ use Rattle.hist_model.specs.Legal.{IsLegal}
 use Rattle.hist_model.proofs.Laws.AtPlaces.{take_at}
 use Rattle.hist_model.proofs.Laws.Legal.{is_legal_push, legal_induction}
 use Rattle.hist_model.proofs.Laws.LegalPast.{legal_past}
-use Rattle.hist_model.proofs.Laws.PostingCounts.{counted, posted_at_most_once}
+use Rattle.hist_model.proofs.Laws.Postings.Counts.{counted, posted_at_most_once}
 use Rattle.hist_model.proofs.Laws.Takes.{by_driver, take_is}
 use Rattle.list_laws.proofs.Finds.{contained_counts}
 use Rattle.pool_laws.proofs.Seats.Whose.{runs_behind}
@@ -67,11 +67,11 @@ rest_in_turn b (step ∷ xs) (suc n) h = rest_in_turn b xs n h
 
 -- so do those of each task
 task_in_turn : (script : Plan) (t : ℕ) → IsSound script → has_bad_scopes false (acts_of script t) ≡ false
-task_in_turn script t plan = acts_in_turn false (steps_of script t) ∙ by (slice_get script.tasks t) refl
+task_in_turn script t plan = acts_in_turn false (steps_of script t) ∙ by_task (slice_get script.tasks t) refl
   where
-    by : (o : Option (List Step)) → slice_get script.tasks t ≡ o → has_bad_scopes false (option_map_or (λ steps. steps) o []) ≡ false
-    by None is = refl
-    by (Some steps) is = (plan.declarations.tasks_sound t steps is).scopes_in_turn
+    by_task : (o : Option (List Step)) → slice_get script.tasks t ≡ o → has_bad_scopes false (option_map_or (λ steps. steps) o []) ≡ false
+    by_task None is = refl
+    by_task (Some steps) is = (plan.declarations.tasks_sound t steps is).scopes_in_turn
 
 -- ---- entries
 
@@ -163,7 +163,7 @@ scope_step script past e plan legal allowed before seat w runs pool = ⊎_elim o
 
     own : (seat ≡ e.seat) × (running_after (running past e.seat) e.kind ≡ Some w)
         → is_some (open_scope (past ++ e ∷ []) w.task) ≡ is_open_after false (take (acts_done (past ++ e ∷ []) seat) (acts_of script w.task))
-    own (here, after) = rw (here, open_scope_push past e w.task, acts_done_push past e e.seat, eqb-same e.seat) (by e.kind may after)
+    own (here, after) = rw (here, open_scope_push past e w.task, acts_done_push past e e.seat, eqb-same e.seat) (by_kind e.kind may after)
       where
         act : (kind : Kind) → running past e.seat ≡ Some w → by_task script past e.seat kind ≡ true → IsNow kind
         act kind now h =
@@ -183,21 +183,21 @@ scope_step script past e plan legal allowed before seat w runs pool = ⊎_elim o
         post kind refused ok now h = act kind now (⊎_elim (λ s. absurd (omega (arith, by_driver script past e.seat kind s, here, worker))) (λ t. t)
             (or_cases (by_script script past e.seat kind) (by_task script past e.seat kind) (and_parts _ (is_reply refused ok) h).0))
 
-        by : (kind : Kind) → may_come script past e.seat kind ≡ true → running_after (running past e.seat) kind ≡ Some w → IsNow kind
-        by (kinds.Take task runner value) m k =
+        by_kind : (kind : Kind) → may_come script past e.seat kind ≡ true → running_after (running past e.seat) kind ≡ Some w → IsNow kind
+        by_kind (kinds.Take task runner value) m k =
             let taken = take_is script past e.seat task runner value m in
             let other = subst (λ t. is_main_taken past t ≡ false) taken.task_is (no_main_taken script past taken.head.posted plan legal
             taken.is_head.accepted) in
             let none = (legal_past script past legal).rises.scopes_of_taken task taken.not_taken other in
             let same : task ≡ w.task = cc in rw (← same, none) refl
-        by (kinds.MainTake task queue value) m k = absurd (true≢false (ap (λ (v : Running). v.is_main) (same_Some _ w k) ∙ pool))
-        by (kinds.End task left) m k = absurd (none-some w k)
-        by (kinds.MainEnd task left) m k = absurd (none-some w k)
-        by (kinds.Post task runner delay ok) m k = post (kinds.Post task runner delay ok) _ ok k m
-        by (kinds.Main task queue delay ok) m k = post (kinds.Main task queue delay ok) _ ok k m
-        by (kinds.Enter task scope) m k = act (kinds.Enter task scope) k m
-        by (kinds.Leave task) m k = act (kinds.Leave task) k m
-        by kind m k = before e.seat w k pool
+        by_kind (kinds.MainTake task queue value) m k = absurd (true≢false (ap (λ (v : Running). v.is_main) (same_Some _ w k) ∙ pool))
+        by_kind (kinds.End task left) m k = absurd (none-some w k)
+        by_kind (kinds.MainEnd task left) m k = absurd (none-some w k)
+        by_kind (kinds.Post task runner delay ok) m k = post (kinds.Post task runner delay ok) _ ok k m
+        by_kind (kinds.Main task queue delay ok) m k = post (kinds.Main task queue delay ok) _ ok k m
+        by_kind (kinds.Enter task scope) m k = act (kinds.Enter task scope) k m
+        by_kind (kinds.Leave task) m k = act (kinds.Leave task) k m
+        by_kind kind m k = before e.seat w k pool
 
 -- the task that a seat runs of the pool has a scope open exactly where the last scope step among the act steps that it has
 -- entered opened one

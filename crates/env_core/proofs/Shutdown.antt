@@ -49,7 +49,7 @@ record IsInside (script : Plan) (past : List Entry) (kind : Kind) : Type 0 where
 driver_entry : (script : Plan) (past : List Entry) (seat : ℕ) (kind : Kind) → IsLegal script past → seat ≡ 0
     → may_come script past seat kind ≡ true → (by_script script past seat kind ≡ true) ⊎ IsInside script past kind
 unfolding may_come
-driver_entry script past seat kind legal driver may = by kind may
+driver_entry script past seat kind legal driver may = by_kind kind may
   where
     runs : (k : Kind) (w : Running) → running past seat ≡ Some w → ((phase : Phase) → phase_after phase k ≡ phase) → IsInside script past k
     runs k w is still =
@@ -75,27 +75,27 @@ driver_entry script past seat kind legal driver may = by kind may
         → (by_script script past seat k ≡ true) ⊎ IsInside script past k
     either k h still = ⊎_elim inl (λ task. inr (by_the_task k task still)) (or_cases _ _ h)
 
-    by : (k : Kind) → may_come script past seat k ≡ true → (by_script script past seat k ≡ true) ⊎ IsInside script past k
-    by (kinds.Post task runner delay ok) h = either (kinds.Post task runner delay ok) (and_parts _ _ h).0 (λ phase. refl)
-    by (kinds.Main task queue delay ok) h = either (kinds.Main task queue delay ok) (and_parts _ _ h).0 (λ phase. refl)
-    by (kinds.Tick now) h = inl (and_parts _ _ (and_parts _ _ h).0).0
-    by (kinds.Take task runner found) h = absurd (worker (take_is script past seat task runner found h).worker)
-    by (kinds.End task left) h = let w = end_is script past seat task left h in inr (runs (kinds.End task left) w.0 w.1 (λ phase. refl))
-    by (kinds.Enter task scope) h = inr (by_the_task (kinds.Enter task scope) h (λ phase. refl))
-    by (kinds.Leave task) h = inr (by_the_task (kinds.Leave task) h (λ phase. refl))
-    by (kinds.MainTake task queue found) h = inl (and_parts _ _ (and_parts _ _ h).0).0
-    by (kinds.MainEnd task left) h = let w = main_end_is script past seat task left h in inr (runs (kinds.MainEnd task left) w.0 w.1 (λ phase. refl))
-    by kinds.MainNone h = inl (and_parts _ _ h).0
-    by (kinds.JobPost job ok) h = inl (and_parts _ _ h).0
-    by (kinds.JobTake job id item) h = inl (⊎_elim (λ k. absurd (worker k.0.worker)) (λ k. k.0) (job_take_is script past seat job id item h))
-    by (kinds.JobStep job id item value next) h =
+    by_kind : (k : Kind) → may_come script past seat k ≡ true → (by_script script past seat k ≡ true) ⊎ IsInside script past k
+    by_kind (kinds.Post task runner delay ok) h = either (kinds.Post task runner delay ok) (and_parts _ _ h).0 (λ phase. refl)
+    by_kind (kinds.Main task queue delay ok) h = either (kinds.Main task queue delay ok) (and_parts _ _ h).0 (λ phase. refl)
+    by_kind (kinds.Tick now) h = inl (and_parts _ _ (and_parts _ _ h).0).0
+    by_kind (kinds.Take task runner found) h = absurd (worker (take_is script past seat task runner found h).worker)
+    by_kind (kinds.End task left) h = let w = end_is script past seat task left h in inr (runs (kinds.End task left) w.0 w.1 (λ phase. refl))
+    by_kind (kinds.Enter task scope) h = inr (by_the_task (kinds.Enter task scope) h (λ phase. refl))
+    by_kind (kinds.Leave task) h = inr (by_the_task (kinds.Leave task) h (λ phase. refl))
+    by_kind (kinds.MainTake task queue found) h = inl (and_parts _ _ (and_parts _ _ h).0).0
+    by_kind (kinds.MainEnd task left) h = let w = main_end_is script past seat task left h in inr (runs (kinds.MainEnd task left) w.0 w.1 (λ phase. refl))
+    by_kind kinds.MainNone h = inl (and_parts _ _ h).0
+    by_kind (kinds.JobPost job ok) h = inl (and_parts _ _ h).0
+    by_kind (kinds.JobTake job id item) h = inl (⊎_elim (λ k. absurd (worker k.0.worker)) (λ k. k.0) (job_take_is script past seat job id item h))
+    by_kind (kinds.JobStep job id item value next) h =
         let held = job_step_holds script past seat job id item value next h in
         inr (holds (kinds.JobStep job id item value next) held.0 held.1 (λ phase. refl))
-    by (kinds.Cancelled job) h = inl (and_parts _ _ (and_parts _ _ h).0).0
-    by (kinds.Joined job reply) h = inl (and_parts _ _ (and_parts _ _ h).0).0
-    by kinds.Idle h = inl (and_parts _ _ (and_parts _ _ h).0).0
-    by kinds.Done h = inl (and_parts _ _ (and_parts _ _ h).0).0
-    by k h = inl h
+    by_kind (kinds.Cancelled job) h = inl (and_parts _ _ (and_parts _ _ h).0).0
+    by_kind (kinds.Joined job reply) h = inl (and_parts _ _ (and_parts _ _ h).0).0
+    by_kind kinds.Idle h = inl (and_parts _ _ (and_parts _ _ h).0).0
+    by_kind kinds.Done h = inl (and_parts _ _ (and_parts _ _ h).0).0
+    by_kind k h = inl h
 
 -- The phase at each place of the driver.
 
@@ -159,15 +159,15 @@ moves own phase actions.Shutdown rest (y ∷ z ∷ made) seat kinds.Done w at = 
 moves own phase actions.Shutdown rest made seat kind w at = absurd cc
 moves own phase x rest made seat kinds.Shutdown w at = absurd cc
 moves own phase x rest made seat kinds.Done w at = absurd cc
-moves own phase x rest made seat kind w at = by (completes x made kind)
+moves own phase x rest made seat kind w at = by_completes (completes x made kind)
   where
     e : Entry
     e = record { seat = seat; kind = kind }
 
-    by : (b : Bool) → IsAtPhase phase (cond b (agenda_from rest []) (record { actions = x ∷ rest; made = made ++ e ∷ [] })).actions
+    by_completes : (b : Bool) → IsAtPhase phase (cond b (agenda_from rest []) (record { actions = x ∷ rest; made = made ++ e ∷ [] })).actions
         (cond b (agenda_from rest []) (record { actions = x ∷ rest; made = made ++ e ∷ [] })).made
-    by true = begins phase rest at
-    by false = at
+    by_completes true = begins phase rest at
+    by_completes false = at
 
 -- an entry inside a pump or a join that changes no phase
 inner_moves : (phase : Phase) (xs : List Action) (made : List Entry) (c : Current) (e : Entry) → first_of xs made ≡ Some c
@@ -178,18 +178,18 @@ inner_moves phase (x ∷ rest) made c e is inside at =
   where
     of_action : (y : Action) → (is_pump y || is_join y) ≡ true → IsAtPhase phase (y ∷ rest) made
         → IsAtPhase phase (next_agenda (y ∷ rest) made e).actions (next_agenda (y ∷ rest) made e).made
-    of_action (actions.Pump n) h now = by (completes (actions.Pump n) made e.kind)
+    of_action (actions.Pump n) h now = by_completes (completes (actions.Pump n) made e.kind)
       where
-        by : (b : Bool) → IsAtPhase phase (cond b (agenda_from rest []) (record { actions = actions.Pump n ∷ rest; made = made ++ e ∷ [] })).actions
+        by_completes : (b : Bool) → IsAtPhase phase (cond b (agenda_from rest []) (record { actions = actions.Pump n ∷ rest; made = made ++ e ∷ [] })).actions
             (cond b (agenda_from rest []) (record { actions = actions.Pump n ∷ rest; made = made ++ e ∷ [] })).made
-        by true = begins phase rest now
-        by false = now
-    of_action (actions.Join job) h now = by (completes (actions.Join job) made e.kind)
+        by_completes true = begins phase rest now
+        by_completes false = now
+    of_action (actions.Join job) h now = by_completes (completes (actions.Join job) made e.kind)
       where
-        by : (b : Bool) → IsAtPhase phase (cond b (agenda_from rest []) (record { actions = actions.Join job ∷ rest; made = made ++ e ∷ [] })).actions
+        by_completes : (b : Bool) → IsAtPhase phase (cond b (agenda_from rest []) (record { actions = actions.Join job ∷ rest; made = made ++ e ∷ [] })).actions
             (cond b (agenda_from rest []) (record { actions = actions.Join job ∷ rest; made = made ++ e ∷ [] })).made
-        by true = begins phase rest now
-        by false = now
+        by_completes true = begins phase rest now
+        by_completes false = now
     of_action y h now = absurd cc
 
 -- the phase fits the place of the driver
@@ -223,7 +223,7 @@ in_step : (script : Plan) (past : List Entry) → IsSound script → IsLegal scr
 in_step script past plan legal = legal_induction script (IsInStep script) (in_step_at_start script plan) next past legal
   where
     next : (before : List Entry) (e : Entry) → IsLegal script before → IsAllowed script before e → IsInStep script before → IsInStep script (before ++ e ∷ [])
-    next before e before_legal allowed now = rw (phase_of_push before e, own_entries_push before e 0) (by (eqb e.seat 0) refl)
+    next before e before_legal allowed now = rw (phase_of_push before e, own_entries_push before e 0) (by_seat (eqb e.seat 0) refl)
       where
         own : List Entry
         own = own_entries 0 before
@@ -231,10 +231,10 @@ in_step script past plan legal = legal_induction script (IsInStep script) (in_st
         may : may_come script before e.seat e.kind ≡ true
         may = (and_parts (leb e.seat script.workers) (may_come script before e.seat e.kind) allowed).1
 
-        by : (b : Bool) → eqb e.seat 0 ≡ b
+        by_seat : (b : Bool) → eqb e.seat 0 ≡ b
             → IsAtPhase (phase_after (phase_of before) e.kind) (agenda script (cond b (own ++ e ∷ []) own)).actions
             (agenda script (cond b (own ++ e ∷ []) own)).made
-        by true driver = rw (agenda_push script own e)
+        by_seat true driver = rw (agenda_push script own e)
             (⊎_elim wanted inside (driver_entry script before e.seat e.kind before_legal (eqb-true e.seat 0 driver) may))
           where
             Moved : Phase → Type 0
@@ -251,7 +251,7 @@ in_step script past plan legal = legal_induction script (IsInStep script) (in_st
             inside i = subst Moved (sym (i.still (phase_of before)))
                 (inner_moves (phase_of before) (agenda script own).actions (agenda script own).made i.now e
                 (sym (current_is_first script own) ∙ i.is) i.inside now)
-        by false other = rw (same_phase script before e.seat e.kind (phase_of before) other may) now
+        by_seat false other = rw (same_phase script before e.seat e.kind (phase_of before) other may) now
 
 -- the driver is at this kind of entry of its script
 abbrev IsDue : Plan → List Entry → Kind → Type 0

@@ -98,7 +98,7 @@ task_at script past kind d of h =
 pub driver_entry : (script : Plan) (past : List Entry) (kind : Kind) → DoesOneThing script past → may_come script past 0 kind ≡ true
     → (by_script script past 0 kind ≡ true) ⊎ IsAtWork script past kind
 unfolding may_come
-driver_entry script past kind d may = by kind may
+driver_entry script past kind d may = by_kind kind may
   where
     no_worker : 1 ≤ 0 → ⊥
     no_worker low = omega (arith, low)
@@ -107,27 +107,27 @@ driver_entry script past kind d may = by kind may
         → (by_script script past 0 k ≡ true) ⊎ IsAtWork script past k
     either k of h = ⊎_elim inl (λ task. inr (task_at script past k d of task)) (or_cases _ _ h)
 
-    by : (k : Kind) → may_come script past 0 k ≡ true → (by_script script past 0 k ≡ true) ⊎ IsAtWork script past k
-    by (kinds.Post task runner delay ok) h = either (kinds.Post task runner delay ok) refl (and_parts _ _ h).0
-    by (kinds.Main task queue delay ok) h = either (kinds.Main task queue delay ok) refl (and_parts _ _ h).0
-    by (kinds.Tick now) h = inl (and_parts _ _ (and_parts _ _ h).0).0
-    by (kinds.Take task runner value) h = absurd (no_worker (take_is script past 0 task runner value h).worker)
-    by (kinds.End task left) h = let w = end_is script past 0 task left h in inr (runs_at script past (kinds.End task left) w.0 d refl w.1)
-    by (kinds.Enter task scope) h = inr (task_at script past (kinds.Enter task scope) d refl h)
-    by (kinds.Leave task) h = inr (task_at script past (kinds.Leave task) d refl h)
-    by (kinds.MainTake task queue value) h = inl (and_parts _ _ (and_parts _ _ h).0).0
-    by (kinds.MainEnd task left) h = let w = main_end_is script past 0 task left h in inr (runs_at script past (kinds.MainEnd task left) w.0 d refl w.1)
-    by kinds.MainNone h = inl (and_parts _ _ h).0
-    by (kinds.JobPost job ok) h = inl (and_parts _ _ h).0
-    by (kinds.JobTake job id item) h = ⊎_elim (λ k. absurd (no_worker k.0.worker)) (λ k. inl k.0) (job_take_is script past 0 job id item h)
-    by (kinds.JobStep job id item value next) h =
+    by_kind : (k : Kind) → may_come script past 0 k ≡ true → (by_script script past 0 k ≡ true) ⊎ IsAtWork script past k
+    by_kind (kinds.Post task runner delay ok) h = either (kinds.Post task runner delay ok) refl (and_parts _ _ h).0
+    by_kind (kinds.Main task queue delay ok) h = either (kinds.Main task queue delay ok) refl (and_parts _ _ h).0
+    by_kind (kinds.Tick now) h = inl (and_parts _ _ (and_parts _ _ h).0).0
+    by_kind (kinds.Take task runner value) h = absurd (no_worker (take_is script past 0 task runner value h).worker)
+    by_kind (kinds.End task left) h = let w = end_is script past 0 task left h in inr (runs_at script past (kinds.End task left) w.0 d refl w.1)
+    by_kind (kinds.Enter task scope) h = inr (task_at script past (kinds.Enter task scope) d refl h)
+    by_kind (kinds.Leave task) h = inr (task_at script past (kinds.Leave task) d refl h)
+    by_kind (kinds.MainTake task queue value) h = inl (and_parts _ _ (and_parts _ _ h).0).0
+    by_kind (kinds.MainEnd task left) h = let w = main_end_is script past 0 task left h in inr (runs_at script past (kinds.MainEnd task left) w.0 d refl w.1)
+    by_kind kinds.MainNone h = inl (and_parts _ _ h).0
+    by_kind (kinds.JobPost job ok) h = inl (and_parts _ _ h).0
+    by_kind (kinds.JobTake job id item) h = ⊎_elim (λ k. absurd (no_worker k.0.worker)) (λ k. inl k.0) (job_take_is script past 0 job id item h)
+    by_kind (kinds.JobStep job id item value next) h =
         let held = job_step_holds script past 0 job id item value next h in
         inr (holds_at script past (kinds.JobStep job id item value next) held.0 d refl held.1)
-    by (kinds.Cancelled job) h = inl (and_parts _ _ (and_parts _ _ h).0).0
-    by (kinds.Joined job reply) h = inl (and_parts _ _ (and_parts _ _ h).0).0
-    by kinds.Idle h = inl (and_parts _ _ (and_parts _ _ h).0).0
-    by kinds.Done h = inl (and_parts _ _ (and_parts _ _ h).0).0
-    by k h = inl h
+    by_kind (kinds.Cancelled job) h = inl (and_parts _ _ (and_parts _ _ h).0).0
+    by_kind (kinds.Joined job reply) h = inl (and_parts _ _ (and_parts _ _ h).0).0
+    by_kind kinds.Idle h = inl (and_parts _ _ (and_parts _ _ h).0).0
+    by_kind kinds.Done h = inl (and_parts _ _ (and_parts _ _ h).0).0
+    by_kind k h = inl h
 
 -- An entry of the driver posts a job exactly where the driver is at the start of it.
 
@@ -184,18 +184,18 @@ next_starts : (j : ℕ) (xs : List Action) (made : List Entry) (e : Entry)
     → posts_job j e.kind ≡ holds_of (λ c. is_start_of j c.action) (first_of xs made)
     → cond (posts_job j e.kind) 1 0 + count (is_start_of j) (next_agenda xs made e).actions ≡ count (is_start_of j) xs
 next_starts j [] made e same = rw same (omega arith)
-next_starts j (x ∷ xs) made e same = rw same (by (completes x made e.kind) refl)
+next_starts j (x ∷ xs) made e same = rw same (by_completes (completes x made e.kind) refl)
   where
-    by : (b : Bool) → completes x made e.kind ≡ b
+    by_completes : (b : Bool) → completes x made e.kind ≡ b
         → cond (is_start_of j x) 1 0 + count (is_start_of j) (cond b (agenda_from xs []) (record { actions = x ∷ xs; made = made ++ e ∷ [] })).actions
         ≡ count (is_start_of j) (x ∷ xs)
-    by true is = omega (arith, fresh_starts j xs, count-cons (is_start_of j) x xs)
-    by false is = rw (goes_on_starts j x made e.kind is) (omega arith)
+    by_completes true is = omega (arith, fresh_starts j xs, count-cons (is_start_of j) x xs)
+    by_completes false is = rw (goes_on_starts j x made e.kind is) (omega arith)
 
 -- how often a job was posted and is left to be started
 law_next : (script : Plan) (past : List Entry) (e : Entry) (j : ℕ) → IsLegal script past → IsAllowed script past e
     → cond (posts_job j e.kind) 1 0 + starts_left script (past ++ e ∷ []) j ≡ starts_left script past j
-law_next script past e j legal allowed = by (eqb e.seat 0) refl
+law_next script past e j legal allowed = by_seat (eqb e.seat 0) refl
   where
     own : List Entry
     own = own_entries 0 past
@@ -207,9 +207,9 @@ law_next script past e j legal allowed = by (eqb e.seat 0) refl
     posts_here driver = driver_starts script past j e.kind (legal_does_one_thing script past legal)
         (subst (λ s. may_come script past s e.kind ≡ true) driver may)
 
-    by : (b : Bool) → eqb e.seat 0 ≡ b → cond (posts_job j e.kind) 1 0 + starts_left script (past ++ e ∷ []) j ≡ starts_left script past j
-    by false other = rw (own_entries_push past e 0, other, worker_posts script past e.seat j e.kind may other) (omega arith)
-    by true driver = rw (own_entries_push past e 0, driver, agenda_push script own e)
+    by_seat : (b : Bool) → eqb e.seat 0 ≡ b → cond (posts_job j e.kind) 1 0 + starts_left script (past ++ e ∷ []) j ≡ starts_left script past j
+    by_seat false other = rw (own_entries_push past e 0, other, worker_posts script past e.seat j e.kind may other) (omega arith)
+    by_seat true driver = rw (own_entries_push past e 0, driver, agenda_push script own e)
         (next_starts j (agenda script own).actions (agenda script own).made e
         (posts_here (eqb-true e.seat 0 driver) ∙ ap (holds_of (λ c. is_start_of j c.action)) (current_is_first script own)))
 
@@ -240,24 +240,24 @@ no_post_is script past j = legal_induction script (λ before. is_none (job_post_
     next : (before : List Entry) (e : Entry) → IsLegal script before → IsAllowed script before e
         → is_none (job_post_of before j) ≡ eqb (job_posts before j) 0 → is_none (job_post_of (before ++ e ∷ []) j) ≡ eqb (job_posts (before ++ e ∷ []) j) 0
     next before e legal allowed known = rw (job_post_of_push before e j, count-push (λ x. posts_job j x.kind) before e)
-        (by (job_post_of before j) e.kind (job_posts before j) known)
+        (by_job_post (job_post_of before j) e.kind (job_posts before j) known)
       where
         more : (n : ℕ) → false ≡ eqb (n + 1) 0
         more n = sym (ne_eqb (n + 1) 0 (λ is. omega (arith, is)))
 
-        by : (o : Option JobPosted) (kind : Kind) (n : ℕ) → is_none o ≡ eqb n 0
+        by_job_post : (o : Option JobPosted) (kind : Kind) (n : ℕ) → is_none o ≡ eqb n 0
             → is_none (job_post_after j before o kind) ≡ eqb (n + cond (posts_job j kind) 1 0) 0
-        by None (kinds.JobPost job ok) n k = new (eqb job j)
+        by_job_post None (kinds.JobPost job ok) n k = new (eqb job j)
           where
             new : (b : Bool) → is_none {T = JobPosted} (cond b (Some (record { place = length before; ok = ok })) None) ≡ eqb (n + cond b 1 0) 0
             new true = more n
             new false = let same : n + 0 ≡ n = omega arith in rw same k
-        by (Some p) (kinds.JobPost job ok) n k = again (eqb job j)
+        by_job_post (Some p) (kinds.JobPost job ok) n k = again (eqb job j)
           where
             again : (b : Bool) → false ≡ eqb (n + cond b 1 0) 0
             again true = more n
             again false = let same : n + 0 ≡ n = omega arith in rw same k
-        by o kind n k = let same : n + 0 ≡ n = omega arith in rw same k
+        by_job_post o kind n k = let same : n + 0 ≡ n = omega arith in rw same k
 
 -- What follows for the job that the driver posts, joins or cancels.
 
@@ -301,13 +301,13 @@ start_before j front x order h = absurd cc
 -- what the driver has left is behind the actions that are complete
 agenda_front : (xs : List Action) (own : List Entry) → (front : List Action) × (xs ≡ front ++ (agenda_from xs own).actions)
 agenda_front [] own = ([], refl)
-agenda_front (x ∷ xs) own = by (behind_action x own) (agenda_front xs)
+agenda_front (x ∷ xs) own = by_behind_action (behind_action x own) (agenda_front xs)
   where
-    by : (o : Option (List Entry)) → ((left : List Entry) → (front : List Action) × (xs ≡ front ++ (agenda_from xs left).actions))
+    by_behind_action : (o : Option (List Entry)) → ((left : List Entry) → (front : List Action) × (xs ≡ front ++ (agenda_from xs left).actions))
         → (front : List Action)
         × (x ∷ xs ≡ front ++ (option_map_or (λ left. agenda_from xs left) o (record { actions = x ∷ xs; made = own })).actions)
-    by None next = ([], refl)
-    by (Some left) next = let (front, is) = next left in (x ∷ front, ap (λ ys. x ∷ ys) is)
+    by_behind_action None next = ([], refl)
+    by_behind_action (Some left) next = let (front, is) = next left in (x ∷ front, ap (λ ys. x ∷ ys) is)
 
 first_is : (xs : List Action) (made : List Entry) (c : Current) → first_of xs made ≡ Some c → (rest : List Action) × (xs ≡ c.action ∷ rest)
 first_is [] made c h = absurd (none-some c h)
@@ -317,7 +317,7 @@ first_is (x ∷ rest) made c h = (rest, ap (λ (d : Current). d.action ∷ rest)
 pub joined_was_posted : (script : Plan) (past : List Entry) (j : ℕ) (c : Current) → IsSound script → IsLegal script past
     → current script (own_entries 0 past) ≡ Some c → follows_start j c.action ≡ true → (p : JobPosted) × (job_post_of past j ≡ Some p)
 unfolding agenda
-joined_was_posted script past j c sound legal now follows = by (job_post_of past j) refl
+joined_was_posted script past j c sound legal now follows = by_job_post (job_post_of past j) refl
   where
     own : List Entry
     own = own_entries 0 past
@@ -336,9 +336,9 @@ joined_was_posted script past j c sound legal now follows = by (job_post_of past
         (sound.actions.in_order (length before.0) c.action
         (ap (λ xs. slice_get xs (length before.0)) all ∙ slice_get_seam before.0 c.action here.0))
 
-    by : (o : Option JobPosted) → job_post_of past j ≡ o → (p : JobPosted) × (job_post_of past j ≡ Some p)
-    by (Some p) is = (p, is)
-    by None is =
+    by_job_post : (o : Option JobPosted) → job_post_of past j ≡ o → (p : JobPosted) × (job_post_of past j ≡ Some p)
+    by_job_post (Some p) is = (p, is)
+    by_job_post None is =
         let none : job_posts past j ≡ 0 = eqb-true _ _ (sym (no_post_is script past j legal) ∙ ap is_none is) in
         let starts : count (is_start_of j) before.0 ≡ 0 = omega (
           arith,

@@ -35,23 +35,23 @@ use Rattle.env_core.specs.Waits.{has_come, may_go_on}
 
 -- a free seat does no work of the pool
 free_rests : (past : List Entry) (seat : ℕ) → is_free past seat ≡ true → is_working past seat ≡ false
-free_rests past seat free = by (running past seat) (holding past seat) free
+free_rests past seat free = by_running (running past seat) (holding past seat) free
   where
-    by : (r : Option Running) (h : Option Holding) → (is_none r && is_none h) ≡ true → (holds_of (λ w. not w.is_main) r || is_some h) ≡ false
-    by None None none = refl
-    by None (Some h) none = absurd cc
-    by (Some w) h none = absurd cc
+    by_running : (r : Option Running) (h : Option Holding) → (is_none r && is_none h) ≡ true → (holds_of (λ w. not w.is_main) r || is_some h) ≡ false
+    by_running None None none = refl
+    by_running None (Some h) none = absurd cc
+    by_running (Some w) h none = absurd cc
 
 -- where each is none, there is none that is some
 none_some : {A B : Type 0} (f : A → Option B) (xs : List A) → list_all (λ x. is_none (f x)) xs ≡ true → list_any (λ x. is_some (f x)) xs ≡ false
 none_some f [] none = refl
-none_some f (x ∷ xs) none = by (f x) none (none_some f xs)
+none_some f (x ∷ xs) none = by_image (f x) none (none_some f xs)
   where
-    by : {B : Type 0} (o : Option B) → (is_none o && list_all (λ y. is_none (f y)) xs) ≡ true
+    by_image : {B : Type 0} (o : Option B) → (is_none o && list_all (λ y. is_none (f y)) xs) ≡ true
         → (list_all (λ y. is_none (f y)) xs ≡ true → list_any (λ y. is_some (f y)) xs ≡ false)
         → (is_some o || list_any (λ y. is_some (f y)) xs) ≡ false
-    by None rest next = next rest
-    by (Some y) rest next = absurd cc
+    by_image None rest next = next rest
+    by_image (Some y) rest next = absurd cc
 
 -- where the pool may be idle, no worker works and none may take a source
 idle_at : (script : Plan) (past : List Entry) (seat : ℕ) → may_come script past seat kinds.Idle ≡ true
@@ -153,12 +153,12 @@ module _ (script : Plan) (past : List Entry) where
   -- the driver runs nothing, and what it waits for has not come
   pub driver_enters_nothing : (kind : Kind) → is_free past 0 ≡ true → may_go_on script past ≡ false → may_come script past 0 kind ≡ false
   unfolding may_go_on by_script is_wanted
-  driver_enters_nothing kind free waits = by (current script (own_entries 0 past)) refl waits
+  driver_enters_nothing kind free waits = by_current (current script (own_entries 0 past)) refl waits
     where
-      by : (o : Option Current) → current script (own_entries 0 past) ≡ o
+      by_current : (o : Option Current) → current script (own_entries 0 past) ≡ o
           → option_map_or (λ c. has_come script past c.action (length c.made)) o true ≡ false → may_come script past 0 kind ≡ false
-      by None is come = absurd cc
-      by (Some c) is come = wanted (wants (own_entries 0 past) c.action c.made kind) refl
+      by_current None is come = absurd cc
+      by_current (Some c) is come = wanted (wants (own_entries 0 past) c.action c.made kind) refl
         where
           wanted : (b : Bool) → wants (own_entries 0 past) c.action c.made kind ≡ b → may_come script past 0 kind ≡ false
           wanted true wants_it = nothing_wanted c.action c.made kind come wants_it

@@ -1,32 +1,33 @@
 -- What the driver waits for, by the action at its place in the script, and what the pool answers about it.
-use Rattle.env_core.proofs.Driver.{action_at, made_at}
+use Rattle.hist_model.proofs.Laws.BySound.{current_is_one}
 use Rattle.env_core.specs.Agenda.{counted}
-use Rattle.env_core.specs.Holds.{Holds, IsAt}
 use Rattle.env_core.specs.Views.{EnvView}
 use Rattle.env_core.specs.Waits.{has_come, may_go_on}
 use Rattle.hist_model.specs.Script.{Current, current}
 use Rattle.hist_model.specs.Views.{own_entries}
-use Rattle.list_laws.proofs.Elements.{slice_get_all}
 use Rattle.pool_core.specs.JobCalls.{KnowsJob}
+use Rattle.pool_core.specs.StandsFor.{StandsFor}
 use Rattle.pool_core.specs.declared.pool.Pool.{Pool}
-use Rattle.sequence_manager.specs.declared.manager.Manager.{Manager}
-use Rattle.script_model.specs.Laws.Sound.{IsActionSound}
+use Rattle.script_model.specs.Laws.Sound.{IsActionSound, IsSound}
 use Rattle.std.proofs.Common.{Bool, List, None, Option, Some, [], ap, false, length, refl, subst, sym, true, ℕ, ◌<◌, ◌∙◌, ◌∷◌, ◌≡◌}
 use Rattle.std.proofs.lemmas.Bool.{ne_eqb, not-true, not_from_false, or_right}
 use Rattle.std.proofs.lemmas.Bool.Decides.{same_from_decides, Decides-and, Decides-eqb}
+use Rattle.std.proofs.lemmas.Option.{none-some, same_Some}
 use Rattle.std.specs.Option.{IfSome, option_map, option_map_or}
 use Rattle.std.specs.Prelude.{◌↔◌, ◌==◌, ◌&&◌, ◌||◌, not, IsOk, Result, is_ok, is_some}
 use Rattle.task_base.specs.Plan.{Plan}
-use Rattle.task_base.specs.Rows.{Listed}
 use Rattle.task_base.specs.declared.entry.Entry.{Entry}
 use Rattle.task_base.specs.declared.entry.JobReply.{JobReply}
 use Rattle.task_base.specs.declared.script.Action.{Action}
 use Rattle.task_base.specs.declared.script.Action.TheVariants as actions
-use Rattle.task_base.specs.declared.step.Step.{Step}
 
 -- the action that the driver is at
-abbrev pub IsDriversAction : Plan → List Entry → Option Action → Type 0
-IsDriversAction script past x = x ≡ option_map (λ (c : Current). c.action) (current script (own_entries 0 past))
+abbrev pub IsDriversAction : EnvView → Option Action → Type 0
+IsDriversAction view x = x ≡ option_map (λ (c : Current). c.action) (current view.script (own_entries 0 view.history))
+
+-- it has made so many entries that count
+abbrev pub HasMade : EnvView → ℕ → Type 0
+HasMade view made = IfSome (current view.script (own_entries 0 view.history)) (λ c. made ≡ counted (c.action ∷ []) c.made)
 
 -- all entries count of an action whose waiting asks how many it has made
 counts_alike : (script : Plan) (past : List Entry) (x : Action) (made : List Entry)
@@ -36,54 +37,45 @@ counts_alike script past (actions.Join job) made = refl
 counts_alike script past x made = refl
 
 -- the driver waits for what its action waits for
-pub waits_at : {script : Plan} {past : List Entry} {place made : ℕ} (x : Option Action) → IsAt script past place made → IsDriversAction script past x
-    → may_go_on script past ≡ option_map_or (λ y. has_come script past y made) x true
+pub waits_at : (view : EnvView) (made : ℕ) (x : Option Action) → HasMade view made → IsDriversAction view x
+    → may_go_on view.script view.history ≡ option_map_or (λ y. has_come view.script view.history y made) x true
 unfolding may_go_on
-waits_at {script = script} {past = past} {place = place} {made = made} x at is =
-    rw is (by (current script (own_entries 0 past)) (made_at script past place made at))
+waits_at view made x counts is = rw is (by_current (current view.script (own_entries 0 view.history)) counts)
   where
-    by : (o : Option Current) → IfSome o (λ c. made ≡ counted (c.action ∷ []) c.made)
-        → option_map_or (λ c. has_come script past c.action (length c.made)) o true
-        ≡ option_map_or (λ y. has_come script past y made) (option_map (λ (c : Current). c.action) o) true
-    by None counts = refl
-    by (Some c) counts = rw counts (counts_alike script past c.action c.made)
+    by_current : (o : Option Current) → IfSome o (λ c. made ≡ counted (c.action ∷ []) c.made)
+        → option_map_or (λ c. has_come view.script view.history c.action (length c.made)) o true
+        ≡ option_map_or (λ y. has_come view.script view.history y made) (option_map (λ (c : Current). c.action) o) true
+    by_current None counts = refl
+    by_current (Some c) counts = rw counts (counts_alike view.script view.history c.action c.made)
 
 -- the driver waits for what this action waits for
-pub waits_for : {X : Type 0} {bodies : List (Option X)} {whole rest : X → List Step} {script : Plan} {log : Listed Entry} {pool : Pool}
-    {manager : Manager} {place made : ℕ}
-    {view : EnvView} {x : Option Action} {y action : Action} → Holds bodies whole rest script log pool manager place made
-    → record { script = script; history = log.items } ≡ view → IsDriversAction view.script view.history x → x ≡ Some y → y ≡ action
-    → may_go_on view.script view.history ≡ has_come script log.items action made
-waits_for {script = script} {log = log} {made = made} {x = x} holds same is some named =
-    let driver : IsDriversAction script log.items x = subst (λ (v : EnvView). IsDriversAction v.script v.history x) (sym same) is in
-    rw (← same, ← named) (waits_at x holds.driver driver ∙ rw some refl)
+pub waits_for : (view : EnvView) (made : ℕ) {x : Option Action} {y action : Action} → HasMade view made → IsDriversAction view x → x ≡ Some y → y ≡ action
+    → may_go_on view.script view.history ≡ has_come view.script view.history action made
+waits_for view made {x = x} counts is some named = rw (← named) (waits_at view made x counts is ∙ rw some refl)
 
 -- a driver that is at no action waits for nothing
-pub waits_for_none : {X : Type 0} {bodies : List (Option X)} {whole rest : X → List Step} {script : Plan} {log : Listed Entry} {pool : Pool}
-    {manager : Manager} {place made : ℕ}
-    {view : EnvView} {x : Option Action} → Holds bodies whole rest script log pool manager place made → record { script = script; history = log.items } ≡ view
-    → IsDriversAction view.script view.history x → ((y : Action) → x ≡ Some y → ⊥) → may_go_on view.script view.history ≡ true
-waits_for_none {script = script} {log = log} {made = made} {x = x} holds same is none =
-    let driver : IsDriversAction script log.items x = subst (λ (v : EnvView). IsDriversAction v.script v.history x) (sym same) is in
-    rw (← same) (waits_at x holds.driver driver ∙ by x none)
+pub waits_for_none : (view : EnvView) (made : ℕ) {x : Option Action} → HasMade view made → IsDriversAction view x → ((y : Action) → x ≡ Some y → ⊥)
+    → may_go_on view.script view.history ≡ true
+waits_for_none view made {x = x} counts is none = waits_at view made x counts is ∙ by_action x none
   where
-    by : (o : Option Action) → ((y : Action) → o ≡ Some y → ⊥) → option_map_or (λ y. has_come script log.items y made) o true ≡ true
-    by None none = refl
-    by (Some y) none = absurd (none y refl)
+    by_action : (o : Option Action) → ((y : Action) → o ≡ Some y → ⊥) → option_map_or (λ y. has_come view.script view.history y made) o true ≡ true
+    by_action None none = refl
+    by_action (Some y) none = absurd (none y refl)
 
 -- the job that the driver's action names is declared
-pub knows_its_job : {X : Type 0} {bodies : List (Option X)} {whole rest : X → List Step} {script : Plan} {log : Listed Entry} {pool : Pool}
-    {manager : Manager} {place made : ℕ}
-    {view : EnvView} {x : Option Action} {y action : Action} (job : ℕ) → Holds bodies whole rest script log pool manager place made
-    → record { script = script; history = log.items } ≡ view → IsDriversAction view.script view.history x → x ≡ Some y → y ≡ action
-    → (IsActionSound script action → job < length script.jobs) → KnowsJob script log.items pool job
-knows_its_job {script = script} {log = log} {place = place} {made = made} {x = x} job holds same is some named names =
-    let driver : IsDriversAction script log.items x = subst (λ (v : EnvView). IsDriversAction v.script v.history x) (sym same) is in
-    record {
-      stands = holds.stands;
-      declared = names (subst (λ o. IfSome o (IsActionSound script)) (action_at script log.items place made holds.driver ∙ sym driver ∙ some ∙ ap Some named)
-          (slice_get_all (IsActionSound script) script.actions place holds.plan.actions.each_sound));
-    }
+pub knows_its_job : {view : EnvView} {pool : Pool} {x : Option Action} {y action : Action} (job : ℕ) → IsSound view.script
+    → StandsFor view.script view.history pool → IsDriversAction view x → x ≡ Some y → y ≡ action
+    → (IsActionSound view.script action → job < length view.script.jobs) → KnowsJob view.script view.history pool job
+knows_its_job {view = view} {action = action} job plan stands is some named names = record {
+  stands = stands;
+  declared = names (by_current (current view.script (own_entries 0 view.history)) refl (sym is ∙ some ∙ ap Some named));
+}
+  where
+    by_current : (o : Option Current) → current view.script (own_entries 0 view.history) ≡ o → option_map (λ (c : Current). c.action) o ≡ Some action
+        → IsActionSound view.script action
+    by_current None now same = absurd (none-some action same)
+    by_current (Some c) now same = subst (IsActionSound view.script) (same_Some c.action action same)
+        (current_is_one (IsActionSound view.script) view.script (own_entries 0 view.history) c plan.actions.each_sound now)
 
 -- an action that is none of these waits for nothing
 pub others_wait_not : (script : Plan) (past : List Entry) (made : ℕ) (x : Action) → (x ≡ actions.Flush → ⊥) → ((job : ℕ) → x ≡ actions.Join job → ⊥)

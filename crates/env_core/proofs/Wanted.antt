@@ -1,13 +1,15 @@
 -- What is known of an entry that the script wants next, or that is the next act step of a task: it may come.
-use Rattle.env_core.proofs.Plans.{act_is, action_is, by_next, driver_holds_nothing, driver_runs_nothing, entered_by, enters_main, enters_post}
+use Rattle.hist_model.proofs.Laws.BySound.{current_is_one}
+use Rattle.hist_model.proofs.Laws.Progress.Pump.{none_open}
+use Rattle.env_core.proofs.Plans.{act_is, by_next, driver_holds_nothing, driver_runs_nothing, entered_by, enters_main, enters_post}
 use Rattle.env_core.proofs.Plans.{free_where_none_runs, main_runs, steps_are, wants_main, wants_post}
-use Rattle.env_core.proofs.Queues.{action_posts, none_open, step_posts}
+use Rattle.env_core.proofs.Queues.{action_posts, step_posts}
 use Rattle.env_core.proofs.Shutdown.{at_done, at_start}
 use Rattle.env_core.specs.Calls.{CanEnd, CanEndMain, IsFreeWorker, IsIdle, IsNextAct, IsWantedNext, act_of, entry_of, lets_in}
 use Rattle.env_core.specs.Views.{EnvView}
 use Rattle.hist_model.proofs.Laws.OneThing.{wanted_by}
 use Rattle.hist_model.proofs.Laws.Own.{acts_done_own, holding_own, running_own}
-use Rattle.hist_model.proofs.Laws.PostedOnce.{a_posted_task_is_new}
+use Rattle.hist_model.proofs.Laws.Postings.Once.{a_posted_task_is_new}
 use Rattle.hist_model.specs.Allowed.{IsAllowed, by_script, by_task, enters, is_reply, may_come, same_scope}
 use Rattle.hist_model.specs.Legal.{IsLegal}
 use Rattle.hist_model.specs.Script.{is_finished, is_wanted, wants}
@@ -31,10 +33,8 @@ use Rattle.task_base.specs.Steps.{after, is_act}
 use Rattle.task_base.specs.declared.entry.Entry.{Entry}
 use Rattle.task_base.specs.declared.entry.Kind.{Kind}
 use Rattle.task_base.specs.declared.limits.TheConstants.{LAST_MOMENT, MOST_MICROSECONDS}
-use Rattle.task_base.specs.declared.policy.Policy.{Policy}
 use Rattle.task_traits.specs.declared.traits.Priority.{Priority}
 use Rattle.task_base.specs.declared.script.Action.{Action}
-use Rattle.task_base.specs.declared.script.FenceAt.{FenceAt}
 use Rattle.task_base.specs.declared.script.MainQueue.{MainQueue}
 use Rattle.task_base.specs.declared.step.Scope.{Scope}
 use Rattle.task_base.specs.declared.step.Scope.TheVariants.{May, Will}
@@ -61,7 +61,7 @@ known_allowed : (view : EnvView) (seat : ℕ) (kind : Kind) → seat ≤ view.sc
 known_allowed view seat kind known may = rw (le-leb seat view.script.workers known, may) refl
 
 -- an entry of the driver's seat that may come is allowed
-driver_allowed : (view : EnvView) (seat : ℕ) (kind : Kind) → seat ≡ 0 → may_come view.script view.history seat kind ≡ true
+pub driver_allowed : (view : EnvView) (seat : ℕ) (kind : Kind) → seat ≡ 0 → may_come view.script view.history seat kind ≡ true
     → IsAllowed view.script view.history (record { seat = seat; kind = kind })
 driver_allowed view seat kind driver = known_allowed view seat kind (omega (arith, driver))
 
@@ -108,40 +108,39 @@ main_post_allowed view seat task queue delay ok next reply = driver_allowed view
     (main_may_come view.script view.history seat task queue delay ok
     (rw (wanted_by_script view seat (kinds.Main task queue delay ok) next) refl) reply)
 
--- a fence that the script wants
-pub fence_allowed : (view : EnvView) (seat queue : ℕ) (at : FenceAt) → IsWantedNext view seat (kinds.Fence queue at)
-    → IsAllowed view.script view.history (record { seat = seat; kind = kinds.Fence queue at })
-unfolding may_come
-fence_allowed view seat queue at next =
-    driver_allowed view seat (kinds.Fence queue at) next.driver (wanted_by_script view seat (kinds.Fence queue at) next)
+-- whether the rules ask no more of such an entry of the driver than that the script wants it
+abbrev pub is_plain : Kind → Bool
+is_plain (kinds.Policy policy) = true
+is_plain (kinds.Reprio runner priority) = true
+is_plain (kinds.Fence queue at) = true
+is_plain (kinds.Unfence queue) = true
+is_plain (kinds.Vote queue voter on) = true
+is_plain (kinds.Rank queue class) = true
+is_plain (kinds.Close queue) = true
+is_plain kinds.Shutdown = true
+is_plain (kinds.JobCancel job) = true
+is_plain kind = false
 
--- the removal of a fence that the script wants
-pub unfence_allowed : (view : EnvView) (seat queue : ℕ) → IsWantedNext view seat (kinds.Unfence queue)
-    → IsAllowed view.script view.history (record { seat = seat; kind = kinds.Unfence queue })
+-- it may come where the script wants it
+plain_may_come : (script : Plan) (past : List Entry) (seat : ℕ) (kind : Kind) → is_plain kind ≡ true → by_script script past seat kind ≡ true
+    → may_come script past seat kind ≡ true
 unfolding may_come
-unfence_allowed view seat queue next =
-    driver_allowed view seat (kinds.Unfence queue) next.driver (wanted_by_script view seat (kinds.Unfence queue) next)
+plain_may_come script past seat (kinds.Policy policy) is by = by
+plain_may_come script past seat (kinds.Reprio runner priority) is by = by
+plain_may_come script past seat (kinds.Fence queue at) is by = by
+plain_may_come script past seat (kinds.Unfence queue) is by = by
+plain_may_come script past seat (kinds.Vote queue voter on) is by = by
+plain_may_come script past seat (kinds.Rank queue class) is by = by
+plain_may_come script past seat (kinds.Close queue) is by = by
+plain_may_come script past seat kinds.Shutdown is by = by
+plain_may_come script past seat (kinds.JobCancel job) is by = by
+plain_may_come script past seat kind is by = absurd cc
 
--- a vote that the script wants
-pub vote_allowed : (view : EnvView) (seat queue voter : ℕ) (on : Bool) → IsWantedNext view seat (kinds.Vote queue voter on)
-    → IsAllowed view.script view.history (record { seat = seat; kind = kinds.Vote queue voter on })
-unfolding may_come
-vote_allowed view seat queue voter on next =
-    driver_allowed view seat (kinds.Vote queue voter on) next.driver (wanted_by_script view seat (kinds.Vote queue voter on) next)
-
--- a new class that the script wants
-pub rank_allowed : (view : EnvView) (seat queue class : ℕ) → IsWantedNext view seat (kinds.Rank queue class)
-    → IsAllowed view.script view.history (record { seat = seat; kind = kinds.Rank queue class })
-unfolding may_come
-rank_allowed view seat queue class next =
-    driver_allowed view seat (kinds.Rank queue class) next.driver (wanted_by_script view seat (kinds.Rank queue class) next)
-
--- the closing of a main queue that the script wants
-pub close_allowed : (view : EnvView) (seat queue : ℕ) → IsWantedNext view seat (kinds.Close queue)
-    → IsAllowed view.script view.history (record { seat = seat; kind = kinds.Close queue })
-unfolding may_come
-close_allowed view seat queue next =
-    driver_allowed view seat (kinds.Close queue) next.driver (wanted_by_script view seat (kinds.Close queue) next)
+-- so it is allowed
+pub plain_allowed : (view : EnvView) (seat : ℕ) (kind : Kind) → IsWantedNext view seat kind → is_plain kind ≡ true
+    → IsAllowed view.script view.history (record { seat = seat; kind = kind })
+plain_allowed view seat kind next is = driver_allowed view seat kind next.driver
+    (plain_may_come view.script view.history seat kind is (wanted_by_script view seat kind next))
 
 -- inside a pump, the script wants the take of any main task where it wants that none is found
 take_wanted : (own : List Entry) (x : Action) (made : List Entry) (task queue value : ℕ) → wants own x made kinds.MainNone ≡ true
@@ -211,25 +210,6 @@ pub tick_allowed : (view : EnvView) (seat moment : ℕ) → IsWantedNext view se
 unfolding may_come
 tick_allowed view seat moment next later last = driver_allowed view seat (kinds.Tick moment) next.driver
     (rw (wanted_by_script view seat (kinds.Tick moment) next, le-leb (now_of view.history) moment later, le-leb moment LAST_MOMENT last) refl)
-
--- a policy that the script wants
-pub policy_allowed : (view : EnvView) (seat : ℕ) (policy : Policy) → IsWantedNext view seat (kinds.Policy policy)
-    → IsAllowed view.script view.history (record { seat = seat; kind = kinds.Policy policy })
-unfolding may_come
-policy_allowed view seat policy next = driver_allowed view seat (kinds.Policy policy) next.driver (wanted_by_script view seat (kinds.Policy policy) next)
-
--- a changed priority that the script wants
-pub reprio_allowed : (view : EnvView) (seat runner : ℕ) (priority : Priority) → IsWantedNext view seat (kinds.Reprio runner priority)
-    → IsAllowed view.script view.history (record { seat = seat; kind = kinds.Reprio runner priority })
-unfolding may_come
-reprio_allowed view seat runner priority next =
-    driver_allowed view seat (kinds.Reprio runner priority) next.driver (wanted_by_script view seat (kinds.Reprio runner priority) next)
-
--- the start of shutdown that the script wants
-pub shutdown_allowed : (view : EnvView) (seat : ℕ) → IsWantedNext view seat kinds.Shutdown
-    → IsAllowed view.script view.history (record { seat = seat; kind = kinds.Shutdown })
-unfolding may_come
-shutdown_allowed view seat next = driver_allowed view seat kinds.Shutdown next.driver (wanted_by_script view seat kinds.Shutdown next)
 
 -- the end of shutdown, where it has started and nothing blocks it
 pub done_allowed : (view : EnvView) (seat : ℕ) → IsWantedNext view seat kinds.Done → phase_of view.history ≡ phases.Started
@@ -385,7 +365,7 @@ post_is_sound script past seat task runner delay ok plan legal allowed =
     by_the_script wanted =
         let c = wanted_by script past seat (kinds.Post task runner delay ok) wanted in
         subst (IsActionSound script) (wants_post (own_entries 0 past) c.value.action c.value.made task runner delay ok c.passes)
-        (action_is (IsActionSound script) script (own_entries 0 past) c.value plan.actions.each_sound c.is)
+        (current_is_one (IsActionSound script) script (own_entries 0 past) c.value plan.actions.each_sound c.is)
 
     by_the_task : by_task script past seat (kinds.Post task runner delay ok) ≡ true → IsActionSound script (actions.Post task runner delay)
     by_the_task enters =
@@ -433,9 +413,9 @@ main_post_is_sound script past seat task queue delay ok plan legal allowed =
     by_the_script wanted =
         let c = wanted_by script past seat (kinds.Main task queue delay ok) wanted in
         let same = wants_main (own_entries 0 past) c.value.action c.value.made task queue delay ok c.passes in (
-          subst (IsActionSound script) same (action_is (IsActionSound script) script (own_entries 0 past) c.value plan.actions.each_sound c.is),
+          subst (IsActionSound script) same (current_is_one (IsActionSound script) script (own_entries 0 past) c.value plan.actions.each_sound c.is),
           action_posts script task queue delay (subst (Contains script.actions) same
-              (action_is (Contains script.actions) script (own_entries 0 past) c.value (AllByRecursion-contains_itself script.actions) c.is)),
+              (current_is_one (Contains script.actions) script (own_entries 0 past) c.value (AllByRecursion-contains_itself script.actions) c.is)),
         )
 
     by_the_task : by_task script past seat (kinds.Main task queue delay ok) ≡ true
@@ -485,7 +465,7 @@ sound_at : (P : Type 0) (view : EnvView) (seat : ℕ) (kind : Kind) → IsSound 
 sound_at P view seat kind plan next says =
     let c = wanted_by view.script view.history seat kind (wanted_by_script view seat kind next) in
     says c.value.action c.value.made c.passes
-    (action_is (IsActionSound view.script) view.script (own_entries 0 view.history) c.value plan.actions.each_sound c.is)
+    (current_is_one (IsActionSound view.script) view.script (own_entries 0 view.history) c.value plan.actions.each_sound c.is)
 
 -- the queue of an entry that the script wants is declared
 pub queue_declared : (view : EnvView) (seat : ℕ) (kind : Kind) (queue : ℕ) → named kind ≡ Some queue → IsSound view.script → IsWantedNext view seat kind
@@ -497,38 +477,38 @@ queue_declared view seat kind queue is plan next = sound_at (queue < length view
 pub runner_declared : (view : EnvView) (seat runner : ℕ) (priority : Priority) → IsSound view.script → IsWantedNext view seat (kinds.Reprio runner priority)
     → runner < length view.script.runners
 runner_declared view seat runner priority plan next =
-    sound_at (runner < length view.script.runners) view seat (kinds.Reprio runner priority) plan next by
+    sound_at (runner < length view.script.runners) view seat (kinds.Reprio runner priority) plan next by_action
   where
-    by : (x : Action) (made : List Entry) → wants (own_entries 0 view.history) x made (kinds.Reprio runner priority) ≡ true → IsActionSound view.script x
+    by_action : (x : Action) (made : List Entry) → wants (own_entries 0 view.history) x made (kinds.Reprio runner priority) ≡ true → IsActionSound view.script x
         → runner < length view.script.runners
-    by (actions.Reprio r p) made w sound = rw (eqb-true runner r (and_parts _ _ w).0) sound
-    by x made w sound = absurd cc
+    by_action (actions.Reprio r p) made w sound = rw (eqb-true runner r (and_parts _ _ w).0) sound
+    by_action x made w sound = absurd cc
 
 -- the voter of a vote that the script wants is one of its queue
 pub voter_declared : (view : EnvView) (seat queue voter : ℕ) (on : Bool) → IsSound view.script → IsWantedNext view seat (kinds.Vote queue voter on)
     → voter < voters_of view.script queue
-voter_declared view seat queue voter on plan next = sound_at (voter < voters_of view.script queue) view seat (kinds.Vote queue voter on) plan next by
+voter_declared view seat queue voter on plan next = sound_at (voter < voters_of view.script queue) view seat (kinds.Vote queue voter on) plan next by_action
   where
     has : (o : Option MainQueue) (v : ℕ) → unwrap_or (option_map (λ declared. nat_lt v declared.voters) o) false ≡ true
         → v < option_map_or (λ queue. queue.voters) o 0
     has None v h = absurd cc
     has (Some q) v h = leb-true (suc v) q.voters h
 
-    by : (x : Action) (made : List Entry) → wants (own_entries 0 view.history) x made (kinds.Vote queue voter on) ≡ true → IsActionSound view.script x
+    by_action : (x : Action) (made : List Entry) → wants (own_entries 0 view.history) x made (kinds.Vote queue voter on) ≡ true → IsActionSound view.script x
         → voter < voters_of view.script queue
-    by (actions.Vote q v o) made w sound =
+    by_action (actions.Vote q v o) made w sound =
         let parts = and_parts _ _ (and_parts _ _ w).0 in
         rw (eqb-true queue q parts.0, eqb-true voter v parts.1) (has (slice_get view.script.queues q) v sound.2)
-    by x made w sound = absurd cc
+    by_action x made w sound = absurd cc
 
 -- the class that the script wants is within its range
 pub class_within : (view : EnvView) (seat queue class : ℕ) → IsSound view.script → IsWantedNext view seat (kinds.Rank queue class) → class ≤ 7
-class_within view seat queue class plan next = sound_at (class ≤ 7) view seat (kinds.Rank queue class) plan next by
+class_within view seat queue class plan next = sound_at (class ≤ 7) view seat (kinds.Rank queue class) plan next by_action
   where
-    by : (x : Action) (made : List Entry) → wants (own_entries 0 view.history) x made (kinds.Rank queue class) ≡ true → IsActionSound view.script x
+    by_action : (x : Action) (made : List Entry) → wants (own_entries 0 view.history) x made (kinds.Rank queue class) ≡ true → IsActionSound view.script x
         → class ≤ 7
-    by (actions.Rank q c) made w sound = rw (eqb-true class c (and_parts (eqb queue q) (eqb class c) w).1) sound.1
-    by x made w sound = absurd cc
+    by_action (actions.Rank q c) made w sound = rw (eqb-true class c (and_parts (eqb queue q) (eqb class c) w).1) sound.1
+    by_action x made w sound = absurd cc
 
 -- shutdown starts while the phase is running
 pub starts_while_running : (script : Plan) (past : List Entry) (seat : ℕ) → IsSound script → IsLegal script past

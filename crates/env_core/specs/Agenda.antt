@@ -7,6 +7,8 @@ use Rattle.task_base.specs.declared.script.Action.{Action}
 use Rattle.task_base.specs.declared.script.Action.TheVariants as actions
 use Rattle.hist_model.specs.Script.{is_joined, is_main_end}
 use Rattle.env_core.specs.declared.agenda.Agenda.{Agenda}
+use Rattle.env_core.specs.declared.agenda.Shift.{Shift}
+use Rattle.env_core.specs.declared.agenda.Shift.TheVariants as shifts
 
 -- how many entries complete an action: all that it makes, of a pump those at which a main task ends, and of a join its reply
 abbrev pub entries_of : Action → ℕ
@@ -37,3 +39,9 @@ moved_on actions a = option_map_or (behind_one a) (slice_get actions a.place) a
 -- the place after an entry that completes an action at once
 abbrev pub passed_on : List Action → Agenda → Agenda
 passed_on actions a = option_map_or (λ action. passed a) (slice_get actions a.place) a
+
+-- the place after an entry that so shifts it
+abbrev pub shifted : Shift → List Action → Agenda → Agenda
+shifted shifts.Stays actions a = a
+shifted shifts.Counts actions a = moved_on actions a
+shifted shifts.Completes actions a = passed_on actions a

@@ -1,6 +1,7 @@
 pub mod Scopes
 pub mod Views
 pub mod Agenda
+pub mod Ledger
 pub mod Drawer
 pub mod Holds
 pub mod Jobs

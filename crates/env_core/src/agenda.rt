@@ -1,5 +1,5 @@
 ghost use Rattle.std.specs.Prelude.{◌≡◌, ◌==◌, ◌<◌, ◌≤◌, ◌^◌, length};
-ghost use Rattle.env_core.specs.Agenda.{entries_of, moved_on, passed_on};
+ghost use Rattle.env_core.specs.Agenda.{entries_of, moved_on, passed_on, shifted};
 
 use task_base::{Action, Script};
 
@@ -11,6 +11,17 @@ pub struct Agenda {
     pub made: u32,
 }
 
+/// What one more entry does to the driver's place.
+#[derive(Clone, Copy)]
+pub enum Shift {
+    /// It is none that counts.
+    Stays,
+    /// It counts: it is one by the script, or the end of a main task.
+    Counts,
+    /// It completes the driver's action: a pump found no main task.
+    Completes,
+}
+
 impl Agenda {
     /// Whether all actions are complete.
     pub fn is_finished(&self, script: &Script) -> bool
@@ -19,8 +30,21 @@ impl Agenda {
         self.place == script.actions.len()
     }
 
-    /// The driver has made one more entry that counts: one by its script, or the end of a main task.
-    pub fn entered(&mut self, script: &Script)
+    /// The history has one more entry, which so shifts the place.
+    pub fn follow(&mut self, script: &Script, shift: Shift)
+        requires few { self.old.made < 2 ^ 31 }
+        requires within { self.old.place ≤ length script.now.actions }
+        ensures { self.new ≡ shifted shift script.now.actions self.old }
+    {
+        match shift {
+            Shift::Stays => {}
+            Shift::Counts => self.count(script),
+            Shift::Completes => self.complete(script),
+        }
+    }
+
+    // The driver has made one more entry that counts.
+    fn count(&mut self, script: &Script)
         requires few { self.old.made < 2 ^ 31 }
         requires within { self.old.place ≤ length script.now.actions }
         ensures { self.new ≡ moved_on script.now.actions self.old }
@@ -35,8 +59,8 @@ impl Agenda {
         }
     }
 
-    /// The driver's action is complete: a pump found no main task.
-    pub fn completed(&mut self, script: &Script)
+    // The driver's action is complete.
+    fn complete(&mut self, script: &Script)
         requires { self.old.place ≤ length script.now.actions }
         ensures { self.new ≡ passed_on script.now.actions self.old }
     {

@@ -1,10 +1,11 @@
-ghost use Rattle.std.specs.Prelude.{◌≡◌, ℕ, ◌<◌, ◌≤◌, ◌↔◌, [], ◌∷◌, map, length, not, Bool, true, is_some, IsOk, IfOk, IfErr, IfSome, OnOk, OnErr, Some};
+ghost use Rattle.std.specs.Prelude.{◌≡◌, ℕ, ◌<◌, ◌≤◌, ◌↔◌, [], ◌∷◌, map, length, not, Bool, true, is_some, unwrap_or, slice_get, slice_set, IsOk, IfOk, IfErr, IfSome, OnOk, OnErr, Some, None};
 ghost use Rattle.std.specs.Option.{option_map};
 ghost use Rattle.script_model.specs.Laws.Sound.{IsSound};
 ghost use Rattle.env_core.specs.Agenda.{counted};
 ghost use Rattle.env_core.specs.Calls.{IsWantedNext, IsFreeWorker, IsNextAct, CanEnd, CanEndMain};
 ghost use Rattle.env_core.specs.Calls.{MainTakeGives, EntersAct, lets_in};
 ghost use Rattle.env_core.specs.Drawer.{is_in_drawer, kept_if};
+ghost use Rattle.env_core.specs.Ledger.{MayEnter};
 ghost use Rattle.env_core.specs.Views.{Enters, spare_of};
 ghost use Rattle.env_core.specs.Waits.{may_go_on};
 ghost use Rattle.hist_model.specs.Moments.{moment_behind};
@@ -23,10 +24,10 @@ ghost use Rattle.task_model.specs.Time.{now_of};
 
 mod jobs;
 
-use crate::agenda::Agenda;
+use crate::agenda::Shift;
+use crate::ledger::Ledger;
 use hist_model::Chronicle;
 use pool_core::{Pool, PoolTake};
-use script_bound::events_bound;
 use sequence_manager::Manager;
 use shutdown_phase::StillBlocked;
 use std::alloc::{AllocError, Global};
@@ -44,14 +45,12 @@ use task_body::{Act, Assignment, JobPass, Taken, TaskBody};
 /// the driver, which performs the script, and 1 and above for the workers.
 #[derive(Drop)]
 pub struct Env<B: TaskBody> {
-    script: Script,
+    /// The script, the history, and how far the driver has come.
+    ledger: Ledger,
     pool: Pool,
     main: Manager,
     /// The bodies of the tasks that may still be taken.
     bodies: Vec<Option<Box<B>>>,
-    log: Rows<Entry>,
-    /// How far the driver has come.
-    agenda: Agenda,
 }
 
 impl<B: TaskBody> Model for Env<B> {
@@ -60,10 +59,9 @@ impl<B: TaskBody> Model for Env<B> {
 
     ghost Value = { EnvView };
 
-    ghost view = { λ e. record { script = e.script; history = e.log.items } };
+    ghost view = { λ e. e.ledger };
 
-    ghost invariant = { λ e. Holds e.bodies.items (λ body. B.whole body.value) (λ body. B.rest body.value) e.script e.log e.pool e.main
-        e.agenda.place e.agenda.made };
+    ghost invariant = { λ e. Holds e.bodies.items (λ body. B.whole body.value) (λ body. B.rest body.value) e.ledger e.pool e.main };
 }
 
 impl<B: TaskBody> Chronicle for Env<B> {
@@ -86,14 +84,12 @@ impl<B: TaskBody> Env<B> {
         let pool = Pool::new(alloc, &script)?;
         let main = Manager::new(alloc, &script)?;
         let bodies = drawer(alloc, bodies)?;
-        let log = Vec::with_capacity(alloc, events_bound(&script) as usize)?;
+        let ledger = Ledger::open(alloc, script)?;
         Ok(Env {
-            script,
+            ledger,
             pool,
             main,
             bodies,
-            log: Rows::from_vec(log),
-            agenda: Agenda { place: 0, made: 0 },
         })
     }
 
@@ -103,19 +99,7 @@ impl<B: TaskBody> Env<B> {
         ensures reply { result ≡ not (is_refused self.old.script self.old.history runner delay) }
         ensures enters { Enters self.old self.new seat (Kind.Post task runner delay result) }
     {
-        let ok = self.pool.post(self.log.len() as u32, task, runner, delay);
-        keep_if(ok, &mut self.bodies, task);
-        self.agenda.entered(&self.script);
-        self.log.push_spare(Entry {
-            seat,
-            kind: Kind::Post {
-                task,
-                runner,
-                delay,
-                ok,
-            },
-        });
-        ok
+        self.enter_post(seat, task, runner, delay, Shift::Counts)
     }
 
     /// The driver posts a task to a main queue, with a delay in microseconds. A refused post drops the task's body.
@@ -124,19 +108,7 @@ impl<B: TaskBody> Env<B> {
         ensures reply { result ≡ not (is_closed self.old.history queue) }
         ensures enters { Enters self.old self.new seat (Kind.Main task queue delay result) }
     {
-        let ok = self.main.post(self.log.len() as u32, task, queue, delay);
-        keep_if(ok, &mut self.bodies, task);
-        self.agenda.entered(&self.script);
-        self.log.push_spare(Entry {
-            seat,
-            kind: Kind::Main {
-                task,
-                queue,
-                delay,
-                ok,
-            },
-        });
-        ok
+        self.enter_main_post(seat, task, queue, delay, Shift::Counts)
     }
 
     /// The driver has read the clock, in microseconds. Answers the moment that is entered.
@@ -146,13 +118,9 @@ impl<B: TaskBody> Env<B> {
         ensures enters { Enters self.old self.new seat (Kind.Tick result) }
     {
         let now = reading.max(self.pool.moment()).min(LAST_MOMENT);
-        self.pool.tick(self.log.len() as u32, now);
+        self.pool.tick(self.ledger.len(), now);
         self.main.tick(now);
-        self.agenda.entered(&self.script);
-        self.log.push_spare(Entry {
-            seat,
-            kind: Kind::Tick { now },
-        });
+        self.ledger.enter(seat, Kind::Tick { now }, Shift::Counts);
         now
     }
 
@@ -162,11 +130,8 @@ impl<B: TaskBody> Env<B> {
         ensures { Enters self.old self.new seat (Kind.Policy policy) }
     {
         self.pool.policy(policy);
-        self.agenda.entered(&self.script);
-        self.log.push_spare(Entry {
-            seat,
-            kind: Kind::Policy { policy },
-        });
+        self.ledger
+            .enter(seat, Kind::Policy { policy }, Shift::Counts);
     }
 
     /// The driver gives a runner another priority: its tasks that wait go by it from now on, and what runs counts as it was
@@ -177,11 +142,8 @@ impl<B: TaskBody> Env<B> {
         ensures { Enters self.old self.new seat (Kind.Reprio runner priority) }
     {
         self.pool.reprio(runner, priority);
-        self.agenda.entered(&self.script);
-        self.log.push_spare(Entry {
-            seat,
-            kind: Kind::Reprio { runner, priority },
-        });
+        self.ledger
+            .enter(seat, Kind::Reprio { runner, priority }, Shift::Counts);
     }
 
     /// The driver puts a fence into a main queue: behind all tasks that are ready by now, or before all tasks.
@@ -190,11 +152,8 @@ impl<B: TaskBody> Env<B> {
         ensures { Enters self.old self.new seat (Kind.Fence queue at) }
     {
         self.main.fence(queue, at);
-        self.agenda.entered(&self.script);
-        self.log.push_spare(Entry {
-            seat,
-            kind: Kind::Fence { queue, at },
-        });
+        self.ledger
+            .enter(seat, Kind::Fence { queue, at }, Shift::Counts);
     }
 
     /// The driver removes the fence of a main queue, if it has one.
@@ -203,11 +162,8 @@ impl<B: TaskBody> Env<B> {
         ensures { Enters self.old self.new seat (Kind.Unfence queue) }
     {
         self.main.unfence(queue);
-        self.agenda.entered(&self.script);
-        self.log.push_spare(Entry {
-            seat,
-            kind: Kind::Unfence { queue },
-        });
+        self.ledger
+            .enter(seat, Kind::Unfence { queue }, Shift::Counts);
     }
 
     /// A voter of a main queue votes for it, or against it.
@@ -216,11 +172,8 @@ impl<B: TaskBody> Env<B> {
         ensures { Enters self.old self.new seat (Kind.Vote queue voter on) }
     {
         self.main.vote(queue, voter, on);
-        self.agenda.entered(&self.script);
-        self.log.push_spare(Entry {
-            seat,
-            kind: Kind::Vote { queue, voter, on },
-        });
+        self.ledger
+            .enter(seat, Kind::Vote { queue, voter, on }, Shift::Counts);
     }
 
     /// The driver puts a main queue in another class.
@@ -229,11 +182,8 @@ impl<B: TaskBody> Env<B> {
         ensures { Enters self.old self.new seat (Kind.Rank queue class) }
     {
         self.main.rank(queue, class);
-        self.agenda.entered(&self.script);
-        self.log.push_spare(Entry {
-            seat,
-            kind: Kind::Rank { queue, class },
-        });
+        self.ledger
+            .enter(seat, Kind::Rank { queue, class }, Shift::Counts);
     }
 
     /// The driver closes a main queue: its tasks never run, and it accepts no more. What was taken is done to its end.
@@ -242,11 +192,8 @@ impl<B: TaskBody> Env<B> {
         ensures { Enters self.old self.new seat (Kind.Close queue) }
     {
         self.main.close(queue);
-        self.agenda.entered(&self.script);
-        self.log.push_spare(Entry {
-            seat,
-            kind: Kind::Close { queue },
-        });
+        self.ledger
+            .enter(seat, Kind::Close { queue }, Shift::Counts);
     }
 
     /// The driver, inside a pump and with no task, takes the chosen front of the main queues, whose body leaves the drawer.
@@ -257,23 +204,20 @@ impl<B: TaskBody> Env<B> {
     {
         match self.main.take() {
             None => {
-                self.agenda.completed(&self.script);
-                self.log.push_spare(Entry {
-                    seat,
-                    kind: Kind::MainNone,
-                });
+                self.ledger.enter(seat, Kind::MainNone, Shift::Completes);
                 None
             }
             Some((task, queue, cell)) => {
-                let body = self.bodies[task as usize].take().unwrap();
-                self.log.push_spare(Entry {
+                let body = take_body(&mut self.bodies, task);
+                self.ledger.enter(
                     seat,
-                    kind: Kind::MainTake {
+                    Kind::MainTake {
                         task,
                         queue,
                         found: cell.value(),
                     },
-                });
+                    Shift::Stays,
+                );
                 Some(Assignment::new(task, queue, cell, body))
             }
         }
@@ -289,11 +233,8 @@ impl<B: TaskBody> Env<B> {
         let (cell, body) = work.split_up();
         let left = cell.value();
         self.main.end(queue, cell);
-        self.agenda.entered(&self.script);
-        self.log.push_spare(Entry {
-            seat,
-            kind: Kind::MainEnd { task, left },
-        });
+        self.ledger
+            .enter(seat, Kind::MainEnd { task, left }, Shift::Counts);
         body
     }
 
@@ -302,28 +243,27 @@ impl<B: TaskBody> Env<B> {
         requires { IsFreeWorker self.old seat }
         ensures { TakeGives self.old self.new seat result }
     {
-        if self.agenda.is_finished(&self.script) {
+        if self.ledger.is_finished() {
             return Taken::Over;
         }
         match self.pool.take(seat) {
             PoolTake::Nothing => Taken::Nothing,
             PoolTake::Item { job, id, item } => {
-                self.log.push_spare(Entry {
-                    seat,
-                    kind: Kind::JobTake { job, id, item },
-                });
+                self.ledger
+                    .enter(seat, Kind::JobTake { job, id, item }, Shift::Stays);
                 Taken::Item(JobPass::new(job, id, item))
             }
             PoolTake::Task { task, runner, cell } => {
-                let body = self.bodies[task as usize].take().unwrap();
-                self.log.push_spare(Entry {
+                let body = take_body(&mut self.bodies, task);
+                self.ledger.enter(
                     seat,
-                    kind: Kind::Take {
+                    Kind::Take {
                         task,
                         runner,
                         found: cell.value(),
                     },
-                });
+                    Shift::Stays,
+                );
                 Taken::Task(Assignment::new(task, runner, cell, body))
             }
         }
@@ -341,13 +281,18 @@ impl<B: TaskBody> Env<B> {
                 task,
                 runner,
                 delay,
-            } => self.post_by_task(seat, task, runner, delay),
-            Act::Main { task, queue, delay } => self.main_post_by_task(seat, task, queue, delay),
+            } => self.enter_post(seat, task, runner, delay, Shift::Stays),
+            Act::Main { task, queue, delay } => self.enter_main_post(
+                seat,
+                task,
+                queue,
+                delay,
+                Shift::Stays,
+            ),
             Act::Enter(scope) => self.enter(seat, scope),
             Act::Leave => self.leave(seat),
             Act::Did(_) | Act::Finished => {
                 // What is not an act step makes no entry.
-                let _ = &self.script;
                 unreachable!()
             }
         }
@@ -362,10 +307,8 @@ impl<B: TaskBody> Env<B> {
         let (cell, body) = work.split_up();
         let left = cell.value();
         self.pool.end(seat, cell);
-        self.log.push_spare(Entry {
-            seat,
-            kind: Kind::End { task, left },
-        });
+        self.ledger
+            .enter(seat, Kind::End { task, left }, Shift::Stays);
         body
     }
 
@@ -380,11 +323,7 @@ impl<B: TaskBody> Env<B> {
         ensures unchanged { OnErr result (self.new ≡ self.old) }
     {
         self.pool.idle()?;
-        self.agenda.entered(&self.script);
-        self.log.push_spare(Entry {
-            seat,
-            kind: Kind::Idle,
-        });
+        self.ledger.enter(seat, Kind::Idle, Shift::Counts);
         Ok(())
     }
 
@@ -395,11 +334,7 @@ impl<B: TaskBody> Env<B> {
         ensures started { phase_of self.new.history ≡ phases.Started }
     {
         self.pool.start_shutdown();
-        self.agenda.entered(&self.script);
-        self.log.push_spare(Entry {
-            seat,
-            kind: Kind::Shutdown,
-        });
+        self.ledger.enter(seat, Kind::Shutdown, Shift::Counts);
     }
 
     /// The driver ends shutdown, unless something still blocks it.
@@ -411,44 +346,38 @@ impl<B: TaskBody> Env<B> {
         ensures unchanged { OnErr result (self.new ≡ self.old) }
     {
         self.pool.try_done()?;
-        self.agenda.entered(&self.script);
-        self.log.push_spare(Entry {
-            seat,
-            kind: Kind::Done,
-        });
+        self.ledger.enter(seat, Kind::Done, Shift::Counts);
         Ok(())
     }
 
     /// The action that the driver is at. None where the script is finished.
-    #[tactic(auto, using(crate::proofs::Driver::action_at))]
     pub fn action(&self) -> Option<Action>
         ensures { result ≡ option_map (λ c. c.action) (current self.now.script (own_entries 0 self.now.history)) }
     {
-        self.script.actions.at(self.agenda.place).copied()
+        self.ledger.action()
     }
 
     /// How many entries that count the driver's action has made: of a pump those at which a main task ended, of a join its
     /// reply, and of each other action all.
-    #[tactic(auto, using(crate::proofs::Driver::made_at))]
     pub fn made(&self) -> u32
         ensures { IfSome (current self.now.script (own_entries 0 self.now.history)) (λ c. result ≡ counted (c.action ∷ []) c.made) }
     {
-        self.agenda.made
+        self.ledger.made()
     }
 
     /// Whether the driver has performed the script to its end.
     pub fn is_finished(&self) -> bool
         ensures { result ≡ is_finished self.now.script self.now.history }
     {
-        self.agenda.is_finished(&self.script)
+        self.ledger.is_finished()
     }
 
     /// Whether what the driver's action waits for has come. True where it waits for nothing.
     pub fn may_go_on(&self) -> bool
         ensures { result ≡ may_go_on self.now.script self.now.history }
     {
-        let made = self.agenda.made;
-        let Some(action) = self.action() else {
+        let made = self.ledger.made();
+        let Some(action) = self.ledger.action() else {
             return true;
         };
         match action {
@@ -516,44 +445,62 @@ impl<B: TaskBody> Env<B> {
         ensures items { result.items ≡ self.history }
         ensures room { result.spare ≡ spare_of self }
     {
-        self.log
+        self.ledger.into_log()
     }
 
-    fn post_by_task(&mut self, seat: SeatNo, task: TaskId, runner: RunnerId, delay: u64) -> bool
-        requires { IsNextAct self.old seat (Act.Post task runner delay) }
+    // A post, by the script or by a task.
+    fn enter_post(
+        &mut self,
+        seat: SeatNo,
+        task: TaskId,
+        runner: RunnerId,
+        delay: u64,
+        shift: Shift,
+    ) -> bool
+        requires { MayEnter self.old seat (Kind.Post task runner delay (not (is_refused self.old.script self.old.history runner delay))) shift }
         ensures reply { result ≡ not (is_refused self.old.script self.old.history runner delay) }
         ensures enters { Enters self.old self.new seat (Kind.Post task runner delay result) }
     {
-        let ok = self.pool.post(self.log.len() as u32, task, runner, delay);
+        let ok = self.pool.post(self.ledger.len(), task, runner, delay);
         keep_if(ok, &mut self.bodies, task);
-        self.log.push_spare(Entry {
+        self.ledger.enter(
             seat,
-            kind: Kind::Post {
+            Kind::Post {
                 task,
                 runner,
                 delay,
                 ok,
             },
-        });
+            shift,
+        );
         ok
     }
 
-    fn main_post_by_task(&mut self, seat: SeatNo, task: TaskId, queue: QueueId, delay: u64) -> bool
-        requires { IsNextAct self.old seat (Act.Main task queue delay) }
+    // A post to a main queue, by the script or by a task.
+    fn enter_main_post(
+        &mut self,
+        seat: SeatNo,
+        task: TaskId,
+        queue: QueueId,
+        delay: u64,
+        shift: Shift,
+    ) -> bool
+        requires { MayEnter self.old seat (Kind.Main task queue delay (not (is_closed self.old.history queue))) shift }
         ensures reply { result ≡ not (is_closed self.old.history queue) }
         ensures enters { Enters self.old self.new seat (Kind.Main task queue delay result) }
     {
-        let ok = self.main.post(self.log.len() as u32, task, queue, delay);
+        let ok = self.main.post(self.ledger.len(), task, queue, delay);
         keep_if(ok, &mut self.bodies, task);
-        self.log.push_spare(Entry {
+        self.ledger.enter(
             seat,
-            kind: Kind::Main {
+            Kind::Main {
                 task,
                 queue,
                 delay,
                 ok,
             },
-        });
+            shift,
+        );
         ok
     }
 
@@ -564,10 +511,8 @@ impl<B: TaskBody> Env<B> {
     {
         let task = self.pool.task_of(seat).unwrap();
         self.pool.enter(seat, scope);
-        self.log.push_spare(Entry {
-            seat,
-            kind: Kind::Enter { task, scope },
-        });
+        self.ledger
+            .enter(seat, Kind::Enter { task, scope }, Shift::Stays);
         true
     }
 
@@ -578,10 +523,7 @@ impl<B: TaskBody> Env<B> {
     {
         let task = self.pool.task_of(seat).unwrap();
         self.pool.leave(seat);
-        self.log.push_spare(Entry {
-            seat,
-            kind: Kind::Leave { task },
-        });
+        self.ledger.enter(seat, Kind::Leave { task }, Shift::Stays);
         true
     }
 }
@@ -608,4 +550,13 @@ fn keep_if<B: TaskBody>(ok: bool, bodies: &mut Vec<Option<Box<B>>>, task: TaskId
     if !ok {
         bodies[task as usize] = None;
     }
+}
+
+// Moves a task's body out of the drawer, which has it.
+fn take_body<B: TaskBody>(bodies: &mut Vec<Option<Box<B>>>, task: TaskId) -> Box<B>
+    requires { is_some (unwrap_or (slice_get bodies.old.items task) None) ≡ true }
+    ensures body { slice_get bodies.old.items task ≡ Some (Some result) }
+    ensures after { bodies.new.items ≡ slice_set bodies.old.items task None }
+{
+    bodies[task as usize].take().unwrap()
 }

@@ -5,6 +5,7 @@
 mod agenda;
 mod env;
 mod laws;
+mod ledger;
 
 pub use env::Env;
 pub use laws::who_waits_may_enter_nothing;

@@ -5,8 +5,9 @@ ghost use Rattle.env_core.specs.Jobs.{CanEndItem, JobTakeGives, StepGives, Tries
 ghost use Rattle.env_core.specs.Views.{Enters};
 ghost use Rattle.task_model.specs.Refusal.{is_job_forbidden};
 
+use crate::agenda::Shift;
 use crate::env::Env;
-use task_base::{Entry, JobId, JobReply, Kind, NotYet, SeatNo};
+use task_base::{JobId, JobReply, Kind, NotYet, SeatNo};
 use task_body::{JobPass, TaskBody};
 
 // Jobs: the driver posts, joins and cancels them, and seats inside end their items.
@@ -17,12 +18,9 @@ impl<B: TaskBody> Env<B> {
         ensures reply { result ≡ not (is_job_forbidden self.old.script self.old.history job) }
         ensures enters { Enters self.old self.new seat (Kind.JobPost job result) }
     {
-        let ok = self.pool.job_post(self.log.len() as u32, job);
-        self.agenda.entered(&self.script);
-        self.log.push_spare(Entry {
-            seat,
-            kind: Kind::JobPost { job, ok },
-        });
+        let ok = self.pool.job_post(self.ledger.len(), job);
+        self.ledger
+            .enter(seat, Kind::JobPost { job, ok }, Shift::Counts);
         ok
     }
 
@@ -32,10 +30,8 @@ impl<B: TaskBody> Env<B> {
         ensures { JobTakeGives self.old self.new seat job result }
     {
         let (id, item) = self.pool.job_take(job)?;
-        self.log.push_spare(Entry {
-            seat,
-            kind: Kind::JobTake { job, id, item },
-        });
+        self.ledger
+            .enter(seat, Kind::JobTake { job, id, item }, Shift::Stays);
         Some(JobPass::new(job, id, item))
     }
 
@@ -46,16 +42,17 @@ impl<B: TaskBody> Env<B> {
     {
         let (job, id, item) = (pass.job(), pass.id(), pass.item());
         let next = self.pool.job_step(seat, value);
-        self.log.push_spare(Entry {
+        self.ledger.enter(
             seat,
-            kind: Kind::JobStep {
+            Kind::JobStep {
                 job,
                 id,
                 item,
                 value,
                 next,
             },
-        });
+            Shift::Stays,
+        );
         Some(JobPass::new(job, id, next?))
     }
 
@@ -65,11 +62,8 @@ impl<B: TaskBody> Env<B> {
         ensures { Enters self.old self.new seat (Kind.JobCancel job) }
     {
         self.pool.job_cancel(job);
-        self.agenda.entered(&self.script);
-        self.log.push_spare(Entry {
-            seat,
-            kind: Kind::JobCancel { job },
-        });
+        self.ledger
+            .enter(seat, Kind::JobCancel { job }, Shift::Counts);
     }
 
     /// The driver waits for a job that it has cancelled: it goes on where nobody is inside. The error says how many are.
@@ -78,11 +72,8 @@ impl<B: TaskBody> Env<B> {
         ensures { TriesToCancel self.old self.new seat job result }
     {
         self.pool.cancelled(job)?;
-        self.agenda.entered(&self.script);
-        self.log.push_spare(Entry {
-            seat,
-            kind: Kind::Cancelled { job },
-        });
+        self.ledger
+            .enter(seat, Kind::Cancelled { job }, Shift::Counts);
         Ok(())
     }
 
@@ -93,11 +84,8 @@ impl<B: TaskBody> Env<B> {
         ensures { TriesToJoin self.old self.new seat job result }
     {
         let reply = self.pool.joined(job)?;
-        self.agenda.entered(&self.script);
-        self.log.push_spare(Entry {
-            seat,
-            kind: Kind::Joined { job, reply },
-        });
+        self.ledger
+            .enter(seat, Kind::Joined { job, reply }, Shift::Counts);
         Ok(reply)
     }
 }

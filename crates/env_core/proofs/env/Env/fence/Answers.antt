@@ -1,50 +1,29 @@
-use Rattle.env_core.proofs.Bodies.{bodies_kept}
-use Rattle.env_core.proofs.Entries.{at_queue, driver_at, enters_is, few_of_action, has_room, holds_next, place_fits, pool_still}
-use Rattle.env_core.proofs.Wanted.{fence_allowed}
-use Rattle.env_core.specs.Calls.{IsWantedNext}
-use Rattle.env_core.specs.Views.{EnvView}
+use Rattle.env_core.proofs.Entries.{at_queue, few_entries, holds_at_main, plain}
 use Rattle.std.proofs.Common.{refl}
-use Rattle.task_base.specs.declared.entry.Entry.{Entry}
 use Rattle.task_base.specs.declared.entry.Kind.TheVariants as kinds
 use Rattle.env_core.proofs.env.Env.fence.Goals as goal
 
 pub fence-requires : goal.fence-requires
-fence-requires g c =
-    let view : EnvView = record { script = c.self.inside.script; history = c.self.inside.log.items } in
-    let wanted : IsWantedNext view c.args.seat (kinds.Fence c.args.queue c.args.at) = rw c.self.view_is c.requires in (
-      c.self.inside.script,
-      c.self.inside.log.items,
-      record {
-        at = at_queue c.args.seat c.args.queue (kinds.Fence c.args.queue c.args.at) c.self.invariant refl wanted;
-        few = place_fits _ c.self.invariant refl;
-      },
-    )
+fence-requires g c = (
+  _,
+  _,
+  record {
+    at = at_queue c.self.invariant c.args.seat c.args.queue (kinds.Fence c.args.queue c.args.at) refl
+        (rw c.self.view_is c.requires);
+    few = few_entries c.self.invariant;
+  },
+)
 
-pub entered-requires-clause-few : goal.entered-requires-clause-few
-entered-requires-clause-few g c = few_of_action c.self.invariant
-
-pub push_spare-requires : goal.push_spare-requires
-push_spare-requires g c = has_room (record { seat = c.args.seat; kind = kinds.Fence c.args.queue c.args.at }) c.self.invariant
-    (fence_allowed (record { script = c.self.inside.script; history = c.self.inside.log.items }) c.args.seat c.args.queue c.args.at
-    (rw c.self.view_is c.requires))
+pub enter-requires : goal.enter-requires
+enter-requires g c = plain (rw c.self.view_is c.requires) refl refl
 
 pub invariant_of-self : goal.invariant_of-self
-invariant_of-self g c =
-    let view : EnvView = record { script = c.self.inside.script; history = c.self.inside.log.items } in
-    let wanted : IsWantedNext view c.args.seat (kinds.Fence c.args.queue c.args.at) = rw c.self.view_is c.requires in
-    let e : Entry = record { seat = c.args.seat; kind = kinds.Fence c.args.queue c.args.at } in
-    holds_next e c.self.inside.bodies.items c.push_spare.new.self c.self.inside.pool c.fence.new.self c.entered.new.self.place c.entered.new.self.made
-    c.self.invariant (fence_allowed view c.args.seat c.args.queue c.args.at wanted) c.push_spare.ensures.items c.push_spare.ensures.spare
-    (pool_still e c.self.invariant refl)
-    (c.fence.ensures c.self.inside.script c.self.inside.log.items c.args.seat (record {
-      at = at_queue c.args.seat c.args.queue (kinds.Fence c.args.queue c.args.at) c.self.invariant refl wanted;
-      few = place_fits _ c.self.invariant refl;
+invariant_of-self g c = holds_at_main c.self.invariant c.enter.ensures refl (λ t. refl)
+    (c.fence.ensures _ _ c.args.seat (record {
+      at = at_queue c.self.invariant c.args.seat c.args.queue (kinds.Fence c.args.queue c.args.at) refl
+          (rw c.self.view_is c.requires);
+      few = few_entries c.self.invariant;
     }))
-    (bodies_kept c.self.inside.bodies.items _ _ c.self.inside.script c.self.inside.log.items e (λ t. refl) c.self.invariant.drawer)
-    (driver_at c.args.seat (kinds.Fence c.args.queue c.args.at) c.entered.new.self c.self.invariant wanted refl c.entered.ensures)
 
 pub returns : goal.returns
-returns g c = rw (← c.self.view_is) (enters_is c.args.seat (kinds.Fence c.args.queue c.args.at) c.push_spare.new.self c.self.invariant
-    (fence_allowed (record { script = c.self.inside.script; history = c.self.inside.log.items }) c.args.seat c.args.queue c.args.at
-    (rw c.self.view_is c.requires))
-    c.push_spare.ensures.items)
+returns g c = rw (← c.self.view_is) c.enter.ensures

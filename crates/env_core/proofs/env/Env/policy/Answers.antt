@@ -1,33 +1,12 @@
-use Rattle.env_core.proofs.Bodies.{bodies_kept}
-use Rattle.env_core.proofs.Entries.{driver_at, enters_is, few_of_action, has_room, holds_next, main_still}
-use Rattle.env_core.proofs.Wanted.{policy_allowed}
+use Rattle.env_core.proofs.Entries.{holds_at_pool, plain}
 use Rattle.std.proofs.Common.{refl}
-use Rattle.task_base.specs.declared.entry.Entry.{Entry}
-use Rattle.task_base.specs.declared.entry.Kind.TheVariants as kinds
-use Rattle.env_core.specs.Calls.{IsWantedNext}
 use Rattle.env_core.proofs.env.Env.policy.Goals as goal
 
-pub entered-requires-clause-few : goal.entered-requires-clause-few
-entered-requires-clause-few g c = few_of_action c.self.invariant
-
-pub push_spare-requires : goal.push_spare-requires
-push_spare-requires g c = has_room (record { seat = c.args.seat; kind = kinds.Policy c.args.policy }) c.self.invariant
-    (policy_allowed (record { script = c.self.inside.script; history = c.self.inside.log.items }) c.args.seat c.args.policy (rw c.self.view_is c.requires))
+pub enter-requires : goal.enter-requires
+enter-requires g c = plain (rw c.self.view_is c.requires) refl refl
 
 pub invariant_of-self : goal.invariant_of-self
-invariant_of-self g c =
-    let wanted : IsWantedNext (record { script = c.self.inside.script; history = c.self.inside.log.items }) c.args.seat (kinds.Policy c.args.policy) =
-    rw c.self.view_is c.requires in
-    let e : Entry = record { seat = c.args.seat; kind = kinds.Policy c.args.policy } in
-    holds_next e c.self.inside.bodies.items c.push_spare.new.self c.policy.new.self c.self.inside.main c.entered.new.self.place c.entered.new.self.made
-    c.self.invariant
-    (policy_allowed (record { script = c.self.inside.script; history = c.self.inside.log.items }) c.args.seat c.args.policy wanted)
-    c.push_spare.ensures.items c.push_spare.ensures.spare
-    (c.policy.ensures c.self.inside.script c.self.inside.log.items c.args.seat c.self.invariant.stands) (main_still e c.self.invariant refl)
-    (bodies_kept c.self.inside.bodies.items _ _ c.self.inside.script c.self.inside.log.items e (λ t. refl) c.self.invariant.drawer)
-    (driver_at c.args.seat (kinds.Policy c.args.policy) c.entered.new.self c.self.invariant wanted refl c.entered.ensures)
+invariant_of-self g c = holds_at_pool c.self.invariant c.enter.ensures refl (λ t. refl) (c.policy.ensures _ _ c.args.seat c.self.invariant.stands)
 
 pub returns : goal.returns
-returns g c = rw (← c.self.view_is) (enters_is c.args.seat (kinds.Policy c.args.policy) c.push_spare.new.self c.self.invariant
-    (policy_allowed (record { script = c.self.inside.script; history = c.self.inside.log.items }) c.args.seat c.args.policy (rw c.self.view_is c.requires))
-    c.push_spare.ensures.items)
+returns g c = rw (← c.self.view_is) c.enter.ensures

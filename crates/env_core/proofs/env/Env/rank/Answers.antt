@@ -1,50 +1,27 @@
-use Rattle.env_core.proofs.Bodies.{bodies_kept}
-use Rattle.env_core.proofs.Entries.{at_queue, driver_at, enters_is, few_of_action, has_room, holds_next, pool_still}
-use Rattle.env_core.proofs.Wanted.{rank_allowed, class_within}
-use Rattle.env_core.specs.Calls.{IsWantedNext}
-use Rattle.env_core.specs.Views.{EnvView}
+use Rattle.env_core.proofs.Entries.{at_queue, holds_at_main, plain}
+use Rattle.env_core.proofs.Wanted.{class_within}
 use Rattle.std.proofs.Common.{refl}
-use Rattle.task_base.specs.declared.entry.Entry.{Entry}
 use Rattle.task_base.specs.declared.entry.Kind.TheVariants as kinds
 use Rattle.env_core.proofs.env.Env.rank.Goals as goal
 
 pub rank-requires : goal.rank-requires
-rank-requires g c =
-    let view : EnvView = record { script = c.self.inside.script; history = c.self.inside.log.items } in
-    let wanted : IsWantedNext view c.args.seat (kinds.Rank c.args.queue c.args.class) = rw c.self.view_is c.requires in (
-      c.self.inside.script,
-      c.self.inside.log.items,
-      record {
-        at = at_queue c.args.seat c.args.queue (kinds.Rank c.args.queue c.args.class) c.self.invariant refl wanted;
-        fits = class_within view c.args.seat c.args.queue c.args.class c.self.invariant.plan wanted;
-      },
-    )
+rank-requires g c = (
+  _,
+  _,
+  record {
+    at = at_queue c.self.invariant c.args.seat c.args.queue (kinds.Rank c.args.queue c.args.class) refl (rw c.self.view_is c.requires);
+    fits = class_within c.self.inside.ledger c.args.seat c.args.queue c.args.class c.self.invariant.plan (rw c.self.view_is c.requires);
+  },
+)
 
-pub entered-requires-clause-few : goal.entered-requires-clause-few
-entered-requires-clause-few g c = few_of_action c.self.invariant
-
-pub push_spare-requires : goal.push_spare-requires
-push_spare-requires g c = has_room (record { seat = c.args.seat; kind = kinds.Rank c.args.queue c.args.class }) c.self.invariant
-    (rank_allowed (record { script = c.self.inside.script; history = c.self.inside.log.items }) c.args.seat c.args.queue c.args.class
-    (rw c.self.view_is c.requires))
+pub enter-requires : goal.enter-requires
+enter-requires g c = plain (rw c.self.view_is c.requires) refl refl
 
 pub invariant_of-self : goal.invariant_of-self
-invariant_of-self g c =
-    let view : EnvView = record { script = c.self.inside.script; history = c.self.inside.log.items } in
-    let wanted : IsWantedNext view c.args.seat (kinds.Rank c.args.queue c.args.class) = rw c.self.view_is c.requires in
-    let e : Entry = record { seat = c.args.seat; kind = kinds.Rank c.args.queue c.args.class } in
-    holds_next e c.self.inside.bodies.items c.push_spare.new.self c.self.inside.pool c.rank.new.self c.entered.new.self.place c.entered.new.self.made
-    c.self.invariant (rank_allowed view c.args.seat c.args.queue c.args.class wanted) c.push_spare.ensures.items c.push_spare.ensures.spare
-    (pool_still e c.self.invariant refl)
-    (c.rank.ensures c.self.inside.script c.self.inside.log.items c.args.seat (record {
-      at = at_queue c.args.seat c.args.queue (kinds.Rank c.args.queue c.args.class) c.self.invariant refl wanted;
-      fits = class_within view c.args.seat c.args.queue c.args.class c.self.invariant.plan wanted;
-    }))
-    (bodies_kept c.self.inside.bodies.items _ _ c.self.inside.script c.self.inside.log.items e (λ t. refl) c.self.invariant.drawer)
-    (driver_at c.args.seat (kinds.Rank c.args.queue c.args.class) c.entered.new.self c.self.invariant wanted refl c.entered.ensures)
+invariant_of-self g c = holds_at_main c.self.invariant c.enter.ensures refl (λ t. refl) (c.rank.ensures _ _ c.args.seat (record {
+  at = at_queue c.self.invariant c.args.seat c.args.queue (kinds.Rank c.args.queue c.args.class) refl (rw c.self.view_is c.requires);
+  fits = class_within c.self.inside.ledger c.args.seat c.args.queue c.args.class c.self.invariant.plan (rw c.self.view_is c.requires);
+}))
 
 pub returns : goal.returns
-returns g c = rw (← c.self.view_is) (enters_is c.args.seat (kinds.Rank c.args.queue c.args.class) c.push_spare.new.self c.self.invariant
-    (rank_allowed (record { script = c.self.inside.script; history = c.self.inside.log.items }) c.args.seat c.args.queue c.args.class
-    (rw c.self.view_is c.requires))
-    c.push_spare.ensures.items)
+returns g c = rw (← c.self.view_is) c.enter.ensures
