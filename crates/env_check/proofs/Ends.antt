@@ -159,23 +159,23 @@ module _ {view : EnvView} {seat : ℕ} {work : AssignmentView} {next : Act} (at 
 pub end_comes : (script : Plan) (past : List Entry) (seat task left : ℕ) → IsLegal script past → 1 ≤ seat
     → may_come script past seat (kinds.End task left) ≡ holds_of (is_done script past seat task left) (running past seat)
 unfolding may_come
-end_comes script past seat task left legal worker = by (running past seat) refl
+end_comes script past seat task left legal worker = by_running (running past seat) refl
   where
-    by : (o : Option Running) → running past seat ≡ o
+    by_running : (o : Option Running) → running past seat ≡ o
         → holds_of (λ w. not w.is_main && w.task == task && has_done script past seat left w) o ≡ holds_of (is_done script past seat task left) o
-    by None is = refl
-    by (Some w) is = rw (worker_runs_pool script past seat w legal worker is) refl
+    by_running None is = refl
+    by_running (Some w) is = rw (worker_runs_pool script past seat w legal worker is) refl
 
 -- and the driver's exactly where all of its main task is
 pub main_end_comes : (script : Plan) (past : List Entry) (seat task left : ℕ) → IsLegal script past → seat ≡ 0
     → may_come script past seat (kinds.MainEnd task left) ≡ holds_of (is_done script past seat task left) (running past seat)
 unfolding may_come
-main_end_comes script past seat task left legal driver = rw (eq-eqb seat 0 driver) (by (running past seat) refl)
+main_end_comes script past seat task left legal driver = rw (eq-eqb seat 0 driver) (by_running (running past seat) refl)
   where
-    by : (o : Option Running) → running past seat ≡ o
+    by_running : (o : Option Running) → running past seat ≡ o
         → holds_of (λ w. w.is_main && w.task == task && has_done script past seat left w) o ≡ holds_of (is_done script past seat task left) o
-    by None is = refl
-    by (Some w) is = rw (driver_runs_main script past seat w legal driver is) refl
+    by_running None is = refl
+    by_running (Some w) is = rw (driver_runs_main script past seat w legal driver is) refl
 
 -- the driver ends no task of the pool
 pub driver_ends_none : (script : Plan) (past : List Entry) (seat task left : ℕ) → IsLegal script past → seat ≡ 0

@@ -1,4 +1,5 @@
 -- The items of jobs that seats have in hand: what goes in, and what an end of one leaves.
+use Rattle.hist_model.proofs.Laws.JobEntries.{same_number_is}
 use Rattle.std.proofs.Common.{◌≡◌, ℕ, ◌≤◌, Bool, true, false, List, refl, sym, ap, ◌∙◌, Option, Some, None, ⊎_elim, arith}
 use Rattle.std.proofs.lemmas.Bool.{and_parts, eq-eqb, eqb-true, false_from_ne_true, true≢false}
 use Rattle.std.specs.Prelude.{◌==◌, ◌&&◌, ◌↔◌, is_some, not, slice_get}
@@ -57,12 +58,6 @@ barred script past seat job id item driver full =
     false_from_ne_true (may_come script past seat (kinds.JobTake job id item)) (λ may. ⊎_elim
     (λ k. let worker = k.0.worker in omega (arith, worker, driver)) (λ k. true≢false (sym k.1 ∙ full)) (job_take_is script past seat job id item may))
 
--- two numbers, or none, that are the same
-same_is : (a b : Option ℕ) → same_number a b ≡ true → a ≡ b
-same_is None None same = refl
-same_is (Some a) (Some b) same = ap Some (eqb-true a b same)
-same_is a b same = absurd cc
-
 -- a job is entered under one number, with one item
 pub one_item : (script : Plan) (past : List Entry) (seat job id item other number : ℕ) → may_come script past seat (kinds.JobTake job id item) ≡ true
     → may_come script past seat (kinds.JobTake job other number) ≡ true → (other ≡ id) × (number ≡ item)
@@ -74,7 +69,7 @@ one_item script past seat job id item other number may also =
     (number == claimed past job) also in
     let c = and_parts (enters_job script past seat job (kinds.JobTake job id item)) (same_number (free_id script past job) (Some id)) a.0 in
     let d = and_parts (enters_job script past seat job (kinds.JobTake job other number)) (same_number (free_id script past job) (Some other)) b.0 in (
-      some-injective (sym (same_is (free_id script past job) (Some other) d.1) ∙ same_is (free_id script past job) (Some id) c.1),
+      some-injective (sym (same_number_is (free_id script past job) (Some other) d.1) ∙ same_number_is (free_id script past job) (Some id) c.1),
       eqb-true number (claimed past job) b.1 ∙ sym (eqb-true item (claimed past job) a.1),
     )
 
@@ -150,7 +145,7 @@ one_step script past seat job id item value next other may also =
     (same_number next (next_item script past seat job)) may in
     let b = and_parts (holds_of (is_item job id item) (holding past seat) && value == item_value script job item)
     (same_number other (next_item script past seat job)) also in
-    same_is other (next_item script past seat job) b.1 ∙ sym (same_is next (next_item script past seat job) a.1)
+    same_number_is other (next_item script past seat job) b.1 ∙ sym (same_number_is next (next_item script past seat job) a.1)
 
 -- no next item is asked for
 pub none_is : (next : Option ℕ) (none : Bool) → is_some next ≡ not none → (none ≡ true) ↔ (None ≡ next)

@@ -171,11 +171,11 @@ none_among streak = either (is_starved [] streak)
 
 -- where no front is open none is chosen
 none_chosen : (script : Plan) (past : List Entry) → length (open_fronts script past) ≡ 0 → chosen_of script past ≡ None
-none_chosen script past none = by (open_fronts script past) none
+none_chosen script past none = by_open_fronts (open_fronts script past) none
   where
-    by : (fronts : List Front) → length fronts ≡ 0 → choice_among fronts (streak_of script past) ≡ None
-    by [] is = none_among (streak_of script past)
-    by (f ∷ fronts) is = absurd (omega (arith, is))
+    by_open_fronts : (fronts : List Front) → length fronts ≡ 0 → choice_among fronts (streak_of script past) ≡ None
+    by_open_fronts [] is = none_among (streak_of script past)
+    by_open_fronts (f ∷ fronts) is = absurd (omega (arith, is))
 
 -- an entry that takes a main task or finds none is that of the chosen front
 front_taken : (script : Plan) (past : List Entry) (seat : ℕ) (kind : Kind) → asks_front kind ≡ true → may_come script past seat kind ≡ true

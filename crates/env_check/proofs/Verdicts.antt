@@ -1,5 +1,6 @@
 -- The verdict on a log.
-use Rattle.std.proofs.Common.{◌≡◌, ◌↔◌, ℕ, ◌+◌, ◌<◌, ◌≤◌, ◌^◌, Bool, true, false, cond, List, [], ◌∷◌, ◌++◌, length, take, drop, get_or, refl, sym, ap, ◌∙◌, append_assoc, append-nil, Option, Some, None, arith}
+use Rattle.std.proofs.Common.{◌≡◌, ◌↔◌, ℕ, ◌+◌, ◌<◌, ◌≤◌, ◌^◌, Bool, true, false, cond, List, [], ◌∷◌, ◌++◌, length, take}
+use Rattle.std.proofs.Common.{drop, get_or, refl, sym, ap, ◌∙◌, append_assoc, append-nil, Option, Some, None, arith}
 use Rattle.std.proofs.lemmas.List.{length-take-le, take-append-drop, take_all, take_more}
 use Rattle.std.proofs.lemmas.Bool.{and_parts}
 use Rattle.std.specs.Prelude.{is_none}
@@ -9,7 +10,7 @@ use Rattle.task_base.specs.declared.entry.Entry.{Entry}
 use Rattle.hist_model.specs.Allowed.{is_allowed}
 use Rattle.hist_model.specs.Legal.{IsLegal, first_illegal, illegal_from, is_legal, legal_from}
 use Rattle.hist_model.specs.Script.{IsWhole, is_whole}
-use Rattle.hist_model.proofs.Laws.Entries.{entries_within_limit}
+use Rattle.hist_model.proofs.Laws.Entries.Bound.{entries_within_limit}
 use Rattle.hist_model.proofs.Laws.Legal.{first_illegal_none, is_legal_push}
 use Rattle.env_core.specs.Views.{EnvView}
 use Rattle.env_check.specs.Follows.{Follows}
@@ -34,11 +35,11 @@ illegal_at script past e rest legal barred = illegal_behind script [] past e res
 
 -- a legal log is first illegal nowhere
 pub illegal_nowhere : (script : Plan) (log : List Entry) → IsLegal script log → first_illegal script log ≡ None
-illegal_nowhere script log legal = by (first_illegal script log) (first_illegal_none script log ∙ legal)
+illegal_nowhere script log legal = by_first_illegal (first_illegal script log) (first_illegal_none script log ∙ legal)
   where
-    by : (o : Option ℕ) → is_none o ≡ true → o ≡ None
-    by None none = refl
-    by (Some place) none = absurd cc
+    by_first_illegal : (o : Option ℕ) → is_none o ≡ true → o ≡ None
+    by_first_illegal None none = refl
+    by_first_illegal (Some place) none = absurd cc
 
 -- one more entry that is allowed keeps a history legal
 pub legal_more : (script : Plan) (past : List Entry) (e : Entry) → IsLegal script past → is_allowed script past e ≡ true → IsLegal script (past ++ e ∷ [])
@@ -109,14 +110,14 @@ pub legal_verdict : (script : Plan) (log : List Entry) → (verdict_of script lo
 unfolding verdict_of
 legal_verdict script log = (there, λ both. rw (illegal_nowhere script log both.0, both.1) refl)
   where
-    by : (o : Option ℕ) (whole : Bool) → first_illegal script log ≡ o → is_whole script log ≡ whole → verdict_at script log o ≡ Legal
+    by_first_illegal : (o : Option ℕ) (whole : Bool) → first_illegal script log ≡ o → is_whole script log ≡ whole → verdict_at script log o ≡ Legal
         → IsLegal script log × IsWhole script log
-    by (Some place) whole is same verdict = absurd cc
-    by None true is same verdict = (sym (first_illegal_none script log) ∙ ap is_none is, same)
-    by None false is same verdict = absurd cc
+    by_first_illegal (Some place) whole is same verdict = absurd cc
+    by_first_illegal None true is same verdict = (sym (first_illegal_none script log) ∙ ap is_none is, same)
+    by_first_illegal None false is same verdict = absurd cc
 
     there : verdict_at script log (first_illegal script log) ≡ Legal → IsLegal script log × IsWhole script log
-    there verdict = by (first_illegal script log) (is_whole script log) refl refl verdict
+    there verdict = by_first_illegal (first_illegal script log) (is_whole script log) refl refl verdict
 
 -- and so is each answer that is the verdict
 pub legal_answer : (script : Plan) (log : List Entry) (verdict : Verdict) → verdict ≡ verdict_of script log
@@ -132,11 +133,11 @@ prefix_verdict_there script log first is = ap prefix_verdict_at is
 -- it is that of a legal log exactly where the beginning is one
 pub legal_prefix : (script : Plan) (log : List Entry) → (prefix_verdict_of script log ≡ Legal) ↔ IsLegal script log
 unfolding prefix_verdict_of
-legal_prefix script log = (by (first_illegal script log) refl, λ legal. rw (illegal_nowhere script log legal) refl)
+legal_prefix script log = (by_first_illegal (first_illegal script log) refl, λ legal. rw (illegal_nowhere script log legal) refl)
   where
-    by : (o : Option ℕ) → first_illegal script log ≡ o → prefix_verdict_at o ≡ Legal → IsLegal script log
-    by (Some place) is same = absurd cc
-    by None is same = sym (first_illegal_none script log) ∙ ap is_none is
+    by_first_illegal : (o : Option ℕ) → first_illegal script log ≡ o → prefix_verdict_at o ≡ Legal → IsLegal script log
+    by_first_illegal (Some place) is same = absurd cc
+    by_first_illegal None is same = sym (first_illegal_none script log) ∙ ap is_none is
 
 -- and so is each answer that is the verdict
 pub legal_prefix_answer : (script : Plan) (log : List Entry) (verdict : Verdict) → verdict ≡ prefix_verdict_of script log

@@ -38,13 +38,13 @@ quiet_hands view hands are = all_at is_empty (is_free view.history) hands 0
 pub finished_told : (script : Plan) (past : List Entry) (action : Option Action) (none : Bool)
     → action ≡ option_map (λ (c : Current). c.action) (current script (own_entries 0 past)) → is_some action ≡ not none → none ≡ is_finished script past
 unfolding is_finished
-finished_told script past action none is told = by (current script (own_entries 0 past)) none (ap is_some (sym is) ∙ told)
+finished_told script past action none is told = by_current (current script (own_entries 0 past)) none (ap is_some (sym is) ∙ told)
   where
-    by : (c : Option Current) (b : Bool) → is_some (option_map (λ (x : Current). x.action) c) ≡ not b → b ≡ is_none c
-    by None true same = refl
-    by None false same = absurd cc
-    by (Some x) true same = absurd cc
-    by (Some x) false same = refl
+    by_current : (c : Option Current) (b : Bool) → is_some (option_map (λ (x : Current). x.action) c) ≡ not b → b ≡ is_none c
+    by_current None true same = refl
+    by_current None false same = absurd cc
+    by_current (Some x) true same = absurd cc
+    by_current (Some x) false same = refl
 
 -- a log is whole exactly where the script is finished and each hand is free
 pub whole_told : (view : EnvView) (hands : List Hand) → AreInHand view hands → (finished free : Bool) → finished ≡ is_finished view.script view.history

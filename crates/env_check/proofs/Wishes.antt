@@ -46,11 +46,11 @@ busy_wants_nothing script past kind legal busy = false_from_ne_true (is_wanted s
 pub finished_wants_nothing : (script : Plan) (own : List Entry) (kind : Kind) → option_map (λ (c : Current). c.action) (current script own) ≡ None
     → is_wanted script own kind ≡ false
 unfolding is_wanted
-finished_wants_nothing script own kind finished = by (current script own) finished
+finished_wants_nothing script own kind finished = by_current (current script own) finished
   where
-    by : (o : Option Current) → option_map (λ (c : Current). c.action) o ≡ None → holds_of (λ c. wants own c.action c.made kind) o ≡ false
-    by None none = refl
-    by (Some c) none = absurd cc
+    by_current : (o : Option Current) → option_map (λ (c : Current). c.action) o ≡ None → holds_of (λ c. wants own c.action c.made kind) o ≡ false
+    by_current None none = refl
+    by_current (Some c) none = absurd cc
 
 -- what the action that a free driver is at wants is wanted
 pub asked_of_action : (script : Plan) (past : List Entry) (kind : Kind) (action : Action) (made : ℕ) (answer : Bool)
@@ -60,7 +60,7 @@ pub asked_of_action : (script : Plan) (past : List Entry) (kind : Kind) (action 
     → answer ≡ wants own action entries kind)
     → answer ≡ is_wanted script (own_entries 0 past) kind
 unfolding is_wanted
-asked_of_action script past kind action made answer at counts free says = by (current script (own_entries 0 past)) at counts
+asked_of_action script past kind action made answer at counts free says = by_current (current script (own_entries 0 past)) at counts
   where
     none_of : {A : Type 0} (o : Option A) → is_none o ≡ true → o ≡ None
     none_of None none = refl
@@ -69,10 +69,10 @@ asked_of_action script past kind action made answer at counts free says = by (cu
     parts : (is_none (running past 0) ≡ true) × (is_none (holding past 0) ≡ true)
     parts = and_parts (is_none (running past 0)) (is_none (holding past 0)) free
 
-    by : (o : Option Current) → option_map (λ (c : Current). c.action) o ≡ Some action → IfSome o (λ c. made ≡ counted (c.action ∷ []) c.made)
+    by_current : (o : Option Current) → option_map (λ (c : Current). c.action) o ≡ Some action → IfSome o (λ c. made ≡ counted (c.action ∷ []) c.made)
         → answer ≡ holds_of (λ c. wants (own_entries 0 past) c.action c.made kind) o
-    by None is more = absurd cc
-    by (Some c) is more =
+    by_current None is more = absurd cc
+    by_current (Some c) is more =
         let same : c.action ≡ action = same_Some c.action action is in
         says (own_entries 0 past) c.made (running_own past 0 ∙ none_of (running past 0) parts.0)
         (holding_own past 0 ∙ none_of (holding past 0) parts.1) (more ∙ ap (λ x. counted (x ∷ []) c.made) same)
@@ -84,11 +84,11 @@ asked_of_action script past kind action made answer at counts free says = by (cu
 wanted_alike : (script : Plan) (own : List Entry) (a b : Kind) → ((x : Action) (made : List Entry) → wants own x made a ≡ wants own x made b)
     → is_wanted script own a ≡ is_wanted script own b
 unfolding is_wanted
-wanted_alike script own a b alike = by (current script own)
+wanted_alike script own a b alike = by_current (current script own)
   where
-    by : (o : Option Current) → holds_of (λ c. wants own c.action c.made a) o ≡ holds_of (λ c. wants own c.action c.made b) o
-    by None = refl
-    by (Some c) = alike c.action c.made
+    by_current : (o : Option Current) → holds_of (λ c. wants own c.action c.made a) o ≡ holds_of (λ c. wants own c.action c.made b) o
+    by_current None = refl
+    by_current (Some c) = alike c.action c.made
 
 -- so both are wanted next where one is by the script
 pub next_alike : (view : EnvView) (seat : ℕ) (a b : Kind) → by_script view.script view.history seat a ≡ true

@@ -14,5 +14,5 @@ mod verdict;
 mod waits;
 
 pub use check::{check_log, check_prefix, follow_all};
-pub use replay::Replay;
+pub use replay::{Replay, discard};
 pub use verdict::Verdict;

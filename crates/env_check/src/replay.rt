@@ -104,6 +104,12 @@ impl Replay {
     }
 }
 
+/// Drops the parts of a replay, in the crate that has to know how, so that those above need not prove it too.
+pub fn discard(env: Env<ScriptBody>, hands: Vec<Hand>) {
+    drop(env);
+    drop(hands);
+}
+
 /// The bodies of a script's tasks, each in the place of its task. The error is want of memory.
 fn bodies_of(alloc: Global, script: &Script) -> Result<Vec<Box<ScriptBody>>, AllocError>
     ensures { IfOk result (λ bodies. AreFresh bodies.items (λ body. body.value.whole) (λ body. body.value.rest) script.now) }

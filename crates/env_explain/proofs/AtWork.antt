@@ -42,11 +42,11 @@ work_told : {view : EnvView} {hands : List Hand} (seat : ℕ) (hand : Hand) → 
 work_told {view} seat Free are in_hand =
     let parts = free_parts view.history seat (sym (free_hand view seat Free in_hand)) in rw (parts.0, parts.1) refl
 work_told {view} seat (Task at) are in_hand = rw (runs_it in_hand) (ap (λ (task : ℕ). Some (works.Task task)) in_hand.seats.task_is)
-work_told {view} seat (Item pass) are in_hand = by (running view.history seat) refl
+work_told {view} seat (Item pass) are in_hand = by_running (running view.history seat) refl
   where
-    by : (o : Option Running) → running view.history seat ≡ o → work_in (Item pass) ≡ work_of view.history seat
-    by None is = rw (is, ← holding_own view.history seat, in_hand.holds) refl
-    by (Some w) is = absurd ((legal_does_one_thing view.script view.history are.legal).one_thing seat w (held_by pass) is
+    by_running : (o : Option Running) → running view.history seat ≡ o → work_in (Item pass) ≡ work_of view.history seat
+    by_running None is = rw (is, ← holding_own view.history seat, in_hand.holds) refl
+    by_running (Some w) is = absurd ((legal_does_one_thing view.script view.history are.legal).one_thing seat w (held_by pass) is
         (sym (holding_own view.history seat) ∙ in_hand.holds))
 
 -- so those that have something in hand are those that run or hold something

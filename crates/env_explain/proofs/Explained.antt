@@ -1,5 +1,6 @@
 -- Where a log goes wrong, and what is left at its end.
-use Rattle.std.proofs.Common.{◌≡◌, ◌↔◌, inl, inr, ℕ, zero, suc, ◌+◌, ◌≤◌, Bool, true, false, List, ◌∷◌, length, take, refl, sym, ap, subst, ◌∙◌, Option, Some, None, arith}
+use Rattle.std.proofs.Common.{◌≡◌, ◌↔◌, inl, inr, ℕ, zero, suc, ◌+◌, ◌≤◌, Bool, true, false, List, ◌∷◌}
+use Rattle.std.proofs.Common.{length, take, refl, sym, ap, subst, ◌∙◌, Option, Some, None, arith}
 use Rattle.std.proofs.Math.Seq.{take-append_seam}
 use Rattle.std.proofs.lemmas.Bool.{true≢false}
 use Rattle.std.proofs.lemmas.List.{length-append, take_all}
@@ -42,7 +43,7 @@ pub record StopsAt (script : Plan) (log : List Entry) (place : ℕ) : Type 0 whe
 -- so it is with the place of each verdict
 pub stops : (script : Plan) (log : List Entry) (place : ℕ) → verdict_of script log ≡ Illegal place → StopsAt script log place
 unfolding verdict_of
-stops script log place verdict = by (first_illegal script log) (is_whole script log) refl refl verdict
+stops script log place verdict = by_first_illegal (first_illegal script log) (is_whole script log) refl refl verdict
   where
     at_place : IsIllegalAt script log place → StopsAt script log place
     at_place at =
@@ -53,11 +54,11 @@ stops script log place verdict = by (first_illegal script log) (is_whole script 
           open_end = λ end. absurd (omega (arith, long, at.place_is, end));
         }
 
-    by : (o : Option ℕ) (whole : Bool) → first_illegal script log ≡ o → is_whole script log ≡ whole → verdict_at script log o ≡ Illegal place
+    by_first_illegal : (o : Option ℕ) (whole : Bool) → first_illegal script log ≡ o → is_whole script log ≡ whole → verdict_at script log o ≡ Illegal place
         → StopsAt script log place
-    by (Some p) whole is same told = let here : p ≡ place = cc in at_place (first_illegal_some script log place (is ∙ ap Some here))
-    by None true is same told = absurd cc
-    by None false is same told =
+    by_first_illegal (Some p) whole is same told = let here : p ≡ place = cc in at_place (first_illegal_some script log place (is ∙ ap Some here))
+    by_first_illegal None true is same told = absurd cc
+    by_first_illegal None false is same told =
         let end : length log ≡ place = cc in
         record {
           within = omega (arith, end);
@@ -90,13 +91,13 @@ pub legal_told : (script : Plan) (log : List Entry) (told : Explanation) → ver
     → (told ≡ explanations.Legal) ↔ (IsLegal script log × IsWhole script log)
 legal_told script log told is =
     let legal = legal_answer script log (verdict_told told) is in
-    (λ same. legal.0 (ap verdict_told same), λ both. by told (legal.1 both))
+    (λ same. legal.0 (ap verdict_told same), λ both. by_told told (legal.1 both))
   where
-    by : (t : Explanation) → verdict_told t ≡ Legal → t ≡ explanations.Legal
-    by explanations.Legal same = refl
-    by (explanations.Barred place cause) same = absurd cc
-    by (explanations.Unfinished place seat cause) same = absurd cc
-    by (explanations.AtWork place busy) same = absurd cc
+    by_told : (t : Explanation) → verdict_told t ≡ Legal → t ≡ explanations.Legal
+    by_told explanations.Legal same = refl
+    by_told (explanations.Barred place cause) same = absurd cc
+    by_told (explanations.Unfinished place seat cause) same = absurd cc
+    by_told (explanations.AtWork place busy) same = absurd cc
 
 -- where workers are busy, a seat that has nothing in hand is the driver's
 pub free_driver : (view : EnvView) (seat : ℕ) → IsInHand view seat Free → (1 ≤ seat → is_free view.history seat ≡ false) → seat ≡ 0
@@ -120,8 +121,8 @@ busy_is_known {view} {hands} seat are (hand, at, full) = omega (arith, slice_get
 -- where none has and the history is not whole, the driver has
 pub driver_has_more : {view : EnvView} {hands : List Hand} → AreInHand view hands → list_all is_empty hands ≡ true
     → is_whole view.script view.history ≡ false → HasMore view.script view.history 0
-driver_has_more {view} {hands} are free more = inr (refl, by (is_finished view.script view.history) refl)
+driver_has_more {view} {hands} are free more = inr (refl, by_finished (is_finished view.script view.history) refl)
   where
-    by : (finished : Bool) → is_finished view.script view.history ≡ finished → finished ≡ false
-    by true is = absurd (true≢false (whole_told view hands are true true (sym is) (sym free) ∙ more))
-    by false is = refl
+    by_finished : (finished : Bool) → is_finished view.script view.history ≡ finished → finished ≡ false
+    by_finished true is = absurd (true≢false (whole_told view hands are true true (sym is) (sym free) ∙ more))
+    by_finished false is = refl

@@ -10,7 +10,7 @@ ghost use Rattle.next_entry.specs.Causes.{Explains, is_of_work};
 ghost use Rattle.env_check.specs.declared.verdict.Verdict.{Verdict};
 ghost use Rattle.env_explain.specs.Explained.{HasInHand, HasMore, IsExplained, busy_below, verdict_told, work_in};
 
-use env_check::Replay;
+use env_check::{Replay, discard};
 use env_core::Env;
 use next_entry::{
     Busy, Cause, Explanation, Work, next_of_driver, next_of_item, next_of_task, next_of_worker,
@@ -29,7 +29,11 @@ pub fn explain(replay: Replay, script: &Script, past: &[Entry], entry: Entry) ->
     ensures { Explains result replay.script replay.history entry.seat (Some entry.kind) }
 {
     match stray(&replay, script, &entry) {
-        Some(cause) => cause,
+        Some(cause) => {
+            let (env, hands) = replay.into_parts();
+            discard(env, hands);
+            cause
+        }
         None => expected(replay, script, past, &entry),
     }
 }
@@ -47,13 +51,10 @@ fn expected(replay: Replay, script: &Script, past: &[Entry], entry: &Entry) -> C
         return choice(replay, script, past, entry);
     }
     let (mut env, mut hands) = replay.into_parts();
-    next_of_seat(
-        &mut env,
-        &mut hands,
-        script,
-        entry.seat,
-        reading_of(&entry.kind),
-    )
+    let reading = reading_of(&entry.kind);
+    let cause = next_of_seat(&mut env, &mut hands, script, entry.seat, reading);
+    discard(env, hands);
+    cause
 }
 
 /// What a worker takes next that is free, or why it takes nothing.
@@ -68,7 +69,9 @@ fn choice(replay: Replay, script: &Script, past: &[Entry], entry: &Entry) -> Cau
     ensures { Explains result replay.script replay.history entry.now.seat (Some entry.now.kind) }
 {
     let (mut env, hands) = replay.into_parts();
-    next_of_worker(&mut env, &hands, script, past, entry)
+    let cause = next_of_worker(&mut env, &hands, script, past, entry);
+    discard(env, hands);
+    cause
 }
 
 /// Why no seat, or no worker that is free, ever makes the entry.
@@ -110,8 +113,29 @@ pub fn explain_end(
     ensures verdict { IfOk result (λ told. verdict_told told ≡ Verdict.Illegal place) }
     ensures cause { IfOk result (λ told. IsExplained replay.script replay.history told) }
 {
-    let (env, hands) = replay.into_parts();
-    let busy = busy_seats(alloc, &hands, script.workers + 1)?;
+    let (mut env, mut hands) = replay.into_parts();
+    let told = end_told(&mut env, &mut hands, alloc, script, place);
+    discard(env, hands);
+    told
+}
+
+/// What is left to be done at the end of a log that led to this environment, with this in the seats' hands.
+fn end_told(
+    env: &mut Env<ScriptBody>,
+    hands: &mut Vec<Hand>,
+    alloc: Global,
+    script: &Script,
+    place: Place,
+) -> Result<Explanation, AllocError>
+    requires plan { IsSound env.old.script }
+    requires script { script.now ≡ env.old.script }
+    requires place { place ≡ length env.old.history }
+    requires more { is_whole env.old.script env.old.history ≡ false }
+    requires hands { AreInHand env.old hands.old.items }
+    ensures verdict { IfOk result (λ told. verdict_told told ≡ Verdict.Illegal place) }
+    ensures cause { IfOk result (λ told. IsExplained env.old.script env.old.history told) }
+{
+    let busy = busy_seats(alloc, hands, script.workers + 1)?;
     if busy.len() > 1 && env.is_finished() {
         return Ok(Explanation::AtWork { place, busy });
     }
@@ -121,20 +145,21 @@ pub fn explain_end(
 
 /// What is left to be done where the log ends, and of which seat: the first one that runs or holds something, or else the
 /// driver.
-fn left(mut env: Env<ScriptBody>, mut hands: Vec<Hand>, script: &Script) -> (SeatNo, Cause)
-    requires script { script.now ≡ env.script }
-    requires more { is_whole env.script env.history ≡ false }
-    requires hands { AreInHand env hands.items }
-    ensures known { result.0 ≤ env.script.workers }
-    ensures more { HasMore env.script env.history result.0 }
-    ensures cause { Explains result.1 env.script env.history result.0 None }
+fn left(env: &mut Env<ScriptBody>, hands: &mut Vec<Hand>, script: &Script) -> (SeatNo, Cause)
+    requires plan { IsSound env.old.script }
+    requires script { script.now ≡ env.old.script }
+    requires more { is_whole env.old.script env.old.history ≡ false }
+    requires hands { AreInHand env.old hands.old.items }
+    ensures known { result.0 ≤ env.old.script.workers }
+    ensures more { HasMore env.old.script env.old.history result.0 }
+    ensures cause { Explains result.1 env.old.script env.old.history result.0 None }
 {
-    match first_busy(&hands) {
-        None => (0, next_of_seat(&mut env, &mut hands, script, 0, 0)),
-        Some(seat) => (
-            seat as SeatNo,
-            next_of_seat(&mut env, &mut hands, script, seat as SeatNo, 0),
-        ),
+    match first_busy(hands) {
+        None => (0, next_of_seat(env, hands, script, 0, 0)),
+        Some(seat) => {
+            let seat = seat as SeatNo;
+            (seat, next_of_seat(env, hands, script, seat, 0))
+        }
     }
 }
 
