@@ -1,8 +1,8 @@
 //! One hold of the turn, by a seat at a desk. Whoever is to be woken by it is woken once the turn is given back.
-ghost use Rattle.std.specs.Prelude.{◌≡◌, ◌≤◌, true, false};
+ghost use Rattle.std.specs.Prelude.{◌≡◌, ◌+◌, ◌≤◌, true, false, length};
 ghost use Rattle.hist_model.specs.Views.{own_entries};
 ghost use Rattle.env_crew.specs.Desk.{Holds, as_seen};
-ghost use Rattle.env_shared.specs.Holds.{HasEntered, found};
+ghost use Rattle.env_shared.specs.Holds.{HasEntered, HasTurn, found};
 ghost use Rattle.env_shared.specs.Sits.{IsSat, Sits, desk_of, seat_there};
 
 use crate::shared::{EnvSeat, Shared};
@@ -74,12 +74,12 @@ impl<'a, B: TaskBody> Hold<'a, B> {
         self.number
     }
 
-    /// Gives the turn back, with one more entry.
-    pub fn enter(self, env: Box<Env<B>>) -> EnvSeat<B>
-        requires { HasEntered false self env.value }
-        ensures sits { Sits self.entry.of result }
-        ensures holds { Holds (desk_of self.entry.seat) self.entry.past (desk_of result) }
-        ensures seen { as_seen (desk_of result) ≡ env.value }
+    // The shared environment, the turn that the seat holds, and the notes.
+    fn into_parts(self) -> (&'a Shared<B>, Holding<Roster<B>>, Notes)
+        ensures shared { result.0.now ≡ self.entry.of }
+        ensures turn { HasTurn self.entry.of self.entry.seat result.1 }
+        ensures found { result.1.seen ≡ self.entry.past }
+        ensures notes { length result.2 ≡ self.entry.of.basis.workers + 1 }
     {
         let Hold {
             shared,
@@ -88,6 +88,17 @@ impl<'a, B: TaskBody> Hold<'a, B> {
             notes,
             seat: _,
         } = self;
+        (shared, holding, notes)
+    }
+
+    /// Gives the turn back, with one more entry.
+    pub fn enter(self, env: Box<Env<B>>) -> EnvSeat<B>
+        requires { HasEntered false self env.value }
+        ensures sits { Sits self.entry.of result }
+        ensures holds { Holds (desk_of self.entry.seat) self.entry.past (desk_of result) }
+        ensures seen { as_seen (desk_of result) ≡ env.value }
+    {
+        let (shared, holding, notes) = self.into_parts();
         let (roster, wake) = Roster::shut(env, notes);
         let seat = shared.turnstile.enter(roster, holding);
         shared.wake(wake);
@@ -102,13 +113,7 @@ impl<'a, B: TaskBody> Hold<'a, B> {
         ensures seen { as_seen (desk_of result) ≡ env.value }
         ensures told { result.told ≡ true }
     {
-        let Hold {
-            shared,
-            number: _,
-            holding,
-            notes,
-            seat: _,
-        } = self;
+        let (shared, holding, notes) = self.into_parts();
         let (roster, wake) = Roster::shut(env, notes);
         let seat = shared.turnstile.enter_shutdown(roster, holding);
         shared.wake(wake);
@@ -122,13 +127,7 @@ impl<'a, B: TaskBody> Hold<'a, B> {
         ensures holds { Holds (desk_of self.entry.seat) self.entry.past (desk_of result) }
         ensures seen { as_seen (desk_of result) ≡ env.value }
     {
-        let Hold {
-            shared,
-            number: _,
-            holding,
-            notes,
-            seat: _,
-        } = self;
+        let (shared, holding, notes) = self.into_parts();
         let (roster, wake) = Roster::shut(env, notes);
         let seat = shared.turnstile.back(roster, holding);
         shared.wake(wake);

@@ -1,13 +1,17 @@
 -- What a test knows behind its calls, and what that allows.
-use Rattle.std.proofs.Common.{◌≡◌, ℕ, List, [], length, refl, sym, ap, ◌∙◌, false, true}
+use Rattle.std.proofs.Common.{◌≡◌, ℕ, Bool, List, [], length, refl, sym, ap, ◌∙◌, false, true, Some}
 use Rattle.std.specs.Prelude.{filter}
+use Rattle.list_laws.proofs.Values.{some-injective}
 use Rattle.task_base.specs.Plan.{Plan}
 use Rattle.task_base.specs.Steps.{is_act}
+use Rattle.task_base.specs.declared.entry.Kind.{Kind}
 use Rattle.task_base.specs.declared.step.Step.{Step}
+use Rattle.task_model.specs.Seats.{Running, running}
 use Rattle.task_body.specs.Bodies.{AssignmentView}
-use Rattle.env_core.specs.Calls.{CanEnd, CanEndMain}
+use Rattle.task_body.specs.declared.act.Act.{Act}
+use Rattle.env_core.specs.Calls.{CanEnd, CanEndMain, EntersAct, entry_of}
 use Rattle.env_core.specs.Views.{EnvView}
-use Rattle.worked_calls.specs.Known.{IsLast, IsLastMain, IsWork}
+use Rattle.worked_calls.specs.Known.{IsLast, IsLastMain, IsWork, with_entry}
 
 -- a step of an assignment leaves what it is for
 pub still : (script : Plan) (task : ℕ) (old new : AssignmentView) → IsWork script task old → new ≡ record old { value = new.value; rest = new.rest }
@@ -53,3 +57,11 @@ can_end_main view task work is none last = record {
   none_left = none;
   all_entered = last.all_entered ∙ sym (ap (λ (s : List Step). length (filter is_act s)) is.whole_is);
 }
+
+-- the entry of an act is of the task that the seat runs
+pub enters_act : (before after : EnvView) (seat : ℕ) (act : Act) (ok : Bool) (kind : Kind) (now : Running) → running before.history seat ≡ Some now
+    → entry_of now.task act ok ≡ Some kind → EntersAct before after seat act ok → after ≡ with_entry before seat kind
+enters_act before after seat act ok kind now runs told acted =
+    let same : acted.now ≡ now = some-injective (sym acted.runs ∙ runs) in
+    let kind_is : acted.kind ≡ kind = some-injective (sym acted.kind_is ∙ ap (λ (r : Running). entry_of r.task act ok) same ∙ told) in
+    acted.enters.entered ∙ ap (λ k. with_entry before seat k) kind_is

@@ -4,3 +4,4 @@ pub mod Known
 pub mod Seated
 pub mod Turns
 pub mod Spare
+pub mod Scopes

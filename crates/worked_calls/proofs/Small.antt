@@ -21,10 +21,11 @@ use Rattle.task_base.specs.declared.step.Step.{Step}
 use Rattle.task_base.specs.declared.step.Step.TheVariants as steps
 use Rattle.script_model.specs.Bound.{events_bound_of}
 use Rattle.script_model.specs.Draft.{has_bad_scopes, is_shutdown, is_start_of, may_block_on, opens_scope, ticks_of}
-use Rattle.script_model.specs.Laws.Sound.{IsActionSound, IsConfigSound, IsInOrder, IsJobSound, IsQueueWithin, IsSeatThere, IsSound, IsStepSound, IsStepWithin, IsTaskSound}
+use Rattle.script_model.specs.Laws.Sound.{IsActionSound, IsConfigSound, IsInOrder, IsJobSound, IsQueueWithin}
+use Rattle.script_model.specs.Laws.Sound.{IsSeatThere, IsSound, IsStepSound, IsStepWithin, IsTaskSound}
 use Rattle.script_model.specs.Laws.Sound.{IsWithinLimits}
 use Rattle.script_model.specs.Postings.{is_posted_once}
-use Rattle.hist_model.proofs.Laws.Differing.{posted_once_decides}
+use Rattle.hist_model.proofs.Laws.Postings.Differing.{posted_once_decides}
 
 -- Ranges.
 

@@ -18,7 +18,8 @@ free_alone key script s is basis some zero d here =
 free_alone key script s is basis some (suc i) d here = absurd (none-some d here)
 
 -- it came back where it is popped
-pub back_alone : (key : TurnKey) (s d : SeatView) (olds news left : List SeatView) → s ≡ worker_seat key 1 → Seated s → olds ≡ s ∷ [] → SameDesks desk_of olds news
+pub back_alone : (key : TurnKey) (s d : SeatView) (olds news left : List SeatView) → s ≡ worker_seat key 1 → Seated s → olds ≡ s ∷ []
+    → SameDesks desk_of olds news
     → news ≡ left ++ d ∷ [] → Seated d → IsOf key 1 d
 back_alone key s d olds news [] is at_first old same now seated =
     let later = same.each 0 s d (rw old refl) (rw now refl) in

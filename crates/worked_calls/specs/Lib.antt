@@ -1,3 +1,5 @@
 pub mod Plans
 pub mod Known
 pub mod Lives
+pub mod Scopes
+pub mod Jobs

@@ -5,7 +5,7 @@ ghost use Rattle.worked_calls.specs.Known.{IsBack, IsOf, driver_seat, worker_sea
 
 use crate::bodies::CountedBody;
 use crate::desk_calls::{log_of_two, open_two};
-use crate::logs::assert_log;
+use crate::texts::{assert_log, script_of};
 use env_crew::drive;
 use env_io::{OpenGate, StepClock};
 use env_shared::{EnvSeat, Shared};
@@ -14,7 +14,6 @@ use std::process::Abort;
 use std::sync::Wait;
 use std::test::Fail;
 use task_base::{Entry, Rows, Script};
-use task_script::read_script;
 
 /// Performs a script of one worker at these two seats, by readings so far apart. The worker's desk is a spare one.
 fn drive_seats<R: Wait + Abort>(
@@ -63,23 +62,12 @@ fn drive_alone<R: Wait + Abort>(
     log_of_two(alloc, shared, first, second)
 }
 
-/// The script of a short text.
-fn script_of(rt: &impl Abort, alloc: Global, text: &str) -> Script
-    ensures { IsSound result }
-{
-    assert!(rt; text.len() < 1000);
-    let Ok(script) = read_script(alloc, text.as_bytes()) else {
-        panic!(rt; "the script is not read")
-    };
-    script
-}
-
 /// Such a run of this text, by readings that are 10 apart, has this log.
 fn assert_alone<R: Wait + Abort>(rt: &R, alloc: Global, text: &str, log: &str) -> Result<(), Fail> {
-    let script = script_of(rt, alloc, text);
+    let script = script_of(alloc, text)?;
     assert!(rt; script.workers == 1);
     let entries = drive_alone(rt, alloc, &script, 10)?;
-    assert_log(rt, alloc, &entries, log)
+    assert_log(alloc, &entries, log)
 }
 
 #[test]

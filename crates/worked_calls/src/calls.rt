@@ -43,6 +43,14 @@ pub fn post(rt: &impl Abort, env: &mut Env<CountedBody>, task: TaskId)
     assert!(rt; env.post(0, task, 0, 0));
 }
 
+/// The driver reads the clock, which is at this moment.
+pub fn tick(rt: &impl Abort, env: &mut Env<CountedBody>, moment: u64)
+    requires { (now : ℕ) → IsWantedNext env.old 0 (kinds.Tick now) }
+    ensures { env.new ≡ with_entry env.old 0 (kinds.Tick moment) }
+{
+    assert!(rt; env.tick(0, moment) == moment);
+}
+
 /// A worker takes this task, which was posted to the first runner and finds nothing.
 pub fn take(
     rt: &impl Abort,
@@ -151,6 +159,14 @@ pub fn assert_kept(rt: &impl Abort, env: &Env<CountedBody>, in_drawer: [bool; 3]
         in_drawer
     );
     assert_eq!(rt; [env.is_cell_out(0, 0), env.is_main_cell_out(0)], out);
+}
+
+/// The driver starts a job, which is let in.
+pub fn start_job(rt: &impl Abort, env: &mut Env<CountedBody>, job: JobId)
+    requires { (ok : Bool) → IsWantedNext env.old 0 (kinds.JobPost job ok) }
+    ensures { env.new ≡ with_entry env.old 0 (kinds.JobPost job true) }
+{
+    assert!(rt; env.job_post(0, job));
 }
 
 /// A worker takes this item of the first job, under the number 0.

@@ -4,8 +4,8 @@ use crate::desk_calls::{
     assert_block_untold, assert_served, assert_shut, end, enter, leave, log_of_three, log_of_two,
     open_three, open_two, take,
 };
-use crate::logs::assert_log;
 use crate::scripts::{closing, first, will};
+use crate::texts::assert_log;
 use env_crew::{Desk, Served};
 use std::test::Fail;
 use task_base::Scope;
@@ -36,7 +36,6 @@ fn three_desks_by_turns(rt: HostRuntime) -> Result<(), Fail> {
     let two = other.into_seat();
     let log = log_of_three(rt.alloc(), shared, first, one, two)?;
     assert_log(
-        &rt,
         rt.alloc(),
         &log,
         "0 0 post 0 0 0 ok\n1 0 post 1 0 0 ok\n2 1 take 0 0 0\n3 1 block 0 will\n\
@@ -60,7 +59,6 @@ fn serve_answers_as_its_take(rt: HostRuntime) -> Result<(), Fail> {
     let second = worker.into_seat();
     let log = log_of_two(rt.alloc(), shared, first, second)?;
     assert_log(
-        &rt,
         rt.alloc(),
         &log,
         "0 0 post 0 0 0 ok\n1 1 take 0 0 0\n2 1 end 0 5\n3 0 idle\n",
@@ -82,5 +80,5 @@ fn shutdown_is_seen_without_the_turn(rt: HostRuntime) -> Result<(), Fail> {
     let first = driver.into_seat();
     let second = worker.into_seat();
     let log = log_of_two(rt.alloc(), shared, first, second)?;
-    assert_log(&rt, rt.alloc(), &log, "0 0 post 0 0 5 ok\n1 0 shutdown\n")
+    assert_log(rt.alloc(), &log, "0 0 post 0 0 5 ok\n1 0 shutdown\n")
 }

@@ -1,5 +1,5 @@
 //! Tests of the crates below that are lists of calls, with gates and threads of their own, and what other tests use too:
-//! the bodies that they run, and texts of logs.
+//! the bodies that they run, and scripts and logs by their texts.
 #![tactic(auto)]
 
 #[cfg(test)]
@@ -18,8 +18,6 @@ mod fronts;
 #[cfg(test)]
 mod lives;
 #[cfg(test)]
-mod logs;
-#[cfg(test)]
 mod notes;
 #[cfg(test)]
 mod one_env;
@@ -30,4 +28,4 @@ mod texts;
 mod threads;
 
 pub use bodies::{CountedBody, Word, bodies_of};
-pub use texts::text_of;
+pub use texts::{assert_log, script_of};

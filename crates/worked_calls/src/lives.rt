@@ -7,8 +7,8 @@ ghost use Rattle.worked_calls.specs.Lives.{first_done, main_done};
 use crate::bodies::{CountedBody, Word};
 use crate::calls::{assert_kept, end, end_main, open_with, post, step, take, take_main};
 use crate::counts::{assert_raised, assert_shares};
-use crate::logs::assert_log;
 use crate::scripts::{late, will};
+use crate::texts::assert_log;
 use env_core::Env;
 use std::process::Abort;
 use std::sync::Arc;
@@ -80,7 +80,6 @@ fn a_take_or_a_refused_post_empties_the_drawer(rt: HostRuntime) -> Result<(), Fa
     do_main(&rt, &mut env);
     refuse_last(&rt, &mut env, &word);
     assert_log(
-        &rt,
         rt.alloc(),
         &env.into_log(),
         "0 0 post 0 0 0 ok\n1 1 take 0 0 0\n2 1 end 0 5\n3 0 main 1 0 0 ok\n4 0 maintake 1 0 0\n\

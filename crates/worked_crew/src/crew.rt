@@ -4,26 +4,14 @@ ghost use Rattle.script_model.specs.Laws.Sound.{IsSound};
 use env_io::{Gate, ListClock};
 use env_threads::run_crew;
 use std::alloc::{AllocError, Global};
+use std::hint;
 use std::process::Abort;
 use std::sync::atomic::{AtomicU64, Ordering};
 use std::sync::{Arc, Wait};
 use std::test::Fail;
 use std::thread::Threads;
-use std::{hint, str};
 use task_base::{Entry, Rows, Script};
-use task_script::read_script;
-use worked_calls::{Word, bodies_of, text_of};
-
-/// The script of a short text.
-fn script_of(rt: &impl Abort, alloc: Global, text: &str) -> Script
-    ensures { IsSound result }
-{
-    assert!(rt; text.len() < 1000);
-    let Ok(script) = read_script(alloc, text.as_bytes()) else {
-        panic!(rt; "the script is not read")
-    };
-    script
-}
+use worked_calls::{Word, assert_log, bodies_of, script_of};
 
 /// The log of a run of this script on threads. Its bodies share the word.
 fn log_of<R: Threads + Wait + Sync, G: Gate>(
@@ -39,19 +27,6 @@ fn log_of<R: Threads + Wait + Sync, G: Gate>(
     let mut clock = ListClock::new(Vec::new(alloc));
     let env = run_crew(rt, alloc, script, bodies, &mut clock, gate)?;
     Ok(env.into_log())
-}
-
-/// The log is this text.
-fn assert_log(
-    rt: &impl Abort,
-    alloc: Global,
-    log: &Rows<Entry>,
-    wanted: &str,
-) -> Result<(), AllocError> {
-    assert!(rt; log.len() < 100);
-    let text = text_of(alloc, log)?;
-    assert_eq!(rt; str::from_utf8(text.bytes()).unwrap_or("no text"), wanted);
-    Ok(())
 }
 
 /// What threads have counted.
@@ -110,18 +85,17 @@ const ALONG: &str = "workers 1\n\
     task 0 add 5\ntask 1 mul 3\n\
     policy none\npost 0 0 0\npost 1 0 0\npolicy all\nflush\n";
 
-/// The log of its only run.
-const ALONG_LOG: &str = "taskenv log 2\n\
-    0 0 policy none\n1 0 post 0 0 0 ok\n2 0 post 1 0 0 ok\n3 0 policy all\n\
-    4 1 take 0 0 0\n5 1 end 0 5\n6 1 take 1 0 5\n7 1 end 1 15\n8 0 idle\ntotal 9\n";
+/// The lines of the log of its only run.
+const ALONG_LOG: &str = "0 0 policy none\n1 0 post 0 0 0 ok\n2 0 post 1 0 0 ok\n3 0 policy all\n\
+    4 1 take 0 0 0\n5 1 end 0 5\n6 1 take 1 0 5\n7 1 end 1 15\n8 0 idle\n";
 
 #[test]
 fn gate_is_passed_once_a_task_before_its_first_step(rt: HostRuntime) -> Result<(), Fail> {
     let word = Arc::new(rt.alloc(), AtomicU64::new(0))?;
     let gate = LookingGate::new(Arc::try_clone(&word)?);
-    let script = script_of(&rt, rt.alloc(), ALONG);
+    let script = script_of(rt.alloc(), ALONG)?;
     let log = log_of(&rt, rt.alloc(), &script, &word, &gate)?;
-    assert_log(&rt, rt.alloc(), &log, ALONG_LOG)?;
+    assert_log(rt.alloc(), &log, ALONG_LOG)?;
     assert_passed(&rt, &gate);
     assert_count(&rt, &word, 4);
     Ok(())
@@ -169,7 +143,7 @@ fn each_worker_has_a_thread_of_its_own(rt: HostRuntime) -> Result<(), Fail> {
         came: AtomicU64::new(0),
         met: AtomicU64::new(0),
     };
-    let script = script_of(&rt, rt.alloc(), SIDE_BY_SIDE);
+    let script = script_of(rt.alloc(), SIDE_BY_SIDE)?;
     let log = log_of(&rt, rt.alloc(), &script, &word, &gate)?;
     assert!(rt; log.len() == 10);
     assert_count(&rt, &gate.met, 3);

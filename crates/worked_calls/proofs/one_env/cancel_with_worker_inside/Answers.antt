@@ -7,14 +7,14 @@ use Rattle.worked_calls.proofs.one_env.cancel_with_worker_inside.Goals as goal
 pub open-requires : goal.open-requires
 open-requires g c = rw c.in_ok-script.ensures cancel_sound
 
-pub job_post-requires : goal.job_post-requires
+pub start_job-requires : goal.start_job-requires
 unfolding is_wanted current
-job_post-requires g c ok = simp (c.in_ok-env.ensures, c.in_ok-script.ensures) (record { driver = refl; wanted = refl })
+start_job-requires g c ok = simp (c.in_ok-env.ensures, c.in_ok-script.ensures) (record { driver = refl; wanted = refl })
 
 pub take_item-pass-requires : goal.take_item-pass-requires
 unfolding holding running
 take_item-pass-requires g c = simp (
-  c.job_post.ensures.enters.entered,
+  c.start_job.ensures,
   c.in_ok-env.ensures,
   c.in_ok-script.ensures,
 ) (record { worker = omega arith; known = omega arith; free = refl })
@@ -23,7 +23,7 @@ pub job_cancel-requires : goal.job_cancel-requires
 unfolding is_wanted current
 job_cancel-requires g c = simp (
   c.take_item-pass.ensures.entered,
-  c.job_post.ensures.enters.entered,
+  c.start_job.ensures,
   c.in_ok-env.ensures,
   c.in_ok-script.ensures,
 ) (record { driver = refl; wanted = refl })
@@ -33,7 +33,7 @@ unfolding is_wanted current
 not_cancelled-requires g c = simp (
   c.job_cancel.ensures.entered,
   c.take_item-pass.ensures.entered,
-  c.job_post.ensures.enters.entered,
+  c.start_job.ensures,
   c.in_ok-env.ensures,
   c.in_ok-script.ensures,
 ) (record { driver = refl; wanted = refl })
@@ -45,7 +45,7 @@ leave-requires g c = simp (
   c.job_cancel.ensures.entered,
   c.take_item-pass.ensures.entered,
   c.take_item-pass.ensures.pass,
-  c.job_post.ensures.enters.entered,
+  c.start_job.ensures,
   c.in_ok-env.ensures,
   c.in_ok-script.ensures,
 ) (record { held = record { known = omega arith; holds = refl }; value_is = refl })
@@ -57,7 +57,7 @@ try_cancelled-requires g c = simp (
   c.not_cancelled.ensures,
   c.job_cancel.ensures.entered,
   c.take_item-pass.ensures.entered,
-  c.job_post.ensures.enters.entered,
+  c.start_job.ensures,
   c.in_ok-env.ensures,
   c.in_ok-script.ensures,
 ) (record { driver = refl; wanted = refl })
