@@ -1,8 +1,9 @@
 ghost use Rattle.std.specs.Prelude.{◌≡◌, ◌≤◌, length};
 ghost use Rattle.nested_loop.specs.NestReasons.{nest_note_of, nest_reason_name};
 
-use line_text::{Line, add, add_decimal};
+use line_text::{Line, add};
 use std::alloc::AllocError;
+use task_base::add_broken_rule;
 
 /// Why bytes gave no nest.
 #[derive(Clone, Copy, Debug, PartialEq, Eq)]
@@ -23,12 +24,8 @@ impl NestFault {
         let mut note = Line::new();
         match *self {
             NestFault::Bad { line, reason } => {
-                add(&mut note, b"bad nest: line ");
-                add_decimal(&mut note, u64::from(line));
-                add(&mut note, b": reason ");
-                add_decimal(&mut note, u64::from(reason));
-                add(&mut note, b" ");
-                add(&mut note, reason_name(reason));
+                let name = reason_name(reason);
+                add_broken_rule(&mut note, b"bad nest: line ", line, reason, name);
             }
             NestFault::Memory(_) => add(&mut note, b"no memory"),
         }

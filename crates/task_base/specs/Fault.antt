@@ -33,9 +33,13 @@ reason_name reason = slice_index_or (
     ∷ codes "TooMany"
     ∷ []) reason []
 
+-- what is told of a line that breaks a rule, by the rule's number and name (this project's own rule)
+abbrev pub rule_note : ℕ → ℕ → List ℕ → List ℕ
+rule_note line reason name = decimal line ++ codes ": reason " ++ decimal reason ++ codes " " ++ name
+
 -- what is told of a script's line that breaks a rule (this project's own rule)
 abbrev pub bad_script_note : ℕ → ℕ → List ℕ
-bad_script_note line reason = codes "bad script: line " ++ decimal line ++ codes ": reason " ++ decimal reason ++ codes " " ++ reason_name reason
+bad_script_note line reason = codes "bad script: line " ++ rule_note line reason (reason_name reason)
 
 -- what is told of a fault, without a line feed (this project's own rule)
 abbrev pub note_of : Fault → List ℕ

@@ -1,7 +1,7 @@
 ghost use Rattle.std.specs.Prelude.{◌≡◌, ◌+◌, ◌≤◌, ◌++◌, length};
-ghost use Rattle.task_base.specs.Fault.{bad_script_note, note_of, reason_name, status_of};
+ghost use Rattle.task_base.specs.Fault.{note_of, reason_name, rule_note, status_of};
 
-use line_text::{Line, add, add_decimal};
+use line_text::{Line, add, add_decimal, add_word};
 use std::alloc::AllocError;
 use std::{fmt, str};
 use thiserror::Error;
@@ -62,7 +62,10 @@ impl Fault {
                 add_decimal(&mut note, u64::from(line));
             }
             Fault::BadWords => add(&mut note, b"bad words"),
-            Fault::BadScript { line, reason } => add_rule(&mut note, line, reason),
+            Fault::BadScript { line, reason } => {
+                let name = reason_name(reason);
+                add_broken_rule(&mut note, b"bad script: line ", line, reason, name);
+            }
             Fault::ReadFault => add(&mut note, b"read fault"),
             Fault::WriteFault => add(&mut note, b"write fault"),
             Fault::NoMemory(_) => add(&mut note, b"no memory"),
@@ -72,18 +75,17 @@ impl Fault {
     }
 }
 
-// Adds the line of a script that breaks a rule, and the rule.
-fn add_rule(note: &mut Line, line: u32, reason: u8)
-    requires { length note.old.items ≤ 9 }
-    ensures note { note.new.items ≡ note.old.items ++ bad_script_note line reason }
-    ensures short { length note.new.items ≤ 100 }
+/// Adds what is told of a line that breaks a rule: these words, the line's number, and the rule by its number and its name.
+pub fn add_broken_rule(note: &mut Line, words: &[u8], line: u32, reason: u8, name: &[u8])
+    requires { length note.old.items + length words.now + length name.now ≤ 200 }
+    ensures note { note.new.items ≡ note.old.items ++ words.now ++ rule_note line reason name.now }
+    ensures short { length note.new.items ≤ length note.old.items + length words.now + length name.now + 50 }
 {
-    add(note, b"bad script: line ");
+    add(note, words);
     add_decimal(note, u64::from(line));
     add(note, b": reason ");
     add_decimal(note, u64::from(reason));
-    add(note, b" ");
-    add(note, reason_name(reason));
+    add_word(note, name);
 }
 
 // The name of a rule of the script's grammar, by its number.

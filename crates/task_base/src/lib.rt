@@ -14,7 +14,7 @@ mod step;
 
 pub use cell::Cell;
 pub use entry::{Entry, JobReply, Kind};
-pub use fault::Fault;
+pub use fault::{Fault, add_broken_rule};
 pub use limits::{
     LAST_MOMENT, MOST_BYTES, MOST_EVENTS, MOST_ITEMS, MOST_JOBS, MOST_MICROSECONDS, MOST_QUEUES,
     MOST_RUNNERS, MOST_STEPS, MOST_TASKS, MOST_TICKS, MOST_WORKERS,

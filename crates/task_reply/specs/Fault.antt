@@ -1,5 +1,6 @@
 -- What is told of lines that are no replies.
-use Rattle.std.specs.Prelude.{ℕ, List, [], ◌∷◌, ◌++◌, codes, decimal, slice_index_or}
+use Rattle.std.specs.Prelude.{ℕ, List, [], ◌∷◌, ◌++◌, codes, slice_index_or}
+use Rattle.task_base.specs.Fault.{rule_note}
 use Rattle.task_reply.specs.declared.fault.ReplyFault.{ReplyFault}
 use Rattle.task_reply.specs.declared.fault.ReplyFault.TheVariants.{Bad, Memory}
 
@@ -16,7 +17,7 @@ reason_name reason = slice_index_or (
 
 -- what is told of a bad line (this project's own rule)
 abbrev pub bad_replies_note : ℕ → ℕ → List ℕ
-bad_replies_note line reason = codes "bad replies: line " ++ decimal line ++ codes ": reason " ++ decimal reason ++ codes " " ++ reason_name reason
+bad_replies_note line reason = codes "bad replies: line " ++ rule_note line reason (reason_name reason)
 
 -- what is told of a fault, without a line feed (this project's own rule)
 abbrev pub note_of : ReplyFault → List ℕ

@@ -1,9 +1,10 @@
-ghost use Rattle.std.specs.Prelude.{◌≡◌, ◌≤◌, ◌++◌, alloc_error, length};
-ghost use Rattle.task_reply.specs.Fault.{bad_replies_note, note_of, reason_name};
+ghost use Rattle.std.specs.Prelude.{◌≡◌, ◌≤◌, alloc_error, length};
+ghost use Rattle.task_reply.specs.Fault.{note_of, reason_name};
 ghost use Rattle.task_reply.specs.declared.fault.ReplyFault.TheVariants.{Memory};
 
-use line_text::{Line, add, add_decimal};
+use line_text::{Line, add};
 use std::alloc::AllocError;
+use task_base::add_broken_rule;
 
 /// Why lines made no script of a script.
 #[derive(Clone, Copy, Debug, PartialEq, Eq)]
@@ -31,25 +32,14 @@ impl ReplyFault {
     {
         let mut note = Line::new();
         match *self {
-            ReplyFault::Bad { line, reason } => add_rule(&mut note, line, reason),
+            ReplyFault::Bad { line, reason } => {
+                let name = reason_name(reason);
+                add_broken_rule(&mut note, b"bad replies: line ", line, reason, name);
+            }
             ReplyFault::Memory(_) => add(&mut note, b"no memory"),
         }
         note
     }
-}
-
-/// Adds the line that breaks a rule, and the rule.
-fn add_rule(note: &mut Line, line: u32, reason: u8)
-    requires { length note.old.items ≤ 9 }
-    ensures note { note.new.items ≡ note.old.items ++ bad_replies_note line reason }
-    ensures short { length note.new.items ≤ 100 }
-{
-    add(note, b"bad replies: line ");
-    add_decimal(note, u64::from(line));
-    add(note, b": reason ");
-    add_decimal(note, u64::from(reason));
-    add(note, b" ");
-    add(note, reason_name(reason));
 }
 
 /// The name of a rule, by its number.
