@@ -1,5 +1,6 @@
 -- The lines of an input before the one that parts it.
-use Rattle.std.proofs.Common.{◌≡◌, ◌<◌, ◌≤◌, ◌+◌, ℕ, true, false, cond, List, [], ◌∷◌, ◌++◌, length, take, drop, get_or, refl, sym, ap, ◌∙◌, arith, append_assoc, append-nil}
+use Rattle.std.proofs.Common.{◌≡◌, ◌<◌, ◌≤◌, ◌+◌, ℕ, true, false, cond, List, [], ◌∷◌, ◌++◌, length, take}
+use Rattle.std.proofs.Common.{drop, get_or, refl, sym, ap, ◌∙◌, arith, append_assoc, append-nil}
 use Rattle.std.specs.List.{concat}
 use Rattle.std.proofs.lemmas.List.{drop_all, drop_at, drop_more, length-append, take-append-drop, take_all, take_at, take_more}
 use Rattle.run_log.specs.TextLines.{text_lines}
@@ -21,7 +22,8 @@ parts_at : (text : List ℕ) (n : ℕ) (line : List ℕ) → n < length (text_li
     → text ≡ concat (take n (text_lines text)) ++ (line ++ concat (drop (n + 1) (text_lines text)))
 parts_at text n line within is =
     let lines : List (List ℕ) = text_lines text in
-    let rest : concat (drop n lines) ≡ line ++ concat (drop (n + 1) lines) = ap concat (drop_more lines n line within) ∙ ap (λ l. l ++ concat (drop (n + 1) lines)) (sym is) in
+    let rest : concat (drop n lines) ≡ line ++ concat (drop (n + 1) lines) = ap concat (drop_more lines n line within)
+    ∙ ap (λ l. l ++ concat (drop (n + 1) lines)) (sym is) in
     sym (concat-text_lines text) ∙ ap concat (sym (take-append-drop n lines)) ∙ concat_append (take n lines) (drop n lines)
     ∙ ap (λ r. concat (take n lines) ++ r) rest
 

@@ -19,11 +19,6 @@ pub put_or : {E P R : Type 0} (result : Result (Unit {0}) E) → OnOk result P �
 put_or (Ok done) whole failed = inr whole
 put_or (Err e) whole failed = inl failed
 
--- nothing was added to what is as it was
-pub gains_nothing : (held : Option (List ℕ)) → Gains held [] held
-gains_nothing None = λ there. refl
-gains_nothing (Some bytes) = λ there. ap Some (sym (append-nil bytes))
-
 -- what a writer says of a text: how far it was written, and why no further
 pub record IsPut (sink : Ends) (text : List ℕ) (result : Result (Unit {0}) Fault) : Type 0 where
   pub all : OnOk result (WroteAll sink.before sink.after text)

@@ -7,7 +7,7 @@ use Rattle.std.proofs.lemmas.Nat.Bits.{and_pow}
 use mathlib.Core.Option.{some}
 use lib.ListN.{get_elem?}
 use Rattle.atomic_table.specs.Table.{keeps, Allows}
-use Rattle.blocker_word.specs.Word.{live_items, refused_begins, controls, starts, dones, widths, bits, Fits, IsCounted}
+use Rattle.blocker_word.specs.Word.{live_items, refused_begins, controls, starts, dones, widths, bits, FitsToken, IsCounted}
 use Rattle.blocker_word.specs.Table.{TableCounts}
 use Rattle.blocker_word.specs.Plays.{Sat}
 use Rattle.blocker_word.specs.declared.view.View.{View}
@@ -39,7 +39,7 @@ pub record Recounts (word : ℕ) (before after : List View) : Type 0 where
   pub widths_fit : widths after ≤ 4294967295
   pub bits_rise : bits before ≤ bits after
 
-pub recounted : (word : ℕ) (before after : List View) → All (Fits (bits before)) after → Recounts word before after → IsCounted word after
+pub recounted : (word : ℕ) (before after : List View) → All (FitsToken (bits before)) after → Recounts word before after → IsCounted word after
 recounted word before after each r = record {
   word_is = r.word_is;
   one = r.one;
@@ -50,10 +50,10 @@ recounted word before after each r = record {
 }
 
 -- the same where one token becomes w
-pub turned : (word word' id : ℕ) (tokens : List View) (w : View) → IsCounted word tokens → Fits (bits tokens) w → Recounts word' tokens (set tokens id w)
+pub turned : (word word' id : ℕ) (tokens : List View) (w : View) → IsCounted word tokens → FitsToken (bits tokens) w → Recounts word' tokens (set tokens id w)
     → IsCounted word' (set tokens id w)
 turned word word' id tokens w c fits =
-    recounted word' tokens (set tokens id w) (All-set (Fits (bits tokens)) tokens id w fits c.each)
+    recounted word' tokens (set tokens id w) (All-set (FitsToken (bits tokens)) tokens id w fits c.each)
 
 -- a word that is counted is far below 2 ^ 64
 pub small : (word : ℕ) (tokens : List View) → IsCounted word tokens → word < 17179869184

@@ -9,16 +9,16 @@ use lib.ListN.{get_elem?}
 use Rattle.atomic_table.specs.Table.{Allows}
 use Rattle.atomic_table.proofs.Lists.{exchanged}
 use Rattle.blocker_word.specs.Roles.{idle, item, refused, control, started, done, one_if_item, one_if_refused}
-use Rattle.blocker_word.specs.Word.{IsCounted, HasDone}
+use Rattle.blocker_word.specs.Word.{IsCounted, HasDoneBit}
 use Rattle.blocker_word.specs.Table.{TableCounts}
-use Rattle.blocker_word.specs.Plays.{Sat, met_as, Began, ended, StartedAt, TriedAt, Looked}
+use Rattle.blocker_word.specs.Plays.{Sat, met_as, Began, ended, StartedAt, TriedAt, TokenLooked}
 use Rattle.blocker_word.specs.declared.view.View.{View}
 use Rattle.blocker_word.proofs.Changes.{Keeps, allowed, small, added, subtracted, bits_are}
 use Rattle.blocker_word.proofs.Steps.{found, counting, gains, loses, starts_once, done_at_one, meets, started_bits}
 
 -- a begin, whether it finds the done bit or not
 begun : (id : ℕ) (me : Sat) (word : ℕ) (tokens : List View) → me.0.role ≡ idle → IsCounted word tokens → get_elem? tokens id ≡ some me.0
-    → Dec (HasDone word) → (w : View) × IsCounted (word + 4) (set tokens id w) × Began me word (w, me.1)
+    → Dec (HasDoneBit word) → (w : View) × IsCounted (word + 4) (set tokens id w) × Began me word (w, me.1)
 begun id me word tokens is c here (yes d) = let are = bits_are word tokens c in let one = c.one in (
   met_as refused me.0 word,
   gains id me refused word tokens is (counting refused refl) (λ none. absurd (omega arith)) (λ _. refl) c here,
@@ -71,7 +71,7 @@ finishes id me is word tokens c here = exchanged word 1 3 (λ n. (w : View) × I
     between : word % 4 ≡ 1
     between = started_bits id me word tokens is c here
 
-looks : (id : ℕ) (me : Sat) → Keeps id me (λ n. n) (Looked me)
+looks : (id : ℕ) (me : Sat) → Keeps id me (λ n. n) (TokenLooked me)
 looks id me word tokens c here = (met_as me.0.role me.0 word, meets id me word tokens c here, record { found_is = found id me word tokens c here; seen = refl })
 
 -- each of them at the table
@@ -88,5 +88,5 @@ start_allowed slots id me is = allowed slots id me (λ n. bit_or n 1) (StartedAt
 pub finish_allowed : (slots id : ℕ) (me : Sat) → me.0.role ≡ started → Allows TableCounts slots id me 0 (λ n. either (eqb n 1) 3 n) (TriedAt me)
 finish_allowed slots id me is = allowed slots id me (λ n. either (eqb n 1) 3 n) (TriedAt me) (finishes id me is)
 
-pub look_allowed : (slots id : ℕ) (me : Sat) → Allows TableCounts slots id me 0 (λ n. n) (Looked me)
-look_allowed slots id me = allowed slots id me (λ n. n) (Looked me) (looks id me)
+pub look_allowed : (slots id : ℕ) (me : Sat) → Allows TableCounts slots id me 0 (λ n. n) (TokenLooked me)
+look_allowed slots id me = allowed slots id me (λ n. n) (TokenLooked me) (looks id me)

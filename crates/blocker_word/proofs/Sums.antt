@@ -7,7 +7,7 @@ use mathlib.Core.Option.{some, some-injective, some-ne-none}
 use lib.ListN.{get_elem?}
 use Rattle.blocker_word.specs.Roles.{Role, idle, item, refused, control, started, done, spent, least_width}
 use Rattle.blocker_word.specs.Roles.{one_if_item, one_if_refused, one_if_control, one_if_started, one_if_done}
-use Rattle.blocker_word.specs.Word.{live_items, refused_begins, controls, starts, dones, widths, Fits}
+use Rattle.blocker_word.specs.Word.{live_items, refused_begins, controls, starts, dones, widths, FitsToken}
 use Rattle.blocker_word.specs.declared.view.View.{View}
 
 -- an element that stands at a place is below the length, and is what `get_or` reads
@@ -64,12 +64,12 @@ longer l w r is = subst (λ x. Changed l (l ++ w ∷ []) spent x 0 w.width) is (
 })
 
 -- what is known of the token at a place
-pub fits_at : (b : ℕ) (l : List View) (i : ℕ) (v : View) → All (Fits b) l → get_elem? l i ≡ some v → Fits b v
-fits_at b l i v all e = subst (Fits b) (stands_there l i v v e) (All-get_or (Fits b) l i v (stands_within l i v e) all)
+pub fits_at : (b : ℕ) (l : List View) (i : ℕ) (v : View) → All (FitsToken b) l → get_elem? l i ≡ some v → FitsToken b v
+fits_at b l i v all e = subst (FitsToken b) (stands_there l i v v e) (All-get_or (FitsToken b) l i v (stands_within l i v e) all)
 
 -- more bits fit as well
-pub fits_more : (b c : ℕ) → b ≤ c → (l : List View) → All (Fits b) l → All (Fits c) l
-fits_more b c le l all = All-weaker (Fits b) (Fits c) (λ v k. let rises = k.rises in record { room = k.room; rises = omega arith }) l all
+pub fits_more : (b c : ℕ) → b ≤ c → (l : List View) → All (FitsToken b) l → All (FitsToken c) l
+fits_more b c le l all = All-weaker (FitsToken b) (FitsToken c) (λ v k. let rises = k.rises in record { room = k.room; rises = omega arith }) l all
 
 -- each token that counts has a width
 counts_below : (r : Role) → one_if_item r + one_if_refused r ≤ least_width r
@@ -82,12 +82,12 @@ counts_below done = omega arith
 counts_below spent = omega arith
 
 -- so the count is within the widths
-pub count_within : (b : ℕ) (l : List View) → All (Fits b) l → live_items l + refused_begins l ≤ widths l
+pub count_within : (b : ℕ) (l : List View) → All (FitsToken b) l → live_items l + refused_begins l ≤ widths l
 count_within b [] all = omega arith
 count_within b (v ∷ l) all =
-    let first = (All-head (Fits b) v l all).room in
+    let first = (All-head (FitsToken b) v l all).room in
     let least = counts_below v.role in
-    let rest = count_within b l (All-tail (Fits b) v l all) in
+    let rest = count_within b l (All-tail (FitsToken b) v l all) in
     let items = sum_by-cons (λ x. one_if_item x.role) v l in
     let refusals = sum_by-cons (λ x. one_if_refused x.role) v l in
     let wide = sum_by-cons (λ x. x.width) v l in omega arith

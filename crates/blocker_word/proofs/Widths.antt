@@ -7,9 +7,9 @@ use lib.ListN.{get_elem?}
 use Rattle.atomic_table.specs.Table.{Allows, Splits, Joins, opening}
 use Rattle.atomic_table.proofs.Lists.{exchanged}
 use Rattle.blocker_word.specs.Roles.{idle, control, spent, least_width}
-use Rattle.blocker_word.specs.Word.{widths, bits, Fits, IsCounted}
+use Rattle.blocker_word.specs.Word.{widths, bits, FitsToken, IsCounted}
 use Rattle.blocker_word.specs.Table.{TableCounts}
-use Rattle.blocker_word.specs.Tokens.{first_view, without_width, all_width, kept_part, given_part, with_width, spent_view}
+use Rattle.blocker_word.specs.Tokens.{first_token, without_width, all_width, kept_part, given_part, with_width, spent_view}
 use Rattle.blocker_word.specs.Plays.{Sat, offered, weighed}
 use Rattle.blocker_word.specs.declared.view.View.{View}
 use Rattle.blocker_word.proofs.Sums.{changed, longer, fits_at}
@@ -21,7 +21,7 @@ pushed : (word : ℕ) (tokens : List View) (w : View) → w.role ≡ idle → 1 
 pushed word tokens w is least none room c =
     let t = longer tokens w idle is in
     let needs : least_width w.role ≡ 1 = ap least_width is in
-    recounted word tokens (tokens ++ w ∷ []) (All-push (Fits (bits tokens)) tokens w c.each (grind arith)) (grind arith)
+    recounted word tokens (tokens ++ w ∷ []) (All-push (FitsToken (bits tokens)) tokens w c.each (grind arith)) (grind arith)
 
 -- a token of the same role gets another width, for which there is room
 rewidened : (word id : ℕ) (tokens : List View) (v w : View) → w.role ≡ v.role → w.met ≡ v.met → least_width v.role ≤ w.width
@@ -67,7 +67,8 @@ merges id v other w is is' s h here apart there =
       word = h.word;
       words_are = h.words_are;
       counted = recounted h.word s.views after
-          (All-set (Fits (bits s.views)) middle other spent_view (grind arith) (All-set (Fits (bits s.views)) s.views id both (grind arith) h.counted.each))
+          (All-set (FitsToken (bits s.views)) middle other spent_view (grind arith)
+          (All-set (FitsToken (bits s.views)) s.views id both (grind arith) h.counted.each))
           (grind arith);
     }
 
@@ -95,7 +96,7 @@ pub weigh_allowed : (slots id : ℕ) (me : Sat) → Allows TableCounts slots id 
 weigh_allowed slots id me = allowed slots id me (λ n. n) (weighed me) (weighs id me)
 
 -- a word that is made counts its first token
-pub makes : TableCounts (opening (0 ∷ []) [] first_view)
+pub makes : TableCounts (opening (0 ∷ []) [] first_token)
 makes = record {
   word = 0;
   words_are = refl;
@@ -105,6 +106,6 @@ makes = record {
     before_done = λ _. refl;
     after_done = λ _. refl;
     widths_fit = omega arith;
-    each = All-cons (Fits 0) first_view [] (record { room = omega arith; rises = omega arith }) (All-nil (Fits 0));
+    each = All-cons (FitsToken 0) first_token [] (record { room = omega arith; rises = omega arith }) (All-nil (FitsToken 0));
   };
 }

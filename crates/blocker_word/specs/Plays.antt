@@ -3,7 +3,7 @@ use Rattle.std.specs.Prelude.{◌≡◌, ◌≢◌, ℕ, ◌+◌, ◌≤◌}
 use mathlib.Core.Option.{Option, none, some}
 use Rattle.atomic_table.specs.Table.{Me}
 use Rattle.blocker_word.specs.Roles.{Role, item, refused, idle, started, done}
-use Rattle.blocker_word.specs.Word.{HasDone, bits_of}
+use Rattle.blocker_word.specs.Word.{HasDoneBit, bits_of}
 use Rattle.blocker_word.specs.Tokens.{IsWord}
 use Rattle.blocker_word.specs.declared.view.View.{View}
 
@@ -23,8 +23,8 @@ pub record Found (m : Sat) (found : ℕ) : Type 0 where
 -- a begin: it is refused exactly where the word has the done bit
 pub record Began (m : Sat) (found : ℕ) (n : Sat) : Type 0 where
   pub found_is : Found m found
-  pub given : ¬ HasDone found → n ≡ (met_as item m.0 found, m.1)
-  pub refused_is : HasDone found → n ≡ (met_as refused m.0 found, m.1)
+  pub given : ¬ HasDoneBit found → n ≡ (met_as item m.0 found, m.1)
+  pub refused_is : HasDoneBit found → n ≡ (met_as refused m.0 found, m.1)
 
 -- an end, or a refused begin taking its count back
 abbrev pub ended : Sat → Sat → Type 0
@@ -44,7 +44,7 @@ pub record TriedAt (m : Sat) (found : ℕ) (n : Sat) : Type 0 where
   pub lost : found ≢ 1 → n ≡ (met_as started m.0 found, m.1)
 
 -- a look
-pub record Looked (m : Sat) (found : ℕ) (n : Sat) : Type 0 where
+pub record TokenLooked (m : Sat) (found : ℕ) (n : Sat) : Type 0 where
   pub found_is : Found m found
   pub seen : n ≡ (met_as m.0.role m.0 found, m.1)
 

@@ -31,8 +31,8 @@ pub record Stepped (old new : TokenView) : Type 0 where
   pub rises : bits_of old.met ≤ bits_of new.met
 
 -- a token that has done nothing
-abbrev pub fresh : Role → ℕ → View
-fresh role width = record {
+abbrev pub fresh_token : Role → ℕ → View
+fresh_token role width = record {
   role = role;
   width = width;
   offered = 0;
@@ -41,8 +41,8 @@ fresh role width = record {
 }
 
 -- the token that a word is made with: that of shutdown, which has the width of all until the first idle token is split off
-abbrev pub first_view : View
-first_view = fresh control 4294967295
+abbrev pub first_token : View
+first_token = fresh_token control 4294967295
 
 -- the token of shutdown without its width
 abbrev pub without_width : View → View
@@ -50,7 +50,7 @@ without_width v = record v { width = 0 }
 
 -- an idle token with all of the width
 abbrev pub all_width : View → View
-all_width v = fresh idle v.width
+all_width v = fresh_token idle v.width
 
 -- what a token keeps as it splits
 abbrev pub kept_part : View → View
@@ -58,7 +58,7 @@ kept_part v = record v { width = v.width - v.offered; offered = 0 }
 
 -- the token that is split off
 abbrev pub given_part : View → View
-given_part v = fresh idle v.offered
+given_part v = fresh_token idle v.offered
 
 -- a token with the width of another added to its own
 abbrev pub with_width : View → View → View
@@ -66,4 +66,4 @@ with_width v other = record v { width = v.width + other.width }
 
 -- what a joined token leaves
 abbrev pub spent_view : View
-spent_view = fresh spent 0
+spent_view = fresh_token spent 0

@@ -42,11 +42,11 @@ abbrev pub count_of : ℕ → ℕ
 count_of word = word / 4
 
 -- the done bit of the word is set
-abbrev pub HasDone : ℕ → Type 0
-HasDone word = 2 ≤ bits_of word
+abbrev pub HasDoneBit : ℕ → Type 0
+HasDoneBit word = 2 ≤ bits_of word
 
 -- what holds of each token
-pub record Fits (bits : ℕ) (v : View) : Type 0 where
+pub record FitsToken (bits : ℕ) (v : View) : Type 0 where
   -- it has the width that it needs
   pub room : least_width v.role ≤ v.width
   -- the bits that it met are still set
@@ -65,4 +65,4 @@ pub record IsCounted (word : ℕ) (tokens : List View) : Type 0 where
   -- the widths fit 32 bits, so no sum in the word wraps
   pub widths_fit : widths tokens ≤ 4294967295
   -- what holds of each token
-  pub each : All (Fits (bits tokens)) tokens
+  pub each : All (FitsToken (bits tokens)) tokens

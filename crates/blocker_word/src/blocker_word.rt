@@ -1,6 +1,6 @@
 ghost use Rattle.std.specs.Prelude.{◌≡◌, ◌+◌, ◌*◌, ◌<◌, true, false, IfOk, IfErr};
 ghost use Rattle.blocker_word.specs.Roles.{one_if_item, one_if_refused, idle, started};
-ghost use Rattle.blocker_word.specs.Word.{HasDone, bits_of};
+ghost use Rattle.blocker_word.specs.Word.{HasDoneBit, bits_of};
 ghost use Rattle.blocker_word.specs.Tokens.{Stepped};
 ghost use Rattle.blocker_word.specs.Plays.{Began, TriedAt, ended};
 
@@ -25,8 +25,8 @@ const ONE_ITEM: u64 = 4;
 // Whether the word has the done bit.
 #[tactic(auto, using(crate::proofs::Changes::tested))]
 fn has_done(word: u64) -> bool
-    ensures set { result ≡ true → HasDone word }
-    ensures clear { result ≡ false → ¬ HasDone word }
+    ensures set { result ≡ true → HasDoneBit word }
+    ensures clear { result ≡ false → ¬ HasDoneBit word }
 {
     word & DONE_BIT != 0
 }
@@ -94,9 +94,9 @@ impl BlockerWord {
     pub fn begin(&self, idle: Idle) -> Result<Item, Idle>
         requires of { idle.of ≡ self.now }
         ensures item { IfOk result (λ item. Stepped idle item) }
-        ensures given { IfOk result (λ item. ¬ HasDone item.met) }
+        ensures given { IfOk result (λ item. ¬ HasDoneBit item.met) }
         ensures idle { IfErr result (λ back. Stepped idle back) }
-        ensures refused { IfErr result (λ back. HasDone back.met) }
+        ensures refused { IfErr result (λ back. HasDoneBit back.met) }
     {
         let Idle { mut token, width } = idle;
         let found = self.add(&mut token);

@@ -1,7 +1,7 @@
 // The rule of the table, and the names of its steps.
 ghost use Rattle.blocker_word.specs.Table.{TableCounts};
-ghost use Rattle.blocker_word.specs.Tokens.{first_view, without_width, all_width, kept_part, given_part, with_width, spent_view};
-ghost use Rattle.blocker_word.specs.Plays.{Began, ended, StartedAt, TriedAt, Looked, offered, weighed};
+ghost use Rattle.blocker_word.specs.Tokens.{first_token, without_width, all_width, kept_part, given_part, with_width, spent_view};
+ghost use Rattle.blocker_word.specs.Plays.{Began, ended, StartedAt, TriedAt, TokenLooked, offered, weighed};
 
 use crate::view::View;
 use atomic_table::{Join, Play, Split, TableRule};
@@ -12,7 +12,7 @@ pub struct Law;
 impl TableRule<u32, View, ()> for Law {
     ghost holds = { λ _. TableCounts };
 
-    ghost first = { λ _. first_view };
+    ghost first = { λ _. first_token };
 }
 
 /// The first idle token is split off.
@@ -56,7 +56,7 @@ impl Play<u32, View> for Finish {
 pub struct Look;
 
 impl Play<u32, View> for Look {
-    ghost then = { λ _. Looked };
+    ghost then = { λ _. TokenLooked };
 }
 
 /// A token says which width it gives next.

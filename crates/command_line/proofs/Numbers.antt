@@ -1,5 +1,6 @@
 -- The number that a word names, by how the word is parsed and by how its number is written.
-use Rattle.std.proofs.Common.{◌≡◌, ℕ, ◌<◌, ◌≤◌, ◌^◌, Bool, true, false, cond, ◌&&◌, leb, List, [], ◌∷◌, refl, ap, ap₂, sym, Option, Some, None, Result, Ok, arith}
+use Rattle.std.proofs.Common.{◌≡◌, ℕ, ◌<◌, ◌≤◌, ◌^◌, Bool, true, false, cond, ◌&&◌, leb, List, []}
+use Rattle.std.proofs.Common.{◌∷◌, refl, ap, ap₂, sym, Option, Some, None, Result, Ok, arith}
 use Rattle.std.specs.Fmt.{decimal}
 use Rattle.std.specs.Bool.{then_some}
 use Rattle.std.specs.Result.{result_ok}

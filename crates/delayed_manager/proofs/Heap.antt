@@ -1,5 +1,6 @@
 -- What a push, a pop and a peek of the heap are for the list that it stands for.
-use Rattle.std.proofs.Common.{◌≡◌, ℕ, ◌<◌, ◌≤◌, Bool, true, false, cond, List, [], ◌∷◌, length, get_or, drop, map, refl, sym, ap, ◌∙◌, inl, inr, arith, Option, Some, None, Result, Ok, Err, subst}
+use Rattle.std.proofs.Common.{◌≡◌, ℕ, ◌<◌, ◌≤◌, Bool, true, false, cond, List, [], ◌∷◌, length, get_or, drop, map}
+use Rattle.std.proofs.Common.{refl, sym, ap, ◌∙◌, inl, inr, arith, Option, Some, None, Result, Ok, Err, subst}
 use Rattle.std.specs.Prelude.{◌⊎◌, ◌&&◌, ◌||◌, ◌==◌, nat_lt, IsPermutation, slice_get, IfSome, IfNone, All, IsOk, OnOk}
 use Rattle.std.proofs.lemmas.List.{length-map}
 use Rattle.std.specs.List.{AllByRecursion}
@@ -19,28 +20,28 @@ use Rattle.list_laws.proofs.Sorts.{rises-sort_by, length-sort_by, AllByRecursion
 use Rattle.list_laws.proofs.Elements.{AllByRecursion-map}
 use Rattle.delayed_manager.specs.declared.ripening.Ripening.{Ripening}
 use Rattle.delayed_manager.specs.Delayed.{ripens_before}
-use Rattle.delayed_manager.specs.Heap.{heap_cmp, goes_before, in_order, IsSound}
+use Rattle.delayed_manager.specs.Heap.{heap_cmp, ripens_first, in_order, IsSound}
 use Rattle.delayed_manager.proofs.Sorting.{Orders, sort-permutation, insert_least, insert_alike}
 
 -- comparing by a number first
 cmp_then : (m n : ℕ) (o : Ordering) → is_lt (ordering_then (nat_cmp m n) o) ≡ (nat_lt m n || (m == n && is_lt o))
-cmp_then m n o = by (nat_lt m n) (m == n)
+cmp_then m n o = by_order (nat_lt m n) (m == n)
   where
-    by : (b c : Bool) → is_lt (ordering_then (cond b Less (cond c Equal Greater)) o) ≡ (b || (c && is_lt o))
-    by true c = refl
-    by false true = refl
-    by false false = refl
+    by_order : (b c : Bool) → is_lt (ordering_then (cond b Less (cond c Equal Greater)) o) ≡ (b || (c && is_lt o))
+    by_order true c = refl
+    by_order false true = refl
+    by_order false false = refl
 
 cmp_last : (m n : ℕ) → is_lt (nat_cmp m n) ≡ nat_lt m n
-cmp_last m n = by (nat_lt m n) (m == n)
+cmp_last m n = by_order (nat_lt m n) (m == n)
   where
-    by : (b c : Bool) → is_lt (cond b Less (cond c Equal Greater)) ≡ b
-    by true c = refl
-    by false true = refl
-    by false false = refl
+    by_order : (b c : Bool) → is_lt (cond b Less (cond c Equal Greater)) ≡ b
+    by_order true c = refl
+    by_order false true = refl
+    by_order false false = refl
 
 -- the heap compares by the order of its list, turned round
-lt_is : (a b : Reverse Ripening) → is_lt (heap_cmp a b) ≡ goes_before b.0 a.0
+lt_is : (a b : Reverse Ripening) → is_lt (heap_cmp a b) ≡ ripens_first b.0 a.0
 lt_is a b =
     cmp_then b.0.ripe a.0.ripe _
     ∙ ap (λ t. nat_lt b.0.ripe a.0.ripe || (b.0.ripe == a.0.ripe && t)) (cmp_then b.0.post a.0.post _
@@ -49,7 +50,7 @@ lt_is a b =
 apart_then : {A : Type 0} (f : A → ℕ) (below : A → A → Bool) (P : A → A → Type 0) (a b : A)
     → (f a ≡ f b → P a b ⊎ ((below a b ≡ true) ⊎ (below b a ≡ true)))
     → P a b ⊎ ((then_by f below a b ≡ true) ⊎ (then_by f below b a ≡ true))
-apart_then {A = A} f below P a b rest = by (cases_order (f a) (f b))
+apart_then {A = A} f below P a b rest = by_order (cases_order (f a) (f b))
   where
     within : f a ≡ f b → P a b ⊎ ((below a b ≡ true) ⊎ (below b a ≡ true))
         → P a b ⊎ ((then_by f below a b ≡ true) ⊎ (then_by f below b a ≡ true))
@@ -57,12 +58,12 @@ apart_then {A = A} f below P a b rest = by (cases_order (f a) (f b))
     within same (inr (inl is)) = inr (inl (by_same f below a b same ∙ is))
     within same (inr (inr is)) = inr (inr (by_same f below b a (sym same) ∙ is))
 
-    by : (f a ≡ f b) ⊎ ((f a < f b) ⊎ (f b < f a)) → P a b ⊎ ((then_by f below a b ≡ true) ⊎ (then_by f below b a ≡ true))
-    by (inl same) = within same (rest same)
-    by (inr (inl less)) = inr (inl (by_less f below a b less))
-    by (inr (inr more)) = inr (inr (by_less f below b a more))
+    by_order : (f a ≡ f b) ⊎ ((f a < f b) ⊎ (f b < f a)) → P a b ⊎ ((then_by f below a b ≡ true) ⊎ (then_by f below b a ≡ true))
+    by_order (inl same) = within same (rest same)
+    by_order (inr (inl less)) = inr (inl (by_less f below a b less))
+    by_order (inr (inr more)) = inr (inr (by_less f below b a more))
 
-orders : Orders goes_before
+orders : Orders ripens_first
 orders = record {
   ranks = ranks_then_by (λ r. r.ripe) (then_by (λ r. r.post) (λ a b. nat_lt a.task b.task))
       (ranks_then_by (λ r. r.post) (λ a b. nat_lt a.task b.task) (ranks_by (λ r. r.task)));
@@ -81,31 +82,31 @@ orders = record {
 
 -- none of what is held goes before what none of the heap is above
 least_of : (x : Reverse Ripening) (items : List (Reverse Ripening)) → IsUpperBound heap_cmp x items
-    → AllByRecursion (λ r. goes_before r x.0 ≡ false) (in_order items)
-least_of x items top = AllByRecursion-sort_by (λ r. goes_before r x.0 ≡ false) goes_before (map (λ r. r.0) items) (over items top)
+    → AllByRecursion (λ r. ripens_first r x.0 ≡ false) (in_order items)
+least_of x items top = AllByRecursion-sort_by (λ r. ripens_first r x.0 ≡ false) ripens_first (map (λ r. r.0) items) (over items top)
   where
-    over : (ys : List (Reverse Ripening)) → IsUpperBound heap_cmp x ys → AllByRecursion (λ r. goes_before r x.0 ≡ false) (map (λ r. r.0) ys)
+    over : (ys : List (Reverse Ripening)) → IsUpperBound heap_cmp x ys → AllByRecursion (λ r. ripens_first r x.0 ≡ false) (map (λ r. r.0) ys)
     over [] h = tt
     over (y ∷ ys) h = (sym (lt_is x y) ∙ h.0, over ys h.1)
 
 -- the list of a heap with one task more
-pushed : (x : Reverse Ripening) (old new : List (Reverse Ripening)) → IsPermutation (x ∷ old) new → in_order new ≡ insert_by goes_before x.0 (in_order old)
-pushed x old new moved = sort-permutation goes_before orders (map (λ r. r.0) (x ∷ old)) (map (λ r. r.0) new) (IsPermutation-map (λ r. r.0) (x ∷ old) new moved)
+pushed : (x : Reverse Ripening) (old new : List (Reverse Ripening)) → IsPermutation (x ∷ old) new → in_order new ≡ insert_by ripens_first x.0 (in_order old)
+pushed x old new moved = sort-permutation ripens_first orders (map (λ r. r.0) (x ∷ old)) (map (λ r. r.0) new) (IsPermutation-map (λ r. r.0) (x ∷ old) new moved)
 
 -- the list of a heap that lost its top
 popped : (x : Reverse Ripening) (old new : List (Reverse Ripening)) → IsPermutation old (x ∷ new) → IsUpperBound heap_cmp x new
     → in_order old ≡ x.0 ∷ in_order new
 popped x old new moved top =
-    sym (sort-permutation goes_before orders (map (λ r. r.0) old) (map (λ r. r.0) (x ∷ new)) (IsPermutation-map (λ r. r.0) old (x ∷ new) moved))
-    ∙ insert_least goes_before x.0 (in_order new) (least_of x new top)
+    sym (sort-permutation ripens_first orders (map (λ r. r.0) old) (map (λ r. r.0) (x ∷ new)) (IsPermutation-map (λ r. r.0) old (x ∷ new) moved))
+    ∙ insert_least ripens_first x.0 (in_order new) (least_of x new top)
 
 -- the first of the list of a heap is its top
 pub first_is_top : (x : Reverse Ripening) (items : List (Reverse Ripening)) → 0 < length items → x ≡ get_or items 0 x → IsUpperBound heap_cmp x items
     → slice_get (in_order items) 0 ≡ Some x.0
 first_is_top x [] some is top = absurd (omega (arith, some))
 first_is_top x (y ∷ ys) some is top =
-    ap (λ w. slice_get (insert_by goes_before w (in_order ys)) 0) (ap (λ w. w.0) (sym is))
-    ∙ ap (λ l. slice_get l 0) (insert_least goes_before x.0 (in_order ys) (least_of x ys top.1))
+    ap (λ w. slice_get (insert_by ripens_first w (in_order ys)) 0) (ap (λ w. w.0) (sym is))
+    ∙ ap (λ l. slice_get l 0) (insert_least ripens_first x.0 (in_order ys) (least_of x ys top.1))
 
 -- a list that rises is its own sort, and its elements differ
 rises_differ : {A : Type 0} (below : A → A → Bool) (xs : List A) → Rises below xs → Differ below xs
@@ -126,19 +127,19 @@ ranks_ripening = ranks_then_by (λ r. r.ripe) (λ a b. nat_lt a.post b.post) (ra
 
 -- what differs in its post ripens before or behind
 ripens_apart : (a b : Ripening) → (b.post ≡ a.post → ⊥) → (ripens_before a b ≡ true) ⊎ (ripens_before b a ≡ true)
-ripens_apart a b other = by (apart_then (λ r. r.ripe) (λ x y. nat_lt x.post y.post) (λ x y. ⊥) a b (λ same. last (cases_order a.post b.post)))
+ripens_apart a b other = by_apart (apart_then (λ r. r.ripe) (λ x y. nat_lt x.post y.post) (λ x y. ⊥) a b (λ same. last (cases_order a.post b.post)))
   where
     last : (a.post ≡ b.post) ⊎ ((a.post < b.post) ⊎ (b.post < a.post)) → ⊥ ⊎ ((nat_lt a.post b.post ≡ true) ⊎ (nat_lt b.post a.post ≡ true))
     last (inl same) = absurd (other (sym same))
     last (inr (inl less)) = inr (inl (lt-ltb a.post b.post less))
     last (inr (inr more)) = inr (inr (lt-ltb b.post a.post more))
 
-    by : ⊥ ⊎ ((ripens_before a b ≡ true) ⊎ (ripens_before b a ≡ true)) → (ripens_before a b ≡ true) ⊎ (ripens_before b a ≡ true)
-    by (inl never) = absurd never
-    by (inr is) = is
+    by_apart : ⊥ ⊎ ((ripens_before a b ≡ true) ⊎ (ripens_before b a ≡ true)) → (ripens_before a b ≡ true) ⊎ (ripens_before b a ≡ true)
+    by_apart (inl never) = absurd never
+    by_apart (inr is) = is
 
 -- between tasks of different posts the task doesn't decide
-same_order : (a b : Ripening) → (a.post ≡ b.post → ⊥) → goes_before a b ≡ ripens_before a b
+same_order : (a b : Ripening) → (a.post ≡ b.post → ⊥) → ripens_first a b ≡ ripens_before a b
 same_order a b other =
     ap (λ t. nat_lt a.ripe b.ripe || (a.ripe == b.ripe && (nat_lt a.post b.post || (t && nat_lt a.task b.task)))) (ne_eqb a.post b.post other)
     ∙ ap (λ t. nat_lt a.ripe b.ripe || (a.ripe == b.ripe && t)) (or_false (nat_lt a.post b.post))
@@ -152,8 +153,8 @@ added : (x : Reverse Ripening) (old new : List (Reverse Ripening)) → IsPermuta
     → in_order new ≡ insert_by ripens_before x.0 (in_order old)
 added x old new moved differ =
     pushed x old new moved
-    ∙ insert_alike goes_before ripens_before x.0 (in_order old)
-    (AllByRecursion-map (λ r. r.post ≡ x.0.post → ⊥) (λ r. goes_before r x.0 ≡ ripens_before r x.0) (in_order old) (λ r other. same_order r x.0 other)
+    ∙ insert_alike ripens_first ripens_before x.0 (in_order old)
+    (AllByRecursion-map (λ r. r.post ≡ x.0.post → ⊥) (λ r. ripens_first r x.0 ≡ ripens_before r x.0) (in_order old) (λ r other. same_order r x.0 other)
     (recursion_from_All (λ r. r.post ≡ x.0.post → ⊥) (in_order old) differ))
 
 insert_rises : (x : Ripening) (held : List Ripening) → All (λ r. r.post ≡ x.post → ⊥) held → Rises ripens_before held
@@ -166,7 +167,7 @@ insert_rises x held differ rises = subst (λ l. Rises ripens_before (insert_by r
     ))
 
 length-in_order : (items : List (Reverse Ripening)) → length (in_order items) ≡ length items
-length-in_order items = length-sort_by goes_before (map (λ r. r.0) items) ∙ length-map items (λ r. r.0)
+length-in_order items = length-sort_by ripens_first (map (λ r. r.0) items) ∙ length-map items (λ r. r.0)
 
 rises-drop : {A : Type 0} (below : A → A → Bool) (xs : List A) → Rises below xs → Rises below (drop 1 xs)
 rises-drop below [] rises = tt

@@ -1,5 +1,6 @@
 -- A sort by an order in which of any two different elements one goes before the other doesn't depend on how they stood.
-use Rattle.std.proofs.Common.{◌≡◌, ℕ, zero, suc, ◌<◌, Bool, true, false, cond, List, [], ◌∷◌, length, get_or, set, drop, refl, sym, ap, ◌∙◌, inl, inr, arith, subst}
+use Rattle.std.proofs.Common.{◌≡◌, ℕ, zero, suc, ◌<◌, Bool, true, false, cond, List, [], ◌∷◌, length}
+use Rattle.std.proofs.Common.{get_or, set, drop, refl, sym, ap, ◌∙◌, inl, inr, arith, subst}
 use Rattle.std.specs.Prelude.{◌⊎◌, IsPermutation, swap}
 use Rattle.std.specs.List.{AllByRecursion}
 use Rattle.std.proofs.lemmas.Bool.{true≢false, cases_eq}
@@ -26,39 +27,39 @@ insert-before below x y ys is = ap (λ b. cond b (y ∷ insert_by below x ys) (x
 swapped_before : {A : Type 0} (below : A → A → Bool) → Ranks below → (x y : A) (zs : List A) → below x y ≡ true
     → insert_by below x (insert_by below y zs) ≡ insert_by below y (insert_by below x zs)
 swapped_before below ranks x y [] is = insert-before below x y [] (ranks.one_way x y is) ∙ sym (insert-behind below y x [] is)
-swapped_before {A = A} below ranks x y (z ∷ zs) is = by (below z x) (below z y) refl refl (swapped_before below ranks x y zs is)
+swapped_before {A = A} below ranks x y (z ∷ zs) is = by_order (below z x) (below z y) refl refl (swapped_before below ranks x y zs is)
   where
-    by : (b c : Bool) → below z x ≡ b → below z y ≡ c → insert_by below x (insert_by below y zs) ≡ insert_by below y (insert_by below x zs)
+    by_order : (b c : Bool) → below z x ≡ b → below z y ≡ c → insert_by below x (insert_by below y zs) ≡ insert_by below y (insert_by below x zs)
         → insert_by below x (insert_by below y (z ∷ zs)) ≡ insert_by below y (insert_by below x (z ∷ zs))
-    by true true zx zy rest =
+    by_order true true zx zy rest =
         ap (insert_by below x) (insert-behind below y z zs zy)
         ∙ insert-behind below x z (insert_by below y zs) zx
         ∙ ap (λ l. z ∷ l) rest
         ∙ sym (insert-behind below y z (insert_by below x zs) zy)
         ∙ sym (ap (insert_by below y) (insert-behind below x z zs zx))
-    by false true zx zy rest =
+    by_order false true zx zy rest =
         ap (insert_by below x) (insert-behind below y z zs zy)
         ∙ insert-before below x z (insert_by below y zs) zx
         ∙ sym (ap (λ l. x ∷ l) (insert-behind below y z zs zy))
         ∙ sym (insert-behind below y x (z ∷ zs) is)
         ∙ sym (ap (insert_by below y) (insert-before below x z zs zx))
-    by false false zx zy rest =
+    by_order false false zx zy rest =
         ap (insert_by below x) (insert-before below y z zs zy)
         ∙ insert-before below x y (z ∷ zs) (ranks.one_way x y is)
         ∙ sym (ap (λ l. x ∷ l) (insert-before below y z zs zy))
         ∙ sym (insert-behind below y x (z ∷ zs) is)
         ∙ sym (ap (insert_by below y) (insert-before below x z zs zx))
-    by true false zx zy rest = absurd (true≢false (sym (ranks-trans below ranks z x y zx is) ∙ zy))
+    by_order true false zx zy rest = absurd (true≢false (sym (ranks-trans below ranks z x y zx is) ∙ zy))
 
 -- two elements may be put in in either order
 insert-insert : {A : Type 0} (below : A → A → Bool) → Orders below → (x y : A) (zs : List A)
     → insert_by below x (insert_by below y zs) ≡ insert_by below y (insert_by below x zs)
-insert-insert {A = A} below orders x y zs = by (orders.apart x y)
+insert-insert {A = A} below orders x y zs = by_apart (orders.apart x y)
   where
-    by : (x ≡ y) ⊎ ((below x y ≡ true) ⊎ (below y x ≡ true)) → insert_by below x (insert_by below y zs) ≡ insert_by below y (insert_by below x zs)
-    by (inl same) = ap (λ w. insert_by below w (insert_by below y zs)) same ∙ sym (ap (λ w. insert_by below y (insert_by below w zs)) same)
-    by (inr (inl before)) = swapped_before below orders.ranks x y zs before
-    by (inr (inr before)) = sym (swapped_before below orders.ranks y x zs before)
+    by_apart : (x ≡ y) ⊎ ((below x y ≡ true) ⊎ (below y x ≡ true)) → insert_by below x (insert_by below y zs) ≡ insert_by below y (insert_by below x zs)
+    by_apart (inl same) = ap (λ w. insert_by below w (insert_by below y zs)) same ∙ sym (ap (λ w. insert_by below y (insert_by below w zs)) same)
+    by_apart (inr (inl before)) = swapped_before below orders.ranks x y zs before
+    by_apart (inr (inr before)) = sym (swapped_before below orders.ranks y x zs before)
 
 pub length-insert_by : {A : Type 0} (below : A → A → Bool) (x : A) (ys : List A) → length (insert_by below x ys) ≡ suc (length ys)
 length-insert_by below x [] = refl
@@ -72,16 +73,16 @@ insert-injective : {A : Type 0} (below : A → A → Bool) → Ranks below → (
 insert-injective below ranks x [] [] same = refl
 insert-injective below ranks x [] (z ∷ zs) same = absurd (omega (arith, ap length same, length-insert_by below x (z ∷ zs)))
 insert-injective below ranks x (y ∷ ys) [] same = absurd (omega (arith, ap length same, length-insert_by below x (y ∷ ys)))
-insert-injective {A = A} below ranks x (y ∷ ys) (z ∷ zs) same = by (below y x) (below z x) refl refl same (insert-injective below ranks x ys zs)
+insert-injective {A = A} below ranks x (y ∷ ys) (z ∷ zs) same = by_order (below y x) (below z x) refl refl same (insert-injective below ranks x ys zs)
   where
-    by : (b c : Bool) → below y x ≡ b → below z x ≡ c
+    by_order : (b c : Bool) → below y x ≡ b → below z x ≡ c
         → cond b (y ∷ insert_by below x ys) (x ∷ y ∷ ys) ≡ cond c (z ∷ insert_by below x zs) (x ∷ z ∷ zs)
         → (insert_by below x ys ≡ insert_by below x zs → ys ≡ zs) → y ∷ ys ≡ z ∷ zs
-    by true true yx zx is rest = ap (λ w. w ∷ ys) (ap (λ l. get_or l 0 x) is) ∙ ap (λ l. z ∷ l) (rest (ap (drop 1) is))
-    by false false yx zx is rest = ap (drop 1) is
-    by true false yx zx is rest =
+    by_order true true yx zx is rest = ap (λ w. w ∷ ys) (ap (λ l. get_or l 0 x) is) ∙ ap (λ l. z ∷ l) (rest (ap (drop 1) is))
+    by_order false false yx zx is rest = ap (drop 1) is
+    by_order true false yx zx is rest =
         absurd (true≢false (sym (subst (λ w. below w x ≡ true) (ap (λ l. get_or l 0 x) is) yx) ∙ ranks.itself x))
-    by false true yx zx is rest =
+    by_order false true yx zx is rest =
         absurd (true≢false (sym (subst (λ w. below w x ≡ true) (sym (ap (λ l. get_or l 0 x) is)) zx) ∙ ranks.itself x))
 
 -- one element changes places with one from outside
@@ -114,11 +115,11 @@ sort-swap {A = A} below orders (d ∷ ds) i j of_i of_j =
     b = get_or xs j d
 
     moved : get_or (set xs i b) j d ≡ b
-    moved = by (cases_eq j i)
+    moved = by_equal (cases_eq j i)
       where
-        by : (j ≡ i) ⊎ (j ≡ i → ⊥) → get_or (set xs i b) j d ≡ b
-        by (inl same) = ap (λ k. get_or (set xs i b) k d) same ∙ get_or-set_same xs i b d of_i
-        by (inr other) = get_or-set_other xs i j b d other
+        by_equal : (j ≡ i) ⊎ (j ≡ i → ⊥) → get_or (set xs i b) j d ≡ b
+        by_equal (inl same) = ap (λ k. get_or (set xs i b) k d) same ∙ get_or-set_same xs i b d of_i
+        by_equal (inr other) = get_or-set_other xs i j b d other
 
 -- a sort doesn't see in which order the elements stood
 pub sort-permutation : {A : Type 0} (below : A → A → Bool) → Orders below → (xs ys : List A) → IsPermutation xs ys → sort_by below ys ≡ sort_by below xs

@@ -14,12 +14,12 @@ abbrev pub heap_cmp : Reverse Ripening → Reverse Ripening → Ordering
 heap_cmp a b = ordering_then (nat_cmp b.0.ripe a.0.ripe) (ordering_then (nat_cmp b.0.post a.0.post) (nat_cmp b.0.task a.0.task))
 
 -- the first goes before the second: by the moment, the post and the task
-abbrev pub goes_before : Ripening → Ripening → Bool
-goes_before = then_by (λ r. r.ripe) (then_by (λ r. r.post) (λ a b. nat_lt a.task b.task))
+abbrev pub ripens_first : Ripening → Ripening → Bool
+ripens_first = then_by (λ r. r.ripe) (then_by (λ r. r.post) (λ a b. nat_lt a.task b.task))
 
 -- the heap's tasks in order
 abbrev pub in_order : List (Reverse Ripening) → List Ripening
-in_order items = sort_by goes_before (map (λ r. r.0) items)
+in_order items = sort_by ripens_first (map (λ r. r.0) items)
 
 -- the heap is in order, has the room, and holds tasks of which one ripens before the other
 pub record IsSound (items : List (Reverse Ripening)) (capacity room : ℕ) : Type 0 where

@@ -90,7 +90,8 @@ no_verdict command told source sink (BadReplies line reason) runs none = refl
 no_verdict command told source sink (BadNest line reason) runs none = refl
 
 -- the failure of a command is the end that its note tells of
-pub is_end : (command : Option Command) (told : ℕ → Option ℕ) (source sink : Ends) (failure : Failure) (status : ℕ) → EndsIn command told source sink (Err failure)
+pub is_end : (command : Option Command) (told : ℕ → Option ℕ) (source sink : Ends) (failure : Failure) (status : ℕ)
+    → EndsIn command told source sink (Err failure)
     → status ≡ failure_status failure → IsEnd command source status failure
 is_end command told source sink failure status runs is = let of = is_of failure runs in record { status_is = is; kind = of.0; of_bytes = of.1 }
   where

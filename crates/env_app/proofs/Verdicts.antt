@@ -1,5 +1,6 @@
 -- What a verdict on a log says of the text that the log has.
-use Rattle.std.proofs.Common.{◌≡◌, ◌≤◌, ◌+◌, ℕ, Bool, true, false, cond, List, [], ◌∷◌, ◌++◌, length, refl, sym, ap, subst, ◌∙◌, inl, inr, length-append, Option, Some, None, arith}
+use Rattle.std.proofs.Common.{◌≡◌, ◌≤◌, ◌+◌, ℕ, Bool, true, false, cond, List, [], ◌∷◌, ◌++◌, length, refl}
+use Rattle.std.proofs.Common.{sym, ap, subst, ◌∙◌, inl, inr, length-append, Option, Some, None, arith}
 use Rattle.std.specs.Prelude.{is_none}
 use Rattle.task_base.specs.Plan.{Plan}
 use Rattle.task_base.specs.declared.entry.Entry.{Entry}
@@ -10,7 +11,7 @@ use Rattle.log_model.proofs.Laws.LogLines.{line_words}
 use Rattle.log_model.proofs.Laws.LogTexts.{same_in, version_of-text_in}
 use Rattle.hist_model.specs.Legal.{IsLegal, first_illegal}
 use Rattle.hist_model.specs.Script.{IsWhole, is_whole}
-use Rattle.hist_model.proofs.Laws.Fitting.{entries_fit}
+use Rattle.hist_model.proofs.Laws.Fitting.Entries.{entries_fit}
 use Rattle.hist_model.proofs.Laws.Legal.{first_illegal_none, first_illegal_some}
 use Rattle.script_model.proofs.Laws.Sound.{reads_sound}
 use Rattle.run_log.proofs.LogLines.{bad_is_no_log}
@@ -43,20 +44,20 @@ legal_verdict true script log legal whole = rw (none_from (first_illegal script 
 legal_from_verdict : (prefix : Bool) (script : Plan) (log : List Entry) → verdict_on prefix script log ≡ Legal
     → IsLegal script log × (prefix ≡ false → IsWhole script log)
 unfolding verdict_on verdict_of prefix_verdict_of
-legal_from_verdict false script log verdict = by (first_illegal script log) refl (is_whole script log) refl verdict
+legal_from_verdict false script log verdict = by_first_illegal (first_illegal script log) refl (is_whole script log) refl verdict
   where
-    by : (o : Option ℕ) → first_illegal script log ≡ o → (b : Bool) → is_whole script log ≡ b → verdict_at script log o ≡ Legal
+    by_first_illegal : (o : Option ℕ) → first_illegal script log ≡ o → (b : Bool) → is_whole script log ≡ b → verdict_at script log o ≡ Legal
         → IsLegal script log × (false ≡ false → IsWhole script log)
-    by (Some place) found b whole is = absurd cc
-    by None found true whole is = (sym (first_illegal_none script log) ∙ ap is_none found, λ asked. whole)
-    by None found false whole is =
+    by_first_illegal (Some place) found b whole is = absurd cc
+    by_first_illegal None found true whole is = (sym (first_illegal_none script log) ∙ ap is_none found, λ asked. whole)
+    by_first_illegal None found false whole is =
         let other : Illegal (length log) ≡ Legal = sym (ap (λ w. cond w Legal (Illegal (length log))) whole) ∙ is in
         absurd cc
-legal_from_verdict true script log verdict = by (first_illegal script log) refl verdict
+legal_from_verdict true script log verdict = by_first_illegal (first_illegal script log) refl verdict
   where
-    by : (o : Option ℕ) → first_illegal script log ≡ o → prefix_verdict_at o ≡ Legal → IsLegal script log × (true ≡ false → IsWhole script log)
-    by (Some place) found is = absurd cc
-    by None found is = (sym (first_illegal_none script log) ∙ ap is_none found, λ other. absurd cc)
+    by_first_illegal : (o : Option ℕ) → first_illegal script log ≡ o → prefix_verdict_at o ≡ Legal → IsLegal script log × (true ≡ false → IsWhole script log)
+    by_first_illegal (Some place) found is = absurd cc
+    by_first_illegal None found is = (sym (first_illegal_none script log) ∙ ap is_none found, λ other. absurd cc)
 
 -- a place of the log's first illegal entry is within the log
 illegal_within : (script : Plan) (log : List Entry) (at place : ℕ) → first_illegal script log ≡ Some at → Illegal at ≡ Illegal place → place ≤ length log
@@ -69,22 +70,23 @@ illegal_within script log at place found is =
 -- the place that a verdict names is within the log, or its length
 pub place_within : (prefix : Bool) (script : Plan) (log : List Entry) (place : ℕ) → verdict_on prefix script log ≡ Illegal place → place ≤ length log
 unfolding verdict_on verdict_of prefix_verdict_of
-place_within false script log place verdict = by (first_illegal script log) refl (is_whole script log) refl verdict
+place_within false script log place verdict = by_first_illegal (first_illegal script log) refl (is_whole script log) refl verdict
   where
-    by : (o : Option ℕ) → first_illegal script log ≡ o → (b : Bool) → is_whole script log ≡ b → verdict_at script log o ≡ Illegal place → place ≤ length log
-    by (Some at) found b whole is = illegal_within script log at place found is
-    by None found true whole is =
+    by_first_illegal : (o : Option ℕ) → first_illegal script log ≡ o → (b : Bool) → is_whole script log ≡ b → verdict_at script log o ≡ Illegal place
+        → place ≤ length log
+    by_first_illegal (Some at) found b whole is = illegal_within script log at place found is
+    by_first_illegal None found true whole is =
         let other : Legal ≡ Illegal place = sym (ap (λ w. cond w Legal (Illegal (length log))) whole) ∙ is in
         absurd cc
-    by None found false whole is =
+    by_first_illegal None found false whole is =
         let other : Illegal (length log) ≡ Illegal place = sym (ap (λ w. cond w Legal (Illegal (length log))) whole) ∙ is in
         let same : length log ≡ place = cc in
         omega (arith, same)
-place_within true script log place verdict = by (first_illegal script log) refl verdict
+place_within true script log place verdict = by_first_illegal (first_illegal script log) refl verdict
   where
-    by : (o : Option ℕ) → first_illegal script log ≡ o → prefix_verdict_at o ≡ Illegal place → place ≤ length log
-    by (Some at) found is = illegal_within script log at place found is
-    by None found is = absurd cc
+    by_first_illegal : (o : Option ℕ) → first_illegal script log ≡ o → prefix_verdict_at o ≡ Illegal place → place ≤ length log
+    by_first_illegal (Some at) found is = illegal_within script log at place found is
+    by_first_illegal None found is = absurd cc
 
 -- ---- texts
 

@@ -104,12 +104,6 @@ wants_vote own q v false = rw (eqb-same q, eqb-same v) refl
 pub wants_rank : (own : List Entry) (q c : ℕ) → wants own (actions.Rank q c) [] (kinds.Rank q c) ≡ true
 wants_rank own q c = rw (eqb-same q, eqb-same c) refl
 
--- a policy is itself
-pub policy_same : (p : Policy) → same_policy p p ≡ true
-policy_same policies.All = refl
-policy_same policies.Foreground = refl
-policy_same policies.Nothing = refl
-
 -- a changed priority
 pub wants_reprio : (own : List Entry) (r : ℕ) (p : Priority) → wants own (actions.Reprio r p) [] (kinds.Reprio r p) ≡ true
 wants_reprio own r p = rw (eqb-same r, eqb-same (importance p)) refl

@@ -1,4 +1,5 @@
 -- A task that a seat has taken: while its steps are done, and behind its end.
+use Rattle.task_body.proofs.Progress.{computes_first}
 use Rattle.std.proofs.Common.{◌≡◌, ◌≢◌, ℕ, zero, suc, ◌+◌, ◌<◌, ◌≤◌, Bool, true, false, List, [], ◌∷◌}
 use Rattle.std.proofs.Common.{◌++◌, length, take, drop, refl, sym, ap, ◌∙◌, append-nil, append_assoc, Option, Some, None, arith}
 use Rattle.std.specs.Prelude.{filter, is_none}
@@ -87,12 +88,6 @@ goes_on now old new under same none = rw same (record {
   };
 })
 
--- compute steps in front are no act steps
-computes_first : (n : ℕ) (rest : List Step) → OnlyComputes (take n rest) → filter is_act rest ≡ filter is_act (drop n rest)
-computes_first zero rest computes = refl
-computes_first (suc n) [] computes = refl
-computes_first (suc n) (step ∷ rest) computes = rw computes.0 (computes_first n rest computes.1)
-
 -- compute steps are no entries
 pub under_way_behind_steps : (now : DeskView) (old new : AssignmentView) (n : ℕ) → IsUnderWay now old
     → Progress old.rest old.value (acts.Did n) new.rest new.value → new ≡ record old { value = new.value; rest = new.rest } → IsUnderWay now new
@@ -103,11 +98,6 @@ under_way_behind_steps now old new n under computes same =
 pub under_way_at_last : (now : DeskView) (old new : AssignmentView) → IsUnderWay now old
     → Progress old.rest old.value acts.Finished new.rest new.value → new ≡ record old { value = new.value; rest = new.rest } → IsUnderWay now new
 under_way_at_last now old new under rests same = goes_on now old new under same (ap (filter is_act) (rests.none ∙ sym rests.none_later))
-
--- two changes of value and rest are one
-pub stepped : (a b c : AssignmentView) → b ≡ record a { value = b.value; rest = b.rest } → c ≡ record b { value = c.value; rest = c.rest }
-    → c ≡ record a { value = c.value; rest = c.rest }
-stepped a b c first second = second ∙ ap (λ (x : AssignmentView). record x { value = c.value; rest = c.rest }) first
 
 -- The act steps.
 

@@ -55,13 +55,13 @@ last_is_now past = from 0 past
   where
     from : (before : ℕ) (past : List Entry) → fold (λ last now. now) before (ticks_of past) ≡ fold (λ now e. now_after now e.kind) before past
     from before [] = refl
-    from before (e ∷ past) = by e.kind (λ now. from now past)
+    from before (e ∷ past) = by_kind e.kind (λ now. from now past)
       where
-        by : (kind : Kind) → ((now : ℕ) → fold (λ last now. now) now (ticks_of past) ≡ fold (λ now e. now_after now e.kind) now past)
+        by_kind : (kind : Kind) → ((now : ℕ) → fold (λ last now. now) now (ticks_of past) ≡ fold (λ now e. now_after now e.kind) now past)
             → fold (λ last now. now) before (cons_option (moment_of kind) (ticks_of past))
             ≡ fold (λ now e. now_after now e.kind) (now_after before kind) past
-        by (kinds.Tick now) next = next now
-        by kind next = next before
+        by_kind (kinds.Tick now) next = next now
+        by_kind kind next = next before
 
 -- one more tick, of the next reading
 time_ticks : (told now next : ℕ → Option ℕ) (past : List Entry) (seat reading : ℕ) → IfSome (now 0) (λ first. reading ≡ first)

@@ -1,11 +1,11 @@
 -- What the sources and the sinks in memory are seen as.
 use Rattle.std.specs.Prelude.{ℕ, List, ◌-◌, ◌++◌, length, take, Bool, ◌&&◌, nat_le, Option, None, Some, if◌then◌else◌}
-use Rattle.env_io.specs.Failing.{Plan}
+use Rattle.env_io.specs.Failing.{FailurePlan}
 
 -- the bytes that a source has left, and its calls that are to fail
 pub record Feed : Type 0 where
   pub left : List ℕ
-  pub plan : Plan
+  pub plan : FailurePlan
 
 -- the bytes that a source has left, and how many it gives at most in a call
 pub record PieceFeed : Type 0 where
@@ -21,7 +21,7 @@ pub record Stored : Type 0 where
 -- what a sink stored, and its calls that are to fail
 pub record FailingStore : Type 0 where
   pub store : Stored
-  pub plan : Plan
+  pub plan : FailurePlan
 
 -- what a sink stored, and how many bytes it takes at most in a call
 pub record PieceStore : Type 0 where

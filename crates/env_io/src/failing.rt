@@ -15,9 +15,9 @@ pub(crate) struct Failing {
 }
 
 impl Model for Failing {
-    ghost use Rattle.env_io.specs.Failing.{Plan};
+    ghost use Rattle.env_io.specs.Failing.{FailurePlan};
 
-    ghost Value = { Plan };
+    ghost Value = { FailurePlan };
 
     ghost view = { λ f. record { fails = f.numbers.items; calls = f.calls; faults = f.faults } };
 }

@@ -1,5 +1,6 @@
 -- Who rests, and that no wake is lost.
-use Rattle.std.proofs.Common.{◌≡◌, ◌<◌, ◌≤◌, ◌+◌, ◌-◌, ℕ, zero, suc, Bool, true, false, List, [], ◌∷◌, length, replicate, Option, Some, None, refl, sym, ◌∙◌, arith, slice_set}
+use Rattle.std.proofs.Common.{◌≡◌, ◌<◌, ◌≤◌, ◌+◌, ◌-◌, ℕ, zero, suc, Bool, true, false, List, [], ◌∷◌, length}
+use Rattle.std.proofs.Common.{replicate, Option, Some, None, refl, sym, ◌∙◌, arith, slice_set}
 use Rattle.std.proofs.lemmas.List.{length-replicate}
 use Rattle.std.specs.Prelude.{◌==◌, slice_get, is_some, IfSome, IfNone}
 use Rattle.std.specs.List.{range_with_len}
@@ -22,10 +23,10 @@ use Rattle.env_roster.specs.declared.note.Note.TheVariants as notes_of
 
 -- where all have one note, nobody has another
 pub all_noted : (n : ℕ) (note other : Note) (seat : ℕ) → slice_get (replicate n note) seat ≡ Some other → note ≡ other
-all_noted n note other seat h = by (slice_get_within (replicate n note) seat other h)
+all_noted n note other seat h = by_within (slice_get_within (replicate n note) seat other h)
   where
-    by : seat < length (replicate n note) → note ≡ other
-    by within =
+    by_within : seat < length (replicate n note) → note ≡ other
+    by_within within =
         let here : slice_get (replicate n note) seat ≡ Some note = slice_get-replicate n seat note (omega (arith, within, length-replicate n note)) in
         some-injective (sym here ∙ h)
 

@@ -1,5 +1,6 @@
 -- The workers of a script, from their split to the close.
-use Rattle.std.proofs.Common.{◌≡◌, ℕ, zero, suc, ◌+◌, ◌-◌, ◌<◌, ◌≤◌, Bool, true, false, cond, eqb, append-nil, List, [], ◌∷◌, ◌++◌, length, map, refl, sym, ap, subst, ◌∙◌, length-append, get_or, Option, Some, None, arith, inl, inr}
+use Rattle.std.proofs.Common.{◌≡◌, ℕ, zero, suc, ◌+◌, ◌-◌, ◌<◌, ◌≤◌, Bool, true, false, cond, eqb, append-nil, List, [], ◌∷◌, ◌++◌}
+use Rattle.std.proofs.Common.{length, map, refl, sym, ap, subst, ◌∙◌, length-append, get_or, Option, Some, None, arith, inl, inr}
 use Rattle.std.specs.Prelude.{is_none, slice_get}
 use Rattle.std.proofs.lemmas.List.{map-append}
 use Rattle.std.proofs.lemmas.Option.{none-some, same_Some, slice_get_within, slice_get-get_or}
@@ -91,7 +92,8 @@ sits_spare key n d w seated some known = record {
 }
 
 -- and the seat that leaves a free desk is the worker's
-pub leaves_free : (key : TurnKey) (n : ℕ) (s : SeatView) → s.of.table ≡ key.table → s.of.basis ≡ key.basis → key.stands ≡ true → s.number ≡ n → IsFree (desk_of s)
+pub leaves_free : (key : TurnKey) (n : ℕ) (s : SeatView) → s.of.table ≡ key.table → s.of.basis ≡ key.basis → key.stands ≡ true → s.number ≡ n
+    → IsFree (desk_of s)
     → Seated s → IsWorker key n s
 leaves_free key n s table script stands number free seated = record {
   of_is = same_environment key s table script stands seated;
@@ -154,7 +156,12 @@ spare_pop key numbers n desks d was =
 
 -- where a number is left, so is a desk
 pub spare_there : (key : TurnKey) (numbers : List ℕ) (n : ℕ) (desks : List SeatView) → desks ≡ [] → AreSpare key (numbers ++ n ∷ []) desks → ⊥
-spare_there key numbers n desks none was = omega (arith, length-append numbers (n ∷ []), ap length was.numbers_are, ap (λ l. length (map (λ d. d.number) l)) none)
+spare_there key numbers n desks none was = omega (
+  arith,
+  length-append numbers (n ∷ []),
+  ap length was.numbers_are,
+  ap (λ l. length (map (λ d. d.number) l)) none,
+)
 
 -- the same desks, later on
 pub spare_later : (key : TurnKey) (numbers : List ℕ) (xs ys : List SeatView) → AreSpare key numbers xs → AllFree desk_of ys → SameDesks desk_of xs ys
@@ -184,11 +191,11 @@ spare_later key numbers xs ys was free same = record {
 -- a script that is finished wants nothing more of the driver
 finished_none : (script : Plan) (past : List Entry) → is_finished script past ≡ true → current script (own_entries 0 past) ≡ None
 unfolding is_finished
-finished_none script past done = by (current script (own_entries 0 past)) done
+finished_none script past done = by_current (current script (own_entries 0 past)) done
   where
-    by : (o : Option Current) → is_none o ≡ true → o ≡ None
-    by None h = refl
-    by (Some c) h = absurd cc
+    by_current : (o : Option Current) → is_none o ≡ true → o ≡ None
+    by_current None h = refl
+    by_current (Some c) h = absurd cc
 
 -- so it is with the driver's seat that leaves its desk
 pub driver_finished : (key : TurnKey) (d s : SeatView) → s ≡ d → s.of.basis ≡ key.basis → s.number ≡ 0 → Seated s → is_finished d.of.basis d.seen ≡ true
@@ -207,7 +214,8 @@ free_own : (past : List Entry) (seat : ℕ) → is_free (own_entries seat past) 
 free_own past seat = rw (running_own past seat, holding_own past seat) refl
 
 -- so each worker is free behind the run
-workers_free : (key : TurnKey) (n : ℕ) (rest : List SeatView) (log : List Entry) → AreWorkers key n rest → AllByRecursion (Tells log) rest → (k : ℕ) → k < length rest
+workers_free : (key : TurnKey) (n : ℕ) (rest : List SeatView) (log : List Entry) → AreWorkers key n rest → AllByRecursion (Tells log) rest → (k : ℕ)
+    → k < length rest
     → is_free log (n + k) ≡ true
 workers_free key n [] log all told k low = absurd (omega (arith, low))
 workers_free key n (s ∷ rest) log all told zero low =
@@ -244,12 +252,12 @@ tick_step script past seat (kinds.Tick now) may same =
     let second = and_parts (by_script script past seat (kinds.Tick now)) _ first.0 in
     let driver = and_parts (eqb seat 0) _ second.0 in
     rw driver.0 (filter_map-append (λ (e : Entry). moment_of e.kind) (own_entries 0 past) (record { seat = seat; kind = kinds.Tick now } ∷ []) ∙ rw same refl)
-tick_step script past seat kind may same = by (eqb seat 0)
+tick_step script past seat kind may same = by_seat (eqb seat 0)
   where
-    by : (b : Bool) → ticks_of (cond b (own_entries 0 past ++ record { seat = seat; kind = kind } ∷ []) (own_entries 0 past))
+    by_seat : (b : Bool) → ticks_of (cond b (own_entries 0 past ++ record { seat = seat; kind = kind } ∷ []) (own_entries 0 past))
         ≡ ticks_of past ++ ticks_of (record { seat = seat; kind = kind } ∷ [])
-    by true = filter_map-append (λ (e : Entry). moment_of e.kind) (own_entries 0 past) (record { seat = seat; kind = kind } ∷ []) ∙ rw same refl
-    by false = same ∙ sym (append-nil (ticks_of past))
+    by_seat true = filter_map-append (λ (e : Entry). moment_of e.kind) (own_entries 0 past) (record { seat = seat; kind = kind } ∷ []) ∙ rw same refl
+    by_seat false = same ∙ sym (append-nil (ticks_of past))
 
 -- the ticks of a legal history are the driver's
 own_ticks : (script : Plan) (past : List Entry) → IsLegal script past → ticks_of (own_entries 0 past) ≡ ticks_of past

@@ -9,7 +9,7 @@ ghost use Rattle.script_model.specs.Postings.{IsPostedOnce, is_posted_once, time
 /// In each legal history of a script in which no two postings name one task, each task is posted at most once, accepted
 /// or refused. So the accepted tasks differ, none is on the pool and on a main queue, and a task that is posted was
 /// neither posted, accepted, taken nor ended before. Whether a script is such a one is tested on its list of postings.
-#[tactic(auto, using(crate::proofs::Laws::PostingCounts::posted_at_most_once, crate::proofs::Laws::PostedOnce::each_is_accepted_once, crate::proofs::Laws::Differing::posted_once_decides))]
+#[tactic(auto, using(crate::proofs::Laws::Postings::Counts::posted_at_most_once, crate::proofs::Laws::Postings::Once::each_is_accepted_once, crate::proofs::Laws::Postings::Differing::posted_once_decides))]
 pub fn each_task_is_posted_once()
     ensures tested { (script : Plan) → IsTrue (is_posted_once script) ↔ IsPostedOnce script }
     ensures posted_at_most_once { (script : Plan) → (past : List Entry) → (t : ℕ) → IsPostedOnce script → IsLegal script past → times t (posted_in past) ≤ 1 }

@@ -25,7 +25,7 @@ pub fn legal_histories_can_go_on()
 /// task runs, and nobody is inside a job. No legal history is longer than the script's bound; one after which no entry is
 /// allowed is whole, and after a whole one none is; each legal history is the front of a whole one; and a choice that is
 /// always allowed makes, from nothing, a legal and whole history of at most as many entries as the bound says.
-#[tactic(auto, using(crate::proofs::Laws::Entries::entries_within, crate::proofs::Laws::Progress::Ends::ends_whole, crate::proofs::Laws::Progress::Ends::whole_is_at_end, crate::proofs::Laws::Progress::Ends::can_be_whole, crate::proofs::Laws::Progress::Ends::choices_end))]
+#[tactic(auto, using(crate::proofs::Laws::Entries::Bound::entries_within, crate::proofs::Laws::Progress::Ends::ends_whole, crate::proofs::Laws::Progress::Ends::whole_is_at_end, crate::proofs::Laws::Progress::Ends::can_be_whole, crate::proofs::Laws::Progress::Ends::choices_end))]
 pub fn every_way_ends_whole()
     ensures within_bound { (script : Plan) (past : List Entry) → IsSound script → IsLegal script past → length past ≤ events_bound_of script }
     ensures ends_whole { (script : Plan) (past : List Entry) → IsSound script → IsLegal script past → IsAtEnd script past → IsWhole script past }

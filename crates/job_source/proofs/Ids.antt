@@ -1,5 +1,6 @@
 -- The least free id, and a job where a worker enters, and where one ends its item.
-use Rattle.std.proofs.Common.{◌≡◌, ℕ, suc, ◌+◌, ◌≤◌, ◌<◌, Bool, true, false, cond, List, [], ◌∷◌, length, get_or, set, refl, sym, ap, ◌∙◌, Option, Some, None, add-one, arith}
+use Rattle.std.proofs.Common.{◌≡◌, ℕ, suc, ◌+◌, ◌≤◌, ◌<◌, Bool, true, false, cond, List, [], ◌∷◌, length}
+use Rattle.std.proofs.Common.{get_or, set, refl, sym, ap, ◌∙◌, Option, Some, None, add-one, arith}
 use Rattle.std.specs.Prelude.{◌||◌, nat_lt, not, find, is_none, is_some, slice_get, unwrap_or, IsSome}
 use Rattle.std.specs.List.{position, position_or_len, range_with_len}
 use Rattle.std.proofs.lemmas.Bool.{and_parts, or_parts, ltb-true, ltb-false, not-true, not-false}
@@ -32,20 +33,20 @@ all_held (Some item ∷ held) past = ap suc (all_held held (omega (arith, past))
 
 -- the place that is found is the first one
 position_is : {A : Type 0} (test : A → Bool) (xs : List A) (place : ℕ) → position test xs ≡ Some place → position_or_len test xs ≡ place
-position_is test xs place found = by (nat_lt (position_or_len test xs) (length xs)) found
+position_is test xs place found = by_order (nat_lt (position_or_len test xs) (length xs)) found
   where
-    by : (b : Bool) → cond b (Some (position_or_len test xs)) None ≡ Some place → position_or_len test xs ≡ place
-    by true is = same_Some _ _ is
-    by false is = absurd (none-some place is)
+    by_order : (b : Bool) → cond b (Some (position_or_len test xs)) None ≡ Some place → position_or_len test xs ≡ place
+    by_order true is = same_Some _ _ is
+    by_order false is = absurd (none-some place is)
 
 -- where no place is found, the test passes at none
 position_none : {A : Type 0} (test : A → Bool) (xs : List A) → position test xs ≡ None → length xs ≤ position_or_len test xs
-position_none test xs none = by (nat_lt (position_or_len test xs) (length xs)) refl none
+position_none test xs none = by_order (nat_lt (position_or_len test xs) (length xs)) refl none
   where
-    by : (b : Bool) → nat_lt (position_or_len test xs) (length xs) ≡ b → cond b (Some (position_or_len test xs)) None ≡ None
+    by_order : (b : Bool) → nat_lt (position_or_len test xs) (length xs) ≡ b → cond b (Some (position_or_len test xs)) None ≡ None
         → length xs ≤ position_or_len test xs
-    by true less is = absurd (none-some _ (sym is))
-    by false less is = ltb-false _ _ less
+    by_order true less is = absurd (none-some _ (sym is))
+    by_order false less is = ltb-false _ _ less
 
 -- the first place at which nothing is held is the least free id
 free_id_is : (job : JobView) (id : ℕ) → position is_none job.held ≡ Some id → free_id job ≡ Some id
@@ -88,11 +89,11 @@ IsConsistent-entered job id item is may found =
 
 -- the item that is held is at a place
 held-within : (job : JobView) (id : ℕ) → IsSome (held_by job id) → id < length job.held
-held-within job id held = by (slice_get job.held id) refl held
+held-within job id held = by_holder (slice_get job.held id) refl held
   where
-    by : (o : Option (Option ℕ)) → slice_get job.held id ≡ o → IsSome (unwrap_or o None) → id < length job.held
-    by None is some = absurd cc
-    by (Some item) is some = slice_get_within job.held id item is
+    by_holder : (o : Option (Option ℕ)) → slice_get job.held id ≡ o → IsSome (unwrap_or o None) → id < length job.held
+    by_holder None is some = absurd cc
+    by_holder (Some item) is some = slice_get_within job.held id item is
 
 -- where a worker inside goes on with an item or none, one less is inside, and one more where there is an item
 inside-set : (job : JobView) (id : ℕ) (next : Option ℕ) → IsSome (held_by job id)

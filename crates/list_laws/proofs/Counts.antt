@@ -13,41 +13,41 @@ pub filter_length_congr : {A : Type 0} (p q : A → Bool) (xs : List A) → ((x 
 filter_length_congr p q xs h = ap length (filter_congr p q xs h)
 
 pub count_step : {A : Type 0} (p : A → Bool) (x : A) (xs : List A) (b : Bool) → p x ≡ b → count p (x ∷ xs) ≡ cond b (suc (count p xs)) (count p xs)
-count_step p x xs b is = by (p x) ∙ ap (λ c. cond c (suc (count p xs)) (count p xs)) is
+count_step p x xs b is = by_test (p x) ∙ ap (λ c. cond c (suc (count p xs)) (count p xs)) is
   where
-    by : (c : Bool) → length (cond c (x ∷ filter p xs) (filter p xs)) ≡ cond c (suc (count p xs)) (count p xs)
-    by true = refl
-    by false = refl
+    by_test : (c : Bool) → length (cond c (x ∷ filter p xs) (filter p xs)) ≡ cond c (suc (count p xs)) (count p xs)
+    by_test true = refl
+    by_test false = refl
 
 pub count-cons : {A : Type 0} (p : A → Bool) (x : A) (xs : List A) → count p (x ∷ xs) ≡ count p xs + cond (p x) 1 0
-count-cons p x xs = by (p x) refl
+count-cons p x xs = by_test (p x) refl
   where
-    by : (b : Bool) → p x ≡ b → count p (x ∷ xs) ≡ count p xs + cond b 1 0
-    by true is = count_step p x xs true is ∙ omega arith
-    by false is = count_step p x xs false is ∙ omega arith
+    by_test : (b : Bool) → p x ≡ b → count p (x ∷ xs) ≡ count p xs + cond b 1 0
+    by_test true is = count_step p x xs true is ∙ omega arith
+    by_test false is = count_step p x xs false is ∙ omega arith
 
 pub count-append : {A : Type 0} (p : A → Bool) (xs ys : List A) → count p (xs ++ ys) ≡ count p xs + count p ys
 count-append p xs ys = ap length (filter-append p xs ys) ∙ length-append (filter p xs) (filter p ys)
 
 pub any_from_count : {A : Type 0} (p : A → Bool) (xs : List A) (n : ℕ) → count p xs ≡ suc n → list_any p xs ≡ true
 any_from_count p [] n is = absurd (omega (arith, is))
-any_from_count p (x ∷ xs) n is = by (p x) refl (any_from_count p xs n)
+any_from_count p (x ∷ xs) n is = by_test (p x) refl (any_from_count p xs n)
   where
-    by : (b : Bool) → p x ≡ b → (count p xs ≡ suc n → list_any p xs ≡ true) → (p x || list_any p xs) ≡ true
-    by true was rest = rw was refl
-    by false was rest = rw was (rest (sym (count_step p x xs false was) ∙ is))
+    by_test : (b : Bool) → p x ≡ b → (count p xs ≡ suc n → list_any p xs ≡ true) → (p x || list_any p xs) ≡ true
+    by_test true was rest = rw was refl
+    by_test false was rest = rw was (rest (sym (count_step p x xs false was) ∙ is))
 
 pub count_mono : {A : Type 0} (p q : A → Bool) (xs : List A) → ((x : A) → p x ≡ true → q x ≡ true) → count p xs ≤ count q xs
 count_mono p q [] h = omega arith
-count_mono p q (x ∷ xs) h = by (p x) refl (count_mono p q xs h) (count-cons p x xs) (count-cons q x xs)
+count_mono p q (x ∷ xs) h = by_test (p x) refl (count_mono p q xs h) (count-cons p x xs) (count-cons q x xs)
   where
-    by : (b : Bool) → p x ≡ b → count p xs ≤ count q xs → count p (x ∷ xs) ≡ count p xs + cond (p x) 1 0 → count q (x ∷ xs) ≡ count q xs + cond (q x) 1 0
+    by_test : (b : Bool) → p x ≡ b → count p xs ≤ count q xs → count p (x ∷ xs) ≡ count p xs + cond (p x) 1 0 → count q (x ∷ xs) ≡ count q xs + cond (q x) 1 0
         → count p (x ∷ xs) ≤ count q (x ∷ xs)
-    by true is le left right =
+    by_test true is le left right =
         let one : count p (x ∷ xs) ≡ count p xs + 1 = left ∙ ap (λ (b : Bool). count p xs + cond b 1 0) is in
         let two : count q (x ∷ xs) ≡ count q xs + 1 = right ∙ ap (λ (b : Bool). count q xs + cond b 1 0) (h x is) in
         omega (arith, le, one, two)
-    by false is le left right =
+    by_test false is le left right =
         let one : count p (x ∷ xs) ≡ count p xs + 0 = left ∙ ap (λ (b : Bool). count p xs + cond b 1 0) is in
         omega (arith, le, one, right)
 
@@ -55,11 +55,11 @@ count_mono p q (x ∷ xs) h = by (p x) refl (count_mono p q xs h) (count-cons p 
 count_up : {A : Type 0} (marks p q : A → Bool) (xs : List A) → ((x : A) → marks x ≡ true → p x ≡ false) → ((x : A) → marks x ≡ true → q x ≡ true)
     → AllByRecursion (λ x. marks x ≡ false → p x ≡ q x) xs → count q xs ≡ count p xs + count marks xs
 count_up marks p q [] f g h = refl
-count_up marks p q (x ∷ xs) f g h = by (marks x) refl (count_up marks p q xs f g h.1)
+count_up marks p q (x ∷ xs) f g h = by_test (marks x) refl (count_up marks p q xs f g h.1)
   where
-    by : (b : Bool) → marks x ≡ b → count q xs ≡ count p xs + count marks xs → count q (x ∷ xs) ≡ count p (x ∷ xs) + count marks (x ∷ xs)
-    by true is rest = omega (arith, rest, count_step p x xs false (f x is), count_step q x xs true (g x is), count_step marks x xs true is)
-    by false is rest = agree (q x) refl
+    by_test : (b : Bool) → marks x ≡ b → count q xs ≡ count p xs + count marks xs → count q (x ∷ xs) ≡ count p (x ∷ xs) + count marks (x ∷ xs)
+    by_test true is rest = omega (arith, rest, count_step p x xs false (f x is), count_step q x xs true (g x is), count_step marks x xs true is)
+    by_test false is rest = agree (q x) refl
       where
         agree : (c : Bool) → q x ≡ c → count q (x ∷ xs) ≡ count p (x ∷ xs) + count marks (x ∷ xs)
         agree true was = omega (arith, rest, count_step p x xs true (h.0 is ∙ was), count_step q x xs true was, count_step marks x xs false is)
@@ -73,17 +73,17 @@ count_change_in marks p q true false xs one f g h = let up : count p xs ≡ coun
     + count marks xs = count_up marks q p xs g f (AllByRecursion-map (λ x. marks x ≡ false → p x ≡ q x) (λ x. marks x ≡ false → q x ≡ p x) xs
     (λ x same is. sym (same is)) h) in omega (arith, one, up)
 count_change_in {A = A} marks p q true true xs one f g h = ap (λ ys. length ys + 1)
-    (filter_congr_in p q xs (AllByRecursion-map (λ x. marks x ≡ false → p x ≡ q x) (λ x. p x ≡ q x) xs (λ x same. by x same (marks x) refl) h))
+    (filter_congr_in p q xs (AllByRecursion-map (λ x. marks x ≡ false → p x ≡ q x) (λ x. p x ≡ q x) xs (λ x same. at_each x same (marks x) refl) h))
   where
-    by : (x : A) → (marks x ≡ false → p x ≡ q x) → (m : Bool) → marks x ≡ m → p x ≡ q x
-    by x same true is = f x is ∙ sym (g x is)
-    by x same false is = same is
+    at_each : (x : A) → (marks x ≡ false → p x ≡ q x) → (m : Bool) → marks x ≡ m → p x ≡ q x
+    at_each x same true is = f x is ∙ sym (g x is)
+    at_each x same false is = same is
 count_change_in {A = A} marks p q false false xs one f g h = ap (λ ys. length ys + 0)
-    (filter_congr_in p q xs (AllByRecursion-map (λ x. marks x ≡ false → p x ≡ q x) (λ x. p x ≡ q x) xs (λ x same. by x same (marks x) refl) h))
+    (filter_congr_in p q xs (AllByRecursion-map (λ x. marks x ≡ false → p x ≡ q x) (λ x. p x ≡ q x) xs (λ x same. at_each x same (marks x) refl) h))
   where
-    by : (x : A) → (marks x ≡ false → p x ≡ q x) → (m : Bool) → marks x ≡ m → p x ≡ q x
-    by x same true is = f x is ∙ sym (g x is)
-    by x same false is = same is
+    at_each : (x : A) → (marks x ≡ false → p x ≡ q x) → (m : Bool) → marks x ≡ m → p x ≡ q x
+    at_each x same true is = f x is ∙ sym (g x is)
+    at_each x same false is = same is
 
 pub count_change : {A : Type 0} (marks p q : A → Bool) (b c : Bool) (xs : List A) → count marks xs ≡ 1 → ((x : A) → marks x ≡ true → p x ≡ b)
     → ((x : A) → marks x ≡ true → q x ≡ c) → ((x : A) → marks x ≡ false → p x ≡ q x) → count p xs + cond c 1 0 ≡ count q xs + cond b 1 0

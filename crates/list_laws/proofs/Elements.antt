@@ -1,5 +1,6 @@
 -- What holds of the elements of a list.
-use Rattle.std.proofs.Common.{◌≡◌, ℕ, zero, suc, ◌<◌, Bool, true, false, cond, List, [], ◌∷◌, ◌++◌, length, map, append_assoc, get_or, refl, sym, ◌∙◌, Option, Some, None, arith, subst}
+use Rattle.std.proofs.Common.{◌≡◌, ℕ, zero, suc, ◌<◌, Bool, true, false, cond, List, [], ◌∷◌, ◌++◌, length, map}
+use Rattle.std.proofs.Common.{append_assoc, get_or, refl, sym, ◌∙◌, Option, Some, None, arith, subst}
 use Rattle.std.specs.Prelude.{filter, slice_get, Contains}
 use Rattle.std.specs.Option.{IfSome}
 use Rattle.std.specs.List.{filter_map, cons_option, AllByRecursion}
@@ -75,13 +76,13 @@ AllByRecursion-filter P p (x ∷ xs) h = elim (p x) as (λ b. AllByRecursion P (
 pub unfiltered : {A : Type 0} (P : A → Type 0) (test : A → Bool) (xs : List A) → AllByRecursion P (filter test xs)
     → AllByRecursion (λ x. test x ≡ true → P x) xs
 unfiltered P test [] h = tt
-unfiltered {A = A} P test (x ∷ xs) h = by (test x) refl h (unfiltered P test xs)
+unfiltered {A = A} P test (x ∷ xs) h = by_test (test x) refl h (unfiltered P test xs)
   where
-    by : (b : Bool) → test x ≡ b → AllByRecursion P (cond b (x ∷ filter test xs) (filter test xs))
+    by_test : (b : Bool) → test x ≡ b → AllByRecursion P (cond b (x ∷ filter test xs) (filter test xs))
         → (AllByRecursion P (filter test xs) → AllByRecursion (λ y. test y ≡ true → P y) xs)
         → (test x ≡ true → P x) × AllByRecursion (λ y. test y ≡ true → P y) xs
-    by true is kept rest = ((λ same. kept.0), rest kept.1)
-    by false is kept rest = ((λ same. absurd (true≢false (sym same ∙ is))), rest kept)
+    by_test true is kept rest = ((λ same. kept.0), rest kept.1)
+    by_test false is kept rest = ((λ same. absurd (true≢false (sym same ∙ is))), rest kept)
 
 pub AllByRecursion-filter_map : {A B : Type 0} (P : B → Type 0) (f : A → Option B) (xs : List A) → AllByRecursion (λ x. IfSome (f x) P) xs
     → AllByRecursion P (filter_map f xs)
@@ -96,12 +97,13 @@ AllByRecursion-filter_map {B = B} P f (x ∷ xs) h = made (f x) h.0 (AllByRecurs
 pub AllByRecursion-made : {A B : Type 0} (P : B → Type 0) (f : A → Option B) (xs : List A) → AllByRecursion P (filter_map f xs)
     → AllByRecursion (λ x. IfSome (f x) P) xs
 AllByRecursion-made P f [] all = tt
-AllByRecursion-made {B = B} P f (x ∷ xs) all = by (f x) all (AllByRecursion-made P f xs)
+AllByRecursion-made {B = B} P f (x ∷ xs) all = by_image (f x) all (AllByRecursion-made P f xs)
   where
-    by : (o : Option B) → AllByRecursion P (cons_option o (filter_map f xs)) → (AllByRecursion P (filter_map f xs) → AllByRecursion (λ y. IfSome (f y) P) xs)
+    by_image : (o : Option B) → AllByRecursion P (cons_option o (filter_map f xs))
+        → (AllByRecursion P (filter_map f xs) → AllByRecursion (λ y. IfSome (f y) P) xs)
         → IfSome o P × AllByRecursion (λ y. IfSome (f y) P) xs
-    by None h rest = (tt, rest h)
-    by (Some y) h rest = (h.0, rest h.1)
+    by_image None h rest = (tt, rest h)
+    by_image (Some y) h rest = (h.0, rest h.1)
 
 -- what holds of all of a list holds of each that it contains
 pub AllByRecursion-contains : {A : Type 0} (P : A → Type 0) (xs : List A) (x : A) → AllByRecursion P xs → Contains xs x → P x

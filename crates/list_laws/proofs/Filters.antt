@@ -1,5 +1,6 @@
 -- What a test keeps of a list, and what is made of its elements.
-use Rattle.std.proofs.Common.{◌≡◌, Bool, true, false, cond, List, [], ◌∷◌, map, refl, sym, ap, ◌∙◌, Option, Some, None}
+use Rattle.std.proofs.Common.{◌≡◌, Bool, true, false, cond, List, [], ◌∷◌, ◌++◌, map, refl, sym, ap, ◌∙◌, Option, Some, None}
+use Rattle.std.proofs.lemmas.List.Elements.{filter-append}
 use Rattle.std.specs.Prelude.{◌&&◌, filter}
 use Rattle.std.specs.Option.{option_map}
 use Rattle.std.specs.List.{filter_map, cons_option, AllByRecursion}
@@ -76,26 +77,26 @@ pub filter_map-passing : {A B : Type 0} (f : A → Option B) (p : A → Bool) (g
     → filter_map f xs ≡ map g (filter p xs)
 filter_map-passing f p g [] is = refl
 filter_map-passing {A = A} {B = B} f p g (x ∷ xs) is = ap (λ o. cons_option o (filter_map f xs)) (is x)
-    ∙ ap (λ ys. cons_option (cond (p x) (Some (g x)) None) ys) (filter_map-passing f p g xs is) ∙ by (p x)
+    ∙ ap (λ ys. cons_option (cond (p x) (Some (g x)) None) ys) (filter_map-passing f p g xs is) ∙ by_test (p x)
   where
-    by : (b : Bool) → cons_option (cond b (Some (g x)) None) (map g (filter p xs)) ≡ map g (cond b (x ∷ filter p xs) (filter p xs))
-    by true = refl
-    by false = refl
+    by_test : (b : Bool) → cons_option (cond b (Some (g x)) None) (map g (filter p xs)) ≡ map g (cond b (x ∷ filter p xs) (filter p xs))
+    by_test true = refl
+    by_test false = refl
 
 -- what is made of what is made
 pub filter_map-option_map : {A B C : Type 0} (f : A → Option B) (g : B → C) (xs : List A) → filter_map (λ x. option_map g (f x)) xs ≡ map g (filter_map f xs)
 filter_map-option_map f g [] = refl
-filter_map-option_map {B = B} f g (x ∷ xs) = ap (cons_option (option_map g (f x))) (filter_map-option_map f g xs) ∙ by (f x)
+filter_map-option_map {B = B} f g (x ∷ xs) = ap (cons_option (option_map g (f x))) (filter_map-option_map f g xs) ∙ by_image (f x)
   where
-    by : (o : Option B) → cons_option (option_map g o) (map g (filter_map f xs)) ≡ map g (cons_option o (filter_map f xs))
-    by None = refl
-    by (Some y) = refl
+    by_image : (o : Option B) → cons_option (option_map g o) (map g (filter_map f xs)) ≡ map g (cons_option o (filter_map f xs))
+    by_image None = refl
+    by_image (Some y) = refl
 
 -- a test on what is made of the elements is a test on the elements
 pub filter-filter_map : {A B : Type 0} (r : B → Bool) (s : A → Bool) (f : A → Option B) (xs : List A) → ((x : A) (y : B) → f x ≡ Some y → r y ≡ s x)
     → filter_map f (filter s xs) ≡ filter r (filter_map f xs)
 filter-filter_map r s f [] h = refl
-filter-filter_map {A = A} {B = B} r s f (x ∷ xs) h = by (f x) refl (filter-filter_map r s f xs h)
+filter-filter_map {A = A} {B = B} r s f (x ∷ xs) h = by_image (f x) refl (filter-filter_map r s f xs h)
   where
     kept : (b : Bool) → filter_map f (cond b (x ∷ filter s xs) (filter s xs))
         ≡ cond b (cons_option (f x) (filter_map f (filter s xs))) (filter_map f (filter s xs))
@@ -106,17 +107,23 @@ filter-filter_map {A = A} {B = B} r s f (x ∷ xs) h = by (f x) refl (filter-fil
     none true ys = refl
     none false ys = refl
 
-    by : (o : Option B) → f x ≡ o → filter_map f (filter s xs) ≡ filter r (filter_map f xs)
+    by_image : (o : Option B) → f x ≡ o → filter_map f (filter s xs) ≡ filter r (filter_map f xs)
         → filter_map f (cond (s x) (x ∷ filter s xs) (filter s xs)) ≡ filter r (cons_option (f x) (filter_map f xs))
-    by None is rest =
+    by_image None is rest =
         kept (s x)
         ∙ ap (λ o. cond (s x) (cons_option o (filter_map f (filter s xs))) (filter_map f (filter s xs))) is
         ∙ none (s x) (filter_map f (filter s xs))
         ∙ rest
         ∙ ap (λ o. filter r (cons_option o (filter_map f xs))) (sym is)
-    by (Some y) is rest =
+    by_image (Some y) is rest =
         kept (s x)
         ∙ ap (λ o. cond (s x) (cons_option o (filter_map f (filter s xs))) (filter_map f (filter s xs))) is
         ∙ ap (λ b. cond b (y ∷ filter_map f (filter s xs)) (filter_map f (filter s xs))) (sym (h x y is))
         ∙ ap (λ ys. cond (r y) (y ∷ ys) ys) rest
         ∙ ap (λ o. filter r (cons_option o (filter_map f xs))) (sym is)
+
+-- the elements in front, where all of these pass, and those of the rest that do
+pub filter_front : {A : Type 0} (test : A → Bool) (xs front rest : List A) → xs ≡ front ++ rest → AllByRecursion (λ x. test x ≡ true) front
+    → filter test xs ≡ front ++ filter test rest
+filter_front test xs front rest parts passes =
+    ap (filter test) parts ∙ filter-append test front rest ∙ ap (λ ys. ys ++ filter test rest) (filter_all test front passes)

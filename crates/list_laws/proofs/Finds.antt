@@ -51,8 +51,8 @@ found_counts p xs h = one_at_least (count p xs) (λ none. true≢false (sym h �
 -- what is found in a list is in it
 pub find_contains : {A : Type 0} (test : A → Bool) (xs : List A) (x : A) → find test xs ≡ Some x → Contains xs x
 find_contains test [] x is = absurd (none-some x is)
-find_contains {A = A} test (y ∷ ys) x is = by (test y) is (find_contains test ys x)
+find_contains {A = A} test (y ∷ ys) x is = by_test (test y) is (find_contains test ys x)
   where
-    by : (b : Bool) → cond b (Some y) (find test ys) ≡ Some x → (find test ys ≡ Some x → Contains ys x) → Contains (y ∷ ys) x
-    by true here rest = (0, omega arith, same_Some y x here)
-    by false there rest = Contains-append_right (y ∷ []) ys x (rest there)
+    by_test : (b : Bool) → cond b (Some y) (find test ys) ≡ Some x → (find test ys ≡ Some x → Contains ys x) → Contains (y ∷ ys) x
+    by_test true here rest = (0, omega arith, same_Some y x here)
+    by_test false there rest = Contains-append_right (y ∷ []) ys x (rest there)

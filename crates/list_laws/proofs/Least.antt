@@ -19,13 +19,13 @@ least_from-is P below x (y ∷ xs) h k = elim (below y x) as (λ b. P (least_fro
 -- none of a list goes before its least
 least_below : {A : Type 0} (below : A → A → Bool) → Ranks below → (x : A) (xs : List A) → AllByRecursion (λ y. below y (least_from below x xs) ≡ false) (x ∷ xs)
 least_below below ranks x [] = (ranks.itself x, tt)
-least_below {A = A} below ranks x (y ∷ ys) = by (below y x) refl (least_below below ranks y ys) (least_below below ranks x ys)
+least_below {A = A} below ranks x (y ∷ ys) = by_order (below y x) refl (least_below below ranks y ys) (least_below below ranks x ys)
   where
-    by : (b : Bool) → below y x ≡ b → AllByRecursion (λ z. below z (least_from below y ys) ≡ false) (y ∷ ys)
+    by_order : (b : Bool) → below y x ≡ b → AllByRecursion (λ z. below z (least_from below y ys) ≡ false) (y ∷ ys)
         → AllByRecursion (λ z. below z (least_from below x ys) ≡ false) (x ∷ ys)
         → AllByRecursion (λ z. below z (least_from below (cond b y x) ys) ≡ false) (x ∷ y ∷ ys)
-    by true before of_y of_x = (ranks.through x y (least_from below y ys) (ranks.one_way y x before) of_y.0, of_y)
-    by false before of_y of_x = (of_x.0, (ranks.through y x (least_from below x ys) before of_x.0, of_x.1))
+    by_order true before of_y of_x = (ranks.through x y (least_from below y ys) (ranks.one_way y x before) of_y.0, of_y)
+    by_order false before of_y of_x = (of_x.0, (ranks.through y x (least_from below x ys) before of_x.0, of_x.1))
 
 pub least_is_least : {A : Type 0} (below : A → A → Bool) → Ranks below → (xs : List A) (x : A) → least below xs ≡ Some x → IsLeast below xs x
 least_is_least below ranks [] x is = absurd (none-some x is)

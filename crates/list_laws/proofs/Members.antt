@@ -6,7 +6,8 @@ use Rattle.std.specs.List.{filter_map, cons_option, AllByRecursion}
 use Rattle.std.proofs.lemmas.List.Elements.{Contains-append_left, Contains-append_right}
 use Rattle.std.proofs.lemmas.Option.{none-some}
 use Rattle.list_laws.specs.Sorts.{SameMembers}
-use Rattle.list_laws.proofs.Elements.{AllByRecursion-map, AllByRecursion-append, AllByRecursion-front, AllByRecursion-back, AllByRecursion-mapped, AllByRecursion-unmapped, AllByRecursion-contains_itself, AllByRecursion-through}
+use Rattle.list_laws.proofs.Elements.{AllByRecursion-map, AllByRecursion-append, AllByRecursion-front, AllByRecursion-back, AllByRecursion-mapped}
+use Rattle.list_laws.proofs.Elements.{AllByRecursion-unmapped, AllByRecursion-contains_itself, AllByRecursion-through}
 
 pub same_members-refl : {A : Type 0} (xs : List A) → SameMembers xs xs
 same_members-refl xs = record { forth = AllByRecursion-contains_itself xs; back = AllByRecursion-contains_itself xs }
@@ -37,28 +38,29 @@ same_members-map {A = A} {B = B} f xs ys same = record { forth = half xs ys same
 either_made : {A B : Type 0} (P : B → Type 0) (f g : A → Option B) (xs : List A) → AllByRecursion P (filter_map f xs) → AllByRecursion P (filter_map g xs)
     → AllByRecursion P (filter_map (λ x. option_or (f x) (g x)) xs)
 either_made P f g [] of_f of_g = tt
-either_made {B = B} P f g (x ∷ xs) of_f of_g = by (f x) (g x) of_f of_g (either_made P f g xs)
+either_made {B = B} P f g (x ∷ xs) of_f of_g = by_image (f x) (g x) of_f of_g (either_made P f g xs)
   where
-    by : (o q : Option B) → AllByRecursion P (cons_option o (filter_map f xs)) → AllByRecursion P (cons_option q (filter_map g xs))
+    by_image : (o q : Option B) → AllByRecursion P (cons_option o (filter_map f xs)) → AllByRecursion P (cons_option q (filter_map g xs))
         → (AllByRecursion P (filter_map f xs) → AllByRecursion P (filter_map g xs) → AllByRecursion P (filter_map (λ y. option_or (f y) (g y)) xs))
         → AllByRecursion P (cons_option (option_or o q) (filter_map (λ y. option_or (f y) (g y)) xs))
-    by None None h k rest = rest h k
-    by None (Some z) h k rest = (k.0, rest h k.1)
-    by (Some y) None h k rest = (h.0, rest h.1 k)
-    by (Some y) (Some z) h k rest = (h.0, rest h.1 k.1)
+    by_image None None h k rest = rest h k
+    by_image None (Some z) h k rest = (k.0, rest h k.1)
+    by_image (Some y) None h k rest = (h.0, rest h.1 k)
+    by_image (Some y) (Some z) h k rest = (h.0, rest h.1 k.1)
 
 made_either : {A B : Type 0} (P : B → Type 0) (f g : A → Option B) (xs : List A) → ((x : A) (y : B) → f x ≡ Some y → g x ≡ None)
     → AllByRecursion P (filter_map (λ x. option_or (f x) (g x)) xs) → AllByRecursion P (filter_map f xs) × AllByRecursion P (filter_map g xs)
 made_either P f g [] apart all = (tt, tt)
-made_either {B = B} P f g (x ∷ xs) apart all = by (f x) (g x) (λ y. apart x y) all (made_either P f g xs apart)
+made_either {B = B} P f g (x ∷ xs) apart all = by_image (f x) (g x) (λ y. apart x y) all (made_either P f g xs apart)
   where
-    by : (o q : Option B) → ((y : B) → o ≡ Some y → q ≡ None) → AllByRecursion P (cons_option (option_or o q) (filter_map (λ y. option_or (f y) (g y)) xs))
+    by_image : (o q : Option B) → ((y : B) → o ≡ Some y → q ≡ None)
+        → AllByRecursion P (cons_option (option_or o q) (filter_map (λ y. option_or (f y) (g y)) xs))
         → (AllByRecursion P (filter_map (λ y. option_or (f y) (g y)) xs) → AllByRecursion P (filter_map f xs) × AllByRecursion P (filter_map g xs))
         → AllByRecursion P (cons_option o (filter_map f xs)) × AllByRecursion P (cons_option q (filter_map g xs))
-    by None None is h rest = rest h
-    by None (Some z) is h rest = ((rest h.1).0, (h.0, (rest h.1).1))
-    by (Some y) None is h rest = ((h.0, (rest h.1).0), (rest h.1).1)
-    by (Some y) (Some z) is h rest = absurd (none-some z (sym (is y refl)))
+    by_image None None is h rest = rest h
+    by_image None (Some z) is h rest = ((rest h.1).0, (h.0, (rest h.1).1))
+    by_image (Some y) None is h rest = ((h.0, (rest h.1).0), (rest h.1).1)
+    by_image (Some y) (Some z) is h rest = absurd (none-some z (sym (is y refl)))
 
 -- what is made of each element in one of two ways, where not in both, is what is made in the first way and in the second
 pub same_members-either : {A B : Type 0} (f g : A → Option B) (xs : List A) → ((x : A) (y : B) → f x ≡ Some y → g x ≡ None)

@@ -17,24 +17,24 @@ option_map-or f None b = refl
 pub position-append : {A : Type 0} (test : A → Bool) (i : ℕ) (xs ys : List A)
     → position_from test i (xs ++ ys) ≡ option_or (position_from test i xs) (position_from test (i + length xs) ys)
 position-append test i [] ys = ap (λ n. position_from test n ys) (omega arith)
-position-append test i (x ∷ xs) ys = by (test x) (position-append test (i + 1) xs ys
+position-append test i (x ∷ xs) ys = by_test (test x) (position-append test (i + 1) xs ys
     ∙ ap (λ n. option_or (position_from test (i + 1) xs) (position_from test n ys)) (omega arith))
   where
-    by : (b : Bool) → position_from test (i + 1) (xs ++ ys) ≡ option_or (position_from test (i + 1) xs) (position_from test (i + suc (length xs)) ys)
+    by_test : (b : Bool) → position_from test (i + 1) (xs ++ ys) ≡ option_or (position_from test (i + 1) xs) (position_from test (i + suc (length xs)) ys)
         → cond b (Some i) (position_from test (i + 1) (xs ++ ys))
         ≡ option_or (cond b (Some i) (position_from test (i + 1) xs)) (position_from test (i + suc (length xs)) ys)
-    by true rest = refl
-    by false rest = rest
+    by_test true rest = refl
+    by_test false rest = rest
 
 -- the first place in a list is one of its places
 pub position-within : {A : Type 0} (test : A → Bool) (i : ℕ) (xs : List A) (n : ℕ) → position_from test i xs ≡ Some n → n < i + length xs
 position-within test i [] n is = absurd (none-some n is)
-position-within test i (x ∷ xs) n is = by (test x) is (position-within test (i + 1) xs n)
+position-within test i (x ∷ xs) n is = by_test (test x) is (position-within test (i + 1) xs n)
   where
-    by : (b : Bool) → cond b (Some i) (position_from test (i + 1) xs) ≡ Some n → (position_from test (i + 1) xs ≡ Some n → n < i + 1 + length xs)
+    by_test : (b : Bool) → cond b (Some i) (position_from test (i + 1) xs) ≡ Some n → (position_from test (i + 1) xs ≡ Some n → n < i + 1 + length xs)
         → n < i + suc (length xs)
-    by true h rest = omega (arith, same_Some i n h)
-    by false h rest = omega (arith, rest h)
+    by_test true h rest = omega (arith, same_Some i n h)
+    by_test false h rest = omega (arith, rest h)
 
 -- where the test passes nowhere, each element fails it
 pub AllByRecursion-not_any : {A : Type 0} (p : A → Bool) (xs : List A) → list_any p xs ≡ false → AllByRecursion (λ x. p x ≡ false) xs

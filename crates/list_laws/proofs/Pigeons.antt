@@ -1,7 +1,8 @@
 -- The pigeonhole: where each pigeon is in some hole, and no hole has two of them, there are no more pigeons than holes.
 -- So, where an element has at most one number, and there are fewer elements than numbers, the first number that no
 -- element has is found.
-use Rattle.std.proofs.Common.{◌≡◌, ℕ, zero, suc, ◌+◌, ◌<◌, ◌≤◌, Bool, true, false, cond, List, [], ◌∷◌, length, refl, ap, ◌∙◌, Option, Some, None, inl, inr, arith}
+use Rattle.std.proofs.Common.{◌≡◌, ℕ, zero, suc, ◌+◌, ◌<◌, ◌≤◌, Bool, true, false, cond, List, []}
+use Rattle.std.proofs.Common.{◌∷◌, length, refl, ap, ◌∙◌, Option, Some, None, inl, inr, arith}
 use Rattle.std.specs.Prelude.{not, ◌||◌, ◌&&◌, ◌⊎◌, filter, find}
 use Rattle.std.specs.List.{list_any, list_all, range_with_len, AllByRecursion}
 use Rattle.std.proofs.lemmas.Bool.{false≢true, not-true, not-false, false_from_ne_true, cases_eq, and_parts}
@@ -59,15 +60,15 @@ pigeons_fit {A = A} {B = B} is_in (hole ∷ holes) pigeons one all =
 -- a test that at most one number passes, over a row of numbers
 pub count_one : (p : ℕ → Bool) (start len : ℕ) → ((i j : ℕ) → p i ≡ true → p j ≡ true → i ≡ j) → count p (range_with_len start len) ≤ 1
 count_one p start zero one = omega arith
-count_one p start (suc len) one = by (p start) refl (count_one p (start + 1) len one)
+count_one p start (suc len) one = by_test (p start) refl (count_one p (start + 1) len one)
   where
     none_else : p start ≡ true → count p (range_with_len (start + 1) len) ≡ 0
     none_else here = ap length (filter_none p (range_with_len (start + 1) len) (AllByRecursion-range (λ i. p i ≡ false) (start + 1) len
         (λ i from to. false_from_ne_true (p i) (λ also. let same : start ≡ i = one start i here also in omega arith))))
 
-    by : (b : Bool) → p start ≡ b → count p (range_with_len (start + 1) len) ≤ 1 → count p (start ∷ range_with_len (start + 1) len) ≤ 1
-    by true here rest = let none : count p (range_with_len (start + 1) len) ≡ 0 = none_else here in rw here (omega arith)
-    by false other rest = rw other rest
+    by_test : (b : Bool) → p start ≡ b → count p (range_with_len (start + 1) len) ≤ 1 → count p (start ∷ range_with_len (start + 1) len) ≤ 1
+    by_test true here rest = let none : count p (range_with_len (start + 1) len) ≡ 0 = none_else here in rw here (omega arith)
+    by_test false other rest = rw other rest
 
 -- where each of the first n numbers is some element's, and an element has at most one number, there are at least n elements
 pub numbers_fit : {A : Type 0} (has : ℕ → A → Bool) (xs : List A) (n : ℕ) → ((i j : ℕ) (x : A) → has i x ≡ true → has j x ≡ true → i ≡ j)
@@ -81,15 +82,15 @@ numbers_fit has xs n one all =
 pub found_in_range : (p : ℕ → Bool) (start len n : ℕ) → find p (range_with_len start len) ≡ Some n
     → (p n ≡ true) × (n < start + len) × ((m : ℕ) → start ≤ m → m < n → p m ≡ false)
 found_in_range p start zero n found = absurd (none-some n found)
-found_in_range p start (suc len) n found = by (p start) refl found (found_in_range p (start + 1) len n)
+found_in_range p start (suc len) n found = by_test (p start) refl found (found_in_range p (start + 1) len n)
   where
-    by : (b : Bool) → p start ≡ b → cond b (Some start) (find p (range_with_len (start + 1) len)) ≡ Some n
+    by_test : (b : Bool) → p start ≡ b → cond b (Some start) (find p (range_with_len (start + 1) len)) ≡ Some n
         → (find p (range_with_len (start + 1) len) ≡ Some n
         → (p n ≡ true) × (n < start + 1 + len) × ((m : ℕ) → start + 1 ≤ m → m < n → p m ≡ false))
         → (p n ≡ true) × (n < start + suc len) × ((m : ℕ) → start ≤ m → m < n → p m ≡ false)
-    by true here is rest =
+    by_test true here is rest =
         let same : start ≡ n = some-injective is in (rw same at here, omega arith, λ m from to. absurd (omega (arith, same, from, to)))
-    by false other is rest =
+    by_test false other is rest =
         let later : (p n ≡ true) × (n < start + 1 + len) × ((m : ℕ) → start + 1 ≤ m → m < n → p m ≡ false) = rest is in
         (later.0, omega (arith, later.1), λ m from to. at m from (cases_eq m start) (λ more. later.2 m more to))
       where
@@ -102,18 +103,18 @@ found_in_range p start (suc len) n found = by (p start) refl found (found_in_ran
 pub first_free : {A : Type 0} (has : ℕ → A → Bool) (xs : List A) → ((i j : ℕ) (x : A) → has i x ≡ true → has j x ≡ true → i ≡ j)
     → (n : ℕ) × (find (λ i. not (list_any (has i) xs)) (range_with_len 0 (length xs + 1)) ≡ Some n) × IsFirst (λ i. not (list_any (has i) xs)) n
     × (n ≤ length xs)
-first_free has xs one = by (find (λ i. not (list_any (has i) xs)) (range_with_len 0 (length xs + 1))) refl
+first_free has xs one = by_found (find (λ i. not (list_any (has i) xs)) (range_with_len 0 (length xs + 1))) refl
   where
-    by : (o : Option ℕ) → find (λ i. not (list_any (has i) xs)) (range_with_len 0 (length xs + 1)) ≡ o
+    by_found : (o : Option ℕ) → find (λ i. not (list_any (has i) xs)) (range_with_len 0 (length xs + 1)) ≡ o
         → (n : ℕ) × (find (λ i. not (list_any (has i) xs)) (range_with_len 0 (length xs + 1)) ≡ Some n) × IsFirst (λ i. not (list_any (has i) xs)) n
         × (n ≤ length xs)
-    by None none = absurd (omega (
+    by_found None none = absurd (omega (
       arith,
       numbers_fit has xs (length xs + 1) one (AllByRecursion-map (λ i. not (list_any (has i) xs) ≡ false)
           (λ i. list_any (has i) xs ≡ true) (range_with_len 0 (length xs + 1)) (λ i h. not-false (list_any (has i) xs) h)
           (find-none (λ i. not (list_any (has i) xs)) (range_with_len 0 (length xs + 1)) none)),
     ))
-    by (Some n) found =
+    by_found (Some n) found =
         let first : (not (list_any (has n) xs) ≡ true) × (n < 0 + (length xs + 1)) × ((m : ℕ) → 0 ≤ m → m < n → not (list_any (has m) xs) ≡ false) =
         found_in_range (λ i. not (list_any (has i) xs)) 0 (length xs + 1) n found in
         (n, found, record { passes = first.0; none_lesser = λ m less. first.2 m (omega arith) less }, omega (arith, first.1))

@@ -35,43 +35,43 @@ ranks_then_by {A = A} f below ranks = record { itself = itself; one_way = one_wa
     itself a = by_same f below a a refl ∙ ranks.itself a
 
     one_way : (a b : A) → then_by f below a b ≡ true → then_by f below b a ≡ false
-    one_way a b h = by (cases_order (f a) (f b))
+    one_way a b h = by_order (cases_order (f a) (f b))
       where
-        by : (f a ≡ f b) ⊎ ((f a < f b) ⊎ (f b < f a)) → then_by f below b a ≡ false
-        by (inl same) = by_same f below b a (sym same) ∙ ranks.one_way a b (sym (by_same f below a b same) ∙ h)
-        by (inr (inl lt)) = by_more f below b a lt
-        by (inr (inr lt)) = absurd (true≢false (sym h ∙ by_more f below a b lt))
+        by_order : (f a ≡ f b) ⊎ ((f a < f b) ⊎ (f b < f a)) → then_by f below b a ≡ false
+        by_order (inl same) = by_same f below b a (sym same) ∙ ranks.one_way a b (sym (by_same f below a b same) ∙ h)
+        by_order (inr (inl lt)) = by_more f below b a lt
+        by_order (inr (inr lt)) = absurd (true≢false (sym h ∙ by_more f below a b lt))
 
     through : (a b c : A) → then_by f below a b ≡ false → then_by f below b c ≡ false → then_by f below a c ≡ false
-    through a b c h k = by (cases_order (f a) (f b)) (cases_order (f b) (f c))
+    through a b c h k = by_order (cases_order (f a) (f b)) (cases_order (f b) (f c))
       where
-        by : (f a ≡ f b) ⊎ ((f a < f b) ⊎ (f b < f a)) → (f b ≡ f c) ⊎ ((f b < f c) ⊎ (f c < f b)) → then_by f below a c ≡ false
-        by (inr (inl lt)) other = absurd (true≢false (sym (by_less f below a b lt) ∙ h))
-        by (inl same) (inr (inl lt)) = absurd (true≢false (sym (by_less f below b c lt) ∙ k))
-        by (inr (inr more)) (inr (inl lt)) = absurd (true≢false (sym (by_less f below b c lt) ∙ k))
-        by (inl same) (inl equal) = by_same f below a c (same ∙ equal)
+        by_order : (f a ≡ f b) ⊎ ((f a < f b) ⊎ (f b < f a)) → (f b ≡ f c) ⊎ ((f b < f c) ⊎ (f c < f b)) → then_by f below a c ≡ false
+        by_order (inr (inl lt)) other = absurd (true≢false (sym (by_less f below a b lt) ∙ h))
+        by_order (inl same) (inr (inl lt)) = absurd (true≢false (sym (by_less f below b c lt) ∙ k))
+        by_order (inr (inr more)) (inr (inl lt)) = absurd (true≢false (sym (by_less f below b c lt) ∙ k))
+        by_order (inl same) (inl equal) = by_same f below a c (same ∙ equal)
             ∙ ranks.through a b c (sym (by_same f below a b same) ∙ h) (sym (by_same f below b c equal) ∙ k)
-        by (inl same) (inr (inr more)) = by_more f below a c (omega (arith, same, more))
-        by (inr (inr more)) (inl equal) = by_more f below a c (omega (arith, more, equal))
-        by (inr (inr more)) (inr (inr less)) = by_more f below a c (omega (arith, more, less))
+        by_order (inl same) (inr (inr more)) = by_more f below a c (omega (arith, same, more))
+        by_order (inr (inr more)) (inl equal) = by_more f below a c (omega (arith, more, equal))
+        by_order (inr (inr more)) (inr (inr less)) = by_more f below a c (omega (arith, more, less))
 
 -- what goes before one goes before all that this one goes before
 pub ranks-trans : {A : Type 0} (below : A → A → Bool) → Ranks below → (a b c : A) → below a b ≡ true → below b c ≡ true → below a c ≡ true
-ranks-trans {A = A} below ranks a b c ab bc = by (below a c) refl
+ranks-trans {A = A} below ranks a b c ab bc = by_order (below a c) refl
   where
-    by : (t : Bool) → below a c ≡ t → below a c ≡ true
-    by true is = is
-    by false is = absurd (true≢false (sym ab ∙ ranks.through a c b is (ranks.one_way b c bc)))
+    by_order : (t : Bool) → below a c ≡ t → below a c ≡ true
+    by_order true is = is
+    by_order false is = absurd (true≢false (sym ab ∙ ranks.through a c b is (ranks.one_way b c bc)))
 
 -- two between which the test decides neither way have the same number
 pub tied : {A : Type 0} (f : A → ℕ) (below : A → A → Bool) (a b : A) → then_by f below a b ≡ false → then_by f below b a ≡ false
     → (f a ≡ f b) × (below a b ≡ false) × (below b a ≡ false)
-tied f below a b h k = by (cases_order (f a) (f b))
+tied f below a b h k = by_order (cases_order (f a) (f b))
   where
-    by : (f a ≡ f b) ⊎ ((f a < f b) ⊎ (f b < f a)) → (f a ≡ f b) × (below a b ≡ false) × (below b a ≡ false)
-    by (inl same) = (same, sym (by_same f below a b same) ∙ h, sym (by_same f below b a (sym same)) ∙ k)
-    by (inr (inl lt)) = absurd (true≢false (sym (by_less f below a b lt) ∙ h))
-    by (inr (inr lt)) = absurd (true≢false (sym (by_less f below b a lt) ∙ k))
+    by_order : (f a ≡ f b) ⊎ ((f a < f b) ⊎ (f b < f a)) → (f a ≡ f b) × (below a b ≡ false) × (below b a ≡ false)
+    by_order (inl same) = (same, sym (by_same f below a b same) ∙ h, sym (by_same f below b a (sym same)) ∙ k)
+    by_order (inr (inl lt)) = absurd (true≢false (sym (by_less f below a b lt) ∙ h))
+    by_order (inr (inr lt)) = absurd (true≢false (sym (by_less f below b a lt) ∙ k))
 
 -- a test that ranks, the other way round
 pub ranks_turned : {A : Type 0} (below : A → A → Bool) → Ranks below → Ranks (λ a b. below b a)

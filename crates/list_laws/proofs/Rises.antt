@@ -1,12 +1,14 @@
 -- Lists that rise: two of the same members are one, so a sort depends on the members alone.
-use Rattle.list_laws.proofs.Elements.{AllByRecursion-append, AllByRecursion-at, AllByRecursion-both, AllByRecursion-contains, AllByRecursion-contains_itself, AllByRecursion-filter, AllByRecursion-front, AllByRecursion-map}
+use Rattle.list_laws.proofs.Elements.{AllByRecursion-append, AllByRecursion-at, AllByRecursion-both, AllByRecursion-contains, AllByRecursion-contains_itself}
+use Rattle.list_laws.proofs.Elements.{AllByRecursion-filter, AllByRecursion-front, AllByRecursion-map}
 use Rattle.list_laws.proofs.Filters.{filter_all, filter_passes}
 use Rattle.list_laws.proofs.Members.{same_members-trans}
 use Rattle.list_laws.proofs.Sorts.{differ-filter, differ-push, rises-sort_by, same_members-sort_by}
 use Rattle.list_laws.proofs.Values.{some-injective}
 use Rattle.list_laws.specs.Lists.{Ranks}
 use Rattle.list_laws.specs.Sorts.{Differ, Rises, SameMembers, insert_by, sort_by}
-use Rattle.std.proofs.Common.{Bool, List, Some, [], ap, arith, cond, drop, false, inl, inr, length, map, refl, subst, suc, sym, true, zero, ◌++◌, ◌+◌, ◌∙◌, ◌∷◌, ◌≡◌}
+use Rattle.std.proofs.Common.{Bool, List, Some, [], ap, arith, cond, drop, false, inl, inr, length}
+use Rattle.std.proofs.Common.{map, refl, subst, suc, sym, true, zero, ◌++◌, ◌+◌, ◌∙◌, ◌∷◌, ◌≡◌}
 use Rattle.std.proofs.lemmas.Bool.{false_from_ne_true, not_from_false, true≢false}
 use Rattle.std.proofs.lemmas.List.Elements.{Contains-append_left, Contains-push}
 use Rattle.std.proofs.lemmas.Option.{none-some}
@@ -46,32 +48,32 @@ pub found_dropped : {A : Type 0} (below : A → A → Bool) (p marks : A → Boo
     → marks x ≡ true → AllByRecursion (λ y. marks y ≡ true → y ≡ x) xs → filter (λ y. not (marks y)) (filter p xs) ≡ drop 1 (filter p xs)
 found_dropped below p marks [] x ranks rises found marked one = absurd (none-some x found)
 found_dropped {A = A} below p marks (z ∷ zs) x ranks rises found marked one =
-    by (p z) found (λ h. found_dropped below p marks zs x ranks rises.1 h marked one.1)
+    by_test (p z) found (λ h. found_dropped below p marks zs x ranks rises.1 h marked one.1)
   where
     unmarked : z ≡ x → (y : A) → (below z y ≡ true) × (marks y ≡ true → y ≡ x) → not (marks y) ≡ true
     unmarked is y h = not_from_false (marks y) (false_from_ne_true (marks y)
         (λ m. true≢false (sym (subst (λ w. below z w ≡ true) (h.1 m ∙ sym is) h.0) ∙ ranks.itself z)))
 
-    by : (b : Bool) → cond b (Some z) (find p zs) ≡ Some x
+    by_test : (b : Bool) → cond b (Some z) (find p zs) ≡ Some x
         → (find p zs ≡ Some x → filter (λ y. not (marks y)) (filter p zs) ≡ drop 1 (filter p zs))
         → filter (λ y. not (marks y)) (cond b (z ∷ filter p zs) (filter p zs)) ≡ drop 1 (cond b (z ∷ filter p zs) (filter p zs))
-    by true is rest =
+    by_test true is rest =
         let same : z ≡ x = some-injective is in
         ap (λ b. cond (not b) (z ∷ filter (λ y. not (marks y)) (filter p zs)) (filter (λ y. not (marks y)) (filter p zs))) (ap marks same ∙ marked)
         ∙ filter_all (λ y. not (marks y)) (filter p zs) (AllByRecursion-filter (λ y. not (marks y) ≡ true) p zs
         (AllByRecursion-map (λ y. (below z y ≡ true) × (marks y ≡ true → y ≡ x)) (λ y. not (marks y) ≡ true) zs (unmarked same)
         (AllByRecursion-both (λ y. below z y ≡ true) (λ y. marks y ≡ true → y ≡ x) zs rises.0 one.1)))
-    by false h rest = rest h
+    by_test false h rest = rest h
 
 -- two of the same members begin with the same one
 first_same : {A : Type 0} (below : A → A → Bool) → Ranks below → (x : A) (xs : List A) (y : A) (ys : List A)
     → AllByRecursion (λ z. below x z ≡ true) xs → AllByRecursion (λ z. below y z ≡ true) ys → Contains (y ∷ ys) x → Contains (x ∷ xs) y → x ≡ y
-first_same {A = A} below ranks x xs y ys of_x of_y x_in y_in = by (contains_cases y ys x x_in) (contains_cases x xs y y_in)
+first_same {A = A} below ranks x xs y ys of_x of_y x_in y_in = by_side (contains_cases y ys x x_in) (contains_cases x xs y y_in)
   where
-    by : (y ≡ x) ⊎ Contains ys x → (x ≡ y) ⊎ Contains xs y → x ≡ y
-    by (inl is) other = sym is
-    by (inr in_ys) (inl is) = is
-    by (inr in_ys) (inr in_xs) =
+    by_side : (y ≡ x) ⊎ Contains ys x → (x ≡ y) ⊎ Contains xs y → x ≡ y
+    by_side (inl is) other = sym is
+    by_side (inr in_ys) (inl is) = is
+    by_side (inr in_ys) (inr in_xs) =
         absurd (true≢false (sym (AllByRecursion-contains (λ z. below x z ≡ true) xs y of_x in_xs)
         ∙ ranks.one_way y x (AllByRecursion-contains (λ z. below y z ≡ true) ys x of_y in_ys)))
 
@@ -79,11 +81,11 @@ first_same {A = A} below ranks x xs y ys of_x of_y x_in y_in = by (contains_case
 rest_same : {A : Type 0} (below : A → A → Bool) → Ranks below → (x : A) (xs ys : List A) → AllByRecursion (λ z. below x z ≡ true) xs
     → AllByRecursion (Contains (x ∷ ys)) xs → AllByRecursion (Contains ys) xs
 rest_same {A = A} below ranks x xs ys of_x all = AllByRecursion-map (λ z. (below x z ≡ true) × Contains (x ∷ ys) z) (Contains ys) xs
-    (λ z h. by z h.0 (contains_cases x ys z h.1)) (AllByRecursion-both (λ z. below x z ≡ true) (Contains (x ∷ ys)) xs of_x all)
+    (λ z h. at_each z h.0 (contains_cases x ys z h.1)) (AllByRecursion-both (λ z. below x z ≡ true) (Contains (x ∷ ys)) xs of_x all)
   where
-    by : (z : A) → below x z ≡ true → (x ≡ z) ⊎ Contains ys z → Contains ys z
-    by z before (inl is) = absurd (true≢false (sym before ∙ subst (λ w. below x w ≡ false) is (ranks.itself x)))
-    by z before (inr among) = among
+    at_each : (z : A) → below x z ≡ true → (x ≡ z) ⊎ Contains ys z → Contains ys z
+    at_each z before (inl is) = absurd (true≢false (sym before ∙ subst (λ w. below x w ≡ false) is (ranks.itself x)))
+    at_each z before (inr among) = among
 
 -- two lists that rise and have the same members are one
 pub rises_same : {A : Type 0} (below : A → A → Bool) → Ranks below → (xs ys : List A) → Rises below xs → Rises below ys → SameMembers xs ys → xs ≡ ys
@@ -132,13 +134,13 @@ pub map-insert_by : {A B : Type 0} (below : A → A → Bool) (above : B → B �
     → ((a b : A) → below a b ≡ above (f a) (f b)) → map f (insert_by below x ys) ≡ insert_by above (f x) (map f ys)
 map-insert_by below above f x [] same = refl
 map-insert_by {A = A} {B = B} below above f x (y ∷ ys) same =
-    by (below y x)
+    by_test (below y x)
     ∙ ap (λ b. cond b (f y ∷ map f (insert_by below x ys)) (f x ∷ f y ∷ map f ys)) (same y x)
     ∙ ap (λ zs. cond (above (f y) (f x)) (f y ∷ zs) (f x ∷ f y ∷ map f ys)) (map-insert_by below above f x ys same)
   where
-    by : (b : Bool) → map f (cond b (y ∷ insert_by below x ys) (x ∷ y ∷ ys)) ≡ cond b (f y ∷ map f (insert_by below x ys)) (f x ∷ f y ∷ map f ys)
-    by true = refl
-    by false = refl
+    by_test : (b : Bool) → map f (cond b (y ∷ insert_by below x ys) (x ∷ y ∷ ys)) ≡ cond b (f y ∷ map f (insert_by below x ys)) (f x ∷ f y ∷ map f ys)
+    by_test true = refl
+    by_test false = refl
 
 pub length-insert_by : {A : Type 0} (below : A → A → Bool) (x : A) (ys : List A) → length (insert_by below x ys) ≡ length ys + 1
 length-insert_by below x [] = refl

@@ -1,5 +1,6 @@
 -- A sort keeps the elements and puts them in order; the first of a list that rises is its least.
-use Rattle.std.proofs.Common.{◌≡◌, ◌+◌, Bool, true, false, cond, List, [], ◌∷◌, ◌++◌, length, map, refl, sym, ap, ◌∙◌, Option, Some, None, inl, inr, arith, subst}
+use Rattle.std.proofs.Common.{◌≡◌, ◌+◌, Bool, true, false, cond, List, [], ◌∷◌, ◌++◌, length, map}
+use Rattle.std.proofs.Common.{refl, sym, ap, ◌∙◌, Option, Some, None, inl, inr, arith, subst}
 use Rattle.std.specs.Prelude.{◌⊎◌, filter, find, Contains}
 use Rattle.std.specs.List.{AllByRecursion}
 use Rattle.std.proofs.lemmas.List.Elements.{All-contains}
@@ -8,7 +9,8 @@ use Rattle.std.proofs.lemmas.Option.{none-some}
 use Rattle.list_laws.specs.Lists.{count, least, Ranks}
 use Rattle.list_laws.specs.Sorts.{insert_by, sort_by, Rises, Differ, SameMembers}
 use Rattle.list_laws.proofs.Values.{some-injective}
-use Rattle.list_laws.proofs.Elements.{AllByRecursion-map, AllByRecursion-both, AllByRecursion-append, AllByRecursion-filter, unfiltered, AllByRecursion-contains, AllByRecursion-contains_itself, AllByRecursion-through}
+use Rattle.list_laws.proofs.Elements.{AllByRecursion-map, AllByRecursion-both, AllByRecursion-append, AllByRecursion-filter, unfiltered}
+use Rattle.list_laws.proofs.Elements.{AllByRecursion-contains, AllByRecursion-contains_itself, AllByRecursion-through}
 use Rattle.list_laws.proofs.Filters.{filter_always, filter_none, filter_passes}
 use Rattle.list_laws.proofs.Tests.{find-none}
 use Rattle.list_laws.proofs.Counts.{count-cons}
@@ -27,12 +29,12 @@ AllByRecursion-insert_by P below x (y ∷ ys) here all = elim (below y x) as (λ
 AllByRecursion-inserted : {A : Type 0} (P : A → Type 0) (below : A → A → Bool) (x : A) (ys : List A) → AllByRecursion P (insert_by below x ys)
     → P x × AllByRecursion P ys
 AllByRecursion-inserted P below x [] all = all
-AllByRecursion-inserted {A = A} P below x (y ∷ ys) all = by (below y x) all (AllByRecursion-inserted P below x ys)
+AllByRecursion-inserted {A = A} P below x (y ∷ ys) all = by_order (below y x) all (AllByRecursion-inserted P below x ys)
   where
-    by : (b : Bool) → AllByRecursion P (cond b (y ∷ insert_by below x ys) (x ∷ y ∷ ys))
+    by_order : (b : Bool) → AllByRecursion P (cond b (y ∷ insert_by below x ys) (x ∷ y ∷ ys))
         → (AllByRecursion P (insert_by below x ys) → P x × AllByRecursion P ys) → P x × AllByRecursion P (y ∷ ys)
-    by true h rest = ((rest h.1).0, (h.0, (rest h.1).1))
-    by false h rest = h
+    by_order true h rest = ((rest h.1).0, (h.0, (rest h.1).1))
+    by_order false h rest = h
 
 pub AllByRecursion-sort_by : {A : Type 0} (P : A → Type 0) (below : A → A → Bool) (xs : List A) → AllByRecursion P xs → AllByRecursion P (sort_by below xs)
 AllByRecursion-sort_by P below [] all = tt
@@ -76,7 +78,7 @@ same_members-sort_by below xs = record {
 rises-insert_by : {A : Type 0} (below : A → A → Bool) → Ranks below → (x : A) (ys : List A)
     → AllByRecursion (λ y. (below x y ≡ true) ⊎ (below y x ≡ true)) ys → Rises below ys → Rises below (insert_by below x ys)
 rises-insert_by below ranks x [] differ rises = (tt, tt)
-rises-insert_by {A = A} below ranks x (y ∷ ys) differ rises = by (below y x) refl (rises-insert_by below ranks x ys differ.1 rises.1)
+rises-insert_by {A = A} below ranks x (y ∷ ys) differ rises = by_order (below y x) refl (rises-insert_by below ranks x ys differ.1 rises.1)
   where
     first : below y x ≡ false → (below x y ≡ true) ⊎ (below y x ≡ true) → below x y ≡ true
     first not (inl before) = before
@@ -86,9 +88,9 @@ rises-insert_by {A = A} below ranks x (y ∷ ys) differ rises = by (below y x) r
     behind before [] all = tt
     behind before (z ∷ zs) all = (ranks-trans below ranks x y z before all.0, behind before zs all.1)
 
-    by : (b : Bool) → below y x ≡ b → Rises below (insert_by below x ys) → Rises below (cond b (y ∷ insert_by below x ys) (x ∷ y ∷ ys))
-    by true is rest = (AllByRecursion-insert_by (λ z. below y z ≡ true) below x ys is rises.0, rest)
-    by false is rest = ((first is differ.0, behind (first is differ.0) ys rises.0), rises)
+    by_order : (b : Bool) → below y x ≡ b → Rises below (insert_by below x ys) → Rises below (cond b (y ∷ insert_by below x ys) (x ∷ y ∷ ys))
+    by_order true is rest = (AllByRecursion-insert_by (λ z. below y z ≡ true) below x ys is rises.0, rest)
+    by_order false is rest = ((first is differ.0, behind (first is differ.0) ys rises.0), rises)
 
 -- a sort of elements of which one goes before the other rises
 pub rises-sort_by : {A : Type 0} (below : A → A → Bool) → Ranks below → (xs : List A) → Differ below xs → Rises below (sort_by below xs)
@@ -153,24 +155,24 @@ differ-push below (x ∷ xs) y differ last = (
 find-some : {A : Type 0} (below : A → A → Bool) (p : A → Bool) (P : A → Type 0) (xs : List A) (x : A) → Rises below xs → find p xs ≡ Some x
     → AllByRecursion P xs → P x × (p x ≡ true) × AllByRecursion (λ y. p y ≡ true → (x ≡ y) ⊎ (below x y ≡ true)) xs
 find-some below p P [] x rises some all = absurd (none-some x some)
-find-some {A = A} below p P (z ∷ zs) x rises some all = by (p z) refl some (λ h. find-some below p P zs x rises.1 h all.1)
+find-some {A = A} below p P (z ∷ zs) x rises some all = by_test (p z) refl some (λ h. find-some below p P zs x rises.1 h all.1)
   where
     behind : z ≡ x → (ys : List A) → AllByRecursion (λ y. below z y ≡ true) ys → AllByRecursion (λ y. p y ≡ true → (x ≡ y) ⊎ (below x y ≡ true)) ys
     behind is [] h = tt
     behind is (y ∷ ys) h = ((λ passes. inr (subst (λ w. below w y ≡ true) is h.0)), behind is ys h.1)
 
-    by : (b : Bool) → p z ≡ b → cond b (Some z) (find p zs) ≡ Some x
+    by_test : (b : Bool) → p z ≡ b → cond b (Some z) (find p zs) ≡ Some x
         → (find p zs ≡ Some x → P x × (p x ≡ true) × AllByRecursion (λ y. p y ≡ true → (x ≡ y) ⊎ (below x y ≡ true)) zs)
         → P x × (p x ≡ true) × AllByRecursion (λ y. p y ≡ true → (x ≡ y) ⊎ (below x y ≡ true)) (z ∷ zs)
-    by true is h rest =
+    by_test true is h rest =
         let same : z ≡ x = some-injective h in
         (subst P same all.0, subst (λ w. p w ≡ true) same is, ((λ passes. inl (sym same)), behind same zs rises.0))
-    by false is h rest = ((rest h).0, (rest h).1, ((λ passes. absurd (true≢false (sym passes ∙ is))), (rest h).2))
+    by_test false is h rest = ((rest h).0, (rest h).1, ((λ passes. absurd (true≢false (sym passes ∙ is))), (rest h).2))
 
 -- the least of what passes a test is the first of the same elements in a list that rises
 pub least_is_first : {A : Type 0} (below : A → A → Bool) (p : A → Bool) (xs ys : List A) → Ranks below → Rises below ys → SameMembers ys xs
     → least below (filter p xs) ≡ find p ys
-least_is_first {A = A} below p xs ys ranks rises same = by (find p ys) refl
+least_is_first {A = A} below p xs ys ranks rises same = by_found (find p ys) refl
   where
     found : (y : A) → find p ys ≡ Some y → least below (filter p xs) ≡ Some y
     found y is =
@@ -212,6 +214,6 @@ least_is_first {A = A} below p xs ys ranks rises same = by (find p ys) refl
     fails : find p ys ≡ None → least below (filter p xs) ≡ None
     fails none = ap (least below) (filter_none p xs (AllByRecursion-through (λ x. p x ≡ false) xs ys same.back (find-none p ys none)))
 
-    by : (o : Option A) → find p ys ≡ o → least below (filter p xs) ≡ find p ys
-    by None none = fails none ∙ sym none
-    by (Some y) some = found y some ∙ sym some
+    by_found : (o : Option A) → find p ys ≡ o → least below (filter p xs) ≡ find p ys
+    by_found None none = fails none ∙ sym none
+    by_found (Some y) some = found y some ∙ sym some

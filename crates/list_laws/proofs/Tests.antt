@@ -37,7 +37,7 @@ any_change marks p q c [] f g h = ends c
     ends : (b : Bool) → false ≡ (b && false)
     ends true = refl
     ends false = refl
-any_change marks p q c (x ∷ xs) f g h = by (marks x) refl (any_change marks p q c xs f g h)
+any_change marks p q c (x ∷ xs) f g h = by_test (marks x) refl (any_change marks p q c xs f g h)
   where
     marked : (b qs ps ms : Bool) → qs ≡ (ps || (b && ms)) → (b || qs) ≡ ((false || ps) || (b && true))
     marked true qs true ms is = refl
@@ -49,10 +49,10 @@ any_change marks p q c (x ∷ xs) f g h = by (marks x) refl (any_change marks p 
     plain true qs ps cm is = refl
     plain false qs ps cm is = is
 
-    by : (m : Bool) → marks x ≡ m → list_any q xs ≡ (list_any p xs || (c && list_any marks xs))
+    by_test : (m : Bool) → marks x ≡ m → list_any q xs ≡ (list_any p xs || (c && list_any marks xs))
         → (q x || list_any q xs) ≡ ((p x || list_any p xs) || (c && (marks x || list_any marks xs)))
-    by true is rest = rw (g x is, f x is, is) (marked c (list_any q xs) (list_any p xs) (list_any marks xs) rest)
-    by false is rest = rw (h x is, is) (plain (q x) (list_any q xs) (list_any p xs) (c && list_any marks xs) rest)
+    by_test true is rest = rw (g x is, f x is, is) (marked c (list_any q xs) (list_any p xs) (list_any marks xs) rest)
+    by_test false is rest = rw (h x is, is) (plain (q x) (list_any q xs) (list_any p xs) (c && list_any marks xs) rest)
 
 pub find_congr : {A : Type 0} (p q : A → Bool) (xs : List A) → ((x : A) → p x ≡ q x) → find p xs ≡ find q xs
 find_congr p q [] h = refl
@@ -61,9 +61,9 @@ find_congr p q (x ∷ xs) h = rw (h x, find_congr p q xs h) refl
 -- where none is found, all fail
 pub find-none : {A : Type 0} (p : A → Bool) (xs : List A) → find p xs ≡ None → AllByRecursion (λ x. p x ≡ false) xs
 find-none p [] none = tt
-find-none p (x ∷ xs) none = by (p x) none (find-none p xs)
+find-none p (x ∷ xs) none = by_test (p x) none (find-none p xs)
   where
-    by : (b : Bool) → cond b (Some x) (find p xs) ≡ None → (find p xs ≡ None → AllByRecursion (λ y. p y ≡ false) xs)
+    by_test : (b : Bool) → cond b (Some x) (find p xs) ≡ None → (find p xs ≡ None → AllByRecursion (λ y. p y ≡ false) xs)
         → (b ≡ false) × AllByRecursion (λ y. p y ≡ false) xs
-    by true h rest = absurd (none-some x (sym h))
-    by false h rest = (refl, rest h)
+    by_test true h rest = absurd (none-some x (sym h))
+    by_test false h rest = (refl, rest h)

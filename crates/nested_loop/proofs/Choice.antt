@@ -1,6 +1,7 @@
 -- The front that the main queues choose is the arrival of the least class of its queue, then of the least order, of those
 -- that have not been taken.
-use Rattle.std.proofs.Common.{◌≡◌, ℕ, ◌+◌, ◌<◌, ◌≤◌, length, Bool, true, false, cond, eqb, List, [], ◌∷◌, ◌++◌, refl, sym, ap, ◌∙◌, subst, Option, Some, None, arith, inl, inr}
+use Rattle.std.proofs.Common.{◌≡◌, ℕ, ◌+◌, ◌<◌, ◌≤◌, length, Bool, true, false, cond, eqb, List, [], ◌∷◌}
+use Rattle.std.proofs.Common.{◌++◌, refl, sym, ap, ◌∙◌, subst, Option, Some, None, arith, inl, inr}
 use Rattle.std.specs.Prelude.{◌⊎◌, ◌&&◌, not, nat_lt, filter, find, flat_map, Contains}
 use Rattle.std.specs.List.{AllByRecursion, list_all, range_with_len}
 use Rattle.std.specs.Option.{option_map, option_map_or, option_to_list}
@@ -21,7 +22,8 @@ use Rattle.task_base.specs.Plan.{Plan}
 use Rattle.task_base.specs.declared.entry.Entry.{Entry}
 use Rattle.task_base.specs.declared.script.Lane.{Lane}
 use Rattle.task_base.specs.declared.script.Lane.TheVariants.{Immediate, Delayed}
-use Rattle.task_model.specs.MainQueues.{Front, choice_among, chosen_of, class_below, front_of, fronts_of, is_in_lane, is_of_lane, is_open, fence_of, least_class, of_least_class, open_fronts, order_below, voters_of, votes_on}
+use Rattle.task_model.specs.MainQueues.{Front, choice_among, chosen_of, class_below, front_of, fronts_of, is_in_lane, is_of_lane, is_open}
+use Rattle.task_model.specs.MainQueues.{fence_of, least_class, of_least_class, open_fronts, order_below, voters_of, votes_on}
 use Rattle.task_model.specs.Orders.{Ordered, main_arrivals, ordered}
 use Rattle.task_model.specs.Posts.{is_delayed, is_main_taken, main_posts}
 use Rattle.task_model.specs.Refusal.{is_closed}
@@ -35,23 +37,23 @@ found_first : {A : Type 0} (below : A → A → Bool) (p : A → Bool) (xs : Lis
     → (x ≡ y) ⊎ (below x y ≡ true)
 found_first below p [] x y rises found among passes = absurd (none-some x found)
 found_first {A = A} below p (z ∷ zs) x y rises found among passes =
-    by (p z) refl found (contains_cases z zs y among) (λ later there. found_first below p zs x y rises.1 later there passes)
+    by_test (p z) refl found (contains_cases z zs y among) (λ later there. found_first below p zs x y rises.1 later there passes)
   where
-    by : (b : Bool) → p z ≡ b → cond b (Some z) (find p zs) ≡ Some x → (z ≡ y) ⊎ Contains zs y
+    by_test : (b : Bool) → p z ≡ b → cond b (Some z) (find p zs) ≡ Some x → (z ≡ y) ⊎ Contains zs y
         → (find p zs ≡ Some x → Contains zs y → (x ≡ y) ⊎ (below x y ≡ true)) → (x ≡ y) ⊎ (below x y ≡ true)
-    by true is here (inl same) rest = inl (sym (some-injective here) ∙ same)
-    by true is here (inr there) rest = inr
+    by_test true is here (inl same) rest = inl (sym (some-injective here) ∙ same)
+    by_test true is here (inr there) rest = inr
         (ap (λ w. below w y) (sym (some-injective here)) ∙ AllByRecursion-contains (λ w. below z w ≡ true) zs y rises.0 there)
-    by false is later (inl same) rest = absurd (true≢false (sym passes ∙ ap p (sym same) ∙ is))
-    by false is later (inr there) rest = rest later there
+    by_test false is later (inl same) rest = absurd (true≢false (sym passes ∙ ap p (sym same) ∙ is))
+    by_test false is later (inr there) rest = rest later there
 
 -- what passes a test is found, or another before it
 some_found : {A : Type 0} (p : A → Bool) (xs : List A) (y : A) → Contains xs y → p y ≡ true → (x : A) × (find p xs ≡ Some x)
-some_found {A = A} p xs y among passes = by (find p xs) refl
+some_found {A = A} p xs y among passes = by_found (find p xs) refl
   where
-    by : (o : Option A) → find p xs ≡ o → (x : A) × (find p xs ≡ Some x)
-    by None is = absurd (true≢false (sym passes ∙ AllByRecursion-contains (λ x. p x ≡ false) xs y (find-none p xs is) among))
-    by (Some x) is = (x, is)
+    by_found : (o : Option A) → find p xs ≡ o → (x : A) × (find p xs ≡ Some x)
+    by_found None is = absurd (true≢false (sym passes ∙ AllByRecursion-contains (λ x. p x ≡ false) xs y (find-none p xs is) among))
+    by_found (Some x) is = (x, is)
 
 all_of_lists : {A B : Type 0} (P : B → Type 0) (f : A → List B) (xs : List A) → ((x : A) → AllByRecursion P (f x)) → AllByRecursion P (flat_map f xs)
 all_of_lists P f [] h = tt
@@ -59,11 +61,11 @@ all_of_lists P f (x ∷ xs) h = AllByRecursion-append P (f x) (flat_map f xs) (h
 
 in_lists : {A B : Type 0} (f : A → List B) (xs : List A) (x : A) (y : B) → Contains xs x → Contains (f x) y → Contains (flat_map f xs) y
 in_lists f [] x y among within = absurd (none_contained x among)
-in_lists {A = A} f (z ∷ zs) x y among within = by (contains_cases z zs x among) (λ there. in_lists f zs x y there within)
+in_lists {A = A} f (z ∷ zs) x y among within = by_side (contains_cases z zs x among) (λ there. in_lists f zs x y there within)
   where
-    by : (z ≡ x) ⊎ Contains zs x → (Contains zs x → Contains (flat_map f zs) y) → Contains (f z ++ flat_map f zs) y
-    by (inl same) rest = Contains-append_left (f z) (flat_map f zs) y (subst (λ w. Contains (f w) y) (sym same) within)
-    by (inr there) rest = Contains-append_right (f z) (flat_map f zs) y (rest there)
+    by_side : (z ≡ x) ⊎ Contains zs x → (Contains zs x → Contains (flat_map f zs) y) → Contains (f z ++ flat_map f zs) y
+    by_side (inl same) rest = Contains-append_left (f z) (flat_map f zs) y (subst (λ w. Contains (f w) y) (sym same) within)
+    by_side (inr there) rest = Contains-append_right (f z) (flat_map f zs) y (rest there)
 
 module _ (script : Plan) (entries : List Entry) (plain : IsPlain script entries) (no_voters : (q : ℕ) → voters_of script q ≡ 0)
     (same : SameMembers (main_arrivals entries) (ordered entries)) where
@@ -88,12 +90,12 @@ module _ (script : Plan) (entries : List Entry) (plain : IsPlain script entries)
   front_is_arrival : (q : ℕ) (lane : Lane) (f : Front) → front_of script entries q lane ≡ Some f → IsArrival f
   unfolding not_taken class_at
   front_is_arrival q lane f is =
-      by (find (λ o. is_in_lane entries q lane o.posted) (main_arrivals entries)) refl (sym (front_is_first_arrival script entries q lane same) ∙ is)
+      by_ordered (find (λ o. is_in_lane entries q lane o.posted) (main_arrivals entries)) refl (sym (front_is_first_arrival script entries q lane same) ∙ is)
     where
-      by : (o : Option Ordered) → find (λ o. is_in_lane entries q lane o.posted) (main_arrivals entries) ≡ o
+      by_ordered : (o : Option Ordered) → find (λ o. is_in_lane entries q lane o.posted) (main_arrivals entries) ≡ o
           → option_map (front_for script entries q lane) o ≡ Some f → IsArrival f
-      by None found h = absurd (none-some f h)
-      by (Some o) found h =
+      by_ordered None found h = absurd (none-some f h)
+      by_ordered (Some o) found h =
           let passes = find_passes (λ o. is_in_lane entries q lane o.posted) (main_arrivals entries) o found in
           let parts = and_parts (eqb o.posted.home q && is_of_lane lane o.posted) (not (is_main_taken entries o.posted.task)) passes in
           let home = eqb-true o.posted.home q (and_parts (eqb o.posted.home q) (is_of_lane lane o.posted) parts.0).0 in
@@ -191,11 +193,11 @@ module _ (script : Plan) (entries : List Entry) (plain : IsPlain script entries)
     none_below : (g : Front) → Contains fronts g → class ≤ g.class
 
   least_class_of : (fronts : List Front) (g : Front) → Contains fronts g → IsLeastClass fronts
-  least_class_of fronts g among = by (least class_below fronts) refl
+  least_class_of fronts g among = by_least (least class_below fronts) refl
     where
-      by : (o : Option Front) → least class_below fronts ≡ o → IsLeastClass fronts
-      by None is = absurd (none_contained g (subst (λ fs. Contains fs g) (no_least class_below fronts is) among))
-      by (Some f) is =
+      by_least : (o : Option Front) → least class_below fronts ≡ o → IsLeastClass fronts
+      by_least None is = absurd (none_contained g (subst (λ fs. Contains fs g) (no_least class_below fronts is) among))
+      by_least (Some f) is =
           let found = least_is_least class_below (ranks_by (λ x. x.class)) fronts f is in
           record {
             class = f.class;
@@ -278,12 +280,12 @@ module _ (script : Plan) (entries : List Entry) (plain : IsPlain script entries)
         not_earlier o x is h = ltb-false o.order x.order (sym (by_same class_at ordered_below o x is) ∙ h)
 
         one_order : (o x : Ordered) → Contains (main_arrivals entries) o → Contains (main_arrivals entries) x → o.order ≡ x.order → o ≡ x
-        one_order o x of_o of_x is = by (rises_apart ordered_below (main_arrivals entries) o x (main_arrivals_rise entries) of_o of_x)
+        one_order o x of_o of_x is = by_apart (rises_apart ordered_below (main_arrivals entries) o x (main_arrivals_rise entries) of_o of_x)
           where
-            by : (o ≡ x) ⊎ ((ordered_below o x ≡ true) ⊎ (ordered_below x o ≡ true)) → o ≡ x
-            by (inl one) = one
-            by (inr (inl lt)) = absurd (true≢false (sym lt ∙ le-ltb o.order x.order (omega (arith, is))))
-            by (inr (inr lt)) = absurd (true≢false (sym lt ∙ le-ltb x.order o.order (omega (arith, is))))
+            by_apart : (o ≡ x) ⊎ ((ordered_below o x ≡ true) ⊎ (ordered_below x o ≡ true)) → o ≡ x
+            by_apart (inl one) = one
+            by_apart (inr (inl lt)) = absurd (true≢false (sym lt ∙ le-ltb o.order x.order (omega (arith, is))))
+            by_apart (inr (inr lt)) = absurd (true≢false (sym lt ∙ le-ltb x.order o.order (omega (arith, is))))
 
     -- the task that is chosen is that of the least arrival that waits
     pub chosen_task : option_map (λ f. f.task) (chosen_of script entries) ≡ option_map (λ o. o.posted.task)
@@ -291,22 +293,22 @@ module _ (script : Plan) (entries : List Entry) (plain : IsPlain script entries)
         (filter (λ o. not (is_main_taken entries o.posted.task)) (main_arrivals entries)))
     unfolding before waiting not_taken class_at
     chosen_task = ap (option_map (λ f. f.task)) choice_plain
-        ∙ by (least order_below (of_least_class (open_fronts script entries))) refl (least before waiting) refl
+        ∙ by_least (least order_below (of_least_class (open_fronts script entries))) refl (least before waiting) refl
       where
-        by : (chosen : Option Front) → least order_below (of_least_class (open_fronts script entries)) ≡ chosen → (first : Option Ordered)
+        by_least : (chosen : Option Front) → least order_below (of_least_class (open_fronts script entries)) ≡ chosen → (first : Option Ordered)
             → least before waiting ≡ first
             → option_map (λ f. f.task) chosen ≡ option_map (λ o. o.posted.task) first
-        by None none None is = refl
-        by (Some f) is (Some l) first = ap Some (same_arrival f l
+        by_least None none None is = refl
+        by_least (Some f) is (Some l) first = ap Some (same_arrival f l
             (least_is_least order_below (ranks_by (λ x. x.order)) (of_least_class (open_fronts script entries)) f is)
             (least_is_least before ranks_before waiting l first))
-        by None none (Some l) first =
+        by_least None none (Some l) first =
             let ahead_of_l = waits_ahead l (least_is_least before ranks_before waiting l first).member in
             let least_of = least_class_of (open_fronts script entries) ahead_of_l.front ahead_of_l.among in
             absurd (none_contained least_of.front
             (subst (λ fs. Contains fs least_of.front) (no_least order_below (of_least_class (open_fronts script entries)) none)
             (of_least (open_fronts script entries) least_of least_of.front least_of.among least_of.class_is)))
-        by (Some f) is None none =
+        by_least (Some f) is None none =
             let there = (least_is_least order_below (ranks_by (λ x. x.order)) (of_least_class (open_fronts script entries)) f is).member in
             let a = open_is_arrival f (of_least_within f there) in
             absurd (none_contained a.arrival (subst (λ os. Contains os a.arrival) (no_least before waiting none) (arrival_waits f a)))

@@ -1,4 +1,5 @@
 -- The front and the first of the deferred tasks: they were posted, and have not started.
+use Rattle.sequence_manager.proofs.Lists.{any_contains}
 use Rattle.std.proofs.Common.{◌≡◌, ℕ, zero, suc, length, Bool, true, false, eqb, List, [], ◌∷◌, ◌++◌, refl, sym, ap, ◌∙◌, subst, Option, Some, None, arith}
 use Rattle.std.specs.Prelude.{◌&&◌, ◌||◌, not, nat_lt, slice_get, Contains}
 use Rattle.std.specs.List.{filter_map, list_any}
@@ -15,7 +16,8 @@ use Rattle.list_laws.proofs.Least.{least_is_least}
 use Rattle.list_laws.proofs.Made.{filter_contains, filter_map_contains}
 use Rattle.list_laws.proofs.Ranks.{ranks_by, ranks_then_by}
 use Rattle.nested_loop.specs.Plan.{NestPlan}
-use Rattle.nested_loop.specs.Nest.{IsNestPast, Nesting, NestPosted, class_of_post, deferred_by, deferred_tasks, front_task, goes_before, is_started, posted_tasks, waiting_tasks, was_deferred, defers, posted_by, next_event, nesting_of}
+use Rattle.nested_loop.specs.Nest.{IsNestPast, Nesting, NestPosted, class_of_post, deferred_by, deferred_tasks, front_task, goes_before}
+use Rattle.nested_loop.specs.Nest.{is_started, posted_tasks, waiting_tasks, was_deferred, defers, posted_by, next_event, nesting_of}
 use Rattle.nested_loop.specs.NestLaws.{was_posted}
 use Rattle.nested_loop.proofs.Comes.{Comes, IsChosen, resumed, waited, nested, defer, comes, past_induction}
 use Rattle.nested_loop.proofs.Growth.{posted_tasks_push, was_deferred_push}
@@ -52,19 +54,12 @@ waits past p among =
 -- the front waits
 pub front_waits : (nest : NestPlan) (past : List Event) (t : ℕ) → front_task nest past ≡ Some t → Waits past t
 unfolding front_task
-front_waits nest past t h = by (least (goes_before nest) (waiting_tasks past)) refl h
+front_waits nest past t h = by_least (least (goes_before nest) (waiting_tasks past)) refl h
   where
-    by : (o : Option NestPosted) → least (goes_before nest) (waiting_tasks past) ≡ o → option_map (λ p. p.task) o ≡ Some t → Waits past t
-    by None is k = absurd (none-some t k)
-    by (Some p) is k = subst (Waits past) (some-injective k)
+    by_least : (o : Option NestPosted) → least (goes_before nest) (waiting_tasks past) ≡ o → option_map (λ p. p.task) o ≡ Some t → Waits past t
+    by_least None is k = absurd (none-some t k)
+    by_least (Some p) is k = subst (Waits past) (some-injective k)
         (waits past p (least_is_least (goes_before nest) (ranks_goes_before nest) (waiting_tasks past) p is).member)
-
-any_contains : {A : Type 0} (p : A → Bool) (xs : List A) (x : A) → Contains xs x → p x ≡ true → list_any p xs ≡ true
-any_contains p xs x among passes = by (count p xs) refl
-  where
-    by : (n : ℕ) → count p xs ≡ n → list_any p xs ≡ true
-    by zero none = absurd (omega (arith, contained_counts p xs x among passes, none))
-    by (suc n) some = any_from_count p xs n some
 
 first_contained : {A : Type 0} (xs : List A) (x : A) → slice_get xs 0 ≡ Some x → Contains xs x
 first_contained [] x h = absurd (none-some x h)
@@ -120,12 +115,12 @@ deferred_posted nest past h t = past_induction nest (λ before. was_deferred bef
     at : (before : List Event) (event : Event) (now after : Nesting) → Comes nest before now event after
         → (was_deferred before t ≡ true → was_posted before t ≡ true)
         → (was_deferred before t || defers t event) ≡ true → was_posted before t ≡ true
-    at before event now after (defer {task = task} deep front not_may) known k = by (was_deferred before t) (eqb task t) refl refl k
+    at before event now after (defer {task = task} deep front not_may) known k = by_deferred (was_deferred before t) (eqb task t) refl refl k
       where
-        by : (b c : Bool) → was_deferred before t ≡ b → eqb task t ≡ c → (b || c) ≡ true → was_posted before t ≡ true
-        by true c is same j = known is
-        by false true is same j = waits_posted before t (subst (Waits before) (eqb-true task t same) (front_waits nest before task front))
-        by false false is same j = absurd (true≢false (sym j))
+        by_deferred : (b c : Bool) → was_deferred before t ≡ b → eqb task t ≡ c → (b || c) ≡ true → was_posted before t ≡ true
+        by_deferred true c is same j = known is
+        by_deferred false true is same j = waits_posted before t (subst (Waits before) (eqb-true task t same) (front_waits nest before task front))
+        by_deferred false false is same j = absurd (true≢false (sym j))
     at before event now after other known k = known (sym (or-false (was_deferred before t)) ∙ k)
 
     step : (before : List Event) (event : Event) → IsNestPast nest before → next_event nest before ≡ Some event

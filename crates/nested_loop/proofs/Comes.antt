@@ -1,12 +1,14 @@
 -- What the event that comes next is, case by case, and what it leaves open.
-use Rattle.std.proofs.Common.{◌≡◌, ℕ, ◌+◌, Bool, true, false, cond, eqb, List, [], ◌∷◌, ◌++◌, refl, sym, subst, Option, Some, None, append_assoc, append-nil, arith}
+use Rattle.std.proofs.Common.{◌≡◌, ℕ, ◌+◌, Bool, true, false, cond, eqb, List, [], ◌∷◌, ◌++◌, refl}
+use Rattle.std.proofs.Common.{sym, subst, Option, Some, None, append_assoc, append-nil, arith}
 use Rattle.std.specs.Prelude.{slice_get}
 use Rattle.std.specs.Option.{option_map, option_or}
 use Rattle.std.proofs.lemmas.Option.{none-some}
 use Rattle.std.proofs.lemmas.List.Sums.{fold-append}
 use Rattle.list_laws.proofs.Values.{some-injective}
 use Rattle.nested_loop.specs.Plan.{NestPlan}
-use Rattle.nested_loop.specs.Nest.{Nesting, ComesAfter, IsNestPast, action_step, after_event, asked_by, deferred_tasks, depth_of, front_task, is_nestable, loop_step, nested_step, nesting_of, next_event, outermost_step, steps_of, task_ended, task_step}
+use Rattle.nested_loop.specs.Nest.{Nesting, ComesAfter, IsNestPast, action_step, after_event, asked_by, deferred_tasks, depth_of, front_task, is_nestable}
+use Rattle.nested_loop.specs.Nest.{loop_step, nested_step, nesting_of, next_event, outermost_step, steps_of, task_ended, task_step}
 use Rattle.nested_loop.specs.declared.event.Event.{Event}
 use Rattle.nested_loop.specs.declared.event.Event.TheVariants as events
 use Rattle.nested_loop.specs.declared.frame.Frame.{Frame}
@@ -84,25 +86,26 @@ of_nested : (nest : NestPlan) (past : List Event) (begun bound ended : ℕ) (out
     → front_task nest past ≡ front → Follows nest past (at begun (frames.Loop bound ended ∷ outer)) (nested_step nest (depth_of past) front)
 unfolding Follows
 of_nested nest past begun bound ended outer deep None is = quit refl
-of_nested nest past begun bound ended outer deep (Some task) is = by (is_nestable nest task) refl
+of_nested nest past begun bound ended outer deep (Some task) is = by_nestable (is_nestable nest task) refl
   where
-    by : (b : Bool) → is_nestable nest task ≡ b
+    by_nestable : (b : Bool) → is_nestable nest task ≡ b
         → Comes nest past (at begun (frames.Loop bound ended ∷ outer)) (cond b (events.Start task (depth_of past)) (events.Defer task))
         (after_event nest (at begun (frames.Loop bound ended ∷ outer)) (cond b (events.Start task (depth_of past)) (events.Defer task)))
-    by true may = start refl (nested deep is may)
-    by false may = defer deep is may
+    by_nestable true may = start refl (nested deep is may)
+    by_nestable false may = defer deep is may
 
 of_loop : (nest : NestPlan) (past : List Event) (begun bound ended : ℕ) (outer : List Frame)
     → Follows nest past (at begun (frames.Loop bound ended ∷ outer)) (loop_step nest past bound ended)
 unfolding Follows
-of_loop nest past begun bound ended outer = by (eqb ended bound) (eqb (depth_of past) 1) refl
+of_loop nest past begun bound ended outer = by_ended (eqb ended bound) (eqb (depth_of past) 1) refl
   where
-    by : (full outermost : Bool) → eqb (depth_of past) 1 ≡ outermost → Follows nest past (at begun (frames.Loop bound ended ∷ outer))
+    by_ended : (full outermost : Bool) → eqb (depth_of past) 1 ≡ outermost → Follows nest past (at begun (frames.Loop bound ended ∷ outer))
         (cond full (events.Quit (depth_of past)) (cond outermost (outermost_step (option_or (slice_get (deferred_tasks past) 0) (front_task nest past)))
         (nested_step nest (depth_of past) (front_task nest past))))
-    by true outermost is = quit refl
-    by false true is = of_outermost nest past begun bound ended outer (grind (arith, is)) (slice_get (deferred_tasks past) 0) (front_task nest past) refl refl
-    by false false is = of_nested nest past begun bound ended outer is (front_task nest past) refl
+    by_ended true outermost is = quit refl
+    by_ended false true is = of_outermost nest past begun bound ended outer (grind (arith, is)) (slice_get (deferred_tasks past) 0) (front_task nest past)
+        refl refl
+    by_ended false false is = of_nested nest past begun bound ended outer is (front_task nest past) refl
 
 of_asked : (nest : NestPlan) (past : List Event) (begun : ℕ) (open_frames : List Frame) (event : Event)
     → asked_by nest past begun open_frames ≡ Some event → Follows nest past (at begun open_frames) event

@@ -1,5 +1,6 @@
 -- What one more event does to the deferred tasks, and to the depth.
-use Rattle.std.proofs.Common.{◌≡◌, ℕ, ◌+◌, ◌-◌, ◌≤◌, length, Bool, true, false, cond, eqb, List, [], ◌∷◌, ◌++◌, drop, refl, sym, ap, ◌∙◌, subst, Some, None, arith, append-nil}
+use Rattle.std.proofs.Common.{◌≡◌, ℕ, ◌+◌, ◌-◌, ◌≤◌, length, Bool, true, false, cond, eqb, List, [], ◌∷◌}
+use Rattle.std.proofs.Common.{◌++◌, drop, refl, sym, ap, ◌∙◌, subst, Some, None, arith, append-nil}
 use Rattle.std.specs.Prelude.{◌||◌, ◌&&◌, not, slice_get, filter}
 use Rattle.std.specs.List.{AllByRecursion, filter_map, list_any}
 use Rattle.std.specs.Option.{option_to_list}
@@ -16,7 +17,8 @@ use Rattle.list_laws.proofs.Finds.{none_counted}
 use Rattle.list_laws.proofs.Places.{count-push, count_none}
 use Rattle.list_laws.proofs.Values.{eqb-turned}
 use Rattle.nested_loop.specs.Plan.{NestPlan}
-use Rattle.nested_loop.specs.Nest.{IsNestPast, Nesting, defers, deferred_by, deferred_tasks, depth_of, is_loop, is_quit, is_started, nesting_of, next_event, starts, task_ended, was_deferred}
+use Rattle.nested_loop.specs.Nest.{IsNestPast, Nesting, defers, deferred_by, deferred_tasks, depth_of, is_loop, is_quit}
+use Rattle.nested_loop.specs.Nest.{is_started, nesting_of, next_event, starts, task_ended, was_deferred}
 use Rattle.nested_loop.specs.Ended.{HasEnded}
 use Rattle.nested_loop.specs.declared.event.Event.{Event}
 use Rattle.nested_loop.specs.declared.event.Event.TheVariants as events
@@ -90,15 +92,15 @@ deferred_once nest t = past_induction nest (λ past. count (λ u. eqb u t) (filt
   where
     at : (past : List Event) (event : Event) (now after : Nesting) → Comes nest past now event after → count (λ u. eqb u t) (filter_map deferred_by past) ≤ 1
         → count (λ u. eqb u t) (filter_map deferred_by past) + count (λ u. eqb u t) (option_to_list (deferred_by event)) ≤ 1
-    at past event now after (defer {task = task} deep front not_may) once = by (eqb task t) refl
+    at past event now after (defer {task = task} deep front not_may) once = by_task (eqb task t) refl
       where
-        by : (b : Bool) → eqb task t ≡ b → count (λ u. eqb u t) (filter_map deferred_by past) + length (cond b (task ∷ []) []) ≤ 1
-        by true is =
+        by_task : (b : Bool) → eqb task t ≡ b → count (λ u. eqb u t) (filter_map deferred_by past) + length (cond b (task ∷ []) []) ≤ 1
+        by_task true is =
             let fresh = (front_waits nest past task front).not_deferred in
             let none = count_none (λ u. eqb u t) (filter_map deferred_by past)
             (deferrals_any t past ∙ ap (was_deferred past) (sym (Rattle.std.proofs.lemmas.Bool.eqb-true task t is)) ∙ fresh) in
             omega (arith, none)
-        by false is = omega (arith, once)
+        by_task false is = omega (arith, once)
     at past event now after other once = omega (arith, once)
 
     step : (past : List Event) (event : Event) → IsNestPast nest past → next_event nest past ≡ Some event
@@ -122,13 +124,13 @@ without_first t (x ∷ xs) h once =
 
 count_filter : (p q : ℕ → Bool) (xs : List ℕ) → count p (filter q xs) ≤ count p xs
 count_filter p q [] = omega arith
-count_filter p q (x ∷ xs) = by (q x) (p x) (count_filter p q xs) (Rattle.list_laws.proofs.Counts.count-cons p x (filter q xs))
+count_filter p q (x ∷ xs) = by_test (q x) (p x) (count_filter p q xs) (Rattle.list_laws.proofs.Counts.count-cons p x (filter q xs))
     (Rattle.list_laws.proofs.Counts.count-cons p x xs)
   where
-    by : (b c : Bool) → count p (filter q xs) ≤ count p xs → count p (x ∷ filter q xs) ≡ count p (filter q xs) + cond (p x) 1 0
+    by_test : (b c : Bool) → count p (filter q xs) ≤ count p xs → count p (x ∷ filter q xs) ≡ count p (filter q xs) + cond (p x) 1 0
         → count p (x ∷ xs) ≡ count p xs + cond (p x) 1 0 → count p (cond b (x ∷ filter q xs) (filter q xs)) ≤ count p (x ∷ xs)
-    by true c le kept all = omega (arith, le, kept, all)
-    by false c le kept all = omega (arith, le, all)
+    by_test true c le kept all = omega (arith, le, kept, all)
+    by_test false c le kept all = omega (arith, le, all)
 
 -- the first of them leaves them where it starts
 pub deferred_less : (nest : NestPlan) (past : List Event) (t depth : ℕ) → IsNestPast nest past → slice_get (deferred_tasks past) 0 ≡ Some t
@@ -212,10 +214,6 @@ depth_kept past event no_loop no_quit =
     let quits : count is_quit (past ++ event ∷ []) ≡ count is_quit past + 0 = count-push is_quit past event
     ∙ ap (λ b. count is_quit past + cond b 1 0) no_quit in
     omega (arith, opened, quits)
-
--- outside of all loops it is 0
-pub depth_outside : (nest : NestPlan) (past : List Event) → IsNestPast nest past → (nesting_of nest past).frames ≡ [] → depth_of past ≡ 0
-depth_outside nest past fits none = depth_counts nest past fits ∙ ap (count is_loop_frame) none
 
 -- inside of a loop it is above 0
 pub depth_inside : (nest : NestPlan) (past : List Event) (bound ended : ℕ) (outer : List Frame) → IsNestPast nest past

@@ -1,5 +1,6 @@
 -- The front of a nest is the front that the main queues choose.
-use Rattle.std.proofs.Common.{◌≡◌, ℕ, ◌+◌, ◌<◌, length, Bool, true, false, cond, eqb, List, [], ◌∷◌, ◌++◌, map, refl, sym, ap, ◌∙◌, subst, Option, Some, None, arith, length-append}
+use Rattle.std.proofs.Common.{◌≡◌, ℕ, ◌+◌, ◌<◌, length, Bool, true, false, cond, eqb, List, [], ◌∷◌, ◌++◌}
+use Rattle.std.proofs.Common.{map, refl, sym, ap, ◌∙◌, subst, Option, Some, None, arith, length-append}
 use Rattle.std.specs.Prelude.{◌||◌, ◌&&◌, not, nat_lt, slice_get, filter}
 use Rattle.std.specs.List.{AllByRecursion}
 use Rattle.std.specs.Option.{option_map, option_map_or}
@@ -22,7 +23,7 @@ use Rattle.queue_laws.proofs.Arrivals.{main_arrivals_rise}
 use Rattle.sequence_manager.specs.Postings.{MainPosting}
 use Rattle.nested_loop.specs.Plan.{NestPlan}
 use Rattle.nested_loop.specs.Nest.{NestPosted, class_of_post, front_task, is_started, posted_by, posted_tasks, waiting_tasks, was_deferred}
-use Rattle.nested_loop.specs.Waiting.{Tells, posting_of_entry, posting_of_nest, queue_of_class, script_of}
+use Rattle.nested_loop.specs.Waiting.{TellsEntries, posting_of_entry, posting_of_nest, queue_of_class, nest_script}
 use Rattle.nested_loop.specs.declared.event.Event.{Event}
 use Rattle.nested_loop.specs.declared.event.Event.TheVariants as events
 use Rattle.nested_loop.proofs.Choice.{chosen_task}
@@ -34,13 +35,13 @@ least_from_first : {A : Type 0} (f : A → ℕ) (below : A → A → Bool) → R
     → least_from (then_by f below) x xs ≡ least_from (λ a b. nat_lt (f a) (f b)) x xs
 least_from_first f below ranks x [] rises = refl
 least_from_first {A = A} f below ranks x (y ∷ ys) rises =
-    ap (λ b. least_from (then_by f below) (cond b y x) ys) (by (nat_lt (f y) (f x)) (eqb (f y) (f x)) (below y x) (ranks.one_way x y rises.0.0))
+    ap (λ b. least_from (then_by f below) (cond b y x) ys) (by_order (nat_lt (f y) (f x)) (eqb (f y) (f x)) (below y x) (ranks.one_way x y rises.0.0))
     ∙ on (nat_lt (f y) (f x)) (least_from_first f below ranks y ys rises.1) (least_from_first f below ranks x ys (rises.0.1, rises.1.1))
   where
-    by : (lt same b : Bool) → b ≡ false → (lt || (same && b)) ≡ lt
-    by true same b is = refl
-    by false true b is = is
-    by false false b is = refl
+    by_order : (lt same b : Bool) → b ≡ false → (lt || (same && b)) ≡ lt
+    by_order true same b is = refl
+    by_order false true b is = is
+    by_order false false b is = refl
 
     on : (b : Bool) → least_from (then_by f below) y ys ≡ least_from (λ a c. nat_lt (f a) (f c)) y ys
         → least_from (then_by f below) x ys ≡ least_from (λ a c. nat_lt (f a) (f c)) x ys
@@ -84,23 +85,23 @@ posted_in_order = push_induction PostedInOrder (record { rises = tt; within = tt
     })
 
 -- the class of a queue in the script is that in the nest
-class_in_script : (nest : NestPlan) (q : ℕ) → first_class (script_of nest) q ≡ option_map_or (λ class. class) (slice_get nest.classes q) 0
-class_in_script nest q = ap (λ o. option_map_or (λ queue. queue.class) o 0) (slice_get-map queue_of_class nest.classes q) ∙ by (slice_get nest.classes q)
+class_in_script : (nest : NestPlan) (q : ℕ) → first_class (nest_script nest) q ≡ option_map_or (λ class. class) (slice_get nest.classes q) 0
+class_in_script nest q = ap (λ o. option_map_or (λ queue. queue.class) o 0) (slice_get-map queue_of_class nest.classes q) ∙ by_class (slice_get nest.classes q)
   where
-    by : (o : Option ℕ) → option_map_or (λ queue. queue.class) (option_map queue_of_class o) 0 ≡ option_map_or (λ class. class) o 0
-    by None = refl
-    by (Some class) = refl
+    by_class : (o : Option ℕ) → option_map_or (λ queue. queue.class) (option_map queue_of_class o) 0 ≡ option_map_or (λ class. class) o 0
+    by_class None = refl
+    by_class (Some class) = refl
 
-pub no_voters : (nest : NestPlan) (q : ℕ) → voters_of (script_of nest) q ≡ 0
-no_voters nest q = ap (λ o. option_map_or (λ queue. queue.voters) o 0) (slice_get-map queue_of_class nest.classes q) ∙ by (slice_get nest.classes q)
+pub no_voters : (nest : NestPlan) (q : ℕ) → voters_of (nest_script nest) q ≡ 0
+no_voters nest q = ap (λ o. option_map_or (λ queue. queue.voters) o 0) (slice_get-map queue_of_class nest.classes q) ∙ by_class (slice_get nest.classes q)
   where
-    by : (o : Option ℕ) → option_map_or (λ queue. queue.voters) (option_map queue_of_class o) 0 ≡ 0
-    by None = refl
-    by (Some class) = refl
+    by_class : (o : Option ℕ) → option_map_or (λ queue. queue.voters) (option_map queue_of_class o) 0 ≡ 0
+    by_class None = refl
+    by_class (Some class) = refl
 
 -- the class of the queue of a posting
 class_of_posting : NestPlan → MainPosting → ℕ
-class_of_posting nest m = first_class (script_of nest) m.queue
+class_of_posting nest m = first_class (nest_script nest) m.queue
 
 abbrev lesser_class : NestPlan → MainPosting → MainPosting → Bool
 lesser_class nest a b = nat_lt (class_of_posting nest a) (class_of_posting nest b)
@@ -129,12 +130,13 @@ map-map g f [] = refl
 map-map g f (x ∷ xs) = ap (λ ys. g (f x) ∷ ys) (map-map g f xs)
 
 -- the chosen front is that of the nest
-pub chosen_is_front : (nest : NestPlan) (past : List Event) (entries : List Entry) → Tells past entries → SameMembers (main_arrivals entries) (ordered entries)
-    → AllByRecursion (λ p. p.home < length (script_of nest).queues) (main_posts entries)
-    → option_map (λ f. f.task) (chosen_of (script_of nest) entries) ≡ front_task nest past
+pub chosen_is_front : (nest : NestPlan) (past : List Event) (entries : List Entry) → TellsEntries past entries
+    → SameMembers (main_arrivals entries) (ordered entries)
+    → AllByRecursion (λ p. p.home < length (nest_script nest).queues) (main_posts entries)
+    → option_map (λ f. f.task) (chosen_of (nest_script nest) entries) ≡ front_task nest past
 unfolding class_of_posting postings_that_wait waiting_tasks
 chosen_is_front nest past entries tells same there =
-    chosen_task (script_of nest) entries plain (no_voters nest) same there
+    chosen_task (nest_script nest) entries plain (no_voters nest) same there
     ∙ ap (option_map (λ o. o.posted.task)) (least_first class_of ordered_below (ranks_by (λ o. o.order)) arrivals
     (rises-filter ordered_below (λ o. not (is_main_taken entries o.posted.task)) (main_arrivals entries) (main_arrivals_rise entries)))
     ∙ of_map (least (λ a b. nat_lt (class_of a) (class_of b)) arrivals)
@@ -148,11 +150,11 @@ chosen_is_front nest past entries tells same there =
     (posted_tasks past) (λ p. ap not (tells.taken p.task) ∙ neither (was_deferred past p.task) (is_started past p.task))))
     ∙ sym (front_is nest past)
   where
-    plain : IsPlain (script_of nest) entries
-    plain = plain_past (script_of nest) entries tells.plain
+    plain : IsPlain (nest_script nest) entries
+    plain = plain_past (nest_script nest) entries tells.plain
 
     class_of : Ordered → ℕ
-    class_of o = first_class (script_of nest) o.posted.home
+    class_of o = first_class (nest_script nest) o.posted.home
 
     arrivals : List Ordered
     arrivals = filter (λ o. not (is_main_taken entries o.posted.task)) (main_arrivals entries)

@@ -30,15 +30,15 @@ posted_tasks_push past event = posted_from-append 0 past event ∙ ap (λ n. pos
 
 pub deferrals_push : (past : List Event) (event : Event)
     → filter_map deferred_by (past ++ event ∷ []) ≡ filter_map deferred_by past ++ option_to_list (deferred_by event)
-deferrals_push [] event = by (deferred_by event)
+deferrals_push [] event = by_deferred (deferred_by event)
   where
-    by : (o : Option ℕ) → Rattle.std.specs.List.cons_option o [] ≡ option_to_list o
-    by None = refl
-    by (Some t) = refl
-deferrals_push (e ∷ past) event = by (deferred_by e) (deferrals_push past event)
+    by_deferred : (o : Option ℕ) → Rattle.std.specs.List.cons_option o [] ≡ option_to_list o
+    by_deferred None = refl
+    by_deferred (Some t) = refl
+deferrals_push (e ∷ past) event = by_deferred (deferred_by e) (deferrals_push past event)
   where
-    by : (o : Option ℕ) → filter_map deferred_by (past ++ event ∷ []) ≡ filter_map deferred_by past ++ option_to_list (deferred_by event)
+    by_deferred : (o : Option ℕ) → filter_map deferred_by (past ++ event ∷ []) ≡ filter_map deferred_by past ++ option_to_list (deferred_by event)
         → Rattle.std.specs.List.cons_option o (filter_map deferred_by (past ++ event ∷ []))
         ≡ Rattle.std.specs.List.cons_option o (filter_map deferred_by past) ++ option_to_list (deferred_by event)
-    by None h = h
-    by (Some t) h = ap (λ ts. t ∷ ts) h
+    by_deferred None h = h
+    by_deferred (Some t) h = ap (λ ts. t ∷ ts) h

@@ -1,5 +1,6 @@
 -- What the manager of the main queues is asked at each event of a nest, and what it then stands for.
-use Rattle.std.proofs.Common.{◌≡◌, ℕ, ◌+◌, ◌<◌, ◌^◌, length, Bool, true, false, eqb, List, [], ◌∷◌, ◌++◌, map, refl, sym, ap, ◌∙◌, subst, Option, Some, None, arith, length-append, append-nil}
+use Rattle.std.proofs.Common.{◌≡◌, ℕ, ◌+◌, ◌<◌, ◌^◌, length, Bool, true, false, eqb, List, [], ◌∷◌, ◌++◌, map, refl}
+use Rattle.std.proofs.Common.{sym, ap, ◌∙◌, subst, Option, Some, None, arith, length-append, append-nil}
 use Rattle.std.specs.Prelude.{◌||◌, not, filter}
 use Rattle.std.specs.List.{AllByRecursion}
 use Rattle.std.specs.Option.{option_map}
@@ -16,16 +17,17 @@ use Rattle.task_model.specs.Posts.{Posted, is_main_taken, main_post_of, main_pos
 use Rattle.task_model.specs.Refusal.{is_closed}
 use Rattle.task_model.specs.Seats.{Running, running}
 use Rattle.task_model.proofs.Growth.{is_main_taken_push, main_posts_push, running_push}
-use Rattle.sequence_manager.specs.Calls.{CanPost as MainCanPost, CanTake as MainCanTake, IsTaken, RunsMain, TakeAnswers, after_end, after_main, after_take}
+use Rattle.sequence_manager.specs.Calls.{CanPost as MainCanPost, CanTake as MainCanTake, IsTaken}
+use Rattle.sequence_manager.specs.Calls.{RunsMain, TakeAnswers, after_end, after_main, after_take}
 use Rattle.sequence_manager.specs.Pasts.{IsPostedTo}
 use Rattle.sequence_manager.specs.Postings.{main_postings}
 use Rattle.sequence_manager.specs.StandsFor.{StandsFor}
 use Rattle.sequence_manager.specs.declared.manager.Manager.{Manager}
-use Rattle.nested_loop.specs.Keeping.{CanPost, CanTake, IsTakenFrom, Keeps, takes}
+use Rattle.nested_loop.specs.Keeping.{CanPostNext, CanTakeNext, IsTakenFrom, KeepsManager, takes}
 use Rattle.nested_loop.specs.Nest.{IsNestPast, NestPosted, defers, front_task, is_started, posted_by, posted_tasks, starts, was_deferred}
 use Rattle.nested_loop.specs.Plan.{NestPlan}
 use Rattle.nested_loop.specs.Sound.{IsSoundNest}
-use Rattle.nested_loop.specs.Waiting.{Tells, is_plain, posting_of_entry, posting_of_nest, script_of}
+use Rattle.nested_loop.specs.Waiting.{TellsEntries, is_plain, posting_of_entry, posting_of_nest, nest_script}
 use Rattle.nested_loop.specs.declared.event.Event.{Event}
 use Rattle.nested_loop.specs.declared.event.Event.TheVariants as events
 use Rattle.nested_loop.specs.declared.waiting.Waiting.{Waiting}
@@ -74,7 +76,7 @@ takes_it task (events.Say value) h = absurd (true≢false (sym h))
 -- an event that posts nothing and takes nothing that was there changes nothing
 tells_still : (past : List Event) (entries : List Entry) (event : Event) → ((place : ℕ) → posted_by place event ≡ [])
     → ((t : ℕ) → ((was_deferred past t || is_started past t) || (defers t event || starts t event)) ≡ (was_deferred past t || is_started past t))
-    → Tells past entries → Tells (past ++ event ∷ []) entries
+    → TellsEntries past entries → TellsEntries (past ++ event ∷ []) entries
 tells_still past entries event no_post same tells = record {
   posts = tells.posts ∙ ap (map posting_of_nest) (sym (posted_tasks_push past event ∙ ap (λ ps. posted_tasks past ++ ps) (no_post (length past))
       ∙ append-nil (posted_tasks past)));
@@ -85,7 +87,8 @@ tells_still past entries event no_post same tells = record {
 }
 
 keeps_by : (nest : NestPlan) (past : List Event) (event : Event) (waiting : Waiting)
-    → ((entries : List Entry) → Tells past entries → Tells (past ++ event ∷ []) entries) → Keeps nest past waiting → Keeps nest (past ++ event ∷ []) waiting
+    → ((entries : List Entry) → TellsEntries past entries → TellsEntries (past ++ event ∷ []) entries) → KeepsManager nest past waiting
+    → KeepsManager nest (past ++ event ∷ []) waiting
 keeps_by nest past event waiting grow keeps = record {
   entries = keeps.entries;
   stands = keeps.stands;
@@ -95,25 +98,25 @@ keeps_by nest past event waiting grow keeps = record {
 
 -- an event that posts, starts and defers nothing
 pub keeps_still : (nest : NestPlan) (past : List Event) (event : Event) (waiting : Waiting) → ((place : ℕ) → posted_by place event ≡ [])
-    → ((t : ℕ) → (defers t event || starts t event) ≡ false) → Keeps nest past waiting → Keeps nest (past ++ event ∷ []) waiting
+    → ((t : ℕ) → (defers t event || starts t event) ≡ false) → KeepsManager nest past waiting → KeepsManager nest (past ++ event ∷ []) waiting
 keeps_still nest past event waiting no_post none = keeps_by nest past event waiting (λ entries. tells_still past entries event no_post
     (λ t. ap (λ b. (was_deferred past t || is_started past t) || b) (none t) ∙ or-false (was_deferred past t || is_started past t)))
 
 -- a deferred task that starts was taken before
-pub keeps_resumed : (nest : NestPlan) (past : List Event) (task depth : ℕ) (waiting : Waiting) → was_deferred past task ≡ true → Keeps nest past waiting
-    → Keeps nest (past ++ events.Start task depth ∷ []) waiting
+pub keeps_resumed : (nest : NestPlan) (past : List Event) (task depth : ℕ) (waiting : Waiting) → was_deferred past task ≡ true → KeepsManager nest past waiting
+    → KeepsManager nest (past ++ events.Start task depth ∷ []) waiting
 keeps_resumed nest past task depth waiting deferred = keeps_by nest past (events.Start task depth) waiting
-    (λ entries. tells_still past entries (events.Start task depth) (λ place. refl) (λ t. by t (eqb task t) refl))
+    (λ entries. tells_still past entries (events.Start task depth) (λ place. refl) (λ t. at_each t (eqb task t) refl))
   where
-    by : (t : ℕ) (b : Bool) → eqb task t ≡ b → ((was_deferred past t || is_started past t) || eqb task t) ≡ (was_deferred past t || is_started past t)
-    by t true is = let known = ap (was_deferred past) (sym (eqb-true task t is)) ∙ deferred in
+    at_each : (t : ℕ) (b : Bool) → eqb task t ≡ b → ((was_deferred past t || is_started past t) || eqb task t) ≡ (was_deferred past t || is_started past t)
+    at_each t true is = let known = ap (was_deferred past) (sym (eqb-true task t is)) ∙ deferred in
         ap (λ d. (d || is_started past t) || eqb task t) known ∙ sym (ap (λ d. d || is_started past t) known)
-    by t false is = ap (λ b. (was_deferred past t || is_started past t) || b) is ∙ or-false (was_deferred past t || is_started past t)
+    at_each t false is = ap (λ b. (was_deferred past t || is_started past t) || b) is ∙ or-false (was_deferred past t || is_started past t)
 
 -- ---- posts
 
 -- a task that a nest has not posted has no post among the entries
-no_main_post : (past : List Event) (entries : List Entry) (task : ℕ) → Tells past entries → count (λ p. eqb p.task task) (posted_tasks past) ≡ 0
+no_main_post : (past : List Event) (entries : List Entry) (task : ℕ) → TellsEntries past entries → count (λ p. eqb p.task task) (posted_tasks past) ≡ 0
     → main_post_of entries task ≡ None
 no_main_post past entries task tells none = none_found (λ p. eqb p.task task) (main_posts entries)
     (sym (counted_entries (main_posts entries)) ∙ ap (count (λ m. eqb m.task task)) tells.posts ∙ counted_events (posted_tasks past) ∙ none)
@@ -125,7 +128,7 @@ no_main_post past entries task tells none = none_found (λ p. eqb p.task task) (
     counted_events ps = ap length (filter-map (λ m. eqb m.task task) posting_of_nest ps) ∙ length-map (filter (λ p. eqb p.task task) ps) posting_of_nest
 
 -- there are few entries
-entries_few : (nest : NestPlan) (past : List Event) (waiting : Waiting) → IsSoundNest nest → IsNestPast nest past → (keeps : Keeps nest past waiting)
+entries_few : (nest : NestPlan) (past : List Event) (waiting : Waiting) → IsSoundNest nest → IsNestPast nest past → (keeps : KeepsManager nest past waiting)
     → length keeps.entries < 2 ^ 31
 entries_few nest past waiting sound fits keeps =
     let few = keeps.tells.few in
@@ -133,8 +136,8 @@ entries_few nest past waiting sound fits keeps =
     let small = events_few nest sound in
     omega (arith, few, within, small)
 
-pub can_post : (nest : NestPlan) (past : List Event) (waiting : Waiting) (task queue : ℕ) (can : CanPost nest past waiting task queue)
-    → MainCanPost (script_of nest) can.keeps.entries waiting.queues waiting.place task queue 0
+pub can_post : (nest : NestPlan) (past : List Event) (waiting : Waiting) (task queue : ℕ) (can : CanPostNext nest past waiting task queue)
+    → MainCanPost (nest_script nest) can.keeps.entries waiting.queues waiting.place task queue 0
 can_post nest past waiting task queue can = record {
   stands = can.keeps.stands;
   place_is = can.keeps.place_is;
@@ -145,11 +148,11 @@ can_post nest past waiting task queue can = record {
 }
 
 -- the queue is not closed
-pub not_closed : (nest : NestPlan) (past : List Event) (entries : List Entry) → Tells past entries → (queue : ℕ) → is_closed entries queue ≡ false
-not_closed nest past entries tells queue = (plain_past (script_of nest) entries tells.plain).not_closed queue
+pub not_closed : (nest : NestPlan) (past : List Event) (entries : List Entry) → TellsEntries past entries → (queue : ℕ) → is_closed entries queue ≡ false
+not_closed nest past entries tells queue = (plain_past (nest_script nest) entries tells.plain).not_closed queue
 
-pub tells_post : (past : List Event) (entries : List Entry) (task queue : ℕ) → Tells past entries
-    → Tells (past ++ events.Post task queue ∷ []) (after_main entries 0 task queue 0 true)
+pub tells_post : (past : List Event) (entries : List Entry) (task queue : ℕ) → TellsEntries past entries
+    → TellsEntries (past ++ events.Post task queue ∷ []) (after_main entries 0 task queue 0 true)
 tells_post past entries task queue tells = record {
   posts =
       ap (map posting_of_entry) (main_posts_push entries e)
@@ -168,17 +171,18 @@ tells_post past entries task queue tells = record {
     e : Entry
     e = record { seat = 0; kind = kinds.Main task queue 0 true }
 
-pub place_fits : (nest : NestPlan) (past : List Event) (waiting : Waiting) → IsSoundNest nest → IsNestPast nest past → Keeps nest past waiting
+pub place_fits : (nest : NestPlan) (past : List Event) (waiting : Waiting) → IsSoundNest nest → IsNestPast nest past → KeepsManager nest past waiting
     → waiting.place < 2 ^ 31
 place_fits nest past waiting sound fits keeps = let few = entries_few nest past waiting sound fits keeps in let at = keeps.place_is in omega (arith, few, at)
 
 -- what the manager then stands for
-pub keeps_post : (nest : NestPlan) (past : List Event) (waiting after : Waiting) (task queue : ℕ) (can : CanPost nest past waiting task queue) (accepted : Bool)
-    → accepted ≡ not (is_closed can.keeps.entries queue) → StandsFor (script_of nest) (after_main can.keeps.entries 0 task queue 0 accepted) after.queues
-    → after.place ≡ waiting.place + 1 → Keeps nest (past ++ events.Post task queue ∷ []) after
+pub keeps_post : (nest : NestPlan) (past : List Event) (waiting after : Waiting) (task queue : ℕ) (can : CanPostNext nest past waiting task queue)
+    (accepted : Bool)
+    → accepted ≡ not (is_closed can.keeps.entries queue) → StandsFor (nest_script nest) (after_main can.keeps.entries 0 task queue 0 accepted) after.queues
+    → after.place ≡ waiting.place + 1 → KeepsManager nest (past ++ events.Post task queue ∷ []) after
 keeps_post nest past waiting after task queue can accepted reply stands at = record {
   entries = after_main can.keeps.entries 0 task queue 0 true;
-  stands = subst (λ b. StandsFor (script_of nest) (after_main can.keeps.entries 0 task queue 0 b) after.queues)
+  stands = subst (λ b. StandsFor (nest_script nest) (after_main can.keeps.entries 0 task queue 0 b) after.queues)
       (reply ∙ ap not (not_closed nest past can.keeps.entries can.keeps.tells queue)) stands;
   tells = tells_post past can.keeps.entries task queue can.keeps.tells;
   place_is =
@@ -189,23 +193,23 @@ keeps_post nest past waiting after task queue can accepted reply stands at = rec
 
 -- ---- takes
 
-pub can_take : (nest : NestPlan) (past : List Event) (waiting : Waiting) (can : CanTake nest past waiting)
-    → MainCanTake (script_of nest) can.keeps.entries waiting.queues
+pub can_take : (nest : NestPlan) (past : List Event) (waiting : Waiting) (can : CanTakeNext nest past waiting)
+    → MainCanTake (nest_script nest) can.keeps.entries waiting.queues
 can_take nest past waiting can = record { stands = can.keeps.stands; idle = ap (keep (λ w. w.is_main)) can.keeps.tells.idle }
 
 -- what was posted is to queues that are declared
-homes_there : (nest : NestPlan) (entries : List Entry) (manager : Manager) → StandsFor (script_of nest) entries manager
-    → AllByRecursion (λ p. p.home < length (script_of nest).queues) (main_posts entries)
-homes_there nest entries manager stands = AllByRecursion-map (λ p. IsPostedTo (script_of nest) p.task p.home) (λ p. p.home < length (script_of nest).queues)
+homes_there : (nest : NestPlan) (entries : List Entry) (manager : Manager) → StandsFor (nest_script nest) entries manager
+    → AllByRecursion (λ p. p.home < length (nest_script nest).queues) (main_posts entries)
+homes_there nest entries manager stands = AllByRecursion-map (λ p. IsPostedTo (nest_script nest) p.task p.home) (λ p. p.home < length (nest_script nest).queues)
     (main_posts entries)
-    (λ p among. AllByRecursion-contains (λ m. m.queue < length (script_of nest).queues) (main_postings (script_of nest))
+    (λ p among. AllByRecursion-contains (λ m. m.queue < length (nest_script nest).queues) (main_postings (nest_script nest))
     (record { task = p.task; queue = p.home })
     stands.script_fits.homes_there among)
     stands.past_fits.posted
 
 -- the manager takes the front
-pub takes_front : (nest : NestPlan) (past : List Event) (waiting : Waiting) (can : CanTake nest past waiting) (answer : Option (ℕ × ℕ × ℕ))
-    → TakeAnswers (script_of nest) can.keeps.entries answer → option_map (λ taken. taken.0) answer ≡ front_task nest past
+pub takes_front : (nest : NestPlan) (past : List Event) (waiting : Waiting) (can : CanTakeNext nest past waiting) (answer : Option (ℕ × ℕ × ℕ))
+    → TakeAnswers (nest_script nest) can.keeps.entries answer → option_map (λ taken. taken.0) answer ≡ front_task nest past
 takes_front nest past waiting can None none = ap (option_map (λ f. f.task)) (sym none) ∙ chosen_is_front nest past can.keeps.entries can.keeps.tells
     can.keeps.stands.past_fits.arrivals_are_ordered (homes_there nest can.keeps.entries waiting.queues can.keeps.stands)
 takes_front nest past waiting can (Some (task, queue, cell)) taken =
@@ -216,20 +220,21 @@ takes_front nest past waiting can (Some (task, queue, cell)) taken =
 abbrev pub running_of : ℕ → ℕ → ℕ → Running
 running_of task queue cell = record { task = task; home = queue; found = cell; is_main = true }
 
-pub runs_taken : (nest : NestPlan) (past : List Event) (waiting : Waiting) (can : CanTake nest past waiting) (task queue cell : ℕ) (manager : Manager)
-    → IsTaken (script_of nest) can.keeps.entries task queue cell → StandsFor (script_of nest) (after_take can.keeps.entries (Some (task, queue, cell))) manager
-    → RunsMain (script_of nest) (after_take can.keeps.entries (Some (task, queue, cell))) manager queue (running_of task queue cell)
+pub runs_taken : (nest : NestPlan) (past : List Event) (waiting : Waiting) (can : CanTakeNext nest past waiting) (task queue cell : ℕ) (manager : Manager)
+    → IsTaken (nest_script nest) can.keeps.entries task queue cell
+    → StandsFor (nest_script nest) (after_take can.keeps.entries (Some (task, queue, cell))) manager
+    → RunsMain (nest_script nest) (after_take can.keeps.entries (Some (task, queue, cell))) manager queue (running_of task queue cell)
 runs_taken nest past waiting can task queue cell manager taken stands = record {
   stands = stands;
-  declared = subst (λ q. q < length (script_of nest).queues) taken.queue_is
-      (chosen_declared (script_of nest) can.keeps.entries (plain_past (script_of nest) can.keeps.entries can.keeps.tells.plain) (no_voters nest)
+  declared = subst (λ q. q < length (nest_script nest).queues) taken.queue_is
+      (chosen_declared (nest_script nest) can.keeps.entries (plain_past (nest_script nest) can.keeps.entries can.keeps.tells.plain) (no_voters nest)
       can.keeps.stands.past_fits.arrivals_are_ordered (homes_there nest can.keeps.entries waiting.queues can.keeps.stands) taken.front taken.chosen);
   runs = ap (keep (λ w. w.is_main)) (running_push can.keeps.entries (record { seat = 0; kind = kinds.MainTake task queue cell }) 0);
   home_is = refl;
 }
 
-tells_taken : (past : List Event) (entries : List Entry) (task queue cell : ℕ) (event : Event) → TakesIt task event → Tells past entries
-    → Tells (past ++ event ∷ []) (after_end (after_take entries (Some (task, queue, cell))) task cell)
+tells_taken : (past : List Event) (entries : List Entry) (task queue cell : ℕ) (event : Event) → TakesIt task event → TellsEntries past entries
+    → TellsEntries (past ++ event ∷ []) (after_end (after_take entries (Some (task, queue, cell))) task cell)
 tells_taken past entries task queue cell event it tells = record {
   posts =
       ap (map posting_of_entry) (main_posts_push (entries ++ take ∷ []) end ∙ append-nil (main_posts (entries ++ take ∷ []))
@@ -254,8 +259,9 @@ tells_taken past entries task queue cell event it tells = record {
     end = record { seat = 0; kind = kinds.MainEnd task cell }
 
 -- what the manager then stands for, whether the task starts or is deferred
-pub keeps_taken : (nest : NestPlan) (past : List Event) (waiting after : Waiting) (can : CanTake nest past waiting) (task queue cell : ℕ)
-    → StandsFor (script_of nest) (after_end (after_take can.keeps.entries (Some (task, queue, cell))) task cell) after.queues → after.place ≡ waiting.place + 2
+pub keeps_taken : (nest : NestPlan) (past : List Event) (waiting after : Waiting) (can : CanTakeNext nest past waiting) (task queue cell : ℕ)
+    → StandsFor (nest_script nest) (after_end (after_take can.keeps.entries (Some (task, queue, cell))) task cell) after.queues
+    → after.place ≡ waiting.place + 2
     → IsTakenFrom nest past (Some task) after
 keeps_taken nest past waiting after can task queue cell stands at event h = record {
   entries = after_end (after_take can.keeps.entries (Some (task, queue, cell))) task cell;
@@ -269,7 +275,7 @@ keeps_taken nest past waiting after can task queue cell stands at event h = reco
 }
 
 -- at the start there are no entries
-pub keeps_at_start : (nest : NestPlan) (waiting : Waiting) → StandsFor (script_of nest) [] waiting.queues → waiting.place ≡ 0 → Keeps nest [] waiting
+pub keeps_at_start : (nest : NestPlan) (waiting : Waiting) → StandsFor (nest_script nest) [] waiting.queues → waiting.place ≡ 0 → KeepsManager nest [] waiting
 unfolding main_posts posted_tasks is_main_taken was_deferred is_started running Rattle.task_model.specs.Past.fold_past
 keeps_at_start nest waiting stands at = record {
   entries = [];

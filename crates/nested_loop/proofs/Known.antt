@@ -1,5 +1,6 @@
 -- What a sound nest posts: tasks and queues that are declared, no task twice, and so no more events than there is room for.
-use Rattle.std.proofs.Common.{◌≡◌, ℕ, ◌+◌, ◌*◌, ◌<◌, ◌≤◌, length, Bool, true, false, cond, eqb, List, [], ◌∷◌, ◌++◌, refl, sym, ap, subst, Option, Some, None, arith, length-append}
+use Rattle.std.proofs.Common.{◌≡◌, ℕ, ◌+◌, ◌*◌, ◌<◌, ◌≤◌, length, Bool, true, false, cond, eqb, List, [], ◌∷◌}
+use Rattle.std.proofs.Common.{◌++◌, refl, sym, ap, subst, Option, Some, None, arith, length-append}
 use Rattle.std.specs.Prelude.{◌||◌, slice_get, sum_by, flat_map}
 use Rattle.std.specs.List.{AllByRecursion, list_any}
 use Rattle.std.specs.Option.{IfSome, option_map_or}
@@ -14,7 +15,7 @@ use Rattle.nested_loop.specs.Plan.{NestPlan, NestTaskPlan}
 use Rattle.nested_loop.specs.Nest.{IsNestPast, Nesting, NestPosted, is_started, nesting_of, next_event, posted_by, posted_tasks, steps_of, was_deferred}
 use Rattle.nested_loop.specs.NestLaws.{was_posted}
 use Rattle.nested_loop.specs.Room.{events_bound}
-use Rattle.nested_loop.specs.Sound.{IsSoundNest, IsNestStepSound, IsNestActionSound, nest_postings, posts_of_action, posts_of_step, posts_of_task}
+use Rattle.nested_loop.specs.Sound.{IsSoundNest, IsNestStepSound, IsNestActionSound, nest_postings, posts_of_nest_action, posts_of_nest_step, posts_of_task}
 use Rattle.nested_loop.specs.declared.event.Event.{Event}
 use Rattle.nested_loop.specs.declared.event.Event.TheVariants as events
 use Rattle.nested_loop.specs.declared.nest.NestAction.{NestAction}
@@ -32,12 +33,12 @@ IsDeclared nest p = (p.task < length nest.tasks) × (p.queue < length nest.class
 -- a task with a step is declared
 pub has_steps : (nest : NestPlan) (t done : ℕ) (step : NestStep) → slice_get (steps_of nest t) done ≡ Some step
     → (task : NestTaskPlan) × (slice_get nest.tasks t ≡ Some task) × (slice_get task.steps done ≡ Some step)
-has_steps nest t done step h = by (slice_get nest.tasks t) refl h
+has_steps nest t done step h = by_task (slice_get nest.tasks t) refl h
   where
-    by : (o : Option NestTaskPlan) → slice_get nest.tasks t ≡ o → slice_get (option_map_or (λ task. task.steps) o []) done ≡ Some step
+    by_task : (o : Option NestTaskPlan) → slice_get nest.tasks t ≡ o → slice_get (option_map_or (λ task. task.steps) o []) done ≡ Some step
         → (task : NestTaskPlan) × (slice_get nest.tasks t ≡ Some task) × (slice_get task.steps done ≡ Some step)
-    by None is k = absurd (none-some step k)
-    by (Some task) is k = (task, is, k)
+    by_task None is k = absurd (none-some step k)
+    by_task (Some task) is k = (task, is, k)
 
 action_is_sound : (nest : NestPlan) → IsSoundNest nest → (begun : ℕ) (action : NestAction) → slice_get nest.actions begun ≡ Some action
     → IsNestActionSound nest action
@@ -71,12 +72,12 @@ posted_declared nest sound = past_induction nest (λ past. AllByRecursion (IsDec
 one_declared : (nest : NestPlan) (ps : List NestPosted) (t : ℕ) → AllByRecursion (IsDeclared nest) ps → list_any (λ p. eqb p.task t) ps ≡ true
     → t < length nest.tasks
 one_declared nest [] t all h = absurd (true≢false (sym h))
-one_declared nest (p ∷ ps) t all h = by (eqb p.task t) refl h (one_declared nest ps t all.1)
+one_declared nest (p ∷ ps) t all h = by_task (eqb p.task t) refl h (one_declared nest ps t all.1)
   where
-    by : (b : Bool) → eqb p.task t ≡ b → (b || list_any (λ q. eqb q.task t) ps) ≡ true
+    by_task : (b : Bool) → eqb p.task t ≡ b → (b || list_any (λ q. eqb q.task t) ps) ≡ true
         → (list_any (λ q. eqb q.task t) ps ≡ true → t < length nest.tasks) → t < length nest.tasks
-    by true is k rest = subst (λ u. u < length nest.tasks) (eqb-true p.task t is) all.0.0
-    by false is k rest = rest k
+    by_task true is k rest = subst (λ u. u < length nest.tasks) (eqb-true p.task t is) all.0.0
+    by_task false is k rest = rest k
 
 -- a task that was posted is declared
 pub was_posted_declared : (nest : NestPlan) → IsSoundNest nest → (past : List Event) → IsNestPast nest past → (t : ℕ) → was_posted past t ≡ true
@@ -168,7 +169,7 @@ posts_it : ℕ → Event → ℕ
 posts_it t event = count (λ p. eqb p.task t) (posted_by 0 event)
 
 posts_of : ℕ → Weights
-posts_of t = record { step = λ step. times t (posts_of_step step); action = λ action. times t (posts_of_action action); each = 0 }
+posts_of t = record { step = λ step. times t (posts_of_nest_step step); action = λ action. times t (posts_of_nest_action action); each = 0 }
 
 posts_weigh : (t : ℕ) → Weighs (posts_it t) (posts_of t)
 unfolding posts_it posts_of
@@ -200,22 +201,22 @@ times-flat_map t f (x ∷ xs) =
 posts_total : (nest : NestPlan) (t : ℕ) → total (posts_of t) nest ≡ times t (nest_postings nest)
 unfolding posts_of total
 posts_total nest t =
-    let parts = count-append (λ u. eqb u t) (flat_map posts_of_task nest.tasks) (flat_map posts_of_action nest.actions) in
-    let acts = times-flat_map t posts_of_action nest.actions in
+    let parts = count-append (λ u. eqb u t) (flat_map posts_of_task nest.tasks) (flat_map posts_of_nest_action nest.actions) in
+    let acts = times-flat_map t posts_of_nest_action nest.actions in
     let tasks = times-flat_map t posts_of_task nest.tasks in
-    let each = sum_by-congr {A = NestTaskPlan} (λ task. sum_by (λ step. times t (posts_of_step step)) task.steps + 0)
+    let each = sum_by-congr {A = NestTaskPlan} (λ task. sum_by (λ step. times t (posts_of_nest_step step)) task.steps + 0)
     (λ task. times t (posts_of_task task)) nest.tasks
-    (λ task. let steps = times-flat_map t posts_of_step task.steps in omega (arith, steps)) in
+    (λ task. let steps = times-flat_map t posts_of_nest_step task.steps in omega (arith, steps)) in
     omega (arith, parts, acts, tasks, each)
 
 posts_counted : (t place : ℕ) (event : Event) → count (λ p. eqb p.task t) (posted_by place event) ≡ posts_it t event
 unfolding posts_it
-posts_counted t place (events.Post task queue) = by (eqb task t)
+posts_counted t place (events.Post task queue) = by_task (eqb task t)
   where
-    by : (b : Bool) → length {A = NestPosted} (cond b (record { task = task; queue = queue; place = place } ∷ []) [])
+    by_task : (b : Bool) → length {A = NestPosted} (cond b (record { task = task; queue = queue; place = place } ∷ []) [])
         ≡ length {A = NestPosted} (cond b (record { task = task; queue = queue; place = 0 } ∷ []) [])
-    by true = refl
-    by false = refl
+    by_task true = refl
+    by_task false = refl
 posts_counted t place event = refl
 
 posted_counts : (t : ℕ) (past : List Event) → count (λ p. eqb p.task t) (posted_tasks past) ≡ sum_by (posts_it t) past

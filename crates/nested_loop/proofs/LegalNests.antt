@@ -1,5 +1,6 @@
 -- What every legal log of a nest is like.
-use Rattle.std.proofs.Common.{◌≡◌, ℕ, ◌<◌, ◌≤◌, true, false, eqb, List, [], ◌∷◌, ◌++◌, refl, sym, ap, ◌∙◌, subst, Option, Some, None, arith, append-nil, append_assoc}
+use Rattle.std.proofs.Common.{◌≡◌, ℕ, ◌<◌, ◌≤◌, true, false, eqb, List, [], ◌∷◌, ◌++◌, refl, sym, ap}
+use Rattle.std.proofs.Common.{◌∙◌, subst, Option, Some, None, arith, append-nil, append_assoc}
 use Rattle.std.specs.Prelude.{slice_get}
 use Rattle.std.specs.List.{filter_map, list_any}
 use Rattle.std.proofs.lemmas.Bool.{and_from, eq-eqb, eqb-true, true≢false}
@@ -7,14 +8,16 @@ use Rattle.std.proofs.lemmas.Option.{none-some}
 use Rattle.list_laws.specs.Lists.{count}
 use Rattle.list_laws.proofs.Places.{count_once-push}
 use Rattle.nested_loop.specs.Plan.{NestPlan}
-use Rattle.nested_loop.specs.Nest.{ComesAfter, IsLegalNest, IsNestPast, Nesting, asked_by, deferred_tasks, depth_of, is_nestable, is_started, nesting_of, next_event, starts, task_ended, was_deferred}
+use Rattle.nested_loop.specs.Nest.{ComesAfter, IsLegalNest, IsNestPast, Nesting, asked_by, deferred_tasks, depth_of, is_nestable}
+use Rattle.nested_loop.specs.Nest.{is_started, nesting_of, next_event, starts, task_ended, was_deferred}
 use Rattle.nested_loop.specs.NestLaws.{DeferredTasksStartInOrder, NestedTasksAreNestable, StartsBehind, TasksAreNested, TasksStartOnce, close_in_order}
 use Rattle.nested_loop.specs.declared.event.Event.{Event}
 use Rattle.nested_loop.specs.declared.event.Event.TheVariants as events
 use Rattle.nested_loop.specs.declared.frame.Frame.{Frame}
 use Rattle.nested_loop.specs.declared.frame.Frame.TheVariants as frames
 use Rattle.nested_loop.proofs.Chosen.{chosen_not_started, chosen_posted, first_deferred_is, front_waits}
-use Rattle.nested_loop.proofs.Comes.{Comes, IsChosen, resumed, waited, nested, act, run, say, post, loop, end, quit, start, defer, comes, part_of_past, past_induction}
+use Rattle.nested_loop.proofs.Comes.{Comes, IsChosen, resumed, waited, nested, act, run, say, post, loop}
+use Rattle.nested_loop.proofs.Comes.{end, quit, start, defer, comes, part_of_past, past_induction}
 
 -- what is known where a task starts
 StartsAs : NestPlan → List Event → Event → Type 0

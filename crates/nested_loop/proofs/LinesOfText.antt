@@ -11,7 +11,7 @@ use Rattle.nested_loop.specs.declared.reader.Reader.{Reader}
 use Rattle.nested_loop.specs.Plan.{NestPlan}
 use Rattle.nested_loop.specs.NestLines.{nest_line_read}
 use Rattle.nested_loop.specs.NestGrammar.{empty_nest, nest_lines_read, nest_read, nest_fault}
-use Rattle.nested_loop.specs.Reader.{TurnsAt}
+use Rattle.nested_loop.specs.Reader.{NestTurnsAt}
 
 -- what the lines from this one on give
 abbrev pub rest_read : NestPlan → ℕ → ℕ → List (List ℕ) → Result NestPlan (ℕ × ℕ)
@@ -44,7 +44,7 @@ whole_text bytes = refl
 -- a fault at a line is the first fault of the text
 pub bad-fault : (fault : NestFault) (reader : Reader) (bytes : List ℕ) (nest : NestPlan) (number i : ℕ) (text : List ℕ)
     → i < length (slice_split (λ b. eqb b 10) bytes) → text ≡ get_or (slice_split (λ b. eqb b 10) bytes) i text
-    → TurnsAt (Err fault) reader (at_line number (nest_line_read nest (strip_carriage_return text)))
+    → NestTurnsAt (Err fault) reader (at_line number (nest_line_read nest (strip_carriage_return text)))
     → rest_read nest number i (slice_split (λ b. eqb b 10) bytes) ≡ nest_lines_read empty_nest 1 (lines_of bytes)
     → (line reason : ℕ) → fault ≡ Bad line reason → nest_fault bytes ≡ Some (line, reason)
 bad-fault (Memory error) reader bytes nest number i text lt is turns rest line reason e = absurd cc

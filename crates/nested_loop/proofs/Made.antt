@@ -1,16 +1,18 @@
 -- What the machine has made at each event: its parts are those that the event leaves.
-use Rattle.std.proofs.Common.{◌≡◌, ◌≢◌, ℕ, ◌+◌, ◌-◌, ◌<◌, ◌≤◌, ◌^◌, length, true, false, cond, eqb, drop, List, [], ◌∷◌, ◌++◌, refl, sym, ap, ◌∙◌, subst, Option, Some, None, arith}
+use Rattle.std.proofs.Common.{◌≡◌, ◌≢◌, ℕ, ◌+◌, ◌-◌, ◌<◌, ◌≤◌, ◌^◌, length, true, false, cond, eqb, drop, List}
+use Rattle.std.proofs.Common.{[], ◌∷◌, ◌++◌, refl, sym, ap, ◌∙◌, subst, Option, Some, None, arith}
 use Rattle.std.specs.Prelude.{◌||◌, slice_get}
 use Rattle.std.specs.List.{AllByRecursion}
 use Rattle.std.specs.Option.{option_map, option_or}
 use Rattle.std.proofs.lemmas.Bool.{eq-eqb, ne_eqb}
 use Rattle.list_laws.proofs.Elements.{AllByRecursion-map}
 use Rattle.nested_loop.specs.Ended.{HasEnded}
-use Rattle.nested_loop.specs.Keeping.{CanPost, CanTake, IsTakenFrom, Keeps}
-use Rattle.nested_loop.specs.Nest.{action_step, after_event, asked_by, deferred_tasks, depth_of, front_task, is_nestable, left, loop_step, nested_step, nesting_of, next_event, outermost_step, step_begun, steps_of, task_ended, task_step}
+use Rattle.nested_loop.specs.Keeping.{CanPostNext, CanTakeNext, IsTakenFrom, KeepsManager}
+use Rattle.nested_loop.specs.Nest.{action_step, after_event, asked_by, deferred_tasks, depth_of, front_task, is_nestable, left, loop_step}
+use Rattle.nested_loop.specs.Nest.{nested_step, nesting_of, next_event, outermost_step, step_begun, steps_of, task_ended, task_step}
 use Rattle.nested_loop.specs.Plan.{NestPlan}
 use Rattle.nested_loop.specs.Room.{events_bound}
-use Rattle.nested_loop.specs.Stands.{IsTaken, Made, Stands}
+use Rattle.nested_loop.specs.Stands.{IsTakenNext, Made, Stands}
 use Rattle.nested_loop.specs.declared.event.Event.{Event}
 use Rattle.nested_loop.specs.declared.event.Event.TheVariants as events
 use Rattle.nested_loop.specs.declared.frame.Frame.{Frame}
@@ -22,7 +24,8 @@ use Rattle.nested_loop.specs.declared.nest.NestStep.TheVariants as steps
 use Rattle.nested_loop.specs.declared.waiting.Waiting.{Waiting}
 use Rattle.nested_loop.proofs.Chosen.{first_deferred_is, front_waits}
 use Rattle.nested_loop.proofs.Comes.{at}
-use Rattle.nested_loop.proofs.Deferrals.{deferred_kept, deferred_less, deferred_more, deferred_same, depth_few, depth_inside, depth_kept, depth_less, depth_more, ended_few}
+use Rattle.nested_loop.proofs.Deferrals.{deferred_kept, deferred_less, deferred_more, deferred_same, depth_few}
+use Rattle.nested_loop.proofs.Deferrals.{depth_inside, depth_kept, depth_less, depth_more, ended_few}
 use Rattle.nested_loop.proofs.Kept.{keeps_resumed, keeps_still}
 use Rattle.nested_loop.proofs.Known.{past_within}
 use Rattle.nested_loop.proofs.MainScript.{events_few}
@@ -52,13 +55,13 @@ module _ (nest : NestPlan) (past : List Event) (m : Machine) (stands : Stands ne
       more (frames.Loop bound ended) h = let few = past_few in omega (arith, h, few)
       more (frames.Task task begun) h = tt
 
-  pub can_take : length past < events_bound nest → CanTake nest past m.waiting
+  pub can_take : length past < events_bound nest → CanTakeNext nest past m.waiting
   can_take room = record { sound = stands.sound; is_past = stands.is_past; keeps = stands.waiting; room = room }
 
   -- what waits, after an event that neither posts nor takes
   still : (event : Event) → ((place : ℕ) → Rattle.nested_loop.specs.Nest.posted_by place event ≡ [])
       → ((t : ℕ) → (Rattle.nested_loop.specs.Nest.defers t event || Rattle.nested_loop.specs.Nest.starts t event) ≡ false)
-      → Keeps nest (past ++ event ∷ []) m.waiting
+      → KeepsManager nest (past ++ event ∷ []) m.waiting
   still event no_post none = keeps_still nest past event m.waiting no_post none stands.waiting
 
   -- ---- outside of all loops
@@ -70,7 +73,7 @@ module _ (nest : NestPlan) (past : List Event) (m : Machine) (stands : Stands ne
     act_asked : (event : Event) → option_map action_step (slice_get nest.actions m.begun) ≡ Some event → asked_by nest past m.begun m.frames.items ≡ Some event
     act_asked event h = ap (asked_by nest past m.begun) (without_first m.frames.items outside) ∙ h
 
-    pub act_can_post : (task queue : ℕ) → slice_get nest.actions m.begun ≡ Some (actions.Post task queue) → CanPost nest past m.waiting task queue
+    pub act_can_post : (task queue : ℕ) → slice_get nest.actions m.begun ≡ Some (actions.Post task queue) → CanPostNext nest past m.waiting task queue
     act_can_post task queue is = record {
       sound = stands.sound;
       is_past = stands.is_past;
@@ -79,7 +82,7 @@ module _ (nest : NestPlan) (past : List Event) (m : Machine) (stands : Stands ne
     }
 
     pub act_post : (task queue : ℕ) (waiting : Waiting) → slice_get nest.actions m.begun ≡ Some (actions.Post task queue)
-        → Keeps nest (past ++ events.Post task queue ∷ []) waiting
+        → KeepsManager nest (past ++ events.Post task queue ∷ []) waiting
         → Made nest past (events.Post task queue) (record m { begun = m.begun + 1; waiting = waiting })
     act_post task queue waiting is keeps = made nest past (events.Post task queue) m (record m { begun = m.begun + 1; waiting = waiting }) stands (record {
       next = act_asked (events.Post task queue) (ap (option_map action_step) is);
@@ -101,7 +104,7 @@ module _ (nest : NestPlan) (past : List Event) (m : Machine) (stands : Stands ne
         → after.frames.spare + 1 ≡ m.frames.spare → Made nest past (events.Loop 1) after
     act_run bound after is others items spare = made nest past (events.Loop 1) m after stands (record {
       next = act_asked (events.Loop 1) (ap (option_map action_step) is);
-      waiting = subst (Keeps nest (past ++ events.Loop 1 ∷ [])) (sym (ap (λ x. x.waiting) others)) (still (events.Loop 1) (λ place. refl) (λ t. refl));
+      waiting = subst (KeepsManager nest (past ++ events.Loop 1 ∷ [])) (sym (ap (λ x. x.waiting) others)) (still (events.Loop 1) (λ place. refl) (λ t. refl));
       deferred = ap (λ x. x.deferred.items) others ∙ stands.deferred ∙ sym (deferred_kept past (events.Loop 1) (λ t. refl) refl);
       nesting =
           let none = without_first m.frames.items outside in
@@ -155,7 +158,8 @@ module _ (nest : NestPlan) (past : List Event) (m : Machine) (stands : Stands ne
       deferred_spare = omega arith;
     })
 
-    pub task_can_post : (posted queue : ℕ) → slice_get (steps_of nest task) begun ≡ Some (steps.Post posted queue) → CanPost nest past m.waiting posted queue
+    pub task_can_post : (posted queue : ℕ) → slice_get (steps_of nest task) begun ≡ Some (steps.Post posted queue)
+        → CanPostNext nest past m.waiting posted queue
     task_can_post posted queue is = record {
       sound = stands.sound;
       is_past = stands.is_past;
@@ -165,7 +169,7 @@ module _ (nest : NestPlan) (past : List Event) (m : Machine) (stands : Stands ne
 
     pub task_post : (posted queue : ℕ) (opened : Listed Frame) (waiting : Waiting) → slice_get (steps_of nest task) begun ≡ Some (steps.Post posted queue)
         → opened.items ≡ frames.Task task (begun + 1) ∷ left m.frames.items → m.frames.spare ≤ opened.spare
-        → Keeps nest (past ++ events.Post posted queue ∷ []) waiting
+        → KeepsManager nest (past ++ events.Post posted queue ∷ []) waiting
         → Made nest past (events.Post posted queue) (record m { frames = opened; waiting = waiting })
     task_post posted queue opened waiting is items spare keeps = made nest past (events.Post posted queue) m
         (record m { frames = opened; waiting = waiting }) stands (record {
@@ -185,7 +189,7 @@ module _ (nest : NestPlan) (past : List Event) (m : Machine) (stands : Stands ne
     task_loop bound opened after is items spare others entered less =
         subst (λ d. Made nest past (events.Loop (d + 1)) after) (sym stands.depth) (made nest past (events.Loop (depth_of past + 1)) m after stands (record {
           next = task_asked (Some (steps.Loop bound)) is;
-          waiting = subst (Keeps nest (past ++ events.Loop (depth_of past + 1) ∷ [])) (sym (ap (λ x. x.waiting) others))
+          waiting = subst (KeepsManager nest (past ++ events.Loop (depth_of past + 1) ∷ [])) (sym (ap (λ x. x.waiting) others))
               (still (events.Loop (depth_of past + 1)) (λ place. refl) (λ t. refl));
           deferred = ap (λ x. x.deferred.items) others ∙ stands.deferred ∙ sym (deferred_kept past (events.Loop (depth_of past + 1)) (λ t. refl) refl);
           nesting =
@@ -242,7 +246,7 @@ module _ (nest : NestPlan) (past : List Event) (m : Machine) (stands : Stands ne
         (ne_eqb (depth_of past) 1 (λ one. deep (stands.depth ∙ one)))
 
     -- the loop quits, where what waits and what is deferred are as they were
-    quits : (after : Machine) → loop_step nest past bound ended ≡ events.Quit (depth_of past) → Keeps nest past after.waiting
+    quits : (after : Machine) → loop_step nest past bound ended ≡ events.Quit (depth_of past) → KeepsManager nest past after.waiting
         → after.deferred.items ≡ deferred_tasks past → after.deferred.spare ≡ m.deferred.spare → after.begun ≡ m.begun → after.depth ≡ m.depth - 1
         → after.frames.items ≡ left m.frames.items → m.frames.spare ≤ after.frames.spare → Made nest past (events.Quit m.depth) after
     quits after asks keeps deferred_is deferred_spare begun_is depth_is items spare =
@@ -258,11 +262,11 @@ module _ (nest : NestPlan) (past : List Event) (m : Machine) (stands : Stands ne
 
     pub quits_full : (after : Machine) → ended ≡ bound → after ≡ record m { frames = after.frames; depth = m.depth - 1 }
         → after.frames.items ≡ left m.frames.items → m.frames.spare ≤ after.frames.spare → Made nest past (events.Quit m.depth) after
-    quits_full after same others items spare = quits after (full same) (subst (Keeps nest past) (sym (ap (λ x. x.waiting) others)) stands.waiting)
+    quits_full after same others items spare = quits after (full same) (subst (KeepsManager nest past) (sym (ap (λ x. x.waiting) others)) stands.waiting)
         (ap (λ x. x.deferred.items) others ∙ stands.deferred) (ap (λ x. x.deferred.spare) others) (ap (λ x. x.begun) others)
         (ap (λ x. x.depth) others) items spare
 
-    pub quits_outermost : (taken after : Machine) → ended ≢ bound → m.depth ≡ 1 → IsTaken nest past None m taken
+    pub quits_outermost : (taken after : Machine) → ended ≢ bound → m.depth ≡ 1 → IsTakenNext nest past None m taken
         → after ≡ record taken { frames = after.frames; depth = taken.depth - 1 } → after.frames.items ≡ left taken.frames.items
         → taken.frames.spare ≤ after.frames.spare → Made nest past (events.Quit taken.depth) after
     quits_outermost taken after other one is others items spare =
@@ -272,21 +276,21 @@ module _ (nest : NestPlan) (past : List Event) (m : Machine) (stands : Stands ne
         let at_spare : m.frames.spare ≤ after.frames.spare = subst (λ f. f.spare ≤ after.frames.spare) same_frames spare in
         subst (λ d. Made nest past (events.Quit d) after) (sym same_depth) (quits after
         (outermost other one ∙ ap outermost_step (sym is.is) ∙ ap events.Quit (sym one ∙ stands.depth))
-        (subst (Keeps nest past) (sym (ap (λ x. x.waiting) others)) kept.0)
+        (subst (KeepsManager nest past) (sym (ap (λ x. x.waiting) others)) kept.0)
         (ap (λ x. x.deferred.items) others ∙ kept.1) (ap (λ x. x.deferred.spare) others ∙ is.spare)
         (ap (λ x. x.begun) others ∙ ap (λ x. x.begun) is.others) (ap (λ x. x.depth) others ∙ ap (λ d. d - 1) same_depth)
         (items ∙ ap (λ f. left f.items) same_frames) at_spare)
 
-    pub quits_nested : (waiting : Waiting) (after : Machine) → ended ≢ bound → m.depth ≢ 1 → None ≡ front_task nest past → Keeps nest past waiting
+    pub quits_nested : (waiting : Waiting) (after : Machine) → ended ≢ bound → m.depth ≢ 1 → None ≡ front_task nest past → KeepsManager nest past waiting
         → after ≡ record m { waiting = waiting; frames = after.frames; depth = m.depth - 1 } → after.frames.items ≡ left m.frames.items
         → m.frames.spare ≤ after.frames.spare → Made nest past (events.Quit m.depth) after
     quits_nested waiting after other deep none keeps others items spare = quits after (nested other deep ∙ ap (nested_step nest (depth_of past)) (sym none))
-        (subst (Keeps nest past) (sym (ap (λ x. x.waiting) others)) keeps) (ap (λ x. x.deferred.items) others ∙ stands.deferred)
+        (subst (KeepsManager nest past) (sym (ap (λ x. x.waiting) others)) keeps) (ap (λ x. x.deferred.items) others ∙ stands.deferred)
         (ap (λ x. x.deferred.spare) others) (ap (λ x. x.begun) others) (ap (λ x. x.depth) others) items spare
 
     -- a task starts
     starts_with : (task : ℕ) (after : Machine) → loop_step nest past bound ended ≡ events.Start task (depth_of past)
-        → Keeps nest (past ++ events.Start task (depth_of past) ∷ []) after.waiting
+        → KeepsManager nest (past ++ events.Start task (depth_of past) ∷ []) after.waiting
         → after.deferred.items ≡ deferred_tasks (past ++ events.Start task (depth_of past) ∷ []) → after.deferred.spare ≡ m.deferred.spare
         → after.begun ≡ m.begun → after.depth ≡ m.depth → after.frames.items ≡ frames.Task task 0 ∷ m.frames.items
         → after.frames.spare + 1 ≡ m.frames.spare → Made nest past (events.Start task m.depth) after
@@ -301,7 +305,7 @@ module _ (nest : NestPlan) (past : List Event) (m : Machine) (stands : Stands ne
           deferred_spare = omega (arith, deferred_spare);
         }))
 
-    pub starts_outermost : (task : ℕ) (taken after : Machine) → ended ≢ bound → m.depth ≡ 1 → IsTaken nest past (Some task) m taken
+    pub starts_outermost : (task : ℕ) (taken after : Machine) → ended ≢ bound → m.depth ≡ 1 → IsTakenNext nest past (Some task) m taken
         → after ≡ record taken { frames = after.frames } → after.frames.items ≡ frames.Task task 0 ∷ taken.frames.items
         → after.frames.spare + 1 ≡ taken.frames.spare → Made nest past (events.Start task taken.depth) after
     starts_outermost task taken after other one is others items spare =
@@ -309,8 +313,8 @@ module _ (nest : NestPlan) (past : List Event) (m : Machine) (stands : Stands ne
         let same_frames = ap (λ x. x.frames) is.others in
         subst (λ d. Made nest past (events.Start task d) after) (sym (ap (λ x. x.depth) is.others)) (starts_with task after
         (outermost other one ∙ ap outermost_step (sym is.is) ∙ ap (events.Start task) (sym depth_one))
-        (subst (λ d. Keeps nest (past ++ events.Start task d ∷ []) after.waiting) (sym depth_one)
-        (subst (Keeps nest (past ++ events.Start task 1 ∷ [])) (sym (ap (λ x. x.waiting) others)) (is.waiting task refl)))
+        (subst (λ d. KeepsManager nest (past ++ events.Start task d ∷ []) after.waiting) (sym depth_one)
+        (subst (KeepsManager nest (past ++ events.Start task 1 ∷ [])) (sym (ap (λ x. x.waiting) others)) (is.waiting task refl)))
         (ap (λ x. x.deferred.items) others ∙ is.deferred task refl ∙ ap (λ d. deferred_tasks (past ++ events.Start task d ∷ [])) (sym depth_one))
         (ap (λ x. x.deferred.spare) others ∙ is.spare)
         (ap (λ x. x.begun) others ∙ ap (λ x. x.begun) is.others) (ap (λ x. x.depth) others ∙ ap (λ x. x.depth) is.others)
@@ -322,7 +326,7 @@ module _ (nest : NestPlan) (past : List Event) (m : Machine) (stands : Stands ne
         → after.frames.spare + 1 ≡ m.frames.spare → Made nest past (events.Start task m.depth) after
     starts_nested task waiting after other deep front may takes others items spare = starts_with task after
         (nested other deep ∙ ap (nested_step nest (depth_of past)) (sym front) ∙ ap (λ b. cond b (events.Start task (depth_of past)) (events.Defer task)) may)
-        (subst (Keeps nest (past ++ events.Start task (depth_of past) ∷ [])) (sym (ap (λ x. x.waiting) others))
+        (subst (KeepsManager nest (past ++ events.Start task (depth_of past) ∷ [])) (sym (ap (λ x. x.waiting) others))
         (takes (events.Start task (depth_of past)) (eq-eqb task task refl)))
         (ap (λ x. x.deferred.items) others ∙ stands.deferred
         ∙ sym (deferred_same past task (depth_of past) (front_waits nest past task (sym front)).not_deferred))
@@ -348,14 +352,14 @@ module _ (nest : NestPlan) (past : List Event) (m : Machine) (stands : Stands ne
   -- ---- the outermost loop's next task
 
   pub takes_deferred : (task : ℕ) (rest : Listed ℕ) → Some task ≡ slice_get m.deferred.items 0 → rest.items ≡ drop 1 m.deferred.items
-      → rest.spare ≡ m.deferred.spare → IsTaken nest past (Some task) m (record m { deferred = rest })
+      → rest.spare ≡ m.deferred.spare → IsTakenNext nest past (Some task) m (record m { deferred = rest })
   takes_deferred task rest first items spare =
       let is_first : slice_get (deferred_tasks past) 0 ≡ Some task = sym (first ∙ ap (λ ts. slice_get ts 0) stands.deferred) in
       record {
         is = ap (λ o. option_or o (front_task nest past)) (sym is_first);
         others = refl;
         spare = spare;
-        waiting = λ t same. subst (λ u. Keeps nest (past ++ events.Start u 1 ∷ []) m.waiting) (Rattle.list_laws.proofs.Values.some-injective same)
+        waiting = λ t same. subst (λ u. KeepsManager nest (past ++ events.Start u 1 ∷ []) m.waiting) (Rattle.list_laws.proofs.Values.some-injective same)
             (keeps_resumed nest past task 1 m.waiting (first_deferred_is past task is_first).0 stands.waiting);
         deferred = λ t same. subst (λ u. rest.items ≡ deferred_tasks (past ++ events.Start u 1 ∷ [])) (Rattle.list_laws.proofs.Values.some-injective same)
             (items ∙ ap (drop 1) stands.deferred ∙ sym (deferred_less nest past task 1 stands.is_past is_first));
@@ -364,7 +368,7 @@ module _ (nest : NestPlan) (past : List Event) (m : Machine) (stands : Stands ne
 
   pub takes_front : (task : Option ℕ) (rest : Listed ℕ) (waiting : Waiting) → None ≡ slice_get m.deferred.items 0 → rest.items ≡ drop 1 m.deferred.items
       → rest.spare ≡ m.deferred.spare → task ≡ front_task nest past → IsTakenFrom nest past task waiting
-      → IsTaken nest past task m (record m { deferred = rest; waiting = waiting })
+      → IsTakenNext nest past task m (record m { deferred = rest; waiting = waiting })
   takes_front task rest waiting none items spare front takes =
       let is_none : slice_get (deferred_tasks past) 0 ≡ None = sym (none ∙ ap (λ ts. slice_get ts 0) stands.deferred) in
       let same : rest.items ≡ deferred_tasks past = items ∙ ap (drop 1) stands.deferred ∙ empty (deferred_tasks past) is_none in

@@ -1,5 +1,6 @@
 -- The script of a sound nest is one that the manager of the main queues can be made with.
-use Rattle.std.proofs.Common.{◌≡◌, ℕ, zero, suc, ◌+◌, ◌*◌, ◌<◌, ◌≤◌, ◌^◌, length, List, [], ◌∷◌, ◌++◌, map, refl, sym, ap, subst, Option, Some, None, arith, length-append}
+use Rattle.std.proofs.Common.{◌≡◌, ℕ, zero, suc, ◌+◌, ◌*◌, ◌<◌, ◌≤◌, ◌^◌, length, List, [], ◌∷◌, ◌++◌}
+use Rattle.std.proofs.Common.{map, refl, sym, ap, subst, Option, Some, None, arith, length-append}
 use Rattle.std.specs.Prelude.{slice_get, flat_map, sum_by, Contains}
 use Rattle.std.specs.List.{AllByRecursion, cons_option, filter_map}
 use Rattle.std.specs.Option.{IfSome}
@@ -17,7 +18,7 @@ use Rattle.nested_loop.specs.Nest.{Nesting, nesting_of, next_event}
 use Rattle.nested_loop.specs.Plan.{NestPlan, NestTaskPlan}
 use Rattle.nested_loop.specs.Room.{events_bound}
 use Rattle.nested_loop.specs.Sound.{IsNestActionSound, IsNestStepSound, IsSoundNest}
-use Rattle.nested_loop.specs.Waiting.{main_of_action, main_of_step, main_of_task, queue_of_class, script_of}
+use Rattle.nested_loop.specs.Waiting.{main_of_action, main_of_step, main_of_task, queue_of_class, nest_script}
 use Rattle.nested_loop.specs.declared.event.Event.{Event}
 use Rattle.nested_loop.specs.declared.event.Event.TheVariants as events
 use Rattle.nested_loop.specs.declared.nest.NestAction.{NestAction}
@@ -64,11 +65,11 @@ no_steps (task ∷ tasks) = no_steps tasks
 
 length-filter_map : {A B : Type 0} (f : A → Option B) (xs : List A) → length (filter_map f xs) ≤ length xs
 length-filter_map f [] = omega arith
-length-filter_map {B = B} f (x ∷ xs) = by (f x) (length-filter_map f xs)
+length-filter_map {B = B} f (x ∷ xs) = by_image (f x) (length-filter_map f xs)
   where
-    by : (o : Option B) → length (filter_map f xs) ≤ length xs → length (cons_option o (filter_map f xs)) ≤ length (x ∷ xs)
-    by None h = omega (arith, h)
-    by (Some y) h = omega (arith, h)
+    by_image : (o : Option B) → length (filter_map f xs) ≤ length xs → length (cons_option o (filter_map f xs)) ≤ length (x ∷ xs)
+    by_image None h = omega (arith, h)
+    by_image (Some y) h = omega (arith, h)
 
 one_of_action : (acts : List NestAction) → length (flat_map main_of_action acts) ≤ length acts
 one_of_action [] = omega arith
@@ -90,7 +91,7 @@ few_of_tasks (task ∷ tasks) =
     let all = sum_by-cons {X = NestTaskPlan} (λ task. length task.steps) task tasks in
     omega (arith, rest, here, both, all)
 
-pub is_main_script : (nest : NestPlan) → IsSoundNest nest → IsMainScript (script_of nest)
+pub is_main_script : (nest : NestPlan) → IsSoundNest nest → IsMainScript (nest_script nest)
 unfolding main_postings
 is_main_script nest sound = record {
   queues_fit = subst (λ n. n ≤ MOST_QUEUES) (sym (length-map nest.classes queue_of_class)) sound.limits.few_queues;
@@ -125,7 +126,7 @@ in_lists f (z ∷ zs) (suc i) x y is within = Contains-append_right (f z) (flat_
 
 -- what is posted next is one of the script's posts
 pub posted_to : (nest : NestPlan) (past : List Event) (task queue : ℕ) → next_event nest past ≡ Some (events.Post task queue)
-    → IsPostedTo (script_of nest) task queue
+    → IsPostedTo (nest_script nest) task queue
 unfolding main_postings
 posted_to nest past task queue next =
     Contains-append_right (postings_of_tasks (map (λ t. []) nest.tasks))

@@ -2,7 +2,7 @@
 use Rattle.std.proofs.Common.{◌≡◌, ◌+◌, ◌<◌, ◌≤◌, length, List, [], ◌∷◌, ◌++◌, refl, sym, ap, ◌∙◌, Some, None, arith, length-append}
 use Rattle.std.specs.Prelude.{slice_get}
 use Rattle.std.proofs.lemmas.Option.{none-some, same_Some}
-use Rattle.nested_loop.specs.Keeping.{Keeps}
+use Rattle.nested_loop.specs.Keeping.{KeepsManager}
 use Rattle.nested_loop.specs.Nest.{after_event, asked_by, deferred_tasks, depth_of, left, nesting_of, next_event}
 use Rattle.nested_loop.specs.Plan.{NestPlan}
 use Rattle.nested_loop.specs.Room.{events_bound}
@@ -36,7 +36,7 @@ asked nest past machine stands = ap (λ now. asked_by nest past now.begun now.fr
 -- what the machine has made, where its parts are those that the event leaves
 pub record Parts (nest : NestPlan) (past : List Event) (event : Event) (before after : Machine) : Type 0 where
   pub next : asked_by nest past before.begun before.frames.items ≡ Some event
-  pub waiting : Keeps nest (past ++ event ∷ []) after.waiting
+  pub waiting : KeepsManager nest (past ++ event ∷ []) after.waiting
   pub deferred : after.deferred.items ≡ deferred_tasks (past ++ event ∷ [])
   pub nesting : at after.begun after.frames.items ≡ after_event nest (at before.begun before.frames.items) event
   pub depth : after.depth ≡ depth_of (past ++ event ∷ [])

@@ -1,5 +1,6 @@
 -- The steps of a line, read one after the other, as a loop does.
-use Rattle.std.proofs.Common.{◌≡◌, ℕ, ◌+◌, ◌<◌, Bool, true, false, eqb, List, [], ◌∷◌, ◌++◌, length, get_or, drop, map, refl, Option, Some, None, arith, add-one, drop-cons, append_assoc}
+use Rattle.std.proofs.Common.{◌≡◌, ℕ, ◌+◌, ◌<◌, Bool, true, false, eqb, List, [], ◌∷◌, ◌++◌, length, get_or, drop}
+use Rattle.std.proofs.Common.{map, refl, Option, Some, None, arith, add-one, drop-cons, append_assoc}
 use Rattle.std.specs.List.{slice_split, onto_first}
 use Rattle.std.specs.Borrow.{Bor}
 use Rattle.std.proofs.lemmas.List.{append-nil, drop_all}
@@ -18,12 +19,12 @@ onto_first-map f x (part ∷ parts) = refl
 -- what is made of the parts are the parts of what is made
 pub slice_split-map : {A B : Type 0} (p : B → Bool) (f : A → B) (xs : List A) → slice_split p (map f xs) ≡ map (map f) (slice_split (λ x. p (f x)) xs)
 slice_split-map p f [] = refl
-slice_split-map p f (x ∷ xs) = by (p (f x)) refl (slice_split-map p f xs)
+slice_split-map p f (x ∷ xs) = by_test (p (f x)) refl (slice_split-map p f xs)
   where
-    by : (b : Bool) → p (f x) ≡ b → slice_split p (map f xs) ≡ map (map f) (slice_split (λ y. p (f y)) xs)
+    by_test : (b : Bool) → p (f x) ≡ b → slice_split p (map f xs) ≡ map (map f) (slice_split (λ y. p (f y)) xs)
         → slice_split p (map f (x ∷ xs)) ≡ map (map f) (slice_split (λ y. p (f y)) (x ∷ xs))
-    by true e rest = rw (e, rest) refl
-    by false e rest = rw (e, rest) (onto_first-map f x (slice_split (λ y. p (f y)) xs))
+    by_test true e rest = rw (e, rest) refl
+    by_test false e rest = rw (e, rest) (onto_first-map f x (slice_split (λ y. p (f y)) xs))
 
 -- ---- steps behind steps
 

@@ -42,10 +42,10 @@ record Keeps (script : Plan) (entries : List Entry) (kind : Kind) : Type 0 where
   draws_posted : map (λ o. o.posted) (drawing_by entries kind) ≡ main_posted_by entries kind
 
 keeps : (script : Plan) (entries : List Entry) (kind : Kind) → is_plain kind ≡ true → Keeps script entries kind
-keeps script entries (kinds.Main task queue delay ok) h = by delay ok (eqb-true delay 0 (and_parts (eqb delay 0) ok h).0) (and_parts (eqb delay 0) ok h).1
+keeps script entries (kinds.Main task queue delay ok) h = by_delay delay ok (eqb-true delay 0 (and_parts (eqb delay 0) ok h).0) (and_parts (eqb delay 0) ok h).1
   where
-    by : (d : ℕ) (b : Bool) → d ≡ 0 → b ≡ true → Keeps script entries (kinds.Main task queue d b)
-    by d b zero accepted = subst (λ n. Keeps script entries (kinds.Main task queue n b)) (sym zero)
+    by_delay : (d : ℕ) (b : Bool) → d ≡ 0 → b ≡ true → Keeps script entries (kinds.Main task queue d b)
+    by_delay d b zero accepted = subst (λ n. Keeps script entries (kinds.Main task queue n b)) (sym zero)
         (subst (λ c. Keeps script entries (kinds.Main task queue 0 c)) (sym accepted) (record {
           closes_none = λ q. refl;
           fences_none = λ q. refl;
@@ -75,11 +75,11 @@ keeps script entries kind h = absurd (true≢false (sym h))
 none_delayed : (entries : List Entry) → AllByRecursion (λ p. is_delayed p ≡ false) (main_posts entries) → (t : ℕ) → is_delayed_task entries t ≡ false
 none_delayed entries all t = list_any_none (λ p. eqb p.task t && is_delayed p) (main_posts entries)
     (Rattle.list_laws.proofs.Elements.AllByRecursion-map (λ p. is_delayed p ≡ false) (λ p. (eqb p.task t && is_delayed p) ≡ false) (main_posts entries)
-    (λ p none. by (eqb p.task t) (is_delayed p) none) all)
+    (λ p none. by_task (eqb p.task t) (is_delayed p) none) all)
   where
-    by : (a b : Bool) → b ≡ false → (a && b) ≡ false
-    by true b none = none
-    by false b none = refl
+    by_task : (a b : Bool) → b ≡ false → (a && b) ≡ false
+    by_task true b none = none
+    by_task false b none = refl
 
 plain_grows : (script : Plan) (entries : List Entry) (e : Entry) → IsPlain script entries → is_plain e.kind ≡ true → IsPlain script (entries ++ e ∷ [])
 plain_grows script entries e plain h =

@@ -6,7 +6,7 @@ use Rattle.std.proofs.lemmas.List.{append-nil}
 use Rattle.std.proofs.lemmas.List.Concat.{flat_map-cons}
 use Rattle.script_model.specs.Draft.{is_any_posted}
 use Rattle.nested_loop.specs.declared.nest.NestStep.{NestStep}
-use Rattle.nested_loop.specs.Sound.{posts_of_step}
+use Rattle.nested_loop.specs.Sound.{posts_of_nest_step}
 
 -- only which tasks were posted matters, not their order
 is_any_posted-same : (xs ys new : List ℕ) → ((t : ℕ) → list_any (λ posted. eqb posted t) xs ≡ list_any (λ posted. eqb posted t) ys)
@@ -39,17 +39,17 @@ is_any_posted_append earlier (t ∷ new) more = rw (
 
 -- the posts of the steps from this one on
 rest-cons : (steps : List NestStep) (i : ℕ) (d : NestStep) → i < length steps
-    → flat_map posts_of_step (drop i steps) ≡ posts_of_step (get_or steps i d) ++ flat_map posts_of_step (drop (i + 1) steps)
-rest-cons steps i d lt = rw (add-one, drop-cons steps i d) (flat_map-cons posts_of_step (get_or steps i d) (drop (suc i) steps))
+    → flat_map posts_of_nest_step (drop i steps) ≡ posts_of_nest_step (get_or steps i d) ++ flat_map posts_of_nest_step (drop (i + 1) steps)
+rest-cons steps i d lt = rw (add-one, drop-cons steps i d) (flat_map-cons posts_of_nest_step (get_or steps i d) (drop (suc i) steps))
 
 -- the posts of a step, none of which was posted, move behind the earlier ones
 pub noted-more : (earlier now : List ℕ) (steps : List NestStep) (i : ℕ) (d : NestStep) → i < length steps
-    → is_any_posted earlier (posts_of_step (get_or steps i d)) ≡ false → now ≡ earlier ++ posts_of_step (get_or steps i d)
-    → (is_any_posted now (flat_map posts_of_step (drop (i + 1) steps)) ≡ is_any_posted earlier (flat_map posts_of_step (drop i steps)))
-    × (now ++ flat_map posts_of_step (drop (i + 1) steps) ≡ earlier ++ flat_map posts_of_step (drop i steps))
+    → is_any_posted earlier (posts_of_nest_step (get_or steps i d)) ≡ false → now ≡ earlier ++ posts_of_nest_step (get_or steps i d)
+    → (is_any_posted now (flat_map posts_of_nest_step (drop (i + 1) steps)) ≡ is_any_posted earlier (flat_map posts_of_nest_step (drop i steps)))
+    × (now ++ flat_map posts_of_nest_step (drop (i + 1) steps) ≡ earlier ++ flat_map posts_of_nest_step (drop i steps))
 noted-more earlier now steps i d lt fresh is =
-    let here = posts_of_step (get_or steps i d) in
-    let behind = flat_map posts_of_step (drop (i + 1) steps) in (
+    let here = posts_of_nest_step (get_or steps i d) in
+    let behind = flat_map posts_of_nest_step (drop (i + 1) steps) in (
       rw (rest-cons steps i d lt, is, is_any_posted_append earlier here behind, fresh) refl,
       rw (rest-cons steps i d lt, is) (append_assoc earlier here behind),
     )

@@ -11,7 +11,8 @@ use Rattle.nested_loop.specs.declared.nest.NestAction.TheVariants as actions
 use Rattle.nested_loop.specs.declared.line.NestLine.{NestLine}
 use Rattle.nested_loop.specs.declared.line.NestLine.TheVariants.{Nothing, Queue, Task, Act}
 use Rattle.nested_loop.specs.Sound.{IsLoopBound}
-use Rattle.nested_loop.specs.NestWords.{◌>>=◌, within, number_in, id_of, say_said, posting_said, bound_said, step_named, step_said, is_mark, all_said, steps_said, nestable_named, queue_said, task_said, plain_said, command_said, words_said, line_said}
+use Rattle.nested_loop.specs.NestWords.{◌>>=◌, within, number_in, id_of, say_said, posting_said, bound_said, step_named, step_said, is_mark, all_said}
+use Rattle.nested_loop.specs.NestWords.{steps_said, nestable_named, queue_said, task_said, nest_plain_said, command_said, nest_words_said, nest_line_said}
 
 -- ---- what is in its range
 
@@ -54,12 +55,12 @@ either P false x y h k = k
 
 in_range : (low high : ℕ) (o : Option ℕ) → IfSome (within low high o) (λ n. (low ≤ n) × (n ≤ high))
 in_range low high None = tt
-in_range low high (Some n) = by (leb low n) refl (leb n high) refl
+in_range low high (Some n) = by_order (leb low n) refl (leb n high) refl
   where
-    by : (b : Bool) → leb low n ≡ b → (c : Bool) → leb n high ≡ c → IfSome (cond (b && c) (Some n) None) (λ m. (low ≤ m) × (m ≤ high))
-    by true lower true upper = (grind (arith, nat_tests), grind (arith, nat_tests))
-    by true lower false upper = tt
-    by false lower c upper = tt
+    by_order : (b : Bool) → leb low n ≡ b → (c : Bool) → leb n high ≡ c → IfSome (cond (b && c) (Some n) None) (λ m. (low ≤ m) × (m ≤ high))
+    by_order true lower true upper = (grind (arith, nat_tests), grind (arith, nat_tests))
+    by_order true lower false upper = tt
+    by_order false lower c upper = tt
 
 number_in-within : (low high : ℕ) (word : List ℕ) → IfSome (number_in low high word) (λ n. (low ≤ n) × (n ≤ high))
 unfolding number_in
@@ -122,14 +123,14 @@ task_within (number ∷ kind ∷ words) =
 command_within : (name : List ℕ) (words : List (List ℕ)) → IfSome (command_said name words) IsLineWithin
 unfolding command_said
 command_within name words =
-    either IsLineWithin (is_word name (codes "task")) _ (plain_said name words) (task_within words)
+    either IsLineWithin (is_word name (codes "task")) _ (nest_plain_said name words) (task_within words)
     (either IsLineWithin (is_word name (codes "queue")) _ _ (queue_within words)
     (either IsLineWithin (is_word name (codes "post")) _ _ (made (λ _. Unit {0}) IsLineWithin (posting_said words) _ (any (posting_said words)) (λ p h. tt))
     (either IsLineWithin (is_word name (codes "run")) _ None (made IsLoopBound IsLineWithin (bound_said words) _ (bound_within words) (λ n h. h)) tt)))
 
-words_within : (words : List (List ℕ)) → IfSome (words_said words) IsLineWithin
+words_within : (words : List (List ℕ)) → IfSome (nest_words_said words) IsLineWithin
 words_within [] = tt
 words_within (name ∷ words) = either IsLineWithin (begins_comment name) (Some Nothing) (command_said name words) tt (command_within name words)
 
-pub line_within : (line : List ℕ) → IfSome (line_said line) IsLineWithin
+pub line_within : (line : List ℕ) → IfSome (nest_line_said line) IsLineWithin
 line_within line = words_within (words_of line)

@@ -1,5 +1,6 @@
 -- Every nest that is read is sound: each line keeps it so.
-use Rattle.std.proofs.Common.{◌≡◌, ℕ, ◌+◌, ◌<◌, ◌≤◌, true, eqb, List, [], ◌∷◌, ◌++◌, length, refl, sym, subst, inl, inr, Option, Some, None, Result, Ok, Err, arith}
+use Rattle.std.proofs.Common.{◌≡◌, ℕ, ◌+◌, ◌<◌, ◌≤◌, true, eqb, List, [], ◌∷◌, ◌++◌, length, refl}
+use Rattle.std.proofs.Common.{sym, subst, inl, inr, Option, Some, None, Result, Ok, Err, arith}
 use Rattle.std.specs.Prelude.{not, nat_lt, flat_map, IfSome}
 use Rattle.std.specs.List.{list_all, AllByRecursion}
 use Rattle.std.proofs.lemmas.Bool.{and_parts, ltb-false, ltb-true, not-false}
@@ -25,10 +26,11 @@ use Rattle.nested_loop.specs.declared.nest.NestAction.{NestAction}
 use Rattle.nested_loop.specs.declared.nest.NestAction.TheVariants as actions
 use Rattle.nested_loop.specs.declared.line.NestLine.{NestLine}
 use Rattle.nested_loop.specs.declared.line.NestLine.TheVariants.{Nothing, Queue, Task, Act}
-use Rattle.nested_loop.specs.Sound.{posts_of_task, posts_of_action, nest_postings, steps_in, IsNestStepSound, IsNestActionSound, IsSoundNest}
-use Rattle.nested_loop.specs.NestReasons.{out_of_order, undeclared, posted_twice, late, too_many}
-use Rattle.nested_loop.specs.NestWords.{line_said}
-use Rattle.nested_loop.specs.NestLines.{has_no_actions, are_declared, is_declared_step, is_declared_action, queue_added, task_added, action_added, added, nest_line_read}
+use Rattle.nested_loop.specs.Sound.{posts_of_task, posts_of_nest_action, nest_postings, nest_steps_in, IsNestStepSound, IsNestActionSound, IsSoundNest}
+use Rattle.nested_loop.specs.NestReasons.{nest_out_of_order, nest_undeclared, nest_posted_twice, late, nest_too_many}
+use Rattle.nested_loop.specs.NestWords.{nest_line_said}
+use Rattle.nested_loop.specs.NestLines.{nest_has_no_actions, are_declared, is_declared_step, is_declared_action}
+use Rattle.nested_loop.specs.NestLines.{queue_added, task_added, action_added, added, nest_line_read}
 use Rattle.nested_loop.specs.NestGrammar.{empty_nest, nest_lines_read, nest_read, ReadsNest}
 use Rattle.nested_loop.proofs.Ranges.{IsStepWithin, IsActionWithin, IsLineWithin, line_within}
 
@@ -81,8 +83,8 @@ no_actions nest all none = rw (nothing all none) tt
 
 -- how often a nest posts a task
 times_parts : (nest : NestPlan) (t : ℕ)
-    → times t (nest_postings nest) ≡ times t (flat_map posts_of_task nest.tasks) + times t (flat_map posts_of_action nest.actions)
-times_parts nest t = count-append (λ u. eqb u t) (flat_map posts_of_task nest.tasks) (flat_map posts_of_action nest.actions)
+    → times t (nest_postings nest) ≡ times t (flat_map posts_of_task nest.tasks) + times t (flat_map posts_of_nest_action nest.actions)
+times_parts nest t = count-append (λ u. eqb u t) (flat_map posts_of_task nest.tasks) (flat_map posts_of_nest_action nest.actions)
 
 -- ---- what one line adds
 
@@ -90,8 +92,8 @@ with_queue : (nest : NestPlan) (number class : ℕ) (next : NestPlan) → class 
 unfolding queue_added
 with_queue nest number class next within sound e =
     let made = record nest { classes = nest.classes ++ class ∷ [] } in
-    let passed = behind_ok ((not (eqb number (length nest.classes)), out_of_order) ∷ (not (has_no_actions nest), late)
-    ∷ (nat_lt MOST_QUEUES (length nest.classes + 1), too_many) ∷ []) (Ok made) next e in
+    let passed = behind_ok ((not (eqb number (length nest.classes)), nest_out_of_order) ∷ (not (nest_has_no_actions nest), late)
+    ∷ (nat_lt MOST_QUEUES (length nest.classes + 1), nest_too_many) ∷ []) (Ok made) next e in
     let longer = length_push nest.classes class in
     let few = ltb-false MOST_QUEUES (length nest.classes + 1) passed.0.1.1.0 in
     subst IsSoundNest (ok_same {E = ℕ} made next passed.1) (record {
@@ -103,7 +105,7 @@ with_queue nest number class next within sound e =
       };
       classes_within = AllByRecursion-push (λ c. c ≤ 7) nest.classes class sound.classes_within within;
       tasks_sound = λ t task at. steps_stay nest made t (omega (arith, longer)) task.steps (sound.tasks_sound t task at);
-      actions_sound = no_actions made nest.actions (not-false (has_no_actions nest) passed.0.1.0);
+      actions_sound = no_actions made nest.actions (not-false (nest_has_no_actions nest) passed.0.1.0);
       posted_once = sound.posted_once;
     })
 
@@ -112,14 +114,14 @@ with_task : (nest : NestPlan) (number : ℕ) (task : NestTaskPlan) (next : NestP
 unfolding task_added
 with_task nest number task next within sound e =
     let made = record nest { tasks = nest.tasks ++ task ∷ [] } in
-    let passed = behind_ok ((not (eqb number (length nest.tasks)), out_of_order) ∷ (not (list_all (is_declared_step nest) task.steps), undeclared)
-    ∷ (is_any_posted (nest_postings nest) (posts_of_task task), posted_twice) ∷ (not (has_no_actions nest), late)
-    ∷ (nat_lt MOST_NEST_TASKS (length nest.tasks + 1), too_many) ∷ (nat_lt MOST_NEST_STEPS (steps_in nest + length task.steps), too_many) ∷ [])
+    let passed = behind_ok ((not (eqb number (length nest.tasks)), nest_out_of_order) ∷ (not (list_all (is_declared_step nest) task.steps), nest_undeclared)
+    ∷ (is_any_posted (nest_postings nest) (posts_of_task task), nest_posted_twice) ∷ (not (nest_has_no_actions nest), late)
+    ∷ (nat_lt MOST_NEST_TASKS (length nest.tasks + 1), nest_too_many) ∷ (nat_lt MOST_NEST_STEPS (nest_steps_in nest + length task.steps), nest_too_many) ∷ [])
     (Ok made) next e in
     let declared = steps_declared nest task.steps (not-false (list_all (is_declared_step nest) task.steps) passed.0.1.0) within in
     let longer = length_push nest.tasks task in
     let few = ltb-false MOST_NEST_TASKS (length nest.tasks + 1) passed.0.1.1.1.1.0 in
-    let few_steps = ltb-false MOST_NEST_STEPS (steps_in nest + length task.steps) passed.0.1.1.1.1.1.0 in
+    let few_steps = ltb-false MOST_NEST_STEPS (nest_steps_in nest + length task.steps) passed.0.1.1.1.1.1.0 in
     let more_steps = sum_by_push (λ (x : NestTaskPlan). length x.steps) nest.tasks task in
     subst IsSoundNest (ok_same {E = ℕ} made next passed.1) (record {
       limits = record {
@@ -135,7 +137,7 @@ with_task nest number task next within sound e =
             (subst (λ (n : ℕ). AllByRecursion (IsNestStepSound made n) task.steps) (sym new.0)
             (steps_stay nest made (length nest.tasks) (omega arith) task.steps declared))
       ];
-      actions_sound = no_actions made nest.actions (not-false (has_no_actions nest) passed.0.1.1.1.0);
+      actions_sound = no_actions made nest.actions (not-false (nest_has_no_actions nest) passed.0.1.1.1.0);
       posted_once = λ t.
           let fresh = times_fresh (nest_postings nest) (posts_of_task task) t passed.0.1.1.0 (sound.posted_once t) in
           omega (arith, times_parts nest t, times_parts made t, times_push posts_of_task nest.tasks task t, fresh);
@@ -147,9 +149,9 @@ unfolding action_added
 with_action nest action next within sound e =
     let more = nest.actions ++ action ∷ [] in
     let made = record nest { actions = more } in
-    let passed = behind_ok ((not (is_declared_action nest action), undeclared)
-    ∷ (is_any_posted (nest_postings nest) (posts_of_action action), posted_twice)
-    ∷ (nat_lt MOST_NEST_ACTIONS (length nest.actions + 1), too_many) ∷ []) (Ok made) next e in
+    let passed = behind_ok ((not (is_declared_action nest action), nest_undeclared)
+    ∷ (is_any_posted (nest_postings nest) (posts_of_nest_action action), nest_posted_twice)
+    ∷ (nat_lt MOST_NEST_ACTIONS (length nest.actions + 1), nest_too_many) ∷ []) (Ok made) next e in
     let declared = action_declared nest action (not-false (is_declared_action nest action) passed.0.0) within in
     let longer = length_push nest.actions action in
     let few = ltb-false MOST_NEST_ACTIONS (length nest.actions + 1) passed.0.1.1.0 in
@@ -166,8 +168,8 @@ with_action nest action next within sound e =
           (AllByRecursion-map (IsNestActionSound nest) (IsNestActionSound made) nest.actions (action_stays nest more) sound.actions_sound)
           (action_stays nest more action declared);
       posted_once = λ t.
-          let fresh = times_fresh (nest_postings nest) (posts_of_action action) t passed.0.1.0 (sound.posted_once t) in
-          omega (arith, times_parts nest t, times_parts made t, times_push posts_of_action nest.actions action t, fresh);
+          let fresh = times_fresh (nest_postings nest) (posts_of_nest_action action) t passed.0.1.0 (sound.posted_once t) in
+          omega (arith, times_parts nest t, times_parts made t, times_push posts_of_nest_action nest.actions action t, fresh);
     })
 
 -- ---- all lines
@@ -192,7 +194,7 @@ unfolding nest_lines_read
 with_lines nest n [] next sound e = subst IsSoundNest (ok_same {E = ℕ × ℕ} nest next e) sound
 with_lines nest n (line ∷ lines) next sound e =
     let first = first_ok n (nest_line_read nest line) (λ here. nest_lines_read here (n + 1) lines) next e in
-    with_lines first.0 (n + 1) lines next (with_said nest (line_said line) first.0 (line_within line) sound first.1) first.2
+    with_lines first.0 (n + 1) lines next (with_said nest (nest_line_said line) first.0 (line_within line) sound first.1) first.2
 
 -- what no line gives is sound
 empty_sound : IsSoundNest empty_nest

@@ -1,5 +1,6 @@
 -- What a sink took of the text of a log, line after line.
-use Rattle.std.proofs.Common.{◌≡◌, ℕ, ◌+◌, ◌<◌, ◌≤◌, min, List, [], ◌++◌, length, get_or, take, drop, Option, refl, sym, ◌∙◌, arith, add-one, append_assoc, append-nil, drop-cons}
+use Rattle.std.proofs.Common.{◌≡◌, ℕ, ◌+◌, ◌<◌, ◌≤◌, min, List, [], ◌++◌, length, get_or, take, drop, Option}
+use Rattle.std.proofs.Common.{refl, sym, ◌∙◌, arith, add-one, append_assoc, append-nil, drop-cons}
 use Rattle.std.proofs.Math.Seq.{take-append-add}
 use Rattle.std.proofs.lemmas.List.{take_min, take-append-le, drop_all}
 use Rattle.env_io.specs.Bytes.{Gains}

@@ -8,7 +8,7 @@ use Rattle.nested_loop.specs.declared.nest.NestStep.TheVariants as steps
 use Rattle.nested_loop.specs.declared.nest.NestAction.{NestAction}
 use Rattle.nested_loop.specs.declared.nest.NestAction.TheVariants as actions
 use Rattle.nested_loop.specs.Plan.{NestPlan, NestTaskPlan}
-use Rattle.nested_loop.specs.NestReasons.{bad_line, out_of_order, undeclared, posted_twice, late, too_many}
+use Rattle.nested_loop.specs.NestReasons.{bad_nest_line, nest_out_of_order, nest_undeclared, nest_posted_twice, late, nest_too_many}
 use Rattle.nested_loop.specs.NestWords.{number_in, step_named, steps_said, task_said, command_said}
 use Rattle.nested_loop.specs.NestLines.{queue_added, task_added, action_added, added}
 use Rattle.nested_loop.specs.NestGrammar.{empty_nest, nest_lines_read, nest_read, nest_fault}
@@ -75,54 +75,54 @@ plain_texts = refl
 -- ---- each reason
 
 bad_lines : AreRight (
-    bad (codes "run 0") 1 bad_line  -- no tasks
-    ∷ bad (codes "run 16385") 1 bad_line  -- too many tasks
+    bad (codes "run 0") 1 bad_nest_line  -- no tasks
+    ∷ bad (codes "run 16385") 1 bad_nest_line  -- too many tasks
     ∷ good (codes "run 16384")
-    ∷ bad (codes "run") 1 bad_line  -- no number
-    ∷ bad (codes "run 1 1") 1 bad_line  -- a word more
-    ∷ bad (codes "run x") 1 bad_line  -- no digits
-    ∷ bad (codes "run 000000000000000000001") 1 bad_line  -- 21 digits
+    ∷ bad (codes "run") 1 bad_nest_line  -- no number
+    ∷ bad (codes "run 1 1") 1 bad_nest_line  -- a word more
+    ∷ bad (codes "run x") 1 bad_nest_line  -- no digits
+    ∷ bad (codes "run 000000000000000000001") 1 bad_nest_line  -- 21 digits
     ∷ good (codes "run 00000000000000000001")
-    ∷ bad (codes "walk 1") 1 bad_line  -- command
-    ∷ bad (codes "run 1\nrun " ++ 200 ∷ []) 2 bad_line  -- a byte above 127
+    ∷ bad (codes "walk 1") 1 bad_nest_line  -- command
+    ∷ bad (codes "run 1\nrun " ++ 200 ∷ []) 2 bad_nest_line  -- a byte above 127
     ∷ good (codes "# " ++ 255 ∷ codes "\nrun 1")  -- in a comment
-    ∷ bad (codes "queue 0 8") 1 bad_line  -- class
-    ∷ bad (codes "queue 4294967296 0") 1 bad_line  -- number of a queue, before its order
-    ∷ bad (codes "queue 0 1 2") 1 bad_line  -- queues have no voters
-    ∷ bad (codes "task 0") 1 bad_line  -- neither nestable nor deferred
-    ∷ bad (codes "task 0 later") 1 bad_line
+    ∷ bad (codes "queue 0 8") 1 bad_nest_line  -- class
+    ∷ bad (codes "queue 4294967296 0") 1 bad_nest_line  -- number of a queue, before its order
+    ∷ bad (codes "queue 0 1 2") 1 bad_nest_line  -- queues have no voters
+    ∷ bad (codes "task 0") 1 bad_nest_line  -- neither nestable nor deferred
+    ∷ bad (codes "task 0 later") 1 bad_nest_line
     ∷ good (codes "task 0 deferred")  -- no steps
-    ∷ bad (codes "task 0 nestable ;") 1 bad_line  -- bare mark
-    ∷ bad (codes "task 0 nestable say 1 ;") 1 bad_line  -- trailing mark
-    ∷ bad (codes "task 0 nestable say 1; say 2") 1 bad_line  -- mark in a word
-    ∷ bad (codes "task 0 nestable ; say 1") 1 bad_line  -- mark in front
-    ∷ bad (codes "task 0 nestable say 1 ; ; say 2") 1 bad_line  -- no step between marks
-    ∷ bad (codes "task 0 nestable say 18446744073709551616") 1 bad_line  -- 65 bits
+    ∷ bad (codes "task 0 nestable ;") 1 bad_nest_line  -- bare mark
+    ∷ bad (codes "task 0 nestable say 1 ;") 1 bad_nest_line  -- trailing mark
+    ∷ bad (codes "task 0 nestable say 1; say 2") 1 bad_nest_line  -- mark in a word
+    ∷ bad (codes "task 0 nestable ; say 1") 1 bad_nest_line  -- mark in front
+    ∷ bad (codes "task 0 nestable say 1 ; ; say 2") 1 bad_nest_line  -- no step between marks
+    ∷ bad (codes "task 0 nestable say 18446744073709551616") 1 bad_nest_line  -- 65 bits
     ∷ good (codes "task 0 nestable say 18446744073709551615")
-    ∷ bad (codes "task 0 nestable loop 0") 1 bad_line
-    ∷ bad (codes "task 0 nestable run 1") 1 bad_line  -- an action is no step
-    ∷ bad (codes "task 0 nestable\nqueue 0 0\npost 0 0 0") 3 bad_line  -- a delay
+    ∷ bad (codes "task 0 nestable loop 0") 1 bad_nest_line
+    ∷ bad (codes "task 0 nestable run 1") 1 bad_nest_line  -- an action is no step
+    ∷ bad (codes "task 0 nestable\nqueue 0 0\npost 0 0 0") 3 bad_nest_line  -- a delay
     ∷ []
     )
 unfolding opened
 bad_lines = refl
 
 orders : AreRight (
-    bad (codes "queue 1 0") 1 out_of_order
-    ∷ bad (codes "queue 0 0\nqueue 0 0") 2 out_of_order
+    bad (codes "queue 1 0") 1 nest_out_of_order
+    ∷ bad (codes "queue 0 0\nqueue 0 0") 2 nest_out_of_order
     ∷ good (codes "task 0 nestable\nqueue 0 0\ntask 1 deferred\nqueue 1 0")  -- each sort by itself
-    ∷ bad (codes "task 1 nestable post 5 5") 1 out_of_order  -- before undeclared
+    ∷ bad (codes "task 1 nestable post 5 5") 1 nest_out_of_order  -- before nest_undeclared
     ∷ []
     )
 unfolding opened
 orders = refl
 
 uses : AreRight (
-    bad (codes "post 0 0") 1 undeclared
-    ∷ bad (codes "queue 0 0\npost 0 0") 2 undeclared  -- the task
-    ∷ bad (codes "task 0 nestable\npost 0 0") 2 undeclared  -- the queue
-    ∷ bad (codes "queue 0 0\ntask 0 nestable post 0 0") 2 undeclared  -- a task names itself
-    ∷ bad (codes "queue 0 0\ntask 0 nestable\ntask 1 nestable post 0 0 ; post 0 1") 3 undeclared  -- before posted twice
+    bad (codes "post 0 0") 1 nest_undeclared
+    ∷ bad (codes "queue 0 0\npost 0 0") 2 nest_undeclared  -- the task
+    ∷ bad (codes "task 0 nestable\npost 0 0") 2 nest_undeclared  -- the queue
+    ∷ bad (codes "queue 0 0\ntask 0 nestable post 0 0") 2 nest_undeclared  -- a task names itself
+    ∷ bad (codes "queue 0 0\ntask 0 nestable\ntask 1 nestable post 0 0 ; post 0 1") 3 nest_undeclared  -- before posted twice
     ∷ good (codes "queue 0 0\ntask 0 nestable\ntask 1 nestable post 0 0")
     ∷ []
     )
@@ -130,10 +130,10 @@ unfolding opened
 uses = refl
 
 posts : AreRight (
-    bad (codes "queue 0 0\ntask 0 nestable\npost 0 0\npost 0 0") 4 posted_twice
-    ∷ bad (codes "queue 0 0\ntask 0 nestable\ntask 1 nestable post 0 0\npost 0 0") 4 posted_twice  -- by a step
-    ∷ bad (codes "queue 0 0\ntask 0 nestable\ntask 1 nestable post 0 0 ; post 0 0") 3 posted_twice  -- on one line
-    ∷ bad (codes "queue 0 0\ntask 0 nestable\npost 0 0\ntask 1 nestable post 0 0") 4 posted_twice  -- before late
+    bad (codes "queue 0 0\ntask 0 nestable\npost 0 0\npost 0 0") 4 nest_posted_twice
+    ∷ bad (codes "queue 0 0\ntask 0 nestable\ntask 1 nestable post 0 0\npost 0 0") 4 nest_posted_twice  -- by a step
+    ∷ bad (codes "queue 0 0\ntask 0 nestable\ntask 1 nestable post 0 0 ; post 0 0") 3 nest_posted_twice  -- on one line
+    ∷ bad (codes "queue 0 0\ntask 0 nestable\npost 0 0\ntask 1 nestable post 0 0") 4 nest_posted_twice  -- before late
     ∷ []
     )
 unfolding opened
@@ -142,7 +142,7 @@ posts = refl
 declarations : AreRight (
     bad (codes "run 1\nqueue 0 0") 2 late
     ∷ bad (codes "run 1\ntask 0 nestable") 2 late
-    ∷ bad (codes "run 1\n\n# declared behind\nqueue 1 0") 4 out_of_order  -- before late
+    ∷ bad (codes "run 1\n\n# declared behind\nqueue 1 0") 4 nest_out_of_order  -- before late
     ∷ []
     )
 unfolding opened
@@ -178,13 +178,13 @@ limits :
     ∷ fault_behind (with_actions 16384) (codes "queue 0 0")
     ∷ []
     ≡ None
-    ∷ Some (1, too_many)
+    ∷ Some (1, nest_too_many)
     ∷ None
-    ∷ Some (1, too_many)
+    ∷ Some (1, nest_too_many)
     ∷ None
-    ∷ Some (1, too_many)
+    ∷ Some (1, nest_too_many)
     ∷ None
-    ∷ Some (1, too_many)
+    ∷ Some (1, nest_too_many)
     ∷ Some (1, late)
     ∷ []
 unfolding opened

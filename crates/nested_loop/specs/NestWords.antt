@@ -101,8 +101,8 @@ task_said (number ∷ kind ∷ words) = do
 task_said words = None
 
 -- a line without steps, by its command and the words behind it
-abbrev pub plain_said : List ℕ → List (List ℕ) → Option NestLine
-plain_said name words =
+abbrev pub nest_plain_said : List ℕ → List (List ℕ) → Option NestLine
+nest_plain_said name words =
     if is_word name (codes "queue") then queue_said words
     else (if is_word name (codes "post") then (posting_said words >>= λ p. Some (Act (actions.Post p.0 p.1)))
     else (if is_word name (codes "run") then (bound_said words >>= λ n. Some (Act (actions.Run n)))
@@ -110,13 +110,13 @@ plain_said name words =
 
 -- a line, by its command and the words behind it
 unfoldable pub command_said : List ℕ → List (List ℕ) → Option NestLine
-command_said name words = if is_word name (codes "task") then task_said words else plain_said name words
+command_said name words = if is_word name (codes "task") then task_said words else nest_plain_said name words
 
 -- a line, by its words; no words and a comment say nothing
-abbrev pub words_said : List (List ℕ) → Option NestLine
-words_said [] = Some Nothing
-words_said (name ∷ words) = if begins_comment name then Some Nothing else command_said name words
+abbrev pub nest_words_said : List (List ℕ) → Option NestLine
+nest_words_said [] = Some Nothing
+nest_words_said (name ∷ words) = if begins_comment name then Some Nothing else command_said name words
 
 -- a line, by its bytes; a byte above 127 is of no form
-abbrev pub line_said : List ℕ → Option NestLine
-line_said line = words_said (words_of line)
+abbrev pub nest_line_said : List ℕ → Option NestLine
+nest_line_said line = nest_words_said (words_of line)

@@ -7,22 +7,22 @@ use Rattle.nested_loop.specs.declared.fault.NestFault.{NestFault}
 use Rattle.nested_loop.specs.declared.fault.NestFault.TheVariants.{Bad as BadNest, Memory as NoMemory}
 use Rattle.nested_loop.specs.declared.reader.Reader.{Reader}
 use Rattle.nested_loop.specs.Plan.{NestPlan}
-use Rattle.nested_loop.specs.Sound.{nest_postings, steps_in}
+use Rattle.nested_loop.specs.Sound.{nest_postings, nest_steps_in}
 
 -- what the reader knows beside the nest: which tasks the nest posts, and how many steps it has
 pub record Knows (reader : Reader) : Type 0 where
   pub posted : reader.posted.items ≡ nest_postings reader.nest
-  pub steps : reader.steps ≡ steps_in reader.nest
+  pub steps : reader.steps ≡ nest_steps_in reader.nest
   pub few_steps : reader.steps ≤ MOST_NEST_STEPS
 
 -- the reader went on to what a line gives, or the line is bad, or memory ran out
-abbrev pub Turns : Result (Unit {0}) LineFault → Reader → Result NestPlan ℕ → Type 0
-Turns (Ok done) reader read = Knows reader × (read ≡ Ok reader.nest)
-Turns (Err (Bad reason)) reader read = read ≡ Err reason
-Turns (Err (Memory error)) reader read = Unit {0}
+abbrev pub NestTurns : Result (Unit {0}) LineFault → Reader → Result NestPlan ℕ → Type 0
+NestTurns (Ok done) reader read = Knows reader × (read ≡ Ok reader.nest)
+NestTurns (Err (Bad reason)) reader read = read ≡ Err reason
+NestTurns (Err (Memory error)) reader read = Unit {0}
 
 -- the same, where the reason stands beside the number of the line
-abbrev pub TurnsAt : Result (Unit {0}) NestFault → Reader → Result NestPlan (ℕ × ℕ) → Type 0
-TurnsAt (Ok done) reader read = Knows reader × (read ≡ Ok reader.nest)
-TurnsAt (Err (BadNest line reason)) reader read = read ≡ Err (line, reason)
-TurnsAt (Err (NoMemory error)) reader read = Unit {0}
+abbrev pub NestTurnsAt : Result (Unit {0}) NestFault → Reader → Result NestPlan (ℕ × ℕ) → Type 0
+NestTurnsAt (Ok done) reader read = Knows reader × (read ≡ Ok reader.nest)
+NestTurnsAt (Err (BadNest line reason)) reader read = read ≡ Err (line, reason)
+NestTurnsAt (Err (NoMemory error)) reader read = Unit {0}

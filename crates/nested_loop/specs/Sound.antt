@@ -14,27 +14,27 @@ use Rattle.nested_loop.specs.declared.nest.NestAction.TheVariants as actions
 -- ---- what is posted
 
 -- the task that a step posts
-abbrev pub posts_of_step : NestStep → List ℕ
-posts_of_step (steps.Post task queue) = task ∷ []
-posts_of_step (steps.Say value) = []
-posts_of_step (steps.Loop bound) = []
+abbrev pub posts_of_nest_step : NestStep → List ℕ
+posts_of_nest_step (steps.Post task queue) = task ∷ []
+posts_of_nest_step (steps.Say value) = []
+posts_of_nest_step (steps.Loop bound) = []
 
 -- the task that an action posts
-abbrev pub posts_of_action : NestAction → List ℕ
-posts_of_action (actions.Post task queue) = task ∷ []
-posts_of_action (actions.Run bound) = []
+abbrev pub posts_of_nest_action : NestAction → List ℕ
+posts_of_nest_action (actions.Post task queue) = task ∷ []
+posts_of_nest_action (actions.Run bound) = []
 
 -- the tasks that the steps of a task post
 abbrev pub posts_of_task : NestTaskPlan → List ℕ
-posts_of_task task = flat_map posts_of_step task.steps
+posts_of_task task = flat_map posts_of_nest_step task.steps
 
 -- the tasks that the nest posts: those of the steps of its tasks, and those of its actions, in order
 abbrev pub nest_postings : NestPlan → List ℕ
-nest_postings nest = flat_map posts_of_task nest.tasks ++ flat_map posts_of_action nest.actions
+nest_postings nest = flat_map posts_of_task nest.tasks ++ flat_map posts_of_nest_action nest.actions
 
 -- how many steps the tasks have, together
-abbrev pub steps_in : NestPlan → ℕ
-steps_in nest = sum_by (λ task. length task.steps) nest.tasks
+abbrev pub nest_steps_in : NestPlan → ℕ
+nest_steps_in nest = sum_by (λ task. length task.steps) nest.tasks
 
 -- ---- parts of a nest
 
@@ -60,7 +60,7 @@ IsNestActionSound nest (actions.Run bound) = IsLoopBound bound
 pub record IsNestWithinLimits (nest : NestPlan) : Type 0 where
   pub few_queues : length nest.classes ≤ MOST_QUEUES
   pub few_tasks : length nest.tasks ≤ MOST_NEST_TASKS
-  pub few_steps : steps_in nest ≤ MOST_NEST_STEPS
+  pub few_steps : nest_steps_in nest ≤ MOST_NEST_STEPS
   pub few_actions : length nest.actions ≤ MOST_NEST_ACTIONS
 
 -- what every nest that is read is like (this project's own notion)

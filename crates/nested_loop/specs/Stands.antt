@@ -1,7 +1,7 @@
 -- What the machine stands for.
 use Rattle.std.specs.Prelude.{◌≡◌, ℕ, ◌+◌, ◌≤◌, List, ◌∷◌, ◌++◌, [], length, Option, Some, None, slice_get}
 use Rattle.std.specs.Option.{option_or}
-use Rattle.nested_loop.specs.Keeping.{Keeps}
+use Rattle.nested_loop.specs.Keeping.{KeepsManager}
 use Rattle.nested_loop.specs.Nest.{IsNestPast, deferred_tasks, depth_of, front_task, nesting_of, next_event}
 use Rattle.nested_loop.specs.Plan.{NestPlan}
 use Rattle.nested_loop.specs.Room.{events_bound}
@@ -15,7 +15,7 @@ pub record Stands (nest : NestPlan) (past : List Event) (machine : Machine) : Ty
   pub sound : IsSoundNest nest
   pub is_past : IsNestPast nest past
   -- the tasks that wait
-  pub waiting : Keeps nest past machine.waiting
+  pub waiting : KeepsManager nest past machine.waiting
   -- those that were deferred
   pub deferred : machine.deferred.items ≡ deferred_tasks past
   -- the actions that were begun, and what is open
@@ -38,12 +38,12 @@ Moves nest past (Some event) machine = Made nest past event machine
 Moves nest past None machine = next_event nest past ≡ None
 
 -- the outermost loop's next task was taken, if there is one: nothing else has changed
-pub record IsTaken (nest : NestPlan) (past : List Event) (task : Option ℕ) (before after : Machine) : Type 0 where
+pub record IsTakenNext (nest : NestPlan) (past : List Event) (task : Option ℕ) (before after : Machine) : Type 0 where
   pub is : task ≡ option_or (slice_get (deferred_tasks past) 0) (front_task nest past)
   pub others : after ≡ record before { waiting = after.waiting; deferred = after.deferred }
   pub spare : after.deferred.spare ≡ before.deferred.spare
   -- where it starts, the machine keeps what waits, and what is deferred
-  pub waiting : (t : ℕ) → task ≡ Some t → Keeps nest (past ++ events.Start t 1 ∷ []) after.waiting
+  pub waiting : (t : ℕ) → task ≡ Some t → KeepsManager nest (past ++ events.Start t 1 ∷ []) after.waiting
   pub deferred : (t : ℕ) → task ≡ Some t → after.deferred.items ≡ deferred_tasks (past ++ events.Start t 1 ∷ [])
   -- where there is none, nothing has changed
-  pub none : task ≡ None → Keeps nest past after.waiting × (after.deferred.items ≡ deferred_tasks past)
+  pub none : task ≡ None → KeepsManager nest past after.waiting × (after.deferred.items ≡ deferred_tasks past)

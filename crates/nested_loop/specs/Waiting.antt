@@ -39,8 +39,8 @@ abbrev pub queue_of_class : ℕ → MainQueue
 queue_of_class class = record { class = class; voters = 0 }
 
 -- the script that the manager is made with: the queues of the nest, its tasks without steps, and an action for each post
-abbrev pub script_of : NestPlan → Plan
-script_of nest = record {
+abbrev pub nest_script : NestPlan → Plan
+nest_script nest = record {
   workers = 1;
   foreground = 1;
   foreground_best = 1;
@@ -69,7 +69,7 @@ posting_of_nest p = record { task = p.task; queue = p.queue }
 
 -- the entries tell of the main queues what the events do: the same posts, and a task is taken where it is deferred or starts,
 -- and is ended at once
-pub record Tells (past : List Event) (entries : List Entry) : Type 0 where
+pub record TellsEntries (past : List Event) (entries : List Entry) : Type 0 where
   pub posts : map posting_of_entry (main_posts entries) ≡ map posting_of_nest (posted_tasks past)
   pub taken : (t : ℕ) → is_main_taken entries t ≡ (was_deferred past t || is_started past t)
   pub plain : AllByRecursion (λ e. is_plain e.kind ≡ true) entries

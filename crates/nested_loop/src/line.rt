@@ -1,6 +1,6 @@
 ghost use Rattle.std.specs.Prelude.{◌≡◌, IfOk};
 ghost use Rattle.script_model.specs.Words.{begins_comment};
-ghost use Rattle.nested_loop.specs.NestWords.{nestable_named, queue_said, task_said, command_said, plain_said, words_said, line_said};
+ghost use Rattle.nested_loop.specs.NestWords.{nestable_named, queue_said, task_said, command_said, nest_plain_said, nest_words_said, nest_line_said};
 ghost use Rattle.nested_loop.specs.Texts.{texts};
 
 use crate::nest::{NestAction, NestTask};
@@ -26,7 +26,7 @@ pub(crate) enum NestLine {
 /// What a line says, without its line feed and a carriage return at its end, or nothing where it has no form that there
 /// is. The error is want of memory.
 pub(crate) fn line_said(alloc: Global, line: &[u8]) -> Result<Option<NestLine>, AllocError>
-    ensures { IfOk result (λ said. said ≡ line_said line.now) }
+    ensures { IfOk result (λ said. said ≡ nest_line_said line.now) }
 {
     let words = words_of(alloc, line)?;
     words_said(alloc, &words)
@@ -34,7 +34,7 @@ pub(crate) fn line_said(alloc: Global, line: &[u8]) -> Result<Option<NestLine>, 
 
 /// What the words of a line say.
 fn words_said(alloc: Global, words: &[&[u8]]) -> Result<Option<NestLine>, AllocError>
-    ensures { IfOk result (λ said. said ≡ words_said (texts words.now)) }
+    ensures { IfOk result (λ said. said ≡ nest_words_said (texts words.now)) }
 {
     match words {
         [name, words @ ..] if !begins_comment(name) => command_said(alloc, name, words),
@@ -66,7 +66,7 @@ fn command_said(alloc: Global, name: &[u8], words: &[&[u8]]) -> Result<Option<Ne
 
 /// The line of this command, if it has no steps.
 fn plain_said(name: &[u8], words: &[&[u8]]) -> Option<NestLine>
-    ensures { result ≡ plain_said name.now (texts words.now) }
+    ensures { result ≡ nest_plain_said name.now (texts words.now) }
 {
     if name == b"queue".as_slice() {
         queue_said(words)

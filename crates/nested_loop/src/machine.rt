@@ -26,7 +26,7 @@ impl Machine {
     ghost use Rattle.nested_loop.specs.Nest.{left};
     ghost use Rattle.nested_loop.specs.Plan.{NestPlan};
     ghost use Rattle.nested_loop.specs.Room.{events_bound};
-    ghost use Rattle.nested_loop.specs.Stands.{IsTaken, Made, Moves, Stands};
+    ghost use Rattle.nested_loop.specs.Stands.{IsTakenNext, Made, Moves, Stands};
     ghost use Rattle.nested_loop.specs.Sound.{IsSoundNest};
     ghost use Rattle.nested_loop.specs.declared.event.Event.{Event};
     ghost use Rattle.nested_loop.specs.declared.event.Event.TheVariants as events;
@@ -140,7 +140,7 @@ impl Machine {
     // Takes the task that the outermost loop starts next: the first of the deferred ones, or else the front.
     fn next_outermost(&mut self) -> Option<TaskId>
         requires { (nest : NestPlan) × (past : List Event) × Stands nest past self.old × (length past < events_bound nest) }
-        ensures { (nest : NestPlan) (past : List Event) → Stands nest past self.old → length past < events_bound nest → IsTaken nest past result self.old self.new }
+        ensures { (nest : NestPlan) (past : List Event) → Stands nest past self.old → length past < events_bound nest → IsTakenNext nest past result self.old self.new }
     {
         match self.deferred.take_first() {
             Some(task) => Some(task),

@@ -1,7 +1,7 @@
 ghost use Rattle.std.specs.Prelude.{◌≡◌, ◌==◌, ◌++◌, ◌∷◌, [], false, flat_map, IfOk};
 ghost use Rattle.std.specs.List.{list_any};
 ghost use Rattle.script_model.specs.Draft.{is_any_posted};
-ghost use Rattle.nested_loop.specs.Sound.{posts_of_step, posts_of_action};
+ghost use Rattle.nested_loop.specs.Sound.{posts_of_nest_step, posts_of_nest_action};
 
 use crate::nest::{NestAction, NestStep};
 use std::alloc::AllocError;
@@ -14,8 +14,8 @@ pub(crate) fn steps_post_again(
     posted: &mut Rows<TaskId>,
     steps: &[NestStep],
 ) -> Result<bool, AllocError>
-    ensures again { IfOk result (λ again. again ≡ is_any_posted posted.old.items (flat_map posts_of_step steps.now)) }
-    ensures noted { IfOk result (λ again. again ≡ false → posted.new.items ≡ posted.old.items ++ flat_map posts_of_step steps.now) }
+    ensures again { IfOk result (λ again. again ≡ is_any_posted posted.old.items (flat_map posts_of_nest_step steps.now)) }
+    ensures noted { IfOk result (λ again. again ≡ false → posted.new.items ≡ posted.old.items ++ flat_map posts_of_nest_step steps.now) }
 {
     for step in steps {
         if step_posts_again(posted, step)? {
@@ -27,8 +27,8 @@ pub(crate) fn steps_post_again(
 
 /// The same of one step.
 fn step_posts_again(posted: &mut Rows<TaskId>, step: &NestStep) -> Result<bool, AllocError>
-    ensures again { IfOk result (λ again. again ≡ is_any_posted posted.old.items (posts_of_step step.now)) }
-    ensures noted { IfOk result (λ again. again ≡ false → posted.new.items ≡ posted.old.items ++ posts_of_step step.now) }
+    ensures again { IfOk result (λ again. again ≡ is_any_posted posted.old.items (posts_of_nest_step step.now)) }
+    ensures noted { IfOk result (λ again. again ≡ false → posted.new.items ≡ posted.old.items ++ posts_of_nest_step step.now) }
 {
     match *step {
         NestStep::Post { task, .. } => is_posted_again(posted, task),
@@ -41,8 +41,8 @@ pub(crate) fn action_posts_again(
     posted: &mut Rows<TaskId>,
     action: NestAction,
 ) -> Result<bool, AllocError>
-    ensures again { IfOk result (λ again. again ≡ is_any_posted posted.old.items (posts_of_action action)) }
-    ensures noted { IfOk result (λ again. again ≡ false → posted.new.items ≡ posted.old.items ++ posts_of_action action) }
+    ensures again { IfOk result (λ again. again ≡ is_any_posted posted.old.items (posts_of_nest_action action)) }
+    ensures noted { IfOk result (λ again. again ≡ false → posted.new.items ≡ posted.old.items ++ posts_of_nest_action action) }
 {
     match action {
         NestAction::Post { task, .. } => is_posted_again(posted, task),

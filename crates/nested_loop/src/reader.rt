@@ -3,7 +3,7 @@ ghost use Rattle.std.specs.List.{list_all};
 ghost use Rattle.std.specs.Str.Lines.{strip_carriage_return};
 ghost use Rattle.script_model.specs.Grammar.{at_line};
 ghost use Rattle.nested_loop.specs.NestGrammar.{empty_nest};
-ghost use Rattle.nested_loop.specs.NestLines.{nest_line_read, added, queue_added, task_added, action_added, has_no_actions, are_declared, is_declared_step, is_declared_action};
+ghost use Rattle.nested_loop.specs.NestLines.{nest_line_read, added, queue_added, task_added, action_added, nest_has_no_actions, are_declared, is_declared_step, is_declared_action};
 
 use crate::fault::NestFault;
 use crate::limits::{MOST_NEST_ACTIONS, MOST_NEST_STEPS, MOST_NEST_TASKS};
@@ -29,7 +29,7 @@ pub(crate) struct Reader {
 }
 
 impl Reader {
-    ghost use Rattle.nested_loop.specs.Reader.{Knows, Turns, TurnsAt};
+    ghost use Rattle.nested_loop.specs.Reader.{Knows, NestTurns, NestTurnsAt};
 
     pub(crate) fn new(alloc: Global) -> Reader
         ensures nest { result.nest ≡ empty_nest }
@@ -57,7 +57,7 @@ impl Reader {
     /// Reads the next line, whose number this is. After a fault the reader is of no more use.
     pub(crate) fn read_line(&mut self, number: u32, line: &[u8]) -> Result<(), NestFault>
         requires { Knows self.old }
-        ensures { TurnsAt result self.new (at_line number (nest_line_read self.old.nest (strip_carriage_return line.now))) }
+        ensures { NestTurnsAt result self.new (at_line number (nest_line_read self.old.nest (strip_carriage_return line.now))) }
     {
         match self.read_text(without_return(line)) {
             Ok(()) => Ok(()),
@@ -73,7 +73,7 @@ impl Reader {
     #[tactic(auto, unfolding(crate::specs::NestLines::added))]
     fn read_text(&mut self, line: &[u8]) -> Result<(), LineFault>
         requires { Knows self.old }
-        ensures { Turns result self.new (nest_line_read self.old.nest line.now) }
+        ensures { NestTurns result self.new (nest_line_read self.old.nest line.now) }
     {
         match line_said(self.alloc, line)? {
             Some(said) => self.add(said),
@@ -85,7 +85,7 @@ impl Reader {
     #[tactic(auto, unfolding(crate::specs::NestLines::added))]
     fn add(&mut self, line: NestLine) -> Result<(), LineFault>
         requires { Knows self.old }
-        ensures { Turns result self.new (added self.old.nest (Some line)) }
+        ensures { NestTurns result self.new (added self.old.nest (Some line)) }
     {
         match line {
             NestLine::Nothing => Ok(()),
@@ -98,7 +98,7 @@ impl Reader {
     #[tactic(auto, unfolding(crate::specs::NestLines::queue_added))]
     fn add_queue(&mut self, number: QueueId, class: u8) -> Result<(), LineFault>
         requires { Knows self.old }
-        ensures { Turns result self.new (queue_added self.old.nest number class) }
+        ensures { NestTurns result self.new (queue_added self.old.nest number class) }
     {
         refuse(number as usize != self.nest.classes.len(), OUT_OF_ORDER)?;
         refuse(!self.has_no_actions(), LATE)?;
@@ -111,7 +111,7 @@ impl Reader {
     #[tactic(auto, unfolding(crate::specs::NestLines::task_added))]
     fn add_task(&mut self, number: TaskId, task: NestTask) -> Result<(), LineFault>
         requires { Knows self.old }
-        ensures { Turns result self.new (task_added self.old.nest number task) }
+        ensures { NestTurns result self.new (task_added self.old.nest number task) }
     {
         let steps = steps_of(&task);
         let count = steps.len();
@@ -130,7 +130,7 @@ impl Reader {
     #[tactic(auto, unfolding(crate::specs::NestLines::action_added))]
     fn act(&mut self, action: NestAction) -> Result<(), LineFault>
         requires { Knows self.old }
-        ensures { Turns result self.new (action_added self.old.nest action) }
+        ensures { NestTurns result self.new (action_added self.old.nest action) }
     {
         refuse(!self.is_declared_action(action), UNDECLARED)?;
         refuse(action_posts_again(&mut self.posted, action)?, POSTED_TWICE)?;
@@ -141,7 +141,7 @@ impl Reader {
     }
 
     fn has_no_actions(&self) -> bool
-        ensures { result ≡ has_no_actions self.now.nest }
+        ensures { result ≡ nest_has_no_actions self.now.nest }
     {
         self.nest.actions.is_empty()
     }

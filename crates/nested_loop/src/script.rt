@@ -1,5 +1,5 @@
 ghost use Rattle.std.specs.Prelude.{◌≡◌, ◌++◌, [], flat_map, map, IfOk, OnOk};
-ghost use Rattle.nested_loop.specs.Waiting.{main_of_action, main_of_step, main_of_task, queue_of_class, script_of};
+ghost use Rattle.nested_loop.specs.Waiting.{main_of_action, main_of_step, main_of_task, queue_of_class, nest_script};
 
 use crate::nest::{Nest, NestAction, NestStep, NestTask};
 use std::alloc::{AllocError, Global};
@@ -8,7 +8,7 @@ use task_base::{Action, MainQueue, Rows, Script, Task};
 /// The script of which the manager of the main queues is made: the queues of the nest, its tasks without steps, and an
 /// action for each post. The error is want of memory.
 pub(crate) fn script_of(alloc: Global, nest: &Nest) -> Result<Script, AllocError>
-    ensures { IfOk result (λ script. script ≡ script_of nest.now) }
+    ensures { IfOk result (λ script. script ≡ nest_script nest.now) }
 {
     let queues = queues_of(alloc, nest.classes.as_slice())?;
     let tasks = empty_tasks(alloc, nest.tasks.as_slice())?;

@@ -15,7 +15,7 @@ pub(crate) struct Waiting {
 
 impl Waiting {
     ghost use Rattle.std.specs.Prelude.{◌≡◌, List, [], ◌∷◌, ◌++◌, IfOk};
-    ghost use Rattle.nested_loop.specs.Keeping.{Keeps, CanPost, CanTake, IsTakenFrom};
+    ghost use Rattle.nested_loop.specs.Keeping.{KeepsManager, CanPostNext, CanTakeNext, IsTakenFrom};
     ghost use Rattle.nested_loop.specs.Nest.{front_task};
     ghost use Rattle.nested_loop.specs.Plan.{NestPlan};
     ghost use Rattle.nested_loop.specs.Sound.{IsSoundNest};
@@ -25,7 +25,7 @@ impl Waiting {
     /// No task waits. The error is want of memory.
     pub fn new(alloc: Global, nest: &Nest) -> Result<Waiting, AllocError>
         requires { IsSoundNest nest.now }
-        ensures { IfOk result (λ waiting. Keeps nest.now [] waiting) }
+        ensures { IfOk result (λ waiting. KeepsManager nest.now [] waiting) }
     {
         let script = script_of(alloc, nest)?;
         let queues = Manager::new(alloc, &script)?;
@@ -34,9 +34,9 @@ impl Waiting {
 
     /// A task is posted.
     pub fn post(&mut self, task: TaskId, queue: QueueId)
-        requires { (nest : NestPlan) × (past : List Event) × CanPost nest past self.old task queue }
-        ensures { (nest : NestPlan) (past : List Event) → CanPost nest past self.old task queue
-            → Keeps nest (past ++ events.Post task queue ∷ []) self.new }
+        requires { (nest : NestPlan) × (past : List Event) × CanPostNext nest past self.old task queue }
+        ensures { (nest : NestPlan) (past : List Event) → CanPostNext nest past self.old task queue
+            → KeepsManager nest (past ++ events.Post task queue ∷ []) self.new }
     {
         let _ = self.queues.post(self.place, task, queue, 0);
         self.place += 1;
@@ -44,9 +44,9 @@ impl Waiting {
 
     /// Takes the front, if a task waits.
     pub fn take(&mut self) -> Option<TaskId>
-        requires { (nest : NestPlan) × (past : List Event) × CanTake nest past self.old }
-        ensures front { (nest : NestPlan) (past : List Event) → CanTake nest past self.old → result ≡ front_task nest past }
-        ensures taken { (nest : NestPlan) (past : List Event) → CanTake nest past self.old → IsTakenFrom nest past result self.new }
+        requires { (nest : NestPlan) × (past : List Event) × CanTakeNext nest past self.old }
+        ensures front { (nest : NestPlan) (past : List Event) → CanTakeNext nest past self.old → result ≡ front_task nest past }
+        ensures taken { (nest : NestPlan) (past : List Event) → CanTakeNext nest past self.old → IsTakenFrom nest past result self.new }
     {
         let (task, queue, cell) = self.queues.take()?;
         self.queues.end(queue, cell);

@@ -37,8 +37,8 @@ use Rattle.pool_laws.proofs.Choice.Least.{head_is, no_best, no_head}
 use Rattle.hist_model.specs.Allowed.{IsAllowed}
 use Rattle.hist_model.specs.Legal.{IsLegal}
 use Rattle.hist_model.proofs.Laws.Legal.{legal_induction}
-use Rattle.hist_model.proofs.Laws.OrderKeys.{among_eligible}
-use Rattle.hist_model.proofs.Laws.PostedOnce.{each_is_accepted_once}
+use Rattle.hist_model.proofs.Laws.Order.Keys.{among_eligible}
+use Rattle.hist_model.proofs.Laws.Postings.Once.{each_is_accepted_once}
 use Rattle.pool_core.specs.Pasts.{IsDeclared}
 use Rattle.pool_core.proofs.Accepted.{one_post}
 use Rattle.pool_core.proofs.Lines.{sequence_there}
@@ -80,7 +80,7 @@ module _ (script : Plan) (past : List Entry) (sound : IsSound script) (legal : I
   one_home : (p q : Posted) → Contains (posts past) p → Contains (posts past) q
       → sequence_of script p.home p.task ≡ sequence_of script q.home q.task → p.home ≡ q.home
   one_home p q first second same =
-      by (holds_of (λ r. is_parallel r.kind) (slice_get script.runners p.home)) (holds_of (λ r. is_parallel r.kind) (slice_get script.runners q.home)) same
+      by_test (holds_of (λ r. is_parallel r.kind) (slice_get script.runners p.home)) (holds_of (λ r. is_parallel r.kind) (slice_get script.runners q.home)) same
     where
       p_there : p.home < length script.runners
       p_there = (declared p first).0
@@ -94,11 +94,11 @@ module _ (script : Plan) (past : List Entry) (sound : IsSound script) (legal : I
       of_one : p.task ≡ q.task → p.home ≡ q.home
       of_one is = ap (λ (x : Posted). x.home) (same_Some p q (sym (one_post past p in_order first) ∙ ap (post_of past) is ∙ one_post past q in_order second))
 
-      by : (a b : Bool) → cond a (length script.runners + p.task) p.home ≡ cond b (length script.runners + q.task) q.home → p.home ≡ q.home
-      by true true is = of_one (omega (arith, is))
-      by true false is = absurd (omega (arith, is, q_there))
-      by false true is = absurd (omega (arith, is, p_there))
-      by false false is = is
+      by_test : (a b : Bool) → cond a (length script.runners + p.task) p.home ≡ cond b (length script.runners + q.task) q.home → p.home ≡ q.home
+      by_test true true is = of_one (omega (arith, is))
+      by_test true false is = absurd (omega (arith, is, q_there))
+      by_test false true is = absurd (omega (arith, is, p_there))
+      by_test false false is = is
 
   -- What is left where nothing else is against a task.
 
@@ -112,22 +112,22 @@ module _ (script : Plan) (past : List Entry) (sound : IsSound script) (legal : I
     not_held : is_held past (priority_of script past p.home) ≡ false
 
   is_free : (seat : ℕ) (p : Posted) → posted_bar script past seat p ≡ bars.Limit → IsFree seat p
-  is_free seat p is = by (is_taken past p.task) (is_forbidden script past p) (is_none (key_of past p))
+  is_free seat p is = by_taken (is_taken past p.task) (is_forbidden script past p) (is_none (key_of past p))
       (runs_sequence script past (sequence_of script p.home p.task)) (is_others script seat p.home) (is_held past (priority_of script past p.home))
       refl refl refl refl refl refl is
     where
-      by : (a b c d e f : Bool) → is_taken past p.task ≡ a → is_forbidden script past p ≡ b → is_none (key_of past p) ≡ c
+      by_taken : (a b c d e f : Bool) → is_taken past p.task ≡ a → is_forbidden script past p ≡ b → is_none (key_of past p) ≡ c
           → runs_sequence script past (sequence_of script p.home p.task) ≡ d → is_others script seat p.home ≡ e
           → is_held past (priority_of script past p.home) ≡ f
           → cond a bars.Taken (cond b bars.Forbidden (cond c bars.Unripe (cond d bars.Busy (cond e bars.OtherSeat (cond f bars.Held bars.Limit))))) ≡ bars.Limit
           → IsFree seat p
-      by true b c d e f ta fo ri id ot he is = absurd cc
-      by false true c d e f ta fo ri id ot he is = absurd cc
-      by false false true d e f ta fo ri id ot he is = absurd cc
-      by false false false true e f ta fo ri id ot he is = absurd cc
-      by false false false false true f ta fo ri id ot he is = absurd cc
-      by false false false false false true ta fo ri id ot he is = absurd cc
-      by false false false false false false ta fo ri id ot he is =
+      by_taken true b c d e f ta fo ri id ot he is = absurd cc
+      by_taken false true c d e f ta fo ri id ot he is = absurd cc
+      by_taken false false true d e f ta fo ri id ot he is = absurd cc
+      by_taken false false false true e f ta fo ri id ot he is = absurd cc
+      by_taken false false false false true f ta fo ri id ot he is = absurd cc
+      by_taken false false false false false true ta fo ri id ot he is = absurd cc
+      by_taken false false false false false false ta fo ri id ot he is =
           record { not_taken = ta; allowed = fo; ripe = ri; idle = id; not_others = ot; not_held = he }
 
 -- a test and another that holds fail together by the first
@@ -138,11 +138,11 @@ first_fails false b fails holds = refl
 -- what is not another seat's is this seat's, or any one's
 ones_own : (seat : ℕ) (only : Option ℕ) → holds_of (λ s. not (s == seat)) only ≡ false → option_map_or (λ s. s == seat) only true ≡ true
 ones_own seat None is = refl
-ones_own seat (Some s) is = by (s == seat) is
+ones_own seat (Some s) is = by_seat (s == seat) is
   where
-    by : (b : Bool) → not b ≡ false → b ≡ true
-    by true is = refl
-    by false is = absurd cc
+    by_seat : (b : Bool) → not b ≡ false → b ≡ true
+    by_seat true is = refl
+    by_seat false is = absurd cc
 
 module _ (script : Plan) (past : List Entry) (sound : IsSound script) (legal : IsLegal script past) (seat : ℕ)
     (none : best_of script past seat ≡ None) where
@@ -188,7 +188,7 @@ module _ (script : Plan) (past : List Entry) (sound : IsSound script) (legal : I
       keyed (Some key) is ripe = headed key is (head_of script past s) refl
 
   no_room_task : (task runner : ℕ) → task_bar script past seat task runner ≡ bars.Limit → has_room script past (priority_of script past runner) ≡ false
-  no_room_task task runner is = by (post_of past task) refl is
+  no_room_task task runner is = by_post (post_of past task) refl is
     where
       at_home : (p : Posted) → post_of past task ≡ Some p → (b : Bool) → (p.home == runner) ≡ b
           → cond b (posted_bar script past seat p) bars.Unaccepted ≡ bars.Limit → has_room script past (priority_of script past runner) ≡ false
@@ -196,21 +196,22 @@ module _ (script : Plan) (past : List Entry) (sound : IsSound script) (legal : I
           ∙ no_room_posted p (find_contains (λ q. q.task == task) (posts past) p posted) (is_free script past sound legal seat p is)
       at_home p posted false same is = absurd cc
 
-      by : (o : Option Posted) → post_of past task ≡ o
+      by_post : (o : Option Posted) → post_of past task ≡ o
           → option_map_or (λ p. cond (p.home == runner) (posted_bar script past seat p) bars.Unaccepted) o bars.Unaccepted ≡ bars.Limit
           → has_room script past (priority_of script past runner) ≡ false
-      by None posted is = absurd cc
-      by (Some p) posted is = at_home p posted (p.home == runner) refl is
+      by_post None posted is = absurd cc
+      by_post (Some p) posted is = at_home p posted (p.home == runner) refl is
 
   -- What is left where nothing else is against a job.
 
   -- a job that has an unclaimed item is declared
   job_there : (j : ℕ) → has_unclaimed script past j ≡ true → j < length script.jobs
-  job_there j some = by (slice_get script.jobs j) refl some
+  job_there j some = by_job (slice_get script.jobs j) refl some
     where
-      by : (o : Option JobPlan) → slice_get script.jobs j ≡ o → nat_lt (claimed past j) (option_map_or (λ job. job.items) o 0) ≡ true → j < length script.jobs
-      by None is less = absurd (grind arith)
-      by (Some job) is less = slice_get_within script.jobs j job is
+      by_job : (o : Option JobPlan) → slice_get script.jobs j ≡ o → nat_lt (claimed past j) (option_map_or (λ job. job.items) o 0) ≡ true
+          → j < length script.jobs
+      by_job None is less = absurd (grind arith)
+      by_job (Some job) is less = slice_get_within script.jobs j job is
 
   -- a job that may be entered, and is not held back, finds no room
   no_room_job : (j : ℕ) → may_enter script past j ≡ true → has_unclaimed script past j ≡ true → is_held past (priority_of_job script j) ≡ false
@@ -225,21 +226,21 @@ module _ (script : Plan) (past : List Entry) (sound : IsSound script) (legal : I
   may_be_entered j accepted going allowed some place = rw (accepted, going, allowed, some) place
 
   no_room_at_job : (j : ℕ) → job_bar script past j ≡ bars.Limit → has_room script past (priority_of_job script j) ≡ false
-  no_room_at_job j is = by (is_job_accepted past j) (is_cancelled past j) (is_job_forbidden script past j) (has_unclaimed script past j)
+  no_room_at_job j is = by_job_accepted (is_job_accepted past j) (is_cancelled past j) (is_job_forbidden script past j) (has_unclaimed script past j)
       (has_place script past j) (is_held past (priority_of_job script j)) refl refl refl refl refl refl is
     where
-      by : (a b c d e f : Bool) → is_job_accepted past j ≡ a → is_cancelled past j ≡ b → is_job_forbidden script past j ≡ c
+      by_job_accepted : (a b c d e f : Bool) → is_job_accepted past j ≡ a → is_cancelled past j ≡ b → is_job_forbidden script past j ≡ c
           → has_unclaimed script past j ≡ d → has_place script past j ≡ e → is_held past (priority_of_job script j) ≡ f
           → cond (not a) bars.Unaccepted (cond b bars.Cancelled (cond c bars.Forbidden
           (cond (not d) bars.Claimed (cond (not e) bars.Full (cond f bars.Held bars.Limit))))) ≡ bars.Limit
           → has_room script past (priority_of_job script j) ≡ false
-      by false b c d e f ac ca fo un fu he is = absurd cc
-      by true true c d e f ac ca fo un fu he is = absurd cc
-      by true false true d e f ac ca fo un fu he is = absurd cc
-      by true false false false e f ac ca fo un fu he is = absurd cc
-      by true false false true false f ac ca fo un fu he is = absurd cc
-      by true false false true true true ac ca fo un fu he is = absurd cc
-      by true false false true true false ac ca fo un fu he is =
+      by_job_accepted false b c d e f ac ca fo un fu he is = absurd cc
+      by_job_accepted true true c d e f ac ca fo un fu he is = absurd cc
+      by_job_accepted true false true d e f ac ca fo un fu he is = absurd cc
+      by_job_accepted true false false false e f ac ca fo un fu he is = absurd cc
+      by_job_accepted true false false true false f ac ca fo un fu he is = absurd cc
+      by_job_accepted true false false true true true ac ca fo un fu he is = absurd cc
+      by_job_accepted true false false true true false ac ca fo un fu he is =
           no_room_job j (may_be_entered j ac ca fo un fu) un he (job_post_of past j) refl ac
 
   no_room : (kind : Kind) → bar_of script past seat kind ≡ bars.Limit → is_room_for script past kind ≡ false

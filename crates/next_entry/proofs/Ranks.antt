@@ -23,23 +23,23 @@ count_at {A} p q (x ∷ xs) start same =
     let first : p x ≡ q start = same 0 x refl ∙ ap q (omega arith) in
     let others : count p xs ≡ count q (range_with_len (start + 1) (length xs)) =
     count_at p q xs (start + 1) (λ i y at. same (suc i) y at ∙ ap q (omega arith)) in
-    rw first (by (q start) others)
+    rw first (by_test (q start) others)
   where
-    by : (b : Bool) → count p xs ≡ count q (range_with_len (start + 1) (length xs))
+    by_test : (b : Bool) → count p xs ≡ count q (range_with_len (start + 1) (length xs))
         → length (cond b (x ∷ filter p xs) (filter p xs))
         ≡ length (cond b (start ∷ filter q (range_with_len (start + 1) (length xs))) (filter q (range_with_len (start + 1) (length xs))))
-    by true others = ap suc others
-    by false others = others
+    by_test true others = ap suc others
+    by_test false others = others
 
 -- a seat has an item of the job in hand exactly where it holds one
 item_told : {view : EnvView} {hands : List Hand} (j seat : ℕ) (hand : Hand) → AreInHand view hands → IsInHand view seat hand
     → is_item_of j hand ≡ holds_of (λ h. h.job == j) (holding view.history seat)
 item_told {view} j seat Free are in_hand = rw (free_parts view.history seat (sym (free_hand view seat Free in_hand))).1 refl
-item_told {view} j seat (Task at) are in_hand = by (holding view.history seat) refl
+item_told {view} j seat (Task at) are in_hand = by_holding (holding view.history seat) refl
   where
-    by : (o : Option Holding) → holding view.history seat ≡ o → false ≡ holds_of (λ h. eqb h.job j) o
-    by None is = refl
-    by (Some h) is = absurd ((legal_does_one_thing view.script view.history are.legal).one_thing seat in_hand.seats.now h (runs_it in_hand) is)
+    by_holding : (o : Option Holding) → holding view.history seat ≡ o → false ≡ holds_of (λ h. eqb h.job j) o
+    by_holding None is = refl
+    by_holding (Some h) is = absurd ((legal_does_one_thing view.script view.history are.legal).one_thing seat in_hand.seats.now h (runs_it in_hand) is)
 item_told {view} j seat (Item pass) are in_hand = rw (← holding_own view.history seat, in_hand.holds) refl
 
 -- so as many seats are inside a job as have items of it in hand

@@ -54,7 +54,7 @@ abbrev pub IsFreeWorkers : List Entry → ℕ → Type 0
 IsFreeWorkers past seat = (1 ≤ seat) × (is_free past seat ≡ true)
 
 -- the seat is the driver's, which runs no task and holds no item and is at this action of the script
-pub record IsAt (script : Plan) (past : List Entry) (seat : ℕ) (action : Action) : Type 0 where
+pub record IsAtAction (script : Plan) (past : List Entry) (seat : ℕ) (action : Action) : Type 0 where
   pub driver : seat ≡ 0
   pub free : is_free past 0 ≡ true
   pub action_is : option_map (λ (c : Current). c.action) (current script (own_entries 0 past)) ≡ Some action
@@ -79,13 +79,13 @@ Explains (causes.NoSource bar) script past seat kind =
     IsFreeWorkers past seat × (is_finished script past ≡ false) × (best_of script past seat ≡ None) × IsBarred script past seat kind bar
 Explains causes.Finished script past seat kind = (is_free past seat ≡ true) × (is_finished script past ≡ true)
 Explains (causes.NotIdle running ready) script past seat kind =
-    IsAt script past seat actions.Flush × (running ≡ running_tasks script past) × (ready ≡ is_any_ready script past)
+    IsAtAction script past seat actions.Flush × (running ≡ running_tasks script past) × (ready ≡ is_any_ready script past)
     × ((1 ≤ running) ⊎ (ready ≡ true))
 Explains (causes.Inside job seats) script past seat kind =
-    (IsAt script past seat (actions.Cancel job) ⊎ IsAt script past seat (actions.Join job))
+    (IsAtAction script past seat (actions.Cancel job) ⊎ IsAtAction script past seat (actions.Join job))
     × (seats ≡ length (inside script past job)) × (1 ≤ seats)
 Explains (causes.Blocked count) script past seat kind =
-    IsAt script past seat actions.Shutdown × (count ≡ blockers_of script past) × (1 ≤ count)
+    IsAtAction script past seat actions.Shutdown × (count ≡ blockers_of script past) × (1 ≤ count)
 
 -- the entry that a cause names
 abbrev pub named_by : Cause → Option Kind

@@ -5,7 +5,7 @@ ghost use Rattle.task_model.specs.Seats.{is_free};
 ghost use Rattle.hist_model.specs.Script.{current};
 ghost use Rattle.hist_model.specs.Views.{own_entries};
 ghost use Rattle.env_core.specs.Agenda.{counted};
-ghost use Rattle.next_entry.specs.Causes.{Explains, IsAt};
+ghost use Rattle.next_entry.specs.Causes.{Explains, IsAtAction};
 
 use crate::cause::Cause;
 use env_core::Env;
@@ -27,7 +27,7 @@ pub fn next_of_driver(env: &mut Env<ScriptBody>, reading: u64) -> Cause
 
 /// What an action wants next that has made so many entries that count, or what it waits for.
 fn next_of_action(env: &mut Env<ScriptBody>, action: Action, made: u32, reading: u64) -> Cause
-    requires at { IsAt env.old.script env.old.history 0 action }
+    requires at { IsAtAction env.old.script env.old.history 0 action }
     requires counts { IfSome (current env.old.script (own_entries 0 env.old.history)) (λ c. made ≡ counted (c.action ∷ []) c.made) }
     ensures { (kind : Option AnyKind) → Explains result env.old.script env.old.history 0 kind }
 {
@@ -122,7 +122,7 @@ fn next_of_action(env: &mut Env<ScriptBody>, action: Action, made: u32, reading:
 
 /// What a pump wants: the take of the chosen front, or that none is open.
 fn next_of_pump(env: &mut Env<ScriptBody>) -> Cause
-    requires { (count : ℕ) × IsAt env.old.script env.old.history 0 (actions.Pump count) }
+    requires { (count : ℕ) × IsAtAction env.old.script env.old.history 0 (actions.Pump count) }
     ensures { (kind : Option AnyKind) → Explains result env.old.script env.old.history 0 kind }
 {
     match env.main_take(0) {
@@ -143,7 +143,7 @@ fn next_of_pump(env: &mut Env<ScriptBody>) -> Cause
 
 /// What a flush wants, or what it waits for.
 fn next_of_flush(env: &mut Env<ScriptBody>) -> Cause
-    requires { IsAt env.old.script env.old.history 0 actions.Flush }
+    requires { IsAtAction env.old.script env.old.history 0 actions.Flush }
     ensures { (kind : Option AnyKind) → Explains result env.old.script env.old.history 0 kind }
 {
     match env.try_idle(0) {
@@ -157,7 +157,7 @@ fn next_of_flush(env: &mut Env<ScriptBody>) -> Cause
 
 /// What a join wants, or what it waits for.
 fn next_of_join(env: &mut Env<ScriptBody>, job: JobId) -> Cause
-    requires { IsAt env.old.script env.old.history 0 (actions.Join job) }
+    requires { IsAtAction env.old.script env.old.history 0 (actions.Join job) }
     ensures { (kind : Option AnyKind) → Explains result env.old.script env.old.history 0 kind }
 {
     match env.try_joined(0, job) {
@@ -182,7 +182,7 @@ fn next_of_join(env: &mut Env<ScriptBody>, job: JobId) -> Cause
 
 /// What a cancel wants, or what it waits for.
 fn next_of_cancel(env: &mut Env<ScriptBody>, job: JobId, made: u32) -> Cause
-    requires at { IsAt env.old.script env.old.history 0 (actions.Cancel job) }
+    requires at { IsAtAction env.old.script env.old.history 0 (actions.Cancel job) }
     requires counts { IfSome (current env.old.script (own_entries 0 env.old.history)) (λ c. made ≡ counted (c.action ∷ []) c.made) }
     ensures { (kind : Option AnyKind) → Explains result env.old.script env.old.history 0 kind }
 {
@@ -205,7 +205,7 @@ fn next_of_cancel(env: &mut Env<ScriptBody>, job: JobId, made: u32) -> Cause
 
 /// What a shutdown wants, or what it waits for.
 fn next_of_shutdown(env: &mut Env<ScriptBody>, made: u32) -> Cause
-    requires at { IsAt env.old.script env.old.history 0 actions.Shutdown }
+    requires at { IsAtAction env.old.script env.old.history 0 actions.Shutdown }
     requires counts { IfSome (current env.old.script (own_entries 0 env.old.history)) (λ c. made ≡ counted (c.action ∷ []) c.made) }
     ensures { (kind : Option AnyKind) → Explains result env.old.script env.old.history 0 kind }
 {

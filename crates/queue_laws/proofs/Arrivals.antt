@@ -1,6 +1,7 @@
 -- The main arrivals: they rise in order, they are the accepted main tasks that have orders, and the front of a lane is
 -- the first of them that is in it.
-use Rattle.std.proofs.Common.{◌≡◌, ℕ, suc, ◌+◌, ◌<◌, ◌≤◌, Bool, true, false, cond, List, [], ◌∷◌, ◌++◌, length, map, take, refl, sym, ap, ◌∙◌, subst, Option, Some, None, arith}
+use Rattle.std.proofs.Common.{◌≡◌, ℕ, suc, ◌+◌, ◌<◌, ◌≤◌, Bool, true, false, cond, List, [], ◌∷◌, ◌++◌, length}
+use Rattle.std.proofs.Common.{map, take, refl, sym, ap, ◌∙◌, subst, Option, Some, None, arith}
 use Rattle.std.specs.Prelude.{not, ◌&&◌, nat_lt, nat_le, find, filter, is_none, option_and_then}
 use Rattle.std.specs.Option.{option_map, option_or}
 use Rattle.std.specs.List.{AllByRecursion, filter_map}
@@ -20,14 +21,16 @@ use Rattle.task_model.specs.Past.{fold_past}
 use Rattle.task_model.specs.Time.{now_of, tick_from}
 use Rattle.task_model.specs.Posts.{Posted, is_delayed, ripens_before, post_behind, main_posted_by, main_posts}
 use Rattle.task_model.specs.Refusal.{is_closed}
-use Rattle.task_model.specs.Orders.{Ordered, ordered, numbered_from, drawing_by, main_arrivals, ripens, ripening, next_draw, draws, drawn_by, drawn_at, order_of}
+use Rattle.task_model.specs.Orders.{Ordered, ordered, numbered_from, drawing_by, main_arrivals, ripens}
+use Rattle.task_model.specs.Orders.{ripening, next_draw, draws, drawn_by, drawn_at, order_of}
 use Rattle.task_model.specs.MainQueues.{class_of, front_with, is_in_lane, order_below, front_of}
 use Rattle.pool_laws.specs.Keys.{NoTickAhead, moves_main_posts}
 use Rattle.queue_laws.specs.Orders.{moves_orders, order_at_tick_of, ordered_below}
 use Rattle.queue_laws.specs.Fronts.{front_for}
 use Rattle.list_laws.proofs.Values.{some-injective}
 use Rattle.list_laws.proofs.Counts.{count-cons}
-use Rattle.list_laws.proofs.Filters.{filter_none, filter_map_congr, filter_map_congr_in, filter-filter_map, map-congr_in, filter_map-passing, filter_map-option_map}
+use Rattle.list_laws.proofs.Filters.{filter_none, filter_map_congr, filter_map_congr_in, filter-filter_map}
+use Rattle.list_laws.proofs.Filters.{map-congr_in, filter_map-passing, filter_map-option_map}
 use Rattle.list_laws.proofs.Least.{least-map}
 use Rattle.list_laws.proofs.Elements.{AllByRecursion-map, AllByRecursion-append, AllByRecursion-always, push_induction}
 use Rattle.list_laws.proofs.Ranks.{ranks_by}
@@ -91,7 +94,7 @@ numbered_rises n (p ∷ ps) = (
 -- what draws at an entry draws the next numbers
 drawing_within : (past : List Entry) (e : Entry)
     → AllByRecursion (λ o. (next_draw past ≤ o.order) × (o.order < next_draw (past ++ e ∷ []))) (drawing_by past e.kind)
-drawing_within past e = by e.kind (draws_push past e)
+drawing_within past e = by_kind e.kind (draws_push past e)
   where
     within : (kind : Kind) (ps : List Posted) → length ps ≡ drawn_by past kind → draws (past ++ e ∷ []) ≡ draws past + drawn_by past kind
         → AllByRecursion (λ o. (next_draw past ≤ o.order) × (o.order < next_draw (past ++ e ∷ []))) (numbered_from (next_draw past) ps)
@@ -105,12 +108,12 @@ drawing_within past e = by e.kind (draws_push past e)
     posted task queue delay true grown = tt
     posted task queue delay false grown = ((omega arith, omega (arith, grown)), tt)
 
-    by : (kind : Kind) → draws (past ++ e ∷ []) ≡ draws past + drawn_by past kind
+    by_kind : (kind : Kind) → draws (past ++ e ∷ []) ≡ draws past + drawn_by past kind
         → AllByRecursion (λ o. (next_draw past ≤ o.order) × (o.order < next_draw (past ++ e ∷ []))) (drawing_by past kind)
-    by (kinds.Main task queue delay true) grown = posted task queue delay (nat_lt 0 delay) grown
-    by (kinds.Tick moment) grown = within (kinds.Tick moment) (sort_by ripens_before (ripening past moment))
+    by_kind (kinds.Main task queue delay true) grown = posted task queue delay (nat_lt 0 delay) grown
+    by_kind (kinds.Tick moment) grown = within (kinds.Tick moment) (sort_by ripens_before (ripening past moment))
         (length-sort_by ripens_before (ripening past moment)) grown
-    by kind grown = tt
+    by_kind kind grown = tt
 
 -- each order that was drawn is below the next draw
 pub main_arrivals_below : (past : List Entry) → AllByRecursion (λ o. o.order < next_draw past) (main_arrivals past)
@@ -124,11 +127,11 @@ main_arrivals_below = push_induction (λ past. AllByRecursion (λ o. o.order < n
     (drawing_by past e.kind) (λ o h. h.1) (drawing_within past e))))
 
 drawing_rises : (past : List Entry) (kind : Kind) → Rises ordered_below (drawing_by past kind)
-drawing_rises past (kinds.Main task queue delay true) = by (nat_lt 0 delay)
+drawing_rises past (kinds.Main task queue delay true) = by_order (nat_lt 0 delay)
   where
-    by : (b : Bool) → Rises ordered_below (cond b [] (numbered_from (next_draw past) (post_behind past task queue delay ∷ [])))
-    by true = tt
-    by false = (tt, tt)
+    by_order : (b : Bool) → Rises ordered_below (cond b [] (numbered_from (next_draw past) (post_behind past task queue delay ∷ [])))
+    by_order true = tt
+    by_order false = (tt, tt)
 drawing_rises past (kinds.Tick moment) = numbered_rises (next_draw past) (sort_by ripens_before (ripening past moment))
 drawing_rises past kind = tt
 
@@ -187,7 +190,7 @@ drawing_ripens past moment =
       numbered_is (next_draw past) sorted (rises-sort_by ripens_before ranks_ripens newly
           (differ-filter ripens_before (ripens past moment) (main_posts past) (main_posts_differ past))),
       map-congr_in (λ p. record { posted = p; order = next_draw past + count (λ q. ripens_before q p) sorted }) made sorted counted,
-      filter_map-passing (with_order (drawn_at past moment)) (ripens past moment) made (main_posts past) (λ p. by p (ripens past moment p)),
+      filter_map-passing (with_order (drawn_at past moment)) (ripens past moment) made (main_posts past) (λ p. by_posted p (ripens past moment p)),
     )
     (same_members-map made sorted newly (same_members-sort_by ripens_before newly))
   where
@@ -204,17 +207,17 @@ drawing_ripens past moment =
     counted = AllByRecursion-always _ sorted
         (λ p. ap (λ m. record { posted = p; order = next_draw past + m }) (count-sort_by (λ q. ripens_before q p) ripens_before newly))
 
-    by : (p : Posted) (b : Bool) → option_map (λ n. record { posted = p; order = n })
+    by_posted : (p : Posted) (b : Bool) → option_map (λ n. record { posted = p; order = n })
         (cond b (Some (next_draw past + count (λ q. ripens_before q p) newly)) None)
         ≡ cond b (Some (made p)) None
-    by p true = refl
-    by p false = refl
+    by_posted p true = refl
+    by_posted p false = refl
 
 -- the order of a task of the past after a tick, as long as no tick has come to a moment ahead
 order_or_drawn : (past : List Entry) (moment : ℕ) (p : Posted) → NoTickAhead past
     → (order_at_tick_of past moment p ≡ option_or (order_of past p) (drawn_at past moment p))
     × ((n : ℕ) → order_of past p ≡ Some n → drawn_at past moment p ≡ None)
-order_or_drawn past moment p none = by (is_delayed p) refl (tick_from past p.ripe) refl
+order_or_drawn past moment p none = by_delayed (is_delayed p) refl (tick_from past p.ripe) refl
   where
     kept : (o : Option ℕ) (d : Option ℕ) → d ≡ None → (o ≡ option_or o d) × ((n : ℕ) → o ≡ Some n → d ≡ None)
     kept None d is = (sym is, λ n h. is)
@@ -237,14 +240,14 @@ order_or_drawn past moment p none = by (is_delayed p) refl (tick_from past p.rip
     neither true false c d h = refl
     neither true true c d h = ap (λ t. t && d) h
 
-    by : (b : Bool) → is_delayed p ≡ b → (o : Option ℕ) → tick_from past p.ripe ≡ o
+    by_delayed : (b : Bool) → is_delayed p ≡ b → (o : Option ℕ) → tick_from past p.ripe ≡ o
         → (cond (b && is_none o) (drawn_at past moment p) (order_of past p) ≡ option_or (order_of past p) (drawn_at past moment p))
         × ((n : ℕ) → order_of past p ≡ Some n → drawn_at past moment p ≡ None)
-    by false immediate o was = kept (order_of past p) (drawn_at past moment p)
+    by_delayed false immediate o was = kept (order_of past p) (drawn_at past moment p)
         (idle (ap (λ b. b && not (is_closed past p.home) && nat_lt (now_of past) p.ripe && nat_le p.ripe moment) immediate))
-    by true delayed (Some place) was = kept (order_of past p) (drawn_at past moment p)
+    by_delayed true delayed (Some place) was = kept (order_of past p) (drawn_at past moment p)
         (idle (neither (is_delayed p) (not (is_closed past p.home)) (nat_lt (now_of past) p.ripe) (nat_le p.ripe moment) (ripe_ahead place was _ refl)))
-    by true delayed None was = fresh (order_of past p) (drawn_at past moment p)
+    by_delayed true delayed None was = fresh (order_of past p) (drawn_at past moment p)
         (order_is past p
         ∙ ap (λ (b : Bool). cond b (option_and_then (drawn past p) (tick_from past p.ripe)) (Some (next_draw (take p.place past)))) delayed
         ∙ ap (option_and_then (drawn past p)) was)
@@ -269,7 +272,7 @@ main_arrivals_are_ordered_at_start = same_members-refl []
 pub main_arrivals_are_ordered_grows : (past : List Entry) (e : Entry) → NoTickAhead past → SameMembers (main_arrivals past) (ordered past)
     → SameMembers (main_arrivals (past ++ e ∷ [])) (ordered (past ++ e ∷ []))
 unfolding ordered
-main_arrivals_are_ordered_grows past e none same = rw (main_arrivals_push past e) (by e.kind refl)
+main_arrivals_are_ordered_grows past e none same = rw (main_arrivals_push past e) (by_kind e.kind refl)
   where
     after : Posted → Option Ordered
     after = with_order (order_of (past ++ e ∷ []))
@@ -318,10 +321,11 @@ main_arrivals_are_ordered_grows past e none same = rw (main_arrivals_push past e
         apart p None r h idle = absurd (none-some r h)
         apart p (Some n) r h idle = ap (option_map (with p)) (idle n refl)
 
-    by : (kind : Kind) → e.kind ≡ kind → SameMembers (main_arrivals past ++ drawing_by past e.kind) (ordered (past ++ e ∷ []))
-    by (kinds.Main task queue delay true) is = added (kinds.Main task queue delay true) is refl (posted task queue delay is (nat_lt 0 delay) refl)
-    by (kinds.Tick moment) is = subst (λ kind. SameMembers (main_arrivals past ++ drawing_by past kind) (ordered (past ++ e ∷ []))) (sym is) (ticked moment is)
-    by kind is = added kind is refl refl
+    by_kind : (kind : Kind) → e.kind ≡ kind → SameMembers (main_arrivals past ++ drawing_by past e.kind) (ordered (past ++ e ∷ []))
+    by_kind (kinds.Main task queue delay true) is = added (kinds.Main task queue delay true) is refl (posted task queue delay is (nat_lt 0 delay) refl)
+    by_kind (kinds.Tick moment) is = subst (λ kind. SameMembers (main_arrivals past ++ drawing_by past kind) (ordered (past ++ e ∷ []))) (sym is)
+        (ticked moment is)
+    by_kind kind is = added kind is refl refl
 
 -- The front of a lane is the first arrival in it.
 

@@ -25,8 +25,8 @@ front_is_first script past q lane f is = least_is_least order_below (ranks_by (�
 
 pub streak_of_same : (script : Plan) (past : List Entry) (e : Entry) → moves_main_queues e.kind ≡ false
     → streak_of script (past ++ e ∷ []) ≡ streak_of script past
-streak_of_same script past e quiet = streak_of_push script past e ∙ by e.kind quiet (streak_of script past)
+streak_of_same script past e quiet = streak_of_push script past e ∙ by_kind e.kind quiet (streak_of script past)
   where
-    by : (kind : Kind) → moves_main_queues kind ≡ false → (n : ℕ) → streak_after script past n kind ≡ n
-    by (kinds.MainTake task queue found) h n = absurd (true≢false h)
-    by kind h n = refl
+    by_kind : (kind : Kind) → moves_main_queues kind ≡ false → (n : ℕ) → streak_after script past n kind ≡ n
+    by_kind (kinds.MainTake task queue found) h n = absurd (true≢false h)
+    by_kind kind h n = refl

@@ -30,7 +30,7 @@ main_places past = AllByRecursion-map (λ p. nat_lt p.place (length past) ≡ tr
 abbrev pub drawn : List Entry → Posted → ℕ → Option ℕ
 drawn past p place = option_and_then (λ moment. drawn_at (take place past) moment p) (moment_at past place)
 
-drawn_front : (past rest : List Entry) (p : Posted) (place : ℕ) → place < length past → drawn (past ++ rest) p place ≡ drawn past p place
+pub drawn_front : (past rest : List Entry) (p : Posted) (place : ℕ) → place < length past → drawn (past ++ rest) p place ≡ drawn past p place
 drawn_front past rest p place lt =
     ap (λ before. option_and_then (λ moment. drawn_at before moment p) (moment_at (past ++ rest) place)) (take-append-le place past rest (omega (arith, lt)))
     ∙ ap (λ o. option_and_then (λ moment. drawn_at (take place past) moment p) (option_and_then (λ x. moment_of x.kind) o)) (slice_get-front past rest place lt)
@@ -46,21 +46,21 @@ order_is past p = refl
 -- the order of a task of the past, by a tick of the past
 order_front : (past rest : List Entry) (p : Posted) (tick : Option ℕ) → p.place < length past → ((place : ℕ) → tick ≡ Some place → place < length past)
     → order_from (past ++ rest) p tick ≡ order_from past p tick
-order_front past rest p tick lt within = by (is_delayed p)
+order_front past rest p tick lt within = by_delayed (is_delayed p)
   where
     ticked : (o : Option ℕ) → ((place : ℕ) → o ≡ Some place → place < length past)
         → option_and_then (drawn (past ++ rest) p) o ≡ option_and_then (drawn past p) o
     ticked None f = refl
     ticked (Some place) f = drawn_front past rest p place (f place refl)
 
-    by : (b : Bool) → cond b (option_and_then (drawn (past ++ rest) p) tick) (Some (next_draw (take p.place (past ++ rest))))
+    by_delayed : (b : Bool) → cond b (option_and_then (drawn (past ++ rest) p) tick) (Some (next_draw (take p.place (past ++ rest))))
         ≡ cond b (option_and_then (drawn past p) tick) (Some (next_draw (take p.place past)))
-    by true = ticked tick within
-    by false = ap (λ before. Some (next_draw before)) (take-append-le p.place past rest (omega (arith, lt)))
+    by_delayed true = ticked tick within
+    by_delayed false = ap (λ before. Some (next_draw before)) (take-append-le p.place past rest (omega (arith, lt)))
 
 -- an order that was drawn stays
 pub order_of_stays : (past rest : List Entry) (p : Posted) (n : ℕ) → p.place < length past → order_of past p ≡ Some n → order_of (past ++ rest) p ≡ Some n
-order_of_stays past rest p n lt is = order_is (past ++ rest) p ∙ by (is_delayed p) refl (sym (order_is past p) ∙ is)
+order_of_stays past rest p n lt is = order_is (past ++ rest) p ∙ by_delayed (is_delayed p) refl (sym (order_is past p) ∙ is)
   where
     drawn_then : (o : Option ℕ) → o ≡ tick_from past p.ripe → option_and_then (drawn past p) o ≡ Some n
         → option_and_then (drawn (past ++ rest) p) (tick_from (past ++ rest) p.ripe) ≡ Some n
@@ -70,10 +70,10 @@ order_of_stays past rest p n lt is = order_is (past ++ rest) p ∙ by (is_delaye
         ∙ drawn_front past rest p place (tick_within past p.ripe place (sym was))
         ∙ h
 
-    by : (b : Bool) → is_delayed p ≡ b → cond b (option_and_then (drawn past p) (tick_from past p.ripe)) (Some (next_draw (take p.place past))) ≡ Some n
+    by_delayed : (b : Bool) → is_delayed p ≡ b → cond b (option_and_then (drawn past p) (tick_from past p.ripe)) (Some (next_draw (take p.place past))) ≡ Some n
         → cond b (option_and_then (drawn (past ++ rest) p) (tick_from (past ++ rest) p.ripe)) (Some (next_draw (take p.place (past ++ rest)))) ≡ Some n
-    by true delayed h = drawn_then (tick_from past p.ripe) refl h
-    by false immediate h = ap (λ before. Some (next_draw before)) (take-append-le p.place past rest (omega (arith, lt))) ∙ h
+    by_delayed true delayed h = drawn_then (tick_from past p.ripe) refl h
+    by_delayed false immediate h = ap (λ before. Some (next_draw before)) (take-append-le p.place past rest (omega (arith, lt))) ∙ h
 
 -- an entry that is no tick leaves the first ticks
 no_tick : (kind : Kind) → moves_orders kind ≡ false → (moment : ℕ) → is_tick_from moment kind ≡ false
@@ -102,7 +102,7 @@ order_at_tick past e p moment is delayed none =
     (Some (next_draw (take p.place (past ++ e ∷ []))))) delayed
     ∙ ap (option_and_then (drawn (past ++ e ∷ []) p)) (tick_from_push past e p.ripe ∙ ap (λ o. option_or o (tick_by past p.ripe e.kind)) none
     ∙ ap (tick_by past p.ripe) is)
-    ∙ by (nat_le p.ripe moment) refl
+    ∙ by_order (nat_le p.ripe moment) refl
   where
     here : drawn (past ++ e ∷ []) p (length past) ≡ drawn_at past moment p
     here =
@@ -124,9 +124,9 @@ order_at_tick past e p moment is delayed none =
         drawn_before : ℕ
         drawn_before = length (filter (λ q. nat_lt q.ripe p.ripe || (eqb q.ripe p.ripe && nat_lt q.place p.place)) (ripening past moment))
 
-    by : (b : Bool) → nat_le p.ripe moment ≡ b → option_and_then (drawn (past ++ e ∷ []) p) (cond b (Some (length past)) None) ≡ drawn_at past moment p
-    by true h = here
-    by false h = early h
+    by_order : (b : Bool) → nat_le p.ripe moment ≡ b → option_and_then (drawn (past ++ e ∷ []) p) (cond b (Some (length past)) None) ≡ drawn_at past moment p
+    by_order true h = here
+    by_order false h = early h
 
 -- an immediate task draws at its post
 pub order_at_post : (past : List Entry) (e : Entry) (task queue delay : ℕ) → nat_lt 0 delay ≡ false
@@ -155,10 +155,10 @@ order_same_ticked past rest p place lt ticked =
 -- the order of a task of the past after a tick
 pub order_tick : (past : List Entry) (e : Entry) (p : Posted) (moment : ℕ) → e.kind ≡ kinds.Tick moment → p.place < length past
     → order_of (past ++ e ∷ []) p ≡ order_at_tick_of past moment p
-order_tick past e p moment is lt = by (is_delayed p) refl (tick_from past p.ripe) refl
+order_tick past e p moment is lt = by_delayed (is_delayed p) refl (tick_from past p.ripe) refl
   where
-    by : (b : Bool) → is_delayed p ≡ b → (o : Option ℕ) → tick_from past p.ripe ≡ o
+    by_delayed : (b : Bool) → is_delayed p ≡ b → (o : Option ℕ) → tick_from past p.ripe ≡ o
         → order_of (past ++ e ∷ []) p ≡ cond (b && is_none o) (drawn_at past moment p) (order_of past p)
-    by false immediate o was = order_same_immediate past (e ∷ []) p lt immediate
-    by true delayed None was = order_at_tick past e p moment is delayed was
-    by true delayed (Some place) was = order_same_ticked past (e ∷ []) p place lt was
+    by_delayed false immediate o was = order_same_immediate past (e ∷ []) p lt immediate
+    by_delayed true delayed None was = order_at_tick past e p moment is delayed was
+    by_delayed true delayed (Some place) was = order_same_ticked past (e ∷ []) p place lt was

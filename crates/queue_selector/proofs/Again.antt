@@ -84,11 +84,11 @@ grown P rows queue lane order within closed all one =
 
 left_differ : (rows : List Row) (queue : ℕ) (lane : Lane) → queue < length rows → Differ order_below (fronts_from 0 rows)
     → Differ order_below (fronts_from 0 (put rows queue lane None))
-left_differ rows queue lane within differ = by (order_in lane (row_of rows queue)) refl
+left_differ rows queue lane within differ = by_order_in (order_in lane (row_of rows queue)) refl
   where
-    by : (o : Option ℕ) → order_in lane (row_of rows queue) ≡ o → Differ order_below (fronts_from 0 (put rows queue lane None))
-    by None is = subst (λ rs. Differ order_below (fronts_from 0 rs)) (sym (put_same rows queue lane None is)) differ
-    by (Some order) is = (closes rows queue lane order differ within is).differ
+    by_order_in : (o : Option ℕ) → order_in lane (row_of rows queue) ≡ o → Differ order_below (fronts_from 0 (put rows queue lane None))
+    by_order_in None is = subst (λ rs. Differ order_below (fronts_from 0 rs)) (sym (put_same rows queue lane None is)) differ
+    by_order_in (Some order) is = (closes rows queue lane order differ within is).differ
 
 -- the order of a front differs from those of all others
 unlike : (rows : List Row) (queue : ℕ) (lane : Lane) (order : ℕ) → queue < length rows → Differ order_below (fronts_from 0 rows)

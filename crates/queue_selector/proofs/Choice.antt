@@ -106,11 +106,11 @@ open_is class fronts =
 -- no class of the fronts is lesser, and one of them is of the class
 pub least_class_is : (fronts : List Front) (class : ℕ) → AllByRecursion (λ f. class ≤ f.class) fronts → list_any (λ f. f.class == class) fronts ≡ true
     → least_class fronts ≡ Some class
-least_class_is fronts class none_lesser one = by (least class_below fronts) refl
+least_class_is fronts class none_lesser one = by_least (least class_below fronts) refl
   where
-    by : (o : Option Front) → least class_below fronts ≡ o → option_map (λ f. f.class) o ≡ Some class
-    by None none = absurd (true≢false (sym one ∙ ap (list_any (λ f. f.class == class)) (no_least class_below fronts none)))
-    by (Some f) some =
+    by_least : (o : Option Front) → least class_below fronts ≡ o → option_map (λ f. f.class) o ≡ Some class
+    by_least None none = absurd (true≢false (sym one ∙ ap (list_any (λ f. f.class == class)) (no_least class_below fronts none)))
+    by_least (Some f) some =
         let it : IsLeast class_below fronts f = least_is_least class_below (ranks_by (λ g. g.class)) fronts f some in
         same it (cases_eq f.class class)
       where
@@ -140,11 +140,11 @@ next_class fronts class none_lesser none =
 
 -- the least class has an open front
 pub least_class_open : (fronts : List Front) (class : ℕ) → least_class fronts ≡ Some class → list_any (λ f. f.class == class) fronts ≡ true
-least_class_open fronts class is = by (least class_below fronts) refl is
+least_class_open fronts class is = by_least (least class_below fronts) refl is
   where
-    by : (o : Option Front) → least class_below fronts ≡ o → option_map (λ f. f.class) o ≡ Some class → list_any (λ f. f.class == class) fronts ≡ true
-    by None none none_is = absurd (none-some class none_is)
-    by (Some f) some class_is =
+    by_least : (o : Option Front) → least class_below fronts ≡ o → option_map (λ f. f.class) o ≡ Some class → list_any (λ f. f.class == class) fronts ≡ true
+    by_least None none none_is = absurd (none-some class none_is)
+    by_least (Some f) some class_is =
         let it : IsLeast class_below fronts f = least_is_least class_below (ranks_by (λ g. g.class)) fronts f some in
         any (list_any (λ g. g.class == class) fronts) refl it.member (some-injective class_is)
       where
@@ -204,7 +204,7 @@ pub choice_is : (fronts : List Front) (streak class : ℕ) → Differ order_belo
 choice_is fronts streak class differ is =
     ap (λ o. sooner_of streak o (first_of class Delayed fronts)) (first_immediate fronts class is)
     ∙ ap (sooner_of streak (least order_below immediate)) (first_delayed fronts class is)
-    ∙ by (cases_lt streak most_delayed) (least order_below immediate) (least order_below delayed)
+    ∙ by_order (cases_lt streak most_delayed) (least order_below immediate) (least order_below delayed)
     (least-split order_below (ranks_by (λ f. f.order)) (λ f. is_immediate f.lane) (of_least_class fronts)
     (differ-filter order_below (λ f. holds_of (λ c. f.class == c) (least_class fronts)) fronts differ)) refl (is_some-least order_below immediate)
   where
@@ -235,11 +235,12 @@ choice_is fronts streak class differ is =
     starved long a None = refl
     starved long a (Some b) = ap (λ t. Some (cond (t && order_below b a) b a)) (le-ltb streak most_delayed long)
 
-    by : (streak < most_delayed) ⊎ (most_delayed ≤ streak) → (o other : Option Front) → least order_below (of_least_class fronts) ≡ lesser order_below o other
+    by_order : (streak < most_delayed) ⊎ (most_delayed ≤ streak) → (o other : Option Front)
+        → least order_below (of_least_class fronts) ≡ lesser order_below o other
         → least order_below immediate ≡ o → is_some o ≡ nat_lt 0 (length immediate) → sooner_of streak o other ≡ choice_among fronts streak
-    by (inl less) o other split first some = short less o other ∙ sym split ∙ among false (not_long streak less)
-    by (inr long) None other split first some = sym split ∙ of_some false some long
-    by (inr long) (Some a) other split first some = starved long a other ∙ sym first ∙ of_some true some long
+    by_order (inl less) o other split first some = short less o other ∙ sym split ∙ among false (not_long streak less)
+    by_order (inr long) None other split first some = sym split ∙ of_some false some long
+    by_order (inr long) (Some a) other split first some = starved long a other ∙ sym first ∙ of_some true some long
 
 pub immediate_is : (s : Selecting) (class : ℕ) → least_class (fronts_from 0 s.rows) ≡ Some class
     → is_some (first_of class Immediate (fronts_from 0 s.rows)) ≡ immediate_is_open s
@@ -248,7 +249,7 @@ immediate_is s class is =
 
 -- no choice, no front
 none_chosen : (fronts : List Front) (streak : ℕ) → Differ order_below fronts → choice_among fronts streak ≡ None → fronts ≡ []
-none_chosen fronts streak differ none = by (least class_below fronts) refl
+none_chosen fronts streak differ none = by_least (least class_below fronts) refl
   where
     neither : (o other : Option Front) → sooner_of streak o other ≡ None → (is_some o || is_some other) ≡ false
     neither None None is = refl
@@ -256,9 +257,9 @@ none_chosen fronts streak differ none = by (least class_below fronts) refl
     neither (Some a) None is = absurd (none-some a (sym is))
     neither (Some a) (Some b) is = absurd (none-some _ (sym is))
 
-    by : (o : Option Front) → least class_below fronts ≡ o → fronts ≡ []
-    by None is = no_least class_below fronts is
-    by (Some f) is =
+    by_least : (o : Option Front) → least class_below fronts ≡ o → fronts ≡ []
+    by_least None is = no_least class_below fronts is
+    by_least (Some f) is =
         let class : least_class fronts ≡ Some f.class = ap (option_map (λ g. g.class)) is in
         absurd (true≢false (sym (least_class_open fronts f.class class) ∙ sym (open_is f.class fronts)
         ∙ neither (first_of f.class Immediate fronts) (first_of f.class Delayed fronts) (choice_is fronts streak f.class differ class ∙ none)))
@@ -288,7 +289,7 @@ none_is s chosen differ is = (forth chosen is, back chosen is)
 
 -- the streak is short where it grows
 pub short : (s : Selecting) (queue : ℕ) → choice s ≡ Some (queue, Delayed) → immediate_is_open s ≡ true → s.streak < most_delayed
-short s queue is waits = by (cases_lt s.streak most_delayed)
+short s queue is waits = by_order (cases_lt s.streak most_delayed)
   where
     fronts : List Front
     fronts = fronts_from 0 s.rows
@@ -303,9 +304,9 @@ short s queue is waits = by (cases_lt s.streak most_delayed)
         (filter_passes (λ g. is_immediate g.lane) (of_least_class fronts)) it.member)
         ∙ ap (λ (p : ℕ × Lane). is_immediate p.1) (some-injective same))
 
-    by : (s.streak < most_delayed) ⊎ (most_delayed ≤ s.streak) → s.streak < most_delayed
-    by (inl less) = less
-    by (inr long) =
+    by_order : (s.streak < most_delayed) ⊎ (most_delayed ≤ s.streak) → s.streak < most_delayed
+    by_order (inl less) = less
+    by_order (inr long) =
         let starved : is_starved fronts s.streak ≡ true = ap (λ t. t && immediate_is_open s) (le-leb most_delayed s.streak long) ∙ waits in
         absurd (lane_of (least order_below (immediate_of_least_class fronts)) refl
         (ap (λ t. option_map {U = ℕ × Lane} (λ f. (f.queue, f.lane)) (least order_below (cond t (immediate_of_least_class fronts) (of_least_class fronts))))

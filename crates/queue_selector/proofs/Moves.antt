@@ -27,19 +27,19 @@ use Rattle.list_laws.proofs.Rises.{length-insert_by}
 -- the front is of the class and the lane, or they have another set than its own
 which : (class other : ℕ) (lane other_lane : Lane) (f : Front) → f.class ≡ class → f.lane ≡ lane
     → ((class ≡ other) × (lane ≡ other_lane)) ⊎ ((set_place other other_lane ≢ set_place class lane) × (is_of other other_lane f ≡ false))
-which class other lane other_lane f of in_lane = by (cases_eq class other) lane other_lane in_lane
+which class other lane other_lane f of in_lane = by_class (cases_eq class other) lane other_lane in_lane
   where
     neither : (b : Bool) → (b && false) ≡ false
     neither true = refl
     neither false = refl
 
-    by : (class ≡ other) ⊎ (class ≡ other → ⊥) → (lane other_lane : Lane) → f.lane ≡ lane
+    by_class : (class ≡ other) ⊎ (class ≡ other → ⊥) → (lane other_lane : Lane) → f.lane ≡ lane
         → ((class ≡ other) × (lane ≡ other_lane)) ⊎ ((set_place other other_lane ≢ set_place class lane) × (is_of other other_lane f ≡ false))
-    by (inl same) Immediate Immediate is = inl (same, refl)
-    by (inl same) Delayed Delayed is = inl (same, refl)
-    by (inl same) Immediate Delayed is = inr ((λ e. omega (arith, e)), rw is (neither (f.class == other)))
-    by (inl same) Delayed Immediate is = inr ((λ e. omega (arith, e)), rw is (neither (f.class == other)))
-    by (inr not) lane other_lane is = inr (apart lane other_lane, ap (λ b. b && is_in other_lane f) (ne_eqb f.class other (λ e. not (sym of ∙ e))))
+    by_class (inl same) Immediate Immediate is = inl (same, refl)
+    by_class (inl same) Delayed Delayed is = inl (same, refl)
+    by_class (inl same) Immediate Delayed is = inr ((λ e. omega (arith, e)), rw is (neither (f.class == other)))
+    by_class (inl same) Delayed Immediate is = inr ((λ e. omega (arith, e)), rw is (neither (f.class == other)))
+    by_class (inr not) lane other_lane is = inr (apart lane other_lane, ap (λ b. b && is_in other_lane f) (ne_eqb f.class other (λ e. not (sym of ∙ e))))
       where
         apart : (lane other_lane : Lane) → set_place other other_lane ≢ set_place class lane
         apart Immediate Immediate = λ e. not (omega (arith, e))
@@ -81,17 +81,17 @@ told rows sets queue lane order f entries old of in_lane within differ here othe
     holds : (class : ℕ) (other_lane : Lane) → class ≤ 7
         → set_of (set sets (set_place row.class lane) (record { entries = entries; room = length rows })) class other_lane
         ≡ record { entries = sorted class other_lane (fronts_from 0 (put rows queue lane order)); room = length (put rows queue lane order) }
-    holds class other_lane le = by (which row.class class lane other_lane f of in_lane)
+    holds class other_lane le = by_which (which row.class class lane other_lane f of in_lane)
       where
-        by : ((row.class ≡ class) × (lane ≡ other_lane)) ⊎ ((set_place class other_lane ≢ set_place row.class lane) × (is_of class other_lane f ≡ false))
+        by_which : ((row.class ≡ class) × (lane ≡ other_lane)) ⊎ ((set_place class other_lane ≢ set_place row.class lane) × (is_of class other_lane f ≡ false))
             → set_of (set sets (set_place row.class lane) (record { entries = entries; room = length rows })) class other_lane
             ≡ record { entries = sorted class other_lane (fronts_from 0 (put rows queue lane order)); room = length (put rows queue lane order) }
-        by (inl same) = rw (← same.0, ← same.1) (
+        by_which (inl same) = rw (← same.0, ← same.1) (
             get_or-set_same sets (set_place row.class lane) (record { entries = entries; room = length rows }) no_set (set_within lane)
             ∙ ap (λ (es : List Entry). record { entries = es; room = length rows }) here
             ∙ ap (λ (n : ℕ). record { entries = sorted row.class lane (fronts_from 0 (put rows queue lane order)); room = n }) (sym long)
             )
-        by (inr other) =
+        by_which (inr other) =
             get_or-set_other sets (set_place row.class lane) (set_place class other_lane) (record { entries = entries; room = length rows }) no_set other.0
             ∙ old.holds class other_lane le
             ∙ ap (λ (es : List Entry). record { entries = es; room = length rows }) (sym (others class other_lane other.1))

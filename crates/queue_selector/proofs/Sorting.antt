@@ -19,14 +19,14 @@ Apart below a b = (below a b ≡ true) ⊎ (below b a ≡ true)
 insert_by-insert_by : {A : Type 0} (below : A → A → Bool) → Ranks below → (a b : A) (xs : List A) → below a b ≡ true
     → insert_by below a (insert_by below b xs) ≡ insert_by below b (insert_by below a xs)
 insert_by-insert_by below ranks a b [] less = simp (less, ranks.one_way a b less)
-insert_by-insert_by {A = A} below ranks a b (x ∷ xs) less = by (below x a) (below x b) refl refl (insert_by-insert_by below ranks a b xs less)
+insert_by-insert_by {A = A} below ranks a b (x ∷ xs) less = by_order (below x a) (below x b) refl refl (insert_by-insert_by below ranks a b xs less)
   where
-    by : (s t : Bool) → below x a ≡ s → below x b ≡ t → insert_by below a (insert_by below b xs) ≡ insert_by below b (insert_by below a xs)
+    by_order : (s t : Bool) → below x a ≡ s → below x b ≡ t → insert_by below a (insert_by below b xs) ≡ insert_by below b (insert_by below a xs)
         → insert_by below a (insert_by below b (x ∷ xs)) ≡ insert_by below b (insert_by below a (x ∷ xs))
-    by true true of_a of_b rest = simp (of_a, of_b) (ap (λ l. x ∷ l) rest)
-    by true false of_a of_b rest = absurd (true≢false (sym (ranks-trans below ranks x a b of_a less) ∙ of_b))
-    by false true of_a of_b rest = simp (of_a, of_b, less)
-    by false false of_a of_b rest = simp (of_a, of_b, less, ranks.one_way a b less)
+    by_order true true of_a of_b rest = simp (of_a, of_b) (ap (λ l. x ∷ l) rest)
+    by_order true false of_a of_b rest = absurd (true≢false (sym (ranks-trans below ranks x a b of_a less) ∙ of_b))
+    by_order false true of_a of_b rest = simp (of_a, of_b, less)
+    by_order false false of_a of_b rest = simp (of_a, of_b, less, ranks.one_way a b less)
 
 -- an element in the midst is put into the sort of the others
 pub sort_by-seam : {A : Type 0} (below : A → A → Bool) → Ranks below → (xs : List A) (x : A) (ys : List A) → AllByRecursion (Apart below x) xs
@@ -70,15 +70,15 @@ differ-unseam {A = A} below (z ∷ xs) x ys differ =
 pub insert_by-place : {A : Type 0} (below : A → A → Bool) (x : A) (ys : List A)
     → insert_by below x ys ≡ take (prefix_len (λ y. below y x) ys) ys ++ x ∷ drop (prefix_len (λ y. below y x) ys) ys
 insert_by-place below x [] = refl
-insert_by-place {A = A} below x (y ∷ ys) = by (below y x) (insert_by-place below x ys)
+insert_by-place {A = A} below x (y ∷ ys) = by_order (below y x) (insert_by-place below x ys)
   where
-    by : (b : Bool) → insert_by below x ys ≡ take (prefix_len (λ y. below y x) ys) ys ++ x ∷ drop (prefix_len (λ y. below y x) ys) ys
+    by_order : (b : Bool) → insert_by below x ys ≡ take (prefix_len (λ y. below y x) ys) ys ++ x ∷ drop (prefix_len (λ y. below y x) ys) ys
         → cond b (y ∷ insert_by below x ys) (x ∷ y ∷ ys)
         ≡ take (cond b (1 + prefix_len (λ y. below y x) ys) 0) (y ∷ ys) ++ x ∷ drop (cond b (1 + prefix_len (λ y. below y x) ys) 0) (y ∷ ys)
-    by true rest =
+    by_order true rest =
         let next : 1 + prefix_len (λ y. below y x) ys ≡ suc (prefix_len (λ y. below y x) ys) = omega arith in
         ap (λ l. y ∷ l) rest ∙ sym (ap (λ n. take n (y ∷ ys) ++ x ∷ drop n (y ∷ ys)) next)
-    by false rest = refl
+    by_order false rest = refl
 
 -- a test that it fails doesn't see it
 pub filter-insert_by : {A : Type 0} (p : A → Bool) (below : A → A → Bool) (x : A) (ys : List A) → p x ≡ false → filter p (insert_by below x ys) ≡ filter p ys

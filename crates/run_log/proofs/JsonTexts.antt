@@ -1,5 +1,6 @@
 -- The text of an entry's JSON row, and of the rows of a log.
-use Rattle.std.proofs.Common.{◌≡◌, ◌≢◌, ◌<◌, ◌+◌, ℕ, true, false, suc, List, [], ◌∷◌, ◌++◌, length, get_or, take, map, Some, None, refl, sym, ap, ◌∙◌, append_assoc, append-nil, add-zero, zero-add, arith}
+use Rattle.std.proofs.Common.{◌≡◌, ◌≢◌, ◌<◌, ◌+◌, ℕ, true, false, suc, List, [], ◌∷◌, ◌++◌, length, get_or, take, map}
+use Rattle.std.proofs.Common.{Some, None, refl, sym, ap, ◌∙◌, append_assoc, append-nil, add-zero, zero-add, arith}
 use Rattle.std.specs.List.{join_with_byte}
 use Rattle.std.specs.Fmt.{decimal}
 use Rattle.std.proofs.lemmas.Bool.{ne_eqb}
@@ -110,7 +111,8 @@ row_is place e first second whole p q r = rw (r, q, p, with_parts_is) refl
 -- the rows of two lists of entries
 jsons_from-append : (place : ℕ) (xs ys : List Entry) → jsons_from place (xs ++ ys) ≡ jsons_from place xs ++ jsons_from (place + length xs) ys
 jsons_from-append place [] ys = rw add-zero refl
-jsons_from-append place (x ∷ xs) ys = let shift : (place + 1) + length xs ≡ place + suc (length xs) = omega arith in rw (jsons_from-append (place + 1) xs ys, shift) refl
+jsons_from-append place (x ∷ xs) ys = let shift : (place + 1) + length xs ≡ place + suc (length xs) = omega arith in
+    rw (jsons_from-append (place + 1) xs ys, shift) refl
 
 -- what stands before an item behind these: a comma, if there are any
 abbrev comma_behind : List (List ℕ) → List ℕ
@@ -129,7 +131,8 @@ comma_at place [] h = rw (← h) refl
 comma_at place (x ∷ xs) h = let later : place ≢ 0 = omega (arith, h) in rw ne_eqb refl
 
 -- the rows up to a place, and the row of that place
-pub rows_more : (text row : List ℕ) (xs : List Entry) (i : ℕ) (d : Entry) → text ≡ 91 ∷ join_with_byte 44 (jsons_from 0 (take i xs)) → row ≡ json_of i (get_or xs i d)
+pub rows_more : (text row : List ℕ) (xs : List Entry) (i : ℕ) (d : Entry) → text ≡ 91 ∷ join_with_byte 44 (jsons_from 0 (take i xs))
+    → row ≡ json_of i (get_or xs i d)
     → i < length xs → (text ++ before_row i) ++ row ≡ 91 ∷ join_with_byte 44 (jsons_from 0 (take (i + 1) xs))
 rows_more text row xs i d p q h =
     let short : length (take i xs) ≡ i = length-take-le i xs (omega arith) in

@@ -1,5 +1,6 @@
 -- The words of the line of an entry.
-use Rattle.std.proofs.Common.{◌≡◌, ℕ, suc, ◌-◌, ◌<◌, ◌≤◌, List, [], ◌∷◌, ◌++◌, length, get_or, take, All, map, eqb, false, Option, Some, None, IfSome, refl, sym, ap, ◌∙◌, arith, length-append, drop-cons}
+use Rattle.std.proofs.Common.{◌≡◌, ℕ, suc, ◌-◌, ◌<◌, ◌≤◌, List, [], ◌∷◌, ◌++◌, length, get_or, take, All, map, eqb, false}
+use Rattle.std.proofs.Common.{Option, Some, None, IfSome, refl, sym, ap, ◌∙◌, arith, length-append, drop-cons}
 use Rattle.std.specs.Fmt.{decimal}
 use Rattle.std.specs.List.{AllByRecursion, slice_split, join_with_byte}
 use Rattle.std.proofs.Math.Seq.{take-append_seam}
@@ -13,7 +14,7 @@ use Rattle.log_model.specs.LogText.{IsLogLine, Part, entry_parts, shown, line_of
 use Rattle.log_model.proofs.Laws.Pieces.{Lacks}
 use Rattle.log_model.proofs.Laws.LogParts.{PartFits, decimal_lacks, shown_lacks}
 use Rattle.log_model.proofs.Laws.LogLines.{line_words, seat_parts, seat_parts_fit}
-use Rattle.run_log.specs.Words.{words_of}
+use Rattle.run_log.specs.Words.{spaced_words}
 
 -- a piece that lacks the byte, as a test
 fails_each : (c : ℕ) (piece : List ℕ) → Lacks c piece → All (λ b. eqb b c ≡ false) piece
@@ -34,7 +35,7 @@ parts_lack_space [] h = tt
 parts_lack_space (part ∷ parts) h = (shown_lacks 32 refl part h.0, parts_lack_space parts h.1)
 
 -- the words of a line are the parts of its entry
-pub words_of-line : (place : ℕ) (e : Entry) → Fits e → words_of (line_words place e) ≡ map shown (entry_parts place e)
+pub words_of-line : (place : ℕ) (e : Entry) → Fits e → spaced_words (line_words place e) ≡ map shown (entry_parts place e)
 words_of-line place e h =
     split_joined 32 (decimal place) (map shown (seat_parts e)) (decimal_lacks 32 refl place, parts_lack_space (seat_parts e) (seat_parts_fit e h))
 
@@ -46,8 +47,8 @@ front_of-line place e bytes same =
 
 -- so the bytes before it are split into the parts of the entry
 pub words_of-front : (place : ℕ) (e : Entry) (bytes : List ℕ) → IsLogLine place bytes e
-    → words_of (take (length bytes - 1) bytes) ≡ map shown (entry_parts place e)
-words_of-front place e bytes h = ap words_of (front_of-line place e bytes h.same) ∙ words_of-line place e h.fits
+    → spaced_words (take (length bytes - 1) bytes) ≡ map shown (entry_parts place e)
+words_of-front place e bytes h = ap spaced_words (front_of-line place e bytes h.same) ∙ words_of-line place e h.fits
 
 -- what stands before the last byte, and that byte
 front_and_last : (bytes : List ℕ) (last : ℕ) → 0 < length bytes → get_or bytes (length bytes - 1) 0 ≡ last → bytes ≡ take (length bytes - 1) bytes ++ last ∷ []
@@ -59,14 +60,14 @@ front_and_last bytes last some same =
 
 -- bytes that are split into the parts of an entry, and end with a line feed, are its line
 line_from-words : (place : ℕ) (e : Entry) (bytes : List ℕ) → 0 < length bytes → get_or bytes (length bytes - 1) 0 ≡ 10
-    → words_of (take (length bytes - 1) bytes) ≡ map shown (entry_parts place e) → bytes ≡ line_of place e
+    → spaced_words (take (length bytes - 1) bytes) ≡ map shown (entry_parts place e) → bytes ≡ line_of place e
 line_from-words place e bytes some feed words =
     front_and_last bytes 10 some feed
     ∙ ap (λ front. front ++ 10 ∷ []) (sym (join_with_byte-slice_split 32 (take (length bytes - 1) bytes)) ∙ ap (join_with_byte 32) words)
 
 -- so an answer whose parts these are is that of the line
 pub answers_line : (place : ℕ) (bytes : List ℕ) (words : List (List ℕ)) (o : Option Entry) → 0 < length bytes → get_or bytes (length bytes - 1) 0 ≡ 10
-    → words ≡ words_of (take (length bytes - 1) bytes) → IfSome o (λ e. words ≡ map shown (entry_parts place e)) → IfSome o Fits
+    → words ≡ spaced_words (take (length bytes - 1) bytes) → IfSome o (λ e. words ≡ map shown (entry_parts place e)) → IfSome o Fits
     → IfSome o (λ e. IsLogLine place bytes e)
 answers_line place bytes words None some feed same parts fits = tt
 answers_line place bytes words (Some e) some feed same parts fits = record { same = line_from-words place e bytes some feed (sym same ∙ parts); fits = fits }

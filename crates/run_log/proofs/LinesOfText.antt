@@ -1,5 +1,6 @@
 -- How a text falls into lines.
-use Rattle.std.proofs.Common.{◌≡◌, ◌≢◌, ◌<◌, ◌+◌, ℕ, zero, suc, min, Bool, eqb, List, [], ◌∷◌, ◌++◌, length, take, drop, Option, Some, None, refl, ◌∙◌, inl, inr, arith, length-take-le}
+use Rattle.std.proofs.Common.{◌≡◌, ◌≢◌, ◌<◌, ◌+◌, ℕ, zero, suc, min, Bool, eqb, List, [], ◌∷◌, ◌++◌, length}
+use Rattle.std.proofs.Common.{take, drop, Option, Some, None, refl, ◌∙◌, inl, inr, arith, length-take-le}
 use Rattle.std.specs.List.{IsFirstMatchOrLen, concat, onto_first, position, position_or_len}
 use Rattle.std.proofs.lemmas.Bool.{both_ways, cases_eq, cases_lt, eq-eqb, ne_eqb, eqb-true, false_from_ne_true, le-ltb, lt-ltb, ltb-true}
 use Rattle.std.proofs.lemmas.List.{take-append-drop}
@@ -98,9 +99,11 @@ line_end-None text none =
 pub first_feed-is : (text : List ℕ) (found : Option ℕ) → IsFirstByte (is_byte 10) text found → found ≡ position is_feed text
 first_feed-is text None none =
     let nowhere : position_or_len is_feed text ≡ length text =
-    position_or_len_is is_feed text (length text) 0 (omega arith) (λ k within. false_from_ne_true _ (none k (omega arith) within)) (λ within. absurd (omega arith)) in
+    position_or_len_is is_feed text (length text) 0 (omega arith) (λ k within. false_from_ne_true _ (none k (omega arith) within))
+    (λ within. absurd (omega arith)) in
     rw (nowhere, le-ltb (length text) (length text) (omega arith)) refl
 first_feed-is text (Some feed) first =
     let here : position_or_len is_feed text ≡ feed =
-    position_or_len_is is_feed text feed 0 (omega (arith, first.0.high)) (λ k before. false_from_ne_true _ (first.0.before k (omega arith) before)) (λ within. first.1) in
+    position_or_len_is is_feed text feed 0 (omega (arith, first.0.high)) (λ k before. false_from_ne_true _ (first.0.before k (omega arith) before))
+    (λ within. first.1) in
     rw (here, lt-ltb _ _ first.0.high) refl

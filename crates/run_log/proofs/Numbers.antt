@@ -1,5 +1,6 @@
 -- The number that a word writes.
-use Rattle.std.proofs.Common.{◌≡◌, ◌≢◌, ℕ, zero, suc, ◌<◌, ◌≤◌, ◌+◌, ◌*◌, ◌^◌, List, [], ◌∷◌, length, get_or, drop, Option, Some, None, IfSome, drop-cons, refl, sym, ap, ◌∙◌, ◌⊎◌, inl, inr, arith}
+use Rattle.std.proofs.Common.{◌≡◌, ◌≢◌, ℕ, zero, suc, ◌<◌, ◌≤◌, ◌+◌, ◌*◌, ◌^◌, List, [], ◌∷◌, length, get_or, drop}
+use Rattle.std.proofs.Common.{Option, Some, None, IfSome, drop-cons, refl, sym, ap, ◌∙◌, ◌⊎◌, inl, inr, arith}
 use native.Mathlib.Nat.{pow-le-pow_right}
 use Rattle.std.specs.Char.{digit_value}
 use Rattle.std.specs.Fmt.{decimal}

@@ -23,16 +23,16 @@ abbrev pub ◌>>=◌ : {A B : Type 0} → Option A → (A → Option B) → Opti
 o >>= f = option_and_then f o
 
 -- the reply of a post that a word names (this project's own)
-abbrev pub reply_of : List ℕ → Option Bool
-reply_of word = if bytes_eq word (codes "ok") then Some true else (if bytes_eq word (codes "no") then Some false else None)
+abbrev pub reply_named : List ℕ → Option Bool
+reply_named word = if bytes_eq word (codes "ok") then Some true else (if bytes_eq word (codes "no") then Some false else None)
 
 -- the vote that a word names (this project's own)
 abbrev pub vote_of : List ℕ → Option Bool
 vote_of word = if bytes_eq word (codes "on") then Some true else (if bytes_eq word (codes "off") then Some false else None)
 
 -- the blocking scope that a word names (this project's own)
-abbrev pub scope_of : List ℕ → Option Scope
-scope_of word = if bytes_eq word (codes "may") then Some May else (if bytes_eq word (codes "will") then Some Will else None)
+abbrev pub scope_named : List ℕ → Option Scope
+scope_named word = if bytes_eq word (codes "may") then Some May else (if bytes_eq word (codes "will") then Some Will else None)
 
 -- the policy that a word names (this project's own)
 abbrev pub policy_of : List ℕ → Option Policy
@@ -91,12 +91,12 @@ kind_with_one name first =
 unfoldable pub kind_with_two : List ℕ → List ℕ → List ℕ → Option Kind
 kind_with_two name first second =
     if bytes_eq name (codes "end") then (number_of 32 first >>= λ task. number_of 64 second >>= λ left. Some (kinds.End task left))
-    else (if bytes_eq name (codes "block") then (number_of 32 first >>= λ task. scope_of second >>= λ scope. Some (kinds.Enter task scope))
+    else (if bytes_eq name (codes "block") then (number_of 32 first >>= λ task. scope_named second >>= λ scope. Some (kinds.Enter task scope))
     else (if bytes_eq name (codes "reprio") then (number_of 32 first >>= λ runner. priority_of second >>= λ priority. Some (kinds.Reprio runner priority))
     else (if bytes_eq name (codes "fence") then (number_of 32 first >>= λ queue. fence_of second >>= λ at. Some (kinds.Fence queue at))
     else (if bytes_eq name (codes "rank") then (number_of 32 first >>= λ queue. number_of 8 second >>= λ class. Some (kinds.Rank queue class))
     else (if bytes_eq name (codes "mainend") then (number_of 32 first >>= λ task. number_of 64 second >>= λ left. Some (kinds.MainEnd task left))
-    else (if bytes_eq name (codes "startjob") then (number_of 32 first >>= λ job. reply_of second >>= λ ok. Some (kinds.JobPost job ok))
+    else (if bytes_eq name (codes "startjob") then (number_of 32 first >>= λ job. reply_named second >>= λ ok. Some (kinds.JobPost job ok))
     else (if bytes_eq name (codes "joined") then (number_of 32 first >>= λ job. ending_of second >>= λ reply. Some (kinds.Joined job reply))
     else None)))))))
 
@@ -126,7 +126,7 @@ kind_with_four name first second third fourth = do
   task ← number_of 32 first
   home ← number_of 32 second
   delay ← number_of 64 third
-  ok ← reply_of fourth
+  ok ← reply_named fourth
   if bytes_eq name (codes "post") then Some (kinds.Post task home delay ok)
       else (if bytes_eq name (codes "main") then Some (kinds.Main task home delay ok)
       else None)

@@ -9,8 +9,8 @@ use Rattle.run_log.specs.Kinds.{◌>>=◌, kind_of}
 use Rattle.run_log.specs.Words.{number_of}
 
 -- a space, a tab, a carriage return or a line feed (this project's own rule)
-abbrev pub is_blank : ℕ → Bool
-is_blank byte = byte == 32 || byte == 9 || byte == 13 || byte == 10
+abbrev pub is_blank_byte : ℕ → Bool
+is_blank_byte byte = byte == 32 || byte == 9 || byte == 13 || byte == 10
 
 -- whether a word begins with a zero in front of a digit
 abbrev pub has_zero_in_front : List ℕ → Bool
@@ -24,7 +24,7 @@ without_zeros (byte ∷ word) = if has_zero_in_front (byte ∷ word) then withou
 
 -- the words of a line, parted by any blanks, each without zeros in front (this project's own rule)
 abbrev pub plain_words : List ℕ → List (List ℕ)
-plain_words line = map without_zeros (filter (λ word. not (length word == 0)) (slice_split is_blank line))
+plain_words line = map without_zeros (filter (λ word. not (length word == 0)) (slice_split is_blank_byte line))
 
 -- the line is the entry's but for its spelling: behind any word in place of the place, its plain words are those of the
 -- entry (this project's own rule)

@@ -12,8 +12,8 @@ abbrev pub texts : List (Bor (List ℕ)) → List (List ℕ)
 texts words = map (λ word. word.now) words
 
 -- what stands between the spaces of a line, also where that is nothing (this project's own rule)
-abbrev pub words_of : List ℕ → List (List ℕ)
-words_of line = slice_split (λ byte. byte == 32) line
+abbrev pub spaced_words : List ℕ → List (List ℕ)
+spaced_words line = slice_split (λ byte. byte == 32) line
 
 -- the number that digits write, if it has at most 64 bits; there may be zeros in front, and no digits write 0 (this
 -- project's own rule)

@@ -3,7 +3,7 @@ ghost use Rattle.task_base.specs.declared.entry.Entry.{Entry};
 ghost use Rattle.log_model.specs.Fits.{Fits};
 ghost use Rattle.log_model.specs.LogText.{IsLogLine, entry_parts, shown};
 ghost use Rattle.run_log.specs.Kinds.{entry_of};
-ghost use Rattle.run_log.specs.Words.{texts, words_of};
+ghost use Rattle.run_log.specs.Words.{texts, spaced_words};
 
 use crate::kinds::kind_of;
 use crate::numerals::number_32;
@@ -41,7 +41,7 @@ fn entry_of(place: Place, words: &[&[u8]]) -> Option<Entry>
 
 // The words of a line, if there are at most eight: no line of a log has more.
 fn words_of(line: &[u8]) -> Option<ArrayVec<&[u8], 8>>
-    ensures { MatchOption result (8 < length (words_of line.now)) (λ words. texts words.items ≡ words_of line.now) }
+    ensures { MatchOption result (8 < length (spaced_words line.now)) (λ words. texts words.items ≡ spaced_words line.now) }
 {
     let mut words = ArrayVec::new();
     for word in line.split(|byte| *byte == b' ') {

@@ -2,7 +2,7 @@ ghost use Rattle.std.specs.Prelude.{◌≡◌, [], ◌∷◌, IfSome, map};
 ghost use Rattle.std.specs.Str.{bytes_eq};
 ghost use Rattle.log_model.specs.Fits.{NextFits, ReplyFits};
 ghost use Rattle.log_model.specs.LogText.{shown, next_part, reply_parts, reply_word, vote_word, scope_word, policy_word, priority_word, fence_word};
-ghost use Rattle.run_log.specs.Kinds.{reply_of, vote_of, scope_of, policy_of, priority_of, fence_of, next_of, ending_of};
+ghost use Rattle.run_log.specs.Kinds.{reply_named, vote_of, scope_named, policy_of, priority_of, fence_of, next_of, ending_of};
 
 use crate::numerals::number_32;
 use task_base::{FenceAt, JobReply, Policy, Priority, Scope};
@@ -24,7 +24,7 @@ pub(crate) fn is_word(word: &[u8], name: &[u8]) -> bool
 
 /// The reply of a post.
 pub(crate) fn reply_of(word: &[u8]) -> Option<bool>
-    ensures same { result ≡ reply_of word.now }
+    ensures same { result ≡ reply_named word.now }
     ensures text { IfSome result (λ ok. word.now ≡ reply_word ok) }
 {
     if word == b"ok".as_slice() {
@@ -52,7 +52,7 @@ pub(crate) fn vote_of(word: &[u8]) -> Option<bool>
 
 /// A blocking scope.
 pub(crate) fn scope_of(word: &[u8]) -> Option<Scope>
-    ensures same { result ≡ scope_of word.now }
+    ensures same { result ≡ scope_named word.now }
     ensures text { IfSome result (λ scope. word.now ≡ scope_word scope) }
 {
     if word == b"may".as_slice() {

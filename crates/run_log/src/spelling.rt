@@ -2,7 +2,7 @@ ghost use Rattle.std.specs.Prelude.{◌≡◌, ◌∷◌, ◌<◌, ℕ, List, No
 ghost use Rattle.task_base.specs.declared.entry.Entry.{Entry};
 ghost use Rattle.log_model.specs.Fits.{Fits};
 ghost use Rattle.log_model.specs.LogText.{number, parts_of, shown};
-ghost use Rattle.run_log.specs.Spelling.{IsMeant, entry_behind_place, has_zero_in_front, is_blank, plain_words, without_zeros};
+ghost use Rattle.run_log.specs.Spelling.{IsMeant, entry_behind_place, has_zero_in_front, is_blank_byte, plain_words, without_zeros};
 ghost use Rattle.run_log.specs.Words.{texts};
 
 use crate::kinds::kind_of;
@@ -53,7 +53,7 @@ fn plain_words(line: &[u8]) -> Option<ArrayVec<&[u8], 8>>
 }
 
 fn is_blank(byte: u8) -> bool
-    ensures { result ≡ is_blank byte }
+    ensures { result ≡ is_blank_byte byte }
 {
     byte == b' ' || byte == b'\t' || byte == b'\r' || byte == b'\n'
 }

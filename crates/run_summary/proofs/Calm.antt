@@ -1,6 +1,8 @@
 -- Calm scripts, whose logs have no tick, no policy, no fence, no vote, no rank, no close, no cancel, no shutdown and no scope: what
 -- stays as it was at first in each legal log of theirs. The generated scripts are calm.
-use Rattle.std.proofs.Common.{◌≡◌, ℕ, ◌+◌, Bool, true, false, cond, eqb, leb, List, [], ◌∷◌, ◌++◌, length, refl, sym, ap, subst, ◌∙◌, Option, Some, None, ⊎_elim}
+use Rattle.hist_model.proofs.Laws.BySound.{current_is_one}
+use Rattle.std.proofs.Common.{◌≡◌, ℕ, ◌+◌, Bool, true, false, cond, eqb, leb, List, [], ◌∷◌, ◌++◌}
+use Rattle.std.proofs.Common.{length, refl, sym, ap, subst, ◌∙◌, Option, Some, None, ⊎_elim}
 use Rattle.std.specs.Prelude.{◌&&◌, ◌||◌, not, filter, slice_get, option_and_then}
 use Rattle.std.specs.List.{AllByRecursion}
 use Rattle.std.specs.Option.{option_map_or, option_map}
@@ -35,7 +37,8 @@ use Rattle.task_model.specs.Seats.{Running, running, steps_of, acts_done}
 use Rattle.task_model.specs.Jobs.{JobPosted, job_post_of, job_post_after, is_cancelled, cancels, is_empty}
 use Rattle.task_model.specs.Blockers.{blockers_of}
 use Rattle.task_model.specs.MainQueues.{fence_of, fence_after, votes_on, vote_after}
-use Rattle.task_model.proofs.Growth.{phase_of_push, policy_of_push, now_of_push, posts_push, main_posts_push, is_closed_push, job_post_of_push, is_cancelled_push, fence_of_push, votes_on_push}
+use Rattle.task_model.proofs.Growth.{phase_of_push, policy_of_push, now_of_push, posts_push, main_posts_push, is_closed_push}
+use Rattle.task_model.proofs.Growth.{job_post_of_push, is_cancelled_push, fence_of_push, votes_on_push}
 use Rattle.hist_model.specs.Views.{own_entries}
 use Rattle.hist_model.specs.Script.{behind_action, Current, current_from, current, wants}
 use Rattle.hist_model.specs.Allowed.{by_script, by_task, enters, is_reply, may_come}
@@ -97,23 +100,6 @@ pub record IsCalm (past : List Entry) : Type 0 where
   pub posted : AllByRecursion (λ p. p.delay ≡ 0) (posts past)
   pub main_posted : AllByRecursion (λ p. p.delay ≡ 0) (main_posts past)
   pub no_job_refused : (j : ℕ) → holds_of (λ p. not p.ok) (job_post_of past j) ≡ false
-
--- the current action of a script is one of its actions
-current_from_is_one : (P : Action → Type 0) (xs : List Action) (own : List Entry) (c : Current) → AllByRecursion P xs → current_from xs own ≡ Some c
-    → P c.action
-current_from_is_one P [] own c all is = absurd cc
-current_from_is_one P (x ∷ xs) own c all is = at (behind_action x own) (λ left. current_from_is_one P xs left c all.1) is
-  where
-    at : (o : Option (List Entry)) → ((left : List Entry) → current_from xs left ≡ Some c → P c.action)
-        → option_map_or (λ left. current_from xs left) o (Some (record { action = x; made = own })) ≡ Some c → P c.action
-    at None next k = subst (λ (d : Current). P d.action) (same_Some (record { action = x; made = own }) c k) all.0
-    at (Some left) next k = next left k
-
--- so what holds of each action of a script holds of the current one
-pub current_is_one : (P : Action → Type 0) (script : Plan) (own : List Entry) (c : Current) → AllByRecursion P script.actions → current script own ≡ Some c
-    → P c.action
-unfolding current
-current_is_one P script own c all is = current_from_is_one P script.actions own c all is
 
 -- an entry that the driver makes by the script is wanted by one of its actions
 pub wanted_by_one : (P : Action → Type 0) (script : Plan) (past : List Entry) (seat : ℕ) (kind : Kind) → AllByRecursion P script.actions

@@ -1,5 +1,6 @@
 -- The table of cells stands for the past: before the first entry, and behind one more.
-use Rattle.std.proofs.Common.{◌≡◌, ℕ, ◌+◌, ◌%◌, ◌^◌, ◌<◌, ◌≤◌, Bool, true, false, cond, eqb, leb, List, [], ◌∷◌, ◌++◌, length, get_or, take, set, replicate, map, sum, refl, sym, ap, ◌∙◌, Option, Some, None, ◌⊎◌, inl, inr, arith, length-set, get_or-set_same, get_or-set_other}
+use Rattle.std.proofs.Common.{◌≡◌, ℕ, ◌+◌, ◌%◌, ◌^◌, ◌<◌, ◌≤◌, Bool, true, false, cond, eqb, leb, List, [], ◌∷◌, ◌++◌, length, get_or, take, set, replicate}
+use Rattle.std.proofs.Common.{map, sum, refl, sym, ap, ◌∙◌, Option, Some, None, ◌⊎◌, inl, inr, arith, length-set, get_or-set_same, get_or-set_other}
 use Rattle.std.specs.Prelude.{◌&&◌, not, sum_by}
 use Rattle.std.specs.List.{range_with_len}
 use Rattle.std.proofs.lemmas.Bool.{cases_eq, eq-eqb, ne_eqb, and_parts, leb-true}
@@ -26,7 +27,7 @@ use Rattle.run_summary.specs.Summary.{ends_task, ends_item, value_in, cells_of, 
 use Rattle.run_summary.specs.declared.cells.Cells.{Cells}
 use Rattle.run_summary.specs.declared.cells.Home.{Home}
 use Rattle.run_summary.specs.declared.cells.Home.TheVariants.{Nothing, Sequence, Queue}
-use Rattle.run_summary.specs.Cells.{home_of, AreCells, home_at, homes_after, left_in_sequences, left_in_queues, sequences_after, queues_after}
+use Rattle.run_summary.specs.Cells.{home_in_run, AreCells, home_at, homes_after, left_in_sequences, left_in_queues, sequences_after, queues_after}
 
 -- what each number of a row gives, where all give the same
 row_of_one : {A : Type 0} (f : ℕ → A) (n : ℕ) (x : A) → ((k : ℕ) → f k ≡ x) → replicate n x ≡ map f (range_with_len 0 n)
@@ -55,54 +56,54 @@ pub no_cells : (script : Plan) (cells : Cells) → cells.homes.items ≡ replica
     → cells.sequences.items ≡ replicate (sequence_count script) 0 → cells.queues.items ≡ replicate (length script.queues) 0 → AreCells script [] cells
 unfolding running cell_of main_cell_of fold_past
 no_cells script cells homes sequences queues = record {
-  homes = homes ∙ row_of_one (λ seat. home_of script (running [] seat)) (script.workers + 1) Nothing (λ k. refl);
+  homes = homes ∙ row_of_one (λ seat. home_in_run script (running [] seat)) (script.workers + 1) Nothing (λ k. refl);
   sequences = sequences ∙ row_of_one (cell_of script []) (sequence_count script) 0 (λ k. refl);
   queues = queues ∙ row_of_one (main_cell_of []) (length script.queues) 0 (λ k. refl);
 }
 
 -- the table tells what the task of each seat of the script belongs to
 told : (script : Plan) (past : List Entry) (cells : Cells) (seat : ℕ) → AreCells script past cells → seat ≤ script.workers
-    → home_at cells.homes.items seat ≡ home_of script (running past seat)
+    → home_at cells.homes.items seat ≡ home_in_run script (running past seat)
 told script past cells seat are known = rw are.homes
-    (get_or-map-range_with_len (λ s. home_of script (running past s)) 0 (script.workers + 1) seat seat Nothing (omega (arith, known)) (omega arith))
+    (get_or-map-range_with_len (λ s. home_in_run script (running past s)) 0 (script.workers + 1) seat seat Nothing (omega (arith, known)) (omega arith))
 
 -- what the seats' tasks belong to, behind one more entry
 homes_next : (script : Plan) (past : List Entry) (seat : ℕ) (kind : Kind)
-    → homes_after script (map (λ s. home_of script (running past s)) (all_seats script)) seat kind
-    ≡ map (λ s. home_of script (running (past ++ record { seat = seat; kind = kind } ∷ []) s)) (all_seats script)
+    → homes_after script (map (λ s. home_in_run script (running past s)) (all_seats script)) seat kind
+    ≡ map (λ s. home_in_run script (running (past ++ record { seat = seat; kind = kind } ∷ []) s)) (all_seats script)
 homes_next script past seat kind = at kind (running_push past (record { seat = seat; kind = kind }))
   where
     runs : Kind → ℕ → Option Running
     runs k s = running (past ++ record { seat = seat; kind = k } ∷ []) s
 
-    changes : (k : Kind) (home : Home) → ((s : ℕ) → home_of script (runs k s) ≡ cond (eqb seat s) home (home_of script (running past s)))
-        → set (map (λ s. home_of script (running past s)) (all_seats script)) seat home ≡ map (λ s. home_of script (runs k s)) (all_seats script)
-    changes k home by = row_changes (λ s. home_of script (running past s)) (λ s. home_of script (runs k s)) (script.workers + 1) seat home by
+    changes : (k : Kind) (home : Home) → ((s : ℕ) → home_in_run script (runs k s) ≡ cond (eqb seat s) home (home_in_run script (running past s)))
+        → set (map (λ s. home_in_run script (running past s)) (all_seats script)) seat home ≡ map (λ s. home_in_run script (runs k s)) (all_seats script)
+    changes k home by = row_changes (λ s. home_in_run script (running past s)) (λ s. home_in_run script (runs k s)) (script.workers + 1) seat home by
 
-    either : (b : Bool) (now later : Option Running) → home_of script (cond b later now) ≡ cond b (home_of script later) (home_of script now)
+    either : (b : Bool) (now later : Option Running) → home_in_run script (cond b later now) ≡ cond b (home_in_run script later) (home_in_run script now)
     either true now later = refl
     either false now later = refl
 
-    stays : (b : Bool) (now : Option Running) → home_of script (cond b now now) ≡ home_of script now
+    stays : (b : Bool) (now : Option Running) → home_in_run script (cond b now now) ≡ home_in_run script now
     stays true now = refl
     stays false now = refl
 
     at : (k : Kind) → ((s : ℕ) → runs k s ≡ cond (eqb seat s) (running_after (running past s) k) (running past s))
-        → homes_after script (map (λ s. home_of script (running past s)) (all_seats script)) seat k
-        ≡ map (λ s. home_of script (runs k s)) (all_seats script)
+        → homes_after script (map (λ s. home_in_run script (running past s)) (all_seats script)) seat k
+        ≡ map (λ s. home_in_run script (runs k s)) (all_seats script)
     at (kinds.Take task runner found) push = changes (kinds.Take task runner found) (Sequence (sequence_of script runner task))
-        (λ s. ap (home_of script) (push s) ∙ either (eqb seat s) (running past s) _)
+        (λ s. ap (home_in_run script) (push s) ∙ either (eqb seat s) (running past s) _)
     at (kinds.MainTake task queue found) push = changes (kinds.MainTake task queue found) (Queue queue)
-        (λ s. ap (home_of script) (push s) ∙ either (eqb seat s) (running past s) _)
-    at (kinds.End task left) push = changes (kinds.End task left) Nothing (λ s. ap (home_of script) (push s) ∙ either (eqb seat s) (running past s) None)
+        (λ s. ap (home_in_run script) (push s) ∙ either (eqb seat s) (running past s) _)
+    at (kinds.End task left) push = changes (kinds.End task left) Nothing (λ s. ap (home_in_run script) (push s) ∙ either (eqb seat s) (running past s) None)
     at (kinds.MainEnd task left) push = changes (kinds.MainEnd task left) Nothing
-        (λ s. ap (home_of script) (push s) ∙ either (eqb seat s) (running past s) None)
-    at k push = row_same (λ s. home_of script (running past s)) (λ s. home_of script (runs k s)) (script.workers + 1)
-        (λ s. ap (home_of script) (push s) ∙ stays (eqb seat s) (running past s))
+        (λ s. ap (home_in_run script) (push s) ∙ either (eqb seat s) (running past s) None)
+    at k push = row_same (λ s. home_in_run script (running past s)) (λ s. home_in_run script (runs k s)) (script.workers + 1)
+        (λ s. ap (home_in_run script) (push s) ∙ stays (eqb seat s) (running past s))
 
 -- the cells of the sequences, behind one more entry
 sequences_next : (script : Plan) (past : List Entry) (seat : ℕ) (kind : Kind)
-    → sequences_after (home_of script (running past seat)) (map (cell_of script past) (range_with_len 0 (sequence_count script))) kind
+    → sequences_after (home_in_run script (running past seat)) (map (cell_of script past) (range_with_len 0 (sequence_count script))) kind
     ≡ map (cell_of script (past ++ record { seat = seat; kind = kind } ∷ [])) (range_with_len 0 (sequence_count script))
 sequences_next script past seat kind = at kind (cell_of_push script past (record { seat = seat; kind = kind }))
   where
@@ -115,7 +116,7 @@ sequences_next script past seat kind = at kind (cell_of_push script past (record
 
     ended : (task left : ℕ) (now : Option Running)
         → ((s : ℕ) → later (kinds.End task left) s ≡ cond (holds_of (runs_of script s) now) left (cell_of script past s))
-        → left_in_sequences (home_of script now) left (map (cell_of script past) (range_with_len 0 (sequence_count script)))
+        → left_in_sequences (home_in_run script now) left (map (cell_of script past) (range_with_len 0 (sequence_count script)))
         ≡ map (later (kinds.End task left)) (range_with_len 0 (sequence_count script))
     ended task left None by = same (kinds.End task left) by
     ended task left (Some w) by = which w.is_main refl by
@@ -129,14 +130,14 @@ sequences_next script past seat kind = at kind (cell_of_push script past (record
         which false is k = row_changes (cell_of script past) (later (kinds.End task left)) (sequence_count script) (sequence_of script w.home w.task) left k
 
     at : (k : Kind) → ((s : ℕ) → later k s ≡ cell_after script s past (cell_of script past s) seat k)
-        → sequences_after (home_of script (running past seat)) (map (cell_of script past) (range_with_len 0 (sequence_count script))) k
+        → sequences_after (home_in_run script (running past seat)) (map (cell_of script past) (range_with_len 0 (sequence_count script))) k
         ≡ map (later k) (range_with_len 0 (sequence_count script))
     at (kinds.End task left) push = ended task left (running past seat) push
     at k push = same k push
 
 -- the cells of the main queues, behind one more entry
 queues_next : (script : Plan) (past : List Entry) (seat : ℕ) (kind : Kind)
-    → queues_after (home_of script (running past seat)) (map (main_cell_of past) (range_with_len 0 (length script.queues))) kind
+    → queues_after (home_in_run script (running past seat)) (map (main_cell_of past) (range_with_len 0 (length script.queues))) kind
     ≡ map (main_cell_of (past ++ record { seat = seat; kind = kind } ∷ [])) (range_with_len 0 (length script.queues))
 queues_next script past seat kind = at kind (main_cell_of_push past (record { seat = seat; kind = kind }))
   where
@@ -149,7 +150,7 @@ queues_next script past seat kind = at kind (main_cell_of_push past (record { se
 
     ended : (task left : ℕ) (now : Option Running)
         → ((q : ℕ) → later (kinds.MainEnd task left) q ≡ cond (holds_of (λ w. w.is_main && eqb w.home q) now) left (main_cell_of past q))
-        → left_in_queues (home_of script now) left (map (main_cell_of past) (range_with_len 0 (length script.queues)))
+        → left_in_queues (home_in_run script now) left (map (main_cell_of past) (range_with_len 0 (length script.queues)))
         ≡ map (later (kinds.MainEnd task left)) (range_with_len 0 (length script.queues))
     ended task left None by = same (kinds.MainEnd task left) by
     ended task left (Some w) by = which w.is_main refl by
@@ -163,7 +164,7 @@ queues_next script past seat kind = at kind (main_cell_of_push past (record { se
         which false is k = same (kinds.MainEnd task left) k
 
     at : (k : Kind) → ((q : ℕ) → later k q ≡ main_cell_after q past (main_cell_of past q) seat k)
-        → queues_after (home_of script (running past seat)) (map (main_cell_of past) (range_with_len 0 (length script.queues))) k
+        → queues_after (home_in_run script (running past seat)) (map (main_cell_of past) (range_with_len 0 (length script.queues))) k
         ≡ map (later k) (range_with_len 0 (length script.queues))
     at (kinds.MainEnd task left) push = ended task left (running past seat) push
     at k push = same k push
@@ -176,12 +177,12 @@ pub cells_next : (script : Plan) (past : List Entry) (e : Entry) (old new : Cell
 cells_next script past e old new known are homes sequences queues = record {
   homes = homes ∙ ap (λ xs. homes_after script xs e.seat e.kind) are.homes ∙ homes_next script past e.seat e.kind;
   sequences = sequences ∙ ap (λ home. sequences_after home old.sequences.items e.kind) here
-      ∙ ap (λ xs. sequences_after (home_of script (running past e.seat)) xs e.kind) are.sequences ∙ sequences_next script past e.seat e.kind;
+      ∙ ap (λ xs. sequences_after (home_in_run script (running past e.seat)) xs e.kind) are.sequences ∙ sequences_next script past e.seat e.kind;
   queues = queues ∙ ap (λ home. queues_after home old.queues.items e.kind) here
-      ∙ ap (λ xs. queues_after (home_of script (running past e.seat)) xs e.kind) are.queues ∙ queues_next script past e.seat e.kind;
+      ∙ ap (λ xs. queues_after (home_in_run script (running past e.seat)) xs e.kind) are.queues ∙ queues_next script past e.seat e.kind;
 }
   where
-    here : home_at old.homes.items e.seat ≡ home_of script (running past e.seat)
+    here : home_at old.homes.items e.seat ≡ home_in_run script (running past e.seat)
     here = told script past old e.seat are known
 
 -- behind one more entry of a legal log

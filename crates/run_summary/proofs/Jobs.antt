@@ -1,5 +1,6 @@
 -- The items of the job of a generated script: all of them are done in each whole log, and what they give.
-use Rattle.std.proofs.Common.{◌≡◌, ℕ, zero, suc, ◌+◌, ◌<◌, ◌≤◌, Bool, true, false, cond, eqb, List, [], ◌∷◌, ◌++◌, refl, sym, ap, ◌∙◌, Option, Some, None, ◌⊎◌, inl, inr, arith, add-one, add-zero, leb}
+use Rattle.std.proofs.Common.{◌≡◌, ℕ, zero, suc, ◌+◌, ◌<◌, ◌≤◌, Bool, true, false, cond, eqb, List, [], ◌∷◌, ◌++◌, refl}
+use Rattle.std.proofs.Common.{sym, ap, ◌∙◌, Option, Some, None, ◌⊎◌, inl, inr, arith, add-one, add-zero, leb}
 use Rattle.std.specs.Prelude.{◌&&◌, is_some, sum_by}
 use Rattle.std.specs.List.{range_with_len}
 use Rattle.std.specs.Option.{option_map_or}
@@ -20,19 +21,15 @@ use Rattle.pool_laws.proofs.Seats.Running.{holding_here, holding_other}
 use Rattle.hist_model.specs.Laws.Jobs.{IsJobStep}
 use Rattle.hist_model.specs.Allowed.{may_come, is_allowed, IsAllowed}
 use Rattle.hist_model.specs.Legal.{IsLegal}
-use Rattle.hist_model.proofs.Laws.Legal.{legal_induction, is_legal_push}
+use Rattle.hist_model.proofs.Laws.Legal.{legal_induction, is_legal_push, legal_next}
 use Rattle.hist_model.proofs.Laws.HoldsApart.{legal_holds_apart}
 use Rattle.hist_model.proofs.Laws.JobEntries.{entering_is, job_step_is}
-use Rattle.hist_model.proofs.Laws.EntriesJobs.{claimed_within}
+use Rattle.hist_model.proofs.Laws.Entries.Jobs.{claimed_within}
 use Rattle.run_summary.specs.Summary.{ends_item, value_in}
 
 -- no job but the first has an item
 abbrev pub HasOneJob : Plan → Type 0
 HasOneJob script = (j : ℕ) → 1 ≤ items_of script j → j ≡ 0
-
--- a legal log with an entry that is allowed is legal
-pub longer : (script : Plan) (past : List Entry) (e : Entry) → IsLegal script past → IsAllowed script past e → IsLegal script (past ++ e ∷ [])
-longer script past e legal allowed = is_legal_push script past e ∙ ap (λ b. b && is_allowed script past e) legal ∙ allowed
 
 -- only the first job is entered, and only items of it end
 enters_first : (script : Plan) (past : List Entry) (seat job id item : ℕ) → HasOneJob script
@@ -165,7 +162,8 @@ step_balances script past seat job id item value next first may = at next step.n
 balances : (script : Plan) (past : List Entry) (e : Entry) → HasOneJob script → IsLegal script past → IsAllowed script past e
     → Balances script past e.seat e.kind
 unfolding Balances
-balances script past e one legal allowed = at e.seat e.kind (longer script past e legal allowed) (and_parts _ (may_come script past e.seat e.kind) allowed).1
+balances script past e one legal allowed = at e.seat e.kind (legal_next script past e legal allowed)
+    (and_parts _ (may_come script past e.seat e.kind) allowed).1
   where
     at : (seat : ℕ) (kind : Kind) → IsLegal script (past ++ record { seat = seat; kind = kind } ∷ []) → may_come script past seat kind ≡ true
         → Balances script past seat kind

@@ -1,5 +1,6 @@
 -- What a finished script has joined, and what its joined job has done.
-use Rattle.std.proofs.Common.{◌≡◌, ℕ, zero, suc, ◌-◌, Bool, true, false, cond, eqb, leb, List, [], ◌∷◌, ◌++◌, refl, sym, ap, subst, ◌∙◌, Option, Some, None, ⊎_elim, arith}
+use Rattle.std.proofs.Common.{◌≡◌, ℕ, zero, suc, ◌-◌, Bool, true, false, cond, eqb, leb, List, [], ◌∷◌}
+use Rattle.std.proofs.Common.{◌++◌, refl, sym, ap, subst, ◌∙◌, Option, Some, None, ⊎_elim, arith}
 use Rattle.std.specs.Prelude.{◌&&◌, ◌||◌, filter}
 use Rattle.std.specs.List.{list_any, AllByRecursion}
 use Rattle.std.specs.Option.{option_map_or}
@@ -20,16 +21,16 @@ use Rattle.task_model.specs.Jobs.{done, items_of, job_sum, is_cancelled, is_empt
 use Rattle.task_model.specs.Refusal.{is_job_forbidden}
 use Rattle.task_model.proofs.Growth.{done_push}
 use Rattle.hist_model.specs.Views.{own_entries}
-use Rattle.hist_model.specs.Script.{behind, behind_join, behind_pump, behind_action, is_joined, is_main_none, is_main_end, current_from, current, is_finished, wants}
+use Rattle.hist_model.specs.Script.{behind, behind_join, behind_pump, behind_action, is_joined, is_main_none}
+use Rattle.hist_model.specs.Script.{is_main_end, current_from, current, is_finished, wants}
 use Rattle.hist_model.specs.Allowed.{by_script, same_reply, may_come}
 use Rattle.hist_model.specs.Legal.{IsLegal}
 use Rattle.hist_model.specs.Laws.Consistent.{is_join}
-use Rattle.hist_model.proofs.Laws.Legal.{legal_induction}
+use Rattle.hist_model.proofs.Laws.Legal.{legal_induction, legal_next}
 use Rattle.hist_model.proofs.Laws.JobEntries.{none_is, join_is}
 use Rattle.hist_model.proofs.Laws.Claims.{claimed_is}
-use Rattle.hist_model.proofs.Laws.EntriesJobs.{claimed_within}
+use Rattle.hist_model.proofs.Laws.Entries.Jobs.{claimed_within}
 use Rattle.run_summary.proofs.Calm.{IsCalmScript, IsCalm, calm_logs, calm_forbids_no_job, wanted_by_one}
-use Rattle.run_summary.proofs.Jobs.{longer}
 
 -- some entry is a join
 abbrev pub joined_in : List Entry → Bool
@@ -131,12 +132,12 @@ join_is_done script past seat job reply first calm may = subst (λ j. done past 
     (eqb-true (done past job) (items_of script job) (only_finished _ _ (is_cancelled past job) (is_job_forbidden script past job) (job_sum past job) reply
     (calm.no_job_refused job) (calm.not_cancelled job) (calm_forbids_no_job script past job calm) (join_is script past seat job reply may).reply_is))
   where
-    by : by_script script past seat (kinds.Joined job reply) ≡ true
-    by = (and_parts _ (is_empty script past job) (and_parts _ (holds_of (same_reply reply) (reply_of script past job)) may).0).0
+    by_entry : by_script script past seat (kinds.Joined job reply) ≡ true
+    by_entry = (and_parts _ (is_empty script past job) (and_parts _ (holds_of (same_reply reply) (reply_of script past job)) may).0).0
 
     job_is : job ≡ 0
     job_is =
-        let (c, is, h) = wanted_by_one (λ action. joins_first action ≡ true) script past seat (kinds.Joined job reply) first by in
+        let (c, is, h) = wanted_by_one (λ action. joins_first action ≡ true) script past seat (kinds.Joined job reply) first by_entry in
         first_wanted (own_entries 0 past) c.action c.made job reply is h
 
 -- what is done stays so
@@ -149,7 +150,7 @@ stays_done script past e legal all =
 pub joined_is_done : (script : Plan) → IsCalmScript script → AllByRecursion (λ action. joins_first action ≡ true) script.actions
     → (past : List Entry) → IsLegal script past → joined_in past ≡ true → done past 0 ≡ items_of script 0
 joined_is_done script calm first = legal_induction script (λ past. joined_in past ≡ true → done past 0 ≡ items_of script 0) (λ h. absurd cc)
-    (λ past e legal allowed all h. stays_done script past e (longer script past e legal allowed)
+    (λ past e legal allowed all h. stays_done script past e (legal_next script past e legal allowed)
     (⊎_elim all (λ k. now past e.seat e.kind legal (and_parts _ (may_come script past e.seat e.kind) allowed).1 k)
     (or_cases (joined_in past) (is_joined e.kind) (sym (one_more past e) ∙ h))))
   where

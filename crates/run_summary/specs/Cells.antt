@@ -13,13 +13,13 @@ use Rattle.run_summary.specs.declared.cells.Home.{Home}
 use Rattle.run_summary.specs.declared.cells.Home.TheVariants.{Nothing, Sequence, Queue}
 
 -- what a task that runs belongs to
-abbrev pub home_of : Plan → Option Running → Home
-home_of script None = Nothing
-home_of script (Some w) = if w.is_main then Queue w.home else Sequence (sequence_of script w.home w.task)
+abbrev pub home_in_run : Plan → Option Running → Home
+home_in_run script None = Nothing
+home_in_run script (Some w) = if w.is_main then Queue w.home else Sequence (sequence_of script w.home w.task)
 
 -- the table has the cell of each sequence and of each main queue of the past, and what each seat's task belongs to
 pub record AreCells (script : Plan) (past : List Entry) (cells : Cells) : Type 0 where
-  pub homes : cells.homes.items ≡ map (λ seat. home_of script (running past seat)) (all_seats script)
+  pub homes : cells.homes.items ≡ map (λ seat. home_in_run script (running past seat)) (all_seats script)
   pub sequences : cells.sequences.items ≡ map (cell_of script past) (range_with_len 0 (sequence_count script))
   pub queues : cells.queues.items ≡ map (main_cell_of past) (range_with_len 0 (length script.queues))
 

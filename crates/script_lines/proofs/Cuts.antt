@@ -1,5 +1,6 @@
 -- A text that is cut between two words, where none of the words before the cut is the mark.
-use Rattle.std.proofs.Common.{◌≡◌, ℕ, ◌+◌, ◌-◌, ◌≤◌, true, false, List, [], ◌∷◌, ◌++◌, length, take, drop, refl, sym, ◌∙◌, ap, arith, add-zero, add_assoc, append_assoc, length-take, length-drop}
+use Rattle.std.proofs.Common.{◌≡◌, ℕ, ◌+◌, ◌-◌, ◌≤◌, true, false, List, [], ◌∷◌, ◌++◌, length, take, drop, refl, sym}
+use Rattle.std.proofs.Common.{◌∙◌, ap, arith, add-zero, add_assoc, append_assoc, length-take, length-drop}
 use Rattle.std.specs.Prelude.{All, slice_range}
 use Rattle.std.specs.List.{slice_split}
 use Rattle.std.proofs.lemmas.List.{take_all, drop-drop, append-nil}

@@ -1,5 +1,6 @@
 -- The first word of a text, found by the places of blanks.
-use Rattle.std.proofs.Common.{◌≡◌, ℕ, zero, suc, ◌+◌, ◌-◌, ◌<◌, ◌≤◌, Bool, true, false, cond, ltb, List, [], ◌∷◌, Option, Some, None, get_or, length, take, drop, refl, sym, ◌∙◌, ap, arith, zero-add, suc-add, length-take, length-drop, drop-cons, add_assoc}
+use Rattle.std.proofs.Common.{◌≡◌, ℕ, zero, suc, ◌+◌, ◌-◌, ◌<◌, ◌≤◌, Bool, true, false, cond, ltb, List, [], ◌∷◌, Option, Some, None, get_or, length}
+use Rattle.std.proofs.Common.{take, drop, refl, sym, ◌∙◌, ap, arith, zero-add, suc-add, length-take, length-drop, drop-cons, add_assoc}
 use Rattle.std.specs.Prelude.{not, filter, ◌==◌, unwrap_or, is_some, IsTrue}
 use Rattle.std.specs.List.{slice_split, position_or_len, position}
 use Rattle.std.proofs.lemmas.List.{drop-drop, take_all}
@@ -37,34 +38,34 @@ cut_part : {X : Type 0} (p : X → Bool) (xs : List X) (n k : ℕ) → position_
     → slice_split p (take (n + k) xs) ≡ take n xs ∷ parts p (take k (drop n xs))
 cut_part p [] zero k e = rw (zero-add, take-nil) refl
 cut_part p [] (suc n) k e = absurd (omega (arith, e))
-cut_part p (x ∷ xs) zero k e = rw zero-add (by (p x) refl k)
+cut_part p (x ∷ xs) zero k e = rw zero-add (by_test (p x) refl k)
   where
-    by : (b : Bool) → p x ≡ b → (k : ℕ) → slice_split p (take k (x ∷ xs)) ≡ [] ∷ parts p (take k (x ∷ xs))
-    by b h zero = refl
-    by true h (suc k) = rw h refl
-    by false h (suc k) = absurd (omega (arith, sym (position-no p x xs h) ∙ e))
-cut_part p (x ∷ xs) (suc n) k e = rw suc-add (by (p x) refl (cut_part p xs n k))
+    by_test : (b : Bool) → p x ≡ b → (k : ℕ) → slice_split p (take k (x ∷ xs)) ≡ [] ∷ parts p (take k (x ∷ xs))
+    by_test b h zero = refl
+    by_test true h (suc k) = rw h refl
+    by_test false h (suc k) = absurd (omega (arith, sym (position-no p x xs h) ∙ e))
+cut_part p (x ∷ xs) (suc n) k e = rw suc-add (by_test (p x) refl (cut_part p xs n k))
   where
-    by : (b : Bool) → p x ≡ b → (position_or_len p xs ≡ n → slice_split p (take (n + k) xs) ≡ take n xs ∷ parts p (take k (drop n xs)))
+    by_test : (b : Bool) → p x ≡ b → (position_or_len p xs ≡ n → slice_split p (take (n + k) xs) ≡ take n xs ∷ parts p (take k (drop n xs)))
         → slice_split p (x ∷ take (n + k) xs) ≡ (x ∷ take n xs) ∷ parts p (take k (drop n xs))
-    by true h rest = absurd (omega (arith, sym (position-yes p x xs h) ∙ e))
-    by false h rest = rw (h, rest (omega (arith, sym (position-no p x xs h) ∙ e))) refl
+    by_test true h rest = absurd (omega (arith, sym (position-yes p x xs h) ∙ e))
+    by_test false h rest = rw (h, rest (omega (arith, sym (position-no p x xs h) ∙ e))) refl
 
 -- what is behind the first place that passes opens with it
 opens_behind : {X : Type 0} (p : X → Bool) (xs : List X) (n k : ℕ) → position_or_len p xs ≡ n → opens p (take k (drop n xs)) ≡ true
 opens_behind p [] zero k e = rw take-nil refl
 opens_behind p [] (suc n) k e = rw take-nil refl
 opens_behind p (x ∷ xs) zero zero e = refl
-opens_behind p (x ∷ xs) zero (suc k) e = by (p x) refl
+opens_behind p (x ∷ xs) zero (suc k) e = by_test (p x) refl
   where
-    by : (b : Bool) → p x ≡ b → p x ≡ true
-    by true h = h
-    by false h = absurd (omega (arith, sym (position-no p x xs h) ∙ e))
-opens_behind p (x ∷ xs) (suc n) k e = by (p x) refl (opens_behind p xs n k)
+    by_test : (b : Bool) → p x ≡ b → p x ≡ true
+    by_test true h = h
+    by_test false h = absurd (omega (arith, sym (position-no p x xs h) ∙ e))
+opens_behind p (x ∷ xs) (suc n) k e = by_test (p x) refl (opens_behind p xs n k)
   where
-    by : (b : Bool) → p x ≡ b → (position_or_len p xs ≡ n → opens p (take k (drop n xs)) ≡ true) → opens p (take k (drop n xs)) ≡ true
-    by true h rest = absurd (omega (arith, sym (position-yes p x xs h) ∙ e))
-    by false h rest = rest (omega (arith, sym (position-no p x xs h) ∙ e))
+    by_test : (b : Bool) → p x ≡ b → (position_or_len p xs ≡ n → opens p (take k (drop n xs)) ≡ true) → opens p (take k (drop n xs)) ≡ true
+    by_test true h rest = absurd (omega (arith, sym (position-yes p x xs h) ∙ e))
+    by_test false h rest = rest (omega (arith, sym (position-no p x xs h) ∙ e))
 
 -- the parts that are not empty
 abbrev filled : {X : Type 0} → List (List X) → List (List X)
@@ -75,13 +76,13 @@ skip_marks : {X : Type 0} (p : X → Bool) (xs : List X) (n k : ℕ) → positio
     → filled (slice_split p (take (n + k) xs)) ≡ filled (slice_split p (take k (drop n xs)))
 skip_marks p xs zero k e = rw zero-add refl
 skip_marks p [] (suc n) k e = absurd (omega (arith, e))
-skip_marks p (x ∷ xs) (suc n) k e = rw suc-add (by (p x) refl (skip_marks p xs n k))
+skip_marks p (x ∷ xs) (suc n) k e = rw suc-add (by_test (p x) refl (skip_marks p xs n k))
   where
-    by : (b : Bool) → p x ≡ b
+    by_test : (b : Bool) → p x ≡ b
         → (position_or_len (λ x. not (p x)) xs ≡ n → filled (slice_split p (take (n + k) xs)) ≡ filled (slice_split p (take k (drop n xs))))
         → filled (slice_split p (x ∷ take (n + k) xs)) ≡ filled (slice_split p (take k (drop n xs)))
-    by true h rest = rw h (rest (omega (arith, sym (position-no (λ x. not (p x)) x xs (ap not h)) ∙ e)))
-    by false h rest = absurd (omega (arith, sym (position-yes (λ x. not (p x)) x xs (ap not h)) ∙ e))
+    by_test true h rest = rw h (rest (omega (arith, sym (position-no (λ x. not (p x)) x xs (ap not h)) ∙ e)))
+    by_test false h rest = absurd (omega (arith, sym (position-yes (λ x. not (p x)) x xs (ap not h)) ∙ e))
 
 -- a list that opens with a mark has the parts behind the mark
 filled_parts : {X : Type 0} (p : X → Bool) (xs : List X) → opens p xs ≡ true → filled (slice_split p xs) ≡ filled (parts p xs)
@@ -105,21 +106,21 @@ words_of-front text s n k blanks word some within =
 
 -- what `position` says of the place that it finds
 position_is : {X : Type 0} (p : X → Bool) (xs : List X) (i : ℕ) → position p xs ≡ Some i → (position_or_len p xs ≡ i) × (i < length xs)
-position_is p xs i e = by (ltb (position_or_len p xs) (length xs)) refl e
+position_is p xs i e = by_order (ltb (position_or_len p xs) (length xs)) refl e
   where
-    by : (b : Bool) → ltb (position_or_len p xs) (length xs) ≡ b → cond b (Some (position_or_len p xs)) None ≡ Some i
+    by_order : (b : Bool) → ltb (position_or_len p xs) (length xs) ≡ b → cond b (Some (position_or_len p xs)) None ≡ Some i
         → (position_or_len p xs ≡ i) × (i < length xs)
-    by true h f = let same : position_or_len p xs ≡ i = cc in (same, rw (← same) (ltb-true _ _ h))
-    by false h f = absurd cc
+    by_order true h f = let same : position_or_len p xs ≡ i = cc in (same, rw (← same) (ltb-true _ _ h))
+    by_order false h f = absurd cc
 
 -- and where it finds none
 position_none : {X : Type 0} (p : X → Bool) (xs : List X) → position p xs ≡ None → length xs ≤ position_or_len p xs
-position_none p xs e = by (ltb (position_or_len p xs) (length xs)) refl e
+position_none p xs e = by_order (ltb (position_or_len p xs) (length xs)) refl e
   where
-    by : (b : Bool) → ltb (position_or_len p xs) (length xs) ≡ b → ◌≡◌ {A = Option ℕ} (cond b (Some (position_or_len p xs)) None) None
+    by_order : (b : Bool) → ltb (position_or_len p xs) (length xs) ≡ b → ◌≡◌ {A = Option ℕ} (cond b (Some (position_or_len p xs)) None) None
         → length xs ≤ position_or_len p xs
-    by true h f = absurd cc
-    by false h f = ltb-false _ _ h
+    by_order true h f = absurd cc
+    by_order false h f = ltb-false _ _ h
 
 -- a text of blanks has no words
 pub words_of-blanks : (text : List ℕ) → position (λ b. not (is_blank b)) text ≡ None → words_of text ≡ []
@@ -153,11 +154,12 @@ first_word_is text s n found in_slice =
 
 -- the place or the length
 pub position-or_len : {X : Type 0} (p : X → Bool) (xs : List X) → unwrap_or (position p xs) (length xs) ≡ position_or_len p xs
-position-or_len p xs = by (ltb (position_or_len p xs) (length xs)) refl
+position-or_len p xs = by_order (ltb (position_or_len p xs) (length xs)) refl
   where
-    by : (b : Bool) → ltb (position_or_len p xs) (length xs) ≡ b → unwrap_or (cond b (Some (position_or_len p xs)) None) (length xs) ≡ position_or_len p xs
-    by true h = refl
-    by false h = let le = prefix_len-le-length (λ x. not (p x)) xs in let ge = ltb-false _ _ h in omega arith
+    by_order : (b : Bool) → ltb (position_or_len p xs) (length xs) ≡ b
+        → unwrap_or (cond b (Some (position_or_len p xs)) None) (length xs) ≡ position_or_len p xs
+    by_order true h = refl
+    by_order false h = let le = prefix_len-le-length (λ x. not (p x)) xs in let ge = ltb-false _ _ h in omega arith
 
 -- a text has no words exactly where no place has a byte that is no blank
 pub no_words : (text : List ℕ) (place : Option ℕ) (none : Bool) → place ≡ position (λ b. not (is_blank b)) text → is_some place ≡ not none

@@ -71,14 +71,14 @@ pub all_stay : {before after : EnvView} {seat : ℕ} {kind : Kind} (hands : List
 all_stay {before} {after} {seat} hands are enters own = record {
   legal = enters.legal;
   all = are.all ∙ ap (λ s. s.workers + 1) (sym (script_is enters));
-  each = λ other hand at. by other hand at (eqb seat other) refl;
+  each = λ other hand at. at_other other hand at (eqb seat other) refl;
 }
   where
-    by : (other : ℕ) (hand : Hand) → slice_get hands other ≡ Some hand → (same : Bool) → eqb seat other ≡ same → IsInHand after other hand
-    by other hand at true same =
+    at_other : (other : ℕ) (hand : Hand) → slice_get hands other ≡ Some hand → (same : Bool) → eqb seat other ≡ same → IsInHand after other hand
+    at_other other hand at true same =
         let is : seat ≡ other = eqb-true seat other same in
         subst (λ s. IsInHand after s hand) is (own hand (ap (slice_get hands) is ∙ at))
-    by other hand at false apart = others_stay other hand enters apart (are.each other hand at)
+    at_other other hand at false apart = others_stay other hand enters apart (are.each other hand at)
 
 -- and so they have where that seat's hand is another one
 pub all_in_hand : {before after : EnvView} {seat : ℕ} {kind : Kind} (hands : List Hand) (hand : Hand) → AreInHand before hands
@@ -86,17 +86,18 @@ pub all_in_hand : {before after : EnvView} {seat : ℕ} {kind : Kind} (hands : L
 all_in_hand {before} {after} {seat} hands hand are known enters own = record {
   legal = enters.legal;
   all = length-set hands seat hand ∙ are.all ∙ ap (λ s. s.workers + 1) (sym (script_is enters));
-  each = λ other now at. by other now at (eqb seat other) refl;
+  each = λ other now at. at_other other now at (eqb seat other) refl;
 }
   where
-    by : (other : ℕ) (now : Hand) → slice_get (slice_set hands seat hand) other ≡ Some now → (same : Bool) → eqb seat other ≡ same → IsInHand after other now
-    by other now at true same =
+    at_other : (other : ℕ) (now : Hand) → slice_get (slice_set hands seat hand) other ≡ Some now → (same : Bool) → eqb seat other ≡ same
+        → IsInHand after other now
+    at_other other now at true same =
         let is : seat ≡ other = eqb-true seat other same in
         let there : seat < length hands = omega (arith, are.all, known) in
         let hand_is : hand ≡ now = same_Some hand now (sym (slice_get-set_same hands seat hand there)
         ∙ ap (slice_get (slice_set hands seat hand)) is ∙ at) in
         subst (λ s. IsInHand after s now) is (subst (IsInHand after seat) hand_is own)
-    by other now at false apart = others_stay other now enters apart (are.each other now
+    at_other other now at false apart = others_stay other now enters apart (are.each other now
         (sym (slice_get-set_other hands seat other hand (λ is. true≢false (sym (eq-eqb seat other is) ∙ apart))) ∙ at))
 
 -- a seat with nothing in hand has nothing behind an entry that neither takes nor ends

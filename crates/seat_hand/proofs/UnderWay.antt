@@ -1,4 +1,6 @@
 -- A task that a seat has in hand: whose it is, its next act step, and what is in hand behind its take and its acts.
+use Rattle.task_body.proofs.Progress.{computes_first}
+use Rattle.hist_model.proofs.Laws.Whole.{none_of}
 use Rattle.std.proofs.Common.{◌≡◌, ◌≢◌, ℕ, zero, suc, ◌+◌, ◌≤◌, Bool, true, false, List, [], ◌∷◌, ◌++◌, length, refl, sym, ap, subst, ◌∙◌, Option, Some, None}
 use Rattle.std.proofs.Common.{append-nil, append_assoc, arith, drop, take}
 use Rattle.std.proofs.Math.Bool.{or-false}
@@ -44,11 +46,6 @@ use Rattle.seat_hand.proofs.Hands.{acts_now, runs_now, script_is}
 
 -- What is in hand.
 
--- what is never some value is none
-never_some : {A : Type 0} (o : Option A) → ((x : A) → o ≡ Some x → ⊥) → o ≡ None
-never_some None never = refl
-never_some (Some x) never = absurd (never x refl)
-
 module _ {view : EnvView} {hands : List Hand} (are : AreInHand view hands) where
   -- a seat whose hand is empty runs nothing
   pub free_runs_nothing : (seat : ℕ) → slice_get hands seat ≡ Some Free → running view.history seat ≡ None
@@ -69,12 +66,12 @@ module _ {view : EnvView} {hands : List Hand} (are : AreInHand view hands) where
 
   -- a seat with a task in hand holds no item
   pub task_holds_nothing : (seat : ℕ) (a : AtTask) → slice_get hands seat ≡ Some (Task a) → holding view.history seat ≡ None
-  task_holds_nothing seat a at = never_some (holding view.history seat) (λ h holds.
+  task_holds_nothing seat a at = none_of (holding view.history seat) (λ h holds.
       (legal_does_one_thing view.script view.history are.legal).one_thing seat (are.each seat (Task a) at).seats.now h (task_runs seat a at) holds)
 
   -- and one with an item in hand runs no task
   pub item_runs_nothing : (seat : ℕ) (pass : PassView) → slice_get hands seat ≡ Some (Item pass) → running view.history seat ≡ None
-  item_runs_nothing seat pass at = never_some (running view.history seat) (λ w runs.
+  item_runs_nothing seat pass at = none_of (running view.history seat) (λ w runs.
       (legal_does_one_thing view.script view.history are.legal).one_thing seat w (held_by pass) runs (item_holds seat pass at))
 
   -- each seat has something in hand
@@ -89,22 +86,22 @@ module _ {view : EnvView} {hands : List Hand} (are : AreInHand view hands) where
   -- a seat that runs a task has it in hand
   pub task_there : (seat : ℕ) (w : Running) → seat ≤ view.script.workers → running view.history seat ≡ Some w
       → (a : AtTask) × (slice_get hands seat ≡ Some (Task a))
-  task_there seat w known runs = by (slice_index_or hands seat Free) (hand_there seat known)
+  task_there seat w known runs = by_hand (slice_index_or hands seat Free) (hand_there seat known)
     where
-      by : (hand : Hand) → slice_get hands seat ≡ Some hand → (a : AtTask) × (slice_get hands seat ≡ Some (Task a))
-      by Free at = absurd (none-some w (sym (free_runs_nothing seat at) ∙ runs))
-      by (Task a) at = (a, at)
-      by (Item pass) at = absurd (none-some w (sym (item_runs_nothing seat pass at) ∙ runs))
+      by_hand : (hand : Hand) → slice_get hands seat ≡ Some hand → (a : AtTask) × (slice_get hands seat ≡ Some (Task a))
+      by_hand Free at = absurd (none-some w (sym (free_runs_nothing seat at) ∙ runs))
+      by_hand (Task a) at = (a, at)
+      by_hand (Item pass) at = absurd (none-some w (sym (item_runs_nothing seat pass at) ∙ runs))
 
   -- a seat that holds an item has it in hand
   pub item_there : (seat : ℕ) (h : Holding) → seat ≤ view.script.workers → holding view.history seat ≡ Some h
       → (pass : PassView) × (slice_get hands seat ≡ Some (Item pass))
-  item_there seat h known holds = by (slice_index_or hands seat Free) (hand_there seat known)
+  item_there seat h known holds = by_hand (slice_index_or hands seat Free) (hand_there seat known)
     where
-      by : (hand : Hand) → slice_get hands seat ≡ Some hand → (pass : PassView) × (slice_get hands seat ≡ Some (Item pass))
-      by Free at = absurd (none-some h (sym (free_holds_nothing seat at) ∙ holds))
-      by (Task a) at = absurd (none-some h (sym (task_holds_nothing seat a at) ∙ holds))
-      by (Item pass) at = (pass, at)
+      by_hand : (hand : Hand) → slice_get hands seat ≡ Some hand → (pass : PassView) × (slice_get hands seat ≡ Some (Item pass))
+      by_hand Free at = absurd (none-some h (sym (free_holds_nothing seat at) ∙ holds))
+      by_hand (Task a) at = absurd (none-some h (sym (task_holds_nothing seat a at) ∙ holds))
+      by_hand (Item pass) at = (pass, at)
 
 -- The act step that is told.
 
@@ -232,29 +229,18 @@ worker_runs_pool script past seat w legal worker runs = false_from_ne_true w.is_
 -- the driver runs a main task
 pub driver_runs_main : (script : Plan) (past : List Entry) (seat : ℕ) (w : Running) → IsLegal script past → seat ≡ 0 → running past seat ≡ Some w
     → w.is_main ≡ true
-driver_runs_main script past seat w legal driver runs = by w.is_main refl
+driver_runs_main script past seat w legal driver runs = by_main w.is_main refl
   where
-    by : (main : Bool) → w.is_main ≡ main → main ≡ true
-    by true is = refl
-    by false is = let worker : 1 ≤ seat = (pool_runs script past seat w legal runs is).worker in absurd (omega (arith, driver, worker))
+    by_main : (main : Bool) → w.is_main ≡ main → main ≡ true
+    by_main true is = refl
+    by_main false is = let worker : 1 ≤ seat = (pool_runs script past seat w legal runs is).worker in absurd (omega (arith, driver, worker))
 
 -- The steps before it.
-
--- compute steps in front are no act steps
-computes_first : (n : ℕ) (rest : List Step) → OnlyComputes (take n rest) → filter is_act rest ≡ filter is_act (drop n rest)
-computes_first zero rest computes = refl
-computes_first (suc n) [] computes = refl
-computes_first (suc n) (step ∷ rest) computes = rw computes.0 (computes_first n rest computes.1)
 
 -- behind compute steps the same act steps are left
 pub acts_stay : (old new : AssignmentView) (n : ℕ) → Progress old.rest old.value (acts.Did n) new.rest new.value
     → filter is_act old.rest ≡ filter is_act new.rest
 acts_stay old new n did = computes_first n old.rest did.computed ∙ ap (filter is_act) (sym did.dropped)
-
--- two changes of value and rest are one
-pub stepped : (a b c : AssignmentView) → b ≡ record a { value = b.value; rest = b.rest } → c ≡ record b { value = c.value; rest = c.rest }
-    → c ≡ record a { value = c.value; rest = c.rest }
-stepped a b c first second = second ∙ ap (λ (x : AssignmentView). record x { value = c.value; rest = c.rest }) first
 
 -- What is in hand behind an entry.
 

@@ -29,13 +29,13 @@ unfolding ordered
 arrival_accepted past o same among =
     let (p, accepted, made) = filter_map_contains (λ p. option_map (λ order. record { posted = p; order = order }) (order_of past p)) (main_posts past) o
     (AllByRecursion-contains (Contains (ordered past)) (main_arrivals past) o same.forth among) in
-    by p accepted (order_of past p) refl made
+    by_posted p accepted (order_of past p) refl made
   where
-    by : (p : Posted) → Contains (main_posts past) p → (n : Option ℕ) → order_of past p ≡ n
+    by_posted : (p : Posted) → Contains (main_posts past) p → (n : Option ℕ) → order_of past p ≡ n
         → ◌≡◌ {A = Option Ordered} (option_map (λ order. record { posted = p; order = order }) n) (Some o)
         → Contains (main_posts past) o.posted × (order_of past o.posted ≡ Some o.order)
-    by p accepted None drew made = absurd (none-some o made)
-    by p accepted (Some n) drew made =
+    by_posted p accepted None drew made = absurd (none-some o made)
+    by_posted p accepted (Some n) drew made =
         let is : ◌≡◌ {A = Ordered} (record { posted = p; order = n }) o = some-injective made in
         rw (← is) (accepted, drew)
 
@@ -52,10 +52,10 @@ one_arrival past a b order same among also is =
 
 -- a task that has drawn is due
 pub drawn_is_due : (past : List Entry) (p : Posted) (n : ℕ) → NoTickAhead past → order_of past p ≡ Some n → IsDue past p
-drawn_is_due past p n none drew delayed = by (cases_lt (now_of past) p.ripe)
+drawn_is_due past p n none drew delayed = by_order (cases_lt (now_of past) p.ripe)
   where
-    by : (now_of past < p.ripe) ⊎ (p.ripe ≤ now_of past) → p.ripe ≤ now_of past
-    by (inl ahead) =
+    by_order : (now_of past < p.ripe) ⊎ (p.ripe ≤ now_of past) → p.ripe ≤ now_of past
+    by_order (inl ahead) =
         let undrawn : order_of past p ≡ None = rw (order_is past p, delayed, none p.ripe ahead) refl in
         absurd (none-some n (sym undrawn ∙ drew))
-    by (inr come) = come
+    by_order (inr come) = come

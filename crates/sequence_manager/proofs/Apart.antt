@@ -30,12 +30,12 @@ AllDrawn arrivals rows = (q : ℕ) (lane : Lane) (order : ℕ) → order_in lane
 
 -- of arrivals that rise, one draws the order
 one_arrival : (arrivals : List Ordered) (a b : Ordered) → Rises ordered_below arrivals → Contains arrivals a → Contains arrivals b → a.order ≡ b.order → a ≡ b
-one_arrival arrivals a b rises of_a of_b same = by (rises_apart ordered_below arrivals a b rises of_a of_b)
+one_arrival arrivals a b rises of_a of_b same = by_apart (rises_apart ordered_below arrivals a b rises of_a of_b)
   where
-    by : (a ≡ b) ⊎ ((ordered_below a b ≡ true) ⊎ (ordered_below b a ≡ true)) → a ≡ b
-    by (inl is) = is
-    by (inr (inl less)) = absurd (omega (arith, ltb-true a.order b.order less, same))
-    by (inr (inr more)) = absurd (omega (arith, ltb-true b.order a.order more, same))
+    by_apart : (a ≡ b) ⊎ ((ordered_below a b ≡ true) ⊎ (ordered_below b a ≡ true)) → a ≡ b
+    by_apart (inl is) = is
+    by_apart (inr (inl less)) = absurd (omega (arith, ltb-true a.order b.order less, same))
+    by_apart (inr (inr more)) = absurd (omega (arith, ltb-true b.order a.order more, same))
 
 not_both : (b : Bool) → b ≡ true → not b ≡ true → ⊥
 not_both true h k = true≢false (sym k)
@@ -114,25 +114,26 @@ set_front_at (row ∷ rows) zero zero Delayed Immediate o order told = inl (told
         early Delayed = false
 set_front_at (row ∷ rows) zero (suc p) lane other o order told = inl (told, λ is. absurd (omega (arith, is.0)))
 set_front_at (row ∷ rows) (suc q) zero lane other o order told = inl (told, λ is. absurd (omega (arith, is.0)))
-set_front_at (row ∷ rows) (suc q) (suc p) lane other o order told = by (set_front_at rows q p lane other o order told)
+set_front_at (row ∷ rows) (suc q) (suc p) lane other o order told = by_set_front_at (set_front_at rows q p lane other o order told)
   where
-    by : (order_in other (slice_index_or rows p closed_row) ≡ Some order × ((p ≡ q) × (other ≡ lane) → ⊥)) ⊎ (((p ≡ q) × (other ≡ lane)) × (o ≡ Some order))
+    by_set_front_at : (order_in other (slice_index_or rows p closed_row) ≡ Some order × ((p ≡ q) × (other ≡ lane) → ⊥))
+        ⊎ (((p ≡ q) × (other ≡ lane)) × (o ≡ Some order))
         → (order_in other (slice_index_or rows p closed_row) ≡ Some order × ((suc p ≡ suc q) × (other ≡ lane) → ⊥))
         ⊎ (((suc p ≡ suc q) × (other ≡ lane)) × (o ≡ Some order))
-    by (inl h) = inl (h.0, λ is. h.1 (omega (arith, is.0), is.1))
-    by (inr h) = inr ((ap suc h.0.0, h.0.1), h.1)
+    by_set_front_at (inl h) = inl (h.0, λ is. h.1 (omega (arith, is.0), is.1))
+    by_set_front_at (inr h) = inr ((ap suc h.0.0, h.0.1), h.1)
 
 -- another front of the queue, whose order was drawn as well
 pub drawn_set : (arrivals : List Ordered) (rows : List Row) (q : ℕ) (lane : Lane) (o : Option ℕ) → AllDrawn arrivals rows
     → ((order : ℕ) → o ≡ Some order → HasDrawn arrivals q lane order)
     → AllDrawn arrivals (slice_set rows q (with_order (slice_index_or rows q closed_row) lane o))
-drawn_set arrivals rows q lane o all new = λ p other order told. by p other order (set_front_at rows q p lane other o order told)
+drawn_set arrivals rows q lane o all new = λ p other order told. at_each p other order (set_front_at rows q p lane other o order told)
   where
-    by : (p : ℕ) (other : Lane) (order : ℕ)
+    at_each : (p : ℕ) (other : Lane) (order : ℕ)
         → (order_in other (slice_index_or rows p closed_row) ≡ Some order × ((p ≡ q) × (other ≡ lane) → ⊥)) ⊎ (((p ≡ q) × (other ≡ lane)) × (o ≡ Some order))
         → HasDrawn arrivals p other order
-    by p other order (inl h) = all p other order h.0
-    by p other order (inr h) = rw (h.0.0, h.0.1) (new order h.1)
+    at_each p other order (inl h) = all p other order h.0
+    at_each p other order (inr h) = rw (h.0.0, h.0.1) (new order h.1)
 
 -- an order that was drawn differs from those of all other open fronts
 pub differs : (arrivals : List Ordered) (selector : Selecting) (q : ℕ) (lane : Lane) (o : Option ℕ) → Rises ordered_below arrivals
@@ -143,15 +144,15 @@ differs arrivals selector q lane None rises all new = tt
 differs arrivals selector q lane (Some order) rises all new =
     All-from_recursion (λ front. front.order ≢ order) (open_fronts (with_front selector q lane None))
     (fronts_all (λ front. front.order ≢ order) 0 (with_front selector q lane None).rows
-    (λ p other n told same. by p other n (set_front_at selector.rows q p lane other None n told) same))
+    (λ p other n told same. at_each p other n (set_front_at selector.rows q p lane other None n told) same))
   where
-    by : (p : ℕ) (other : Lane) (n : ℕ)
+    at_each : (p : ℕ) (other : Lane) (n : ℕ)
         → (order_in other (slice_index_or selector.rows p closed_row) ≡ Some n × ((p ≡ q) × (other ≡ lane)
         → ⊥)) ⊎ (((p ≡ q) × (other ≡ lane)) × (None ≡ Some n))
         → n ≡ order → ⊥
-    by p other n (inl h) same = h.1 (same_place arrivals p q other lane order rises (subst (HasDrawn arrivals p other) same (all p other n h.0))
+    at_each p other n (inl h) same = h.1 (same_place arrivals p q other lane order rises (subst (HasDrawn arrivals p other) same (all p other n h.0))
         (new order refl))
-    by p other n (inr h) same = none-some n h.1
+    at_each p other n (inr h) same = none-some n h.1
 
 -- the queue that is there
 pub queue_there : (queues : List TaskQueue) (q : ℕ) (queue : TaskQueue) → slice_get queues q ≡ Some queue → queue_at queues q ≡ queue

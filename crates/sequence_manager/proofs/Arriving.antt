@@ -9,7 +9,8 @@ use Rattle.sequence_manager.specs.Postings.{room_of}
 use Rattle.sequence_manager.specs.Queues.{held_in, queue_of, queued_of, ripening_of}
 use Rattle.sequence_manager.specs.State.{with_task}
 use Rattle.sequence_manager.specs.declared.task_queue.TaskQueue.{TaskQueue}
-use Rattle.std.proofs.Common.{Bool, List, [], ap, arith, cond, drop, false, inl, inr, length, map, refl, subst, suc, sym, true, ℕ, ◌++◌, ◌<◌, ◌∙◌, ◌∷◌, ◌≡◌, ◌≤◌}
+use Rattle.std.proofs.Common.{Bool, List, [], ap, arith, cond, drop, false, inl, inr, length, map}
+use Rattle.std.proofs.Common.{refl, subst, suc, sym, true, ℕ, ◌++◌, ◌<◌, ◌∙◌, ◌∷◌, ◌≡◌, ◌≤◌}
 use Rattle.std.proofs.lemmas.Bool.{cases_eq, ne_eqb, not-true}
 use Rattle.std.proofs.lemmas.List.{append-nil, length-append, map-append}
 use Rattle.std.proofs.lemmas.List.Elements.{All-from_recursion, filter-append}
@@ -145,13 +146,13 @@ load_there script past known o rest waiting =
 -- no queue holds more
 pub load_same : (script : Plan) (past : List Entry) (known : List Ordered) (o : Ordered) (rest : List Posted) (q : ℕ) → IsWaiting past o.posted
     → load (queue_of script past (known ++ o ∷ []) rest q) ≡ load (queue_of script past known (o.posted ∷ rest) q)
-load_same script past known o rest q waiting = by (cases_eq q o.posted.home)
+load_same script past known o rest q waiting = by_home (cases_eq q o.posted.home)
   where
-    by : (q ≡ o.posted.home) ⊎ (q ≡ o.posted.home → ⊥)
+    by_home : (q ≡ o.posted.home) ⊎ (q ≡ o.posted.home → ⊥)
         → load (queue_of script past (known ++ o ∷ []) rest q) ≡ load (queue_of script past known (o.posted ∷ rest) q)
-    by (inl is) = subst (λ i. load (queue_of script past (known ++ o ∷ []) rest i) ≡ load (queue_of script past known (o.posted ∷ rest) i)) (sym is)
+    by_home (inl is) = subst (λ i. load (queue_of script past (known ++ o ∷ []) rest i) ≡ load (queue_of script past known (o.posted ∷ rest) i)) (sym is)
         (load_there script past known o rest waiting)
-    by (inr other) = ap load (sym (other_waiting script past known o.posted rest q other ∙ other_arrived script past known o rest q other))
+    by_home (inr other) = ap load (sym (other_waiting script past known o.posted rest q other ∙ other_arrived script past known o rest q other))
 
 -- each of a queue is below an order where the arrivals are
 pub all_below : (script : Plan) (past : List Entry) (known : List Ordered) (rest : List Posted) (q n : ℕ) → AllByRecursion (λ o. o.order < n) known

@@ -21,7 +21,9 @@ use Rattle.task_base.specs.Plan.{Plan}
 use Rattle.task_base.specs.declared.entry.Entry.{Entry}
 use Rattle.task_base.specs.declared.script.Lane.{Lane}
 use Rattle.task_base.specs.declared.script.Lane.TheVariants.{Immediate, Delayed}
-use Rattle.task_model.specs.MainQueues.{Front, chosen_of, choice_among, class_below, fence_of, front_of, fronts_of, immediate_fronts, immediate_of_least_class, is_enabled, is_immediate, is_in_lane, is_open, is_starved, least_class, of_least_class, open_fronts, order_below, streak_of}
+use Rattle.task_model.specs.MainQueues.{Front, chosen_of, choice_among, class_below, fence_of, front_of, fronts_of, immediate_fronts}
+use Rattle.task_model.specs.MainQueues.{immediate_of_least_class, is_enabled, is_immediate, is_in_lane, is_open, is_starved}
+use Rattle.task_model.specs.MainQueues.{least_class, of_least_class, open_fronts, order_below, streak_of}
 use Rattle.task_model.specs.Orders.{Ordered, main_arrivals, ordered}
 use Rattle.task_model.specs.Posts.{Posted}
 use Rattle.task_model.specs.Refusal.{is_closed}
@@ -36,11 +38,11 @@ same_lane Delayed = refl
 
 -- the least class among some fronts
 class_seen : (fronts : List Front) → seen.least_class (map seen_as fronts) ≡ least_class fronts
-class_seen fronts = ap (option_map (λ f. f.class)) (least-map class_below seen.class_below seen_as fronts (λ a b. refl)) ∙ by (least class_below fronts)
+class_seen fronts = ap (option_map (λ f. f.class)) (least-map class_below seen.class_below seen_as fronts (λ a b. refl)) ∙ by_least (least class_below fronts)
   where
-    by : (o : Option Front) → option_map (λ f. f.class) (option_map seen_as o) ≡ option_map (λ f. f.class) o
-    by None = refl
-    by (Some f) = refl
+    by_least : (o : Option Front) → option_map (λ f. f.class) (option_map seen_as o) ≡ option_map (λ f. f.class) o
+    by_least None = refl
+    by_least (Some f) = refl
 
 -- the fronts of the least class
 of_class_seen : (fronts : List Front) → seen.of_least_class (map seen_as fronts) ≡ map seen_as (of_least_class fronts)
@@ -90,14 +92,14 @@ choice_seen script past waiting selector knows =
     ap (λ fronts. option_map seen_place (seen.choice_among fronts selector.streak)) (open_fronts_seen script past waiting selector knows.same knows.rows)
     ∙ ap (λ n. option_map seen_place (seen.choice_among (map seen_as (open_fronts script past)) n)) knows.streak
     ∙ ap (option_map seen_place) (choice_among_seen (open_fronts script past) (streak_of script past))
-    ∙ by (chosen_of script past)
+    ∙ by_chosen (chosen_of script past)
   where
     seen_place : SeenFront → ℕ × Lane
     seen_place f = (f.queue, f.lane)
 
-    by : (o : Option Front) → option_map seen_place (option_map seen_as o) ≡ option_map place_of o
-    by None = refl
-    by (Some f) = refl
+    by_chosen : (o : Option Front) → option_map seen_place (option_map seen_as o) ≡ option_map place_of o
+    by_chosen None = refl
+    by_chosen (Some f) = refl
 
 -- and knows whether an immediate front of its class is open
 pub immediate_is_open_seen : (script : Plan) (past : List Entry) (waiting : List Posted) (selector : Selecting) → Knows script past waiting selector
@@ -114,14 +116,14 @@ of_class_among fronts f h = (filter_contains (λ x. holds_of (λ class. x.class 
 -- so is the choice
 chosen_among : (fronts : List Front) (streak : ℕ) (f : Front) → choice_among fronts streak ≡ Some f → Contains fronts f
 unfolding choice_among
-chosen_among fronts streak f is = of_class_among fronts f (by (is_starved fronts streak) is)
+chosen_among fronts streak f is = of_class_among fronts f (by_starved (is_starved fronts streak) is)
   where
     least_in : (fs : List Front) → least order_below fs ≡ Some f → Contains fs f
     least_in fs h = (least_is_least order_below (ranks_by (λ x. x.order)) fs f h).member
 
-    by : (b : Bool) → least order_below (cond b (immediate_of_least_class fronts) (of_least_class fronts)) ≡ Some f → Contains (of_least_class fronts) f
-    by true h = (filter_contains (λ x. is_immediate x.lane) (of_least_class fronts) f (least_in (immediate_of_least_class fronts) h)).0
-    by false h = least_in (of_least_class fronts) h
+    by_starved : (b : Bool) → least order_below (cond b (immediate_of_least_class fronts) (of_least_class fronts)) ≡ Some f → Contains (of_least_class fronts) f
+    by_starved true h = (filter_contains (λ x. is_immediate x.lane) (of_least_class fronts) f (least_in (immediate_of_least_class fronts) h)).0
+    by_starved false h = least_in (of_least_class fronts) h
 
 -- an open front is the front of a lane of a queue that is declared
 open_among : (script : Plan) (past : List Entry) (f : Front) → Contains (open_fronts script past) f

@@ -75,11 +75,11 @@ none_waits q waiting = filter-filter (λ p. p.home == q) (λ p. not (p.home == q
 -- and all of another
 same_wait : (q other : ℕ) (waiting : List Posted) → (other ≡ q → ⊥) → filter (λ p. p.home == other) (others q waiting) ≡ filter (λ p. p.home == other) waiting
 same_wait q other waiting apart = filter-filter (λ p. p.home == other) (λ p. not (p.home == q)) waiting
-    ∙ filter_congr (λ p. not (p.home == q) && p.home == other) (λ p. p.home == other) waiting (λ p. by p (cases_eq p.home other))
+    ∙ filter_congr (λ p. not (p.home == q) && p.home == other) (λ p. p.home == other) waiting (λ p. by_posted p (cases_eq p.home other))
   where
-    by : (p : Posted) → (p.home ≡ other) ⊎ (p.home ≡ other → ⊥) → (not (p.home == q) && p.home == other) ≡ (p.home == other)
-    by p (inl is) = rw (is, ne_eqb other q apart) refl
-    by p (inr differs) = rw (ne_eqb p.home other differs) (none (not (p.home == q)))
+    by_posted : (p : Posted) → (p.home ≡ other) ⊎ (p.home ≡ other → ⊥) → (not (p.home == q) && p.home == other) ≡ (p.home == other)
+    by_posted p (inl is) = rw (is, ne_eqb other q apart) refl
+    by_posted p (inr differs) = rw (ne_eqb p.home other differs) (none (not (p.home == q)))
       where
         none : (b : Bool) → (b && false) ≡ false
         none true = refl

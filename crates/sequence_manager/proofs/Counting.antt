@@ -7,7 +7,8 @@ use Rattle.list_laws.specs.Lists.{count}
 use Rattle.sequence_manager.specs.Pasts.{IsMainScript}
 use Rattle.sequence_manager.specs.Postings.{MainPosting, is_to, main_postings, posting_of_action, posting_of_step, postings_of_tasks}
 use Rattle.sequence_manager.specs.Rooms.{AreCounts, CanCount}
-use Rattle.std.proofs.Common.{List, None, Option, Some, [], add-one, ap, append_assoc, arith, cond, drop, get_or, inl, inr, length, length-append, sym, take, ℕ, ◌+◌, ◌++◌, ◌<◌, ◌∙◌, ◌∷◌, ◌≡◌, ◌≤◌, ◌^◌, append-nil}
+use Rattle.std.proofs.Common.{List, None, Option, Some, [], add-one, ap, append_assoc, arith, cond, drop, get_or, inl, inr}
+use Rattle.std.proofs.Common.{length, length-append, sym, take, ℕ, ◌+◌, ◌++◌, ◌<◌, ◌∙◌, ◌∷◌, ◌≡◌, ◌≤◌, ◌^◌, append-nil}
 use Rattle.std.proofs.Math.Seq.{take-suc}
 use Rattle.std.proofs.lemmas.Bool.{cases_eq, ne_eqb}
 use Rattle.std.proofs.lemmas.List.{length-set, take-append-drop, take_all}
@@ -32,17 +33,18 @@ one_more : (queues : ℕ) (counts : List ℕ) (postings : List MainPosting) (p :
     → p.queue < length counts → n ≡ get_or counts p.queue n → AreCounts queues (slice_set counts p.queue (n + 1)) (postings ++ p ∷ [])
 one_more queues counts postings p n counted there is = record {
   all = length-set counts p.queue (n + 1) ∙ counted.all;
-  each = λ q less. by q less (cases_eq p.queue q);
+  each = λ q less. at_each q less (cases_eq p.queue q);
 }
   where
-    by : (q : ℕ) → q < queues → (p.queue ≡ q) ⊎ (p.queue ≡ q → ⊥) → slice_get (slice_set counts p.queue (n + 1)) q ≡ Some (count (is_to q) (postings ++ p ∷ []))
-    by q less (inl same) = rw (← same) (slice_get-set_same counts p.queue (n + 1) there ∙ ap Some (omega (
+    at_each : (q : ℕ) → q < queues → (p.queue ≡ q) ⊎ (p.queue ≡ q → ⊥)
+        → slice_get (slice_set counts p.queue (n + 1)) q ≡ Some (count (is_to q) (postings ++ p ∷ []))
+    at_each q less (inl same) = rw (← same) (slice_get-set_same counts p.queue (n + 1) there ∙ ap Some (omega (
       arith,
       count_is queues counts postings p.queue n counted there is,
       count-push (is_to p.queue) postings p,
       ap {B = ℕ} (λ b. cond b 1 0) (eqb-same p.queue),
     )))
-    by q less (inr other) = slice_get-set_other counts p.queue q (n + 1) other ∙ counted.each q less
+    at_each q less (inr other) = slice_get-set_other counts p.queue q (n + 1) other ∙ counted.each q less
         ∙ ap Some (omega (arith, count-push (is_to q) postings p, ap {B = ℕ} (λ b. cond b 1 0) (ne_eqb p.queue q other)))
 
 -- what one more element makes stands at the end of what the elements in front of it make

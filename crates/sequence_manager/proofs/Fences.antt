@@ -28,7 +28,8 @@ use Rattle.sequence_manager.specs.State.{CanRefresh, order_at, refreshed, with_o
 use Rattle.sequence_manager.specs.declared.manager.Manager.{Manager}
 use Rattle.sequence_manager.specs.declared.task_queue.TaskQueue.{TaskQueue}
 use Rattle.sequence_manager.proofs.Apart.{queue_there}
-use Rattle.sequence_manager.proofs.Kept.{IsDriversAsBefore, KeepsTasks, class_kept, driver_same, is_of_other, other_keeps, queue_kept, tasks_kept, votes_of, votes_same}
+use Rattle.sequence_manager.proofs.Kept.{IsDriversAsBefore, KeepsTasks, class_kept, driver_same, is_of_other}
+use Rattle.sequence_manager.proofs.Kept.{other_keeps, queue_kept, tasks_kept, votes_of, votes_same}
 use Rattle.sequence_manager.proofs.Others.{longer}
 use Rattle.sequence_manager.proofs.Parts.{can_tell, load, parts_changed, posted_to, room_by_past}
 use Rattle.sequence_manager.proofs.Quiet.{draw_kept, draws_none, is_quiet, quiet_arrivals, quiet_now, quiet_past, quiet_posts, quiet_unripe}

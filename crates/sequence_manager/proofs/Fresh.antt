@@ -8,7 +8,8 @@ use Rattle.sequence_manager.specs.Postings.{main_postings, room_of}
 use Rattle.sequence_manager.specs.Rooms.{AreCounts}
 use Rattle.sequence_manager.specs.State.{fresh_from, fresh_queue, fresh_queues}
 use Rattle.sequence_manager.specs.declared.task_queue.TaskQueue.{TaskQueue}
-use Rattle.std.proofs.Common.{List, Some, [], add-one, ap, append_assoc, arith, drop, drop-cons, get_or, length, map, refl, replicate, suc, sym, take, zero, ℕ, ◌+◌, ◌++◌, ◌<◌, ◌∙◌, ◌∷◌, ◌≡◌}
+use Rattle.std.proofs.Common.{List, Some, [], add-one, ap, append_assoc, arith, drop, drop-cons, get_or, length}
+use Rattle.std.proofs.Common.{map, refl, replicate, suc, sym, take, zero, ℕ, ◌+◌, ◌++◌, ◌<◌, ◌∙◌, ◌∷◌, ◌≡◌}
 use Rattle.std.proofs.lemmas.Option.{none-some, slice_get-get_or, slice_get_within}
 use Rattle.std.specs.Prelude.{slice_get, slice_index_or, slice_set}
 use Rattle.task_base.specs.Plan.{Plan}

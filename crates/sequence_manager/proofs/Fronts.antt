@@ -53,7 +53,7 @@ pub open_is_front : (script : Plan) (past : List Entry) (waiting : List Posted) 
     → open_in lane (queue_of script past (main_arrivals past) waiting q) ≡ option_map (λ f. f.order) (keep (is_open script past) (front_of script past q lane))
 open_is_front script past waiting q lane same =
     ap (λ held. keep (lets_run queue) (option_map (λ x. x.order) (slice_get held 0))) (lane_is_held script past (main_arrivals past) waiting q lane)
-    ∙ by (is_closed past q) refl
+    ∙ by_closed (is_closed past q) refl
     ∙ ap (λ o. option_map (λ f. f.order) (keep (is_open script past) o)) (sym (front_is_first_arrival script past q lane same))
   where
     queue : TaskQueue
@@ -83,11 +83,12 @@ open_is_front script past waiting q lane same =
         picked true = refl
         picked false = refl
 
-    by : (b : Bool) → is_closed past q ≡ b
+    by_closed : (b : Bool) → is_closed past q ≡ b
         → keep (lets_run queue) (option_map (λ x. x.order) (slice_get (cond b [] (map queued_of (filter passes (main_arrivals past)))) 0))
         ≡ option_map (λ f. f.order) (keep (is_open script past) (option_map (front_for script past q lane) first))
-    by true closed = never first closed
-    by false opened = ap (λ o. keep (lets_run queue) (option_map (λ x. x.order) o)) (first_kept queued_of passes (main_arrivals past)) ∙ kept first opened
+    by_closed true closed = never first closed
+    by_closed false opened = ap (λ o. keep (lets_run queue) (option_map (λ x. x.order) o)) (first_kept queued_of passes (main_arrivals past))
+        ∙ kept first opened
 
 -- a front as the selector knows it
 abbrev pub seen_as : Front → SeenFront
@@ -100,7 +101,7 @@ row_front : (script : Plan) (past : List Entry) (waiting : List Posted) (q : ℕ
 row_front script past waiting q lane same =
     ap (λ o. option_to_list (option_map seen o))
     (order_in_row lane (class_of script past q) (queue_of script past (main_arrivals past) waiting q) ∙ open_is_front script past waiting q lane same)
-    ∙ rw (front_is_first_arrival script past q lane same) (by (find (λ o. is_in_lane past q lane o.posted) (main_arrivals past)))
+    ∙ rw (front_is_first_arrival script past q lane same) (by_found (find (λ o. is_in_lane past q lane o.posted) (main_arrivals past)))
   where
     seen : ℕ → SeenFront
     seen order = record { class = class_of script past q; lane = lane; order = order; queue = q }
@@ -111,11 +112,11 @@ row_front script past waiting q lane same =
     picked true o = refl
     picked false o = refl
 
-    by : (o : Option Ordered)
+    by_found : (o : Option Ordered)
         → option_to_list (option_map seen (option_map (λ f. f.order) (keep (is_open script past) (option_map (front_for script past q lane) o))))
         ≡ map seen_as (filter (is_open script past) (option_to_list (option_map (front_for script past q lane) o)))
-    by None = refl
-    by (Some o) = picked (is_open script past (front_for script past q lane o)) o
+    by_found None = refl
+    by_found (Some o) = picked (is_open script past (front_for script past q lane o)) o
 
 -- the fronts of rows that are what a table says
 fronts_of_rows : (at : ℕ → Row) (q : ℕ) (rows : List Row) → ((i : ℕ) → i < length rows → slice_get rows i ≡ Some (at (q + i)))

@@ -103,45 +103,45 @@ other_from true h = absurd (true≢false (sym h))
 other_from false h = refl
 
 pub closed_kept : (past : List Entry) (e : Entry) (q : ℕ) → is_of_other q e.kind ≡ true → is_closed (past ++ e ∷ []) q ≡ is_closed past q
-closed_kept past e q other = is_closed_push past e q ∙ ap (λ b. is_closed past q || b) (by e.kind other) ∙ or-false (is_closed past q)
+closed_kept past e q other = is_closed_push past e q ∙ ap (λ b. is_closed past q || b) (by_kind e.kind other) ∙ or-false (is_closed past q)
   where
-    by : (kind : Kind) → is_of_other q kind ≡ true → closes q kind ≡ false
-    by (kinds.Close queue) h = other_from (queue == q) h
-    by kind h = refl
+    by_kind : (kind : Kind) → is_of_other q kind ≡ true → closes q kind ≡ false
+    by_kind (kinds.Close queue) h = other_from (queue == q) h
+    by_kind kind h = refl
 
 pub taken_kept : (past : List Entry) (e : Entry) (q : ℕ) → is_of_other q e.kind ≡ true → (t : ℕ) → is_main_taken (past ++ e ∷ []) t ≡ is_main_taken past t
-taken_kept past e q other t = is_main_taken_push past e t ∙ ap (λ b. is_main_taken past t || b) (by e.kind other) ∙ or-false (is_main_taken past t)
+taken_kept past e q other t = is_main_taken_push past e t ∙ ap (λ b. is_main_taken past t || b) (by_kind e.kind other) ∙ or-false (is_main_taken past t)
   where
-    by : (kind : Kind) → is_of_other q kind ≡ true → main_takes t kind ≡ false
-    by (kinds.MainTake task queue found) h = absurd (true≢false (sym h))
-    by kind h = refl
+    by_kind : (kind : Kind) → is_of_other q kind ≡ true → main_takes t kind ≡ false
+    by_kind (kinds.MainTake task queue found) h = absurd (true≢false (sym h))
+    by_kind kind h = refl
 
 fence_kept : (past : List Entry) (e : Entry) (q : ℕ) → is_of_other q e.kind ≡ true → fence_of (past ++ e ∷ []) q ≡ fence_of past q
-fence_kept past e q other = fence_of_push past e q ∙ by e.kind other
+fence_kept past e q other = fence_of_push past e q ∙ by_kind e.kind other
   where
-    by : (kind : Kind) → is_of_other q kind ≡ true → fence_after q past (fence_of past q) kind ≡ fence_of past q
-    by (kinds.Fence queue Now) h = ap (λ b. cond b (Some (next_draw past)) (fence_of past q)) (other_from (queue == q) h)
-    by (kinds.Fence queue Start) h = ap (λ b. cond b (Some 1) (fence_of past q)) (other_from (queue == q) h)
-    by (kinds.Unfence queue) h = ap (λ b. cond b None (fence_of past q)) (other_from (queue == q) h)
-    by kind h = refl
+    by_kind : (kind : Kind) → is_of_other q kind ≡ true → fence_after q past (fence_of past q) kind ≡ fence_of past q
+    by_kind (kinds.Fence queue Now) h = ap (λ b. cond b (Some (next_draw past)) (fence_of past q)) (other_from (queue == q) h)
+    by_kind (kinds.Fence queue Start) h = ap (λ b. cond b (Some 1) (fence_of past q)) (other_from (queue == q) h)
+    by_kind (kinds.Unfence queue) h = ap (λ b. cond b None (fence_of past q)) (other_from (queue == q) h)
+    by_kind kind h = refl
 
 votes_kept : (past : List Entry) (e : Entry) (q : ℕ) → is_of_other q e.kind ≡ true → (v : ℕ) → votes_on (past ++ e ∷ []) q v ≡ votes_on past q v
-votes_kept past e q other v = votes_on_push past e q v ∙ by e.kind other
+votes_kept past e q other v = votes_on_push past e q v ∙ by_kind e.kind other
   where
-    by : (kind : Kind) → is_of_other q kind ≡ true → vote_after q v (votes_on past q v) kind ≡ votes_on past q v
-    by (kinds.Vote queue voter on) h = ap (λ b. cond (b && voter == v) on (votes_on past q v)) (other_from (queue == q) h)
-    by kind h = refl
+    by_kind : (kind : Kind) → is_of_other q kind ≡ true → vote_after q v (votes_on past q v) kind ≡ votes_on past q v
+    by_kind (kinds.Vote queue voter on) h = ap (λ b. cond (b && voter == v) on (votes_on past q v)) (other_from (queue == q) h)
+    by_kind kind h = refl
 
 -- the driver runs what it ran
 abbrev pub IsDriversAsBefore : List Entry → Entry → Type 0
 IsDriversAsBefore past e = main_running (past ++ e ∷ []) ≡ main_running past
 
 cell_kept : (past : List Entry) (e : Entry) (q : ℕ) → is_of_other q e.kind ≡ true → main_cell_of (past ++ e ∷ []) q ≡ main_cell_of past q
-cell_kept past e q other = main_cell_same past e q (by e.kind other)
+cell_kept past e q other = main_cell_same past e q (by_kind e.kind other)
   where
-    by : (kind : Kind) → is_of_other q kind ≡ true → moves_main_cells kind ≡ false
-    by (kinds.MainEnd task left) h = absurd (true≢false (sym h))
-    by kind h = refl
+    by_kind : (kind : Kind) → is_of_other q kind ≡ true → moves_main_cells kind ≡ false
+    by_kind (kinds.MainEnd task left) h = absurd (true≢false (sym h))
+    by_kind kind h = refl
 
 -- an entry of another queue, or of none, keeps what the queue is
 pub other_keeps : (past : List Entry) (e : Entry) (q : ℕ) → is_of_other q e.kind ≡ true → IsDriversAsBefore past e → Keeps past (past ++ e ∷ []) q
@@ -166,8 +166,8 @@ keeps_class kind = true
 
 pub class_kept : (script : Plan) (past : List Entry) (e : Entry) (q : ℕ) → keeps_class e.kind ≡ true
     → class_of script (past ++ e ∷ []) q ≡ class_of script past q
-class_kept script past e q keeps = class_of_push script past e q ∙ by e.kind keeps
+class_kept script past e q keeps = class_of_push script past e q ∙ by_kind e.kind keeps
   where
-    by : (kind : Kind) → keeps_class kind ≡ true → class_after q (class_of script past q) kind ≡ class_of script past q
-    by (kinds.Rank queue class) h = absurd (true≢false (sym h))
-    by kind h = refl
+    by_kind : (kind : Kind) → keeps_class kind ≡ true → class_after q (class_of script past q) kind ≡ class_of script past q
+    by_kind (kinds.Rank queue class) h = absurd (true≢false (sym h))
+    by_kind kind h = refl

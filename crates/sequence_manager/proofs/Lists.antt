@@ -39,21 +39,21 @@ flat_map_congr f g (x ∷ xs) same = rw (same x, flat_map_congr f g xs same) ref
 -- an element of a flattened list is in one of its lists
 pub flat_map_contains : {A B : Type 0} (f : A → List B) (xs : List A) (y : B) → Contains (flat_map f xs) y → (x : A) × Contains xs x × Contains (f x) y
 flat_map_contains f [] y h = absurd (omega (arith, h.1))
-flat_map_contains {A = A} {B = B} f (x ∷ xs) y h = by (Contains-append_cases (f x) (flat_map f xs) y h) (flat_map_contains f xs y)
+flat_map_contains {A = A} {B = B} f (x ∷ xs) y h = by_side (Contains-append_cases (f x) (flat_map f xs) y h) (flat_map_contains f xs y)
   where
-    by : Contains (f x) y ⊎ Contains (flat_map f xs) y → (Contains (flat_map f xs) y → (z : A) × Contains xs z × Contains (f z) y)
+    by_side : Contains (f x) y ⊎ Contains (flat_map f xs) y → (Contains (flat_map f xs) y → (z : A) × Contains xs z × Contains (f z) y)
         → (z : A) × Contains (x ∷ xs) z × Contains (f z) y
-    by (inl here) rest = (x, (0, omega arith, refl), here)
-    by (inr there) rest = let (z, among, inside) = rest there in (z, Contains-append_right (x ∷ []) xs z among, inside)
+    by_side (inl here) rest = (x, (0, omega arith, refl), here)
+    by_side (inr there) rest = let (z, among, inside) = rest there in (z, Contains-append_right (x ∷ []) xs z among, inside)
 
 -- a value that is kept is there, and passes
 pub kept_is : {A : Type 0} (test : A → Bool) (o : Option A) (x : A) → keep test o ≡ Some x → (o ≡ Some x) × (test x ≡ true)
 kept_is test None x is = absurd (none-some x is)
-kept_is {A = A} test (Some y) x is = by (test y) refl is
+kept_is {A = A} test (Some y) x is = by_test (test y) refl is
   where
-    by : (b : Bool) → test y ≡ b → cond b (Some y) None ≡ Some x → (Some y ≡ Some x) × (test x ≡ true)
-    by true passes same = (same, ap test (sym (some-injective same)) ∙ passes)
-    by false fails same = absurd (none-some x same)
+    by_test : (b : Bool) → test y ≡ b → cond b (Some y) None ≡ Some x → (Some y ≡ Some x) × (test x ≡ true)
+    by_test true passes same = (same, ap test (sym (some-injective same)) ∙ passes)
+    by_test false fails same = absurd (none-some x same)
 
 -- where the one marked element fails a test, dropping it leaves those that pass
 pub unmarked_left : {A : Type 0} (p marks : A → Bool) (xs : List A) (x : A) → p x ≡ false → AllByRecursion (λ y. marks y ≡ true → y ≡ x) xs

@@ -80,28 +80,28 @@ stands_apart script past manager e apart as_before stands = record {
 
 pub stands_still : (script : Plan) (past : List Entry) (manager : Manager) (e : Entry) → is_still e.kind ≡ true
     → StandsFor script past manager → StandsFor script (past ++ e ∷ []) manager
-stands_still script past manager e still = stands_apart script past manager e (by e.kind still).0 (driver_same past e (by e.kind still).1)
+stands_still script past manager e still = stands_apart script past manager e (by_kind e.kind still).0 (driver_same past e (by_kind e.kind still).1)
   where
-    by : (kind : Kind) → is_still kind ≡ true → (is_apart kind ≡ true) × (moves_running kind ≡ false)
-    by (kinds.Main task queue delay ok) h = absurd (true≢false (sym h))
-    by (kinds.Tick now) h = absurd (true≢false (sym h))
-    by (kinds.Take task runner found) h = absurd (true≢false (sym h))
-    by (kinds.End task left) h = absurd (true≢false (sym h))
-    by (kinds.Fence queue at) h = absurd (true≢false (sym h))
-    by (kinds.Unfence queue) h = absurd (true≢false (sym h))
-    by (kinds.Vote queue voter on) h = absurd (true≢false (sym h))
-    by (kinds.Rank queue class) h = absurd (true≢false (sym h))
-    by (kinds.Close queue) h = absurd (true≢false (sym h))
-    by (kinds.MainTake task queue found) h = absurd (true≢false (sym h))
-    by (kinds.MainEnd task left) h = absurd (true≢false (sym h))
-    by kind h = (refl, refl)
+    by_kind : (kind : Kind) → is_still kind ≡ true → (is_apart kind ≡ true) × (moves_running kind ≡ false)
+    by_kind (kinds.Main task queue delay ok) h = absurd (true≢false (sym h))
+    by_kind (kinds.Tick now) h = absurd (true≢false (sym h))
+    by_kind (kinds.Take task runner found) h = absurd (true≢false (sym h))
+    by_kind (kinds.End task left) h = absurd (true≢false (sym h))
+    by_kind (kinds.Fence queue at) h = absurd (true≢false (sym h))
+    by_kind (kinds.Unfence queue) h = absurd (true≢false (sym h))
+    by_kind (kinds.Vote queue voter on) h = absurd (true≢false (sym h))
+    by_kind (kinds.Rank queue class) h = absurd (true≢false (sym h))
+    by_kind (kinds.Close queue) h = absurd (true≢false (sym h))
+    by_kind (kinds.MainTake task queue found) h = absurd (true≢false (sym h))
+    by_kind (kinds.MainEnd task left) h = absurd (true≢false (sym h))
+    by_kind kind h = (refl, refl)
 
 pub stands_pool : (script : Plan) (past : List Entry) (manager : Manager) (e : Entry) → moves_pool e.kind ≡ true → 1 ≤ e.seat
     → StandsFor script past manager → StandsFor script (past ++ e ∷ []) manager
-stands_pool script past manager e pool worker = stands_apart script past manager e (by e.kind pool)
+stands_pool script past manager e pool worker = stands_apart script past manager e (by_kind e.kind pool)
     (ap (keep (λ w. w.is_main)) (running_other past e 0 (ne_eqb e.seat 0 (λ is. omega (arith, worker, is)))))
   where
-    by : (kind : Kind) → moves_pool kind ≡ true → is_apart kind ≡ true
-    by (kinds.Take task runner found) h = refl
-    by (kinds.End task left) h = refl
-    by kind h = absurd (true≢false (sym h))
+    by_kind : (kind : Kind) → moves_pool kind ≡ true → is_apart kind ≡ true
+    by_kind (kinds.Take task runner found) h = refl
+    by_kind (kinds.End task left) h = refl
+    by_kind kind h = absurd (true≢false (sym h))

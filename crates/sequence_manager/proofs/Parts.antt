@@ -78,7 +78,7 @@ parts_changed script before past known arrivals unripe waiting order now manager
       ∙ ap (row_by (class_of script past p)) (others p within other));
   streak = parts.streak ∙ sym streak;
   order_is = refl;
-  room = room_of_table script past arrivals waiting (slice_set manager.queues q queue) queues (λ p within. by p within (cases_eq p q));
+  room = room_of_table script past arrivals waiting (slice_set manager.queues q queue) queues (λ p within. at_each p within (cases_eq p q));
   few_orders = few;
 }
   where
@@ -92,9 +92,9 @@ parts_changed script before past known arrivals unripe waiting order now manager
     queues = table_set (queue_of script before known unripe) (queue_of script past arrivals waiting) (length script.queues) manager.queues q queue
         parts.queues less others is
 
-    by : (p : ℕ) → p < length script.queues → (p ≡ q) ⊎ (p ≡ q → ⊥) → load (queue_of script past arrivals waiting p) ≤ posted_to past p
-    by p inside (inl same) = subst (λ n. load (queue_of script past arrivals waiting n) ≤ posted_to past n) (sym same) room
-    by p inside (inr other) =
+    at_each : (p : ℕ) → p < length script.queues → (p ≡ q) ⊎ (p ≡ q → ⊥) → load (queue_of script past arrivals waiting p) ≤ posted_to past p
+    at_each p inside (inl same) = subst (λ n. load (queue_of script past arrivals waiting n) ≤ posted_to past n) (sym same) room
+    at_each p inside (inr other) =
         let held : load (queue_of script past arrivals waiting p) ≤ posted_to before p
         = subst (λ x. load x ≤ posted_to before p) (others p inside other) (room_by_past script before known unripe order manager p parts inside) in
         omega (arith, held, more p)

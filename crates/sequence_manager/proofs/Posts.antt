@@ -1,5 +1,6 @@
 -- A main task is posted: an immediate one goes to its lane, a delayed one waits, and one to a closed queue is refused.
-use Rattle.std.proofs.Common.{◌≡◌, ℕ, ◌+◌, ◌<◌, ◌≤◌, Bool, true, false, cond, List, [], ◌∷◌, ◌++◌, length, map, refl, sym, ap, ◌∙◌, subst, Some, inl, inr, arith}
+use Rattle.std.proofs.Common.{◌≡◌, ℕ, ◌+◌, ◌<◌, ◌≤◌, Bool, true, false, cond, List, [], ◌∷◌, ◌++◌}
+use Rattle.std.proofs.Common.{length, map, refl, sym, ap, ◌∙◌, subst, Some, inl, inr, arith}
 use Rattle.std.specs.Prelude.{◌≢◌, ◌⊎◌, ◌==◌, nat_lt, not, filter, All, slice_get}
 use Rattle.std.specs.List.{AllByRecursion}
 use Rattle.std.proofs.lemmas.Bool.{cases_eq, ne_eqb}
@@ -425,11 +426,11 @@ stands_at_delayed_post {script = script} {past = past} {manager = manager} {plac
         omega (arith, had, held, longer, more))
 
     room : (q : ℕ) → q < length script.queues → load (queue_of script then arrivals (unripe then) q) ≤ posted_to then q
-    room q within = by (cases_eq q queue)
+    room q within = by_queue (cases_eq q queue)
       where
-        by : (q ≡ queue) ⊎ (q ≡ queue → ⊥) → load (queue_of script then arrivals (unripe then) q) ≤ posted_to then q
-        by (inl same) = subst (λ n. load (queue_of script then arrivals (unripe then) n) ≤ posted_to then n) (sym same) room_there
-        by (inr other) =
+        by_queue : (q ≡ queue) ⊎ (q ≡ queue → ⊥) → load (queue_of script then arrivals (unripe then) q) ≤ posted_to then q
+        by_queue (inl same) = subst (λ n. load (queue_of script then arrivals (unripe then) n) ≤ posted_to then n) (sym same) room_there
+        by_queue (inr other) =
             let had : load (queue_of script past arrivals (unripe past) q) ≤ posted_to past q
             = room_by_past script past arrivals (unripe past) (next_draw past) manager q before within in
             subst (λ x. load x ≤ posted_to then q) (other_is q other) (omega (arith, had, more_posted past seat task queue delay q))

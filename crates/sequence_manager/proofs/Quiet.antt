@@ -48,11 +48,11 @@ quiet_arrivals past e quiet = main_arrivals_same past e (no_post e.kind quiet) (
 
 -- an entry that is no tick leaves the moment, and the ticks that there were
 pub now_kept : (past : List Entry) (e : Entry) → moves_orders e.kind ≡ false → now_of (past ++ e ∷ []) ≡ now_of past
-now_kept past e no_tick = now_of_push past e ∙ by e.kind no_tick
+now_kept past e no_tick = now_of_push past e ∙ by_kind e.kind no_tick
   where
-    by : (kind : Kind) → moves_orders kind ≡ false → now_after (now_of past) kind ≡ now_of past
-    by (kinds.Tick now) h = absurd (true≢false h)
-    by kind h = refl
+    by_kind : (kind : Kind) → moves_orders kind ≡ false → now_after (now_of past) kind ≡ now_of past
+    by_kind (kinds.Tick now) h = absurd (true≢false h)
+    by_kind kind h = refl
 
 pub no_tick_kept : (past : List Entry) (e : Entry) → moves_orders e.kind ≡ false → NoTickAhead past → NoTickAhead (past ++ e ∷ [])
 no_tick_kept past e no_tick ahead = λ moment less. tick_same past e no_tick moment
@@ -62,11 +62,11 @@ pub quiet_now : (past : List Entry) (e : Entry) → is_quiet e.kind ≡ true →
 quiet_now past e quiet = now_kept past e (no_tick e.kind quiet)
 
 quiet_closed : (past : List Entry) (e : Entry) (q : ℕ) → is_quiet e.kind ≡ true → is_closed (past ++ e ∷ []) q ≡ is_closed past q
-quiet_closed past e q quiet = is_closed_push past e q ∙ ap (λ b. is_closed past q || b) (by e.kind quiet) ∙ or-false (is_closed past q)
+quiet_closed past e q quiet = is_closed_push past e q ∙ ap (λ b. is_closed past q || b) (by_kind e.kind quiet) ∙ or-false (is_closed past q)
   where
-    by : (kind : Kind) → is_quiet kind ≡ true → closes q kind ≡ false
-    by (kinds.Close queue) h = absurd (true≢false (sym h))
-    by kind h = refl
+    by_kind : (kind : Kind) → is_quiet kind ≡ true → closes q kind ≡ false
+    by_kind (kinds.Close queue) h = absurd (true≢false (sym h))
+    by_kind kind h = refl
 
 pub quiet_unripe : (past : List Entry) (e : Entry) → is_quiet e.kind ≡ true → unripe (past ++ e ∷ []) ≡ unripe past
 quiet_unripe past e quiet = ap (sort_by ripens_before)
@@ -84,15 +84,15 @@ draws_none kind = true
 
 pub draw_kept : (past : List Entry) (e : Entry) → draws_none e.kind ≡ true → next_draw (past ++ e ∷ []) ≡ next_draw past
 draw_kept past e none =
-    let same : drawn_by past e.kind ≡ 0 = by e.kind none in
+    let same : drawn_by past e.kind ≡ 0 = by_kind e.kind none in
     let grown : draws (past ++ e ∷ []) ≡ draws past + drawn_by past e.kind = draws_push past e in
     ap (λ n. 2 + n) (omega (arith, grown, same))
   where
-    by : (kind : Kind) → draws_none kind ≡ true → drawn_by past kind ≡ 0
-    by (kinds.Main task queue delay true) h = absurd (true≢false (sym h))
-    by (kinds.Tick now) h = absurd (true≢false (sym h))
-    by (kinds.Fence queue Now) h = absurd (true≢false (sym h))
-    by kind h = refl
+    by_kind : (kind : Kind) → draws_none kind ≡ true → drawn_by past kind ≡ 0
+    by_kind (kinds.Main task queue delay true) h = absurd (true≢false (sym h))
+    by_kind (kinds.Tick now) h = absurd (true≢false (sym h))
+    by_kind (kinds.Fence queue Now) h = absurd (true≢false (sym h))
+    by_kind kind h = refl
 
 -- what the main queues need to know of the past stays, where no main task is accepted or taken and no tick made
 pub past_kept : (script : Plan) (past : List Entry) (e : Entry) → moves_main_posts e.kind ≡ false → moves_orders e.kind ≡ false

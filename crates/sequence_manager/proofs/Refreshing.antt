@@ -1,5 +1,6 @@
 -- What the selector is told of a queue: orders that its tasks drew, so that no two are the same.
-use Rattle.std.proofs.Common.{◌≡◌, ℕ, ◌<◌, ◌≤◌, Bool, true, false, cond, List, [], ◌∷◌, length, map, refl, sym, ap, ◌∙◌, subst, Option, Some, None, inl, inr, arith}
+use Rattle.std.proofs.Common.{◌≡◌, ℕ, ◌<◌, ◌≤◌, Bool, true, false, cond, List, [], ◌∷◌, length, map}
+use Rattle.std.proofs.Common.{refl, sym, ap, ◌∙◌, subst, Option, Some, None, inl, inr, arith}
 use Rattle.std.specs.Prelude.{◌⊎◌, ◌&&◌, ◌==◌, not, Contains, filter, slice_get, slice_index_or, slice_set}
 use Rattle.std.specs.Option.{option_map}
 use Rattle.std.proofs.lemmas.Bool.{and_parts, cases_lt, eqb-true}
@@ -40,7 +41,7 @@ pub record IsHeld (past : List Entry) (arrivals : List Ordered) (q : ℕ) (lane 
 -- the first of a lane is a task that lies in it
 pub first_is_held : (past : List Entry) (arrivals : List Ordered) (q : ℕ) (lane : Lane) (queued : Queued)
     → slice_get (held_in past arrivals q lane) 0 ≡ Some queued → IsHeld past arrivals q lane queued
-first_is_held past arrivals q lane queued is = by (is_closed past q) is
+first_is_held past arrivals q lane queued is = by_closed (is_closed past q) is
   where
     of_list : (xs : List Ordered) → ((o : Ordered) → Contains xs o → Contains arrivals o × (is_in_lane past q lane o.posted ≡ true))
         → slice_get (map queued_of xs) 0 ≡ Some queued → IsHeld past arrivals q lane queued
@@ -52,10 +53,10 @@ first_is_held past arrivals q lane queued is = by (is_closed past q) is
       in_lane = (inside o (0, omega arith, refl)).1;
     }
 
-    by : (b : Bool) → slice_get (cond b [] (map queued_of (filter (λ o. is_in_lane past q lane o.posted) arrivals))) 0 ≡ Some queued
+    by_closed : (b : Bool) → slice_get (cond b [] (map queued_of (filter (λ o. is_in_lane past q lane o.posted) arrivals))) 0 ≡ Some queued
         → IsHeld past arrivals q lane queued
-    by true first = absurd (none-some queued first)
-    by false first = of_list (filter (λ o. is_in_lane past q lane o.posted) arrivals)
+    by_closed true first = absurd (none-some queued first)
+    by_closed false first = of_list (filter (λ o. is_in_lane past q lane o.posted) arrivals)
         (λ o h. filter_contains (λ x. is_in_lane past q lane x.posted) arrivals o h) first
 
 -- the lanes of a queue are what they hold by the past
@@ -74,11 +75,11 @@ open_has_drawn script past arrivals waiting q lane order is =
   where
     kept : (test : ℕ → Bool) (o : Option ℕ) → keep test o ≡ Some order → o ≡ Some order
     kept test None h = absurd (none-some order h)
-    kept test (Some n) h = by (test n) h
+    kept test (Some n) h = by_test (test n) h
       where
-        by : (b : Bool) → cond b (Some n) None ≡ Some order → Some n ≡ Some order
-        by true same = same
-        by false same = absurd (none-some order same)
+        by_test : (b : Bool) → cond b (Some n) None ≡ Some order → Some n ≡ Some order
+        by_test true same = same
+        by_test false same = absurd (none-some order same)
 
     drawn : (first : Queued) → first.order ≡ order → IsHeld past arrivals q lane first → HasDrawn arrivals q lane order
     drawn first same held =

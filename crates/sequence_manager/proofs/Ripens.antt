@@ -1,7 +1,7 @@
 -- One delayed task ripens in the course of a tick: it goes to the end of its lane.
 use Rattle.delayed_manager.specs.Delayed.{with_held}
 use Rattle.list_laws.proofs.Elements.{AllByRecursion-append, AllByRecursion-at, AllByRecursion-contains, AllByRecursion-map}
-use Rattle.list_laws.proofs.Filters.{filter_all}
+use Rattle.list_laws.proofs.Filters.{filter_all, filter_front}
 use Rattle.list_laws.proofs.Rises.{rises_front, rises_last}
 use Rattle.list_laws.proofs.Values.{eqb-same}
 use Rattle.list_laws.specs.Sorts.{Rises}
@@ -60,14 +60,6 @@ known-push : (past : List Entry) (front : List Posted) (p : Posted) → known pa
 known-push past front p =
     ap (λ os. main_arrivals past ++ os) (numbered-append (next_draw past) front (p ∷ []))
     ∙ sym (append_assoc (main_arrivals past) (numbered_from (next_draw past) front) (next_of past front p ∷ []))
-
--- those in front are ripe, and of the rest some
-pub ripe_parts : (moment : ℕ) (ps front rest : List Posted) → ps ≡ front ++ rest → AllByRecursion (λ p. nat_le p.ripe moment ≡ true) front
-    → filter (λ p. nat_le p.ripe moment) ps ≡ front ++ filter (λ p. nat_le p.ripe moment) rest
-ripe_parts moment ps front rest parts ripe =
-    ap (filter (λ p. nat_le p.ripe moment)) parts
-    ∙ filter-append (λ p. nat_le p.ripe moment) front rest
-    ∙ ap (λ xs. xs ++ filter (λ p. nat_le p.ripe moment) rest) (filter_all (λ p. nat_le p.ripe moment) front ripe)
 
 -- each accepted task has a queue that is declared
 home_there : (script : Plan) (past : List Entry) (p : Posted) → IsMainScript script → IsMainPast script past → Contains (main_posts past) p
@@ -158,7 +150,7 @@ module _ {script : Plan} {past : List Entry} {moment : ℕ} {front : List Posted
 
         ripe : filter (λ q. nat_le q.ripe moment) (unripe past) ≡ (front ++ p ∷ []) ++ more
         ripe =
-            ripe_parts moment (unripe past) front (p ∷ rest) tick.all tick.ripe
+            filter_front (λ q. nat_le q.ripe moment) (unripe past) front (p ∷ rest) tick.all tick.ripe
             ∙ ap (λ b. front ++ cond b (p ∷ more) more) come
             ∙ sym (append_assoc front (p ∷ []) more)
 

@@ -22,7 +22,7 @@ use Rattle.sequence_manager.proofs.Lists.{any_contains}
 
 -- whether a task is a delayed one, by its post
 is_delayed_by_post : (past : List Entry) (p : Posted) → InOrder (main_posts past) → Contains (main_posts past) p → is_delayed_task past p.task ≡ is_delayed p
-is_delayed_by_post past p order among = by (is_delayed p) refl
+is_delayed_by_post past p order among = by_delayed (is_delayed p) refl
   where
     marks : Posted → Bool
     marks x = (x.task == p.task) && is_delayed x
@@ -34,9 +34,9 @@ is_delayed_by_post past p order among = by (is_delayed p) refl
         some-injective (sym (one_post past x order also) ∙ ap (main_post_of past) (eqb-true x.task p.task same) ∙ one_post past p order among) in
         ap is_delayed one ∙ immediate
 
-    by : (b : Bool) → is_delayed p ≡ b → list_any marks (main_posts past) ≡ b
-    by true delayed = any_contains marks (main_posts past) p among (rw (eqb-same p.task) delayed)
-    by false immediate = list_any_none marks (main_posts past) (AllByRecursion-map (Contains (main_posts past)) (λ x. marks x ≡ false) (main_posts past)
+    by_delayed : (b : Bool) → is_delayed p ≡ b → list_any marks (main_posts past) ≡ b
+    by_delayed true delayed = any_contains marks (main_posts past) p among (rw (eqb-same p.task) delayed)
+    by_delayed false immediate = list_any_none marks (main_posts past) (AllByRecursion-map (Contains (main_posts past)) (λ x. marks x ≡ false) (main_posts past)
         (λ x also. none immediate x also (x.task == p.task) refl) (AllByRecursion-contains_itself (main_posts past)))
 
 -- the selector counts as the past does
@@ -44,7 +44,7 @@ pub streak_at_take : (script : Plan) (past : List Entry) (waiting : List Posted)
     → Knows script past waiting selector → InOrder (main_posts past) → Contains (main_posts past) p → is_of_lane lane p ≡ true → task ≡ p.task
     → streak_after selector lane ≡ streak_of script (next past 0 (kinds.MainTake task queue found))
 streak_at_take script past waiting selector lane p task queue found knows order among of_lane is =
-    by lane of_lane ∙ sym (streak_of_push script past (record { seat = 0; kind = kinds.MainTake task queue found }))
+    by_lane lane of_lane ∙ sym (streak_of_push script past (record { seat = 0; kind = kinds.MainTake task queue found }))
   where
     waits : Bool
     waits = nat_lt 0 (length (immediate_fronts script past))
@@ -52,9 +52,9 @@ streak_at_take script past waiting selector lane p task queue found knows order 
     delayed : is_delayed_task past task ≡ is_delayed p
     delayed = ap (is_delayed_task past) is ∙ is_delayed_by_post past p order among
 
-    by : (l : Lane) → is_of_lane l p ≡ true → streak_after selector l ≡ cond (is_delayed_task past task && waits) (streak_of script past + 1) 0
-    by Immediate here = sym (ap (λ b. cond (b && waits) (streak_of script past + 1) 0) (delayed ∙ not-true (is_delayed p) here))
-    by Delayed here =
+    by_lane : (l : Lane) → is_of_lane l p ≡ true → streak_after selector l ≡ cond (is_delayed_task past task && waits) (streak_of script past + 1) 0
+    by_lane Immediate here = sym (ap (λ b. cond (b && waits) (streak_of script past + 1) 0) (delayed ∙ not-true (is_delayed p) here))
+    by_lane Delayed here =
         ap (λ b. cond b (selector.streak + 1) 0) (immediate_is_open_seen script past waiting selector knows)
         ∙ ap (λ n. cond waits (n + 1) 0) knows.streak
         ∙ sym (ap (λ b. cond (b && waits) (streak_of script past + 1) 0) (delayed ∙ here))

@@ -23,15 +23,15 @@ pub table_set : {A : Type 0} (f g : ℕ → A) (n : ℕ) (xs : List A) (k : ℕ)
     → ((i : ℕ) → i < n → (i ≡ k → ⊥) → f i ≡ g i) → x ≡ g k → IsTable g n (slice_set xs k x)
 table_set {A = A} f g n xs k x table less same here = record {
   all = length-set xs k x ∙ table.all;
-  each = λ i within. by i within (cases_eq i k);
+  each = λ i within. at_each i within (cases_eq i k);
 }
   where
     long : length xs ≡ n
     long = table.all
 
-    by : (i : ℕ) → i < n → (i ≡ k) ⊎ (i ≡ k → ⊥) → slice_get (slice_set xs k x) i ≡ Some (g i)
-    by i within (inl is) = rw is (slice_get-set_same xs k x (omega (arith, less, long)) ∙ ap Some here)
-    by i within (inr other) = slice_get-set_other xs k i x (λ is. other (sym is)) ∙ table.each i within ∙ ap Some (same i within other)
+    at_each : (i : ℕ) → i < n → (i ≡ k) ⊎ (i ≡ k → ⊥) → slice_get (slice_set xs k x) i ≡ Some (g i)
+    at_each i within (inl is) = rw is (slice_get-set_same xs k x (omega (arith, less, long)) ∙ ap Some here)
+    at_each i within (inr other) = slice_get-set_other xs k i x (λ is. other (sym is)) ∙ table.each i within ∙ ap Some (same i within other)
 
 pub table_same : {A : Type 0} (f g : ℕ → A) (n : ℕ) (xs : List A) → ((i : ℕ) → i < n → f i ≡ g i) → IsTable f n xs → IsTable g n xs
 table_same f g n xs same table = record { all = table.all; each = λ i less. table.each i less ∙ ap Some (same i less) }

@@ -107,15 +107,15 @@ lane_at_take {script = script} {past = past} {task = task} {queue = queue} {lane
     (kept_behind past task queue found (main_arrivals past) queue lane
     ∙ found_dropped ordered_below passes (λ x. task == x.posted.task) (main_arrivals past) o (ranks_by (λ x. x.order)) (main_arrivals_rise past)
     take.first.found (ap (λ t. task == t) (sym take.task_is) ∙ eqb-same task) (one_marked take))
-    ∙ by (is_closed past queue)
+    ∙ by_closed (is_closed past queue)
   where
     passes : Ordered → Bool
     passes x = is_in_lane past queue lane x.posted
 
-    by : (b : Bool) → cond b [] (map queued_of (drop 1 (filter passes (main_arrivals past))))
+    by_closed : (b : Bool) → cond b [] (map queued_of (drop 1 (filter passes (main_arrivals past))))
         ≡ drop 1 (cond b [] (map queued_of (filter passes (main_arrivals past))))
-    by true = refl
-    by false = sym (drop-map queued_of 1 (filter passes (main_arrivals past)))
+    by_closed true = refl
+    by_closed false = sym (drop-map queued_of 1 (filter passes (main_arrivals past)))
 
 -- every other lane keeps its tasks
 other_lane_at_take : {script : Plan} {past : List Entry} {manager : Manager} {task queue : ℕ} {lane : Lane} {o : Ordered} (found q : ℕ) (other : Lane)
@@ -148,14 +148,14 @@ pub taken_queue : {script : Plan} {past : List Entry} {manager : Manager} {task 
     ≡ taken_from lane (queue_of script past (main_arrivals past) waiting queue)
 taken_queue {script = script} {past = past} {task = task} {queue = queue} {lane = lane} {o = o} found waiting take =
     queue_left script past (taken past task queue found) (main_arrivals past) waiting queue (left_at_take script past 0 task queue found)
-    ∙ by lane take.first.of_lane (lane_at_take found take)
+    ∙ by_lane lane take.first.of_lane (lane_at_take found take)
   where
-    by : (l : Lane) → is_of_lane l o.posted ≡ true
+    by_lane : (l : Lane) → is_of_lane l o.posted ≡ true
         → held_in (taken past task queue found) (main_arrivals past) queue l ≡ drop 1 (held_in past (main_arrivals past) queue l)
         → with_lanes (queue_of script past (main_arrivals past) waiting queue) (held_in (taken past task queue found) (main_arrivals past) queue Immediate)
         (held_in (taken past task queue found) (main_arrivals past) queue Delayed) (cell_in (taken past task queue found) queue)
         ≡ taken_from l (queue_of script past (main_arrivals past) waiting queue)
-    by Immediate of_lane dropped =
+    by_lane Immediate of_lane dropped =
         let left = other_lane_at_take found queue Delayed take
         (and_right (o.posted.home == queue) (is_delayed o.posted) (not-true (is_delayed o.posted) of_lane)) in
         rw (
@@ -166,7 +166,7 @@ taken_queue {script = script} {past = past} {task = task} {queue = queue} {lane 
           ← lane_is_held script past (main_arrivals past) waiting queue Immediate,
           ← lane_is_held script past (main_arrivals past) waiting queue Delayed,
         ) refl
-    by Delayed of_lane dropped =
+    by_lane Delayed of_lane dropped =
         let left = other_lane_at_take found queue Immediate take
         (and_right (o.posted.home == queue) (not (is_delayed o.posted)) (not_from_true (is_delayed o.posted) of_lane)) in
         rw (

@@ -76,17 +76,17 @@ popped_le lanes Delayed = simp (length-append, length-drop) (omega arith)
 -- the room that is left
 room_at_take : {script : Plan} {past : List Entry} {manager : Manager} {task queue : ℕ} {lane : Lane} {o : Ordered} (found q : ℕ)
     → IsTake script past manager task queue lane o → q < length script.queues → HasRoom past q (queue_at (untold manager queue lane).queues q)
-room_at_take {script = script} {past = past} {manager = manager} {task = task} {queue = queue} {lane = lane} found q take less = by (cases_eq q queue)
+room_at_take {script = script} {past = past} {manager = manager} {task = task} {queue = queue} {lane = lane} found q take less = by_queue (cases_eq q queue)
   where
     was : queue_at manager.queues q ≡ queue_by script past past q
     was = queue_at_is (queue_by script past past) (length script.queues) manager.queues q take.can.stands.parts.queues less
 
-    by : (q ≡ queue) ⊎ (q ≡ queue → ⊥) → HasRoom past q (queue_at (untold manager queue lane).queues q)
-    by (inl same) = subst (HasRoom past q)
+    by_queue : (q ≡ queue) ⊎ (q ≡ queue → ⊥) → HasRoom past q (queue_at (untold manager queue lane).queues q)
+    by_queue (inl same) = subst (HasRoom past q)
         (ap (taken_from lane) (was ∙ ap (queue_by script past past) same) ∙ sym (taken_queue found (unripe past) take)
         ∙ ap (queue_by script past (taken past task queue found)) (sym same) ∙ sym (queue_at_take found q take less))
         (omega (arith, take.can.stands.parts.room q less, popped_le (queue_at manager.queues q).tasks lane))
-    by (inr apart) = subst (HasRoom past q) (was ∙ other_queue found (unripe past) q take apart ∙ sym (queue_at_take found q take less))
+    by_queue (inr apart) = subst (HasRoom past q) (was ∙ other_queue found (unripe past) q take apart ∙ sym (queue_at_take found q take less))
         (take.can.stands.parts.room q less)
 
 -- the manager without the first task of the chosen lane stands for the past behind its take

@@ -30,23 +30,23 @@ use Rattle.sequence_manager.proofs.Takes.{knows_past}
 pub chosen_from : {script : Plan} {past : List Entry} {manager : Manager} {queue : ℕ} {lane : Lane} → CanTake script past manager
     → ◌≡◌ {A = Option (ℕ × Lane)} (Some (queue, lane)) (choice manager.selector) → IsChosen script past queue lane
 chosen_from {script = script} {past = past} {manager = manager} {queue = queue} {lane = lane} can is =
-    by (chosen_of script past) refl (is ∙ choice_seen script past (unripe past) manager.selector (knows_past script past manager can.stands))
+    by_front (chosen_of script past) refl (is ∙ choice_seen script past (unripe past) manager.selector (knows_past script past manager can.stands))
   where
-    by : (o : Option Front) → chosen_of script past ≡ o → ◌≡◌ {A = Option (ℕ × Lane)} (Some (queue, lane)) (option_map place_of o)
+    by_front : (o : Option Front) → chosen_of script past ≡ o → ◌≡◌ {A = Option (ℕ × Lane)} (Some (queue, lane)) (option_map place_of o)
         → IsChosen script past queue lane
-    by None none same = absurd (none-some (queue, lane) (sym same))
-    by (Some f) chosen same = subst (λ (place : ℕ × Lane). IsChosen script past place.0 place.1) (sym (some-injective same))
+    by_front None none same = absurd (none-some (queue, lane) (sym same))
+    by_front (Some f) chosen same = subst (λ (place : ℕ × Lane). IsChosen script past place.0 place.1) (sym (some-injective same))
         (chosen_is script past f can.stands.past_fits.arrivals_are_ordered chosen)
 
 -- where it chooses none, none is to be taken
 pub nothing_chosen : {script : Plan} {past : List Entry} {manager : Manager} → CanTake script past manager
     → ◌≡◌ {A = Option (ℕ × Lane)} None (choice manager.selector) → chosen_of script past ≡ None
 nothing_chosen {script = script} {past = past} {manager = manager} can is =
-    by (chosen_of script past) (is ∙ choice_seen script past (unripe past) manager.selector (knows_past script past manager can.stands))
+    by_front (chosen_of script past) (is ∙ choice_seen script past (unripe past) manager.selector (knows_past script past manager can.stands))
   where
-    by : (o : Option Front) → ◌≡◌ {A = Option (ℕ × Lane)} None (option_map place_of o) → o ≡ None
-    by None same = refl
-    by (Some f) same = absurd (none-some (place_of f) same)
+    by_front : (o : Option Front) → ◌≡◌ {A = Option (ℕ × Lane)} None (option_map place_of o) → o ≡ None
+    by_front None same = refl
+    by_front (Some f) same = absurd (none-some (place_of f) same)
 
 -- the queue that is there, by the past
 there_is : {script : Plan} {past : List Entry} {manager : Manager} {queue : ℕ} {x : TaskQueue} → CanTake script past manager → queue < length script.queues

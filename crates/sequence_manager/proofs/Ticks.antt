@@ -3,7 +3,7 @@
 use Rattle.delayed_manager.specs.Delayed.{is_ripe}
 use Rattle.delayed_manager.specs.declared.ripening.Ripening.{Ripening}
 use Rattle.list_laws.proofs.Elements.{AllByRecursion-map}
-use Rattle.list_laws.proofs.Filters.{filter_all, filter_none}
+use Rattle.list_laws.proofs.Filters.{filter_all, filter_none, filter_front}
 use Rattle.list_laws.proofs.Ranks.{by_more}
 use Rattle.list_laws.proofs.Sorts.{length-sort_by}
 use Rattle.list_laws.proofs.Values.{some-injective}
@@ -14,7 +14,7 @@ use Rattle.queue_laws.proofs.Arrivals.{main_arrivals_at_tick}
 use Rattle.sequence_manager.proofs.Kept.{class_kept, driver_same, other_keeps}
 use Rattle.sequence_manager.proofs.Lists.{rises_back}
 use Rattle.sequence_manager.proofs.Parts.{parts_kept}
-use Rattle.sequence_manager.proofs.Ripens.{can_ripen, few_drawn, first_held, known_with, ripe_parts, ripens_on, there}
+use Rattle.sequence_manager.proofs.Ripens.{can_ripen, few_drawn, first_held, known_with, ripens_on, there}
 use Rattle.sequence_manager.proofs.Soonest.{soonest_is, soonest_of_none}
 use Rattle.sequence_manager.proofs.TickedPast.{main_past_at_tick}
 use Rattle.sequence_manager.proofs.Waiting.{ripe_at_tick, unripe_at_tick, unripe_rises}
@@ -24,7 +24,8 @@ use Rattle.sequence_manager.specs.Ripening.{CanRipen, IsInTick, first_ripe, know
 use Rattle.sequence_manager.specs.StandsFor.{ArePartsOf, StandsFor}
 use Rattle.sequence_manager.specs.State.{queue_at}
 use Rattle.sequence_manager.specs.declared.manager.Manager.{Manager}
-use Rattle.std.proofs.Common.{Bool, List, None, Option, Some, [], ap, arith, cond, false, inl, inr, length, refl, subst, sym, true, ℕ, ◌++◌, ◌+◌, ◌-◌, ◌<◌, ◌^◌, ◌∙◌, ◌∷◌, ◌≡◌, ◌≤◌}
+use Rattle.std.proofs.Common.{Bool, List, None, Option, Some, [], ap, arith, cond, false, inl, inr, length}
+use Rattle.std.proofs.Common.{refl, subst, sym, true, ℕ, ◌++◌, ◌+◌, ◌-◌, ◌<◌, ◌^◌, ◌∙◌, ◌∷◌, ◌≡◌, ◌≤◌}
 use Rattle.std.proofs.lemmas.Bool.{cases_lt, le-ltb, leb-false, leb-true, lt-leb, lt-ltb, true≢false}
 use Rattle.std.proofs.lemmas.List.{append-nil, length-append}
 use Rattle.std.proofs.lemmas.List.Elements.{filter-append}
@@ -86,11 +87,11 @@ first_ripe_is : {script : Plan} {past : List Entry} {moment : ℕ} {front : List
 first_ripe_is {script = script} {past = past} {moment = moment} {front = front} {p = p} {rest = rest} {manager = manager} tick =
     ap (ripe_home moment)
     (soonest_is script past (known past front) p rest manager.queues tick.parts.queues (rest_rises past front (p ∷ rest) tick.all) (there tick))
-    ∙ by (nat_le p.ripe moment) (ripening_of p, p.home)
+    ∙ by_order (nat_le p.ripe moment) (ripening_of p, p.home)
   where
-    by : (b : Bool) (first : Ripening × ℕ) → option_map (λ x. x.1) (cond b (Some first) None) ≡ cond b (Some first.1) None
-    by true first = refl
-    by false first = refl
+    by_order : (b : Bool) (first : Ripening × ℕ) → option_map (λ x. x.1) (cond b (Some first) None) ≡ cond b (Some first.1) None
+    by_order true first = refl
+    by_order false first = refl
 
 -- the first of the tasks that are left is ripe, and is of this queue
 pub record StepsTo (script : Plan) (past : List Entry) (moment : ℕ) (manager : Manager) (queue : ℕ) : Type 0 where
@@ -105,17 +106,17 @@ pub record StepsTo (script : Plan) (past : List Entry) (moment : ℕ) (manager :
 pub steps : {script : Plan} {past : List Entry} {moment : ℕ} {manager : Manager} {queue : ℕ}
     → (front : List Posted) × (rest : List Posted) × IsInTick script past moment front rest manager → first_ripe moment manager.queues ≡ Some queue
     → StepsTo script past moment manager queue
-steps {script = script} {past = past} {moment = moment} {manager = manager} {queue = queue} (front, rest, tick) found = by rest tick
+steps {script = script} {past = past} {moment = moment} {manager = manager} {queue = queue} (front, rest, tick) found = by_rest rest tick
   where
     with : (p : Posted) (ps : List Posted) → IsInTick script past moment front (p ∷ ps) manager → (b : Bool) → nat_le p.ripe moment ≡ b
         → cond b (Some p.home) None ≡ Some queue → StepsTo script past moment manager queue
     with p ps of_p true is h = record { front = front; p = p; rest = ps; tick = of_p; come = is; queue_is = sym (some-injective h) }
     with p ps of_p false is h = absurd (none-some queue h)
 
-    by : (ps : List Posted) → IsInTick script past moment front ps manager → StepsTo script past moment manager queue
-    by [] of_none = absurd (none-some queue
+    by_rest : (ps : List Posted) → IsInTick script past moment front ps manager → StepsTo script past moment manager queue
+    by_rest [] of_none = absurd (none-some queue
         (sym (ap (ripe_home moment) (soonest_of_none script past (known past front) manager.queues of_none.parts.queues)) ∙ found))
-    by (p ∷ ps) of_p = with p ps of_p (nat_le p.ripe moment) refl (sym (first_ripe_is of_p) ∙ found)
+    by_rest (p ∷ ps) of_p = with p ps of_p (nat_le p.ripe moment) refl (sym (first_ripe_is of_p) ∙ found)
 
 module _ {script : Plan} {past : List Entry} {moment : ℕ} {manager : Manager} {queue : ℕ} (step : StepsTo script past moment manager queue) where
   -- the step can be done
@@ -157,23 +158,23 @@ rest_unripe : (moment : ℕ) (p : Posted) (rest : List Posted) → Rises ripens_
     → AllByRecursion (λ q. moment < q.ripe) (p ∷ rest)
 rest_unripe moment p rest rises first = (
   first,
-  AllByRecursion-map (λ q. ripens_before p q ≡ true) (λ q. moment < q.ripe) rest (λ q before. by q before (cases_lt q.ripe p.ripe)) rises.0,
+  AllByRecursion-map (λ q. ripens_before p q ≡ true) (λ q. moment < q.ripe) rest (λ q before. by_posted q before (cases_lt q.ripe p.ripe)) rises.0,
 )
   where
-    by : (q : Posted) → ripens_before p q ≡ true → (q.ripe < p.ripe) ⊎ (p.ripe ≤ q.ripe) → moment < q.ripe
-    by q before (inl less) = absurd (true≢false (sym before ∙ by_more (λ x. x.ripe) (λ a b. nat_lt a.place b.place) p q less))
-    by q before (inr more) = omega (arith, first, more)
+    by_posted : (q : Posted) → ripens_before p q ≡ true → (q.ripe < p.ripe) ⊎ (p.ripe ≤ q.ripe) → moment < q.ripe
+    by_posted q before (inl less) = absurd (true≢false (sym before ∙ by_more (λ x. x.ripe) (λ a b. nat_lt a.place b.place) p q less))
+    by_posted q before (inr more) = omega (arith, first, more)
 
 -- where the manager finds no queue, none of the tasks that are left is ripe
 none_ripe : {script : Plan} {past : List Entry} {moment : ℕ} {front : List Posted} {manager : Manager} (rest : List Posted)
     → IsInTick script past moment front rest manager → first_ripe moment manager.queues ≡ None → AllByRecursion (λ p. moment < p.ripe) rest
 none_ripe [] tick none = tt
 none_ripe {past = past} {moment = moment} {front = front} (p ∷ rest) tick none =
-    rest_unripe moment p rest (rest_rises past front (p ∷ rest) tick.all) (by (nat_le p.ripe moment) refl (sym (first_ripe_is tick) ∙ none))
+    rest_unripe moment p rest (rest_rises past front (p ∷ rest) tick.all) (by_order (nat_le p.ripe moment) refl (sym (first_ripe_is tick) ∙ none))
   where
-    by : (b : Bool) → nat_le p.ripe moment ≡ b → cond b (Some p.home) None ≡ None → moment < p.ripe
-    by true is h = absurd (none-some p.home (sym h))
-    by false is h = leb-false p.ripe moment is
+    by_order : (b : Bool) → nat_le p.ripe moment ≡ b → cond b (Some p.home) None ≡ None → moment < p.ripe
+    by_order true is h = absurd (none-some p.home (sym h))
+    by_order false is h = leb-false p.ripe moment is
 
 -- no queue has a delayed task that is ripe
 module _ {script : Plan} {past : List Entry} {moment : ℕ} {front rest : List Posted} {manager : Manager}
@@ -181,7 +182,7 @@ module _ {script : Plan} {past : List Entry} {moment : ℕ} {front rest : List P
   -- those that have ripened are all that are ripe
   ripe_are : filter (λ p. nat_le p.ripe moment) (unripe past) ≡ front
   ripe_are =
-      ripe_parts moment (unripe past) front rest tick.all tick.ripe
+      filter_front (λ q. nat_le q.ripe moment) (unripe past) front rest tick.all tick.ripe
       ∙ ap (λ ps. front ++ ps) (filter_none (λ p. nat_le p.ripe moment) rest
       (AllByRecursion-map (λ p. moment < p.ripe) (λ p. nat_le p.ripe moment ≡ false) rest (λ p lt. lt-leb p.ripe moment lt) (none_ripe rest tick none)))
       ∙ append-nil front

@@ -124,7 +124,10 @@ inserted f e g n m p r first le lt changed exchanged i within =
 pub end_is_loose : (f e g : ℕ → Option Rank) (n m p : ℕ) (r : Rank) → IsOrdered f n → n ≤ p → p < m → Changed f e m p (Some r) → Exchanged e g p n
     → IsLoosely g (n + 1) n × IsAbove g (n + 1) n
 end_is_loose f e g n m p r ordered le lt changed exchanged = (
-  record { elsewhere = λ i c below less other up. rw (kept c (grind arith), kept i (grind arith)) (ordered i c below (grind arith)); around = λ i c up below less. grind arith },
+  record {
+    elsewhere = λ i c below less other up. rw (kept c (grind arith), kept i (grind arith)) (ordered i c below (grind arith));
+    around = λ i c up below less. grind arith;
+  },
   λ c below less. grind arith,
 )
   where
@@ -153,11 +156,11 @@ first_changed f g n m p r first lt changed i within = grind (arith, first i with
 -- each place but the first is below another
 pub parent : (i : ℕ) → (p : ℕ) × IsChild (i + 1) p × (p ≤ i)
 parent zero = (0, inl refl, omega arith)
-parent (suc i) = by (parent i)
+parent (suc i) = by_parent (parent i)
   where
-    by : (p : ℕ) × IsChild (i + 1) p × (p ≤ i) → (p : ℕ) × IsChild (suc i + 1) p × (p ≤ suc i)
-    by (p, inl left, le) = (p, inr (omega (arith, left)), omega (arith, le))
-    by (p, inr right, le) = (p + 1, inl (omega (arith, right)), omega (arith, le))
+    by_parent : (p : ℕ) × IsChild (i + 1) p × (p ≤ i) → (p : ℕ) × IsChild (suc i + 1) p × (p ≤ suc i)
+    by_parent (p, inl left, le) = (p, inr (omega (arith, left)), omega (arith, le))
+    by_parent (p, inr right, le) = (p + 1, inl (omega (arith, right)), omega (arith, le))
 
 -- what has no rank
 pub is_none : (a : Option Rank) → is_some a ≡ false → a ≡ None
@@ -176,8 +179,8 @@ first_in_heap f n (suc m) (suc i) ordered less lt =
 
 -- no place at all does
 pub first_is_least : (f : ℕ → Option Rank) (n m i : ℕ) → IsOrdered f n → HasFirst f n m → i < m → before (f i) (f 0) ≡ false
-first_is_least f n m i ordered first lt = by (cases_lt i n)
+first_is_least f n m i ordered first lt = by_order (cases_lt i n)
   where
-    by : (i < n) ⊎ (n ≤ i) → before (f i) (f 0) ≡ false
-    by (inl less) = first_in_heap f n (suc i) i ordered (omega arith) less
-    by (inr le) = rw (is_none (f i) (first i lt ∙ le-ltb i n le)) refl
+    by_order : (i < n) ⊎ (n ≤ i) → before (f i) (f 0) ≡ false
+    by_order (inl less) = first_in_heap f n (suc i) i ordered (omega arith) less
+    by_order (inr le) = rw (is_none (f i) (first i lt ∙ le-ltb i n le)) refl

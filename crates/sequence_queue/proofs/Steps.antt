@@ -1,5 +1,6 @@
 -- What the steps of a heap's methods keep.
-use Rattle.std.proofs.Common.{◌≡◌, ℕ, zero, suc, ◌+◌, ◌-◌, ◌*◌, ◌<◌, ◌≤◌, Bool, true, false, length, Option, Some, None, refl, sym, ap, subst, ◌∙◌, get_or, inl, inr, arith}
+use Rattle.std.proofs.Common.{◌≡◌, ℕ, zero, suc, ◌+◌, ◌-◌, ◌*◌, ◌<◌, ◌≤◌, Bool, true, false, length, Option}
+use Rattle.std.proofs.Common.{Some, None, refl, sym, ap, subst, ◌∙◌, get_or, inl, inr, arith}
 use Rattle.std.specs.Prelude.{◌&&◌, nat_lt, slice_index, slice_index_or, replicate, is_some}
 use Rattle.std.proofs.lemmas.Bool.{lt-ltb, le-ltb, true≢false}
 use Rattle.std.proofs.lemmas.List.{get_or-set_other, length-set, get_or-replicate, length-replicate}
@@ -7,8 +8,10 @@ use Rattle.std.proofs.lemmas.Grind.{get_or_default_zero, get_or-set_at}
 use Rattle.std.specs.Vec.{with_item}
 use Rattle.sequence_queue.specs.declared.heap.Heap.{Heap}
 use Rattle.sequence_queue.specs.declared.rank.Rank.{Rank}
-use Rattle.sequence_queue.specs.Heap.{before, Changed, CountsUp, HasFirst, rank_at, rank_of_number, size, goes_before, IsChild, IsExchanged, HasPlaces, IsPlaced, IsLoosely, IsOrdered, IsAbove, IsBelow, IsFirst, IsFirstBelow, IsHeap, IsHeapBut}
-use Rattle.sequence_queue.proofs.Order.{among, behind, end_is_loose, end_is_whole, first_changed, first_exchanged, first_is_least, gap_is_loose, inserted, is_above, is_none, itself, loosened, one_above, one_way, parent, removed, risen, sunk, through, whole}
+use Rattle.sequence_queue.specs.Heap.{before, Changed, CountsUp, HasFirst, rank_at, rank_of_number, size, ranks_first, IsChild, IsExchanged, HasPlaces}
+use Rattle.sequence_queue.specs.Heap.{IsPlaced, IsLoosely, IsOrdered, IsAbove, IsBelow, IsFirst, IsFirstBelow, IsHeap, IsHeapBut}
+use Rattle.sequence_queue.proofs.Order.{among, behind, end_is_loose, end_is_whole, first_changed, first_exchanged, first_is_least, gap_is_loose, inserted}
+use Rattle.sequence_queue.proofs.Order.{is_above, is_none, itself, loosened, one_above, one_way, parent, removed, risen, sunk, through, whole}
 
 -- behind an exchange of two that are held
 exchanged_placed : (h g : Heap) (p q : ℕ) → IsPlaced h → p < h.held → q < h.held → IsExchanged h g p q → IsPlaced g
@@ -23,7 +26,7 @@ exchanged_placed h g p q placed p_lt q_lt exchange = record {
     same_size = ap (λ r. length r.items) exchange.ranks
 
 -- behind an exchange with the place above
-pub climb_step : (h g : Heap) (k p : ℕ) (up : Bool) → IsHeapBut h k → IsAbove (rank_at h) h.held k → IsChild k p → up ≡ goes_before h k p → up ≡ true
+pub climb_step : (h g : Heap) (k p : ℕ) (up : Bool) → IsHeapBut h k → IsAbove (rank_at h) h.held k → IsChild k p → up ≡ ranks_first h k p → up ≡ true
     → IsExchanged h g k p → IsHeapBut g p × IsAbove (rank_at g) g.held p
 climb_step h g k p up but high child says goes exchange =
     let within : p < h.held = grind (arith, but.within) in
@@ -37,13 +40,13 @@ climb_step h g k p up but high child says goes exchange =
     )
 
 -- where a number does not go before the one above it
-pub climb_ends : (h : Heap) (k : ℕ) (up : Bool) → IsHeapBut h k → IsAbove (rank_at h) h.held k → ((i : ℕ) → IsChild k i → up ≡ goes_before h k i)
+pub climb_ends : (h : Heap) (k : ℕ) (up : Bool) → IsHeapBut h k → IsAbove (rank_at h) h.held k → ((i : ℕ) → IsChild k i → up ≡ ranks_first h k i)
     → up ≡ false → IsHeap h
 climb_ends h k up but high says not_up =
     record { placed = but.placed; ordered = whole (rank_at h) h.held k but.loose high (λ i child. sym (says i child) ∙ not_up) }
 
 -- behind an exchange with the first of the places below
-pub sink_step : (h g : Heap) (k b : ℕ) → IsHeapBut h k → IsBelow (rank_at h) k → IsFirstBelow h k b → (nat_lt b h.held && goes_before h b k) ≡ true
+pub sink_step : (h g : Heap) (k b : ℕ) → IsHeapBut h k → IsBelow (rank_at h) k → IsFirstBelow h k b → (nat_lt b h.held && ranks_first h b k) ≡ true
     → IsExchanged h g k b → IsHeapBut g b × IsBelow (rank_at g) b
 sink_step h g k b but low first goes exchange =
     let within : b < h.held = grind arith in
@@ -58,25 +61,25 @@ sink_step h g k b but low first goes exchange =
     )
 
 -- of the two places below one, the one at the right where its number goes before that at the left
-pub right_first : (h : Heap) (k : ℕ) → (nat_lt (2 * k + 1 + 1) h.held && goes_before h (2 * k + 1 + 1) (2 * k + 1)) ≡ true
+pub right_first : (h : Heap) (k : ℕ) → (nat_lt (2 * k + 1 + 1) h.held && ranks_first h (2 * k + 1 + 1) (2 * k + 1)) ≡ true
     → IsFirstBelow h k (2 * k + 1 + 1)
 right_first h k goes = record { child = inr (omega arith); least = least }
   where
-    least : (d : ℕ) → IsChild d k → d < h.held → (2 * k + 1 + 1 < h.held) × (goes_before h d (2 * k + 1 + 1) ≡ false)
+    least : (d : ℕ) → IsChild d k → d < h.held → (2 * k + 1 + 1 < h.held) × (ranks_first h d (2 * k + 1 + 1) ≡ false)
     least d (inl left) lt = (grind arith, rw left (one_way (rank_at h (2 * k + 1 + 1)) (rank_at h (2 * k + 1)) (grind arith)))
     least d (inr right) lt = (grind arith, rw (let same : d ≡ 2 * k + 1 + 1 = omega arith in same) (itself (rank_at h (2 * k + 1 + 1))))
 
 -- where the first of the places below does not go before it
-pub sink_ends : (h : Heap) (k b : ℕ) → IsHeapBut h k → IsBelow (rank_at h) k → IsFirstBelow h k b → (nat_lt b h.held && goes_before h b k) ≡ false → IsHeap h
+pub sink_ends : (h : Heap) (k b : ℕ) → IsHeapBut h k → IsBelow (rank_at h) k → IsFirstBelow h k b → (nat_lt b h.held && ranks_first h b k) ≡ false → IsHeap h
 sink_ends h k b but low first stays = record { placed = but.placed; ordered = whole (rank_at h) h.held k but.loose high low }
   where
     high : IsAbove (rank_at h) h.held k
     high c child lt =
         let least = first.least c child lt in
-        through (rank_at h c) (rank_at h b) (rank_at h k) least.1 (sym (ap (λ t. t && goes_before h b k) (lt-ltb b h.held least.0)) ∙ stays)
+        through (rank_at h c) (rank_at h b) (rank_at h k) least.1 (sym (ap (λ t. t && ranks_first h b k) (lt-ltb b h.held least.0)) ∙ stays)
 
 -- a number that goes up goes before those below it
-pub goes_high : (h : Heap) (k : ℕ) (up : Bool) → IsHeapBut h k → ((i : ℕ) → IsChild k i → up ≡ goes_before h k i) → (k ≡ 0 → up ≡ false) → up ≡ true
+pub goes_high : (h : Heap) (k : ℕ) (up : Bool) → IsHeapBut h k → ((i : ℕ) → IsChild k i → up ≡ ranks_first h k i) → (k ≡ 0 → up ≡ false) → up ≡ true
     → IsAbove (rank_at h) h.held k
 goes_high h zero up but says first goes = absurd (true≢false (sym goes ∙ first refl))
 goes_high h (suc k) up but says first goes =
@@ -85,10 +88,10 @@ goes_high h (suc k) up but says first goes =
     is_above (rank_at h) h.held (suc k) p.0 but.loose child (sym (says p.0 child) ∙ goes)
 
 -- a place is below one place alone
-pub only_above : (h : Heap) (k p : ℕ) (up : Bool) → IsChild k p → k < h.held → up ≡ (nat_lt k h.held && goes_before h k p) → (i : ℕ) → IsChild k i
-    → up ≡ goes_before h k i
+pub only_above : (h : Heap) (k p : ℕ) (up : Bool) → IsChild k p → k < h.held → up ≡ (nat_lt k h.held && ranks_first h k p) → (i : ℕ) → IsChild k i
+    → up ≡ ranks_first h k i
 only_above h k p up child lt says i other =
-    says ∙ ap (λ t. t && goes_before h k p) (lt-ltb k h.held lt) ∙ ap (goes_before h k) (one_above k p i child other)
+    says ∙ ap (λ t. t && ranks_first h k p) (lt-ltb k h.held lt) ∙ ap (ranks_first h k) (one_above k p i child other)
 
 -- a heap in which one number has another rank
 abbrev ranked : Heap → ℕ → Option Rank → Heap

@@ -23,8 +23,8 @@ abbrev pub size : Heap → ℕ
 size h = length h.ranks.items
 
 -- the number at one place goes before the one at another
-abbrev pub goes_before : Heap → ℕ → ℕ → Bool
-goes_before h i j = before (rank_at h i) (rank_at h j)
+abbrev pub ranks_first : Heap → ℕ → ℕ → Bool
+ranks_first h i j = before (rank_at h i) (rank_at h j)
 
 -- the numbers below a bound, in order
 abbrev pub CountsUp : List ℕ → ℕ → Type 0
@@ -95,7 +95,7 @@ pub record IsExchanged (h g : Heap) (p q : ℕ) : Type 0 where
 -- of the two places below one, the one whose number goes before the other's, if there are numbers
 pub record IsFirstBelow (h : Heap) (k c : ℕ) : Type 0 where
   pub child : IsChild c k
-  pub least : (d : ℕ) → IsChild d k → d < h.held → (c < h.held) × (goes_before h d c ≡ false)
+  pub least : (d : ℕ) → IsChild d k → d < h.held → (c < h.held) × (ranks_first h d c ≡ false)
 
 -- the numbers that are held have the first places, and none of them goes before the one above it
 pub record IsHeap (h : Heap) : Type 0 where

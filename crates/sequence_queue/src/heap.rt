@@ -1,5 +1,5 @@
 ghost use Rattle.std.specs.Prelude.{◌≡◌, ◌<◌, ◌^◌, ◌&&◌, ℕ, false, nat_lt, slice_index_or, slice_set, replicate, is_some, true, None, Some, IfOk};
-ghost use Rattle.sequence_queue.specs.Heap.{before, CountsUp, IsAbove, IsBelow, IsChild, IsExchanged, IsFirst, IsFirstBelow, IsHeap, IsHeapBut, HasPlaces, IsPlaced, goes_before, rank_at, rank_of_number, size};
+ghost use Rattle.sequence_queue.specs.Heap.{before, CountsUp, IsAbove, IsBelow, IsChild, IsExchanged, IsFirst, IsFirstBelow, IsHeap, IsHeapBut, HasPlaces, IsPlaced, ranks_first, rank_at, rank_of_number, size};
 
 use crate::rank::Rank;
 use std::alloc::{AllocError, Global};
@@ -162,7 +162,7 @@ impl Heap {
     fn goes_up(&self, place: usize) -> bool
         requires placed { IsPlaced self.now }
         requires within { place < self.now.held }
-        ensures answer { (i : ℕ) → IsChild place i → result ≡ goes_before self.now place i }
+        ensures answer { (i : ℕ) → IsChild place i → result ≡ ranks_first self.now place i }
         ensures first { place ≡ 0 → result ≡ false }
     {
         place > 0 && self.goes_before(place, above(place))
@@ -172,7 +172,7 @@ impl Heap {
     fn goes_before(&self, place: usize, other: usize) -> bool
         requires placed { IsPlaced self.now }
         requires within { place < self.now.held → other < self.now.held }
-        ensures { result ≡ (nat_lt place self.now.held && goes_before self.now place other) }
+        ensures { result ≡ (nat_lt place self.now.held && ranks_first self.now place other) }
     {
         place < self.held && before(self.rank_at(place), self.rank_at(other))
     }

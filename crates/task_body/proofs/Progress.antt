@@ -1,15 +1,18 @@
 -- What each step of a body brings: it does some steps at the front, or none is left.
-use Rattle.std.proofs.Common.{◌≡◌, ℕ, suc, ◌+◌, ◌-◌, ◌<◌, List, [], ◌∷◌, ◌++◌, length, take, drop, refl, sym, ap, ◌∙◌, add-one, Some, arith, length-append, length-drop}
+use Rattle.std.proofs.Common.{◌≡◌, ℕ, zero, suc, ◌+◌, ◌-◌, ◌<◌, List, [], ◌∷◌, ◌++◌, length, take, drop, refl}
+use Rattle.std.proofs.Common.{sym, ap, ◌∙◌, add-one, Some, arith, length-append, length-drop}
 use Rattle.std.proofs.Math.Seq.{take-append_seam, drop-cons}
 use Rattle.std.proofs.lemmas.List.{take-append-drop}
 use Rattle.std.proofs.lemmas.Option.{slice_get_within, get_or_from_slice_get}
-use Rattle.std.specs.Prelude.{slice_get}
+use Rattle.std.specs.Prelude.{filter, slice_get}
 use Rattle.task_base.specs.Steps.{after}
 use Rattle.task_base.specs.declared.step.Step.{Step}
 use Rattle.task_base.specs.declared.step.Step.TheVariants as steps
 use Rattle.task_body.specs.declared.act.Act.{Act}
 use Rattle.task_body.specs.declared.act.Act.TheVariants.{Did, Post, Main, Enter, Leave, Finished}
-use Rattle.task_body.specs.Progress.{Progress, done_of}
+use Rattle.task_base.specs.Steps.{is_act}
+use Rattle.task_body.specs.Bodies.{AssignmentView}
+use Rattle.task_body.specs.Progress.{OnlyComputes, Progress, done_of}
 
 -- the steps that were done at once, in front of those for later, and what they leave
 pub record Does (rest : List Step) (value : ℕ) (later : List Step) (left : ℕ) : Type 0 where
@@ -63,3 +66,14 @@ drop-slice_get steps place step is =
     drop-cons steps place step (slice_get_within steps place step (sym is))
     ∙ ap (λ x. x ∷ drop (suc place) steps) (get_or_from_slice_get steps place step step (sym is))
     ∙ ap (λ n. step ∷ drop n steps) (sym (add-one place))
+
+-- compute steps in front are no act steps
+pub computes_first : (n : ℕ) (rest : List Step) → OnlyComputes (take n rest) → filter is_act rest ≡ filter is_act (drop n rest)
+computes_first zero rest computes = refl
+computes_first (suc n) [] computes = refl
+computes_first (suc n) (step ∷ rest) computes = rw computes.0 (computes_first n rest computes.1)
+
+-- two changes of value and rest are one
+pub stepped : (a b c : AssignmentView) → b ≡ record a { value = b.value; rest = b.rest } → c ≡ record b { value = c.value; rest = c.rest }
+    → c ≡ record a { value = c.value; rest = c.rest }
+stepped a b c first second = second ∙ ap (λ (x : AssignmentView). record x { value = c.value; rest = c.rest }) first

@@ -15,7 +15,7 @@ left_of (Some work) whole = whole
 left_of None whole = []
 
 -- work that is to do stands for the steps: these can be counted, there is one, and all are compute steps
-pub record StandsFor (stands whole : List Step) : Type 0 where
+pub record StandsForSteps (stands whole : List Step) : Type 0 where
   pub some : 1 ≤ length whole
   pub countable : length whole < 2 ^ 32
   pub computes : OnlyComputes whole
@@ -23,7 +23,7 @@ pub record StandsFor (stands whole : List Step) : Type 0 where
 
 -- work that is to do stands for the steps
 abbrev pub IsReady : {W : Type 0} → (W → List Step) → Option W → List Step → Type 0
-IsReady stands (Some work) whole = StandsFor (stands work) whole
+IsReady stands (Some work) whole = StandsForSteps (stands work) whole
 IsReady stands None whole = Unit {0}
 
 -- a task under way: its number, the runner or main queue that it was posted to, the value that it found, the value that

@@ -16,7 +16,8 @@ use Rattle.task_traits.specs.declared.phase.Phase.TheVariants as phases
 use Rattle.list_laws.specs.Lists.{count}
 use Rattle.task_model.specs.Past.{fold_past, fold_past_from}
 use Rattle.task_model.specs.Time.{now_of, now_after}
-use Rattle.task_model.specs.Posts.{posts, posted_by, main_posts, main_posted_by, is_taken, takes, is_ended, ends, is_main_taken, main_takes, is_main_ended, main_ends}
+use Rattle.task_model.specs.Posts.{posts, posted_by, main_posts, main_posted_by, is_taken, takes, is_ended}
+use Rattle.task_model.specs.Posts.{ends, is_main_taken, main_takes, is_main_ended, main_ends}
 use Rattle.task_model.specs.Keys.{arrivals, arriving_by}
 use Rattle.task_model.specs.Phase.{phase_of, phase_after}
 use Rattle.task_model.specs.Policies.{policy_of, policy_after}

@@ -1,8 +1,8 @@
 -- The first six words of a line tell what it says.
 use Rattle.std.proofs.Common.{◌≡◌, ℕ, List, [], ◌∷◌, take, refl}
-use Rattle.task_reply.specs.Replies.{reply_said, words_said}
+use Rattle.task_reply.specs.Replies.{reply_said, reply_words_said}
 
-pub words_said-six : (words : List (List ℕ)) → words_said (take 6 words) ≡ words_said words
+pub words_said-six : (words : List (List ℕ)) → reply_words_said (take 6 words) ≡ reply_words_said words
 unfolding reply_said
 words_said-six [] = refl
 words_said-six (a ∷ []) = refl

@@ -20,8 +20,8 @@ use Rattle.script_model.proofs.Laws.Postings.{posted_parts, posts_of_task}
 use Rattle.task_reply.specs.declared.reply.Home.{Home}
 use Rattle.task_reply.specs.declared.reply.Home.TheVariants.{Runner, Queue}
 use Rattle.task_reply.specs.Elaborated.{posting_to}
-use Rattle.task_reply.specs.Replies.{steps_in}
-use Rattle.task_reply.specs.Tables.{with_step}
+use Rattle.task_reply.specs.Replies.{steps_of_plan}
+use Rattle.task_reply.specs.Tables.{with_task_step}
 
 -- ---- the step
 
@@ -41,7 +41,7 @@ posting_posts u (Queue queue) = refl
 -- ---- sums
 
 -- one more step of task t is one more of the script
-pub steps_grow : (script : Plan) (t : ℕ) (step : Step) → t < length script.tasks → steps_in (with_step script t step) ≡ steps_in script + 1
+pub steps_grow : (script : Plan) (t : ℕ) (step : Step) → t < length script.tasks → steps_of_plan (with_task_step script t step) ≡ steps_of_plan script + 1
 steps_grow script t step there =
     let own = get_or script.tasks t [] in
     omega (arith, sum_by-set (λ (steps : List Step). length steps) script.tasks t (own ++ step ∷ []) [] there, length_push own step)
@@ -52,7 +52,7 @@ acts_grow steps u home =
 
 -- one more posting is one more entry
 pub events_grow : (script : Plan) (t u : ℕ) (home : Home) → t < length script.tasks
-    → events_bound_of (with_step script t (posting_to u home)) ≡ events_bound_of script + 1
+    → events_bound_of (with_task_step script t (posting_to u home)) ≡ events_bound_of script + 1
 events_grow script t u home there =
     let own = get_or script.tasks t [] in
     omega (arith, sum_by-set events_of_task script.tasks t (own ++ posting_to u home ∷ []) [] there, acts_grow own u home)
@@ -66,7 +66,7 @@ times_sum f (x ∷ xs) v =
 
 -- one more posting step is one more posting
 pub postings_grow : (script : Plan) (t u v : ℕ) (home : Home) → t < length script.tasks
-    → times v (postings (with_step script t (posting_to u home))) ≡ times v (postings script) + times v (u ∷ [])
+    → times v (postings (with_task_step script t (posting_to u home))) ≡ times v (postings script) + times v (u ∷ [])
 postings_grow script t u v home there =
     let own = get_or script.tasks t [] in
     let more = own ++ posting_to u home ∷ [] in
@@ -78,7 +78,7 @@ postings_grow script t u v home there =
     omega (
       arith,
       posted_parts script v,
-      posted_parts (with_step script t (posting_to u home)) v,
+      posted_parts (with_task_step script t (posting_to u home)) v,
       before,
       behind,
       change,
@@ -92,7 +92,7 @@ postings_grow script t u v home there =
 
 -- a posting opens no scope
 pub scopes_stay : (script : Plan) (t u v : ℕ) (home : Home) → t < length script.tasks
-    → opens_scope (with_step script t (posting_to u home)).tasks v ≡ opens_scope script.tasks v
+    → opens_scope (with_task_step script t (posting_to u home)).tasks v ≡ opens_scope script.tasks v
 scopes_stay script t u v home there = elim (cases_Bool (eqb v t)) [
   | inl same ↦
       let at : v ≡ t = eqb-true v t same in

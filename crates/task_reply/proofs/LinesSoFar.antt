@@ -12,7 +12,7 @@ use Rattle.task_reply.specs.declared.held.Held.{Held}
 use Rattle.task_reply.specs.declared.reply.Reply.{Reply}
 use Rattle.task_reply.specs.Elaborated.{IsElaboratedBy}
 use Rattle.task_reply.specs.Replies.{line_read, lines_read, replies_read, reply_fault}
-use Rattle.task_reply.specs.Tables.{StandsFor, TurnsAt}
+use Rattle.task_reply.specs.Tables.{HoldsReplies, ReplyTurnsAt}
 
 -- the pieces between line feeds
 abbrev pub pieces_of : List ℕ → List (List ℕ)
@@ -21,13 +21,13 @@ pieces_of bytes = slice_split (λ b. eqb b 10) bytes
 -- so many lines were read, what is held stands for them, and the lines behind them give what all give
 pub record ReadSoFar (script : Plan) (bytes : List ℕ) (held : Held) (lines : ℕ) : Type 0 where
   pub replies : List Reply
-  pub stands : StandsFor script replies held
+  pub stands : HoldsReplies script replies held
   pub rest : lines_read script replies (lines + 1) (drop lines (map strip_carriage_return (pieces_of bytes))) ≡ replies_read script bytes
 
 -- what a line does to what is held
 abbrev pub LineTurns : Result (Unit {0}) ReplyFault → Held → Held → ℕ → List ℕ → Type 0
-LineTurns r old new number line = (script : Plan) (replies : List Reply) → StandsFor script replies old
-    → TurnsAt r script new (at_line number (line_read script replies (strip_carriage_return line)))
+LineTurns r old new number line = (script : Plan) (replies : List Reply) → HoldsReplies script replies old
+    → ReplyTurnsAt r script new (at_line number (line_read script replies (strip_carriage_return line)))
 
 -- one more line
 pub read_more : (script : Plan) (bytes : List ℕ) (old new : Held) (lines : ℕ) (line : List ℕ) → ReadSoFar script bytes old lines

@@ -1,6 +1,8 @@
 -- Where a task is posted once, by one step: the step that posts a reply stands in the reply's task, at one place among
 -- its act steps.
-use Rattle.std.proofs.Common.{◌≡◌, ℕ, zero, suc, ◌+◌, ◌<◌, ◌≤◌, Bool, true, false, cond, eqb, List, [], ◌∷◌, ◌++◌, length, map, take, refl, sym, ap, subst, ◌∙◌, Option, Some, None, arith}
+use Rattle.hist_model.proofs.Laws.Postings.Once.{once_in_one}
+use Rattle.std.proofs.Common.{◌≡◌, ℕ, zero, suc, ◌+◌, ◌<◌, ◌≤◌, Bool, true, false, cond, eqb, List, [], ◌∷◌, ◌++◌}
+use Rattle.std.proofs.Common.{length, map, take, refl, sym, ap, subst, ◌∙◌, Option, Some, None, arith}
 use Rattle.std.specs.Prelude.{filter, flat_map, slice_get, Contains}
 use Rattle.std.specs.List.{AllByRecursion}
 use Rattle.std.specs.Option.{option_map_or}
@@ -18,7 +20,7 @@ use Rattle.script_model.specs.Postings.{IsPostedOnce, posts_of_action, posts_of_
 use Rattle.script_model.proofs.Laws.Postings.{posted_parts, posts_of_task}
 use Rattle.task_model.specs.Seats.{steps_of}
 use Rattle.task_reply.specs.declared.reply.Reply.{Reply}
-use Rattle.task_reply.specs.Elaborated.{IsElaborated, posting_of, replies_to}
+use Rattle.task_reply.specs.Elaborated.{IsElaborated, reply_posting, replies_to}
 use Rattle.task_reply.specs.Laws.{own_acts}
 use Rattle.task_reply.proofs.Growing.{posting_acts}
 
@@ -57,9 +59,6 @@ acts_post t (steps.Post u r d ∷ xs) = count-append (λ w. eqb w t) (u ∷ []) 
 acts_post t (steps.Main u r d ∷ xs) = count-append (λ w. eqb w t) (u ∷ []) (flat_map posts_of_step (filter is_act xs))
     ∙ ap (λ n. times t (u ∷ []) + n) (acts_post t xs) ∙ sym (count-append (λ w. eqb w t) (u ∷ []) (flat_map posts_of_step xs))
 acts_post t (x ∷ xs) = acts_post t xs
-
-pub one_itself : (t : ℕ) → times t (t ∷ []) ≡ 1
-one_itself t = ap (λ b. length (cond b (t ∷ []) [])) (eq-eqb t t refl)
 
 -- ---- the place of a reply among those of its task
 
@@ -103,15 +102,16 @@ rank_less (first ∷ replies) (suc m) (suc n) reply less is =
 -- ---- the act steps of a task with replies
 
 -- postings all act
-postings_act : (replies : List Reply) → filter is_act (map posting_of replies) ≡ map posting_of replies
+postings_act : (replies : List Reply) → filter is_act (map reply_posting replies) ≡ map reply_posting replies
 postings_act [] = refl
 postings_act (reply ∷ replies) =
-    ap (λ b. cond b (posting_of reply ∷ filter is_act (map posting_of replies)) (filter is_act (map posting_of replies)))
-    (posting_acts reply.reply reply.home) ∙ ap (λ rest. posting_of reply ∷ rest) (postings_act replies)
+    ap (λ b. cond b (reply_posting reply ∷ filter is_act (map reply_posting replies)) (filter is_act (map reply_posting replies)))
+    (posting_acts reply.reply reply.home) ∙ ap (λ rest. reply_posting reply ∷ rest) (postings_act replies)
 
-mapped_at : (replies : List Reply) (k : ℕ) (reply : Reply) → slice_get replies k ≡ Some reply → slice_get (map posting_of replies) k ≡ Some (posting_of reply)
+mapped_at : (replies : List Reply) (k : ℕ) (reply : Reply) → slice_get replies k ≡ Some reply
+    → slice_get (map reply_posting replies) k ≡ Some (reply_posting reply)
 mapped_at [] k reply is = absurd (none-some reply is)
-mapped_at (first ∷ replies) zero reply is = ap (λ r. Some (posting_of r)) (same_Some first reply is)
+mapped_at (first ∷ replies) zero reply is = ap (λ r. Some (reply_posting r)) (same_Some first reply is)
 mapped_at (first ∷ replies) (suc k) reply is = mapped_at replies k reply is
 
 behind_at : {A : Type 0} (xs ys : List A) (k : ℕ) → slice_get (xs ++ ys) (length xs + k) ≡ slice_get ys k
@@ -132,7 +132,7 @@ all_at P (y ∷ xs) (suc k) x all is = all_at P xs k x all.1 is
 -- the posting of the reply stands among the act steps of its task, behind the task's own and those of its earlier replies
 pub posting_at : (script result : Plan) (replies : List Reply) (m : ℕ) (reply : Reply) → IsElaborated script replies result
     → slice_get replies m ≡ Some reply
-    → slice_get (filter is_act (steps_of result reply.task)) (own_acts script reply.task + rank_at replies m reply.task) ≡ Some (posting_of reply)
+    → slice_get (filter is_act (steps_of result reply.task)) (own_acts script reply.task + rank_at replies m reply.task) ≡ Some (reply_posting reply)
 posting_at script result replies m reply made is =
     let own_is = slice_get-get_or script.tasks reply.task [] (all_at (λ (r : Reply). r.task < length script.tasks) replies m reply made.tasks_there is) in
     at _ own_is (made.steps_added reply.task _ own_is)
@@ -140,10 +140,10 @@ posting_at script result replies m reply made is =
     answers : List Reply
     answers = replies_to reply.task replies
 
-    at : (own : List Step) → slice_get script.tasks reply.task ≡ Some own → slice_get result.tasks reply.task ≡ Some (own ++ map posting_of answers)
-        → slice_get (filter is_act (steps_of result reply.task)) (own_acts script reply.task + rank_at replies m reply.task) ≡ Some (posting_of reply)
-    at own before behind = rw (before, behind, filter-append is_act own (map posting_of answers), postings_act answers)
-        (behind_at (filter is_act own) (map posting_of answers) (rank_at replies m reply.task) ∙ mapped_at answers _ reply (ranked replies m reply is))
+    at : (own : List Step) → slice_get script.tasks reply.task ≡ Some own → slice_get result.tasks reply.task ≡ Some (own ++ map reply_posting answers)
+        → slice_get (filter is_act (steps_of result reply.task)) (own_acts script reply.task + rank_at replies m reply.task) ≡ Some (reply_posting reply)
+    at own before behind = rw (before, behind, filter-append is_act own (map reply_posting answers), postings_act answers)
+        (behind_at (filter is_act own) (map reply_posting answers) (rank_at replies m reply.task) ∙ mapped_at answers _ reply (ranked replies m reply is))
 
 -- ---- the one posting
 
@@ -165,7 +165,7 @@ posting_counts script task k t step is posts =
         arith,
         times_at posts_of_step (filter is_act own) k step t of_own,
         ap (times t) posts,
-        one_itself t,
+        once_in_one t,
         acts_post t own,
       ),
     )
@@ -187,7 +187,7 @@ one_posting script t a b k n one other once at_k at_n posts_one posts_other =
     omega (arith, within, acts_post t own, times_at posts_of_task script.tasks a own t own_is) in (
       task,
       one_place posts_of_step (filter is_act own) k n one other t (of_own k one at_k) (of_own n other moved)
-          (omega (arith, ap (times t) posts_one, one_itself t)) (omega (arith, ap (times t) posts_other, one_itself t)) few,
+          (omega (arith, ap (times t) posts_one, once_in_one t)) (omega (arith, ap (times t) posts_other, once_in_one t)) few,
     )
 
 -- no action posts what an act step posts

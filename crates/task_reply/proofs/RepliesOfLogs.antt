@@ -1,5 +1,7 @@
 -- Where a legal log has the posts of replies, and what stands before and behind them.
-use Rattle.std.proofs.Common.{◌≡◌, ℕ, ◌+◌, ◌<◌, ◌≤◌, Bool, true, false, eqb, List, [], ◌∷◌, ◌++◌, length, take, refl, sym, ap, subst, ◌∙◌, ◌⊎◌, inl, inr, Some, arith}
+use Rattle.hist_model.proofs.Laws.Postings.Once.{once_in_one}
+use Rattle.std.proofs.Common.{◌≡◌, ℕ, ◌+◌, ◌<◌, ◌≤◌, Bool, true, false, eqb, List, [], ◌∷◌, ◌++◌, length}
+use Rattle.std.proofs.Common.{take, refl, sym, ap, subst, ◌∙◌, ◌⊎◌, inl, inr, Some, arith}
 use Rattle.std.specs.Prelude.{◌||◌, ◌&&◌, not, filter, flat_map, slice_get, Contains}
 use Rattle.std.proofs.Math.Bool.{or-false}
 use Rattle.std.proofs.lemmas.Bool.{and_parts, cases_lt, eqb-true}
@@ -22,15 +24,15 @@ use Rattle.hist_model.specs.Laws.Places.{IsAt, StandsBefore}
 use Rattle.hist_model.specs.Laws.Postings.{kind_posts}
 use Rattle.hist_model.proofs.Laws.AtPlaces.{may_come_at, of_past, past_is_legal}
 use Rattle.hist_model.proofs.Laws.Choice.{found}
-use Rattle.hist_model.proofs.Laws.DriverPostings.{driver_begins, driver_has, driver_has_less, driver_posts}
+use Rattle.hist_model.proofs.Laws.Postings.Driver.{driver_begins, driver_has, driver_has_less, driver_posts}
 use Rattle.hist_model.proofs.Laws.Starts.{same_entry, tasks_start_at_most_once}
 use Rattle.task_reply.specs.declared.reply.Home.{Home}
 use Rattle.task_reply.specs.declared.reply.Home.TheVariants.{Runner, Queue}
 use Rattle.task_reply.specs.declared.reply.Reply.{Reply}
-use Rattle.task_reply.specs.Elaborated.{IsElaborated, posting_of, posting_to}
-use Rattle.task_reply.specs.Laws.{ArePostedLast, EndAfterReplies, IsByTask, PostsAt, StartAfterPost, enters_act, own_acts, post_of, post_to}
+use Rattle.task_reply.specs.Elaborated.{IsElaborated, reply_posting, posting_to}
+use Rattle.task_reply.specs.Laws.{ArePostedLast, EndAfterReplies, IsByTask, PostsAt, StartAfterPost, enters_act, own_acts, post_by_reply, post_to}
 use Rattle.task_reply.proofs.Growing.{posting_posts}
-use Rattle.task_reply.proofs.OnePosting.{no_action_posts, one_itself, one_posting, placed, posting_at, rank_at, rank_less}
+use Rattle.task_reply.proofs.OnePosting.{no_action_posts, one_posting, placed, posting_at, rank_at, rank_less}
 use Rattle.task_reply.proofs.Runs.{ActStep, Entered, act_step, acts_entered, by_either, posts_once, same_run}
 
 -- ---- what the script posts
@@ -46,7 +48,7 @@ not_by_script : (script : Plan) (t seat : ℕ) (past : List Entry) (kind : Kind)
 not_by_script script t seat past kind none posts by =
     let e : Entry = record { seat = seat; kind = kind } in
     let used : driver_has script t (past ++ e ∷ []) + times t (kind_posts kind) ≤ driver_has script t past = driver_posts script t past e by in
-    let one : times t (kind_posts kind) ≡ 1 = ap (times t) posts ∙ one_itself t in
+    let one : times t (kind_posts kind) ≡ 1 = ap (times t) posts ∙ once_in_one t in
     omega (arith, used, driver_within script t past, one, none)
 
 -- ---- the entry of a posting
@@ -94,7 +96,7 @@ posting_entered u t (Queue q) kind h = absurd cc
 -- earlier replies are done
 record PostFacts (script : Plan) (replies : List Reply) (log : List Entry) (place seat m : ℕ) (reply : Reply) : Type 0 where
   ok : Bool
-  is : IsAt log place seat (post_of reply ok)
+  is : IsAt log place seat (post_by_reply reply ok)
   by_task : IsByTask log place seat reply.task
   count : acts_done (take place log) seat ≡ own_acts script reply.task + rank_at replies m reply.task
 
@@ -103,7 +105,7 @@ post_facts : (script result : Plan) (replies : List Reply) (log : List Entry) (p
     → PostFacts script replies log place seat m reply
 post_facts script result replies log place seat m reply made sound legal is p =
     let acts = posts_act p.kind reply.reply p.posts in
-    by (by_either result past seat p.kind may acts)
+    by_side (by_either result past seat p.kind may acts)
   where
     past : List Entry
     past = take place log
@@ -114,20 +116,20 @@ post_facts script result replies log place seat m reply made sound legal is p =
     at : ℕ
     at = own_acts script reply.task + rank_at replies m reply.task
 
-    there : slice_get (filter is_act (steps_of result reply.task)) at ≡ Some (posting_of reply)
+    there : slice_get (filter is_act (steps_of result reply.task)) at ≡ Some (reply_posting reply)
     there = posting_at script result replies m reply made is
 
-    posts : posts_of_step (posting_of reply) ≡ reply.reply ∷ []
+    posts : posts_of_step (reply_posting reply) ≡ reply.reply ∷ []
     posts = posting_posts reply.reply reply.home
 
     of_step : ActStep result past seat p.kind → PostFacts script replies log place seat m reply
     of_step a =
-        let one = one_posting result reply.reply a.now.task reply.task (acts_done past seat) at a.step (posting_of reply) sound.once.posted_once
+        let one = one_posting result reply.reply a.now.task reply.task (acts_done past seat) at a.step (reply_posting reply) sound.once.posted_once
         a.step_is there (entered_posts a.now.task reply.reply a.step p.kind a.enters_it p.posts) posts in
         let moved : slice_get (filter is_act (steps_of result reply.task)) at ≡ Some a.step = subst
         (λ n. slice_get (filter is_act (steps_of result reply.task)) n ≡ Some a.step) one.1
         (subst (λ u. slice_get (filter is_act (steps_of result u)) (acts_done past seat) ≡ Some a.step) one.0 a.step_is) in
-        let step : a.step ≡ posting_of reply = same_Some a.step (posting_of reply) (sym moved ∙ there) in
+        let step : a.step ≡ reply_posting reply = same_Some a.step (reply_posting reply) (sym moved ∙ there) in
         let (ok, kind_is) = posting_entered a.now.task reply.reply reply.home p.kind (subst (λ s. enters a.now.task s p.kind ≡ true) step a.enters_it) in
         record {
           ok = ok;
@@ -136,10 +138,10 @@ post_facts script result replies log place seat m reply made sound legal is p =
           count = one.1;
         }
 
-    by : (by_script result past seat p.kind ≡ true) ⊎ (by_task result past seat p.kind ≡ true) → PostFacts script replies log place seat m reply
-    by (inl script_posts) = absurd (not_by_script result reply.reply seat past p.kind
-        (no_action_posts result reply.reply reply.task at (posting_of reply) sound.once.posted_once there posts) p.posts script_posts)
-    by (inr task) = of_step (act_step result past seat p.kind task)
+    by_side : (by_script result past seat p.kind ≡ true) ⊎ (by_task result past seat p.kind ≡ true) → PostFacts script replies log place seat m reply
+    by_side (inl script_posts) = absurd (not_by_script result reply.reply seat past p.kind
+        (no_action_posts result reply.reply reply.task at (reply_posting reply) sound.once.posted_once there posts) p.posts script_posts)
+    by_side (inr task) = of_step (act_step result past seat p.kind task)
 
 -- ---- the laws
 
@@ -181,16 +183,16 @@ unfolding accepts
 start_after_post script result replies log made sound legal = record { posted_before = of_take }
   where
     of_post : (reply : Reply) (place at poster : ℕ) (kind : Kind) → Contains replies reply → at < place → IsAt log at poster kind
-        → kind_posts kind ≡ reply.reply ∷ [] → accepts kind ≡ true → StandsBefore log place (post_of reply true)
+        → kind_posts kind ≡ reply.reply ∷ [] → accepts kind ≡ true → StandsBefore log place (post_by_reply reply true)
     of_post reply place at poster kind has earlier is posts ok =
         let (m, reply_is) = placed replies reply has in
         let f = post_facts script result replies log at poster m reply made sound legal reply_is (record { kind = kind; is = is; posts = posts }) in
-        let same : kind ≡ post_of reply f.ok = ap (λ (e : Entry). e.kind) (same_entry log at at _ _ refl is f.is) in
+        let same : kind ≡ post_by_reply reply f.ok = ap (λ (e : Entry). e.kind) (same_entry log at at _ _ refl is f.is) in
         let yes : f.ok ≡ true = sym (post_accepts reply.reply reply.home f.ok) ∙ ap accepts (sym same) ∙ ok in
-        record { at = at; seat = poster; earlier = earlier; is = subst (λ b. IsAt log at poster (post_of reply b)) yes f.is }
+        record { at = at; seat = poster; earlier = earlier; is = subst (λ b. IsAt log at poster (post_by_reply reply b)) yes f.is }
 
     of_take : (reply : Reply) (place seat : ℕ) (kind : Kind) → Contains replies reply → IsAt log place seat kind
-        → (takes reply.reply kind || main_takes reply.reply kind) ≡ true → StandsBefore log place (post_of reply true)
+        → (takes reply.reply kind || main_takes reply.reply kind) ≡ true → StandsBefore log place (post_by_reply reply true)
     of_take reply place seat (kinds.Take task runner found) has is h =
         let p = (tasks_start_at_most_once result log legal).posted_before place seat task runner found is in
         let task_is : task ≡ reply.reply = eqb-true task reply.reply (sym (or-false (eqb task reply.reply)) ∙ h) in
@@ -235,9 +237,9 @@ ends_done script past seat t kind may h = absurd cc
 
 -- an act step of the past that posts the reply is the reply's post
 entered_post : (script : Plan) (log : List Entry) (place seat task n : ℕ) (reply : Reply) → Entered script (take place log) seat task n
-    → slice_get (filter is_act (steps_of script task)) n ≡ Some (posting_of reply) → (ok : Bool) × StandsBefore log place (post_of reply ok)
+    → slice_get (filter is_act (steps_of script task)) n ≡ Some (reply_posting reply) → (ok : Bool) × StandsBefore log place (post_by_reply reply ok)
 entered_post script log place seat task n reply entered there =
-    let step : entered.step ≡ posting_of reply = same_Some entered.step (posting_of reply) (sym entered.step_is ∙ there) in
+    let step : entered.step ≡ reply_posting reply = same_Some entered.step (reply_posting reply) (sym entered.step_is ∙ there) in
     let (ok, kind_is) = posting_entered task reply.reply reply.home entered.kind (subst (λ s. enters task s entered.kind ≡ true) step entered.enters_it) in
     let at = of_past log entered.place place _ entered.is in
     (ok, record { at = entered.place; seat = seat; earlier = at.0; is = subst (λ k. IsAt log entered.place seat k) kind_is at.1 })
@@ -251,8 +253,8 @@ end_after_replies script result replies log made sound legal = record {
       let e = ends_done result (take place log) seat reply.task kind (may_come_at result log place _ legal is) h in
       let n = own_acts script reply.task + rank_at replies m reply.task in
       let there = posting_at script result replies m reply made reply_is in
-      let of_now = subst (λ u. slice_get (filter is_act (steps_of result u)) n ≡ Some (posting_of reply)) (sym e.task_is) there in
-      let within = slice_get_within (filter is_act (steps_of result e.now.task)) _ (posting_of reply) of_now in
+      let of_now = subst (λ u. slice_get (filter is_act (steps_of result u)) n ≡ Some (reply_posting reply)) (sym e.task_is) there in
+      let within = slice_get_within (filter is_act (steps_of result e.now.task)) _ (reply_posting reply) of_now in
       entered_post result log place seat e.now.task _ reply
       (acts_entered result (take place log) seat e.now _ (past_is_legal result log place _ legal is) e.runs (omega (arith, within, e.done))) of_now;
   in_order = λ first second i k seat other before p q.

@@ -1,5 +1,7 @@
 -- How a task that runs goes through its act steps.
-use Rattle.std.proofs.Common.{◌≡◌, ℕ, zero, suc, ◌+◌, ◌-◌, ◌<◌, ◌≤◌, Bool, true, false, cond, eqb, List, [], ◌∷◌, ◌++◌, length, take, get_or, refl, sym, ap, subst, ◌∙◌, ◌⊎◌, inl, inr, Some, arith, add-zero}
+use Rattle.hist_model.proofs.Laws.Postings.Once.{once_in_one}
+use Rattle.std.proofs.Common.{◌≡◌, ℕ, zero, suc, ◌+◌, ◌-◌, ◌<◌, ◌≤◌, Bool, true, false, cond, eqb, List, [], ◌∷◌, ◌++◌}
+use Rattle.std.proofs.Common.{length, take, get_or, refl, sym, ap, subst, ◌∙◌, ◌⊎◌, inl, inr, Some, arith, add-zero}
 use Rattle.std.specs.Prelude.{filter, slice_get, option_and_then}
 use Rattle.std.proofs.lemmas.Bool.{and_parts, cases_lt, eqb-true, or_cases, true≢false}
 use Rattle.std.proofs.lemmas.Option.{none-some, same_Some, slice_get-get_or}
@@ -29,12 +31,12 @@ use Rattle.hist_model.proofs.Laws.AtPlaces.{in_past, of_past, take_at}
 use Rattle.hist_model.proofs.Laws.Choice.{found}
 use Rattle.hist_model.proofs.Laws.Legal.{legal_induction}
 use Rattle.hist_model.proofs.Laws.OneThing.{legal_does_one_thing, wanted_by}
-use Rattle.hist_model.proofs.Laws.PostingCounts.{posted_at_most_once}
+use Rattle.hist_model.proofs.Laws.Postings.Counts.{posted_at_most_once}
 use Rattle.hist_model.proofs.Laws.Since.{RunningSince, running_since, taking}
 use Rattle.hist_model.proofs.Laws.Starts.{same_entry, tasks_start_at_most_once}
 use Rattle.hist_model.proofs.Laws.Takes.{by_driver}
 use Rattle.task_reply.specs.Laws.{IsByTask, PostsAt, enters_act}
-use Rattle.task_reply.proofs.OnePosting.{one_itself, one_place}
+use Rattle.task_reply.proofs.OnePosting.{one_place}
 
 -- ---- a task is posted at one place, and taken at one
 
@@ -43,7 +45,7 @@ pub posts_once : (script : Plan) (log : List Entry) (i k seat other t : ℕ) →
     → PostsAt log k other t → i ≡ k
 unfolding posted_in
 posts_once script log i k seat other t once legal p q = one_place (λ (e : Entry). kind_posts e.kind) log i k _ _ t p.is q.is
-    (omega (arith, ap (times t) p.posts, one_itself t)) (omega (arith, ap (times t) q.posts, one_itself t)) (posted_at_most_once script log t once legal)
+    (omega (arith, ap (times t) p.posts, once_in_one t)) (omega (arith, ap (times t) q.posts, once_in_one t)) (posted_at_most_once script log t once legal)
 
 -- the entry posts to a main queue
 posts_main : Kind → Bool

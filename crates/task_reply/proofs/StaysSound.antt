@@ -1,5 +1,6 @@
 -- A sound script stays sound with one more reply against which there is no reason.
-use Rattle.std.proofs.Common.{◌≡◌, ℕ, ◌+◌, ◌<◌, ◌≤◌, Bool, true, false, eqb, List, [], ◌∷◌, ◌++◌, length, get_or, refl, sym, ap, subst, ◌∙◌, inl, inr, Some, arith}
+use Rattle.std.proofs.Common.{◌≡◌, ℕ, ◌+◌, ◌<◌, ◌≤◌, Bool, true, false, eqb, List, [], ◌∷◌, ◌++◌}
+use Rattle.std.proofs.Common.{length, get_or, refl, sym, ap, subst, ◌∙◌, inl, inr, Some, arith}
 use Rattle.std.specs.Prelude.{slice_get, not, ◌&&◌}
 use Rattle.std.proofs.lemmas.Bool.{both_ways, cases_Bool, cond-true, cond-false, eqb-true, eq-eqb, ltb-true}
 use Rattle.std.proofs.lemmas.List.{length-set}
@@ -20,9 +21,9 @@ use Rattle.script_model.specs.Laws.Sound.{IsSound, IsActionSound, IsRunnerPost, 
 use Rattle.task_reply.specs.declared.reply.Home.{Home}
 use Rattle.task_reply.specs.declared.reply.Home.TheVariants.{Runner, Queue}
 use Rattle.task_reply.specs.declared.reply.Reply.{Reply}
-use Rattle.task_reply.specs.Elaborated.{posting_of, posting_to}
-use Rattle.task_reply.specs.Replies.{has_home, is_bad_block, steps_in, takes_block}
-use Rattle.task_reply.specs.Tables.{with_step}
+use Rattle.task_reply.specs.Elaborated.{reply_posting, posting_to}
+use Rattle.task_reply.specs.Replies.{has_home, is_bad_block, steps_of_plan, home_takes_block}
+use Rattle.task_reply.specs.Tables.{with_task_step}
 use Rattle.task_reply.proofs.Growing.{scopes_stay, scopes_in_turn, steps_grow, events_grow, postings_grow}
 
 -- ---- what stays
@@ -69,7 +70,7 @@ action_stays s tasks same (actions.Main task queue delay) h = (queue_post_stays 
 action_stays s tasks same action h = h
 
 -- the tasks with one more posting step
-same_scopes : (s : Plan) (t u : ℕ) (home : Home) → t < length s.tasks → SameScopes s (with_step s t (posting_to u home)).tasks
+same_scopes : (s : Plan) (t u : ℕ) (home : Home) → t < length s.tasks → SameScopes s (with_task_step s t (posting_to u home)).tasks
 same_scopes s t u home there = record {
   count = length-set s.tasks t (get_or s.tasks t [] ++ posting_to u home ∷ []);
   scopes = λ v. scopes_stay s t u v home there;
@@ -83,7 +84,7 @@ pub record MayStand (script : Plan) (reply : Reply) : Type 0 where
   pub below : reply.reply < reply.task
   pub home_there : has_home script reply.home ≡ true
   pub no_bad_block : is_bad_block script reply ≡ false
-  pub few_steps : steps_in script + 1 ≤ MOST_STEPS
+  pub few_steps : steps_of_plan script + 1 ≤ MOST_STEPS
   pub few_events : events_bound_of script + 1 ≤ MOST_EVENTS
   pub fresh : times reply.reply (postings script) ≡ 0
 
@@ -97,7 +98,7 @@ opens_none true bad = bad
 opens_none false bad = refl
 
 post_sound : (script : Plan) (t u : ℕ) (home : Home) → t < length script.tasks → u < t → has_home script home ≡ true
-    → (opens_scope script.tasks u && not (takes_block script home)) ≡ false → IsStepSound script t (posting_to u home)
+    → (opens_scope script.tasks u && not (home_takes_block script home)) ≡ false → IsStepSound script t (posting_to u home)
 post_sound script t u (Runner runner) there below home_there bad = (
   below,
   record {
@@ -121,10 +122,11 @@ post_within u (Queue queue) = omega arith
 
 -- ---- the script
 
-task_sound : (s : Plan) (t u : ℕ) (home : Home) (own : List Step) → SameScopes s (with_step s t (posting_to u home)).tasks → IsTaskSound s t own
-    → IsStepSound (with_step s t (posting_to u home)) t (posting_to u home) → IsTaskSound (with_step s t (posting_to u home)) t (own ++ posting_to u home ∷ [])
+task_sound : (s : Plan) (t u : ℕ) (home : Home) (own : List Step) → SameScopes s (with_task_step s t (posting_to u home)).tasks → IsTaskSound s t own
+    → IsStepSound (with_task_step s t (posting_to u home)) t (posting_to u home)
+    → IsTaskSound (with_task_step s t (posting_to u home)) t (own ++ posting_to u home ∷ [])
 task_sound s t u home own same old new =
-    let z = with_step s t (posting_to u home) in
+    let z = with_task_step s t (posting_to u home) in
     let kept = task_stays s z.tasks t own same old in
     record {
       steps_within = AllByRecursion-push IsStepWithin own (posting_to u home) kept.steps_within (post_within u home);
@@ -133,7 +135,8 @@ task_sound s t u home own same old new =
     }
 
 tasks_sound : (s : Plan) (reply : Reply) → IsSound s → MayStand s reply → (t : ℕ) (steps : List Step)
-    → slice_get (with_step s reply.task (posting_of reply)).tasks t ≡ Some steps → IsTaskSound (with_step s reply.task (posting_of reply)) t steps
+    → slice_get (with_task_step s reply.task (reply_posting reply)).tasks t ≡ Some steps
+    → IsTaskSound (with_task_step s reply.task (reply_posting reply)) t steps
 tasks_sound s reply sound may t steps is = elim (cases_Bool (eqb reply.task t)) [
   | inl same ↦
       let at : reply.task ≡ t = eqb-true reply.task t same in
@@ -150,10 +153,10 @@ tasks_sound s reply sound may t steps is = elim (cases_Bool (eqb reply.task t)) 
     own = get_or s.tasks reply.task []
 
     more : List Step
-    more = own ++ posting_of reply ∷ []
+    more = own ++ reply_posting reply ∷ []
 
     z : Plan
-    z = with_step s reply.task (posting_of reply)
+    z = with_task_step s reply.task (reply_posting reply)
 
     stay : SameScopes s z.tasks
     stay = same_scopes s reply.task reply.reply reply.home may.task_there
@@ -164,7 +167,7 @@ tasks_sound s reply sound may t steps is = elim (cases_Bool (eqb reply.task t)) 
         (post_sound z reply.task reply.reply reply.home (rw (length-set s.tasks reply.task more) may.task_there) may.below may.home_there
         (rw (scopes_stay s reply.task reply.reply reply.reply reply.home may.task_there) may.no_bad_block))
 
-posted_once : (s : Plan) (reply : Reply) → IsSound s → MayStand s reply → (v : ℕ) → times v (postings (with_step s reply.task (posting_of reply))) ≤ 1
+posted_once : (s : Plan) (reply : Reply) → IsSound s → MayStand s reply → (v : ℕ) → times v (postings (with_task_step s reply.task (reply_posting reply))) ≤ 1
 posted_once s reply sound may v =
     let grow = postings_grow s reply.task reply.reply v reply.home may.task_there in
     let one = count-cons (λ w. eqb w v) reply.reply [] in
@@ -176,11 +179,11 @@ posted_once s reply sound may v =
     ]
 
 -- a sound script stays sound with the reply
-pub stays_sound : (s : Plan) (reply : Reply) → IsSound s → MayStand s reply → IsSound (with_step s reply.task (posting_of reply))
+pub stays_sound : (s : Plan) (reply : Reply) → IsSound s → MayStand s reply → IsSound (with_task_step s reply.task (reply_posting reply))
 stays_sound s reply sound may =
-    let z = with_step s reply.task (posting_of reply) in
+    let z = with_task_step s reply.task (reply_posting reply) in
     let same = same_scopes s reply.task reply.reply reply.home may.task_there in
-    let tasks = length-set s.tasks reply.task (get_or s.tasks reply.task [] ++ posting_of reply ∷ []) in
+    let tasks = length-set s.tasks reply.task (get_or s.tasks reply.task [] ++ reply_posting reply ∷ []) in
     record {
       config = assumption;
       limits = record {
@@ -189,7 +192,7 @@ stays_sound s reply sound may =
         few_tasks = rw tasks sound.limits.few_tasks;
         few_jobs = sound.limits.few_jobs;
         few_items = sound.limits.few_items;
-        few_steps = omega (arith, steps_grow s reply.task (posting_of reply) may.task_there, may.few_steps);
+        few_steps = omega (arith, steps_grow s reply.task (reply_posting reply) may.task_there, may.few_steps);
         few_ticks = sound.limits.few_ticks;
         few_events = omega (arith, events_grow s reply.task reply.reply reply.home may.task_there, may.few_events);
       };

@@ -14,8 +14,9 @@ use Rattle.task_base.specs.declared.step.Step.TheVariants as steps
 use Rattle.script_model.specs.Postings.{postings}
 use Rattle.task_reply.specs.declared.reply.Home.TheVariants.{Runner, Queue}
 use Rattle.task_reply.specs.declared.reply.Reply.{Reply}
-use Rattle.task_reply.specs.Elaborated.{IsElaborated, posting_of, replies_to}
-use Rattle.task_reply.specs.Replies.{bad_line, undeclared, posted_twice, bad_block, home_named, id_of, is_full, line_read, lines_read, reason_against, replies_read, reply_fault, reply_of, reply_said}
+use Rattle.task_reply.specs.Elaborated.{IsElaborated, reply_posting, replies_to}
+use Rattle.task_reply.specs.Replies.{bad_reply_line, reply_undeclared, reply_posted_twice, reply_bad_block, home_named, id_of, is_full, line_read}
+use Rattle.task_reply.specs.Replies.{lines_read, reason_against, replies_read, reply_fault, reply_of, reply_said}
 
 -- a runner without `mayblock`, one with it, and a queue; task 1 blocks, and the script posts tasks 2 and 3
 abbrev script : Plan
@@ -64,15 +65,15 @@ good_lines_right = refl
 -- reason 1: the line is no reply
 abbrev bad_lines : List Row
 bad_lines =
-    bad (codes "reply 3 0 queue") 1 bad_line  -- a word too few
-    ∷ bad (codes "reply 3 0 queue 0 0") 1 bad_line  -- a word too many
-    ∷ bad (codes "\nanswer 3 0 queue 0") 2 bad_line  -- another command
-    ∷ bad (codes "reply 3 0 pool 0") 1 bad_line  -- another home
-    ∷ bad (codes "reply 3 x queue 0") 1 bad_line  -- no number
-    ∷ bad (codes "reply 3 0 queue 4294967296") 1 bad_line  -- a number of 33 bits
-    ∷ bad (codes "reply 3 000000000000000000000 queue 0") 1 bad_line  -- a number of 21 digits
-    ∷ bad (codes "reply 9 0 queue") 1 bad_line  -- before undeclared
-    ∷ bad (codes "%%") 1 bad_line  -- a second mark
+    bad (codes "reply 3 0 queue") 1 bad_reply_line  -- a word too few
+    ∷ bad (codes "reply 3 0 queue 0 0") 1 bad_reply_line  -- a word too many
+    ∷ bad (codes "\nanswer 3 0 queue 0") 2 bad_reply_line  -- another command
+    ∷ bad (codes "reply 3 0 pool 0") 1 bad_reply_line  -- another home
+    ∷ bad (codes "reply 3 x queue 0") 1 bad_reply_line  -- no number
+    ∷ bad (codes "reply 3 0 queue 4294967296") 1 bad_reply_line  -- a number of 33 bits
+    ∷ bad (codes "reply 3 000000000000000000000 queue 0") 1 bad_reply_line  -- a number of 21 digits
+    ∷ bad (codes "reply 9 0 queue") 1 bad_reply_line  -- before reply_undeclared
+    ∷ bad (codes "%%") 1 bad_reply_line  -- a second mark
     ∷ []
 
 bad_lines_right : AreRight bad_lines
@@ -82,12 +83,12 @@ bad_lines_right = refl
 -- reason 2: something was not declared, or not in time
 abbrev undeclared_lines : List Row
 undeclared_lines =
-    bad (codes "reply 4 0 queue 0") 1 undeclared  -- the task
-    ∷ bad (codes "reply 3 0 runner 2") 1 undeclared  -- the runner
-    ∷ bad (codes "reply 3 0 queue 4294967295") 1 undeclared  -- the queue
-    ∷ bad (codes "reply 0 1 queue 0") 1 undeclared  -- the reply behind the task
-    ∷ bad (codes "reply 1 1 queue 0") 1 undeclared  -- the reply is the task
-    ∷ bad (codes "reply 3 2 queue 1") 1 undeclared  -- before posted twice
+    bad (codes "reply 4 0 queue 0") 1 reply_undeclared  -- the task
+    ∷ bad (codes "reply 3 0 runner 2") 1 reply_undeclared  -- the runner
+    ∷ bad (codes "reply 3 0 queue 4294967295") 1 reply_undeclared  -- the queue
+    ∷ bad (codes "reply 0 1 queue 0") 1 reply_undeclared  -- the reply behind the task
+    ∷ bad (codes "reply 1 1 queue 0") 1 reply_undeclared  -- the reply is the task
+    ∷ bad (codes "reply 3 2 queue 1") 1 reply_undeclared  -- before posted twice
     ∷ []
 
 undeclared_lines_right : AreRight undeclared_lines
@@ -97,9 +98,9 @@ undeclared_lines_right = refl
 -- reason 3: the reply is posted already
 abbrev posted_lines : List Row
 posted_lines =
-    bad (codes "reply 3 2 queue 0") 1 posted_twice  -- by a step
-    ∷ bad (codes "reply 3 0 queue 0\nreply 1 0 queue 0") 2 posted_twice  -- as a reply of another task
-    ∷ bad (codes "reply 3 1 runner 1\n\nreply 2 1 runner 0") 3 posted_twice  -- before bad block
+    bad (codes "reply 3 2 queue 0") 1 reply_posted_twice  -- by a step
+    ∷ bad (codes "reply 3 0 queue 0\nreply 1 0 queue 0") 2 reply_posted_twice  -- as a reply of another task
+    ∷ bad (codes "reply 3 1 runner 1\n\nreply 2 1 runner 0") 3 reply_posted_twice  -- before bad block
     ∷ []
 
 posted_lines_right : AreRight posted_lines
@@ -109,8 +110,8 @@ posted_lines_right = refl
 -- reason 4: the reply blocks where none may
 abbrev block_lines : List Row
 block_lines =
-    bad (codes "reply 3 1 queue 0") 1 bad_block  -- to a queue
-    ∷ bad (codes "reply 3 0 queue 0\nreply 3 1 runner 0") 2 bad_block  -- to a runner without `mayblock`
+    bad (codes "reply 3 1 queue 0") 1 reply_bad_block  -- to a queue
+    ∷ bad (codes "reply 3 0 queue 0\nreply 3 1 runner 0") 2 reply_bad_block  -- to a runner without `mayblock`
     ∷ []
 
 block_lines_right : AreRight block_lines
@@ -149,11 +150,11 @@ result_right = record {
 }
   where
     added : (t : ℕ) (own : List Step) → slice_get script.tasks t ≡ Some own
-        → slice_get result.tasks t ≡ Some (own ++ map posting_of (replies_to t replies))
-    added zero own is = subst (λ o. slice_get result.tasks 0 ≡ Some (o ++ map posting_of (replies_to 0 replies))) (same_Some _ own is) refl
-    added (suc zero) own is = subst (λ o. slice_get result.tasks 1 ≡ Some (o ++ map posting_of (replies_to 1 replies))) (same_Some _ own is) refl
-    added (suc (suc zero)) own is = subst (λ o. slice_get result.tasks 2 ≡ Some (o ++ map posting_of (replies_to 2 replies))) (same_Some _ own is) refl
-    added (suc (suc (suc zero))) own is = subst (λ o. slice_get result.tasks 3 ≡ Some (o ++ map posting_of (replies_to 3 replies))) (same_Some _ own is) refl
+        → slice_get result.tasks t ≡ Some (own ++ map reply_posting (replies_to t replies))
+    added zero own is = subst (λ o. slice_get result.tasks 0 ≡ Some (o ++ map reply_posting (replies_to 0 replies))) (same_Some _ own is) refl
+    added (suc zero) own is = subst (λ o. slice_get result.tasks 1 ≡ Some (o ++ map reply_posting (replies_to 1 replies))) (same_Some _ own is) refl
+    added (suc (suc zero)) own is = subst (λ o. slice_get result.tasks 2 ≡ Some (o ++ map reply_posting (replies_to 2 replies))) (same_Some _ own is) refl
+    added (suc (suc (suc zero))) own is = subst (λ o. slice_get result.tasks 3 ≡ Some (o ++ map reply_posting (replies_to 3 replies))) (same_Some _ own is) refl
     added (suc (suc (suc (suc t)))) own is = absurd (none-some own is)
 
 -- a post in front of the steps is no reply

@@ -15,8 +15,8 @@ posting_to task (Runner runner) = Post task runner 0
 posting_to task (Queue queue) = Main task queue 0
 
 -- the step that posts the reply
-abbrev pub posting_of : Reply → Step
-posting_of reply = posting_to reply.reply reply.home
+abbrev pub reply_posting : Reply → Step
+reply_posting reply = posting_to reply.reply reply.home
 
 -- the replies of a task, in the order of their lines
 abbrev pub replies_to : ℕ → List Reply → List Reply
@@ -31,7 +31,7 @@ pub record IsElaborated (script : Plan) (replies : List Reply) (result : Plan) :
   pub task_count : length result.tasks ≡ length script.tasks
   -- each has its own steps, and then the posts of its replies
   pub steps_added : (t : ℕ) (own : List Step) → slice_get script.tasks t ≡ Some own
-      → slice_get result.tasks t ≡ Some (own ++ map posting_of (replies_to t replies))
+      → slice_get result.tasks t ≡ Some (own ++ map reply_posting (replies_to t replies))
   -- all else is the script's
   pub rest_stays : result ≡ record script { tasks = result.tasks }
 

@@ -21,8 +21,8 @@ post_to task (Runner runner) ok = kinds.Post task runner 0 ok
 post_to task (Queue queue) ok = kinds.Main task queue 0 ok
 
 -- the entry of the reply's post, accepted or refused, as its line says
-abbrev pub post_of : Reply → Bool → Kind
-post_of reply ok = post_to reply.reply reply.home ok
+abbrev pub post_by_reply : Reply → Bool → Kind
+post_by_reply reply ok = post_to reply.reply reply.home ok
 
 -- at this place the seat posts the task, wherever to, accepted or refused
 pub record PostsAt (log : List Entry) (place seat task : ℕ) : Type 0 where
@@ -71,7 +71,7 @@ pub record IsBefore (replies : List Reply) (first second : Reply) : Type 0 where
 -- its own were entered before
 pub record IsReplysPost (script : Plan) (log : List Entry) (place seat : ℕ) (reply : Reply) : Type 0 where
   pub ok : Bool
-  pub is : IsAt log place seat (post_of reply ok)
+  pub is : IsAt log place seat (post_by_reply reply ok)
   pub by_task : IsByTask log place seat reply.task
   pub own_done : own_acts script reply.task ≤ acts_done (take place log) seat
 
@@ -85,11 +85,11 @@ pub record ArePostedLast (script : Plan) (replies : List Reply) (log : List Entr
 -- a reply is taken, of the pool or of a main queue, only behind its post, which was accepted
 pub record StartAfterPost (replies : List Reply) (log : List Entry) : Type 0 where
   pub posted_before : (reply : Reply) (place seat : ℕ) (kind : Kind) → Contains replies reply → IsAt log place seat kind
-      → (takes reply.reply kind || main_takes reply.reply kind) ≡ true → StandsBefore log place (post_of reply true)
+      → (takes reply.reply kind || main_takes reply.reply kind) ≡ true → StandsBefore log place (post_by_reply reply true)
 
 -- a task ends, of the pool or of a main queue, only behind the posts of all its replies, which stand in the order of their lines
 pub record EndAfterReplies (replies : List Reply) (log : List Entry) : Type 0 where
   pub all_posted : (reply : Reply) (place seat : ℕ) (kind : Kind) → Contains replies reply → IsAt log place seat kind
-      → (ends reply.task kind || main_ends reply.task kind) ≡ true → (ok : Bool) × StandsBefore log place (post_of reply ok)
+      → (ends reply.task kind || main_ends reply.task kind) ≡ true → (ok : Bool) × StandsBefore log place (post_by_reply reply ok)
   pub in_order : (first second : Reply) (i k seat other : ℕ) → IsBefore replies first second → PostsAt log i seat first.reply
       → PostsAt log k other second.reply → i < k

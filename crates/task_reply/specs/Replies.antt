@@ -17,24 +17,24 @@ use Rattle.task_reply.specs.declared.reply.Reply.{Reply}
 -- ---- the reasons
 
 -- the line is no reply
-abbrev pub bad_line : ℕ
-bad_line = 1
+abbrev pub bad_reply_line : ℕ
+bad_reply_line = 1
 
 -- the task, the runner or the queue was not declared, or the reply was not declared before the task
-abbrev pub undeclared : ℕ
-undeclared = 2
+abbrev pub reply_undeclared : ℕ
+reply_undeclared = 2
 
 -- the script posts the reply, or an earlier line makes it the reply of a task
-abbrev pub posted_twice : ℕ
-posted_twice = 3
+abbrev pub reply_posted_twice : ℕ
+reply_posted_twice = 3
 
 -- the reply opens a blocking scope, and goes where none may block
-abbrev pub bad_block : ℕ
-bad_block = 4
+abbrev pub reply_bad_block : ℕ
+reply_bad_block = 4
 
 -- with this line the script has more steps or more entries than the limits allow
-abbrev pub too_many : ℕ
-too_many = 5
+abbrev pub reply_too_many : ℕ
+reply_too_many = 5
 
 -- ---- what a line says
 
@@ -71,16 +71,16 @@ is_skipped [] = true
 is_skipped (word ∷ words) = begins_comment word
 
 -- the reply that a line says, if it is not skipped, by its words
-abbrev pub words_said : List (List ℕ) → Result (Option Reply) ℕ
-words_said words = if is_skipped words then Ok None else said_or_bad (reply_said words)
+abbrev pub reply_words_said : List (List ℕ) → Result (Option Reply) ℕ
+reply_words_said words = if is_skipped words then Ok None else said_or_bad (reply_said words)
   where
     said_or_bad : Option Reply → Result (Option Reply) ℕ
-    said_or_bad None = Err bad_line
+    said_or_bad None = Err bad_reply_line
     said_or_bad (Some reply) = Ok (Some reply)
 
 -- the reply that a line says, by its bytes
-abbrev pub line_said : List ℕ → Result (Option Reply) ℕ
-line_said line = words_said (words_of line)
+abbrev pub reply_line_said : List ℕ → Result (Option Reply) ℕ
+reply_line_said line = reply_words_said (words_of line)
 
 -- ---- what is asked of a reply
 
@@ -90,54 +90,54 @@ has_home script (Runner runner) = nat_lt runner (length script.runners)
 has_home script (Queue queue) = nat_lt queue (length script.queues)
 
 -- the task and the home were declared, and the reply before the task
-abbrev pub is_declared : Plan → Reply → Bool
-is_declared script reply = nat_lt reply.task (length script.tasks) && nat_lt reply.reply reply.task && has_home script reply.home
+abbrev pub is_declared_reply : Plan → Reply → Bool
+is_declared_reply script reply = nat_lt reply.task (length script.tasks) && nat_lt reply.reply reply.task && has_home script reply.home
 
 -- the script posts the task, or it is one of these replies
 abbrev pub is_posted : Plan → List Reply → ℕ → Bool
 is_posted script earlier task = list_any (λ posted. posted == task) (postings script) || list_any (λ reply. reply.reply == task) earlier
 
 -- tasks that block may go there
-abbrev pub takes_block : Plan → Home → Bool
-takes_block script (Runner runner) = may_block_on script.runners runner
-takes_block script (Queue queue) = false
+abbrev pub home_takes_block : Plan → Home → Bool
+home_takes_block script (Runner runner) = may_block_on script.runners runner
+home_takes_block script (Queue queue) = false
 
 -- the reply opens a scope, and goes where none may block
 abbrev pub is_bad_block : Plan → Reply → Bool
-is_bad_block script reply = opens_scope script.tasks reply.reply && not (takes_block script reply.home)
+is_bad_block script reply = opens_scope script.tasks reply.reply && not (home_takes_block script reply.home)
 
 -- the steps of all tasks and jobs
-abbrev pub steps_in : Plan → ℕ
-steps_in script = sum_by (λ steps. length steps) script.tasks + sum_by (λ job. length job.steps) script.jobs
+abbrev pub steps_of_plan : Plan → ℕ
+steps_of_plan script = sum_by (λ steps. length steps) script.tasks + sum_by (λ job. length job.steps) script.jobs
 
 -- behind this many replies, each of which is a step and an entry, one more passes a limit
 abbrev pub is_full : Plan → ℕ → Bool
-is_full script replies = nat_lt MOST_STEPS (steps_in script + replies + 1) || nat_lt MOST_EVENTS (events_bound_of script + replies + 1)
+is_full script replies = nat_lt MOST_STEPS (steps_of_plan script + replies + 1) || nat_lt MOST_EVENTS (events_bound_of script + replies + 1)
 
 -- the first reason against a reply behind these, if there is one
 unfoldable pub reason_against : Plan → List Reply → Reply → Option ℕ
 reason_against script earlier reply =
-    if not (is_declared script reply) then Some undeclared
-    else (if is_posted script earlier reply.reply then Some posted_twice
-    else (if is_bad_block script reply then Some bad_block
-    else (if is_full script (length earlier) then Some too_many
+    if not (is_declared_reply script reply) then Some reply_undeclared
+    else (if is_posted script earlier reply.reply then Some reply_posted_twice
+    else (if is_bad_block script reply then Some reply_bad_block
+    else (if is_full script (length earlier) then Some reply_too_many
     else None)))
 
 -- ---- the lines
 
 -- the earlier replies with this one, if no reason is against it
-abbrev pub with_reply : List Reply → Reply → Option ℕ → Result (List Reply) ℕ
-with_reply earlier reply None = Ok (earlier ++ reply ∷ [])
-with_reply earlier reply (Some reason) = Err reason
+abbrev pub with_next_reply : List Reply → Reply → Option ℕ → Result (List Reply) ℕ
+with_next_reply earlier reply None = Ok (earlier ++ reply ∷ [])
+with_next_reply earlier reply (Some reason) = Err reason
 
 -- the replies of the earlier lines and that of this line, if it says one, or the first reason against it
 abbrev pub reply_added : Plan → List Reply → Option Reply → Result (List Reply) ℕ
 reply_added script earlier None = Ok earlier
-reply_added script earlier (Some reply) = with_reply earlier reply (reason_against script earlier reply)
+reply_added script earlier (Some reply) = with_next_reply earlier reply (reason_against script earlier reply)
 
 -- a line, by its bytes
 unfoldable pub line_read : Plan → List Reply → List ℕ → Result (List Reply) ℕ
-line_read script earlier line = line_said line >>= reply_added script earlier
+line_read script earlier line = reply_line_said line >>= reply_added script earlier
 
 -- the replies that lines say behind those of earlier lines, or the first bad line, by its number, and its reason
 unfoldable pub lines_read : Plan → List Reply → ℕ → List (List ℕ) → Result (List Reply) (ℕ × ℕ)

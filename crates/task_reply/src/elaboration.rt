@@ -7,7 +7,7 @@ ghost use Rattle.script_model.specs.Laws.Sound.{IsSound};
 ghost use Rattle.task_reply.specs.declared.reply.Reply.{Reply};
 ghost use Rattle.task_reply.specs.Elaborated.{IsElaboratedBy};
 ghost use Rattle.task_reply.specs.Replies.{line_read, reply_fault};
-ghost use Rattle.task_reply.specs.Tables.{StandsFor, TurnsAt};
+ghost use Rattle.task_reply.specs.Tables.{HoldsReplies, ReplyTurnsAt};
 
 use crate::fault::ReplyFault;
 use crate::held::Held;
@@ -47,8 +47,8 @@ pub fn elaborate(alloc: Global, script: Script, bytes: &[u8]) -> Result<Script, 
 
 /// Reads the next line, whose number this is. After a fault what is held is of no more use.
 fn read_line(held: &mut Held, number: u32, line: &[u8]) -> Result<(), ReplyFault>
-    ensures { (script : Plan) (replies : List Reply) → StandsFor script replies held.old
-        → TurnsAt result script held.new (at_line number (line_read script replies (strip_carriage_return line.now))) }
+    ensures { (script : Plan) (replies : List Reply) → HoldsReplies script replies held.old
+        → ReplyTurnsAt result script held.new (at_line number (line_read script replies (strip_carriage_return line.now))) }
 {
     match held.read_line(without_return(line)) {
         Ok(()) => Ok(()),

@@ -5,8 +5,8 @@ ghost use Rattle.task_base.specs.declared.limits.TheConstants.{MOST_STEPS, MOST_
 ghost use Rattle.script_model.specs.Draft.{is_block, may_block_on, opens_scope};
 ghost use Rattle.script_model.specs.Laws.Sound.{IsSound};
 ghost use Rattle.task_reply.specs.declared.reply.Reply.{Reply};
-ghost use Rattle.task_reply.specs.Elaborated.{posting_of};
-ghost use Rattle.task_reply.specs.Replies.{has_home, is_bad_block, is_declared, line_read, takes_block};
+ghost use Rattle.task_reply.specs.Elaborated.{reply_posting};
+ghost use Rattle.task_reply.specs.Replies.{has_home, is_bad_block, is_declared_reply, line_read, home_takes_block};
 
 use crate::marks::{mark, posted_marks};
 use crate::read::read_line;
@@ -32,12 +32,12 @@ pub(crate) struct Held {
 }
 
 impl Held {
-    ghost use Rattle.task_reply.specs.Tables.{Adds, held_reason, IsAdded, StandsFor, Turns, with_step};
+    ghost use Rattle.task_reply.specs.Tables.{Adds, held_reason, IsAdded, HoldsReplies, ReplyTurns, with_task_step};
 
     /// The script without a reply.
     pub(crate) fn new(alloc: Global, script: Script) -> Result<Held, AllocError>
         requires { IsSound script }
-        ensures { IfOk result (λ held. StandsFor script [] held) }
+        ensures { IfOk result (λ held. HoldsReplies script [] held) }
     {
         let posted = posted_marks(alloc, &script)?;
         let steps = steps_of(&script);
@@ -53,8 +53,8 @@ impl Held {
 
     /// Reads the next line. After a fault what is held is of no more use.
     pub(crate) fn read_line(&mut self, line: &[u8]) -> Result<(), LineFault>
-        ensures { (script : Plan) (replies : List Reply) → StandsFor script replies self.old
-            → Turns result script self.new (line_read script replies line.now) }
+        ensures { (script : Plan) (replies : List Reply) → HoldsReplies script replies self.old
+            → ReplyTurns result script self.new (line_read script replies line.now) }
     {
         match read_line(self.alloc, line)? {
             Some(reply) => self.add(reply),
@@ -104,7 +104,7 @@ impl Held {
 
     /// Whether the task and the home of a reply were declared, and the reply before the task.
     fn is_declared(&self, reply: &Reply) -> bool
-        ensures { result ≡ is_declared self.now.script reply.now }
+        ensures { result ≡ is_declared_reply self.now.script reply.now }
     {
         (reply.task as usize) < self.script.tasks.len()
             && reply.reply < reply.task
@@ -150,7 +150,7 @@ impl Held {
 
     /// Whether tasks that block may go there.
     fn takes_block(&self, home: &Home) -> bool
-        ensures { result ≡ takes_block self.now.script home.now }
+        ensures { result ≡ home_takes_block self.now.script home.now }
     {
         match *home {
             Home::Runner(runner) => self.may_block_on(runner),
@@ -178,7 +178,7 @@ impl Held {
     /// Puts a step behind those of a task.
     fn add_step(&mut self, task: TaskId, step: Step) -> Result<(), AllocError>
         requires { task < length self.old.script.tasks }
-        ensures script { OnOk result (self.new ≡ record self.old { script = with_step self.old.script task step }) }
+        ensures script { OnOk result (self.new ≡ record self.old { script = with_task_step self.old.script task step }) }
     {
         match self.script.tasks.at_mut(task as usize) {
             Some(task) => push_step(task, step),
@@ -205,7 +205,7 @@ fn opens_scope(steps: &[Step]) -> bool
 
 /// The step that posts a reply.
 fn posting_of(reply: &Reply) -> Step
-    ensures { result ≡ posting_of reply.now }
+    ensures { result ≡ reply_posting reply.now }
 {
     let task = reply.reply;
     match reply.home {

@@ -1,7 +1,7 @@
 ghost use Rattle.std.specs.Prelude.{◌≡◌, map};
 ghost use Rattle.script_model.specs.Words.{begins_comment};
-ghost use Rattle.task_reply.specs.Replies.{home_named, id_of, is_skipped, line_said, reply_of, reply_said, words_said};
-ghost use Rattle.task_reply.specs.Tables.{Says};
+ghost use Rattle.task_reply.specs.Replies.{home_named, id_of, is_skipped, reply_line_said, reply_of, reply_said, reply_words_said};
+ghost use Rattle.task_reply.specs.Tables.{SaysReply};
 
 use crate::reason::BAD_LINE;
 use crate::reply::{Home, Reply};
@@ -13,7 +13,7 @@ use std::alloc::Global;
 /// The reply that a line says; a line without words and a comment say none. The line stands here without its line feed
 /// and its carriage return.
 pub(crate) fn read_line(alloc: Global, line: &[u8]) -> Result<Option<Reply>, LineFault>
-    ensures { Says result (line_said line.now) }
+    ensures { SaysReply result (reply_line_said line.now) }
 {
     let words = words_of(alloc, line)?;
     said(words.as_slice())
@@ -21,7 +21,7 @@ pub(crate) fn read_line(alloc: Global, line: &[u8]) -> Result<Option<Reply>, Lin
 
 /// The reply that words say.
 fn said(words: &[&[u8]]) -> Result<Option<Reply>, LineFault>
-    ensures { Says result (words_said (map (λ word. word.now) words.now)) }
+    ensures { SaysReply result (reply_words_said (map (λ word. word.now) words.now)) }
 {
     if is_skipped(words) {
         return Ok(None);

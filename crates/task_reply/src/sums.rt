@@ -1,13 +1,13 @@
 ghost use Rattle.std.specs.Prelude.{◌≡◌, ◌<◌, ◌^◌, length, sum_by};
 ghost use Rattle.script_model.specs.Laws.Sound.{IsSound};
-ghost use Rattle.task_reply.specs.Replies.{steps_in};
+ghost use Rattle.task_reply.specs.Replies.{steps_of_plan};
 
 use task_base::{Job, Script, Task};
 
 /// How many steps the tasks and jobs of a script have, together.
 pub(crate) fn steps_of(script: &Script) -> usize
     requires { IsSound script.now }
-    ensures { result ≡ steps_in script.now }
+    ensures { result ≡ steps_of_plan script.now }
 {
     steps_of_tasks(script.tasks.as_slice()) + steps_of_jobs(script.jobs.as_slice())
 }

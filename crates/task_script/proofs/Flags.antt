@@ -1,5 +1,7 @@
 -- The flags of a reader, over one more task, job or action.
-use Rattle.std.proofs.Common.{◌≡◌, ℕ, zero, suc, ◌+◌, ◌<◌, ◌≤◌, ◌≢◌, Bool, true, false, eqb, ltb, List, [], ◌∷◌, ◌++◌, length, get_or, flat_map, refl, sym, ap, subst, ◌∙◌, arith, append_assoc, length-append}
+use Rattle.script_model.proofs.Laws.Computing.{computing_posts}
+use Rattle.std.proofs.Common.{◌≡◌, ℕ, zero, suc, ◌+◌, ◌<◌, ◌≤◌, ◌≢◌, Bool, true, false, eqb, ltb, List, [], ◌∷◌, ◌++◌, length}
+use Rattle.std.proofs.Common.{get_or, flat_map, refl, sym, ap, subst, ◌∙◌, arith, append_assoc, length-append}
 use Rattle.std.specs.Prelude.{◌||◌, ◌&&◌, slice_index_or, slice_set}
 use Rattle.std.specs.List.{list_any, list_all, sum_by}
 use Rattle.std.proofs.lemmas.List.Sums.{sum_by-append}
@@ -26,13 +28,13 @@ use Rattle.std.specs.declared.alloc.Global.{Global}
 -- one more mark
 are_marks-set : (marks : List Bool) (tasks : List ℕ) (task : ℕ) → AreMarks marks tasks → task < length marks
     → AreMarks (slice_set marks task true) (task ∷ tasks)
-are_marks-set marks tasks task h lt t = by (eqb task t) refl
+are_marks-set marks tasks task h lt t = by_task (eqb task t) refl
   where
-    by : (b : Bool) → eqb task t ≡ b → slice_index_or (slice_set marks task true) t false ≡ (b || list_any (λ u. eqb u t) tasks)
-    by true e =
+    by_task : (b : Bool) → eqb task t ≡ b → slice_index_or (slice_set marks task true) t false ≡ (b || list_any (λ u. eqb u t) tasks)
+    by_task true e =
         let same : task ≡ t = eqb-true task t e in
         rw (← same) (get_or-set_same marks task true false lt)
-    by false e =
+    by_task false e =
         let other : t ≢ task = λ same. let yes : eqb task t ≡ true = rw same (eqb-same task) in absurd cc in
         get_or-set_other marks task t true false other ∙ h t
 
@@ -139,17 +141,6 @@ flags-marked marks d steps posted flags declared now =
     }
 
 -- ---- steps that compute
-
--- steps that all compute post nothing
-pub computing_posts : (steps : List Step) → list_any is_act steps ≡ false → flat_map posts_of_step steps ≡ []
-computing_posts [] e = refl
-computing_posts (PostStep task runner delay ∷ steps) e = absurd cc
-computing_posts (MainStep task queue delay ∷ steps) e = absurd cc
-computing_posts (Block scope ∷ steps) e = absurd cc
-computing_posts (Unblock ∷ steps) e = absurd cc
-computing_posts (Add by ∷ steps) e = computing_posts steps e
-computing_posts (Mul by ∷ steps) e = computing_posts steps e
-computing_posts (Set to ∷ steps) e = computing_posts steps e
 
 -- where the steps all compute, the flags are as before them
 pub flags-computing : (marks : Marks) (d : Draft) (tasks : List ℕ) (steps : List Step) → AreFlags marks d (tasks ++ flat_map posts_of_step steps)

@@ -1,5 +1,6 @@
 -- The script that is made from a number and a size is sound.
-use Rattle.std.proofs.Common.{◌≡◌, ℕ, zero, suc, ◌+◌, ◌-◌, ◌*◌, ◌<◌, ◌≤◌, Bool, true, false, cond, eqb, List, [], ◌∷◌, ◌++◌, length, take, get_or, flat_map, refl, sym, ap, subst, ◌∙◌, inl, inr, Option, Some, arith, append_assoc, length-append}
+use Rattle.std.proofs.Common.{◌≡◌, ℕ, zero, suc, ◌+◌, ◌-◌, ◌*◌, ◌<◌, ◌≤◌, Bool, true, false, cond, eqb, List, [], ◌∷◌, ◌++◌, length, take}
+use Rattle.std.proofs.Common.{get_or, flat_map, refl, sym, ap, subst, ◌∙◌, inl, inr, Option, Some, arith, append_assoc, length-append}
 use Rattle.std.specs.Prelude.{slice_get, IfSome, sum_by}
 use Rattle.std.specs.List.{range_with_len, AllByRecursion}
 use Rattle.std.proofs.lemmas.Bool.{cases_Bool, eqb-true, eqb-false}
@@ -21,9 +22,11 @@ use Rattle.list_laws.proofs.Tests.{list_any_none}
 use Rattle.script_model.specs.Bound.{events_of_task, events_of_action}
 use Rattle.script_model.specs.Postings.{posts_of_action, times, IsPostedOnce}
 use Rattle.script_model.specs.Draft.{opens_scope, is_start_of, is_shutdown, ticks_of}
-use Rattle.script_model.specs.Laws.Sound.{IsSound, IsConfigSound, IsWithinLimits, AreDeclarationsSound, AreActionsSound, IsDoneOnce, IsTaskSound, IsActionSound, IsInOrder}
+use Rattle.script_model.specs.Laws.Sound.{IsSound, IsConfigSound, IsWithinLimits, AreDeclarationsSound, AreActionsSound}
+use Rattle.script_model.specs.Laws.Sound.{IsDoneOnce, IsTaskSound, IsActionSound, IsInOrder}
 use Rattle.script_model.proofs.Laws.Postings.{posts_of_task, posted_parts}
-use Rattle.task_script.specs.Generated.{number_behind, numbers_behind, amount_of, goal_of, posting_of, postings_from, generated_tasks, generated_actions, generated_from, generated}
+use Rattle.task_script.specs.Generated.{number_behind, numbers_behind, amount_of, goal_of, posting_of, postings_from}
+use Rattle.task_script.specs.Generated.{generated_tasks, generated_actions, generated_from, generated}
 
 -- ---- the numbers
 
@@ -116,7 +119,7 @@ length-postings_from t [] = refl
 length-postings_from t (x ∷ xs) = ap suc (length-postings_from (t + 1) xs)
 
 -- they post the tasks in order
-tasks_posted : (t : ℕ) (xs : List ℕ) → flat_map posts_of_action (postings_from t xs) ≡ range_with_len t (length xs)
+pub tasks_posted : (t : ℕ) (xs : List ℕ) → flat_map posts_of_action (postings_from t xs) ≡ range_with_len t (length xs)
 tasks_posted t [] = refl
 tasks_posted t (x ∷ xs) =
     let one : posts_of_action (posting_of t x) ≡ t ∷ [] = posting_is (λ a. posts_of_action a ≡ t ∷ []) t x refl (λ r few. refl) in

@@ -1,21 +1,29 @@
 -- What a line gives behind a draft is what its command adds to that draft.
 use Rattle.std.proofs.Common.{◌≡◌, ℕ, Bool, true, false, cond, List, [], ◌∷◌, refl, sym, ◌∙◌, Result, Ok, Err}
 use Rattle.std.specs.Prelude.{not, nat_lt, codes, drop, length}
-use Rattle.task_base.specs.declared.script.Action.TheVariants.{Post, Main, Tick, Policy, Reprio, Fence, Unfence, Vote, Rank, Close, Pump, Flush, StartJob, Join, Cancel, Shutdown}
+use Rattle.task_base.specs.declared.script.Action.TheVariants.{Post, Main, Tick, Policy, Reprio, Fence, Unfence, Vote, Rank}
+use Rattle.task_base.specs.declared.script.Action.TheVariants.{Close, Pump, Flush, StartJob, Join, Cancel, Shutdown}
 use Rattle.task_base.specs.declared.limits.TheConstants.{MOST_WORKERS}
 use Rattle.script_model.specs.Words.{words_of, is_word, begins_comment, is_all_ascii}
 use Rattle.script_model.specs.Reasons.{◌>>=◌, ◌>>◌, ◌&◌, refuse, not_ascii, word_count, out_of_range}
-use Rattle.script_model.specs.Places.{said_at, ends_at, number_at, id_at, time_at, priority_named, behaviour_named, policy_named, fence_named, vote_named, kind_named, may_block_at, steps_read}
+use Rattle.script_model.specs.Places.{said_at, ends_at, number_at, id_at, time_at, priority_named, behaviour_named, policy_named}
+use Rattle.script_model.specs.Places.{fence_named, vote_named, kind_named, may_block_at, steps_read}
 use Rattle.script_model.specs.Draft.{Draft}
-use Rattle.script_model.specs.Lines.{workers_line, groups_line, threshold_line, runner_line, queue_line, task_line, job_line, post_line, main_line, tick_line, policy_line, reprio_line, fence_line, unfence_line, vote_line, rank_line, close_line, pump_line, flush_line, start_job_line, join_line, cancel_line, shutdown_line, queue_command_read, action_command_read, command_read, words_read, line_read}
+use Rattle.script_model.specs.Lines.{workers_line, groups_line, threshold_line, runner_line, queue_line, task_line, job_line, post_line, main_line, tick_line}
+use Rattle.script_model.specs.Lines.{policy_line, reprio_line, fence_line, unfence_line, vote_line, rank_line, close_line, pump_line, flush_line}
+use Rattle.script_model.specs.Lines.{start_job_line, join_line, cancel_line, shutdown_line, queue_command_read, action_command_read, command_read, words_read}
+use Rattle.script_model.specs.Lines.{line_read}
 use Rattle.script_lines.specs.declared.command.Command.{Command}
 use Rattle.script_lines.specs.declared.command.Command.TheVariants as commands
 use Rattle.script_lines.specs.declared.fault.LineFault.{LineFault}
 use Rattle.script_lines.specs.declared.fault.LineFault.TheVariants.{Bad, Memory}
 use Rattle.script_lines.specs.Saying.{Says}
-use Rattle.script_lines.specs.Said.{workers_said, groups_said, threshold_said, runner_said, queue_said, task_said, job_said, post_said, main_said, policy_said, reprio_said, fence_said, vote_said, rank_said, number_said, id_said, bare_said, queue_command_said, action_command_said, command_said, words_said, line_said}
+use Rattle.script_lines.specs.Said.{workers_said, groups_said, threshold_said, runner_said, queue_said, task_said, job_said, post_said}
+use Rattle.script_lines.specs.Said.{main_said, policy_said, reprio_said, fence_said, vote_said, rank_said, number_said, id_said, bare_said}
+use Rattle.script_lines.specs.Said.{queue_command_said, action_command_said, command_said, words_said, line_said}
 use Rattle.task_script.specs.Reader.{Fails}
-use Rattle.task_script.specs.Added.{workers_added, groups_added, threshold_added, runner_added, queue_added, task_added, job_added, on_runner, on_queue, on_voter, job_start, on_job, shutdown_start, action_added, added}
+use Rattle.task_script.specs.Added.{workers_added, groups_added, threshold_added, runner_added, queue_added, task_added, job_added}
+use Rattle.task_script.specs.Added.{on_runner, on_queue, on_voter, job_start, on_job, shutdown_start, action_added, added}
 
 -- ---- commands
 

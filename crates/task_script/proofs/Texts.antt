@@ -1,5 +1,6 @@
 -- The canonical text as the pieces that are put, one behind the other.
-use Rattle.std.proofs.Common.{◌≡◌, ◌≢◌, ◌<◌, ◌+◌, ℕ, suc, List, [], ◌∷◌, ◌++◌, length, get_or, take, drop, map, refl, sym, ap, ◌∙◌, append_assoc, append-nil, add-zero, zero-add, take-append-drop, arith, codes, decimal}
+use Rattle.std.proofs.Common.{◌≡◌, ◌≢◌, ◌<◌, ◌+◌, ℕ, suc, List, [], ◌∷◌, ◌++◌, length, get_or, take, drop, map, refl, sym, ap}
+use Rattle.std.proofs.Common.{◌∙◌, append_assoc, append-nil, add-zero, zero-add, take-append-drop, arith, codes, decimal}
 use Rattle.std.specs.List.{flat_map, join_with_byte}
 use Rattle.std.proofs.lemmas.List.{take_more, length-take-le}
 use Rattle.std.proofs.lemmas.Bool.{ne_eqb}
@@ -9,8 +10,10 @@ use Rattle.task_base.specs.declared.step.Step.{Step}
 use Rattle.task_base.specs.declared.step.Step.TheVariants.{Add, Mul, Set, Post, Main, Block, Unblock}
 use Rattle.task_base.specs.declared.script.Action.{Action}
 use Rattle.log_model.specs.LogText.{scope_word, priority_word}
-use Rattle.script_model.specs.Canonical.{step_words, steps_words, runner_words, queue_words, task_words, job_words, action_words, config_lines, numbered, canonical, behaviour_word}
-use Rattle.task_script.specs.Written.{with_words, with_line, line_text, step_text, runner_text, queue_text, task_text, job_text, job_head_text, action_text, config_text, texts_from}
+use Rattle.script_model.specs.Canonical.{step_words, steps_words, runner_words, queue_words, task_words, job_words}
+use Rattle.script_model.specs.Canonical.{action_words, config_lines, numbered, canonical, behaviour_word}
+use Rattle.task_script.specs.Written.{with_words, with_line, line_text, step_text, runner_text, queue_text, task_text}
+use Rattle.task_script.specs.Written.{job_text, job_head_text, action_text, config_text, texts_from}
 
 -- ---- words
 

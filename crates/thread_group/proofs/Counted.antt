@@ -1,5 +1,6 @@
 -- The counts where one seat's work changes, and at a later moment.
-use Rattle.std.proofs.Common.{◌≡◌, ℕ, zero, suc, ◌+◌, ◌≤◌, ◌<◌, ◌^◌, Bool, true, false, cond, List, [], ◌∷◌, ◌++◌, length, get_or, set, take, drop, refl, sym, ap, ◌∙◌, Option, Some, None, arith, subst}
+use Rattle.std.proofs.Common.{◌≡◌, ℕ, zero, suc, ◌+◌, ◌≤◌, ◌<◌, ◌^◌, Bool, true, false, cond, List, [], ◌∷◌, ◌++◌, length}
+use Rattle.std.proofs.Common.{get_or, set, take, drop, refl, sym, ap, ◌∙◌, Option, Some, None, arith, subst}
 use Rattle.std.specs.Prelude.{is_some, not, ◌&&◌, ◌||◌, nat_lt}
 use Rattle.std.proofs.lemmas.Bool.{leb-true, le-leb, not-false}
 use Rattle.std.proofs.lemmas.List.{take_more, drop_more, take-append-drop, length-append, length-drop}
@@ -259,14 +260,14 @@ same_later : (threshold before now : ℕ) (x : Option Work) → before ≤ now �
     × (holds_of (is_best_blocked threshold now) x ≡ holds_of (is_best_blocked threshold before) x)
     × (holds_of (is_waiting threshold now) x ≡ false)
 same_later threshold before now None later not_waiting = (refl, refl, refl)
-same_later threshold before now (Some work) later not_waiting = by work.scope not_waiting
+same_later threshold before now (Some work) later not_waiting = by_scope work.scope not_waiting
   where
-    by : (scope : Option OpenScope) → holds_of (λ opened. not (scope_counts threshold before opened)) scope ≡ false
+    by_scope : (scope : Option OpenScope) → holds_of (λ opened. not (scope_counts threshold before opened)) scope ≡ false
         → (holds_of (scope_counts threshold now) scope ≡ holds_of (scope_counts threshold before) scope)
         × ((is_best work && holds_of (scope_counts threshold now) scope) ≡ (is_best work && holds_of (scope_counts threshold before) scope))
         × (holds_of (λ opened. not (scope_counts threshold now opened)) scope ≡ false)
-    by None is = (refl, refl, refl)
-    by (Some opened) is =
+    by_scope None is = (refl, refl, refl)
+    by_scope (Some opened) is =
         let come : scope_counts threshold before opened ≡ true = not-false (scope_counts threshold before opened) is in
         let comes : scope_counts threshold now opened ≡ true = come_later opened.scope (opened.since + threshold) before now later come in
         (comes ∙ sym come, ap (λ b. is_best work && b) (comes ∙ sym come), ap not comes)
@@ -278,9 +279,9 @@ pub none_waiting : (threshold before now : ℕ) (xs : List (Option Work)) → be
     × (count (holds_of (is_waiting threshold now)) xs ≡ 0)
 none_waiting threshold before now [] later none = (refl, refl, refl)
 none_waiting threshold before now (x ∷ xs) later none =
-    by (holds_of (is_waiting threshold before) x) refl (none_waiting threshold before now xs later)
+    by_test (holds_of (is_waiting threshold before) x) refl (none_waiting threshold before now xs later)
   where
-    by : (b : Bool) → holds_of (is_waiting threshold before) x ≡ b
+    by_test : (b : Bool) → holds_of (is_waiting threshold before) x ≡ b
         → (count (holds_of (is_waiting threshold before)) xs ≡ 0
         → (count (holds_of (is_blocked threshold now)) xs ≡ count (holds_of (is_blocked threshold before)) xs)
         × (count (holds_of (is_best_blocked threshold now)) xs ≡ count (holds_of (is_best_blocked threshold before)) xs)
@@ -288,8 +289,8 @@ none_waiting threshold before now (x ∷ xs) later none =
         → (count (holds_of (is_blocked threshold now)) (x ∷ xs) ≡ count (holds_of (is_blocked threshold before)) (x ∷ xs))
         × (count (holds_of (is_best_blocked threshold now)) (x ∷ xs) ≡ count (holds_of (is_best_blocked threshold before)) (x ∷ xs))
         × (count (holds_of (is_waiting threshold now)) (x ∷ xs) ≡ 0)
-    by true is behind = absurd (omega (arith, none, count_step (holds_of (is_waiting threshold before)) x xs true is))
-    by false is behind =
+    by_test true is behind = absurd (omega (arith, none, count_step (holds_of (is_waiting threshold before)) x xs true is))
+    by_test false is behind =
         let rest = behind (sym (count_step (holds_of (is_waiting threshold before)) x xs false is) ∙ none) in
         let here = same_later threshold before now x later is in (
           count-same (holds_of (is_blocked threshold now)) (holds_of (is_blocked threshold before)) x xs here.0 rest.0,

@@ -20,7 +20,7 @@ use Rattle.trace_json.specs.declared.event.EventName.TheVariants.{Task}
 use Rattle.trace_json.specs.declared.event.EventPhase.TheVariants.{Begin, End}
 use Rattle.trace_json.specs.declared.event.TraceEvent.{TraceEvent}
 use Rattle.trace_json.specs.Trace.{ended_by, trace_of}
-use Rattle.trace_json.specs.Spans.{BeginsOf, EndsSpan, EndsBetween, SequencesShowSingly}
+use Rattle.trace_json.specs.Spans.{BeginsOf, EndsSpan, SpanEndsBetween, SequencesShowSingly}
 use Rattle.trace_json.proofs.Events.{IsEventOf, entry_of, ShowsEnd, shows_end, goes_before, earlier_index}
 
 -- of a beginning and a later event the beginning has the lesser place, where the later one begins too
@@ -33,7 +33,7 @@ begins_before script log s i j a b less from at_j = elim (goes_before log i j a 
 
 -- where a task of a sequence begins, the span of one that began before has ended
 ended_before : (script : Plan) (log : List Entry) (s i j : ℕ) (a b : TraceEvent) → IsLegal script log → i < j → BeginsOf script log s i a
-    → BeginsOf script log s j b → EndsBetween log i j a
+    → BeginsOf script log s j b → SpanEndsBetween log i j a
 ended_before script log s i j a b legal less from to =
     let ends : singly.EndsBetween log a.place b.place a.seat from.task = (sequences_run_singly script log legal).ended_before a.place b.place a.seat b.seat
     from.task to.task from.runner to.runner from.found to.found (begins_before script log s i j a b less from to.is) from.takes to.takes
@@ -94,7 +94,7 @@ ends_task script log s i k a legal from e = of (entry_of log k e.end e.is)
 none_between : (script : Plan) (log : List Entry) (s i j k : ℕ) (a b : TraceEvent) → IsLegal script log → i < j → j < k → BeginsOf script log s i a
     → BeginsOf script log s j b → EndsSpan log k a → ⊥
 none_between script log s i j k a b legal less later from to ended =
-    let earlier : EndsBetween log i j a = ended_before script log s i j a b legal less from to in
+    let earlier : SpanEndsBetween log i j a = ended_before script log s i j a b legal less from to in
     let first = ends_task script log s i earlier.index a legal from earlier.is in
     let second = ends_task script log s i k a legal from ended in
     let same : earlier.is.end.place ≡ ended.end.place = ((tasks_start_at_most_once script log legal).one_end earlier.is.end.place ended.end.place

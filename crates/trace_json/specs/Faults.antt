@@ -3,11 +3,11 @@ use Rattle.trace_json.specs.declared.fault.TraceFault.{TraceFault}
 use Rattle.trace_json.specs.declared.fault.TraceFault.TheVariants.{Sink, Memory}
 
 -- a fact that holds where the sink failed
-abbrev pub OnSink : TraceFault → Type 0 → Type 0
-OnSink (Sink error) P = P
-OnSink (Memory error) P = Unit {0}
+abbrev pub OnTraceSink : TraceFault → Type 0 → Type 0
+OnTraceSink (Sink error) P = P
+OnTraceSink (Memory error) P = Unit {0}
 
 -- a fact that holds where memory ran out
-abbrev pub OnMemory : TraceFault → Type 0 → Type 0
-OnMemory (Sink error) P = Unit {0}
-OnMemory (Memory error) P = P
+abbrev pub OnTraceMemory : TraceFault → Type 0 → Type 0
+OnTraceMemory (Sink error) P = Unit {0}
+OnTraceMemory (Memory error) P = P

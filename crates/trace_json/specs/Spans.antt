@@ -51,7 +51,7 @@ pub record EndsSpan (log : List Entry) (index : ℕ) (begin : TraceEvent) : Type
   pub same_seat : end.seat ≡ begin.seat
 
 -- between these two indices of the trace the span ends
-pub record EndsBetween (log : List Entry) (from to : ℕ) (begin : TraceEvent) : Type 0 where
+pub record SpanEndsBetween (log : List Entry) (from to : ℕ) (begin : TraceEvent) : Type 0 where
   pub index : ℕ
   pub after : from < index
   pub before : index < to
@@ -60,6 +60,6 @@ pub record EndsBetween (log : List Entry) (from to : ℕ) (begin : TraceEvent) :
 -- the spans of the tasks of a sequence show one at a time
 pub record SequencesShowSingly (script : Plan) (log : List Entry) : Type 0 where
   -- where a task of a sequence begins, the span of one that began before has ended
-  pub ended_before : (s i j : ℕ) (a b : TraceEvent) → i < j → BeginsOf script log s i a → BeginsOf script log s j b → EndsBetween log i j a
+  pub ended_before : (s i j : ℕ) (a b : TraceEvent) → i < j → BeginsOf script log s i a → BeginsOf script log s j b → SpanEndsBetween log i j a
   -- so between the two ends of a span no other task of the sequence begins
   pub none_between : (s i j k : ℕ) (a b : TraceEvent) → i < j → j < k → BeginsOf script log s i a → BeginsOf script log s j b → EndsSpan log k a → ⊥

@@ -1,6 +1,6 @@
 ghost use Rattle.std.specs.Prelude.{◌≡◌, ◌≤◌, ℕ, take, IfOk, IfErr, OnOk};
 ghost use Rattle.env_io.specs.Bytes.{Gains, Rose};
-ghost use Rattle.trace_json.specs.Faults.{OnSink, OnMemory};
+ghost use Rattle.trace_json.specs.Faults.{OnTraceSink, OnTraceMemory};
 ghost use Rattle.trace_json.specs.Trace.{trace_of};
 ghost use Rattle.trace_json.specs.Text.{trace_text};
 
@@ -22,9 +22,9 @@ pub fn write_trace<K: Sink>(
     ensures written { OnOk result (Gains (K.holds sink.old) (trace_text (trace_of log.now.items)) (K.holds sink.new)) }
 
     // What went out is a prefix of the text.
-    ensures cut { IfErr result (λ fault. OnSink fault ((n : ℕ) × Gains (K.holds sink.old) (take n (trace_text (trace_of log.now.items))) (K.holds sink.new))) }
-    ensures failed { IfErr result (λ fault. OnSink fault (Rose (K.faults sink.old) (K.faults sink.new))) }
-    ensures memory { IfErr result (λ fault. OnMemory fault (sink.new ≡ sink.old)) }
+    ensures cut { IfErr result (λ fault. OnTraceSink fault ((n : ℕ) × Gains (K.holds sink.old) (take n (trace_text (trace_of log.now.items))) (K.holds sink.new))) }
+    ensures failed { IfErr result (λ fault. OnTraceSink fault (Rose (K.faults sink.old) (K.faults sink.new))) }
+    ensures memory { IfErr result (λ fault. OnTraceMemory fault (sink.new ≡ sink.old)) }
     ensures steady { OnOk result (K.faults sink.new ≡ K.faults sink.old) }
     ensures faults { K.faults sink.old ≤ K.faults sink.new }
 {

@@ -1,5 +1,6 @@
 -- Setting and reading the place of a shutdown keep what holds of the turn.
-use Rattle.std.proofs.Common.{◌≡◌, ◌≢◌, ℕ, ◌+◌, ◌-◌, ◌*◌, Bool, true, false, eqb, List, [], ◌∷◌, length, set, get_or, refl, sym, ap, subst, ◌∙◌, append-nil, arith, Option}
+use Rattle.std.proofs.Common.{◌≡◌, ◌≢◌, ℕ, ◌+◌, ◌-◌, ◌*◌, Bool, true, false, eqb, List, [], ◌∷◌, length}
+use Rattle.std.proofs.Common.{set, get_or, refl, sym, ap, subst, ◌∙◌, append-nil, arith, Option}
 use mathlib.Core.Option.{some}
 use mathlib.Core.Logic.{dite}
 use native.Mathlib.Decide.{ℕ_discrete}
@@ -135,7 +136,16 @@ module _ {V : Type 0} (history : V → List Entry) (basis_of : V → Plan) (basi
         tt,
         after s h here h.front found new (word s h here) h.shutdown (λ j w x. x)
             (retold s h here h.front new k k.told k.begins (me.0.loads + 1) found refl),
-        (record { none = λ _. (untold me.0.told refl, refl); same = λ ne. absurd (ne is); begins = λ ne. absurd (ne is); stands = λ ne. absurd (ne is); own = λ ne. absurd (ne is) }, refl),
+        (
+          record {
+            none = λ _. (untold me.0.told refl, refl);
+            same = λ ne. absurd (ne is);
+            begins = λ ne. absurd (ne is);
+            stands = λ ne. absurd (ne is);
+            own = λ ne. absurd (ne is);
+          },
+          refl,
+        ),
       )
         where
           new : View

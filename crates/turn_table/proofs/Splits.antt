@@ -9,7 +9,8 @@ use Rattle.turn_table.specs.Places.{Place, not_given, joined, at}
 use Rattle.turn_table.specs.Turn.{KeptFits, SeatFits, TurnHolds}
 use Rattle.turn_table.specs.Views.{after_split, split_off, spent_copy, with_kept, spent}
 use Rattle.turn_table.specs.declared.view.View.{View}
-use Rattle.turn_table.proofs.Numbers.{placed, placed_here, placed_else, at_differs, not_given_differs, joined_differs, joined_is_given, placed_not_given, each_after_set, each_after_split, holder_stays, holder_stays_longer}
+use Rattle.turn_table.proofs.Numbers.{placed, placed_here, placed_else, at_differs, not_given_differs, joined_differs, joined_is_given}
+use Rattle.turn_table.proofs.Numbers.{placed_not_given, each_after_set, each_after_split, holder_stays, holder_stays_longer}
 use Rattle.turn_table.proofs.Others.{after_placed}
 
 module _ {V : Type 0} (history : V → List Entry) (basis_of : V → Plan) (basis : Plan) (id : ℕ) (v : View) (live : v.live ≡ true) (free : v.holds ≡ false) where

@@ -1,5 +1,6 @@
 -- Making, drawing a number and looking keep what holds of the turn.
-use Rattle.std.proofs.Common.{◌≡◌, ℕ, zero, suc, ◌+◌, ◌*◌, ◌/◌, ◌%◌, ◌^◌, ◌<◌, ◌≤◌, Bool, true, false, List, [], ◌∷◌, ◌++◌, eqb, length, set, get_or, refl, sym, ap, subst, ◌∙◌, append-nil, eq-zero-or-pos, ⊎_elim, arith, Option, Some}
+use Rattle.std.proofs.Common.{◌≡◌, ℕ, zero, suc, ◌+◌, ◌*◌, ◌/◌, ◌%◌, ◌^◌, ◌<◌, ◌≤◌, Bool, true, false, List, [], ◌∷◌, ◌++◌, eqb, length}
+use Rattle.std.proofs.Common.{set, get_or, refl, sym, ap, subst, ◌∙◌, append-nil, eq-zero-or-pos, ⊎_elim, arith, Option, Some}
 use mathlib.Core.Option.{some, some-injective, some-ne-none}
 use lib.ListN.{get_elem?}
 use Rattle.atomic_table.specs.Table.{Me, keeps, stepped, Allows, opening}
@@ -76,7 +77,13 @@ module _ {V : Type 0} (history : V → List Entry) (basis_of : V → Plan) where
     -- seat 0 draws a number
     pub draws : me.0.number ≡ 0 → me.0.made < 4294967295
         → Allows (TurnHolds history basis_of basis) slots id me 1 (λ n. (n + 1) % 2 ^ 64) (drew me)
-    draws first room s h wide here small = (with_draw me.0, keeps, tt, after, (word ∙ sym (mine.made_is first), subst (λ n. 0 < n) (sym word) some, refl, unseen))
+    draws first room s h wide here small = (
+      with_draw me.0,
+      keeps,
+      tt,
+      after,
+      (word ∙ sym (mine.made_is first), subst (λ n. 0 < n) (sym word) some, refl, unseen),
+    )
       where
         mine : SeatFits basis h.log h.made h.front h.held h.holder h.place id me.0
         mine = h.seats id me.0 here live

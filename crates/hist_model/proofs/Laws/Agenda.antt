@@ -1,5 +1,6 @@
 -- How the driver's agenda moves on.
-use Rattle.std.proofs.Common.{◌≡◌, ℕ, zero, suc, ◌+◌, ◌-◌, Bool, true, false, cond, eqb, leb, List, [], ◌∷◌, ◌++◌, length, refl, sym, ap, subst, ◌∙◌, Option, Some, None, arith}
+use Rattle.std.proofs.Common.{◌≡◌, ℕ, zero, suc, ◌+◌, ◌-◌, Bool, true, false, cond, eqb, leb, List, [], ◌∷◌}
+use Rattle.std.proofs.Common.{◌++◌, length, refl, sym, ap, subst, ◌∙◌, Option, Some, None, arith}
 use Rattle.std.specs.Prelude.{◌&&◌, ◌||◌, filter}
 use Rattle.std.specs.Option.{option_map_or}
 use Rattle.std.proofs.lemmas.Option.{none-some, same_Some}
@@ -163,7 +164,7 @@ pub behind_nothing : (n : ℕ) (left : List Entry) → behind n [] ≡ Some left
 behind_nothing zero left h = cc
 behind_nothing (suc n) left h = absurd cc
 
-action_behind_nothing : (x : Action) (left : List Entry) → behind_action x [] ≡ Some left → left ≡ []
+pub action_behind_nothing : (x : Action) (left : List Entry) → behind_action x [] ≡ Some left → left ≡ []
 action_behind_nothing (actions.Tick n) left h = behind_nothing n left h
 action_behind_nothing (actions.Pump n) left h = absurd cc
 action_behind_nothing (actions.Join job) left h = absurd cc

@@ -23,15 +23,21 @@ use Rattle.hist_model.proofs.Laws.OneThing.{wanted_by}
 -- ---- by the script
 
 -- the action that the driver is at is one of the script's
-current_is_one : (P : Action → Type 0) (xs : List Action) (made : List Entry) (c : Current) → AllByRecursion P xs → current_from xs made ≡ Some c
+pub current_from_is_one : (P : Action → Type 0) (xs : List Action) (made : List Entry) (c : Current) → AllByRecursion P xs → current_from xs made ≡ Some c
     → P c.action
-current_is_one P [] made c all is = absurd (none-some c is)
-current_is_one P (x ∷ rest) made c all is = at (behind_action x made) is (λ left k. current_is_one P rest left c all.1 k)
+current_from_is_one P [] made c all is = absurd (none-some c is)
+current_from_is_one P (x ∷ rest) made c all is = at (behind_action x made) is (λ left k. current_from_is_one P rest left c all.1 k)
   where
     at : (o : Option (List Entry)) → option_map_or (λ left. current_from rest left) o (Some (record { action = x; made = made })) ≡ Some c
         → ((left : List Entry) → current_from rest left ≡ Some c → P c.action) → P c.action
     at None k later = subst (λ (d : Current). P d.action) (same_Some (record { action = x; made = made }) c k) all.0
     at (Some left) k later = later left k
+
+-- so what holds of each action of a script holds of the current one
+pub current_is_one : (P : Action → Type 0) (script : Plan) (own : List Entry) (c : Current) → AllByRecursion P script.actions → current script own ≡ Some c
+    → P c.action
+unfolding current
+current_is_one P script own c all is = current_from_is_one P script.actions own c all is
 
 -- a sound action, with what it has made so far, wants this kind of entry
 pub record IsWantedSoundly (script : Plan) (past : List Entry) (kind : Kind) : Type 0 where
@@ -48,7 +54,7 @@ wanted_soundly script past seat kind sound h =
     record {
       action = c.value.action;
       made = c.value.made;
-      sound = current_is_one (IsActionSound script) script.actions (own_entries 0 past) c.value sound.actions.each_sound c.is;
+      sound = current_from_is_one (IsActionSound script) script.actions (own_entries 0 past) c.value sound.actions.each_sound c.is;
       wanted = c.passes;
     }
 
@@ -56,11 +62,11 @@ wanted_soundly script past seat kind sound h =
 
 -- each task is sound, also one that is not declared, which has no steps
 pub task_is_sound : (script : Plan) (task : ℕ) → IsSound script → IsTaskSound script task (steps_of script task)
-task_is_sound script task sound = by (slice_get script.tasks task) refl
+task_is_sound script task sound = by_task (slice_get script.tasks task) refl
   where
-    by : (o : Option (List Step)) → slice_get script.tasks task ≡ o → IsTaskSound script task (option_map_or (λ steps. steps) o [])
-    by None is = record { steps_within = tt; steps_sound = tt; scopes_in_turn = refl }
-    by (Some steps) is = sound.declarations.tasks_sound task steps is
+    by_task : (o : Option (List Step)) → slice_get script.tasks task ≡ o → IsTaskSound script task (option_map_or (λ steps. steps) o [])
+    by_task None is = record { steps_within = tt; steps_sound = tt; scopes_in_turn = refl }
+    by_task (Some steps) is = sound.declarations.tasks_sound task steps is
 
 -- a sound step of the task that the seat runs enters this kind of entry
 pub record IsEnteredSoundly (script : Plan) (past : List Entry) (seat : ℕ) (kind : Kind) : Type 0 where

@@ -10,7 +10,8 @@ use Rattle.task_base.specs.declared.entry.Entry.{Entry}
 use Rattle.task_model.specs.Policies.{is_held}
 use Rattle.task_model.specs.Seats.{runs_sequence}
 use Rattle.task_model.specs.Jobs.{job_post_of, may_enter}
-use Rattle.task_model.specs.Sources.{would_wait, Candidate, sequence_candidate, job_candidate, sequence_waiting, job_waiting, waiting, is_takeable, goes_before, best_of}
+use Rattle.task_model.specs.Sources.{would_wait, Candidate, sequence_candidate, job_candidate, sequence_waiting}
+use Rattle.task_model.specs.Sources.{job_waiting, waiting, is_takeable, goes_before, best_of}
 use Rattle.list_laws.specs.Lists.{least, holds_of}
 use Rattle.task_model.specs.Posts.{Posted, main_posts, is_main_taken}
 use Rattle.task_base.specs.Runners.{sequence_count}
@@ -18,10 +19,13 @@ use Rattle.task_model.specs.Sequences.{head_of}
 use Rattle.task_base.specs.declared.script.Lane.{Lane}
 use Rattle.task_base.specs.declared.script.Lane.TheVariants.{Immediate, Delayed}
 use Rattle.task_model.specs.Orders.{order_of}
-use Rattle.task_model.specs.MainQueues.{choice_among, of_least_class, streak_of, Front, is_of_lane, is_immediate, is_in_lane, front_with, order_below, front_of, fronts_of, is_open, open_fronts, class_of, chosen_class, chosen_fronts, immediate_fronts, is_starved, chosen_of, IsOpen}
+use Rattle.task_model.specs.MainQueues.{choice_among, of_least_class, streak_of, Front, is_of_lane, is_immediate, is_in_lane}
+use Rattle.task_model.specs.MainQueues.{front_with, order_below, front_of, fronts_of, is_open, open_fronts, class_of, chosen_class}
+use Rattle.task_model.specs.MainQueues.{chosen_fronts, immediate_fronts, is_starved, chosen_of, IsOpen}
 use Rattle.list_laws.proofs.Least.{least_from-is}
 use Rattle.list_laws.proofs.Filters.{filter_passes}
-use Rattle.list_laws.proofs.Elements.{AllByRecursion-filter, AllByRecursion-append, AllByRecursion-both, AllByRecursion-always, AllByRecursion-contains_itself, AllByRecursion-map}
+use Rattle.list_laws.proofs.Elements.{AllByRecursion-filter, AllByRecursion-append, AllByRecursion-both, AllByRecursion-always}
+use Rattle.list_laws.proofs.Elements.{AllByRecursion-contains_itself, AllByRecursion-map}
 use Rattle.hist_model.specs.Laws.Choice.{IsWaitingSource, MayBeTaken, IsFront}
 
 -- a value that passes the test

@@ -48,7 +48,7 @@ take_claims script past seat job id item known may all j = at (eqb job j) refl
 step_claims : (script : Plan) (past : List Entry) (seat job id item value : ℕ) (next : Option ℕ) → seat ≤ script.workers
     → holds_job past seat job ≡ true → AllClaimed script past
     → AllClaimed script (past ++ record { seat = seat; kind = kinds.JobStep job id item value next } ∷ [])
-step_claims script past seat job id item value next known held all j = by next (eqb job j) refl
+step_claims script past seat job id item value next known held all j = by_next next (eqb job j) refl
   where
     e : Option ℕ → Entry
     e o = record { seat = seat; kind = kinds.JobStep job id item value o }
@@ -62,17 +62,17 @@ step_claims script past seat job id item value next known held all j = by next (
     one_done : (o : Option ℕ) (b : Bool) → eqb job j ≡ b → done (after o) j ≡ done past j + cond (is_some (cond b (Some value) None)) 1 0
     one_done o b is = done_push past (e o) j ∙ ap (λ (c : Bool). done past j + cond (is_some (cond c (Some value) None)) 1 0) is
 
-    by : (o : Option ℕ) (b : Bool) → eqb job j ≡ b → claimed (after o) j ≡ done (after o) j + length (inside script (after o) j)
-    by (Some n) true is = rw (inside_at_step script past (e (Some n)) j job id item value n refl held)
+    by_next : (o : Option ℕ) (b : Bool) → eqb job j ≡ b → claimed (after o) j ≡ done (after o) j + length (inside script (after o) j)
+    by_next (Some n) true is = rw (inside_at_step script past (e (Some n)) j job id item value n refl held)
         (omega (arith, more (Some n) true is, one_done (Some n) true is, all j))
-    by (Some n) false is = rw (inside_at_step script past (e (Some n)) j job id item value n refl held)
+    by_next (Some n) false is = rw (inside_at_step script past (e (Some n)) j job id item value n refl held)
         (omega (arith, more (Some n) false is, one_done (Some n) false is, all j))
-    by None true is =
+    by_next None true is =
         let one_less : length (inside script past j) ≡ length (inside script (after None) j) + 1 =
         subst (λ m. length (inside script past m) ≡ length (inside script (after None) m) + 1) (eqb-true job j is)
         (inside_at_leave script past (e None) job id item value refl (omega (arith, known)) held) in
         omega (arith, more None true is, one_done None true is, one_less, all j)
-    by None false is = rw (inside_at_other_leave script past (e None) j job id item value refl is held)
+    by_next None false is = rw (inside_at_other_leave script past (e None) j job id item value refl is held)
         (omega (arith, more None false is, one_done None false is, all j))
 
 -- who ends an item of a job holds one of it

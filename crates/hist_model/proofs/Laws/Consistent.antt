@@ -8,7 +8,8 @@ use Rattle.task_base.specs.Plan.{Plan}
 use Rattle.task_base.specs.declared.entry.Entry.{Entry}
 use Rattle.task_base.specs.declared.entry.Kind.{Kind}
 use Rattle.task_base.specs.declared.entry.Kind.TheVariants as kinds
-use Rattle.task_model.specs.Posts.{Posted, posts, posted_by, main_posts, main_posted_by, is_taken, takes, is_ended, ends, is_main_taken, main_takes, is_main_ended, main_ends}
+use Rattle.task_model.specs.Posts.{Posted, posts, posted_by, main_posts, main_posted_by, is_taken, takes}
+use Rattle.task_model.specs.Posts.{is_ended, ends, is_main_taken, main_takes, is_main_ended, main_ends}
 use Rattle.task_base.specs.Runners.{sequence_of}
 use Rattle.task_model.specs.Seats.{Running, running, running_after, runs_sequence}
 use Rattle.pool_laws.proofs.Seats.Running.{seat_runs}
@@ -80,6 +81,11 @@ posted_stays : (main : Bool) (past : List Entry) (e : Entry) (p : Posted) → Co
 posted_stays main past e p h = subst (λ ps. Contains ps p) (sym (posts_as_push main past e))
     (Contains-append_left (posts_as main past) (posted_as main past e.kind) p h)
 
+-- who runs is a seat of the script
+pub runs_known : (script : Plan) (past : List Entry) (seat : ℕ) (w : Running) (main : Bool) → RunsAs script past seat w main → seat ≤ script.workers
+runs_known script past seat w false r = r.known
+runs_known script past seat w true r = omega (arith, r.driver)
+
 -- what runs was taken and has not ended
 pub as_runs : (script : Plan) (past : List Entry) (s : ℕ) (w : Running) (main : Bool) → RunsAs script past s w main
     → (taken_as main past w.task ≡ true) × (ended_as main past w.task ≡ false)
@@ -147,11 +153,11 @@ consistent_next script past e taken now was_taken as_taken apart c = record {
   where
     before_ended : (main : Bool) (t : ℕ) → ended_as main (past ++ e ∷ []) t ≡ true → taken_as main (past ++ e ∷ []) t ≡ true
     before_ended main t h = taken_stays main past e t
-        (by (or_cases (ended_as main past t) (ends_as main t e.kind) (sym (ended_as_push main past e t) ∙ h)))
+        (by_side (or_cases (ended_as main past t) (ends_as main t e.kind) (sym (ended_as_push main past e t) ∙ h)))
       where
-        by : (ended_as main past t ≡ true) ⊎ (ends_as main t e.kind ≡ true) → taken_as main past t ≡ true
-        by (inl before) = ended_was_taken script past c main t before
-        by (inr ends_now) = was_taken main t ends_now
+        by_side : (ended_as main past t ≡ true) ⊎ (ends_as main t e.kind ≡ true) → taken_as main past t ≡ true
+        by_side (inl before) = ended_was_taken script past c main t before
+        by_side (inr ends_now) = was_taken main t ends_now
 
     runs : (s : ℕ) (w : Running) → Now past e taken s w → RunsAs script (past ++ e ∷ []) s w w.is_main
     runs s w (inl x) = runs_later script past e s w w.is_main (c.runs s w x.0) x.1

@@ -1,5 +1,6 @@
 -- No queue of a legal log passes its fence, over its places.
-use Rattle.std.proofs.Common.{◌≡◌, ℕ, zero, suc, ◌+◌, ◌<◌, ◌≤◌, Bool, true, false, cond, eqb, ltb, List, length, get_or, take, refl, sym, ap, ◌∙◌, Option, Some, None, ◌⊎◌, inl, inr, arith, [], ◌∷◌, ◌++◌}
+use Rattle.std.proofs.Common.{◌≡◌, ℕ, zero, suc, ◌+◌, ◌<◌, ◌≤◌, Bool, true, false, cond, eqb, ltb, List, length, get_or}
+use Rattle.std.proofs.Common.{take, refl, sym, ap, ◌∙◌, Option, Some, None, ◌⊎◌, inl, inr, arith, [], ◌∷◌, ◌++◌}
 use Rattle.std.specs.Prelude.{not, ◌&&◌, option_and_then, slice_get}
 use Rattle.std.specs.Option.{option_map_or}
 use Rattle.std.proofs.lemmas.Bool.{and_parts, cases_lt, eq-eqb, ltb-true, not-true, true≢false}
@@ -29,7 +30,7 @@ use Rattle.hist_model.proofs.Laws.Takes.{main_take_is}
 
 -- orders are drawn from 2 upward
 from_two : (past : List Entry) (p : Posted) (n : ℕ) → order_of past p ≡ Some n → 2 ≤ n
-from_two past p n is = by (is_delayed p) (tick_from past p.ripe) (sym (order_is past p) ∙ is)
+from_two past p n is = by_delayed (is_delayed p) (tick_from past p.ripe) (sym (order_is past p) ∙ is)
   where
     at_draw : (b : Bool) (m : ℕ) → 2 ≤ m → cond b (Some m) None ≡ Some n → 2 ≤ n
     at_draw true m low h = let same : m ≡ n = same_Some m n h in omega arith
@@ -39,10 +40,10 @@ from_two past p n is = by (is_delayed p) (tick_from past p.ripe) (sym (order_is 
     at_moment before None h = absurd (none-some n h)
     at_moment before (Some m) h = at_draw (ripens before m p) (next_draw before + count (λ q. ripens_before q p) (ripening before m)) (omega arith) h
 
-    by : (b : Bool) (tick : Option ℕ) → cond b (option_and_then (drawn past p) tick) (Some (next_draw (take p.place past))) ≡ Some n → 2 ≤ n
-    by false tick h = let same : 2 + draws (take p.place past) ≡ n = same_Some (next_draw (take p.place past)) n h in omega arith
-    by true None h = absurd (none-some n h)
-    by true (Some place) h = at_moment (take place past) (moment_at past place) h
+    by_delayed : (b : Bool) (tick : Option ℕ) → cond b (option_and_then (drawn past p) tick) (Some (next_draw (take p.place past))) ≡ Some n → 2 ≤ n
+    by_delayed false tick h = let same : 2 + draws (take p.place past) ≡ n = same_Some (next_draw (take p.place past)) n h in omega arith
+    by_delayed true None h = absurd (none-some n h)
+    by_delayed true (Some place) h = at_moment (take place past) (moment_at past place) h
 
 -- an entry that does not move the fence of the queue leaves it
 left_alone : (q : ℕ) (before : List Entry) (now : Option ℕ) (kind : Kind) → moves_fence q kind ≡ false → fence_after q before now kind ≡ now
@@ -61,7 +62,7 @@ stands_on : {A : Type 0} (notion : List Entry → A) (moves : Kind → Bool)
     → ((past : List Entry) (e : Entry) → moves e.kind ≡ false → notion (past ++ e ∷ []) ≡ notion past) → (log : List Entry) (i m : ℕ) → i < m
     → m ≤ length log → NoneBetween log i m moves → notion (take m log) ≡ notion (take (suc i) log)
 stands_on notion moves same log i zero behind within none = absurd (omega (arith, behind))
-stands_on notion moves same log i (suc m) behind within none = by (cases_lt i m) (λ more. stands_on notion moves same log i m more (omega (arith, within))
+stands_on notion moves same log i (suc m) behind within none = by_order (cases_lt i m) (λ more. stands_on notion moves same log i m more (omega (arith, within))
     (λ j seat kind from to is. none j seat kind from (omega (arith, to)) is))
   where
     other : Entry
@@ -71,9 +72,9 @@ stands_on notion moves same log i (suc m) behind within none = by (cases_lt i m)
         → notion (take (suc m) log) ≡ notion (take (suc i) log)
     at e more is before = ap notion (take_at log m e is) ∙ same (take m log) e (none m e.seat e.kind more (omega arith) is) ∙ before
 
-    by : (i < m) ⊎ (m ≤ i) → (i < m → notion (take m log) ≡ notion (take (suc i) log)) → notion (take (suc m) log) ≡ notion (take (suc i) log)
-    by (inl more) before = at (get_or log m other) more (slice_get-get_or log m other (omega (arith, within))) (before more)
-    by (inr here) before = let as_one : m ≡ i = omega (arith, behind, here) in ap (λ j. notion (take (suc j) log)) as_one
+    by_order : (i < m) ⊎ (m ≤ i) → (i < m → notion (take m log) ≡ notion (take (suc i) log)) → notion (take (suc m) log) ≡ notion (take (suc i) log)
+    by_order (inl more) before = at (get_or log m other) more (slice_get-get_or log m other (omega (arith, within))) (before more)
+    by_order (inr here) before = let as_one : m ≡ i = omega (arith, behind, here) in ap (λ j. notion (take (suc j) log)) as_one
 
 -- the fence at a place is the one that was set last
 last_fence : (log : List Entry) (i setter k q : ℕ) (at : FenceAt) (e : Entry) → IsAt log i setter (kinds.Fence q at) → i < k

@@ -31,7 +31,7 @@ none_is None h = refl
 none_is (Some x) h = absurd cc
 
 -- two optional numbers that are the same, as a test
-same_number_is : (a b : Option ℕ) → same_number a b ≡ true → a ≡ b
+pub same_number_is : (a b : Option ℕ) → same_number a b ≡ true → a ≡ b
 same_number_is None None h = refl
 same_number_is (Some a) (Some b) h = ap Some (eqb-true a b h)
 same_number_is None (Some b) h = absurd cc

@@ -29,6 +29,10 @@ pub is_legal_push : (script : Plan) (past : List Entry) (e : Entry) → is_legal
 unfolding is_legal
 is_legal_push script past e = legal_from_append script [] past (e ∷ []) ∙ ap (λ b. legal_from script [] past && b) (and-true (is_allowed script past e))
 
+-- so a legal history and an entry that is allowed behind it are legal
+pub legal_next : (script : Plan) (past : List Entry) (e : Entry) → IsLegal script past → IsAllowed script past e → IsLegal script (past ++ e ∷ [])
+legal_next script past e legal allowed = is_legal_push script past e ∙ rw (legal, allowed) refl
+
 -- the front of a legal history is legal
 pub front_is_legal : (script : Plan) (past rest : List Entry) → IsLegal script (past ++ rest) → IsLegal script past
 unfolding is_legal

@@ -9,7 +9,7 @@ use Rattle.hist_model.proofs.Laws.OneThing.{legal_does_one_thing}
 use Rattle.hist_model.proofs.Laws.Rising.{legal_rises, orders_are_distinct}
 use Rattle.hist_model.proofs.Laws.HoldsApart.{legal_holds_apart}
 use Rattle.hist_model.proofs.Laws.Claims.{claimed_is}
-use Rattle.hist_model.proofs.Laws.PostedOnce.{each_is_accepted_once}
+use Rattle.hist_model.proofs.Laws.Postings.Once.{each_is_accepted_once}
 
 pub legal_past : (script : Plan) (past : List Entry) → IsLegal script past → IsLegalPast script past
 legal_past script past legal = record {

@@ -79,14 +79,14 @@ ran_on script past e main t may no_end r = record {
 
 all_run_next : (script : Plan) (past : List Entry) (e : Entry) → may_come script past e.seat e.kind ≡ true → AllRun past → AllRun (past ++ e ∷ [])
 all_run_next script past e may all main t taken not_ended =
-    by (or_cases (taken_as main past t) (takes_as main t e.kind) (sym (taken_as_push main past e t) ∙ taken))
+    by_side (or_cases (taken_as main past t) (takes_as main t e.kind) (sym (taken_as_push main past e t) ∙ taken))
   where
     open_still : (ended_as main past t ≡ false) × (ends_as main t e.kind ≡ false)
     open_still = or_parts (ended_as main past t) (ends_as main t e.kind) (sym (ended_as_push main past e t) ∙ not_ended)
 
-    by : (taken_as main past t ≡ true) ⊎ (takes_as main t e.kind ≡ true) → SomeSeatRuns (past ++ e ∷ []) main t
-    by (inl before) = ran_on script past e main t may open_still.1 (all main t before open_still.0)
-    by (inr now) = let (w, is, as_main, task_is) = takes_it main t e.kind (running past e.seat) now in record {
+    by_side : (taken_as main past t ≡ true) ⊎ (takes_as main t e.kind ≡ true) → SomeSeatRuns (past ++ e ∷ []) main t
+    by_side (inl before) = ran_on script past e main t may open_still.1 (all main t before open_still.0)
+    by_side (inr now) = let (w, is, as_main, task_is) = takes_it main t e.kind (running past e.seat) now in record {
       seat = e.seat;
       now = w;
       running_is = running_here past e e.seat (eq-eqb e.seat e.seat refl) ∙ is;

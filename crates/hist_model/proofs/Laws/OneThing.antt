@@ -1,5 +1,6 @@
 -- In every legal history each seat does one thing at a time.
-use Rattle.std.proofs.Common.{◌≡◌, ℕ, ◌≤◌, Bool, true, false, cond, eqb, List, [], ◌∷◌, ◌++◌, length, refl, sym, ap, subst, ◌∙◌, Option, Some, None, ◌⊎◌, inl, inr, ⊎_elim, arith}
+use Rattle.std.proofs.Common.{◌≡◌, ℕ, ◌≤◌, Bool, true, false, cond, eqb, List, [], ◌∷◌, ◌++◌, length, refl}
+use Rattle.std.proofs.Common.{sym, ap, subst, ◌∙◌, Option, Some, None, ◌⊎◌, inl, inr, ⊎_elim, arith}
 use Rattle.std.specs.Prelude.{◌&&◌, is_none}
 use Rattle.std.proofs.lemmas.Bool.{eqb-true, eqb-false, and_parts, both_ways}
 use Rattle.std.proofs.lemmas.Option.{none-some, same_Some}
@@ -52,7 +53,7 @@ pump_wants : (own : List Entry) (action : Action) (made : List Entry) (task queu
 pump_wants own (actions.Pump n) made task queue value h = refl
 pump_wants own action made task queue value h = absurd cc
 
-join_wants : (own : List Entry) (action : Action) (made : List Entry) (job id item : ℕ) → wants own action made (kinds.JobTake job id item) ≡ true
+pub join_wants : (own : List Entry) (action : Action) (made : List Entry) (job id item : ℕ) → wants own action made (kinds.JobTake job id item) ≡ true
     → is_join action ≡ true
 join_wants own (actions.Join j) made job id item h = refl
 join_wants own action made job id item h = absurd cc
@@ -201,11 +202,11 @@ own_thing : (script : Plan) (past : List Entry) (seat : ℕ) (kind : Kind) → m
 own_thing script past seat (kinds.Take task runner value) may d w h r k = holds_none past seat h (take_is script past seat task runner value may).free k
 own_thing script past seat (kinds.MainTake task queue value) may d w h r k = let at = main_take_at script past seat task queue value may in
     not_at script past at.1 (d.joins h (subst (λ s. holding past s ≡ Some h) at.0 k))
-own_thing script past seat (kinds.JobTake job id item) may d w h r k = by (job_take_at script past seat job id item may)
+own_thing script past seat (kinds.JobTake job id item) may d w h r k = by_job_take_at (job_take_at script past seat job id item may)
   where
-    by : IsReadyWorker script past seat ⊎ ((seat ≡ 0) × At script past is_join) → ⊥
-    by (inl worker) = runs_none past seat w worker.free r
-    by (inr (driver, join)) = not_at script past (d.pumps w (subst (λ s. running past s ≡ Some w) driver r)) join
+    by_job_take_at : IsReadyWorker script past seat ⊎ ((seat ≡ 0) × At script past is_join) → ⊥
+    by_job_take_at (inl worker) = runs_none past seat w worker.free r
+    by_job_take_at (inr (driver, join)) = not_at script past (d.pumps w (subst (λ s. running past s ≡ Some w) driver r)) join
 own_thing script past seat (kinds.JobStep job id item value (Some next)) may d w h r k = let held = job_step_holds script past seat job id item value
     (Some next) may in d.one_thing seat w held.0 r held.1
 own_thing script past seat (kinds.JobStep job id item value None) may d w h r k = absurd (none-some h k)
@@ -234,7 +235,7 @@ own_pumps script past kind may d w r = let (c, is, pump) = d.pumps w r in
 -- the driver holds an item behind an entry of its own only at a join
 own_joins : (script : Plan) (past : List Entry) (kind : Kind) → may_come script past 0 kind ≡ true → DoesOneThing script past → (h : Holding)
     → holding_after (holding past 0) kind ≡ Some h → At script (past ++ record { seat = 0; kind = kind } ∷ []) is_join
-own_joins script past (kinds.JobTake job id item) may d h k = by 0 refl (job_take_at script past 0 job id item may)
+own_joins script past (kinds.JobTake job id item) may d h k = at_seat 0 refl (job_take_at script past 0 job id item may)
   where
     goes_on : (action : Action) (made : List Entry) → is_join action ≡ true → completes action made (kinds.JobTake job id item) ≡ false
     goes_on (actions.Join j) made p = refl
@@ -243,10 +244,10 @@ own_joins script past (kinds.JobTake job id item) may d h k = by 0 refl (job_tak
     no_worker : (seat : ℕ) → seat ≡ 0 → 1 ≤ seat → ⊥
     no_worker seat driver low = omega (arith, driver, low)
 
-    by : (seat : ℕ) → seat ≡ 0 → IsReadyWorker script past seat ⊎ ((seat ≡ 0) × At script past is_join)
+    at_seat : (seat : ℕ) → seat ≡ 0 → IsReadyWorker script past seat ⊎ ((seat ≡ 0) × At script past is_join)
         → At script (past ++ record { seat = 0; kind = kinds.JobTake job id item } ∷ []) is_join
-    by seat driver (inl worker) = absurd (no_worker seat driver worker.worker)
-    by seat driver (inr (same, (c, is, join))) = stays_at script past (kinds.JobTake job id item) is_join c is join (goes_on c.action c.made join)
+    at_seat seat driver (inl worker) = absurd (no_worker seat driver worker.worker)
+    at_seat seat driver (inr (same, (c, is, join))) = stays_at script past (kinds.JobTake job id item) is_join c is join (goes_on c.action c.made join)
 own_joins script past (kinds.JobStep job id item value (Some next)) may d h k =
     let held = job_step_holds script past 0 job id item value (Some next) may in
     let (c, is, join) = d.joins held.0 held.1 in

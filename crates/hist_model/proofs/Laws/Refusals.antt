@@ -25,7 +25,7 @@ use Rattle.hist_model.specs.Laws.Places.{IsAt, StandsBefore}
 use Rattle.hist_model.specs.Laws.Shutdown.{KeepsShutdown}
 use Rattle.hist_model.specs.Laws.Refusals.{refused_from, RefusalsAreExact}
 use Rattle.hist_model.proofs.Laws.Legal.{entry_induction}
-use Rattle.hist_model.proofs.Laws.Shutdown.{waits_and_forbids}
+use Rattle.hist_model.proofs.Laws.Shutdown.Histories.{waits_and_forbids}
 use Rattle.hist_model.proofs.Laws.AtPlaces.{passes_at, passed_by, in_past, of_past, past_is_legal, parted_at}
 
 -- an entry of the past passes a test that one kind alone passes exactly where that kind stands before
@@ -92,16 +92,16 @@ done_stands = push_induction (λ past. forbids (phase_of past) BlockShutdown ≡
     begun phases.Started = refl
     begun phases.Done = refl
 
-    by : (now : Phase) (before : Bool) (kind : Kind) → forbids now BlockShutdown ≡ before
+    by_phase : (now : Phase) (before : Bool) (kind : Kind) → forbids now BlockShutdown ≡ before
         → forbids (phase_after now kind) BlockShutdown ≡ (before || (finishes kind || false))
-    by now before kinds.Done h = sym (or-true before)
-    by now before kinds.Shutdown h = begun now ∙ h ∙ sym (or-false before)
-    by now before kind h = h ∙ sym (or-false before)
+    by_phase now before kinds.Done h = sym (or-true before)
+    by_phase now before kinds.Shutdown h = begun now ∙ h ∙ sym (or-false before)
+    by_phase now before kind h = h ∙ sym (or-false before)
 
     step : (past : List Entry) (e : Entry) → forbids (phase_of past) BlockShutdown ≡ list_any (λ e. finishes e.kind) past
         → forbids (phase_of (past ++ e ∷ [])) BlockShutdown ≡ list_any (λ e. finishes e.kind) (past ++ e ∷ [])
     step past e h = rw (phase_of_push past e, list_any-append (λ (x : Entry). finishes x.kind) past (e ∷ []))
-        (by (phase_of past) (list_any (λ e. finishes e.kind) past) e.kind h)
+        (by_phase (phase_of past) (list_any (λ e. finishes e.kind) past) e.kind h)
 
 -- skip work is forbidden exactly where a start of shutdown stands in the past: a done stands only behind one
 shutdown_stands : (script : Plan) (past : List Entry) → IsLegal script past → forbids (phase_of past) SkipOnShutdown ≡ list_any (λ e. starts e.kind) past
@@ -120,17 +120,18 @@ shutdown_stands script = entry_induction script (λ past. forbids (phase_of past
     of_started phases.Running h = absurd cc
     of_started phases.Done h = refl
 
-    by : (past : List Entry) (seat : ℕ) (before : Bool) (kind : Kind) → may_come script past seat kind ≡ true → forbids (phase_of past) SkipOnShutdown ≡ before
+    by_past : (past : List Entry) (seat : ℕ) (before : Bool) (kind : Kind) → may_come script past seat kind ≡ true
+        → forbids (phase_of past) SkipOnShutdown ≡ before
         → forbids (phase_after (phase_of past) kind) SkipOnShutdown ≡ (before || (starts kind || false))
-    by past seat before kinds.Shutdown may h = begun (phase_of past) ∙ sym (or-true before)
-    by past seat before kinds.Done may h = sym (of_started (phase_of past) (done_behind script past seat may)) ∙ h ∙ sym (or-false before)
-    by past seat before kind may h = h ∙ sym (or-false before)
+    by_past past seat before kinds.Shutdown may h = begun (phase_of past) ∙ sym (or-true before)
+    by_past past seat before kinds.Done may h = sym (of_started (phase_of past) (done_behind script past seat may)) ∙ h ∙ sym (or-false before)
+    by_past past seat before kind may h = h ∙ sym (or-false before)
 
     step : (past : List Entry) (e : Entry) → e.seat ≤ script.workers → may_come script past e.seat e.kind ≡ true
         → forbids (phase_of past) SkipOnShutdown ≡ list_any (λ e. starts e.kind) past
         → forbids (phase_of (past ++ e ∷ [])) SkipOnShutdown ≡ list_any (λ e. starts e.kind) (past ++ e ∷ [])
     step past e known may h = rw (phase_of_push past e, list_any-append (λ (x : Entry). starts x.kind) past (e ∷ []))
-        (by past e.seat (list_any (λ e. starts e.kind) past) e.kind may h)
+        (by_past past e.seat (list_any (λ e. starts e.kind) past) e.kind may h)
 
 -- continue work is forbidden where skip work is
 continue_as_skip : (now : Phase) → forbids now ContinueOnShutdown ≡ forbids now SkipOnShutdown

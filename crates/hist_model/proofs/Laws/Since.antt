@@ -45,26 +45,26 @@ still_since : (past : List Entry) (x : Entry) (seat : ℕ) (w : Running) → Run
 still_since past x seat w before quiet = record {
   place = before.place;
   is = slice_get-more past (x ∷ []) before.place _ before.is;
-  goes_on = λ k e later at own. by k e later own (slice_get_push past x k e at);
+  goes_on = λ k e later at own. at_each k e later own (slice_get_push past x k e at);
 }
   where
-    by : (k : ℕ) (e : Entry) → before.place < k → e.seat ≡ seat → ((k < length past) × (slice_get past k ≡ Some e)) ⊎ ((k ≡ length past) × (x ≡ e))
+    at_each : (k : ℕ) (e : Entry) → before.place < k → e.seat ≡ seat → ((k < length past) × (slice_get past k ≡ Some e)) ⊎ ((k ≡ length past) × (x ≡ e))
         → moves_running e.kind ≡ false
-    by k e later own (inl earlier) = before.goes_on k e later earlier.1 own
-    by k e later own (inr here) = ap (λ y. moves_running y.kind) (sym here.1) ∙ quiet (ap (λ y. y.seat) here.1 ∙ own)
+    at_each k e later own (inl earlier) = before.goes_on k e later earlier.1 own
+    at_each k e later own (inr here) = ap (λ y. moves_running y.kind) (sym here.1) ∙ quiet (ap (λ y. y.seat) here.1 ∙ own)
 
 -- it begins with an entry that takes it
 since_here : (past : List Entry) (seat : ℕ) (w : Running) → RunningSince (past ++ take_entry seat w ∷ []) seat w
 since_here past seat w = record {
   place = length past;
   is = slice_get_seam past _ [];
-  goes_on = λ k e later at own. absurd (by k e later (slice_get_push past _ k e at));
+  goes_on = λ k e later at own. absurd (at_each k e later (slice_get_push past _ k e at));
 }
   where
-    by : (k : ℕ) (e : Entry) → length past < k
+    at_each : (k : ℕ) (e : Entry) → length past < k
         → ((k < length past) × (slice_get past k ≡ Some e)) ⊎ ((k ≡ length past) × (take_entry seat w ≡ e)) → ⊥
-    by k e later (inl earlier) = omega (arith, later, earlier.0)
-    by k e later (inr here) = omega (arith, later, here.0)
+    at_each k e later (inl earlier) = omega (arith, later, earlier.0)
+    at_each k e later (inr here) = omega (arith, later, here.0)
 
 nothing_since : (seat : ℕ) (w : Running) → running [] seat ≡ Some w → RunningSince [] seat w
 unfolding running
@@ -76,11 +76,11 @@ running_since past seat = push_induction (λ xs. (w : Running) → running xs se
   where
     next : (xs : List Entry) (x : Entry) → ((w : Running) → running xs seat ≡ Some w → RunningSince xs seat w) → (w : Running)
         → running (xs ++ x ∷ []) seat ≡ Some w → RunningSince (xs ++ x ∷ []) seat w
-    next xs x before w is = by (runs_behind xs x seat w is)
+    next xs x before w is = by_runs_behind (runs_behind xs x seat w is)
       where
-        by : RunsBehind xs x seat w → RunningSince (xs ++ x ∷ []) seat w
-        by (inl other) = still_since xs x seat w (before w other.0) (λ own. absurd (both_ways (eqb x.seat seat) other.1 (eq-eqb x.seat seat own)))
-        by (inr own) = elim (moved (running xs x.seat) x.kind w own.1) [
+        by_runs_behind : RunsBehind xs x seat w → RunningSince (xs ++ x ∷ []) seat w
+        by_runs_behind (inl other) = still_since xs x seat w (before w other.0) (λ own. absurd (both_ways (eqb x.seat seat) other.1 (eq-eqb x.seat seat own)))
+        by_runs_behind (inr own) = elim (moved (running xs x.seat) x.kind w own.1) [
           | inl takes ↦ subst (λ kind. RunningSince (xs ++ record { seat = x.seat; kind = kind } ∷ []) seat w) (sym takes)
               (subst (λ s. RunningSince (xs ++ take_entry s w ∷ []) seat w) own.0 (since_here xs seat w))
           | inr same ↦ still_since xs x seat w (before w (ap (running xs) own.0 ∙ same.0)) (λ mine. same.1)

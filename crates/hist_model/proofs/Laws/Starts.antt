@@ -21,7 +21,7 @@ use Rattle.hist_model.specs.Laws.Starts.{TasksStartAtMostOnce}
 use Rattle.hist_model.proofs.Laws.AtPlaces.{in_past, of_past, passed_by, past_is_legal, may_come_at}
 use Rattle.hist_model.proofs.Laws.Takes.{take_is, main_take_is, end_is, main_end_is}
 use Rattle.hist_model.proofs.Laws.Consistent.{taken_as, ended_as, takes_as, ends_as, posts_as, posted_as, posts_as_push, as_runs, legal_is_consistent}
-use Rattle.hist_model.proofs.Laws.OrderPasts.{post_as}
+use Rattle.hist_model.proofs.Laws.Order.Pasts.{post_as}
 use Rattle.hist_model.proofs.Laws.Since.{taking, RunningSince, running_since}
 
 -- ---- accepted posts stand at their places

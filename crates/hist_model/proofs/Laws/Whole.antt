@@ -1,11 +1,13 @@
 -- What a legal and whole log has done, and what it has left.
-use Rattle.std.proofs.Common.{◌≡◌, ℕ, ◌+◌, ◌<◌, ◌≤◌, Bool, true, false, cond, eqb, List, [], ◌∷◌, ◌++◌, length, refl, sym, ap, subst, ◌∙◌, Option, Some, None, inl, inr, ⊎_elim, arith}
+use Rattle.std.proofs.Common.{◌≡◌, ℕ, ◌+◌, ◌<◌, ◌≤◌, Bool, true, false, cond, eqb, List, [], ◌∷◌, ◌++◌, length}
+use Rattle.std.proofs.Common.{refl, sym, ap, subst, ◌∙◌, Option, Some, None, inl, inr, ⊎_elim, arith}
 use Rattle.std.specs.Prelude.{◌⊎◌, ◌&&◌, ◌||◌, not, nat_lt, nat_le, filter, take, slice_get, Contains, is_none}
 use Rattle.std.specs.Option.{option_map, option_or}
 use Rattle.std.specs.List.{AllByRecursion, filter_map}
 use Rattle.std.proofs.Math.Bool.{or-false}
 use Rattle.std.proofs.lemmas.List.Folds.{list_any-append}
-use Rattle.std.proofs.lemmas.Bool.{and_parts, or_cases, or_left, or_right, or_parts, eq-eqb, eqb-true, true≢false, lt-ltb, ltb-true, ltb-false, true_from_ne_false, both_ways}
+use Rattle.std.proofs.lemmas.Bool.{and_parts, or_cases, or_left, or_right, or_parts, eq-eqb, eqb-true, true≢false}
+use Rattle.std.proofs.lemmas.Bool.{lt-ltb, ltb-true, ltb-false, true_from_ne_false, both_ways}
 use Rattle.std.proofs.lemmas.Option.{none-some, same_Some}
 use Rattle.std.proofs.lemmas.List.Elements.{All-contains}
 use Rattle.task_base.specs.Plan.{Plan}
@@ -30,7 +32,8 @@ use Rattle.list_laws.proofs.Ranks.{ranks_by}
 use Rattle.script_model.specs.Laws.Sound.{IsRunnerPost, IsStepSound, IsActionSound, IsSound}
 use Rattle.task_model.specs.Time.{now_of, now_after, tick_from}
 use Rattle.task_model.specs.Past.{fold_past}
-use Rattle.task_model.specs.Posts.{Posted, is_delayed, ripens_before, post_behind, posts, posted_by, main_posts, main_posted_by, is_taken, is_ended, is_main_taken, is_main_ended}
+use Rattle.task_model.specs.Posts.{Posted, is_delayed, ripens_before, post_behind, posts, posted_by, main_posts}
+use Rattle.task_model.specs.Posts.{main_posted_by, is_taken, is_ended, is_main_taken, is_main_ended}
 use Rattle.task_model.specs.Policies.{is_held}
 use Rattle.task_model.specs.Refusal.{is_forbidden, is_closed, closes}
 use Rattle.task_model.specs.Keys.{Ready, key_at, key_of, ready}
@@ -55,13 +58,14 @@ use Rattle.hist_model.specs.Script.{wants, is_finished, IsWhole}
 use Rattle.hist_model.specs.Allowed.{by_script, by_task, enters, may_come}
 use Rattle.hist_model.specs.Legal.{IsLegal}
 use Rattle.hist_model.specs.Laws.Consistent.{RunsAs}
-use Rattle.hist_model.specs.Laws.Whole.{steps_item, has_step, sequence_at, IsUnripe, WaitsInSequence, LeftTask, IsLeftToWorkers, HasNoOrder, WaitsInLane, LeftMainTask, LosesNothing}
+use Rattle.hist_model.specs.Laws.Whole.{steps_item, has_step, sequence_at, IsUnripe, WaitsInSequence, LeftTask}
+use Rattle.hist_model.specs.Laws.Whole.{IsLeftToWorkers, HasNoOrder, WaitsInLane, LeftMainTask, LosesNothing}
 use Rattle.hist_model.specs.Laws.Whole.LeftTask.{Forbidden, Unripe, Waits}
 use Rattle.hist_model.specs.Laws.Whole.LeftMainTask.{Closed, NoOrder, InLane}
 use Rattle.hist_model.proofs.Laws.Legal.{entry_induction, legal_induction}
 use Rattle.hist_model.proofs.Laws.Claims.{claimed_is}
 use Rattle.hist_model.proofs.Laws.HoldsApart.{legal_holds_apart}
-use Rattle.hist_model.proofs.Laws.Consistent.{legal_is_consistent}
+use Rattle.hist_model.proofs.Laws.Consistent.{legal_is_consistent, runs_known}
 use Rattle.hist_model.proofs.Laws.OneSeat.{runs_at_one_seat, runs_at_driver}
 use Rattle.hist_model.proofs.Laws.JobEntries.{entering_is, job_step_is}
 use Rattle.hist_model.proofs.Laws.BySound.{wanted_soundly, entered_soundly}
@@ -70,7 +74,7 @@ use Rattle.hist_model.proofs.Laws.Rising.{legal_rises}
 -- Nobody is at anything.
 
 -- what is no value is none
-none_of : {A : Type 0} (o : Option A) → ((x : A) → o ≡ Some x → ⊥) → o ≡ None
+pub none_of : {A : Type 0} (o : Option A) → ((x : A) → o ≡ Some x → ⊥) → o ≡ None
 none_of None h = refl
 none_of (Some x) h = absurd (h x refl)
 
@@ -81,11 +85,6 @@ free_seat : (script : Plan) (log : List Entry) (seat : ℕ) → IsWhole script l
     → (is_none (running log seat) ≡ true) × (is_none (holding log seat) ≡ true)
 free_seat script log seat whole known = and_parts (is_none (running log seat)) (is_none (holding log seat))
     (quiet_is_free script log seat (whole_is_quiet script log whole) (omega (arith, known)))
-
--- who runs is a seat of the script
-runs_known : (script : Plan) (log : List Entry) (seat : ℕ) (w : Running) (main : Bool) → RunsAs script log seat w main → seat ≤ script.workers
-runs_known script log seat w false r = r.known
-runs_known script log seat w true r = omega (arith, r.driver)
 
 nobody_runs : (script : Plan) (log : List Entry) → IsLegal script log → IsWhole script log → (seat : ℕ) → running log seat ≡ None
 nobody_runs script log legal whole seat = none_of (running log seat) (λ w runs. both_ways (is_none (running log seat)) (ap is_none runs)
@@ -170,7 +169,7 @@ claims_it script past seat j (kinds.JobStep job id item value None) now may clai
 claims_it script past seat j kind now may claims_one = absurd (true≢false (sym claims_one))
 
 items_next : (script : Plan) (past : List Entry) (e : Entry) → may_come script past e.seat e.kind ≡ true → AllGoOn past → AllGoOn (past ++ e ∷ [])
-items_next script past e may all j item below = by (nat_lt item (claimed past j)) refl
+items_next script past e may all j item below = by_order (nat_lt item (claimed past j)) refl
   where
     stepped : (has_step past j item || steps_item j item e.kind) ≡ true
         → (has_step (past ++ e ∷ []) j item ≡ true) ⊎ SomeSeatHolds (past ++ e ∷ []) j item
@@ -223,9 +222,9 @@ items_next script past e may all j item below = by (nat_lt item (claimed past j)
         let as_long : claimed (past ++ e ∷ []) j ≡ claimed past j + 0 = claimed_push past e j ∙ ap (λ (b : Bool). claimed past j + cond b 1 0) claims_none in
         absurd (omega (arith, below, as_long, ltb-false item (claimed past j) more))
 
-    by : (b : Bool) → nat_lt item (claimed past j) ≡ b → (has_step (past ++ e ∷ []) j item ≡ true) ⊎ SomeSeatHolds (past ++ e ∷ []) j item
-    by true less = before (all j item (ltb-true item (claimed past j) less))
-    by false more = now (claims j e.kind) refl more
+    by_order : (b : Bool) → nat_lt item (claimed past j) ≡ b → (has_step (past ++ e ∷ []) j item ≡ true) ⊎ SomeSeatHolds (past ++ e ∷ []) j item
+    by_order true less = before (all j item (ltb-true item (claimed past j) less))
+    by_order false more = now (claims j e.kind) refl more
 
 nothing_claimed : AllGoOn []
 unfolding claimed
@@ -234,12 +233,12 @@ nothing_claimed j item below = absurd (omega (arith, below))
 items_stepped : (script : Plan) (log : List Entry) → IsLegal script log → IsWhole script log → (j item : ℕ) → item < claimed log j
     → has_step log j item ≡ true
 items_stepped script log legal whole j item below =
-    by (entry_induction script AllGoOn nothing_claimed (λ past e known may all. items_next script past e may all)
+    by_side (entry_induction script AllGoOn nothing_claimed (λ past e known may all. items_next script past e may all)
     log legal j item below)
   where
-    by : (has_step log j item ≡ true) ⊎ SomeSeatHolds log j item → has_step log j item ≡ true
-    by (inl is) = is
-    by (inr h) = absurd (not_none_some (holding log h.seat) h.held (nobody_holds script log legal whole h.seat) h.holding_is)
+    by_side : (has_step log j item ≡ true) ⊎ SomeSeatHolds log j item → has_step log j item ≡ true
+    by_side (inl is) = is
+    by_side (inr h) = absurd (not_none_some (holding log h.seat) h.held (nobody_holds script log legal whole h.seat) h.holding_is)
 
 -- Tasks of the pool that were never taken.
 
@@ -264,15 +263,15 @@ no_task_runs script log s legal whole = no_seat_runs script log s (λ seat known
 
 -- of a head and a task that may be taken, the head's key is the task's own or below it
 head_first : (head : Ready) (key : Key) → key_below key head.key ≡ false → (head.key ≡ key) ⊎ (key_below head.key key ≡ true)
-head_first head key not_above = by (key_below head.key key) refl
+head_first head key not_above = by_key_below (key_below head.key key) refl
   where
-    by : (b : Bool) → key_below head.key key ≡ b → (head.key ≡ key) ⊎ (key_below head.key key ≡ true)
-    by true is = inr is
-    by false is = inl (keys_total head.key key is not_above)
+    by_key_below : (b : Bool) → key_below head.key key ≡ b → (head.key ≡ key) ⊎ (key_below head.key key ≡ true)
+    by_key_below true is = inr is
+    by_key_below false is = inl (keys_total head.key key is not_above)
 
 waits_in_sequence : (script : Plan) (log : List Entry) (p : Posted) (key : Key) → IsLegal script log → IsWhole script log → Contains (posts log) p
     → key_of log p ≡ Some key → is_taken log p.task ≡ false → is_forbidden script log p ≡ false → WaitsInSequence script log p
-waits_in_sequence script log p key legal whole among is free allowed = by (head_of script log (sequence_at script p)) refl
+waits_in_sequence script log p key legal whole among is free allowed = by_head (head_of script log (sequence_at script p)) refl
   where
     it : Ready
     it = record { posted = p; key = key }
@@ -280,9 +279,9 @@ waits_in_sequence script log p key legal whole among is free allowed = by (head_
     eligible_is : Contains (eligible script log (sequence_at script p)) it
     eligible_is = in_sequence script log p key among is free allowed
 
-    by : (o : Option Ready) → head_of script log (sequence_at script p) ≡ o → WaitsInSequence script log p
-    by None none = absurd (contains_not_empty (eligible script log (sequence_at script p)) it eligible_is (no_head script log (sequence_at script p) none))
-    by (Some head) some = record {
+    by_head : (o : Option Ready) → head_of script log (sequence_at script p) ≡ o → WaitsInSequence script log p
+    by_head None none = absurd (contains_not_empty (eligible script log (sequence_at script p)) it eligible_is (no_head script log (sequence_at script p) none))
+    by_head (Some head) some = record {
       key = key;
       key_is = is;
       is_eligible = eligible_is;
@@ -296,22 +295,22 @@ waits_in_sequence script log p key legal whole among is free allowed = by (head_
 
 -- a task has no key where it is delayed and no tick has come to its ripe moment
 unripe : (past : List Entry) (p : Posted) → key_of past p ≡ None → IsUnripe past p
-unripe past p none = by (is_delayed p) (tick_from past p.ripe) refl refl none
+unripe past p none = by_delayed (is_delayed p) (tick_from past p.ripe) refl refl none
   where
-    by : (b : Bool) (o : Option ℕ) → is_delayed p ≡ b → tick_from past p.ripe ≡ o
+    by_delayed : (b : Bool) (o : Option ℕ) → is_delayed p ≡ b → tick_from past p.ripe ≡ o
         → cond b (option_map (λ place. record { place = place; ripe = p.ripe; post = p.place }) o) (Some (key_at p.place)) ≡ None → IsUnripe past p
-    by false o delayed tick k = absurd (none-some (key_at p.place) (sym k))
-    by true None delayed tick k = record { delayed = delayed; no_tick = tick; no_key = none }
-    by true (Some place) delayed tick k = absurd (none-some _ (sym k))
+    by_delayed false o delayed tick k = absurd (none-some (key_at p.place) (sym k))
+    by_delayed true None delayed tick k = record { delayed = delayed; no_tick = tick; no_key = none }
+    by_delayed true (Some place) delayed tick k = absurd (none-some _ (sym k))
 
 tasks_left : (script : Plan) (log : List Entry) → IsLegal script log → IsWhole script log → (p : Posted) → Contains (posts log) p
     → is_taken log p.task ≡ false → LeftTask script log p
-tasks_left script log legal whole p among free = by (is_forbidden script log p) (key_of log p) refl refl
+tasks_left script log legal whole p among free = by_forbidden (is_forbidden script log p) (key_of log p) refl refl
   where
-    by : (b : Bool) (o : Option Key) → is_forbidden script log p ≡ b → key_of log p ≡ o → LeftTask script log p
-    by true o forbidden key_is = Forbidden forbidden
-    by false None allowed no_key = Unripe (unripe log p no_key)
-    by false (Some key) allowed key_is = Waits (waits_in_sequence script log p key legal whole among key_is free allowed)
+    by_forbidden : (b : Bool) (o : Option Key) → is_forbidden script log p ≡ b → key_of log p ≡ o → LeftTask script log p
+    by_forbidden true o forbidden key_is = Forbidden forbidden
+    by_forbidden false None allowed no_key = Unripe (unripe log p no_key)
+    by_forbidden false (Some key) allowed key_is = Waits (waits_in_sequence script log p key legal whole among key_is free allowed)
 
 -- What waits for workers, where the script is sound.
 
@@ -385,18 +384,18 @@ are_declared script log sound = entry_induction script (AreDeclared script) (no_
 
 -- so its sequence is one of the script's
 sequence_within : (script : Plan) (task runner : ℕ) → IsDeclared script task runner → sequence_of script runner task < sequence_count script
-sequence_within script task runner d = by (holds_of (λ r. is_parallel r.kind) (slice_get script.runners runner))
+sequence_within script task runner d = by_parallel (holds_of (λ r. is_parallel r.kind) (slice_get script.runners runner))
   where
-    by : (b : Bool) → cond b (length script.runners + task) runner < length script.runners + length script.tasks
-    by true = omega (arith, d.task_declared)
-    by false = omega (arith, d.runner_declared)
+    by_parallel : (b : Bool) → cond b (length script.runners + task) runner < length script.runners + length script.tasks
+    by_parallel true = omega (arith, d.task_declared)
+    by_parallel false = omega (arith, d.runner_declared)
 
 left_to_workers : (script : Plan) (log : List Entry) (c : Candidate) → WouldWait script log c → IsLeftToWorkers script log c
-left_to_workers script log c would = record { would_wait = would; held_or_waits = by (is_held log c.priority) refl }
+left_to_workers script log c would = record { would_wait = would; held_or_waits = by_held (is_held log c.priority) refl }
   where
-    by : (b : Bool) → is_held log c.priority ≡ b → (is_held log c.priority ≡ true) ⊎ IsWaiting script log c
-    by true held = inl held
-    by false free = inr (not_held_is_waiting script log c would free)
+    by_held : (b : Bool) → is_held log c.priority ≡ b → (is_held log c.priority ≡ true) ⊎ IsWaiting script log c
+    by_held true held = inl held
+    by_held false free = inr (not_held_is_waiting script log c would free)
 
 -- the sequence of a task that waits is left to the workers, where the script is sound
 pub waits_for_workers : (script : Plan) (log : List Entry) (p : Posted) → IsSound script → IsLegal script log → Contains (posts log) p
@@ -414,16 +413,16 @@ abbrev lane_of : Posted → Lane
 lane_of p = cond (is_delayed p) Delayed Immediate
 
 lies_in_lane : (p : Posted) → is_of_lane (lane_of p) p ≡ true
-lies_in_lane p = by (is_delayed p) refl
+lies_in_lane p = by_delayed (is_delayed p) refl
   where
-    by : (b : Bool) → is_delayed p ≡ b → is_of_lane (cond b Delayed Immediate) p ≡ true
-    by true is = is
-    by false is = ap not is
+    by_delayed : (b : Bool) → is_delayed p ≡ b → is_of_lane (cond b Delayed Immediate) p ≡ true
+    by_delayed true is = is
+    by_delayed false is = ap not is
 
 waits_in_lane : (script : Plan) (past : List Entry) (p : Posted) (order : ℕ) → Contains (main_posts past) p → order_of past p ≡ Some order
     → is_main_taken past p.task ≡ false → WaitsInLane script past p
 unfolding front_of
-waits_in_lane script past p order among is free = by (front_of script past p.home (lane_of p)) refl
+waits_in_lane script past p order among is free = by_front (front_of script past p.home (lane_of p)) refl
   where
     in_lane : is_in_lane past p.home (lane_of p) p ≡ true
     in_lane = rw (eq-eqb p.home p.home refl, lies_in_lane p, free) refl
@@ -442,9 +441,9 @@ waits_in_lane script past p order among is free = by (front_of script past p.hom
     at_most : (n m : ℕ) → nat_lt n m ≡ false → m ≤ n
     at_most n m h = grind arith
 
-    by : (o : Option Front) → front_of script past p.home (lane_of p) ≡ o → WaitsInLane script past p
-    by None none = absurd (contains_not_empty fronts own own_there (no_least order_below fronts none))
-    by (Some front) some = record {
+    by_front : (o : Option Front) → front_of script past p.home (lane_of p) ≡ o → WaitsInLane script past p
+    by_front None none = absurd (contains_not_empty fronts own own_there (no_least order_below fronts none))
+    by_front (Some front) some = record {
       order = order;
       order_is = is;
       lane = lane_of p;
@@ -466,19 +465,19 @@ not_there_yet : (moment : ℕ) (past : List Entry) → 0 < moment → tick_from 
 unfolding now_of
 not_there_yet moment past above = push_induction (λ xs. tick_from xs moment ≡ None → now_of xs < moment) (λ none. above) next past
   where
-    by : (xs : List Entry) (kind : Kind) → tick_by xs moment kind ≡ None → now_of xs < moment → now_after (now_of xs) kind < moment
-    by xs (kinds.Tick now) none before = below (nat_le moment now) refl none
+    by_past : (xs : List Entry) (kind : Kind) → tick_by xs moment kind ≡ None → now_of xs < moment → now_after (now_of xs) kind < moment
+    by_past xs (kinds.Tick now) none before = below (nat_le moment now) refl none
       where
         below : (b : Bool) → nat_le moment now ≡ b → cond b (Some (length xs)) None ≡ None → now < moment
         below true is k = absurd (none-some (length xs) (sym k))
         below false is k = grind arith
-    by xs kind none before = before
+    by_past xs kind none before = before
 
     next : (xs : List Entry) (x : Entry) → (tick_from xs moment ≡ None → now_of xs < moment) → tick_from (xs ++ x ∷ []) moment ≡ None
         → now_of (xs ++ x ∷ []) < moment
     next xs x before none =
         let both = both_none (tick_from xs moment) (tick_by xs moment x.kind) (sym (tick_from_push xs x moment) ∙ none) in
-        subst (λ n. n < moment) (sym (now_of_push xs x)) (by xs x.kind both.1 (before both.0))
+        subst (λ n. n < moment) (sym (now_of_push xs x)) (by_past xs x.kind both.1 (before both.0))
 
 -- a main task of an open queue draws at the first tick at or past its ripe moment, which is above 0 where it is delayed
 record DrawsInTime (past : List Entry) (p : Posted) : Type 0 where
@@ -496,15 +495,15 @@ is_late past p none = true_from_ne_false (is_delayed p) (λ immediate. not_none_
 -- a task that ripens at the tick draws there
 draws_nothing : (past : List Entry) (moment : ℕ) (p : Posted) → is_delayed p ≡ true → is_closed past p.home ≡ false → now_of past < p.ripe
     → drawn_at past moment p ≡ None → tick_by past p.ripe (kinds.Tick moment) ≡ None
-draws_nothing past moment p delayed opened ahead none = by (nat_le p.ripe moment) refl
+draws_nothing past moment p delayed opened ahead none = by_order (nat_le p.ripe moment) refl
   where
     drawing : nat_le p.ripe moment ≡ true → ripens past moment p ≡ true
     drawing ripe = rw (delayed, opened, lt-ltb (now_of past) p.ripe ahead, ripe) refl
 
-    by : (b : Bool) → nat_le p.ripe moment ≡ b → cond b (Some (length past)) None ≡ None
-    by true ripe = absurd (not_none_some (drawn_at past moment p) (next_draw past + count (λ q. ripens_before q p) (ripening past moment)) none
+    by_order : (b : Bool) → nat_le p.ripe moment ≡ b → cond b (Some (length past)) None ≡ None
+    by_order true ripe = absurd (not_none_some (drawn_at past moment p) (next_draw past + count (λ q. ripens_before q p) (ripening past moment)) none
         (ap (λ (b : Bool). cond b (Some (next_draw past + count (λ q. ripens_before q p) (ripening past moment))) None) (drawing ripe)))
-    by false early = refl
+    by_order false early = refl
 
 -- a task of the past draws in time after one more entry
 draws_next : (past : List Entry) (e : Entry) (p : Posted) → p.place < length past → DrawsInTime past p → DrawsInTime (past ++ e ∷ []) p
@@ -531,10 +530,10 @@ draws_next past e p within d = record { later = d.later; draws = λ opened none.
 
 -- so does one that is posted now
 draws_new : (past : List Entry) (e : Entry) → NoTickAhead past → AllByRecursion (DrawsInTime (past ++ e ∷ [])) (main_posted_by past e.kind)
-draws_new past e ahead = by e.kind refl
+draws_new past e ahead = by_kind e.kind refl
   where
-    by : (kind : Kind) → e.kind ≡ kind → AllByRecursion (DrawsInTime (past ++ e ∷ [])) (main_posted_by past kind)
-    by (kinds.Main task queue delay true) is = (
+    by_kind : (kind : Kind) → e.kind ≡ kind → AllByRecursion (DrawsInTime (past ++ e ∷ [])) (main_posted_by past kind)
+    by_kind (kinds.Main task queue delay true) is = (
       record {
         later = λ delayed. let more : 0 < delay = ltb-true 0 delay delayed in omega (arith, more);
         draws = λ opened none. let more : 0 < delay = ltb-true 0 delay (is_late (past ++ e ∷ []) (post_behind past task queue delay) none) in
@@ -542,8 +541,8 @@ draws_new past e ahead = by e.kind refl
       },
       tt,
     )
-    by (kinds.Main task queue delay false) is = tt
-    by kind is = tt
+    by_kind (kinds.Main task queue delay false) is = tt
+    by_kind kind is = tt
 
 none_posted : AllDraw []
 unfolding main_posts fold_past
@@ -568,12 +567,12 @@ no_order script log p legal among opened none = record {
 
 main_tasks_left : (script : Plan) (log : List Entry) → IsLegal script log → (p : Posted) → Contains (main_posts log) p → is_main_taken log p.task ≡ false
     → LeftMainTask script log p
-main_tasks_left script log legal p among free = by (is_closed log p.home) (order_of log p) refl refl
+main_tasks_left script log legal p among free = by_closed (is_closed log p.home) (order_of log p) refl refl
   where
-    by : (b : Bool) (o : Option ℕ) → is_closed log p.home ≡ b → order_of log p ≡ o → LeftMainTask script log p
-    by true o closed order_is = Closed closed
-    by false None opened none = NoOrder (no_order script log p legal among opened none)
-    by false (Some order) opened order_is = InLane (waits_in_lane script log p order among order_is free)
+    by_closed : (b : Bool) (o : Option ℕ) → is_closed log p.home ≡ b → order_of log p ≡ o → LeftMainTask script log p
+    by_closed true o closed order_is = Closed closed
+    by_closed false None opened none = NoOrder (no_order script log p legal among opened none)
+    by_closed false (Some order) opened order_is = InLane (waits_in_lane script log p order among order_is free)
 
 -- All of it.
 

@@ -30,7 +30,9 @@ use Rattle.hist_model.specs.Script.{current, is_wanted, is_finished, is_whole}
 use Rattle.hist_model.specs.Allowed.{by_script, by_task, may_come}
 use Rattle.hist_model.specs.Legal.{is_legal, first_illegal}
 use Rattle.script_model.specs.Places.{number_from, kind_named, step_said, steps_read}
-use Rattle.script_model.specs.Lines.{workers_line, groups_line, threshold_line, runner_line, queue_line, task_line, job_line, post_line, main_line, tick_line, policy_line, reprio_line, fence_line, unfence_line, vote_line, rank_line, close_line, pump_line, flush_line, start_job_line, join_line, cancel_line, shutdown_line, queue_command_read, action_command_read, command_read, words_read}
+use Rattle.script_model.specs.Lines.{workers_line, groups_line, threshold_line, runner_line, queue_line, task_line, job_line, post_line, main_line, tick_line}
+use Rattle.script_model.specs.Lines.{policy_line, reprio_line, fence_line, unfence_line, vote_line, rank_line, close_line, pump_line, flush_line}
+use Rattle.script_model.specs.Lines.{start_job_line, join_line, cancel_line, shutdown_line, queue_command_read, action_command_read, command_read, words_read}
 use Rattle.script_model.specs.Grammar.{lines_read, script_read}
 use Rattle.log_model.specs.LogText.{log_lines}
 use Rattle.std.specs.Fmt.{digits}
@@ -39,7 +41,8 @@ use Rattle.std.specs.Fmt.{digits}
 -- takes open
 unfoldable pub judge : Plan → List Entry → Bool × Bool × Option ℕ
 unfolding fold_past now_of tick_from posts main_posts is_taken is_ended is_main_taken phase_of policy_of is_closed ready eligible head_of running holding
-    is_quiet runs_sequence inside acts_done cell_of main_cell_of priority_of taken_with open_scope load capacity best_load best_capacity has_room job_post_of is_cancelled
+    is_quiet runs_sequence inside acts_done cell_of main_cell_of priority_of taken_with open_scope load capacity best_load best_capacity has_room
+    job_post_of is_cancelled
     claimed done
     job_sum may_enter would_wait waiting best_of leaves block_part skip_part blockers_of ripening draws order_of fence_of votes_on class_of front_of open_fronts
     of_least_class streak_of choice_among current is_wanted is_finished by_script by_task may_come is_legal first_illegal
@@ -48,7 +51,8 @@ judge script log = (is_legal script log, is_whole script log, first_illegal scri
 -- the script that the bytes are, with all that this takes open
 unfoldable pub read : List ℕ → Result Plan (ℕ × ℕ)
 unfolding number_from kind_named step_said steps_read workers_line groups_line threshold_line runner_line queue_line task_line job_line post_line main_line
-    tick_line policy_line reprio_line fence_line unfence_line vote_line rank_line close_line pump_line flush_line start_job_line join_line cancel_line shutdown_line
+    tick_line policy_line reprio_line fence_line unfence_line vote_line rank_line close_line pump_line flush_line start_job_line join_line cancel_line
+    shutdown_line
     queue_command_read action_command_read command_read words_read lines_read script_read
 read bytes = script_read bytes
 

@@ -1,5 +1,6 @@
 -- The text of a log: it tells the history, and it grows by a line for each entry.
-use Rattle.std.proofs.Common.{◌≡◌, ◌≢◌, ◌<◌, ◌≤◌, ◌+◌, ℕ, suc, List, [], ◌∷◌, ◌++◌, All, length, get_or, take, drop, refl, sym, ap, subst, ◌∙◌, eqb, arith, add-zero, zero-add, add-one, append_assoc, append-nil, length-take-le, take-suc, take_all}
+use Rattle.std.proofs.Common.{◌≡◌, ◌≢◌, ◌<◌, ◌≤◌, ◌+◌, ℕ, suc, List, [], ◌∷◌, ◌++◌, All, length, get_or, take, drop, refl, sym, ap, subst, ◌∙◌}
+use Rattle.std.proofs.Common.{eqb, arith, add-zero, zero-add, add-one, append_assoc, append-nil, length-take-le, take-suc, take_all}
 use Rattle.std.specs.Prelude.{map, codes}
 use Rattle.std.specs.Fmt.{decimal}
 use Rattle.std.specs.List.{starts_with, join_with_byte}
@@ -12,7 +13,8 @@ use Rattle.task_base.specs.declared.entry.Entry.{Entry}
 use Rattle.log_model.specs.declared.version.Version.{Version}
 use Rattle.log_model.specs.declared.version.Version.TheVariants.{One, Two}
 use Rattle.log_model.specs.Fits.{Fits}
-use Rattle.log_model.specs.LogText.{word, shown, line_of, text_from, head_line, total_line, head_of, end_of, text_in, version_of, log_lines, log_text, BeginsWithNoLine}
+use Rattle.log_model.specs.LogText.{word, shown, line_of, text_from, head_line, total_line, head_of, end_of}
+use Rattle.log_model.specs.LogText.{text_in, version_of, log_lines, log_text, BeginsWithNoLine}
 use Rattle.log_model.proofs.Laws.Pieces.{same_until, not_parted}
 use Rattle.log_model.proofs.Laws.LogParts.{PartFits, name_is_no_number, decimal_lacks, shown_lacks}
 use Rattle.log_model.proofs.Laws.LogLines.{seat_parts, line_words, line_lacks_feed, same_line}
@@ -81,7 +83,8 @@ same_with_rest a b s t p q last last' e = same_from 0 a b s t p q (rw zero-add l
 
 -- in each version the text tells the history
 pub same_in : (version : Version) (a b : List Entry) → All Fits a → All Fits b → text_in version a ≡ text_in version b → a ≡ b
-same_in version a b p q e = (same_with_rest a b (end_of version (length a)) (end_of version (length b)) p q (end_begins_with_no_line version (length a) (length a))
+same_in version a b p q e = (same_with_rest a b (end_of version (length a)) (end_of version (length b)) p q
+    (end_begins_with_no_line version (length a) (length a))
     (end_begins_with_no_line version (length b) (length b)) (append_cancel_left (head_of version) _ _ e)).0
 
 pub same_history_lines : (a b : List Entry) → All Fits a → All Fits b → log_lines a ≡ log_lines b → a ≡ b
@@ -128,7 +131,8 @@ text_from-append place (x ∷ xs) ys =
 pub log_lines-push : (log : List Entry) (e : Entry) → log_lines (log ++ e ∷ []) ≡ log_lines log ++ line_of (length log) e
 unfolding log_lines
 log_lines-push log e =
-    text_from-append 0 log (e ∷ []) ∙ ap (λ text. text_from 0 log ++ text) (append-nil (line_of (0 + length log) e) ∙ ap (λ start. line_of start e) (zero-add (length log)))
+    text_from-append 0 log (e ∷ []) ∙ ap (λ text. text_from 0 log ++ text) (append-nil (line_of (0 + length log) e)
+    ∙ ap (λ start. line_of start e) (zero-add (length log)))
 
 -- the text of the first entries up to a place, and the line of that place
 pub text_from-take_more : (log : List Entry) (i : ℕ) (d : Entry) → i < length log

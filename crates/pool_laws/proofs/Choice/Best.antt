@@ -23,12 +23,12 @@ tied_keys a b h k =
 
 -- what may be taken, and has none before it, is the best
 pub only_best : (script : Plan) (past : List Entry) (seat : ℕ) (c : Candidate) → IsBest script past seat c → best_of script past seat ≡ Some c
-only_best script past seat c best = by (best_of script past seat) refl
+only_best script past seat c best = by_best (best_of script past seat) refl
   where
-    by : (o : Option Candidate) → best_of script past seat ≡ o → o ≡ Some c
-    by None is = absurd (true≢false (sym best.takeable.1 ∙ All-contains (λ d. is_takeable script past seat d ≡ false) (waiting script past) c
+    by_best : (o : Option Candidate) → best_of script past seat ≡ o → o ≡ Some c
+    by_best None is = absurd (true≢false (sym best.takeable.1 ∙ All-contains (λ d. is_takeable script past seat d ≡ false) (waiting script past) c
         (no_best script past seat is) best.takeable.0))
-    by (Some d) is =
+    by_best (Some d) is =
         let other : IsBest script past seat d = best_is_best script past seat d is in
         ap Some (one_key script past d c other.takeable.0 best.takeable.0
         (tied_keys d c

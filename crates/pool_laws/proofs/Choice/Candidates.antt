@@ -40,26 +40,26 @@ use Rattle.pool_laws.proofs.Choice.Held.{held_same}
 -- a sequence that waits does not run, and has a head, by which it waits
 pub waiting_sequence : (script : Plan) (past : List Entry) (s : ℕ) (c : Candidate) → sequence_waiting script past s ≡ Some c
     → (r : Ready) × (runs_sequence script past s ≡ false) × (head_of script past s ≡ Some r) × (sequence_candidate script past s r ≡ c)
-waiting_sequence script past s c is = by (runs_sequence script past s) (head_of script past s) refl refl is
+waiting_sequence script past s c is = by_runs_sequence (runs_sequence script past s) (head_of script past s) refl refl is
   where
-    by : (b : Bool) (o : Option Ready) → runs_sequence script past s ≡ b → head_of script past s ≡ o
+    by_runs_sequence : (b : Bool) (o : Option Ready) → runs_sequence script past s ≡ b → head_of script past s ≡ o
         → cond b None (option_map (sequence_candidate script past s) o) ≡ Some c
         → (r : Ready) × (runs_sequence script past s ≡ false) × (head_of script past s ≡ Some r) × (sequence_candidate script past s r ≡ c)
-    by true o runs head none = absurd (none-some c none)
-    by false None runs head none = absurd (none-some c none)
-    by false (Some r) runs head some = (r, runs, head, some-injective some)
+    by_runs_sequence true o runs head none = absurd (none-some c none)
+    by_runs_sequence false None runs head none = absurd (none-some c none)
+    by_runs_sequence false (Some r) runs head some = (r, runs, head, some-injective some)
 
 -- a job that waits may be entered, and was posted, and waits by its post
 pub waiting_job : (script : Plan) (past : List Entry) (j : ℕ) (c : Candidate) → job_waiting script past j ≡ Some c
     → (p : JobPosted) × MayEnter script past j × (job_post_of past j ≡ Some p) × (job_candidate script past j p ≡ c)
-waiting_job script past j c is = by (may_enter script past j) (job_post_of past j) refl refl is
+waiting_job script past j c is = by_may_enter (may_enter script past j) (job_post_of past j) refl refl is
   where
-    by : (b : Bool) (o : Option JobPosted) → may_enter script past j ≡ b → job_post_of past j ≡ o
+    by_may_enter : (b : Bool) (o : Option JobPosted) → may_enter script past j ≡ b → job_post_of past j ≡ o
         → cond b (option_map (job_candidate script past j) o) None ≡ Some c
         → (p : JobPosted) × MayEnter script past j × (job_post_of past j ≡ Some p) × (job_candidate script past j p ≡ c)
-    by false o enters post none = absurd (none-some c none)
-    by true None enters post none = absurd (none-some c none)
-    by true (Some p) enters post some = (p, enters, post, some-injective some)
+    by_may_enter false o enters post none = absurd (none-some c none)
+    by_may_enter true None enters post none = absurd (none-some c none)
+    by_may_enter true (Some p) enters post some = (p, enters, post, some-injective some)
 
 -- a sequence or a job of the script has the candidate by which it waits, and no other has one
 pub sequence_in : (script : Plan) (past : List Entry) (s : ℕ) → s < sequence_count script
@@ -70,11 +70,11 @@ pub job_in : (script : Plan) (past : List Entry) (j : ℕ) → j < length script
 job_in script past j less = rw (lt-ltb j (length script.jobs) less) refl
 
 within : (k n : ℕ) (o : Option Candidate) (c : Candidate) → cond (nat_lt k n) o None ≡ Some c → (k < n) × (o ≡ Some c)
-within k n o c is = by (nat_lt k n) refl is
+within k n o c is = by_order (nat_lt k n) refl is
   where
-    by : (b : Bool) → nat_lt k n ≡ b → cond b o None ≡ Some c → (k < n) × (o ≡ Some c)
-    by true less some = (ltb-true k n less, some)
-    by false more none = absurd (none-some c none)
+    by_order : (b : Bool) → nat_lt k n ≡ b → cond b o None ≡ Some c → (k < n) × (o ≡ Some c)
+    by_order true less some = (ltb-true k n less, some)
+    by_order false more none = absurd (none-some c none)
 
 pub sequence_within : (script : Plan) (past : List Entry) (s : ℕ) (c : Candidate) → source_waiting script past (Sequence s) ≡ Some c
     → (s < sequence_count script) × (sequence_waiting script past s ≡ Some c)
@@ -95,19 +95,19 @@ candidate_names script past (Job j) c is = rw (← (waiting_job script past j c 
 -- what would wait is the candidate of its source
 pub would_wait_is_candidate : (script : Plan) (past : List Entry) (c : Candidate) → WouldWait script past c → source_waiting script past c.source ≡ Some c
 unfolding would_wait
-would_wait_is_candidate script past c is = by (Contains-append_cases (filter_map (sequence_waiting script past) (range_with_len 0 (sequence_count script)))
+would_wait_is_candidate script past c is = by_side (Contains-append_cases (filter_map (sequence_waiting script past) (range_with_len 0 (sequence_count script)))
     (filter_map (job_waiting script past) (range_with_len 0 (length script.jobs))) c is)
   where
     its_own : (source : TaskSource) → source_waiting script past source ≡ Some c → source_waiting script past c.source ≡ Some c
     its_own source is = ap (source_waiting script past) (candidate_names script past source c is) ∙ is
 
-    by : Contains (filter_map (sequence_waiting script past) (range_with_len 0 (sequence_count script))) c
+    by_side : Contains (filter_map (sequence_waiting script past) (range_with_len 0 (sequence_count script))) c
         ⊎ Contains (filter_map (job_waiting script past) (range_with_len 0 (length script.jobs))) c → source_waiting script past c.source ≡ Some c
-    by (inl among) =
+    by_side (inl among) =
         let made : (s : ℕ) × Contains (range_with_len 0 (sequence_count script)) s × (sequence_waiting script past s ≡ Some c) =
         filter_map_contains (sequence_waiting script past) (range_with_len 0 (sequence_count script)) c among in
         its_own (Sequence made.0) (sequence_in script past made.0 (range_contains (sequence_count script) made.0 made.1) ∙ made.2)
-    by (inr among) =
+    by_side (inr among) =
         let made : (j : ℕ) × Contains (range_with_len 0 (length script.jobs)) j × (job_waiting script past j ≡ Some c) =
         filter_map_contains (job_waiting script past) (range_with_len 0 (length script.jobs)) c among in
         its_own (Job made.0) (job_in script past made.0 (range_contains (length script.jobs) made.0 made.1) ∙ made.2)

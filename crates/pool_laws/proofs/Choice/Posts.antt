@@ -42,12 +42,12 @@ AllByRecursion-posts P more new = push_induction (λ past. AllByRecursion (P pas
 -- The accepted task of a place.
 
 post_more : (past : List Entry) (e : Entry) (place : ℕ) (p : Posted) → post_at past place ≡ Some p → post_at (past ++ e ∷ []) place ≡ Some p
-post_more past e place p h = by (slice_get past place) refl h
+post_more past e place p h = by_entry (slice_get past place) refl h
   where
-    by : (o : Option Entry) → slice_get past place ≡ o → option_and_then (λ x. post_by (take place past) x.kind) o ≡ Some p
+    by_entry : (o : Option Entry) → slice_get past place ≡ o → option_and_then (λ x. post_by (take place past) x.kind) o ≡ Some p
         → post_at (past ++ e ∷ []) place ≡ Some p
-    by None is none = absurd (none-some p none)
-    by (Some y) is some =
+    by_entry None is none = absurd (none-some p none)
+    by_entry (Some y) is some =
         let less : place < length past = slice_get_within past place y is in
         rw (slice_get-more past (e ∷ []) place y is, take-append-le place past (e ∷ []) (omega arith)) some
 

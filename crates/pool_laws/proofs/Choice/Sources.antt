@@ -30,12 +30,12 @@ use Rattle.pool_laws.proofs.Choice.Posts.{eligible_names_post}
 -- a post stays where it is
 source_more : (script : Plan) (past more : List Entry) (place : ℕ) (source : TaskSource) → source_at script past place ≡ Some source
     → source_at script (past ++ more) place ≡ Some source
-source_more script past more place source h = by (slice_get past place) refl h
+source_more script past more place source h = by_entry (slice_get past place) refl h
   where
-    by : (o : Option Entry) → slice_get past place ≡ o → option_and_then (λ e. posted_source script e.kind) o ≡ Some source
+    by_entry : (o : Option Entry) → slice_get past place ≡ o → option_and_then (λ e. posted_source script e.kind) o ≡ Some source
         → source_at script (past ++ more) place ≡ Some source
-    by None is none = absurd (none-some source none)
-    by (Some e) is some = rw (slice_get-more past more place e is) some
+    by_entry None is none = absurd (none-some source none)
+    by_entry (Some e) is some = rw (slice_get-more past more place e is) some
 
 source_here : (script : Plan) (past : List Entry) (e : Entry) → source_at script (past ++ e ∷ []) (length past) ≡ posted_source script e.kind
 source_here script past e = rw (slice_get-end past e) refl
@@ -43,16 +43,16 @@ source_here script past e = rw (slice_get-end past e) refl
 -- an accepted task that stands at a place was posted there to its sequence
 source_of_post : (script : Plan) (past : List Entry) (place : ℕ) (p : Posted) → post_at past place ≡ Some p
     → source_at script past place ≡ Some (Sequence (sequence_of script p.home p.task))
-source_of_post script past place p is = by (slice_get past place) is
+source_of_post script past place p is = by_entry (slice_get past place) is
   where
     of_kind : (kind : Kind) → post_by (take place past) kind ≡ Some p → posted_source script kind ≡ Some (Sequence (sequence_of script p.home p.task))
     of_kind (Post task runner delay ok) some = ap (λ q. Some (Sequence (sequence_of script q.home q.task))) (some-injective some)
     of_kind kind none = absurd (none-some p none)
 
-    by : (o : Option Entry) → option_and_then (λ e. post_by (take place past) e.kind) o ≡ Some p
+    by_entry : (o : Option Entry) → option_and_then (λ e. post_by (take place past) e.kind) o ≡ Some p
         → option_and_then (λ e. posted_source script e.kind) o ≡ Some (Sequence (sequence_of script p.home p.task))
-    by None none = absurd (none-some p none)
-    by (Some e) some = of_kind e.kind some
+    by_entry None none = absurd (none-some p none)
+    by_entry (Some e) some = of_kind e.kind some
 
 head_stands : (script : Plan) (past : List Entry) (s : ℕ) (r : Ready) → head_of script past s ≡ Some r → source_at script past r.key.post ≡ Some (Sequence s)
 head_stands script past s r is =
@@ -65,7 +65,7 @@ head_stands script past s r is =
 abbrev job_stands : Plan → List Entry → ℕ → JobPosted → Type 0
 job_stands script past j p = source_at script past p.place ≡ Some (Job j)
 
-no_job_post : (j : ℕ) → job_post_of [] j ≡ None
+pub no_job_post : (j : ℕ) → job_post_of [] j ≡ None
 unfolding job_post_of fold_past
 no_job_post j = refl
 

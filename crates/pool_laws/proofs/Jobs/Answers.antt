@@ -94,11 +94,11 @@ job_at_other_take script past e j job id item is other free = kept_by script pas
 pub job_at_other_step : (script : Plan) (past : List Entry) (e : Entry) (j job id item value : ℕ) (next : Option ℕ)
     → e.kind ≡ kinds.JobStep job id item value next → (job == j) ≡ false → holds_job past e.seat job ≡ true → JobKept script past (past ++ e ∷ []) j
 job_at_other_step script past e j job id item value next is other held = kept_by script past e j (ap (posts_job j) is) (ap (cancels j) is)
-    (rw (is, other) refl) (rw (is, other) refl) (λ phase. ap (phase_after phase) is) (by next is)
+    (rw (is, other) refl) (rw (is, other) refl) (λ phase. ap (phase_after phase) is) (by_next next is)
   where
-    by : (o : Option ℕ) → e.kind ≡ kinds.JobStep job id item value o → inside script (past ++ e ∷ []) j ≡ inside script past j
-    by None leaves = inside_at_other_leave script past e j job id item value leaves other held
-    by (Some n) goes_on = inside_at_step script past e j job id item value n goes_on held
+    by_next : (o : Option ℕ) → e.kind ≡ kinds.JobStep job id item value o → inside script (past ++ e ∷ []) j ≡ inside script past j
+    by_next None leaves = inside_at_other_leave script past e j job id item value leaves other held
+    by_next (Some n) goes_on = inside_at_step script past e j job id item value n goes_on held
 
 pub job_at_other_cancel : (script : Plan) (past : List Entry) (e : Entry) (j job : ℕ) → e.kind ≡ kinds.JobCancel job → (job == j) ≡ false
     → JobKept script past (past ++ e ∷ []) j

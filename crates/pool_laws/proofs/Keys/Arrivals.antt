@@ -1,6 +1,7 @@
 -- The arrivals: they rise in key, they are the accepted tasks that have keys, and the head of a sequence is the first of
 -- them that is of it and may start.
-use Rattle.std.proofs.Common.{◌≡◌, ℕ, ◌+◌, ◌<◌, Bool, true, false, cond, eqb, List, [], ◌∷◌, ◌++◌, length, map, refl, sym, ap, ◌∙◌, subst, Option, Some, None, inl, inr, arith}
+use Rattle.std.proofs.Common.{◌≡◌, ℕ, ◌+◌, ◌<◌, Bool, true, false, cond, eqb, List, [], ◌∷◌, ◌++◌, length}
+use Rattle.std.proofs.Common.{map, refl, sym, ap, ◌∙◌, subst, Option, Some, None, inl, inr, arith}
 use Rattle.std.specs.Prelude.{◌&&◌, ◌||◌, ◌⊎◌, nat_lt, nat_le, find, filter, is_none}
 use Rattle.std.specs.Option.{option_map, option_or}
 use Rattle.std.specs.List.{AllByRecursion, filter_map}
@@ -36,12 +37,12 @@ ranks_ripens = ranks_then_by (λ p. p.ripe) (λ p q. nat_lt p.place q.place) (ra
 
 -- of two tasks of different places, one ripens before the other
 pub one_ripens_first : (p q : Posted) → p.place < q.place → (ripens_before p q ≡ true) ⊎ (ripens_before q p ≡ true)
-one_ripens_first p q earlier = by (cases_order p.ripe q.ripe)
+one_ripens_first p q earlier = by_order (cases_order p.ripe q.ripe)
   where
-    by : (p.ripe ≡ q.ripe) ⊎ ((p.ripe < q.ripe) ⊎ (q.ripe < p.ripe)) → (ripens_before p q ≡ true) ⊎ (ripens_before q p ≡ true)
-    by (inl same) = inl (by_same (λ r. r.ripe) (λ a b. nat_lt a.place b.place) p q same ∙ lt-ltb p.place q.place earlier)
-    by (inr (inl less)) = inl (by_less (λ r. r.ripe) (λ a b. nat_lt a.place b.place) p q less)
-    by (inr (inr more)) = inr (by_less (λ r. r.ripe) (λ a b. nat_lt a.place b.place) q p more)
+    by_order : (p.ripe ≡ q.ripe) ⊎ ((p.ripe < q.ripe) ⊎ (q.ripe < p.ripe)) → (ripens_before p q ≡ true) ⊎ (ripens_before q p ≡ true)
+    by_order (inl same) = inl (by_same (λ r. r.ripe) (λ a b. nat_lt a.place b.place) p q same ∙ lt-ltb p.place q.place earlier)
+    by_order (inr (inl less)) = inl (by_less (λ r. r.ripe) (λ a b. nat_lt a.place b.place) p q less)
+    by_order (inr (inr more)) = inr (by_less (λ r. r.ripe) (λ a b. nat_lt a.place b.place) q p more)
 
 -- each is posted behind those before it
 differ_push : (past : List Entry) (xs added : List Posted) → AllByRecursion (λ p. nat_lt p.place (length past) ≡ true) xs
@@ -110,11 +111,11 @@ arrivals_at_tick past e moment is = arrivals_push past e ∙ ap (λ kind. arriva
 
 -- what arrives at an entry has its key there
 arriving_here : (past : List Entry) (kind : Kind) → AllByRecursion (λ r. r.key.place ≡ length past) (arriving_by past kind)
-arriving_here past (kinds.Post task runner delay true) = by (nat_lt 0 delay)
+arriving_here past (kinds.Post task runner delay true) = by_order (nat_lt 0 delay)
   where
-    by : (b : Bool) → AllByRecursion (λ r. r.key.place ≡ length past) (cond b [] (ready_behind past task runner delay ∷ []))
-    by true = tt
-    by false = (refl, tt)
+    by_order : (b : Bool) → AllByRecursion (λ r. r.key.place ≡ length past) (cond b [] (ready_behind past task runner delay ∷ []))
+    by_order true = tt
+    by_order false = (refl, tt)
 arriving_here past (kinds.Tick moment) = AllByRecursion-mapped (λ r. r.key.place ≡ length past) (ripe_behind past) ripe
     (AllByRecursion-always (λ p. length past ≡ length past) ripe (λ p. refl))
   where
@@ -135,11 +136,11 @@ arrivals_within = push_induction (λ past. AllByRecursion (λ r. r.key.place < l
 
 -- what arrives at an entry rises in key
 arriving_rises : (past : List Entry) (kind : Kind) → Rises ready_below (arriving_by past kind)
-arriving_rises past (kinds.Post task runner delay true) = by (nat_lt 0 delay)
+arriving_rises past (kinds.Post task runner delay true) = by_order (nat_lt 0 delay)
   where
-    by : (b : Bool) → Rises ready_below (cond b [] (ready_behind past task runner delay ∷ []))
-    by true = tt
-    by false = (tt, tt)
+    by_order : (b : Bool) → Rises ready_below (cond b [] (ready_behind past task runner delay ∷ []))
+    by_order true = tt
+    by_order false = (tt, tt)
 arriving_rises past (kinds.Tick moment) = rises-map ripens_before ready_below (ripe_behind past) (sort_by ripens_before newly) below
     (rises-sort_by ripens_before ranks_ripens newly (differ-filter ripens_before (becomes_ripe past moment) (posts past) (posts_differ past)))
   where
@@ -219,7 +220,7 @@ arriving_is_ripe past moment =
 
 pub arrivals_are_ready_grows : (past : List Entry) (e : Entry) → NoTickAhead past → SameMembers (arrivals past) (ready past)
     → SameMembers (arrivals (past ++ e ∷ [])) (ready (past ++ e ∷ []))
-arrivals_are_ready_grows past e none same = by e.kind refl
+arrivals_are_ready_grows past e none same = by_kind e.kind refl
   where
     kept : arrivals (past ++ e ∷ []) ≡ arrivals past → ready (past ++ e ∷ []) ≡ ready past → SameMembers (arrivals (past ++ e ∷ [])) (ready (past ++ e ∷ []))
     kept one two = rw (one, two) same
@@ -235,16 +236,16 @@ arrivals_are_ready_grows past e none same = by e.kind refl
         kept (arrivals_at_delayed_post past e task runner delay is delayed)
         (ready_at_delayed_post past e task runner delay is delayed (none (now_of past + delay) (omega (arith, positive))))
 
-    by : (kind : Kind) → e.kind ≡ kind → SameMembers (arrivals (past ++ e ∷ [])) (ready (past ++ e ∷ []))
-    by (kinds.Post task runner delay true) is = posted task runner delay is (nat_lt 0 delay) refl
-    by (kinds.Tick moment) is =
+    by_kind : (kind : Kind) → e.kind ≡ kind → SameMembers (arrivals (past ++ e ∷ [])) (ready (past ++ e ∷ []))
+    by_kind (kinds.Post task runner delay true) is = posted task runner delay is (nat_lt 0 delay) refl
+    by_kind (kinds.Tick moment) is =
         rw (arrivals_at_tick past e moment is, ready_at_tick past e moment is)
         (same_members-trans (arrivals past ++ arriving_by past (kinds.Tick moment)) (ready past ++ arriving_by past (kinds.Tick moment))
         (ready_at_tick_of past moment)
         (same_members-append (arrivals past) (ready past) (arriving_by past (kinds.Tick moment)) (arriving_by past (kinds.Tick moment)) same
         (same_members-refl (arriving_by past (kinds.Tick moment))))
         (arriving_is_ripe past moment))
-    by kind is = kept (arrivals_same past e (ap moves_ready is)) (ready_same past e (ap moves_ready is))
+    by_kind kind is = kept (arrivals_same past e (ap moves_ready is)) (ready_same past e (ap moves_ready is))
 
 -- The head of a sequence is the first arrival of it that may start.
 

@@ -47,12 +47,12 @@ main_post_of_grows past e t = rw (main_posts_push past e) (find-append _ (main_p
 -- where none is found, all are of other tasks
 others : (t : ℕ) (xs : List Posted) → find (λ p. eqb p.task t) xs ≡ None → AllByRecursion (λ p. eqb p.task t ≡ false) xs
 others t [] none = tt
-others t (x ∷ xs) none = by (eqb x.task t) none (others t xs)
+others t (x ∷ xs) none = by_task (eqb x.task t) none (others t xs)
   where
-    by : (b : Bool) → cond b (Some x) (find (λ p. eqb p.task t) xs) ≡ None
+    by_task : (b : Bool) → cond b (Some x) (find (λ p. eqb p.task t) xs) ≡ None
         → (find (λ p. eqb p.task t) xs ≡ None → AllByRecursion (λ p. eqb p.task t ≡ false) xs) → (b ≡ false) × AllByRecursion (λ p. eqb p.task t ≡ false) xs
-    by true h rest = absurd (none-some x (sym h))
-    by false h rest = (refl, rest h)
+    by_task true h rest = absurd (none-some x (sym h))
+    by_task false h rest = (refl, rest h)
 
 -- one more at the end, behind all the others
 in_order_push : (xs : List Posted) (p : Posted) → InOrder xs → AllByRecursion (λ x. Before x p) xs → InOrder (xs ++ p ∷ [])
@@ -96,12 +96,12 @@ in_order_found (x ∷ xs) order = (
 -- of posts in order at most one is of a task
 pub in_order_counts : (t : ℕ) (ps : List Posted) → InOrder ps → count (λ p. p.task == t) ps ≤ 1
 in_order_counts t [] order = omega arith
-in_order_counts t (x ∷ xs) order = by (x.task == t) refl (in_order_counts t xs order.1)
+in_order_counts t (x ∷ xs) order = by_task (x.task == t) refl (in_order_counts t xs order.1)
   where
     none_else : (x.task == t) ≡ true → count (λ p. p.task == t) xs ≡ 0
     none_else here = ap length (filter_none (λ p. p.task == t) xs (AllByRecursion-map (Before x) (λ p. (p.task == t) ≡ false) xs
         (λ p before. ne_eqb p.task t (λ same. before.another (eqb-true x.task t here ∙ sym same))) order.0))
 
-    by : (b : Bool) → (x.task == t) ≡ b → count (λ p. p.task == t) xs ≤ 1 → count (λ p. p.task == t) (x ∷ xs) ≤ 1
-    by true here rest = omega (arith, count_step (λ p. p.task == t) x xs true here, none_else here)
-    by false other rest = omega (arith, count_step (λ p. p.task == t) x xs false other, rest)
+    by_task : (b : Bool) → (x.task == t) ≡ b → count (λ p. p.task == t) xs ≤ 1 → count (λ p. p.task == t) (x ∷ xs) ≤ 1
+    by_task true here rest = omega (arith, count_step (λ p. p.task == t) x xs true here, none_else here)
+    by_task false other rest = omega (arith, count_step (λ p. p.task == t) x xs false other, rest)

@@ -48,26 +48,26 @@ abbrev ticked : Posted → ℕ → Key
 ticked p place = record { place = place; ripe = p.ripe; post = p.place }
 
 pub key_of_push : (past : List Entry) (e : Entry) (p : Posted) → key_of (past ++ e ∷ []) p ≡ option_or (key_of past p) (key_by past p e.kind)
-key_of_push past e p = by (is_delayed p)
+key_of_push past e p = by_delayed (is_delayed p)
   where
-    by : (b : Bool) → cond b (option_map (ticked p) (tick_from (past ++ e ∷ []) p.ripe)) (Some (key_at p.place))
+    by_delayed : (b : Bool) → cond b (option_map (ticked p) (tick_from (past ++ e ∷ []) p.ripe)) (Some (key_at p.place))
         ≡ option_or (cond b (option_map (ticked p) (tick_from past p.ripe)) (Some (key_at p.place)))
         (cond b (option_map (ticked p) (tick_by past p.ripe e.kind)) None)
-    by true = rw (tick_from_push past e p.ripe) (option_map-or (ticked p) (tick_from past p.ripe) (tick_by past p.ripe e.kind))
-    by false = refl
+    by_delayed true = rw (tick_from_push past e p.ripe) (option_map-or (ticked p) (tick_from past p.ripe) (tick_by past p.ripe e.kind))
+    by_delayed false = refl
 
 pub key_of_stays : (past rest : List Entry) (p : Posted) (key : Key) → key_of past p ≡ Some key → key_of (past ++ rest) p ≡ Some key
-key_of_stays past rest p key is = by (is_delayed p) is
+key_of_stays past rest p key is = by_delayed (is_delayed p) is
   where
     kept : (o : Option ℕ) → ((place : ℕ) → o ≡ Some place → tick_from (past ++ rest) p.ripe ≡ Some place) → option_map (ticked p) o ≡ Some key
         → option_map (ticked p) (tick_from (past ++ rest) p.ripe) ≡ Some key
     kept None f none = absurd (none-some key none)
     kept (Some place) f some = rw (f place refl) some
 
-    by : (b : Bool) → cond b (option_map (ticked p) (tick_from past p.ripe)) (Some (key_at p.place)) ≡ Some key
+    by_delayed : (b : Bool) → cond b (option_map (ticked p) (tick_from past p.ripe)) (Some (key_at p.place)) ≡ Some key
         → cond b (option_map (ticked p) (tick_from (past ++ rest) p.ripe)) (Some (key_at p.place)) ≡ Some key
-    by true h = kept (tick_from past p.ripe) (λ place some. tick_from_stays past rest p.ripe place some) h
-    by false h = h
+    by_delayed true h = kept (tick_from past p.ripe) (λ place some. tick_from_stays past rest p.ripe place some) h
+    by_delayed false h = h
 
 -- an accepted task with its key, if it has one
 abbrev pub with_key : (Posted → Option Key) → Posted → Option Ready
@@ -105,12 +105,12 @@ added past e kind is no_tick = grown past e kind is
     no_key : Option Key
     no_key = None
 
-    by : (p : Posted) (b : Bool) → cond b (option_map (ticked p) (tick_by past p.ripe kind)) no_key ≡ no_key
-    by p true = rw (no_tick p.ripe) refl
-    by p false = refl
+    by_posted : (p : Posted) (b : Bool) → cond b (option_map (ticked p) (tick_by past p.ripe kind)) no_key ≡ no_key
+    by_posted p true = rw (no_tick p.ripe) refl
+    by_posted p false = refl
 
     same : (p : Posted) → later_key past kind p ≡ key_of past p
-    same p = rw (by p (is_delayed p)) (option_or-none (key_of past p))
+    same p = rw (by_posted p (is_delayed p)) (option_or-none (key_of past p))
 
 pub ready_same : (past : List Entry) (e : Entry) → moves_ready e.kind ≡ false → ready (past ++ e ∷ []) ≡ ready past
 ready_same past e quiet = added past e e.kind refl (no_tick e.kind quiet) ∙ rw (no_post e.kind quiet) (append-nil _)
@@ -195,27 +195,27 @@ unfolding tick_from
 tick_within past moment place is = omega (arith, position-within (λ x. is_tick_from moment x.kind) 0 past place is)
 
 pub key_within : (past : List Entry) (p : Posted) (key : Key) → within (length past) p → key_of past p ≡ Some key → nat_lt key.place (length past) ≡ true
-key_within past p key in_past is = by (is_delayed p) is
+key_within past p key in_past is = by_delayed (is_delayed p) is
   where
     late : (o : Option ℕ) → ((place : ℕ) → o ≡ Some place → place < length past) → option_map (ticked p) o ≡ Some key
         → nat_lt key.place (length past) ≡ true
     late None f none = absurd (none-some key none)
     late (Some place) f some = rw (← some-injective some) (lt-ltb place (length past) (f place refl))
 
-    by : (b : Bool) → cond b (option_map (ticked p) (tick_from past p.ripe)) (Some (key_at p.place)) ≡ Some key → nat_lt key.place (length past) ≡ true
-    by true h = late (tick_from past p.ripe) (λ place some. tick_within past p.ripe place some) h
-    by false h = rw (← some-injective h) in_past
+    by_delayed : (b : Bool) → cond b (option_map (ticked p) (tick_from past p.ripe)) (Some (key_at p.place)) ≡ Some key → nat_lt key.place (length past) ≡ true
+    by_delayed true h = late (tick_from past p.ripe) (λ place some. tick_within past p.ripe place some) h
+    by_delayed false h = rw (← some-injective h) in_past
 
 pub no_tick_ahead_at_start : NoTickAhead []
 unfolding tick_from
 no_tick_ahead_at_start moment ahead = refl
 
 pub no_tick_ahead_grows : (past : List Entry) (e : Entry) → now_of past ≤ now_after (now_of past) e.kind → NoTickAhead past → NoTickAhead (past ++ e ∷ [])
-no_tick_ahead_grows past e rising none moment ahead = rw (tick_from_push past e moment, none moment (omega (arith, rising, later))) (by e.kind later)
+no_tick_ahead_grows past e rising none moment ahead = rw (tick_from_push past e moment, none moment (omega (arith, rising, later))) (by_kind e.kind later)
   where
     later : now_after (now_of past) e.kind < moment
     later = rw (now_of_push past e) at ahead
 
-    by : (kind : Kind) → now_after (now_of past) kind < moment → tick_by past moment kind ≡ None
-    by (Tick now) lt = rw (lt-leb moment now lt) refl
-    by kind lt = refl
+    by_kind : (kind : Kind) → now_after (now_of past) kind < moment → tick_by past moment kind ≡ None
+    by_kind (Tick now) lt = rw (lt-leb moment now lt) refl
+    by_kind kind lt = refl

@@ -13,17 +13,17 @@ use Rattle.task_model.proofs.Growth.{open_scope_push}
 
 -- a seat that is free does no work
 pub free_parts : (past : List Entry) (seat : ℕ) → is_free past seat ≡ true → (running past seat ≡ None) × (holding past seat ≡ None)
-free_parts past seat free = by (running past seat) (holding past seat) free
+free_parts past seat free = by_running (running past seat) (holding past seat) free
   where
-    by : (r : Option Running) (h : Option Holding) → (is_none r && is_none h) ≡ true → (r ≡ None) × (h ≡ None)
-    by None None is = (refl, refl)
-    by None (Some h) is = absurd (true≢false (sym is))
-    by (Some r) h is = absurd (true≢false (sym is))
+    by_running : (r : Option Running) (h : Option Holding) → (is_none r && is_none h) ≡ true → (r ≡ None) × (h ≡ None)
+    by_running None None is = (refl, refl)
+    by_running None (Some h) is = absurd (true≢false (sym is))
+    by_running (Some r) h is = absurd (true≢false (sym is))
 
 pub scope_kept : (past : List Entry) (e : Entry) (t : ℕ) → scopes t e.kind ≡ false → open_scope (past ++ e ∷ []) t ≡ open_scope past t
-scope_kept past e t quiet = open_scope_push past e t ∙ by e.kind quiet
+scope_kept past e t quiet = open_scope_push past e t ∙ by_kind e.kind quiet
   where
-    by : (kind : Kind) → scopes t kind ≡ false → scope_after t past (open_scope past t) kind ≡ open_scope past t
-    by (Enter task scope) h = rw h refl
-    by (Leave task) h = rw h refl
-    by kind h = refl
+    by_kind : (kind : Kind) → scopes t kind ≡ false → scope_after t past (open_scope past t) kind ≡ open_scope past t
+    by_kind (Enter task scope) h = rw h refl
+    by_kind (Leave task) h = rw h refl
+    by_kind kind h = refl

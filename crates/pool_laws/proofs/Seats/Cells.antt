@@ -14,11 +14,11 @@ use Rattle.task_base.specs.Plan.{Plan}
 use Rattle.task_base.specs.declared.entry.Entry.{Entry}
 
 pub cell_same : (script : Plan) (past : List Entry) (e : Entry) (s : ℕ) → moves_cells e.kind ≡ false → cell_of script (past ++ e ∷ []) s ≡ cell_of script past s
-cell_same script past e s quiet = cell_of_push script past e s ∙ by e.kind quiet
+cell_same script past e s quiet = cell_of_push script past e s ∙ by_kind e.kind quiet
   where
-    by : (kind : Kind) → moves_cells kind ≡ false → cell_after script s past (cell_of script past s) e.seat kind ≡ cell_of script past s
-    by (End task left) h = absurd (true≢false h)
-    by kind h = refl
+    by_kind : (kind : Kind) → moves_cells kind ≡ false → cell_after script s past (cell_of script past s) e.seat kind ≡ cell_of script past s
+    by_kind (End task left) h = absurd (true≢false h)
+    by_kind kind h = refl
 
 -- the cell of the sequence of the task that ends has what it left
 pub cell_at_end : (script : Plan) (past : List Entry) (e : Entry) (s task left : ℕ) (w : Running) → e.kind ≡ End task left → running past e.seat ≡ Some w
@@ -27,11 +27,11 @@ pub cell_at_end : (script : Plan) (past : List Entry) (e : Entry) (s task left :
 cell_at_end script past e s task left w is runs pool = rw (cell_of_push script past e s, is, runs, pool) refl
 
 pub main_cell_same : (past : List Entry) (e : Entry) (q : ℕ) → moves_main_cells e.kind ≡ false → main_cell_of (past ++ e ∷ []) q ≡ main_cell_of past q
-main_cell_same past e q quiet = main_cell_of_push past e q ∙ by e.kind quiet
+main_cell_same past e q quiet = main_cell_of_push past e q ∙ by_kind e.kind quiet
   where
-    by : (kind : Kind) → moves_main_cells kind ≡ false → main_cell_after q past (main_cell_of past q) e.seat kind ≡ main_cell_of past q
-    by (MainEnd task left) h = absurd (true≢false h)
-    by kind h = refl
+    by_kind : (kind : Kind) → moves_main_cells kind ≡ false → main_cell_after q past (main_cell_of past q) e.seat kind ≡ main_cell_of past q
+    by_kind (MainEnd task left) h = absurd (true≢false h)
+    by_kind kind h = refl
 
 -- the cell of the queue of the main task that ends has what it left
 pub main_cell_at_end : (past : List Entry) (e : Entry) (q task left : ℕ) (w : Running) → e.kind ≡ MainEnd task left → running past e.seat ≡ Some w

@@ -22,7 +22,8 @@ use Rattle.task_base.specs.declared.entry.Kind.TheVariants.{Take, End, MainTake,
 use Rattle.list_laws.specs.Lists.{count, holds_of}
 use Rattle.task_base.specs.Runners.{sequence_of}
 use Rattle.task_model.specs.Past.{fold_past}
-use Rattle.task_model.specs.Seats.{Running, Holding, running, running_after, holding, holding_after, acts_done, is_free, is_quiet, runs_of, runs_sequence, inside, all_seats}
+use Rattle.task_model.specs.Seats.{Running, Holding, running, running_after, holding, holding_after, acts_done}
+use Rattle.task_model.specs.Seats.{is_free, is_quiet, runs_of, runs_sequence, inside, all_seats}
 use Rattle.task_model.specs.Capacity.{taken_after, taken_with}
 use Rattle.pool_laws.specs.Seats.{moves_main, moves_running, moves_holding, IsSeat, moves_seats, runs_pool_task, holds_job}
 use Rattle.task_model.proofs.Growth.{running_push, holding_push, acts_done_push, taken_with_push}
@@ -174,11 +175,11 @@ runs_same script past e s quiet = list_any_congr _ _ (all_seats script) (λ seat
 runs_kept : (script : Plan) (past : List Entry) (e : Entry) (s : ℕ) → runs script past s e.seat ≡ runs_after script past e s
     → runs_sequence script (past ++ e ∷ []) s ≡ runs_sequence script past s
 unfolding runs_sequence
-runs_kept script past e s same = list_any_congr _ _ _ (λ seat. by seat (eqb e.seat seat) refl)
+runs_kept script past e s same = list_any_congr _ _ _ (λ seat. by_seat seat (eqb e.seat seat) refl)
   where
-    by : (seat : ℕ) (b : Bool) → eqb e.seat seat ≡ b → runs script (past ++ e ∷ []) s seat ≡ runs script past s seat
-    by seat true is = rw (runs_here script past e s seat is, ← eqb-true e.seat seat is) (sym same)
-    by seat false is = runs_other script past e s seat is
+    by_seat : (seat : ℕ) (b : Bool) → eqb e.seat seat ≡ b → runs script (past ++ e ∷ []) s seat ≡ runs script past s seat
+    by_seat seat true is = rw (runs_here script past e s seat is, ← eqb-true e.seat seat is) (sym same)
+    by_seat seat false is = runs_other script past e s seat is
 
 -- main tasks are of no sequence
 pub runs_at_main : (script : Plan) (past : List Entry) (e : Entry) (s : ℕ) → moves_main e.kind ≡ true → runs_pool_task past e.seat ≡ false
@@ -209,11 +210,11 @@ runs_at_take script past e s task runner found is seat free =
 pub runs_at_end : (script : Plan) (past : List Entry) (e : Entry) (s task left : ℕ) → e.kind ≡ End task left
     → ((seat : ℕ) → IsSeat script seat → (e.seat == seat) ≡ false → holds_of (runs_of script s) (running past seat) ≡ false)
     → runs_sequence script (past ++ e ∷ []) s ≡ false
-runs_at_end script past e s task left is alone = no_seat_runs script (past ++ e ∷ []) s (λ x seat. by x seat (eqb e.seat x) refl)
+runs_at_end script past e s task left is alone = no_seat_runs script (past ++ e ∷ []) s (λ x seat. at_each x seat (eqb e.seat x) refl)
   where
-    by : (x : ℕ) → IsSeat script x → (b : Bool) → eqb e.seat x ≡ b → runs script (past ++ e ∷ []) s x ≡ false
-    by x seat true here = runs_here script past e s x here ∙ rw is refl
-    by x seat false other = runs_other script past e s x other ∙ alone x seat other
+    at_each : (x : ℕ) → IsSeat script x → (b : Bool) → eqb e.seat x ≡ b → runs script (past ++ e ∷ []) s x ≡ false
+    at_each x seat true here = runs_here script past e s x here ∙ rw is refl
+    at_each x seat false other = runs_other script past e s x other ∙ alone x seat other
 
 -- a sequence that the ending seat did not run is as before
 pub runs_at_other_end : (script : Plan) (past : List Entry) (e : Entry) (s task left : ℕ) → e.kind ≡ End task left
@@ -249,11 +250,11 @@ inside_same script past e j quiet = filter_congr _ _ (all_seats script) (λ seat
 inside_kept : (script : Plan) (past : List Entry) (e : Entry) (j : ℕ) → in_job past j e.seat ≡ in_job_after past e j
     → inside script (past ++ e ∷ []) j ≡ inside script past j
 unfolding inside
-inside_kept script past e j same = filter_congr _ _ _ (λ seat. by seat (eqb e.seat seat) refl)
+inside_kept script past e j same = filter_congr _ _ _ (λ seat. by_seat seat (eqb e.seat seat) refl)
   where
-    by : (seat : ℕ) (b : Bool) → eqb e.seat seat ≡ b → in_job (past ++ e ∷ []) j seat ≡ in_job past j seat
-    by seat true is = rw (in_job_here past e j seat is, ← eqb-true e.seat seat is) (sym same)
-    by seat false is = in_job_other past e j seat is
+    by_seat : (seat : ℕ) (b : Bool) → eqb e.seat seat ≡ b → in_job (past ++ e ∷ []) j seat ≡ in_job past j seat
+    by_seat seat true is = rw (in_job_here past e j seat is, ← eqb-true e.seat seat is) (sym same)
+    by_seat seat false is = in_job_other past e j seat is
 
 -- how many are inside, by what the entry's seat held and holds
 inside_change : (script : Plan) (past : List Entry) (e : Entry) (j : ℕ) (b c : Bool) → IsSeat script e.seat

@@ -15,8 +15,10 @@ use Rattle.task_model.specs.Blockers.{is_block, is_skip, block_part, skip_part}
 use Rattle.pool_laws.specs.Seats.{moves_holding, IsSeat, holds_job}
 use Rattle.pool_laws.specs.Room.{share}
 use Rattle.pool_laws.specs.Shutdown.{moves_open_blocks, moves_running_skips, moves_open_jobs, moves_block_part, moves_skip_part, is_block_task, is_skip_task}
-use Rattle.pool_laws.proofs.Shutdown.Tasks.{open_blocks_same, open_blocks_at_post, open_blocks_at_end, running_skips_same, running_skips_at_post, running_skips_at_take, running_skips_at_end}
-use Rattle.pool_laws.proofs.Shutdown.Jobs.{open_jobs_same, open_jobs_at_post, open_jobs_at_take, open_jobs_at_step, open_jobs_at_leave, open_jobs_at_cancel, skip_seats_same, skip_seats_at_take, skip_seats_at_step, skip_seats_at_leave}
+use Rattle.pool_laws.proofs.Shutdown.Tasks.{open_blocks_same, open_blocks_at_post, open_blocks_at_end, running_skips_same}
+use Rattle.pool_laws.proofs.Shutdown.Tasks.{running_skips_at_post, running_skips_at_take, running_skips_at_end}
+use Rattle.pool_laws.proofs.Shutdown.Jobs.{open_jobs_same, open_jobs_at_post, open_jobs_at_take, open_jobs_at_step, open_jobs_at_leave, open_jobs_at_cancel}
+use Rattle.pool_laws.proofs.Shutdown.Jobs.{skip_seats_same, skip_seats_at_take, skip_seats_at_step, skip_seats_at_leave}
 
 -- The block part.
 

@@ -49,11 +49,11 @@ open_jobs_change script past later job b c lt before after others =
 open_jobs_kept : (script : Plan) (past later : List Entry) (job : ℕ) → is_open_job script later job ≡ is_open_job script past job
     → ((x : ℕ) → eqb job x ≡ false → JobKept script past later x) → open_jobs script later ≡ open_jobs script past
 open_jobs_kept script past later job same others =
-    filter_length_congr (is_open_job script later) (is_open_job script past) (range_with_len 0 (length script.jobs)) (λ x. by x (eqb job x) refl)
+    filter_length_congr (is_open_job script later) (is_open_job script past) (range_with_len 0 (length script.jobs)) (λ x. at_each x (eqb job x) refl)
   where
-    by : (x : ℕ) (b : Bool) → eqb job x ≡ b → is_open_job script later x ≡ is_open_job script past x
-    by x true here = rw (← eqb-true job x here) same
-    by x false other = open_job_kept script past later x (others x other)
+    at_each : (x : ℕ) (b : Bool) → eqb job x ≡ b → is_open_job script later x ≡ is_open_job script past x
+    at_each x true here = rw (← eqb-true job x here) same
+    at_each x false other = open_job_kept script past later x (others x other)
 
 -- a job that a seat holds an item of is not over
 busy : (script : Plan) (past : List Entry) (seat job : ℕ) → IsSeat script seat → holds_job past seat job ≡ true → is_over script past job ≡ false

@@ -32,26 +32,26 @@ use Rattle.list_laws.proofs.Values.{eqb-same, some-injective}
 count_at : (f g : Posted → Bool) (t : ℕ) (xs : List Posted) (p : Posted) → InOrder xs → find (λ q. eqb q.task t) xs ≡ Some p
     → ((q : Posted) → eqb q.task t ≡ false → f q ≡ g q) → count f xs + share (g p) ≡ count g xs + share (f p)
 count_at f g t [] p order found h = absurd (none-some p found)
-count_at f g t (x ∷ xs) p order found h = by (eqb x.task t) refl found (λ later. count_at f g t xs p order.1 later h)
+count_at f g t (x ∷ xs) p order found h = by_task (eqb x.task t) refl found (λ later. count_at f g t xs p order.1 later h)
   where
-    by : (b : Bool) → eqb x.task t ≡ b → cond b (Some x) (find (λ q. eqb q.task t) xs) ≡ Some p
+    by_task : (b : Bool) → eqb x.task t ≡ b → cond b (Some x) (find (λ q. eqb q.task t) xs) ≡ Some p
         → (find (λ q. eqb q.task t) xs ≡ Some p → count f xs + share (g p) ≡ count g xs + share (f p))
         → count f (x ∷ xs) + share (g p) ≡ count g (x ∷ xs) + share (f p)
-    by true here is rest =
+    by_task true here is rest =
         let others : filter f xs ≡ filter g xs = filter_congr_in f g xs (AllByRecursion-map (Before x) (λ q. f q ≡ g q) xs
         (λ q before. h q (ne_eqb q.task t (λ same. before.another (eqb-true x.task t here ∙ sym same)))) order.0) in
         rw (count-cons f x xs, count-cons g x xs, others, some-injective is) (omega arith)
-    by false other is rest = rw (count-cons f x xs, count-cons g x xs, h x other) (omega (arith, rest is))
+    by_task false other is rest = rw (count-cons f x xs, count-cons g x xs, h x other) (omega (arith, rest is))
 
 -- the found post is of the task
 found_task : (t : ℕ) (xs : List Posted) (p : Posted) → find (λ q. eqb q.task t) xs ≡ Some p → p.task ≡ t
 found_task t [] p found = absurd (none-some p found)
-found_task t (x ∷ xs) p found = by (eqb x.task t) refl found (found_task t xs p)
+found_task t (x ∷ xs) p found = by_task (eqb x.task t) refl found (found_task t xs p)
   where
-    by : (b : Bool) → eqb x.task t ≡ b → cond b (Some x) (find (λ q. eqb q.task t) xs) ≡ Some p → (find (λ q. eqb q.task t) xs ≡ Some p → p.task ≡ t)
+    by_task : (b : Bool) → eqb x.task t ≡ b → cond b (Some x) (find (λ q. eqb q.task t) xs) ≡ Some p → (find (λ q. eqb q.task t) xs ≡ Some p → p.task ≡ t)
         → p.task ≡ t
-    by true here is rest = rw (← some-injective is) (eqb-true x.task t here)
-    by false other is rest = rest is
+    by_task true here is rest = rw (← some-injective is) (eqb-true x.task t here)
+    by_task false other is rest = rest is
 
 turned : (a b : ℕ) → eqb a b ≡ false → eqb b a ≡ false
 turned a b h = grind arith

@@ -1,6 +1,7 @@
 -- In every legal log of such a script the cells hold what the ended tasks add up to: a task finds what its cell holds, and while it
 -- runs nothing else writes there, so its end leaves as much more as it adds.
-use Rattle.std.proofs.Common.{◌≡◌, ℕ, ◌+◌, ◌^◌, ◌<◌, ◌≤◌, Bool, true, false, cond, eqb, leb, List, [], ◌∷◌, ◌++◌, length, refl, sym, ap, subst, ◌∙◌, Some, arith}
+use Rattle.std.proofs.Common.{◌≡◌, ℕ, ◌+◌, ◌^◌, ◌<◌, ◌≤◌, Bool, true, false, cond, eqb, leb, List}
+use Rattle.std.proofs.Common.{[], ◌∷◌, ◌++◌, length, refl, sym, ap, subst, ◌∙◌, Some, arith}
 use Rattle.std.specs.Prelude.{◌&&◌, not, sum_by}
 use Rattle.std.specs.List.{range_with_len}
 use Rattle.std.proofs.lemmas.Bool.{and_parts, eqb-true, eqb-false, eq-eqb, ne_eqb, not-true}
@@ -132,11 +133,11 @@ own_found script past seat kind w may before is =
 -- one more entry keeps that
 found_next : (script : Plan) (past : List Entry) (e : Entry) → IsLegal script past → may_come script past e.seat e.kind ≡ true → FoundHolds script past
     → FoundHolds script (past ++ e ∷ [])
-found_next script past e legal may before seat w runs = by (eqb e.seat seat) refl
+found_next script past e legal may before seat w runs = by_seat (eqb e.seat seat) refl
   where
-    by : (b : Bool) → eqb e.seat seat ≡ b → w.found ≡ cell_for script (past ++ e ∷ []) w w.is_main
-    by true here = own_found script past e.seat e.kind w may before (sym (running_here past e seat here) ∙ runs)
-    by false other =
+    by_seat : (b : Bool) → eqb e.seat seat ≡ b → w.found ≡ cell_for script (past ++ e ∷ []) w w.is_main
+    by_seat true here = own_found script past e.seat e.kind w may before (sym (running_here past e seat here) ∙ runs)
+    by_seat false other =
         let was : running past seat ≡ Some w = sym (running_other past e seat other) ∙ runs in
         before seat w was ∙ sym (cell_of_other script past e.seat seat e.kind w w.is_main legal may was refl (eqb-false e.seat seat other))
 

@@ -100,12 +100,12 @@ wanted_at script past seat kind h =
   where
     at : (a : Agenda) → plan_of script past ≡ a → holds_of (λ c. wants (own_entries 0 past) c.action c.made kind) (current_of a) ≡ true
         → WantedAt script past kind
-    at a is k = by a.actions refl k
+    at a is k = by_actions a.actions refl k
       where
-        by : (xs : List Action) → a.actions ≡ xs → holds_of (λ c. wants (own_entries 0 past) c.action c.made kind) (first_of xs a.made) ≡ true
+        by_actions : (xs : List Action) → a.actions ≡ xs → holds_of (λ c. wants (own_entries 0 past) c.action c.made kind) (first_of xs a.made) ≡ true
             → WantedAt script past kind
-        by [] same none = absurd (true≢false (sym none))
-        by (x ∷ rest) same wants_it = record {
+        by_actions [] same none = absurd (true≢false (sym none))
+        by_actions (x ∷ rest) same wants_it = record {
           action = x;
           rest = rest;
           made = a.made;
@@ -118,19 +118,19 @@ pub driver_does : (script : Plan) (past : List Entry) (kind : Kind) (x : Action)
     → ((t : ℕ) → filter is_act (steps_of script t) ≡ []) → IsLegal script past → may_come script past 0 kind ≡ true
     → plan_of script past ≡ record { actions = x ∷ rest; made = made }
     → (wants (own_entries 0 past) x made kind ≡ true) ⊎ ((is_pump x ≡ true) ⊎ (is_join x ≡ true))
-driver_does script past kind x rest made no_acts legal may plan_is = by (comes script past 0 kind no_acts may)
+driver_does script past kind x rest made no_acts legal may plan_is = by_comes (comes script past 0 kind no_acts may)
   where
     current_is : current script (own_entries 0 past) ≡ Some (record { action = x; made = made })
     current_is = current_is_first script (own_entries 0 past) ∙ ap current_of plan_is
 
-    by : Comes script past 0 kind → (wants (own_entries 0 past) x made kind ≡ true) ⊎ ((is_pump x ≡ true) ⊎ (is_join x ≡ true))
-    by (Comes.Wanted wanted) =
+    by_comes : Comes script past 0 kind → (wants (own_entries 0 past) x made kind ≡ true) ⊎ ((is_pump x ≡ true) ⊎ (is_join x ≡ true))
+    by_comes (Comes.Wanted wanted) =
         let w : WantedAt script past kind = (wanted_at script past 0 kind wanted).1 in
         inl (subst (λ (a : Agenda). holds_of (λ c. wants (own_entries 0 past) c.action c.made kind) (current_of a) ≡ true) (sym w.plan_is ∙ plan_is) w.wants_it)
-    by (Comes.Taken worker) = absurd (omega (arith, worker.worker))
-    by (Comes.Ran w runs) =
+    by_comes (Comes.Taken worker) = absurd (omega (arith, worker.worker))
+    by_comes (Comes.Ran w runs) =
         let (c, is, pump) = (legal_does_one_thing script past legal).pumps w runs in
         inr (inl (ap (λ (d : Current). is_pump d.action) (same_Some _ c (sym current_is ∙ is)) ∙ pump))
-    by (Comes.Held h holds) =
+    by_comes (Comes.Held h holds) =
         let (c, is, join) = (legal_does_one_thing script past legal).joins h holds in
         inr (inr (ap (λ (d : Current). is_join d.action) (same_Some _ c (sym current_is ∙ is)) ∙ join))

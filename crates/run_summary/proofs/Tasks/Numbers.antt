@@ -1,5 +1,7 @@
 -- The generated scripts are such scripts: what a script of a number and a size posts, and what its tasks add.
-use Rattle.std.proofs.Common.{◌≡◌, ℕ, zero, suc, ◌+◌, ◌*◌, ◌/◌, ◌^◌, ◌<◌, ◌≤◌, Bool, true, false, cond, eqb, List, [], ◌∷◌, ◌++◌, length, map, refl, sym, ap, ◌∙◌, Option, Some, None, arith, add-one}
+use Rattle.task_script.proofs.Generated.{length-numbers_behind, tasks_posted}
+use Rattle.std.proofs.Common.{◌≡◌, ℕ, zero, suc, ◌+◌, ◌*◌, ◌/◌, ◌^◌, ◌<◌, ◌≤◌, Bool, true, false, cond, eqb, List, []}
+use Rattle.std.proofs.Common.{◌∷◌, ◌++◌, length, map, refl, sym, ap, ◌∙◌, Option, Some, None, arith, add-one}
 use Rattle.std.specs.Prelude.{flat_map, slice_get, sum_by}
 use Rattle.std.specs.List.{list_any, range_with_len}
 use Rattle.std.specs.Option.{option_map, option_map_or}
@@ -24,19 +26,13 @@ use Rattle.script_model.specs.Postings.{posts_of_step, posts_of_action, postings
 use Rattle.task_model.specs.Seats.{steps_of}
 use Rattle.task_script.specs.Generated.{numbers_behind, number_behind, amount_of, goal_of, posting_of, postings_from, generated}
 use Rattle.hist_model.specs.Laws.Consistent.{is_pump}
-use Rattle.hist_model.proofs.Laws.DriverPostings.{times-append, actions_post}
+use Rattle.hist_model.proofs.Laws.Postings.Driver.{times-append, actions_post}
 use Rattle.run_summary.proofs.Calm.{generated_is_calm}
 use Rattle.run_summary.proofs.Tasks.Driver.{IsPlain, ArePlain}
 use Rattle.run_summary.proofs.Tasks.Adding.{AddsUp}
 use Rattle.run_summary.proofs.Tasks.Rows.{sum_same}
 
 -- ---- the numbers
-
--- there are as many numbers as are asked for
-length_numbers : (x n : ℕ) → length (numbers_behind x n) ≡ n
-unfolding numbers_behind
-length_numbers x zero = refl
-length_numbers x (suc n) = ap suc (length_numbers (number_behind x) n)
 
 -- what the task of a place adds, by the numbers
 abbrev pub amount_at : List ℕ → ℕ → ℕ
@@ -55,11 +51,11 @@ one_of_four x other = let below : goal_of x < 5 = mod-lt (x / 2 ^ 33) (omega ari
 
 -- a post of a generated script is plain
 plain_posting : (size t x : ℕ) (rest : List Action) → t < size → (rest ≡ [] → ⊥) → IsPlain size (posting_of t x) rest
-plain_posting size t x rest below more = by (eqb (goal_of x) 4) refl
+plain_posting size t x rest below more = by_goal (eqb (goal_of x) 4) refl
   where
-    by : (b : Bool) → eqb (goal_of x) 4 ≡ b → IsPlain size (cond b (actions.Main t 0 0) (actions.Post t (goal_of x) 0)) rest
-    by true is = (below, refl, refl, more)
-    by false is = (below, one_of_four x (eqb-false (goal_of x) 4 is), refl, more)
+    by_goal : (b : Bool) → eqb (goal_of x) 4 ≡ b → IsPlain size (cond b (actions.Main t 0 0) (actions.Post t (goal_of x) 0)) rest
+    by_goal true is = (below, refl, refl, more)
+    by_goal false is = (below, one_of_four x (eqb-false (goal_of x) 4 is), refl, more)
 
 -- so are all of them, before plain actions
 plain_postings : (size t : ℕ) (xs : List ℕ) (y : Action) (ys : List Action) → t + length xs ≤ size → ArePlain size (y ∷ ys)
@@ -69,20 +65,6 @@ plain_postings size t (x ∷ xs) y ys within plain = (
   plain_posting size t x (postings_from (t + 1) xs ++ y ∷ ys) (omega (arith, within)) (not_nothing (postings_from (t + 1) xs) y ys),
   plain_postings size (t + 1) xs y ys (omega (arith, within)) plain,
 )
-
--- each posts its task
-posts_of_posting : (t x : ℕ) → posts_of_action (posting_of t x) ≡ t ∷ []
-posts_of_posting t x = by (eqb (goal_of x) 4)
-  where
-    by : (b : Bool) → posts_of_action (cond b (actions.Main t 0 0) (actions.Post t (goal_of x) 0)) ≡ t ∷ []
-    by true = refl
-    by false = refl
-
--- so they post the tasks in order
-posts_of_postings : (t : ℕ) (xs : List ℕ) → flat_map posts_of_action (postings_from t xs) ≡ range_with_len t (length xs)
-posts_of_postings t [] = refl
-posts_of_postings t (x ∷ xs) = ap (λ u. u ++ flat_map posts_of_action (postings_from (t + 1) xs)) (posts_of_posting t x)
-    ∙ ap (λ u. t ∷ u) (posts_of_postings (t + 1) xs)
 
 -- each number of a row stands in it once
 times_in_row : (t len : ℕ) → t < len → times t (range_with_len 0 len) ≡ 1
@@ -101,8 +83,8 @@ generated_posts number size t = ap (times t) (flat_map-append posts_of_action (p
     ∙ times-append t (flat_map posts_of_action (postings_from 0 (numbers_behind number size))) []
     ∙ omega (
       arith,
-      ap (times t) (posts_of_postings 0 (numbers_behind number size)),
-      ap (λ n. times t (range_with_len 0 n)) (length_numbers number size),
+      ap (times t) (tasks_posted 0 (numbers_behind number size)),
+      ap (λ n. times t (range_with_len 0 n)) (length-numbers_behind number size),
     )
 
 -- and its tasks post none
@@ -136,12 +118,12 @@ generated_adds : (number size t found : ℕ) → found + amount_at (numbers_behi
 unfolding generated
 generated_adds number size t found below =
     ap (λ o. after (option_map_or (λ (steps : List Step). steps) o []) found) (slice_get-map (λ x. Add (amount_of x) ∷ []) (numbers_behind number size) t)
-    ∙ by (slice_get (numbers_behind number size) t) below
+    ∙ by_number (slice_get (numbers_behind number size) t) below
   where
-    by : (o : Option ℕ) → found + option_map_or amount_of o 0 < 2 ^ 64
+    by_number : (o : Option ℕ) → found + option_map_or amount_of o 0 < 2 ^ 64
         → after (option_map_or (λ (steps : List Step). steps) (option_map (λ x. Add (amount_of x) ∷ []) o) []) found ≡ found + option_map_or amount_of o 0
-    by None less = omega arith
-    by (Some x) less = mod-eq_of_lt less
+    by_number None less = omega arith
+    by_number (Some x) less = mod-eq_of_lt less
 
 -- a sum over the places behind the first is one over the places of the rest
 sum_shifted : (f : ℕ → ℕ) (start len : ℕ) → sum_by f (range_with_len (start + 1) len) ≡ sum_by (λ k. f (k + 1)) (range_with_len start len)
@@ -167,16 +149,16 @@ amounts_of (x ∷ numbers) = omega (
 
 -- what all tasks of a generated script add
 pub amounts_of_all : (number size : ℕ) → sum_by (amount_at (numbers_behind number size)) (range_with_len 0 size) ≡ sum_by amount_of (numbers_behind number size)
-amounts_of_all number size = ap (λ n. sum_by (amount_at (numbers_behind number size)) (range_with_len 0 n)) (sym (length_numbers number size))
+amounts_of_all number size = ap (λ n. sum_by (amount_at (numbers_behind number size)) (range_with_len 0 n)) (sym (length-numbers_behind number size))
     ∙ amounts_of (numbers_behind number size)
 
 -- each adds less than 1000
 few_each : (numbers : List ℕ) (t : ℕ) → amount_at numbers t ≤ 1000
-few_each numbers t = by (slice_get numbers t)
+few_each numbers t = by_number (slice_get numbers t)
   where
-    by : (o : Option ℕ) → option_map_or amount_of o 0 ≤ 1000
-    by None = omega arith
-    by (Some x) = let below : amount_of x < 1000 = mod-lt (x / 2 ^ 40) (omega arith) in omega (arith, below)
+    by_number : (o : Option ℕ) → option_map_or amount_of o 0 ≤ 1000
+    by_number None = omega arith
+    by_number (Some x) = let below : amount_of x < 1000 = mod-lt (x / 2 ^ 40) (omega arith) in omega (arith, below)
 
 -- and all together less than 1000 each
 few_in_all : (f : ℕ → ℕ) (start len : ℕ) → ((t : ℕ) → f t ≤ 1000) → sum_by f (range_with_len start len) ≤ len * 1000
@@ -190,7 +172,8 @@ generated_is_plain : (number size : ℕ) → ArePlain size (generated number siz
 unfolding generated
 generated_is_plain number size = (
   not_nothing (postings_from 0 (numbers_behind number size)) (actions.Pump size) (actions.Join 0 ∷ actions.Flush ∷ []),
-  plain_postings size 0 (numbers_behind number size) (actions.Pump size) (actions.Join 0 ∷ actions.Flush ∷ []) (omega (arith, length_numbers number size))
+  plain_postings size 0 (numbers_behind number size) (actions.Pump size) (actions.Join 0 ∷ actions.Flush ∷ [])
+      (omega (arith, length-numbers_behind number size))
       ((refl, refl, (λ h. absurd cc)), ((λ h. absurd cc), (refl, tt))),
 )
 
@@ -218,7 +201,7 @@ generated_adds_up number size few = record {
   four_runners = refl;
   no_single = no_single_thread number size;
   one_queue = refl;
-  tasks_are = length-map (numbers_behind number size) (λ x. Add (amount_of x) ∷ []) ∙ length_numbers number size;
+  tasks_are = length-map (numbers_behind number size) (λ x. Add (amount_of x) ∷ []) ∙ length-numbers_behind number size;
   adds = generated_adds number size;
   few = omega (arith, few, few_in_all (amount_at (numbers_behind number size)) 0 size (few_each (numbers_behind number size)));
 }

@@ -11,8 +11,8 @@ use Rattle.task_model.specs.Seats.{is_quiet}
 use Rattle.hist_model.specs.Script.{is_finished, IsFinished, IsWhole}
 use Rattle.hist_model.specs.Legal.{IsLegal}
 use Rattle.hist_model.proofs.Laws.Consistent.{legal_is_consistent}
-use Rattle.hist_model.proofs.Laws.DriverPostings.{actions_post}
-use Rattle.hist_model.proofs.Laws.PostingCounts.{of_task, counted}
+use Rattle.hist_model.proofs.Laws.Postings.Driver.{actions_post}
+use Rattle.hist_model.proofs.Laws.Postings.Counts.{of_task, counted}
 use Rattle.hist_model.proofs.Laws.Whole.{loses_nothing}
 use Rattle.run_summary.proofs.Tasks.Adding.{AddsUp}
 use Rattle.run_summary.proofs.Tasks.Posted.{is_accepted, HasPost, accepted_post}
@@ -29,7 +29,7 @@ EndedOnce log t = ((is_ended log t ≡ true) × (is_main_ended log t ≡ false))
 ended_once : (script : Plan) (size : ℕ) (amount : ℕ → ℕ) (log : List Entry) (t : ℕ) → AddsUp script size amount → IsLegal script log → IsWhole script log
     → t < size → EndedOnce log t
 ended_once script size amount log t a legal whole below =
-    by (accepted_post t log (is_accepted script size amount t a log legal below (ap (actions_post t) (finished_plan script log done))))
+    by_side (accepted_post t log (is_accepted script size amount t a log legal below (ap (actions_post t) (finished_plan script log done))))
   where
     done : IsFinished script log
     done = (and_parts (is_finished script log) (is_quiet script log) whole).0
@@ -41,13 +41,13 @@ ended_once script size amount log t a legal whole below =
     of_main : is_main_ended log t ≡ true → 1 ≤ of_task t (main_posts log)
     of_main ended = (counted script a.posted_once log legal).taken true t ((legal_is_consistent script log legal).main_taken_before_ended t ended)
 
-    by : HasPost (posts log) t ⊎ HasPost (main_posts log) t → EndedOnce log t
-    by (inl (p, among, is)) = inl (
+    by_side : HasPost (posts log) t ⊎ HasPost (main_posts log) t → EndedOnce log t
+    by_side (inl (p, among, is)) = inl (
       (loses_nothing script log legal whole).tasks_ended t (ap (is_taken log) (sym is) ∙ pool_tasks_taken script size amount log p a legal whole among),
       false_from_ne_true (is_main_ended log t) (λ ended. not_on_both script size amount log t a legal
           (contained_counts (λ (x : Posted). eqb x.task t) (posts log) p among (eq-eqb p.task t is)) (of_main ended)),
     )
-    by (inr (p, among, is)) = inr (
+    by_side (inr (p, among, is)) = inr (
       false_from_ne_true (is_ended log t) (λ ended. not_on_both script size amount log t a legal (of_pool ended)
           (contained_counts (λ (x : Posted). eqb x.task t) (main_posts log) p among (eq-eqb p.task t is))),
       (loses_nothing script log legal whole).main_tasks_ended t

@@ -1,5 +1,6 @@
 -- The tasks that were accepted: each of them once the driver has no post left.
-use Rattle.std.proofs.Common.{◌≡◌, ℕ, zero, suc, ◌+◌, ◌<◌, ◌≤◌, Bool, true, false, cond, eqb, leb, List, [], ◌∷◌, ◌++◌, length, refl, sym, ap, subst, ◌∙◌, inl, inr, arith}
+use Rattle.std.proofs.Common.{◌≡◌, ℕ, zero, suc, ◌+◌, ◌<◌, ◌≤◌, Bool, true, false, cond, eqb, leb, List}
+use Rattle.std.proofs.Common.{[], ◌∷◌, ◌++◌, length, refl, sym, ap, subst, ◌∙◌, inl, inr, arith}
 use Rattle.std.specs.Prelude.{◌⊎◌, ◌&&◌, Contains, filter}
 use Rattle.std.specs.List.{AllByRecursion}
 use Rattle.std.proofs.lemmas.Bool.{and_parts, eqb-true}
@@ -24,9 +25,9 @@ use Rattle.hist_model.specs.Legal.{IsLegal}
 use Rattle.hist_model.specs.Laws.Agenda.{Agenda, completes, next_agenda, agenda_after}
 use Rattle.hist_model.specs.Laws.Consistent.{is_pump, is_join}
 use Rattle.hist_model.proofs.Laws.Consistent.{posts_as, posted_as, posts_as_push}
-use Rattle.hist_model.proofs.Laws.DriverPostings.{actions_post, one_more}
+use Rattle.hist_model.proofs.Laws.Postings.Driver.{actions_post, one_more}
 use Rattle.hist_model.proofs.Laws.Legal.{is_legal_push, entry_induction, legal_induction}
-use Rattle.hist_model.proofs.Laws.PostingCounts.{of_task}
+use Rattle.hist_model.proofs.Laws.Postings.Counts.{of_task, one_post}
 use Rattle.run_summary.proofs.Calm.{is_accepting, calm_logs}
 use Rattle.run_summary.proofs.Tasks.Driver.{IsPlain, ArePlain, plan_of, plan_push, plan_begins, plain_left, next_plan, next_is}
 use Rattle.run_summary.proofs.Tasks.Comes.{post_comes, main_comes, WantedAt, wanted_at, driver_does}
@@ -118,14 +119,6 @@ accepted_push t past e = rw (posts_push past e, main_posts_push past e) (omega (
   count-append (λ (p : Posted). eqb p.task t) (main_posts past) (main_posted_by past e.kind),
 ))
 
--- one accepted post is one posting
-one_post : (t : ℕ) (p : Posted) → of_task t (p ∷ []) ≡ times t (p.task ∷ [])
-one_post t p = at (eqb p.task t)
-  where
-    at : (b : Bool) → length (cond b (p ∷ []) []) ≡ length (cond b (p.task ∷ []) [])
-    at true = refl
-    at false = refl
-
 -- what an action posts is accepted by the entry that it makes, where the entry is no refusal
 posts_it : (t : ℕ) (own past : List Entry) (x : Action) (made : List Entry) (kind : Kind)
     → (wants own x made kind ≡ true) ⊎ ((is_pump x ≡ true) ⊎ (is_join x ≡ true)) → is_accepting kind ≡ true
@@ -157,15 +150,15 @@ accepted_next script size amount t a past e legal accepts may before =
         → actions_post t xs ≤ actions_post t (next_agenda xs made e).actions + accepted_by t past e.kind
     own [] made driver is = omega arith
     own (x ∷ rest) made driver is = subst (λ (p : Agenda). actions_post t (x ∷ rest) ≤ actions_post t p.actions + accepted_by t past e.kind)
-        (sym (next_is size x rest made e (plain_at script size amount past x rest made a is).1)) (by (completes x made e.kind))
+        (sym (next_is size x rest made e (plain_at script size amount past x rest made a is).1)) (by_completes (completes x made e.kind))
       where
         posts : times t (posts_of_action x) ≤ accepted_by t past e.kind
         posts = posts_it t (own_entries 0 past) past x made e.kind
             (driver_does script past e.kind x rest made a.calm.no_acts legal (subst (λ seat. may_come script past seat e.kind ≡ true) driver may) is) accepts
 
-        by : (b : Bool) → actions_post t (x ∷ rest) ≤ actions_post t (next_plan b x rest made e).actions + accepted_by t past e.kind
-        by true = omega (arith, one_more t x rest, posts)
-        by false = omega arith
+        by_completes : (b : Bool) → actions_post t (x ∷ rest) ≤ actions_post t (next_plan b x rest made e).actions + accepted_by t past e.kind
+        by_completes true = omega (arith, one_more t x rest, posts)
+        by_completes false = omega arith
 
     at : (b : Bool) → eqb e.seat 0 ≡ b → actions_post t script.actions
         ≤ actions_post t (cond b (agenda_after (plan_of script past) e) (plan_of script past)).actions + accepted_of t (past ++ e ∷ [])

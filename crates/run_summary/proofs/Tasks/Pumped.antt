@@ -1,6 +1,7 @@
 -- The pump of such a script takes each main task: it goes on until no main task is left, or until as many have ended as there are
 -- tasks.
-use Rattle.std.proofs.Common.{◌≡◌, ℕ, suc, ◌+◌, ◌<◌, ◌≤◌, Bool, true, false, cond, eqb, List, [], ◌∷◌, ◌++◌, length, refl, sym, ap, subst, ◌∙◌, Option, Some, None, inl, inr, arith, append_assoc, append-nil}
+use Rattle.std.proofs.Common.{◌≡◌, ℕ, suc, ◌+◌, ◌<◌, ◌≤◌, Bool, true, false, cond, eqb, List, [], ◌∷◌, ◌++◌, length, refl}
+use Rattle.std.proofs.Common.{sym, ap, subst, ◌∙◌, Option, Some, None, inl, inr, arith, append_assoc, append-nil}
 use Rattle.std.specs.Prelude.{◌⊎◌, nat_lt, filter, take, drop, Contains, sum_by}
 use Rattle.std.specs.List.{list_any, flat_map, filter_map, range_with_len}
 use Rattle.std.specs.Option.{option_map, option_to_list}
@@ -24,7 +25,8 @@ use Rattle.list_laws.proofs.Tests.{list_all-from_recursion}
 use Rattle.script_model.specs.Postings.{times}
 use Rattle.task_model.specs.Posts.{Posted, is_delayed, posts, main_posts, is_main_taken, is_main_ended, main_takes}
 use Rattle.task_model.specs.Orders.{next_draw, order_of}
-use Rattle.task_model.specs.MainQueues.{Front, class_of, voters_of, votes_on, is_enabled, is_in_lane, front_with, order_below, front_of, is_open, fronts_of, open_fronts}
+use Rattle.task_model.specs.MainQueues.{Front, class_of, voters_of, votes_on, is_enabled, is_in_lane, front_with}
+use Rattle.task_model.specs.MainQueues.{order_below, front_of, is_open, fronts_of, open_fronts}
 use Rattle.hist_model.specs.Views.{own_entries}
 use Rattle.hist_model.specs.Script.{wants, is_main_none, is_main_end, IsFinished}
 use Rattle.hist_model.specs.Allowed.{by_script, may_come}
@@ -32,8 +34,8 @@ use Rattle.hist_model.specs.Legal.{IsLegal}
 use Rattle.hist_model.specs.Laws.Consistent.{is_pump}
 use Rattle.hist_model.proofs.Laws.AtPlaces.{parted_at, passes_at, past_is_legal, may_come_at}
 use Rattle.hist_model.proofs.Laws.Consistent.{posts_as, posted_as, posts_as_push, legal_is_consistent}
-use Rattle.hist_model.proofs.Laws.DriverPostings.{actions_post}
-use Rattle.hist_model.proofs.Laws.PostingCounts.{of_task, counted, posted_at_most_once}
+use Rattle.hist_model.proofs.Laws.Postings.Driver.{actions_post}
+use Rattle.hist_model.proofs.Laws.Postings.Counts.{of_task, counted, posted_at_most_once}
 use Rattle.run_summary.proofs.Calm.{IsCalm, calm_logs}
 use Rattle.run_summary.proofs.Tasks.Driver.{IsPlain, plan_of, main_ends_in, pumped}
 use Rattle.run_summary.proofs.Tasks.Comes.{WantedAt, wanted_at}
@@ -57,14 +59,14 @@ always_open script past f calm = rw (calm.not_closed f.queue, calm.no_fence f.qu
 no_front : (script : Plan) (past : List Entry) → length script.queues ≡ 1 → IsCalm past → length (open_fronts script past) ≡ 0
     → front_of script past 0 Immediate ≡ None
 unfolding open_fronts
-no_front script past one calm none = by (front_of script past 0 Immediate) (option_to_list (front_of script past 0 Delayed))
+no_front script past one calm none = by_front (front_of script past 0 Immediate) (option_to_list (front_of script past 0 Delayed))
     (subst (λ n. length (flat_map (fronts_of script past) (range_with_len 0 n)) ≡ 0) one
     (ap length (sym (filter_always (is_open script past) (flat_map (fronts_of script past) (range_with_len 0 (length script.queues)))
     (λ f. always_open script past f calm))) ∙ none))
   where
-    by : (o : Option Front) (more : List Front) → length ((option_to_list o ++ more) ++ []) ≡ 0 → o ≡ None
-    by None more h = refl
-    by (Some f) more h = absurd (omega (arith, h))
+    by_front : (o : Option Front) (more : List Front) → length ((option_to_list o ++ more) ++ []) ≡ 0 → o ≡ None
+    by_front None more h = refl
+    by_front (Some f) more h = absurd (omega (arith, h))
 
 -- and no accepted main task that was not taken
 none_in_lane : (script : Plan) (past : List Entry) (p : Posted) → front_of script past 0 Immediate ≡ None → Contains (main_posts past) p
@@ -147,7 +149,7 @@ not_taken_before xs ys t free = false_from_ne_true (list_any (λ e. main_takes t
 taken_by_none : (script : Plan) (size : ℕ) (amount : ℕ → ℕ) (past rest : List Entry) (seat : ℕ) (p : Posted) → AddsUp script size amount
     → IsLegal script (past ++ rest) → IsLegal script past → may_come script past seat kinds.MainNone ≡ true → Contains (main_posts (past ++ rest)) p
     → is_main_taken (past ++ rest) p.task ≡ false → ⊥
-taken_by_none script size amount past rest seat p a whole legal may among free = by (accepted_post p.task past
+taken_by_none script size amount past rest seat p a whole legal may among free = by_accepted_post (accepted_post p.task past
     (is_accepted script size amount p.task a past legal plain.task_is (none.1 p.task)))
   where
     plain : IsPlainPost true size p
@@ -156,11 +158,11 @@ taken_by_none script size amount past rest seat p a whole legal may among free =
     none : (front_of script past 0 Immediate ≡ None) × ((t : ℕ) → actions_post t (plan_of script past).actions ≡ 0)
     none = found_none script size amount past seat a legal may
 
-    by : HasPost (posts past) p.task ⊎ HasPost (main_posts past) p.task → ⊥
-    by (inl (q, there, is)) = not_on_both script size amount (past ++ rest) p.task a whole
+    by_accepted_post : HasPost (posts past) p.task ⊎ HasPost (main_posts past) p.task → ⊥
+    by_accepted_post (inl (q, there, is)) = not_on_both script size amount (past ++ rest) p.task a whole
         (omega (arith, grows false p.task past rest, contained_counts (λ (x : Posted). eqb x.task p.task) (posts past) q there (eq-eqb q.task p.task is)))
         (contained_counts (λ (x : Posted). eqb x.task p.task) (main_posts (past ++ rest)) p among (eq-eqb p.task p.task refl))
-    by (inr (q, there, is)) =
+    by_accepted_post (inr (q, there, is)) =
         let it : IsPlainPost true size q = AllByRecursion-contains (IsPlainPost true size) (main_posts past) q
         (plain_posts true script size amount a past legal) there in
         none_in_lane script past q none.0 there (omega (arith, it.home_is)) it.delay_is
@@ -208,15 +210,15 @@ is_none_kind kind h = absurd cc
 pub main_tasks_taken : (script : Plan) (size : ℕ) (amount : ℕ → ℕ) (log : List Entry) (p : Posted) → AddsUp script size amount → IsLegal script log
     → IsFinished script log → Contains (main_posts log) p → is_main_taken log p.task ≡ true
 main_tasks_taken script size amount log p a legal done among =
-    true_from_ne_false (is_main_taken log p.task) (λ free. by free (pumped script size a.plain a.pumps log).how)
+    true_from_ne_false (is_main_taken log p.task) (λ free. by_free free (pumped script size a.plain a.pumps log).how)
   where
     plain : IsPlainPost true size p
     plain = AllByRecursion-contains (IsPlainPost true size) (main_posts log) p (plain_posts true script size amount a log legal) among
 
-    by : is_main_taken log p.task ≡ false
+    by_free : is_main_taken log p.task ≡ false
         → (list_any is_pump (plan_of script log).actions ≡ true) ⊎ ((list_any (λ e. is_main_none e.kind) log ≡ true) ⊎ (size ≤ main_ends_in log)) → ⊥
-    by free (inl left) = true≢false (sym left ∙ ap (list_any is_pump) (finished_plan script log done))
-    by free (inr (inl none)) =
+    by_free free (inl left) = true≢false (sym left ∙ ap (list_any is_pump) (finished_plan script log done))
+    by_free free (inr (inl none)) =
         let at = passes_at (λ (e : Entry). is_main_none e.kind) log none in
         let parts = parted_at log at.place at.value at.is in
         taken_by_none script size amount (take at.place log) (at.value ∷ drop (suc at.place) log) at.value.seat p a
@@ -224,5 +226,5 @@ main_tasks_taken script size amount log p a legal done among =
         (subst (λ k. may_come script (take at.place log) at.value.seat k ≡ true) (is_none_kind at.value.kind at.passes)
         (may_come_at script log at.place at.value legal at.is))
         (subst (λ l. Contains (main_posts l) p) (sym parts) among) (ap (λ l. is_main_taken l p.task) parts ∙ free)
-    by free (inr (inr ends)) = both_ways (is_main_taken log p.task) free ((legal_is_consistent script log legal).main_taken_before_ended p.task
+    by_free free (inr (inr ends)) = both_ways (is_main_taken log p.task) free ((legal_is_consistent script log legal).main_taken_before_ended p.task
         (all_main_ended script size amount log p.task a legal ends plain.task_is))

@@ -1,5 +1,7 @@
 -- A log whose script is finished ends with the pool at rest, so each accepted task of the pool was taken.
-use Rattle.std.proofs.Common.{◌≡◌, ℕ, ◌+◌, ◌<◌, ◌≤◌, Bool, true, false, cond, eqb, leb, List, [], ◌∷◌, ◌++◌, length, refl, sym, ap, subst, ◌∙◌, Option, Some, None, inl, inr, arith}
+use Rattle.hist_model.proofs.Laws.JobEntries.{none_is}
+use Rattle.std.proofs.Common.{◌≡◌, ℕ, ◌+◌, ◌<◌, ◌≤◌, Bool, true, false, cond, eqb, leb, List, [], ◌∷◌, ◌++◌}
+use Rattle.std.proofs.Common.{length, refl, sym, ap, subst, ◌∙◌, Option, Some, None, inl, inr, arith}
 use Rattle.std.specs.Prelude.{◌⊎◌, ◌&&◌, not, nat_lt, filter, Contains, is_none, slice_get}
 use Rattle.std.specs.List.{list_any, list_all}
 use Rattle.std.specs.Option.{option_map_or}
@@ -69,19 +71,19 @@ plan_finished script past none = ap is_none (current_is_first script (own_entrie
 -- behind a quiet past of a finished script nothing comes
 nothing_follows : (script : Plan) (past : List Entry) (seat : ℕ) (kind : Kind) → ((t : ℕ) → filter is_act (steps_of script t) ≡ [])
     → IsLegal script past → IsFinished script past → is_quiet script past ≡ true → may_come script past seat kind ≡ true → ⊥
-nothing_follows script past seat kind no_acts legal done quiet may = by (comes script past seat kind no_acts may)
+nothing_follows script past seat kind no_acts legal done quiet may = by_comes (comes script past seat kind no_acts may)
   where
     all : LosesNothing script past
     all = loses_nothing script past legal (and_from (is_finished script past) (is_quiet script past) done quiet)
 
-    by : Comes script past seat kind → ⊥
-    by (Comes.Wanted wanted) =
+    by_comes : Comes script past seat kind → ⊥
+    by_comes (Comes.Wanted wanted) =
         let w : WantedAt script past kind = (wanted_at script past seat kind wanted).1 in
         let none : w.action ∷ w.rest ≡ [] = ap (λ (p : Agenda). p.actions) (sym w.plan_is) ∙ finished_plan script past done in
         absurd cc
-    by (Comes.Taken worker) = both_ways (is_finished script past) worker.goes_on done
-    by (Comes.Ran w runs) = none-some w (sym (all.nobody_runs seat) ∙ runs)
-    by (Comes.Held h holds) = none-some h (sym (all.nobody_holds seat) ∙ holds)
+    by_comes (Comes.Taken worker) = both_ways (is_finished script past) worker.goes_on done
+    by_comes (Comes.Ran w runs) = none-some w (sym (all.nobody_runs seat) ∙ runs)
+    by_comes (Comes.Held h holds) = none-some h (sym (all.nobody_holds seat) ∙ holds)
 
 -- ---- the last entry
 
@@ -96,11 +98,6 @@ pub record EndsAtRest (script : Plan) (past : List Entry) : Type 0 where
 -- it is quiet behind that entry, too
 quiet_at_end : (script : Plan) (past : List Entry) → EndsAtRest script past → is_quiet script past ≡ true
 quiet_at_end script past r = ap (is_quiet script) r.parts ∙ is_quiet_same script r.before (record { seat = r.seat; kind = kinds.Idle }) refl ∙ r.quiet
-
--- what is no value is none
-none_is : {A : Type 0} (o : Option A) → is_none o ≡ true → o ≡ None
-none_is None h = refl
-none_is (Some x) h = absurd (true≢false (sym h))
 
 -- so it is where that entry may come
 idle_is : (script : Plan) (past : List Entry) (seat : ℕ) → may_come script past seat kinds.Idle ≡ true
@@ -130,13 +127,13 @@ last_is_flush size action rest plain none = absurd plain
 -- so what the driver enters there is that entry
 flush_wants : (own : List Entry) (x : Action) (made : List Entry) (kind : Kind) → x ≡ actions.Flush
     → (wants own x made kind ≡ true) ⊎ ((is_pump x ≡ true) ⊎ (is_join x ≡ true)) → kind ≡ kinds.Idle
-flush_wants own x made kind flush how = by kind (subst (λ y. (wants own y made kind ≡ true) ⊎ ((is_pump y ≡ true) ⊎ (is_join y ≡ true))) flush how)
+flush_wants own x made kind flush how = by_kind kind (subst (λ y. (wants own y made kind ≡ true) ⊎ ((is_pump y ≡ true) ⊎ (is_join y ≡ true))) flush how)
   where
-    by : (k : Kind) → (wants own actions.Flush made k ≡ true) ⊎ ((false ≡ true) ⊎ (false ≡ true)) → k ≡ kinds.Idle
-    by kinds.Idle h = refl
-    by k (inl h) = absurd cc
-    by k (inr (inl h)) = absurd cc
-    by k (inr (inr h)) = absurd cc
+    by_kind : (k : Kind) → (wants own actions.Flush made k ≡ true) ⊎ ((false ≡ true) ⊎ (false ≡ true)) → k ≡ kinds.Idle
+    by_kind kinds.Idle h = refl
+    by_kind k (inl h) = absurd cc
+    by_kind k (inr (inl h)) = absurd cc
+    by_kind k (inr (inr h)) = absurd cc
 
 abbrev RestsAtEnd : Plan → List Entry → Type 0
 RestsAtEnd script past = IsFinished script past → EndsAtRest script past
@@ -144,7 +141,7 @@ RestsAtEnd script past = IsFinished script past → EndsAtRest script past
 -- it stays so behind one more entry: only the entry of the flush finishes the script, and behind that none comes
 rests_next : (script : Plan) (size : ℕ) (amount : ℕ → ℕ) → AddsUp script size amount → (past : List Entry) (e : Entry) → IsLegal script past
     → may_come script past e.seat e.kind ≡ true → RestsAtEnd script past → RestsAtEnd script (past ++ e ∷ [])
-rests_next script size amount a past e legal may before done = by (eqb e.seat 0) refl
+rests_next script size amount a past e legal may before done = by_seat (eqb e.seat 0) refl
     (subst (λ (p : Agenda). p.actions ≡ []) (plan_push script past e) (finished_plan script (past ++ e ∷ []) done))
   where
     -- a script that was finished before had nothing more to come
@@ -173,10 +170,10 @@ rests_next script size amount a past e legal may before done = by (eqb e.seat 0)
         step true k = is_last x rest made driver is k
         step false k = absurd cc
 
-    by : (b : Bool) → eqb e.seat 0 ≡ b → (cond b (agenda_after (plan_of script past) e) (plan_of script past)).actions ≡ []
+    by_seat : (b : Bool) → eqb e.seat 0 ≡ b → (cond b (agenda_after (plan_of script past) e) (plan_of script past)).actions ≡ []
         → EndsAtRest script (past ++ e ∷ [])
-    by true driver none = own (plan_of script past).actions (plan_of script past).made (eqb-true e.seat 0 driver) refl none
-    by false other none = was_finished none
+    by_seat true driver none = own (plan_of script past).actions (plan_of script past).made (eqb-true e.seat 0 driver) refl none
+    by_seat false other none = was_finished none
 
 -- at first no script of this kind is finished
 nothing_rests : (script : Plan) (size : ℕ) (amount : ℕ → ℕ) → AddsUp script size amount → RestsAtEnd script []
@@ -203,7 +200,7 @@ no_load script past test quiet = ap length (filter_none (λ seat. holds_of test 
 room_at_rest : (script : Plan) (size : ℕ) (amount : ℕ → ℕ) (past : List Entry) (priority : Priority) → AddsUp script size amount
     → is_quiet script past ≡ true → has_room script past priority ≡ true
 unfolding has_room load capacity best_load best_capacity
-room_at_rest script size amount past priority a quiet = by (is_best_effort priority && nat_lt 0 script.background) refl
+room_at_rest script size amount past priority a quiet = by_best_effort (is_best_effort priority && nat_lt 0 script.background) refl
   where
     in_group : (group : Group) → 1 ≤ limit script group → 1 ≤ best_limit script group → has_room_in script past group priority ≡ true
     in_group group some some_best =
@@ -212,11 +209,12 @@ room_at_rest script size amount past priority a quiet = by (is_best_effort prior
         and_from _ _ (lt-ltb (load script past group) (capacity script past group) (omega (arith, some, all)))
         (or_right (not (is_best_effort priority)) _ (lt-ltb (best_load script past group) (best_capacity script past group) (omega (arith, some_best, best))))
 
-    by : (b : Bool) → (is_best_effort priority && nat_lt 0 script.background) ≡ b → has_room_in script past (cond b Background Foreground) priority ≡ true
-    by true back =
+    by_best_effort : (b : Bool) → (is_best_effort priority && nat_lt 0 script.background) ≡ b
+        → has_room_in script past (cond b Background Foreground) priority ≡ true
+    by_best_effort true back =
         let some : 0 < script.background = ltb-true 0 script.background (and_parts (is_best_effort priority) (nat_lt 0 script.background) back).1 in
         in_group Background (omega (arith, some)) (omega (arith, some))
-    by false front = in_group Foreground a.some_foreground a.some_best
+    by_best_effort false front = in_group Foreground a.some_foreground a.some_best
 
 -- ---- so nothing waits there
 
@@ -242,17 +240,17 @@ nothing_waits script size amount past c a r anywhere waits = contains_not_empty 
 -- the sequence of an accepted task is one of the script's
 pub sequence_there : (script : Plan) (size : ℕ) (amount : ℕ → ℕ) (task home : ℕ) → AddsUp script size amount → task < size → home < 4
     → sequence_of script home task < sequence_count script
-sequence_there script size amount task home a task_is home_is = by (holds_of (λ r. is_parallel r.kind) (slice_get script.runners home))
+sequence_there script size amount task home a task_is home_is = by_parallel (holds_of (λ r. is_parallel r.kind) (slice_get script.runners home))
   where
-    by : (b : Bool) → cond b (length script.runners + task) home < length script.runners + length script.tasks
-    by true = omega (arith, a.tasks_are, task_is)
-    by false = omega (arith, a.four_runners, home_is)
+    by_parallel : (b : Bool) → cond b (length script.runners + task) home < length script.runners + length script.tasks
+    by_parallel true = omega (arith, a.tasks_are, task_is)
+    by_parallel false = omega (arith, a.four_runners, home_is)
 
 -- so each accepted task of the pool was taken
 pub pool_tasks_taken : (script : Plan) (size : ℕ) (amount : ℕ → ℕ) (log : List Entry) (p : Posted) → AddsUp script size amount → IsLegal script log
     → IsWhole script log → Contains (posts log) p → is_taken log p.task ≡ true
 pool_tasks_taken script size amount log p a legal whole among =
-    true_from_ne_false (is_taken log p.task) (λ free. by ((loses_nothing script log legal whole).tasks_left p among free))
+    true_from_ne_false (is_taken log p.task) (λ free. by_left_task ((loses_nothing script log legal whole).tasks_left p among free))
   where
     calm : IsCalm log
     calm = calm_logs script a.calm log legal
@@ -266,10 +264,10 @@ pool_tasks_taken script size amount log p a legal whole among =
     rest : EndsAtRest script log
     rest = ends_at_rest script size amount a log legal (and_parts (is_finished script log) (is_quiet script log) whole).0
 
-    by : LeftTask script log p → ⊥
-    by (Forbidden forbidden) = true≢false (sym forbidden ∙ ap (λ phase. forbids phase (effective_at script p.home p.delay)) calm.phase)
-    by (Unripe unripe) = true≢false (sym unripe.delayed ∙ ap (λ n. nat_lt 0 n) plain.delay_is)
-    by (Waits w) =
+    by_left_task : LeftTask script log p → ⊥
+    by_left_task (Forbidden forbidden) = true≢false (sym forbidden ∙ ap (λ phase. forbids phase (effective_at script p.home p.delay)) calm.phase)
+    by_left_task (Unripe unripe) = true≢false (sym unripe.delayed ∙ ap (λ n. nat_lt 0 n) plain.delay_is)
+    by_left_task (Waits w) =
         let c : Candidate = sequence_candidate script log (sequence_at script p) w.head in
         nothing_waits script size amount log c a rest (a.no_single w.head.posted.home) (not_held_is_waiting script log c
         (candidate_would_wait script log (Sequence (sequence_at script p)) c

@@ -4,20 +4,25 @@ use Rattle.std.proofs.lemmas.Bool.{lt-ltb, le-ltb}
 use Rattle.std.proofs.Math.Seq.{take-append_seam}
 use Rattle.task_base.specs.Plan.{Plan}
 use Rattle.task_base.specs.declared.script.Action.{Action}
-use Rattle.task_base.specs.declared.script.Action.TheVariants.{Post, Main, Tick, Policy as PolicyAction, Reprio, Fence, Unfence, Vote, Rank, Close, Pump, Flush, StartJob, Join, Cancel, Shutdown}
+use Rattle.task_base.specs.declared.script.Action.TheVariants.{Post, Main, Tick, Policy as PolicyAction, Reprio, Fence, Unfence, Vote}
+use Rattle.task_base.specs.declared.script.Action.TheVariants.{Rank, Close, Pump, Flush, StartJob, Join, Cancel, Shutdown}
 use Rattle.script_model.specs.Bound.{events_of_action}
 use Rattle.script_model.specs.Postings.{posts_of_action, IsPostedOnce}
 use Rattle.script_model.specs.Draft.{Draft, empty_draft, posted_in, is_any_posted, ticks_of, ticks_in, events_in, opens_scope, may_block_on}
 use Rattle.task_base.specs.declared.limits.TheConstants.{MOST_TICKS, MOST_EVENTS}
-use Rattle.script_model.specs.Lines.{post_line, main_line, tick_line, policy_line, reprio_line, fence_line, unfence_line, vote_line, rank_line, close_line, pump_line, flush_line, start_job_line, join_line, cancel_line, shutdown_line, queue_command_read, action_command_read, command_read}
+use Rattle.script_model.specs.Lines.{post_line, main_line, tick_line, policy_line, reprio_line, fence_line, unfence_line, vote_line}
+use Rattle.script_model.specs.Lines.{rank_line, close_line, pump_line, flush_line, start_job_line, join_line, cancel_line}
+use Rattle.script_model.specs.Lines.{shutdown_line, queue_command_read, action_command_read, command_read}
 use Rattle.script_model.specs.Grammar.{Reads}
 use Rattle.script_model.specs.Canonical.{runner_words, queue_words, task_words, job_words, action_words, config_lines, numbered, canonical_lines, IsValid}
 use Rattle.script_model.specs.Laws.Sound.{IsSound, IsActionSound, IsInOrder}
 use Rattle.script_model.proofs.Laws.Parts.{Passed}
 use Rattle.script_model.proofs.Laws.Sound.{room, reads_sound}
-use Rattle.script_model.proofs.Laws.Words.{number_is, id_is, time_is, plain_id, plain_time, priority_is, priority_plain, policy_is, policy_plain, fence_is, fence_plain, vote_is, vote_plain}
+use Rattle.script_model.proofs.Laws.Words.{number_is, id_is, time_is, plain_id, plain_time, priority_is, priority_plain}
+use Rattle.script_model.proofs.Laws.Words.{policy_is, policy_plain, fence_is, fence_plain, vote_is, vote_plain}
 use Rattle.script_model.proofs.Laws.Postings.{posted_parts, posted_in_parts, posted_at, not_posted}
-use Rattle.script_model.proofs.Laws.Lines.{IsLineRead, are_read-append, text_is_read, numbered_are_read, mapped_are_read, draft_at, all_at, sum_at, get_at, good_post, config_read, runner_read, queue_read, task_read, job_read}
+use Rattle.script_model.proofs.Laws.Lines.{IsLineRead, are_read-append, text_is_read, numbered_are_read, mapped_are_read, draft_at, all_at}
+use Rattle.script_model.proofs.Laws.Lines.{sum_at, get_at, good_post, config_read, runner_read, queue_read, task_read, job_read}
 
 -- a draft with all declarations of a script, and some of its actions
 abbrev pub acted_at : Plan → List Action → Draft
@@ -45,7 +50,8 @@ action_fresh s once done action rest e = not_posted (posted_in (acted_at s done)
 any_action_read : (s : Plan) → IsSound s → (done : List Action) (action : Action) → IsActionSound s action → IsInOrder done action
     → is_any_posted (posted_in (acted_at s done)) (posts_of_action action) ≡ false → Passed (room (acted_at s done) action)
     → IsLineRead (acted_at s done) (action_words action) (acted_at s (done ++ action ∷ []))
-unfolding command_read action_command_read queue_command_read post_line main_line tick_line policy_line reprio_line fence_line unfence_line vote_line rank_line close_line pump_line flush_line start_job_line join_line cancel_line shutdown_line
+unfolding command_read action_command_read queue_command_read post_line main_line tick_line policy_line reprio_line fence_line unfence_line vote_line
+    rank_line close_line pump_line flush_line start_job_line join_line cancel_line shutdown_line
 any_action_read s sound done (Post task runner delay) made order fresh passed =
     let post = made.0 in
     let t : task ≤ 65536 = omega (arith, post.task_declared, sound.limits.few_tasks) in

@@ -1,5 +1,6 @@
 -- What a configuration line or a declaration adds to a sound script keeps it sound.
-use Rattle.std.proofs.Common.{◌≡◌, ℕ, ◌+◌, ◌<◌, ◌≤◌, Bool, true, false, eqb, List, [], ◌∷◌, ◌++◌, length, drop, refl, sym, subst, ◌∙◌, inl, inr, Option, Some, Ok, arith}
+use Rattle.std.proofs.Common.{◌≡◌, ℕ, ◌+◌, ◌<◌, ◌≤◌, Bool, true, false, eqb, List, [], ◌∷◌, ◌++◌, length}
+use Rattle.std.proofs.Common.{drop, refl, sym, subst, ◌∙◌, inl, inr, Option, Some, Ok, arith}
 use Rattle.std.specs.Prelude.{sum_by, not, ◌&&◌, ◌==◌, nat_lt, slice_get, is_some, flat_map}
 use Rattle.std.specs.List.{list_any, list_all, AllByRecursion}
 use Rattle.std.proofs.lemmas.List.Sums.{sum_by_push}
@@ -19,10 +20,13 @@ use Rattle.script_model.specs.Places.{said_at, ends_at, number_at, id_at, time_a
 use Rattle.script_model.specs.Bound.{events_of_task, events_of_job, events_bound_of}
 use Rattle.script_model.specs.Postings.{posts_of_step, postings}
 use Rattle.std.proofs.Math.ListN.{get_or-append}
-use Rattle.script_model.specs.Draft.{Draft, Groups, script_of, has_no_actions, is_bare, is_above_workers, is_declared, posted_in, is_any_posted, has_bad_scopes, is_bad_post, items_in, steps_in, events_in, workers_in, opens_scope, may_block_on}
-use Rattle.task_base.specs.declared.limits.TheConstants.{MOST_WORKERS, MOST_RUNNERS, MOST_QUEUES, MOST_TASKS, MOST_JOBS, MOST_ITEMS, MOST_STEPS, MOST_EVENTS, MOST_MICROSECONDS}
+use Rattle.script_model.specs.Draft.{Draft, Groups, script_of, has_no_actions, is_bare, is_above_workers, is_declared, posted_in, is_any_posted}
+use Rattle.script_model.specs.Draft.{has_bad_scopes, is_bad_post, items_in, steps_in, events_in, workers_in, opens_scope, may_block_on}
+use Rattle.task_base.specs.declared.limits.TheConstants.{MOST_WORKERS, MOST_RUNNERS, MOST_QUEUES, MOST_TASKS, MOST_JOBS}
+use Rattle.task_base.specs.declared.limits.TheConstants.{MOST_ITEMS, MOST_STEPS, MOST_EVENTS, MOST_MICROSECONDS}
 use Rattle.script_model.specs.Lines.{workers_line, groups_line, threshold_line, runner_line, queue_line, task_line, job_line}
-use Rattle.script_model.specs.Laws.Sound.{IsSound, IsConfigSound, AreActionsSound, IsRunnerPost, IsQueuePost, IsSeatThere, IsQueueWithin, IsStepSound, IsTaskSound, IsJobSound}
+use Rattle.script_model.specs.Laws.Sound.{IsSound, IsConfigSound, AreActionsSound, IsRunnerPost, IsQueuePost}
+use Rattle.script_model.specs.Laws.Sound.{IsSeatThere, IsQueueWithin, IsStepSound, IsTaskSound, IsJobSound}
 use Rattle.list_laws.proofs.Elements.{AllByRecursion-map, slice_get-front}
 use Rattle.script_model.proofs.Laws.Postings.{posts_of_task, posted_once_with_task}
 use Rattle.script_model.proofs.Laws.Parts.{both_ok, line_ok, number_at-within, said_ok, IsSeatWithin, kind_named-within, steps_read-within, nothing}

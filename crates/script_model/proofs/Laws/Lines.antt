@@ -1,5 +1,6 @@
 -- Each line of the canonical text is read, behind those before it, as what it is made from.
-use Rattle.std.proofs.Common.{◌≡◌, ℕ, ◌+◌, ◌<◌, ◌≤◌, Bool, true, false, List, [], ◌∷◌, ◌++◌, length, map, refl, sym, ap, subst, ◌∙◌, Some, Result, Ok, Err, arith, append_assoc}
+use Rattle.std.proofs.Common.{◌≡◌, ℕ, ◌+◌, ◌<◌, ◌≤◌, Bool, true, false, List, [], ◌∷◌, ◌++◌, length, map}
+use Rattle.std.proofs.Common.{refl, sym, ap, subst, ◌∙◌, Some, Result, Ok, Err, arith, append_assoc}
 use Rattle.std.specs.Prelude.{not, ◌&&◌, decimal, codes, slice_get, slice_index_or}
 use Rattle.std.specs.List.{list_all, list_any, AllByRecursion, sum_by}
 use Rattle.std.proofs.lemmas.Bool.{lt-ltb, le-ltb, not-true, or_parts}
@@ -20,9 +21,11 @@ use Rattle.script_model.specs.Reasons.{word_count}
 use Rattle.script_model.specs.Places.{ends_at, may_block_at}
 use Rattle.script_model.specs.Bound.{events_of_task, events_of_job}
 use Rattle.script_model.specs.Postings.{IsPostedOnce}
-use Rattle.script_model.specs.Draft.{Draft, empty_draft, script_of, is_above_workers, is_declared, posted_in, is_any_posted, is_bad_post, is_block, items_in, steps_in, events_in, opens_scope, may_block_on}
+use Rattle.script_model.specs.Draft.{Draft, empty_draft, script_of, is_above_workers, is_declared, posted_in, is_any_posted}
+use Rattle.script_model.specs.Draft.{is_bad_post, is_block, items_in, steps_in, events_in, opens_scope, may_block_on}
 use Rattle.task_base.specs.declared.limits.TheConstants.{MOST_WORKERS, MOST_RUNNERS, MOST_QUEUES, MOST_TASKS, MOST_JOBS, MOST_ITEMS, MOST_STEPS, MOST_EVENTS}
-use Rattle.script_model.specs.Lines.{workers_line, groups_line, threshold_line, runner_line, queue_line, task_line, job_line, command_read, words_read, line_read}
+use Rattle.script_model.specs.Lines.{workers_line, groups_line, threshold_line, runner_line, queue_line}
+use Rattle.script_model.specs.Lines.{task_line, job_line, command_read, words_read, line_read}
 use Rattle.script_model.specs.Grammar.{lines_read, script_read}
 use Rattle.log_model.specs.LogText.{priority_word}
 use Rattle.script_model.specs.Canonical.{behaviour_word, kind_word, may_block_words, runner_words, queue_words, task_words, job_words, config_lines, numbered}
@@ -33,7 +36,8 @@ use Rattle.script_model.proofs.Laws.Parts.{IsSeatWithin}
 use Rattle.script_model.proofs.Laws.Computing.{computing, computing_declared, computing_good, computing_posts}
 use Rattle.script_model.proofs.Laws.Postings.{posts_of_task, posted_parts, posted_in_parts, posted_at, not_posted}
 use Rattle.script_model.proofs.Laws.Texts.{is_plain_word, line_of, text_of, line_is_ascii, words_of-line, lines_of-text}
-use Rattle.script_model.proofs.Laws.Words.{number_is, id_is, time_is, plain_id, plain_time, priority_is, priority_plain, behaviour_is, behaviour_plain, kind_is, kind_plain, may_block_plain, IsStepReadable, steps_are, steps_plain}
+use Rattle.script_model.proofs.Laws.Words.{number_is, id_is, time_is, plain_id, plain_time, priority_is, priority_plain, behaviour_is, behaviour_plain}
+use Rattle.script_model.proofs.Laws.Words.{kind_is, kind_plain, may_block_plain, IsStepReadable, steps_are, steps_plain}
 use Rattle.list_laws.proofs.Places.{slice_get_seam}
 
 -- ---- lines behind one another

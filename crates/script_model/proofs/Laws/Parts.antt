@@ -1,5 +1,6 @@
 -- What a line that is read says of its places, and which refusals it passed.
-use Rattle.std.proofs.Common.{◌≡◌, ℕ, ◌≤◌, Bool, true, false, cond, eqb, ltb, leb, List, [], ◌∷◌, length, drop, map, refl, ap, subst, Option, Some, None, Result, Ok, Err, arith}
+use Rattle.std.proofs.Common.{◌≡◌, ℕ, ◌≤◌, Bool, true, false, cond, eqb, ltb, leb, List, [], ◌∷◌, length}
+use Rattle.std.proofs.Common.{drop, map, refl, ap, subst, Option, Some, None, Result, Ok, Err, arith}
 use Rattle.std.specs.Prelude.{◌-◌, ◌^◌, take, ◌&&◌, codes, slice_get}
 use Rattle.std.specs.List.{AllByRecursion, slice_split}
 use Rattle.std.proofs.lemmas.Bool.Decides.{nat_tests}
@@ -12,7 +13,8 @@ use Rattle.task_base.specs.declared.script.RunnerKind.{RunnerKind}
 use Rattle.task_base.specs.declared.script.RunnerKind.TheVariants.{Parallel, Sequenced, Single}
 use Rattle.script_model.specs.Words.{is_word, number_of}
 use Rattle.script_model.specs.Reasons.{◌>>=◌, ◌>>◌, ◌&◌, refuse, unknown_word, word_count, out_of_range}
-use Rattle.script_model.specs.Places.{said_at, ends_at, named, in_range, number_from, number_at, id_at, time_at, kind_named, scope_named, compute_read, post_read, block_read, step_said, step_read, all_read, steps_read}
+use Rattle.script_model.specs.Places.{said_at, ends_at, named, in_range, number_from, number_at, id_at, time_at, kind_named, scope_named}
+use Rattle.script_model.specs.Places.{compute_read, post_read, block_read, step_said, step_read, all_read, steps_read}
 use Rattle.script_model.specs.Laws.Sound.{IsStepWithin}
 
 -- what comes first of two steps that give something, gives something
@@ -62,13 +64,13 @@ line_ok r tests made y e =
 
 in_range-within : (low high : ℕ) (o : Option ℕ) (n : ℕ) → in_range low high o ≡ Ok n → (low ≤ n) × (n ≤ high)
 in_range-within low high None n e = absurd cc
-in_range-within low high (Some m) n e = by (leb low m) refl (leb m high) refl e
+in_range-within low high (Some m) n e = by_order (leb low m) refl (leb m high) refl e
   where
-    by : (b : Bool) → leb low m ≡ b → (c : Bool) → leb m high ≡ c → ◌≡◌ {A = Result ℕ ℕ} (cond (b && c) (Ok m) (Err out_of_range)) (Ok n)
+    by_order : (b : Bool) → leb low m ≡ b → (c : Bool) → leb m high ≡ c → ◌≡◌ {A = Result ℕ ℕ} (cond (b && c) (Ok m) (Err out_of_range)) (Ok n)
         → (low ≤ n) × (n ≤ high)
-    by true lower true upper h = let same : m ≡ n = ok_same {E = ℕ} m n h in (grind (arith, nat_tests), grind (arith, nat_tests))
-    by true lower false upper h = absurd cc
-    by false lower c upper h = absurd cc
+    by_order true lower true upper h = let same : m ≡ n = ok_same {E = ℕ} m n h in (grind (arith, nat_tests), grind (arith, nat_tests))
+    by_order true lower false upper h = absurd cc
+    by_order false lower c upper h = absurd cc
 
 pub number_from-within : (low high : ℕ) (word : List ℕ) (n : ℕ) → number_from low high word ≡ Ok n → (low ≤ n) × (n ≤ high)
 unfolding number_from
@@ -76,11 +78,12 @@ number_from-within low high word n e = in_range-within low high (number_of word)
 
 pub said_ok : {A : Type 0} (say : List ℕ → Result A ℕ) (words : List (List ℕ)) (k : ℕ) (x : A) → said_at say words k ≡ Ok x
     → (word : List ℕ) × (say word ≡ Ok x)
-said_ok {A = A} say words k x e = by (slice_get words k) e
+said_ok {A = A} say words k x e = by_word (slice_get words k) e
   where
-    by : (o : Option (List ℕ)) → (elim o as (λ _. Result A ℕ) [ None ↦ Err word_count | Some word ↦ say word ]) ≡ Ok x → (word : List ℕ) × (say word ≡ Ok x)
-    by None h = absurd cc
-    by (Some word) h = (word, h)
+    by_word : (o : Option (List ℕ)) → (elim o as (λ _. Result A ℕ) [ None ↦ Err word_count | Some word ↦ say word ]) ≡ Ok x → (word : List ℕ)
+        × (say word ≡ Ok x)
+    by_word None h = absurd cc
+    by_word (Some word) h = (word, h)
 
 pub number_at-within : (low high : ℕ) (words : List (List ℕ)) (k n : ℕ) → number_at low high words k ≡ Ok n → (low ≤ n) × (n ≤ high)
 number_at-within low high words k n e = let word = said_ok (number_from low high) words k n e in number_from-within low high word.0 n word.1

@@ -1,5 +1,6 @@
 -- Every script that is read is sound: each action, and so each line, keeps it so.
-use Rattle.std.proofs.Common.{◌≡◌, ℕ, ◌+◌, ◌<◌, ◌≤◌, Bool, true, false, List, [], ◌∷◌, ◌++◌, length, take, refl, sym, ap, subst, ◌∙◌, inl, inr, Option, Some, None, Result, Ok, Err, arith}
+use Rattle.std.proofs.Common.{◌≡◌, ℕ, ◌+◌, ◌<◌, ◌≤◌, Bool, true, false, List, [], ◌∷◌, ◌++◌, length, take, refl}
+use Rattle.std.proofs.Common.{sym, ap, subst, ◌∙◌, inl, inr, Option, Some, None, Result, Ok, Err, arith}
 use Rattle.std.specs.Prelude.{not, nat_lt, slice_get, option_map, unwrap_or, codes}
 use Rattle.std.specs.List.{list_any}
 use Rattle.std.proofs.lemmas.Bool.{eqb-true, ltb-false, ltb-true, not-false}
@@ -11,24 +12,31 @@ use Rattle.task_base.specs.declared.step.Step.{Step}
 use Rattle.task_base.specs.declared.step.Step.TheVariants.{Post as PostStep, Main as MainStep}
 use Rattle.task_base.specs.declared.script.MainQueue.{MainQueue}
 use Rattle.task_base.specs.declared.script.Action.{Action}
-use Rattle.task_base.specs.declared.script.Action.TheVariants.{Post, Main, Tick, Policy, Reprio, Fence, Unfence, Vote, Rank, Close, Pump, Flush, StartJob, Join, Cancel, Shutdown}
+use Rattle.task_base.specs.declared.script.Action.TheVariants.{Post, Main, Tick, Policy, Reprio, Fence, Unfence, Vote, Rank}
+use Rattle.task_base.specs.declared.script.Action.TheVariants.{Close, Pump, Flush, StartJob, Join, Cancel, Shutdown}
 use Rattle.list_laws.specs.Lists.{count}
 use Rattle.script_model.specs.Words.{words_of, is_word, begins_comment, is_all_ascii, lines_of}
-use Rattle.script_model.specs.Reasons.{◌>>=◌, ◌>>◌, ◌&◌, refuse, not_ascii, unknown_word, undeclared, posted_twice, bad_block, job_use, shutdown_twice, too_many, word_count}
+use Rattle.script_model.specs.Reasons.{◌>>=◌, ◌>>◌, ◌&◌, refuse, not_ascii, unknown_word, undeclared, posted_twice}
+use Rattle.script_model.specs.Reasons.{bad_block, job_use, shutdown_twice, too_many, word_count}
 use Rattle.script_model.specs.Places.{said_at, ends_at, number_at, id_at, time_at, priority_named, policy_named, fence_named, vote_named}
 use Rattle.script_model.specs.Bound.{events_of_action}
 use Rattle.script_model.specs.Postings.{posts_of_step, posts_of_action, postings}
 use Rattle.std.proofs.lemmas.Option.{slice_get_within}
-use Rattle.script_model.specs.Draft.{Draft, empty_draft, script_of, is_declared, has_runner, has_queue, has_voter, has_job, posted_in, is_any_posted, is_bad_post, is_start_of, is_started, is_shutdown, has_shutdown, ticks_of, ticks_in, events_in}
+use Rattle.script_model.specs.Draft.{Draft, empty_draft, script_of, is_declared, has_runner, has_queue, has_voter, has_job, posted_in, is_any_posted}
+use Rattle.script_model.specs.Draft.{is_bad_post, is_start_of, is_started, is_shutdown, has_shutdown, ticks_of, ticks_in, events_in}
 use Rattle.task_base.specs.declared.limits.TheConstants.{MOST_TICKS, MOST_EVENTS, MOST_MICROSECONDS}
-use Rattle.script_model.specs.Lines.{workers_line, groups_line, threshold_line, runner_line, queue_line, task_line, job_line, post_line, main_line, tick_line, policy_line, reprio_line, fence_line, unfence_line, vote_line, rank_line, close_line, pump_line, flush_line, start_job_line, join_line, cancel_line, shutdown_line, queue_command_read, action_command_read, command_read, words_read, line_read}
+use Rattle.script_model.specs.Lines.{workers_line, groups_line, threshold_line, runner_line, queue_line, task_line, job_line, post_line, main_line, tick_line}
+use Rattle.script_model.specs.Lines.{policy_line, reprio_line, fence_line, unfence_line, vote_line, rank_line, close_line, pump_line, flush_line}
+use Rattle.script_model.specs.Lines.{start_job_line, join_line, cancel_line, shutdown_line, queue_command_read, action_command_read, command_read, words_read}
+use Rattle.script_model.specs.Lines.{line_read}
 use Rattle.script_model.specs.Grammar.{lines_read, script_read, Reads}
 use Rattle.script_model.specs.Laws.Sound.{IsSound, IsActionSound, IsInOrder}
 use Rattle.script_model.proofs.Laws.Faults.{ok_same, first_ok}
 use Rattle.list_laws.proofs.Elements.{AllByRecursion-map}
 use Rattle.script_model.proofs.Laws.Parts.{either_way, none_such, both_ok, refuse_ok, Passed, line_ok, number_at-within, behind}
 use Rattle.script_model.proofs.Laws.Postings.{posted_once_with_action}
-use Rattle.script_model.proofs.Laws.Declarations.{Keeps, runner_post_stays, queue_post_stays, task_stays, same_stays, keeps_workers, keeps_groups, keeps_threshold, keeps_runner, keeps_queue, declared_runner_post, declared_queue_post, keeps_task, keeps_job}
+use Rattle.script_model.proofs.Laws.Declarations.{Keeps, runner_post_stays, queue_post_stays, task_stays, same_stays, keeps_workers, keeps_groups}
+use Rattle.script_model.proofs.Laws.Declarations.{keeps_threshold, keeps_runner, keeps_queue, declared_runner_post, declared_queue_post, keeps_task, keeps_job}
 use Rattle.list_laws.proofs.Places.{AllByRecursion-push, count_once-push, slice_get_push}
 
 start_fresh : (earlier : List Action) (action : Action) (j : ℕ) → IsInOrder earlier action → is_start_of j action ≡ true
@@ -204,12 +212,12 @@ keeps_unfence d d' words sound e = keeps_acted d d' (id_at words 0 & ends_at wor
 
 -- a voter that is declared has a queue that is
 voter_queue : (d : Draft) (queue voter : ℕ) → has_voter d queue voter ≡ true → queue < length d.queues
-voter_queue d queue voter e = by (slice_get d.queues queue) refl e
+voter_queue d queue voter e = by_queue (slice_get d.queues queue) refl e
   where
-    by : (o : Option MainQueue) → slice_get d.queues queue ≡ o → unwrap_or (option_map (λ declared. nat_lt voter declared.voters) o) false ≡ true
+    by_queue : (o : Option MainQueue) → slice_get d.queues queue ≡ o → unwrap_or (option_map (λ declared. nat_lt voter declared.voters) o) false ≡ true
         → queue < length d.queues
-    by (Some declared) is h = slice_get_within d.queues queue declared is
-    by None is h = absurd cc
+    by_queue (Some declared) is h = slice_get_within d.queues queue declared is
+    by_queue None is h = absurd cc
 
 -- `vote Q V on`, `vote Q V off`
 keeps_vote : (d d' : Draft) (words : List (List ℕ)) → Keeps d → vote_line d words ≡ Ok d' → Keeps d'

@@ -1,6 +1,7 @@
 -- Words of plain bytes, joined to lines and these to a text, are cut back into the same lines and words; numbers are
 -- read as they are written.
-use Rattle.std.proofs.Common.{◌≡◌, ℕ, zero, suc, ◌<◌, ◌≤◌, Bool, true, false, eqb, ltb, leb, List, [], ◌∷◌, ◌++◌, length, map, refl, ◌∙◌, Some, Ok, arith, append_assoc}
+use Rattle.std.proofs.Common.{◌≡◌, ℕ, zero, suc, ◌<◌, ◌≤◌, Bool, true, false, eqb, ltb, leb, List, []}
+use Rattle.std.proofs.Common.{◌∷◌, ◌++◌, length, map, refl, ◌∙◌, Some, Ok, arith, append_assoc}
 use Rattle.std.specs.Prelude.{◌-◌, ◌^◌, not, ◌&&◌, filter, flat_map, slice_index, decimal, codes, All}
 use Rattle.std.specs.List.{list_all, slice_split, join_with_byte}
 use Rattle.std.specs.Str.{all_ascii_digits}

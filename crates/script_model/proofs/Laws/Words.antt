@@ -23,7 +23,8 @@ use Rattle.task_base.specs.declared.script.FenceAt.{FenceAt}
 use Rattle.task_base.specs.declared.script.FenceAt.TheVariants.{Now, Start}
 use Rattle.task_base.specs.declared.limits.TheConstants.{MOST_WORKERS, MOST_MICROSECONDS}
 use Rattle.script_model.specs.Words.{is_word}
-use Rattle.script_model.specs.Places.{number_from, priority_named, behaviour_named, policy_named, fence_named, vote_named, scope_named, kind_named, step_said, step_read, all_read, steps_read}
+use Rattle.script_model.specs.Places.{number_from, priority_named, behaviour_named, policy_named, fence_named, vote_named}
+use Rattle.script_model.specs.Places.{scope_named, kind_named, step_said, step_read, all_read, steps_read}
 use Rattle.log_model.specs.LogText.{priority_word, policy_word, scope_word, fence_word, vote_word}
 use Rattle.script_model.specs.Canonical.{behaviour_word, kind_word, step_words, steps_words, may_block_words}
 use Rattle.script_model.proofs.Laws.Parts.{IsSeatWithin}

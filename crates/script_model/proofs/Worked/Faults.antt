@@ -2,7 +2,8 @@
 -- beside them that are good. The reasons of limits are in `Limits`.
 use Rattle.std.proofs.Common.{List, [], ◌∷◌, ◌++◌, refl}
 use Rattle.std.specs.Prelude.{codes}
-use Rattle.script_model.specs.Reasons.{not_ascii, unknown_word, word_count, bad_number, out_of_range, out_of_order, undeclared, posted_twice, declaration_late, bad_block, job_use, shutdown_twice, config_twice}
+use Rattle.script_model.specs.Reasons.{not_ascii, unknown_word, word_count, bad_number, out_of_range, out_of_order, undeclared}
+use Rattle.script_model.specs.Reasons.{posted_twice, declaration_late, bad_block, job_use, shutdown_twice, config_twice}
 use Rattle.script_model.proofs.Worked.Tables.{opened, Row, bad, good, AreRight}
 
 -- reason 1: not_ascii, a byte above 127

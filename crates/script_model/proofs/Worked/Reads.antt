@@ -9,7 +9,8 @@ use Rattle.task_base.specs.declared.step.Scope.TheVariants.{May, Will}
 use Rattle.task_base.specs.declared.step.Step.TheVariants.{Add, Mul, Set, Post as PostStep, Main as MainStep, Block, Unblock}
 use Rattle.task_base.specs.declared.script.RunnerKind.TheVariants.{Parallel, Sequenced, Single}
 use Rattle.task_base.specs.declared.script.FenceAt.TheVariants.{Now, Start}
-use Rattle.task_base.specs.declared.script.Action.TheVariants.{Post, Main, Tick, Policy, Reprio, Fence, Unfence, Vote, Rank, Close, Pump, Flush, StartJob, Join, Cancel, Shutdown}
+use Rattle.task_base.specs.declared.script.Action.TheVariants.{Post, Main, Tick, Policy, Reprio, Fence, Unfence, Vote, Rank}
+use Rattle.task_base.specs.declared.script.Action.TheVariants.{Close, Pump, Flush, StartJob, Join, Cancel, Shutdown}
 use Rattle.script_model.proofs.Worked.Tables.{opened, AreRead, AreWritten, AreValid, AreBound}
 
 -- no bytes are the script that has the defaults and nothing else

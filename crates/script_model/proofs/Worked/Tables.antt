@@ -6,7 +6,9 @@ use Rattle.std.specs.Result.{result_err}
 use Rattle.task_base.specs.Plan.{Plan}
 use Rattle.script_model.specs.Draft.{Draft}
 use Rattle.script_model.specs.Places.{number_from, kind_named, step_said, steps_read}
-use Rattle.script_model.specs.Lines.{workers_line, groups_line, threshold_line, runner_line, queue_line, task_line, job_line, post_line, main_line, tick_line, policy_line, reprio_line, fence_line, unfence_line, vote_line, rank_line, close_line, pump_line, flush_line, start_job_line, join_line, cancel_line, shutdown_line, queue_command_read, action_command_read, command_read, words_read}
+use Rattle.script_model.specs.Lines.{workers_line, groups_line, threshold_line, runner_line, queue_line, task_line, job_line, post_line, main_line, tick_line}
+use Rattle.script_model.specs.Lines.{policy_line, reprio_line, fence_line, unfence_line, vote_line, rank_line, close_line, pump_line, flush_line}
+use Rattle.script_model.specs.Lines.{start_job_line, join_line, cancel_line, shutdown_line, queue_command_read, action_command_read, command_read, words_read}
 use Rattle.script_model.specs.Grammar.{lines_read, script_read, first_fault}
 use Rattle.script_model.specs.Bound.{events_bound_of}
 use Rattle.script_model.specs.Canonical.{canonical}
@@ -14,7 +16,9 @@ use Rattle.script_model.specs.Canonical.{canonical}
 -- the script that the bytes are, or their first fault, with all open that reading and writing take: a proof that
 -- opens this computes both
 unfoldable pub opened : List ℕ → Result Plan (ℕ × ℕ)
-unfolding digits number_from kind_named step_said steps_read workers_line groups_line threshold_line runner_line queue_line task_line job_line post_line main_line tick_line policy_line reprio_line fence_line unfence_line vote_line rank_line close_line pump_line flush_line start_job_line join_line cancel_line shutdown_line queue_command_read action_command_read command_read words_read lines_read script_read
+unfolding digits number_from kind_named step_said steps_read workers_line groups_line threshold_line runner_line queue_line task_line job_line post_line
+    main_line tick_line policy_line reprio_line fence_line unfence_line vote_line rank_line close_line pump_line flush_line start_job_line join_line
+    cancel_line shutdown_line queue_command_read action_command_read command_read words_read lines_read script_read
 opened bytes = script_read bytes
 
 -- ---- scripts by their texts

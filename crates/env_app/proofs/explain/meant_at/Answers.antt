@@ -5,4 +5,5 @@ use Rattle.env_app.proofs.explain.meant_at.Goals as goal
 
 pub returns-in-Some : goal.returns-in-Some
 returns-in-Some c =
-    meant_by c.in-Some.line.now c.meant.result c.meant.ensures.meant c.meant.ensures.none _ (sym c.line_at.ensures ∙ ap (option_map (λ line. line.now)) c.in-Some.is)
+    meant_by c.in-Some.line.now c.meant.result c.meant.ensures.meant c.meant.ensures.none _ (sym c.line_at.ensures
+    ∙ ap (option_map (λ line. line.now)) c.in-Some.is)

@@ -19,7 +19,8 @@ returns-in-Explain-clause-outcome g c =
     let told = g.C.Clock.readings c.args.clock.now in
     rw (c.in-Explain.is, c.common-in-Explain.ensures)
     (ends_in_common (Some (Explain c.in-Explain.json)) told
-    (ends (g.S.Source.left c.args.source.now) (g.S.Source.left c.explain.new.source) (g.S.Source.faults c.args.source.now) (g.S.Source.faults c.explain.new.source))
+    (ends (g.S.Source.left c.args.source.now) (g.S.Source.left c.explain.new.source) (g.S.Source.faults c.args.source.now)
+    (g.S.Source.faults c.explain.new.source))
     (ends (g.K.Sink.holds c.args.sink.now) (g.K.Sink.holds c.explain.new.sink) (g.K.Sink.faults c.args.sink.now) (g.K.Sink.faults c.explain.new.sink))
     c.explain.result (c.explain.ensures.outcome told))
 
@@ -39,7 +40,8 @@ returns-in-Generate-clause-outcome g c =
     let left = g.S.Source.left c.args.source.now in let count = g.S.Source.faults c.args.source.now in
     rw (c.in-Generate.is, c.common-in-Generate.ensures)
     (ends_in_common (Some (Generate c.in-Generate.number c.in-Generate.size)) told (ends left left count count)
-    (ends (g.K.Sink.holds c.args.sink.now) (g.K.Sink.holds c.write_generated.new.sink) (g.K.Sink.faults c.args.sink.now) (g.K.Sink.faults c.write_generated.new.sink))
+    (ends (g.K.Sink.holds c.args.sink.now) (g.K.Sink.holds c.write_generated.new.sink) (g.K.Sink.faults c.args.sink.now)
+    (g.K.Sink.faults c.write_generated.new.sink))
     c.write_generated.result (c.write_generated.ensures.outcome told (ends left left count count)))
 
 pub returns-in-Bench-clause-outcome : goal.returns-in-Bench-clause-outcome
@@ -48,5 +50,6 @@ returns-in-Bench-clause-outcome g c =
     let left = g.S.Source.left c.args.source.now in let count = g.S.Source.faults c.args.source.now in
     rw (c.in-Bench.is, c.common-in-Bench.ensures)
     (ends_in_common (Some (Bench c.in-Bench.number c.in-Bench.size)) told (ends left left count count)
-    (ends (g.K.Sink.holds c.args.sink.now) (g.K.Sink.holds c.run_generated.new.sink) (g.K.Sink.faults c.args.sink.now) (g.K.Sink.faults c.run_generated.new.sink))
+    (ends (g.K.Sink.holds c.args.sink.now) (g.K.Sink.holds c.run_generated.new.sink) (g.K.Sink.faults c.args.sink.now)
+    (g.K.Sink.faults c.run_generated.new.sink))
     c.run_generated.result (c.run_generated.ensures.outcome told (ends left left count count)))

@@ -1,8 +1,8 @@
+use Rattle.env_io.proofs.Bytes.{Gains-nil}
 use Rattle.std.proofs.Common.{ℕ, false, List, Some, arith, ap, subst, refl, length, ◌∙◌}
 use Rattle.script_model.specs.Grammar.{Reads}
 use Rattle.app_streams.specs.Parts.{part_behind, script_part}
 use Rattle.env_app.specs.Judged.{IsFoundAt, IsFoundIn}
-use Rattle.app_streams.proofs.Writers.{gains_nothing}
 use Rattle.app_streams.proofs.Passed.{behind_within, script_within}
 use Rattle.env_app.proofs.trace.trace.Goals as goal
 
@@ -28,6 +28,6 @@ returns-in-Ok-Wrong-clause-outcome g c told =
     } in (
       refl,
       took.end,
-      record { bytes = bytes; took = took; holds = record { line = line; found = found; holds = (refl, gains_nothing _) } },
+      record { bytes = bytes; took = took; holds = record { line = line; found = found; holds = (refl, Gains-nil _) } },
       record { bytes = bytes; took = took; holds = found },
     )

@@ -1,3 +1,4 @@
+use Rattle.hist_model.proofs.Laws.Progress.Actions.{same_policy_now}
 use Rattle.std.proofs.Common.{◌∙◌, ◌∷◌, ◌++◌, [], refl, ap, append_assoc}
 use Rattle.list_laws.proofs.Values.{eqb-same}
 use Rattle.task_base.specs.declared.entry.Entry.{Entry}
@@ -6,7 +7,7 @@ use Rattle.task_base.specs.declared.script.Action.TheVariants as actions
 use Rattle.env_crew.specs.Desk.{mine}
 use Rattle.env_crew.proofs.Done.{done_by, done_by_call}
 use Rattle.env_crew.proofs.Holds.{later_entered, later_trans, mine_entered}
-use Rattle.env_crew.proofs.Moves.{at_more, policy_same, wanted_at, wanted_first, wants_fence, wants_main, wants_post, wants_rank, wants_reprio, wants_vote}
+use Rattle.env_crew.proofs.Moves.{at_more, wanted_at, wanted_first, wants_fence, wants_main, wants_post, wants_rank, wants_reprio, wants_vote}
 use Rattle.env_crew.proofs.driver.perform.Goals as goal
 
 -- A post.
@@ -43,7 +44,7 @@ pub policy-requires : goal.policy-requires
 policy-requires g c =
     let a = c.in-Policy in
     wanted_first (g.D.Desk.desk c.args.desk.now) c.args.action (actions.Policy a.policy) (kinds.Policy a.policy) c.requires.driver a.is c.requires.at refl
-    (policy_same a.policy)
+    (same_policy_now a.policy)
 
 pub returns-in-Policy-clause-done : goal.returns-in-Policy-clause-done
 returns-in-Policy-clause-done g c =

@@ -1,5 +1,6 @@
+use Rattle.task_body.proofs.Progress.{stepped}
 use Rattle.std.proofs.Common.{refl}
-use Rattle.env_crew.proofs.Tasks.{next_act_is, no_acts_done, one_act_more, stepped, under_way_at_last, under_way_behind_act, under_way_behind_steps}
+use Rattle.env_crew.proofs.Tasks.{next_act_is, no_acts_done, one_act_more, under_way_at_last, under_way_behind_act, under_way_behind_steps}
 use Rattle.env_crew.proofs.steps.do_steps.Goals as goal
 
 pub loop-work-init : goal.loop-work-init

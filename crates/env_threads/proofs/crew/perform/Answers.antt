@@ -21,7 +21,8 @@ returns-clause-back g c =
     let number : first.number ≡ 0 = ap (λ s. s.number) out ∙ later.seat_is ∙ ap (λ s. s.number) in_ ∙ split.number_is in
     let script : first.of.basis ≡ key.basis = ap (λ s. s.of.basis) out ∙ later.script_is ∙ ap (λ s. s.of.basis) in_ ∙ ap (λ k. k.basis) split.of_is in
     record {
-      of_is = same_environment key first (ap (λ s. s.of.table) out ∙ ap (λ o. o.table) later.origin_is ∙ ap (λ s. s.of.table) in_ ∙ ap (λ k. k.table) split.of_is) script
+      of_is = same_environment key first (ap (λ s. s.of.table) out ∙ ap (λ o. o.table) later.origin_is ∙ ap (λ s. s.of.table) in_
+          ∙ ap (λ k. k.table) split.of_is) script
           c.requires.stands seated;
       number_is = number;
       made_is = ap (λ s. s.made) out ∙ ap (λ o. o.made) later.origin_is ∙ ap (λ s. s.made) in_ ∙ split.made_is;

@@ -1,7 +1,7 @@
 use Rattle.std.proofs.Common.{◌∙◌, refl, subst}
 use Rattle.hist_model.specs.Legal.{IsLegal}
-use Rattle.hist_model.proofs.Laws.Entries.{entries_within_limit}
-use Rattle.hist_model.proofs.Laws.Fitting.{entries_fit}
+use Rattle.hist_model.proofs.Laws.Entries.Bound.{entries_within_limit}
+use Rattle.hist_model.proofs.Laws.Fitting.Entries.{entries_fit}
 use Rattle.env_threads.proofs.Seats.{moments_whole, whole_at_end, workers_rise}
 use Rattle.env_threads.proofs.crew.run_crew.Goals as goal
 
@@ -16,7 +16,8 @@ returns-clause-whole g c =
 pub returns-clause-bounded : goal.returns-clause-bounded
 returns-clause-bounded g c =
     let script = c.in_ok-shared.ensures.script ∙ c.in_ok-copy.ensures in
-    entries_within_limit c.args.script.now c.close.result.0.history c.requires.plan (subst (λ p. IsLegal p c.close.result.0.history) script c.close.ensures.legal)
+    entries_within_limit c.args.script.now c.close.result.0.history c.requires.plan
+    (subst (λ p. IsLegal p c.close.result.0.history) script c.close.ensures.legal)
 
 pub returns-clause-fits : goal.returns-clause-fits
 returns-clause-fits g c =

@@ -34,7 +34,8 @@ loop-start-preserved g c =
           (rw (← w.in-Some-pop.ensures.items, ← refused_none n front, ← items) was.spare) in
           let out = w.into_seat.ensures.seat in (
             rw (w.seat-is, ← number) (leaves_free key (n - length front) w.into_seat.result (ap (λ s. s.of.table) out ∙ last.2.table_is)
-                (ap (λ s. s.of.basis) out ∙ last.2.script_is) c.requires.stands (ap (λ s. s.number) out ∙ last.1) (rw out last.2.free) w.into_seat.ensures.seated),
+                (ap (λ s. s.of.basis) out ∙ last.2.script_is) c.requires.stands
+                (ap (λ s. s.number) out ∙ last.1) (rw out last.2.free) w.into_seat.ensures.seated),
             rw w.spare-is last.0,
           )
     ] in

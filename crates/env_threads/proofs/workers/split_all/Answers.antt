@@ -18,5 +18,6 @@ loop-preserved g c =
       all = longer ∙ ap (λ n. n + 1) was.all;
       room = omega (arith, was.room, c.push_spare.ensures.spare);
       workers = rw c.push_spare.ensures.items
-          (workers_push key 1 seats next was.workers (fresh key (1 + length seats) next (ap (λ s. s.of) second ∙ was.first.of_is) number (ap (λ s. s.mine) second)));
+          (workers_push key 1 seats next was.workers (fresh key (1 + length seats) next
+          (ap (λ s. s.of) second ∙ was.first.of_is) number (ap (λ s. s.mine) second)));
     }

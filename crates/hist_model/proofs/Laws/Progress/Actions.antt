@@ -38,12 +38,12 @@ now_within script = entry_induction script (λ past. now_of past ≤ LAST_MOMENT
     next past seat (kinds.Tick now) may within = leb-true now LAST_MOMENT (and_parts _ (leb now LAST_MOMENT) may).1
     next past seat kind may within = within
 
-same_policy_now : (policy : Policy) → same_policy policy policy ≡ true
+pub same_policy_now : (policy : Policy) → same_policy policy policy ≡ true
 same_policy_now All = refl
 same_policy_now Foreground = refl
 same_policy_now Nothing = refl
 
-same_fence_now : (at : FenceAt) → same_fence at at ≡ true
+pub same_fence_now : (at : FenceAt) → same_fence at at ≡ true
 same_fence_now Now = refl
 same_fence_now Start = refl
 

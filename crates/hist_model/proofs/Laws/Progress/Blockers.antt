@@ -89,7 +89,7 @@ block_is_allowed b h = absurd cc
 sequence_waits : (script : Plan) (past : List Entry) (p : Posted) (key : Key) → Quiet script past → Contains (posts past) p → key_of past p ≡ Some key
     → is_taken past p.task ≡ false → is_forbidden script past p ≡ false → WaitsInSequence script past p
 unfolding eligible ready
-sequence_waits script past p key q among is untaken allowed = by (head_of script past s) refl
+sequence_waits script past p key q among is untaken allowed = by_head (head_of script past s) refl
   where
     s : ℕ
     s = sequence_at script p
@@ -110,9 +110,9 @@ sequence_waits script past p key q among is untaken allowed = by (head_of script
     first head true below above = inr below
     first head false below above = inl (keys_total head.key key below above)
 
-    by : (o : Option Ready) → head_of script past s ≡ o → WaitsInSequence script past p
-    by None none = absurd (contains_not_empty (eligible script past s) it is_eligible (no_head script past s none))
-    by (Some head) some = record {
+    by_head : (o : Option Ready) → head_of script past s ≡ o → WaitsInSequence script past p
+    by_head None none = absurd (contains_not_empty (eligible script past s) it is_eligible (no_head script past s none))
+    by_head (Some head) some = record {
       key = key;
       key_is = is;
       is_eligible = is_eligible;
@@ -170,11 +170,11 @@ open_job_waits script past j sound q started within open_job =
 
 -- none of a list passes a test, or one does
 some_passes : {A : Type 0} (test : A → Bool) (xs : List A) → (filter test xs ≡ []) ⊎ ((x : A) × Contains xs x × (test x ≡ true))
-some_passes {A = A} test xs = by (filter test xs) refl
+some_passes {A = A} test xs = by_kept (filter test xs) refl
   where
-    by : (ys : List A) → filter test xs ≡ ys → (filter test xs ≡ []) ⊎ ((x : A) × Contains xs x × (test x ≡ true))
-    by [] none = inl none
-    by (x ∷ ys) is =
+    by_kept : (ys : List A) → filter test xs ≡ ys → (filter test xs ≡ []) ⊎ ((x : A) × Contains xs x × (test x ≡ true))
+    by_kept [] none = inl none
+    by_kept (x ∷ ys) is =
         let both = filter_contains test xs x (subst (λ zs. Contains zs x) (sym is) (0, omega arith, refl)) in inr (x, both.0, both.1)
 
 -- so where shutdown is blocked, something waits for a worker
@@ -182,11 +182,11 @@ pub blocked_waits : (script : Plan) (past : List Entry) → IsSound script → Q
     → (blockers_of script past ≡ 0 → ⊥) → SomeWaits script past
 unfolding blockers_of block_part
 blocked_waits script past sound q started blocked =
-    by (some_passes (is_open_block script past) (posts past)) (some_passes (is_open_job script past) (range_with_len 0 (length script.jobs)))
+    by_side (some_passes (is_open_block script past) (posts past)) (some_passes (is_open_job script past) (range_with_len 0 (length script.jobs)))
   where
-    by : (filter (is_open_block script past) (posts past) ≡ []) ⊎ ((p : Posted) × Contains (posts past) p × (is_open_block script past p ≡ true))
+    by_side : (filter (is_open_block script past) (posts past) ≡ []) ⊎ ((p : Posted) × Contains (posts past) p × (is_open_block script past p ≡ true))
         → (filter (is_open_job script past) (range_with_len 0 (length script.jobs)) ≡ [])
         ⊎ ((j : ℕ) × Contains (range_with_len 0 (length script.jobs)) j × (is_open_job script past j ≡ true)) → SomeWaits script past
-    by (inr (p, among, is)) jobs = task_waits script past p sound q started among is
-    by (inl none) (inr (j, among, is)) = open_job_waits script past j sound q started (range_contains (length script.jobs) j among) is
-    by (inl no_task) (inl no_job) = absurd (blocked (omega (arith, ap length no_task, ap length no_job, no_skips script past q)))
+    by_side (inr (p, among, is)) jobs = task_waits script past p sound q started among is
+    by_side (inl none) (inr (j, among, is)) = open_job_waits script past j sound q started (range_contains (length script.jobs) j among) is
+    by_side (inl no_task) (inl no_job) = absurd (blocked (omega (arith, ap length no_task, ap length no_job, no_skips script past q)))

@@ -1,6 +1,7 @@
 -- What the driver's actions have left in a legal past: each job that was started is posted, shutdown is done only where an
 -- action shut down, and a cancel or a shutdown that has begun has made its first entry.
-use Rattle.std.proofs.Common.{◌≡◌, ℕ, ◌+◌, Bool, true, false, cond, eqb, List, [], ◌∷◌, ◌++◌, length, refl, sym, ap, subst, ◌∙◌, append_assoc, Option, Some, None, inl, inr, ⊎_elim, arith}
+use Rattle.std.proofs.Common.{◌≡◌, ℕ, ◌+◌, Bool, true, false, cond, eqb, List, [], ◌∷◌, ◌++◌, length, refl, sym}
+use Rattle.std.proofs.Common.{ap, subst, ◌∙◌, append_assoc, Option, Some, None, inl, inr, ⊎_elim, arith}
 use Rattle.std.specs.Prelude.{◌⊎◌, ◌||◌, not, nat_le, is_some, slice_get, take}
 use Rattle.std.specs.List.{list_any, AllByRecursion}
 use Rattle.std.specs.Option.{option_map_or}
@@ -36,7 +37,7 @@ use Rattle.hist_model.specs.Allowed.{enters, by_script, by_task, is_ready_worker
 use Rattle.hist_model.specs.Legal.{IsLegal}
 use Rattle.hist_model.specs.Laws.Agenda.{Agenda, agenda_from, agenda, first_of, completes, next_agenda}
 use Rattle.hist_model.specs.Laws.Consistent.{is_pump, is_join, DoesOneThing}
-use Rattle.hist_model.proofs.Laws.Agenda.{current_is_first, agenda_push, behind_nothing}
+use Rattle.hist_model.proofs.Laws.Agenda.{current_is_first, agenda_push, behind_nothing, action_behind_nothing}
 use Rattle.hist_model.proofs.Laws.Legal.{legal_induction}
 use Rattle.hist_model.proofs.Laws.Choice.{found}
 use Rattle.hist_model.proofs.Laws.OneThing.{wanted_by, job_step_holds, legal_does_one_thing}
@@ -124,11 +125,11 @@ record Leaves (script : Plan) (past : List Entry) (a : Agenda) : Type 0 where
 
 -- a job that was posted stays posted
 stays_posted : (past : List Entry) (e : Entry) (j : ℕ) → is_some (job_post_of past j) ≡ true → is_some (job_post_of (past ++ e ∷ []) j) ≡ true
-stays_posted past e j is = rw (job_post_of_push past e j) (by (job_post_of past j) is)
+stays_posted past e j is = rw (job_post_of_push past e j) (by_job_post (job_post_of past j) is)
   where
-    by : (now : Option JobPosted) → is_some now ≡ true → is_some (job_post_after j past now e.kind) ≡ true
-    by None h = absurd cc
-    by (Some p) h = refl
+    by_job_post : (now : Option JobPosted) → is_some now ≡ true → is_some (job_post_after j past now e.kind) ≡ true
+    by_job_post None h = absurd cc
+    by_job_post (Some p) h = refl
 
 -- what was begun stays so
 stays_begun : (past : List Entry) (e : Entry) (x : Action) → Begun past x → Begun (past ++ e ∷ []) x
@@ -182,24 +183,24 @@ start_alone x j h = absurd cc
 -- a cancel and a shutdown begin with their first entry
 begins : (past : List Entry) (e : Entry) (own : List Entry) (x : Action) (made : List Entry) → completes x made e.kind ≡ false
     → (is_pump x ≡ false → is_join x ≡ false → wants own x made e.kind ≡ true) → Begun (past ++ e ∷ []) x
-begins past e own (actions.Cancel j) made goes_on wanted = is_cancelled_push past e j ∙ by e.kind goes_on (wanted refl refl)
+begins past e own (actions.Cancel j) made goes_on wanted = is_cancelled_push past e j ∙ by_kind e.kind goes_on (wanted refl refl)
   where
     two : (n : ℕ) → eqb n 1 ≡ true → eqb (n + 1) 2 ≡ false → ⊥
     two n h k = both_ways (eqb (n + 1) 2) k (ap (λ m. eqb (m + 1) 2) (eqb-true n 1 h))
 
-    by : (kind : Kind) → completes (actions.Cancel j) made kind ≡ false → wants own (actions.Cancel j) made kind ≡ true
+    by_kind : (kind : Kind) → completes (actions.Cancel j) made kind ≡ false → wants own (actions.Cancel j) made kind ≡ true
         → (is_cancelled past j || cancels j kind) ≡ true
-    by (kinds.JobCancel job) k h = or_right (is_cancelled past j) (eqb job j) (and_parts (eqb job j) (eqb (length made) 0) h).0
-    by (kinds.Cancelled job) k h = absurd (two (length made) (and_parts (eqb job j) (eqb (length made) 1) h).1 k)
-    by kind k h = absurd cc
-begins past e own actions.Shutdown made goes_on wanted = λ still. by (phase_of past) e.kind (wanted refl refl) (sym (phase_of_push past e) ∙ still)
+    by_kind (kinds.JobCancel job) k h = or_right (is_cancelled past j) (eqb job j) (and_parts (eqb job j) (eqb (length made) 0) h).0
+    by_kind (kinds.Cancelled job) k h = absurd (two (length made) (and_parts (eqb job j) (eqb (length made) 1) h).1 k)
+    by_kind kind k h = absurd cc
+begins past e own actions.Shutdown made goes_on wanted = λ still. by_phase (phase_of past) e.kind (wanted refl refl) (sym (phase_of_push past e) ∙ still)
   where
-    by : (now : Phase) (kind : Kind) → wants own actions.Shutdown made kind ≡ true → phase_after now kind ≡ phases.Running → ⊥
-    by phases.Running kinds.Shutdown h k = absurd cc
-    by phases.Started kinds.Shutdown h k = absurd cc
-    by phases.Done kinds.Shutdown h k = absurd cc
-    by now kinds.Done h k = absurd cc
-    by now kind h k = absurd cc
+    by_phase : (now : Phase) (kind : Kind) → wants own actions.Shutdown made kind ≡ true → phase_after now kind ≡ phases.Running → ⊥
+    by_phase phases.Running kinds.Shutdown h k = absurd cc
+    by_phase phases.Started kinds.Shutdown h k = absurd cc
+    by_phase phases.Done kinds.Shutdown h k = absurd cc
+    by_phase now kinds.Done h k = absurd cc
+    by_phase now kind h k = absurd cc
 begins past e own x made goes_on wanted = tt
 
 -- ---- the actions that are passed over
@@ -213,10 +214,6 @@ needs_none : (x : Action) (left : List Entry) → behind_action x [] ≡ Some le
 needs_none (actions.StartJob j) left h = absurd cc
 needs_none x left h = λ j. refl
 
-behind_none : (x : Action) (left : List Entry) → behind_action x [] ≡ Some left → left ≡ []
-behind_none (actions.Tick n) left h = behind_nothing n left h
-behind_none x left h = absurd cc
-
 -- an agenda that has made nothing begins behind actions that start no job, and its first action has made nothing
 record Skips (xs : List Action) : Type 0 where
   skipped : List Action
@@ -226,20 +223,20 @@ record Skips (xs : List Action) : Type 0 where
 
 skips : (xs : List Action) → Skips xs
 skips [] = record { skipped = []; parts = refl; plain = tt; none_made = refl }
-skips (x ∷ xs) = by (behind_action x []) refl (skips xs)
+skips (x ∷ xs) = by_behind_action (behind_action x []) refl (skips xs)
   where
     begun : Option (List Entry) → Agenda
     begun o = option_map_or (λ left. agenda_from xs left) o (record { actions = x ∷ xs; made = [] })
 
-    by : (o : Option (List Entry)) → behind_action x [] ≡ o → Skips xs → Skips (x ∷ xs)
-    by None is rest = record {
+    by_behind_action : (o : Option (List Entry)) → behind_action x [] ≡ o → Skips xs → Skips (x ∷ xs)
+    by_behind_action None is rest = record {
       skipped = [];
       parts = ap (λ p. (begun p).actions) (sym is);
       plain = tt;
       none_made = ap (λ p. (begun p).made) is;
     }
-    by (Some left) is rest =
-        let here : behind_action x [] ≡ Some [] = is ∙ ap Some (behind_none x left is) in
+    by_behind_action (Some left) is rest =
+        let here : behind_action x [] ≡ Some [] = is ∙ ap Some (action_behind_nothing x left is) in
         record {
           skipped = x ∷ rest.skipped;
           parts = ap (λ ys. x ∷ ys) rest.parts ∙ ap (λ p. x ∷ (rest.skipped ++ (begun p).actions)) (sym here);
@@ -260,13 +257,13 @@ other_leaves script past e a may other l = record {
   front = l.front;
   parts = l.parts;
   posted = λ j start. stays_posted past e j (l.posted j start);
-  done_by = λ done. by (done_now (phase_of past) e.kind (sym (phase_of_push past e) ∙ done));
+  done_by = λ done. by_side (done_now (phase_of past) e.kind (sym (phase_of_push past e) ∙ done));
   begun = λ x rest is some. stays_begun past e x (l.begun x rest is some);
 }
   where
-    by : (phase_of past ≡ phases.Done) ⊎ (e.kind ≡ kinds.Done) → list_any is_shutdown l.front ≡ true
-    by (inl before) = l.done_by before
-    by (inr now) = absurd (both_ways (eqb e.seat 0) other (ap (λ n. eqb n 0) (by_driver script past e.seat kinds.Done
+    by_side : (phase_of past ≡ phases.Done) ⊎ (e.kind ≡ kinds.Done) → list_any is_shutdown l.front ≡ true
+    by_side (inl before) = l.done_by before
+    by_side (inr now) = absurd (both_ways (eqb e.seat 0) other (ap (λ n. eqb n 0) (by_driver script past e.seat kinds.Done
         (done_is_wanted script past e.seat e.kind may now))))
 
 -- an entry of the driver, with the actions that it has left
@@ -277,15 +274,15 @@ own_leaves script past e [] made may one is l = record {
   front = l.front;
   parts = l.parts;
   posted = λ j start. stays_posted past e j (l.posted j start);
-  done_by = λ done. by (done_now (phase_of past) e.kind (sym (phase_of_push past e) ∙ done));
+  done_by = λ done. by_side (done_now (phase_of past) e.kind (sym (phase_of_push past e) ∙ done));
   begun = λ x rest none some. absurd cc;
 }
   where
-    by : (phase_of past ≡ phases.Done) ⊎ (e.kind ≡ kinds.Done) → list_any is_shutdown l.front ≡ true
-    by (inl before) = l.done_by before
-    by (inr now) = let v = wanted_by script past 0 kinds.Done (done_is_wanted script past 0 e.kind may now) in
+    by_side : (phase_of past ≡ phases.Done) ⊎ (e.kind ≡ kinds.Done) → list_any is_shutdown l.front ≡ true
+    by_side (inl before) = l.done_by before
+    by_side (inr now) = let v = wanted_by script past 0 kinds.Done (done_is_wanted script past 0 e.kind may now) in
         absurd (none-some v.value (sym is ∙ v.is))
-own_leaves script past e (x ∷ xs) made may one is l = by (completes x made e.kind) refl
+own_leaves script past e (x ∷ xs) made may one is l = by_completes (completes x made e.kind) refl
   where
     own : List Entry
     own = own_entries 0 past
@@ -344,10 +341,10 @@ own_leaves script past e (x ∷ xs) made may one is l = by (completes x made e.k
                 rw (job_post_of_push past e j) (start_posts own x made past j e.kind (job_post_of past j) starts (wanted alone.0 alone.1))
             here (inr skipped) = absurd (both_ways (list_any (is_start_of j) s.skipped) (none_started s.skipped s.plain j) skipped)
 
-    by : (b : Bool) → completes x made e.kind ≡ b
+    by_completes : (b : Bool) → completes x made e.kind ≡ b
         → Leaves script later (cond b (agenda_from xs []) (record { actions = x ∷ xs; made = made ++ e ∷ [] }))
-    by true full = ends full
-    by false short = goes_on short
+    by_completes true full = ends full
+    by_completes false short = goes_on short
 
 nothing_left : (script : Plan) → Leaves script [] (agenda script [])
 unfolding agenda phase_of
@@ -365,15 +362,15 @@ nothing_left script = record {
 leaves_next : (script : Plan) (past : List Entry) (e : Entry) → may_come script past e.seat e.kind ≡ true → DoesOneThing script past
     → Leaves script past (agenda script (own_entries 0 past)) → Leaves script (past ++ e ∷ []) (agenda script (own_entries 0 (past ++ e ∷ [])))
 leaves_next script past e may one l = subst (λ xs. Leaves script (past ++ e ∷ []) (agenda script xs)) (sym (own_entries_push past e 0))
-    (by (eqb e.seat 0) refl)
+    (by_seat (eqb e.seat 0) refl)
   where
     own : List Entry
     own = own_entries 0 past
 
-    by : (b : Bool) → eqb e.seat 0 ≡ b → Leaves script (past ++ e ∷ []) (agenda script (cond b (own ++ e ∷ []) own))
-    by true here = subst (Leaves script (past ++ e ∷ [])) (sym (agenda_push script own e)) (own_leaves script past e (agenda script own).actions
+    by_seat : (b : Bool) → eqb e.seat 0 ≡ b → Leaves script (past ++ e ∷ []) (agenda script (cond b (own ++ e ∷ []) own))
+    by_seat true here = subst (Leaves script (past ++ e ∷ [])) (sym (agenda_push script own e)) (own_leaves script past e (agenda script own).actions
         (agenda script own).made (ap (λ n. may_come script past n e.kind) (sym (eqb-true e.seat 0 here)) ∙ may) one (current_is_first script own) l)
-    by false other = other_leaves script past e (agenda script own) may other l
+    by_seat false other = other_leaves script past e (agenda script own) may other l
 
 legal_leaves : (script : Plan) (past : List Entry) → IsLegal script past → Leaves script past (agenda script (own_entries 0 past))
 legal_leaves script = legal_induction script (λ past. Leaves script past (agenda script (own_entries 0 past))) (nothing_left script)
@@ -383,7 +380,7 @@ legal_leaves script = legal_induction script (λ past. Leaves script past (agend
 -- ---- where the driver is
 
 -- the action that the driver is at is not complete
-current_waits : (xs : List Action) (own : List Entry) (c : Current) → current_from xs own ≡ Some c → behind_action c.action c.made ≡ None
+pub current_waits : (xs : List Action) (own : List Entry) (c : Current) → current_from xs own ≡ Some c → behind_action c.action c.made ≡ None
 current_waits [] own c is = absurd (none-some c is)
 current_waits (x ∷ xs) own c is = at (behind_action x own) refl is (λ left k. current_waits xs left c k)
   where
@@ -410,27 +407,29 @@ stands_at script past x rest made sound waits l = record {
   waits = waits;
   posted = λ j is. l.posted j (subst (IsInOrder l.front) is in_order);
   cancelled = λ j is some. subst (Begun past) is (l.begun x rest refl some);
-  started = λ is some. by (phase_of past) refl (subst (Begun past) is (l.begun x rest refl some)) (subst (IsInOrder l.front) is in_order);
+  started = λ is some. by_phase (phase_of past) refl (subst (Begun past) is (l.begun x rest refl some)) (subst (IsInOrder l.front) is in_order);
 }
   where
     in_order : IsInOrder l.front x
     in_order = subst (λ xs. IsInOrder xs x) (ap (take (length l.front)) l.parts ∙ take-append_seam l.front (x ∷ rest))
         (sound.actions.in_order (length l.front) x (ap (λ xs. slice_get xs (length l.front)) l.parts ∙ slice_get_seam l.front x rest))
 
-    by : (now : Phase) → phase_of past ≡ now → (phase_of past ≡ phases.Running → ⊥) → list_any is_shutdown l.front ≡ false → phase_of past ≡ phases.Started
-    by phases.Running is begun none = absurd (begun is)
-    by phases.Started is begun none = is
-    by phases.Done is begun none = absurd (both_ways (list_any is_shutdown l.front) none (l.done_by is))
+    by_phase : (now : Phase) → phase_of past ≡ now → (phase_of past ≡ phases.Running → ⊥) → list_any is_shutdown l.front ≡ false
+        → phase_of past ≡ phases.Started
+    by_phase phases.Running is begun none = absurd (begun is)
+    by_phase phases.Started is begun none = is
+    by_phase phases.Done is begun none = absurd (both_ways (list_any is_shutdown l.front) none (l.done_by is))
 
 pub stands : (script : Plan) (past : List Entry) (c : Current) → IsSound script → IsLegal script past → current script (own_entries 0 past) ≡ Some c
     → Stands script past c
 unfolding current
-stands script past c sound legal is = by (agenda script (own_entries 0 past)).actions (agenda script (own_entries 0 past)).made
+stands script past c sound legal is = by_agenda (agenda script (own_entries 0 past)).actions (agenda script (own_entries 0 past)).made
     (sym (current_is_first script (own_entries 0 past)) ∙ is) (legal_leaves script past legal)
   where
-    by : (xs : List Action) (made : List Entry) → first_of xs made ≡ Some c → Leaves script past (record { actions = xs; made = made }) → Stands script past c
-    by [] made k l = absurd (none-some c k)
-    by (x ∷ rest) made k l =
+    by_agenda : (xs : List Action) (made : List Entry) → first_of xs made ≡ Some c → Leaves script past (record { actions = xs; made = made })
+        → Stands script past c
+    by_agenda [] made k l = absurd (none-some c k)
+    by_agenda (x ∷ rest) made k l =
         let same : record { action = x; made = made } ≡ c = same_Some (record { action = x; made = made }) c k in
         subst (Stands script past) same (stands_at script past x rest made sound
         (ap (λ (d : Current). behind_action d.action d.made) same ∙ current_waits script.actions (own_entries 0 past) c is) l)

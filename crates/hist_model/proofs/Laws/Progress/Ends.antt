@@ -1,5 +1,6 @@
 -- Every way ends whole: a legal history is within the bound, some entry may follow while it is not whole, and none once it is.
-use Rattle.std.proofs.Common.{◌≡◌, ℕ, zero, suc, ◌+◌, ◌≤◌, Bool, true, false, cond, leb, List, [], ◌∷◌, ◌++◌, length, refl, sym, subst, ◌∙◌, append_assoc, append-nil, length-append, None, inl, inr, arith}
+use Rattle.std.proofs.Common.{◌≡◌, ℕ, zero, suc, ◌+◌, ◌≤◌, Bool, true, false, cond, leb, List, [], ◌∷◌, ◌++◌, length, refl}
+use Rattle.std.proofs.Common.{sym, subst, ◌∙◌, append_assoc, append-nil, length-append, None, inl, inr, arith}
 use Rattle.std.specs.Prelude.{◌⊎◌}
 use Rattle.std.proofs.lemmas.Bool.{and_parts, leb-true, both_ways, true_from_ne_false}
 use Rattle.std.proofs.lemmas.Option.{none-some}
@@ -15,8 +16,8 @@ use Rattle.hist_model.specs.Script.{current, is_finished, is_whole, IsWhole}
 use Rattle.hist_model.specs.Allowed.{by_script, may_come, IsAllowed}
 use Rattle.hist_model.specs.Legal.{IsLegal}
 use Rattle.hist_model.specs.Laws.Progress.{IsAtEnd, AlwaysAllowed, grown}
-use Rattle.hist_model.proofs.Laws.Legal.{nothing_is_legal, is_legal_push}
-use Rattle.hist_model.proofs.Laws.Entries.{entries_within}
+use Rattle.hist_model.proofs.Laws.Legal.{nothing_is_legal, is_legal_push, legal_next}
+use Rattle.hist_model.proofs.Laws.Entries.Bound.{entries_within}
 use Rattle.hist_model.proofs.Laws.JobEntries.{none_is}
 use Rattle.hist_model.proofs.Laws.OneThing.{wanted_by}
 use Rattle.hist_model.proofs.Laws.Takes.{IsReadyWorker}
@@ -30,7 +31,7 @@ ends_whole script past sound legal at_end = true_from_ne_false (is_whole script 
 -- after a whole history no entry is allowed
 pub whole_is_at_end : (script : Plan) (past : List Entry) → IsWhole script past → IsAtEnd script past
 unfolding is_finished
-whole_is_at_end script past whole e allowed = by (comes_by script past e.seat e.kind parts.1
+whole_is_at_end script past whole e allowed = by_comes (comes_by script past e.seat e.kind parts.1
     (λ w runs. none-some w (sym free.0 ∙ runs)) (λ h holds. none-some h (sym free.1 ∙ holds)))
   where
     done : (is_finished script past ≡ true) × (is_quiet script past ≡ true)
@@ -42,22 +43,18 @@ whole_is_at_end script past whole e allowed = by (comes_by script past e.seat e.
     free : (running past e.seat ≡ None) × (holding past e.seat ≡ None)
     free = free_parts past e.seat (quiet_is_free script past e.seat done.1 (omega (arith, leb-true e.seat script.workers parts.0)))
 
-    by : (by_script script past e.seat e.kind ≡ true) ⊎ IsReadyWorker script past e.seat → ⊥
-    by (inl wanted) = let c = wanted_by script past e.seat e.kind wanted in
+    by_comes : (by_script script past e.seat e.kind ≡ true) ⊎ IsReadyWorker script past e.seat → ⊥
+    by_comes (inl wanted) = let c = wanted_by script past e.seat e.kind wanted in
         none-some c.value (sym (none_is (current script (own_entries 0 past)) done.0) ∙ c.is)
-    by (inr worker) = both_ways (is_finished script past) worker.goes_on done.0
+    by_comes (inr worker) = both_ways (is_finished script past) worker.goes_on done.0
 
 -- ---- growing
-
--- an allowed entry more is legal
-one_more : (script : Plan) (past : List Entry) (e : Entry) → IsLegal script past → IsAllowed script past e → IsLegal script (past ++ e ∷ [])
-one_more script past e legal allowed = is_legal_push script past e ∙ rw (legal, allowed) refl
 
 -- none is allowed once the bound is reached
 no_more : (script : Plan) (past : List Entry) (e : Entry) → IsSound script → IsLegal script past → IsAllowed script past e
     → events_bound_of script ≤ length past → ⊥
 no_more script past e sound legal allowed full =
-    omega (arith, length-append past (e ∷ []), entries_within script (past ++ e ∷ []) sound (one_more script past e legal allowed), full)
+    omega (arith, length-append past (e ∷ []), entries_within script (past ++ e ∷ []) sound (legal_next script past e legal allowed), full)
 
 -- a legal history of at least so many entries, with those that make it whole
 abbrev CanBeWhole : Plan → List Entry → Type 0
@@ -70,12 +67,12 @@ grows_whole : (script : Plan) (n : ℕ) (past : List Entry) → IsSound script �
     → CanBeWhole script past
 grows_whole script zero past sound legal left = whole_already script past legal (ends_whole script past sound legal
     (λ e allowed. no_more script past e sound legal allowed (omega (arith, left))))
-grows_whole script (suc n) past sound legal left = by (is_whole script past) refl (λ e allowed. grows_whole script n (past ++ e ∷ []) sound
-    (one_more script past e legal allowed) (omega (arith, left, length-append past (e ∷ []))))
+grows_whole script (suc n) past sound legal left = by_whole (is_whole script past) refl (λ e allowed. grows_whole script n (past ++ e ∷ []) sound
+    (legal_next script past e legal allowed) (omega (arith, left, length-append past (e ∷ []))))
   where
-    by : (b : Bool) → is_whole script past ≡ b → ((e : Entry) → IsAllowed script past e → CanBeWhole script (past ++ e ∷ [])) → CanBeWhole script past
-    by true whole next = whole_already script past legal whole
-    by false not_whole next =
+    by_whole : (b : Bool) → is_whole script past ≡ b → ((e : Entry) → IsAllowed script past e → CanBeWhole script (past ++ e ∷ [])) → CanBeWhole script past
+    by_whole true whole next = whole_already script past legal whole
+    by_whole false not_whole next =
         let s = some_may_come script past sound legal not_whole in
         let (rest, rest_legal, rest_whole) = next s.entry s.allowed in
         let same = append_assoc past (s.entry ∷ []) rest in
@@ -92,17 +89,17 @@ choices_grow script choose zero past sound always legal left = (
   legal,
   ends_whole script past sound legal (λ e allowed. no_more script past e sound legal allowed (omega (arith, left))),
 )
-choices_grow script choose (suc n) past sound always legal left = by (is_whole script past) refl
+choices_grow script choose (suc n) past sound always legal left = by_whole (is_whole script past) refl
     (λ not_whole. let allowed = always past legal not_whole in choices_grow script choose n (past ++ choose past ∷ []) sound always
-    (one_more script past (choose past) legal allowed) (omega (arith, left, length-append past (choose past ∷ []))))
+    (legal_next script past (choose past) legal allowed) (omega (arith, left, length-append past (choose past ∷ []))))
   where
     Ends : List Entry → Type 0
     Ends log = IsLegal script log × IsWhole script log
 
-    by : (b : Bool) → is_whole script past ≡ b → (is_whole script past ≡ false → Ends (grown script choose n (past ++ choose past ∷ [])))
+    by_whole : (b : Bool) → is_whole script past ≡ b → (is_whole script past ≡ false → Ends (grown script choose n (past ++ choose past ∷ [])))
         → Ends (cond b past (grown script choose n (past ++ choose past ∷ [])))
-    by true whole next = (legal, whole)
-    by false not_whole next = next not_whole
+    by_whole true whole next = (legal, whole)
+    by_whole false not_whole next = next not_whole
 
 pub choices_end : (script : Plan) (choose : List Entry → Entry) → IsSound script → AlwaysAllowed script choose
     → IsLegal script (grown script choose (events_bound_of script) []) × IsWhole script (grown script choose (events_bound_of script) [])

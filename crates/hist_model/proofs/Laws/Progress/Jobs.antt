@@ -20,7 +20,8 @@ use Rattle.script_model.specs.Laws.Sound.{IsSound, IsJobSound}
 use Rattle.task_model.specs.Policies.{is_held}
 use Rattle.task_model.specs.Refusal.{is_job_forbidden}
 use Rattle.task_model.specs.Seats.{holding, inside}
-use Rattle.task_model.specs.Jobs.{JobPosted, job_post_of, is_job_accepted, is_cancelled, claimed, items_of, cap_of, job_sum, concurrency, may_enter, MayEnter, free_id, is_finished_job, reply_of}
+use Rattle.task_model.specs.Jobs.{JobPosted, job_post_of, is_job_accepted, is_cancelled, claimed, items_of, cap_of}
+use Rattle.task_model.specs.Jobs.{job_sum, concurrency, may_enter, MayEnter, free_id, is_finished_job, reply_of}
 use Rattle.task_model.specs.Sources.{Candidate, job_candidate, job_waiting, IsWaiting, best_of}
 use Rattle.pool_laws.proofs.Jobs.Numbers.{free_id_is_first}
 use Rattle.pool_laws.proofs.Choice.Candidates.{job_in, candidate_would_wait, not_held_is_waiting}
@@ -30,7 +31,7 @@ use Rattle.hist_model.specs.Allowed.{is_ready_worker, is_job, same_number, same_
 use Rattle.hist_model.specs.Laws.Progress.{Proceeds}
 use Rattle.hist_model.specs.Laws.Progress.Proceeds.{Wanted, GoesIn}
 use Rattle.hist_model.proofs.Laws.Choice.{found}
-use Rattle.hist_model.proofs.Laws.EntriesJobs.{claimed_within}
+use Rattle.hist_model.proofs.Laws.Entries.Jobs.{claimed_within}
 use Rattle.hist_model.proofs.Laws.Own.{holding_own}
 use Rattle.hist_model.proofs.Laws.Progress.Made.{may_make, by_it, wanted_now}
 use Rattle.hist_model.proofs.Laws.Progress.Quiet.{Quiet, nobody_inside, all_done}
@@ -86,7 +87,7 @@ pub join_proceeds : (script : Plan) (past : List Entry) (j : ℕ) (made : List E
     → is_some (job_post_of past j) ≡ true → current script (own_entries 0 past) ≡ Some (record { action = actions.Join j; made = made })
     → Proceeds script past (record { action = actions.Join j; made = made })
 unfolding may_come
-join_proceeds script past j made sound q within posted is = by (reply_of script past j) refl
+join_proceeds script past j made sound q within posted is = by_reply (reply_of script past j) refl
   where
     c : Current
     c = record { action = actions.Join j; made = made }
@@ -114,11 +115,11 @@ join_proceeds script past j made sound q within posted is = by (reply_of script 
         (and_from _ _ (wanted_now script past c (kinds.JobTake j n (claimed past j)) is wanted) may))
         (ap (λ o. same_number o (Some n)) free ∙ eq-eqb n n refl)) (eq-eqb (claimed past j) (claimed past j) refl)))
 
-    by : (o : Option JobReply) → reply_of script past j ≡ o → Proceeds script past c
-    by (Some reply) says = Wanted (by_it script past c (kinds.Joined j reply) wanted (and_from _ _ (and_from _ _
+    by_reply : (o : Option JobReply) → reply_of script past j ≡ o → Proceeds script past c
+    by_reply (Some reply) says = Wanted (by_it script past c (kinds.Joined j reply) wanted (and_from _ _ (and_from _ _
         (wanted_now script past c (kinds.Joined j reply) is wanted) (ap (λ xs. eqb (length xs) 0) (nobody_inside script past j q)))
         (ap (holds_of (same_reply reply)) says ∙ same_reply_now reply)))
-    by None none =
+    by_reply None none =
         let (ok, not_done, not_cancelled, allowed) = no_reply (holds_of (λ p. not p.ok) (job_post_of past j)) (is_finished_job script past j)
         (is_cancelled past j) (is_job_forbidden script past j) (Finished (job_sum past j)) none in
         let id = free_id_is_first script past j in

@@ -69,13 +69,13 @@ no_load script past test q = ap length (filter_never (λ seat. holds_of test (wo
 -- each group of a sound script may do some work
 some_limit : (script : Plan) (priority : Priority) → IsSound script
     → (1 ≤ limit script (group_of script priority)) × (1 ≤ best_limit script (group_of script priority))
-some_limit script priority sound = by (is_best_effort priority) (nat_lt 0 script.background) refl
+some_limit script priority sound = by_best_effort (is_best_effort priority) (nat_lt 0 script.background) refl
   where
-    by : (b c : Bool) → nat_lt 0 script.background ≡ c
+    by_best_effort : (b c : Bool) → nat_lt 0 script.background ≡ c
         → (1 ≤ limit script (cond (b && c) Background Foreground)) × (1 ≤ best_limit script (cond (b && c) Background Foreground))
-    by true true is = (omega (arith, ltb-true 0 script.background is), omega (arith, ltb-true 0 script.background is))
-    by true false is = (sound.config.some_foreground, sound.config.some_best)
-    by false c is = (sound.config.some_foreground, sound.config.some_best)
+    by_best_effort true true is = (omega (arith, ltb-true 0 script.background is), omega (arith, ltb-true 0 script.background is))
+    by_best_effort true false is = (sound.config.some_foreground, sound.config.some_best)
+    by_best_effort false c is = (sound.config.some_foreground, sound.config.some_best)
 
 -- so there is room for work of each priority
 pub has_room_now : (script : Plan) (past : List Entry) (priority : Priority) → IsSound script → Quiet script past → has_room script past priority ≡ true

@@ -1,5 +1,6 @@
 -- A seat that runs a task may make its next entry, and a seat that holds an item its step.
-use Rattle.std.proofs.Common.{◌≡◌, ℕ, ◌≤◌, ◌<◌, Bool, true, false, cond, eqb, List, [], ◌∷◌, ◌++◌, length, refl, sym, ap, subst, ◌∙◌, Option, Some, None, ⊎_elim, arith}
+use Rattle.std.proofs.Common.{◌≡◌, ℕ, ◌≤◌, ◌<◌, Bool, true, false, cond, eqb, List, [], ◌∷◌, ◌++◌, length}
+use Rattle.std.proofs.Common.{refl, sym, ap, subst, ◌∙◌, Option, Some, None, ⊎_elim, arith}
 use Rattle.std.specs.Prelude.{not, ◌||◌, filter, slice_get, option_and_then}
 use Rattle.std.specs.Option.{IfSome}
 use Rattle.std.proofs.lemmas.Bool.{and_from, and_parts, or_cases, or_right, eq-eqb, eqb-true, cases_lt}
@@ -33,7 +34,7 @@ use Rattle.hist_model.specs.Laws.Progress.{MayMake, end_of, step_of, TaskGoesOn}
 use Rattle.hist_model.specs.Laws.Progress.TaskGoesOn.{ByStep, Ends}
 use Rattle.hist_model.proofs.Laws.Legal.{legal_induction}
 use Rattle.hist_model.proofs.Laws.Choice.{found}
-use Rattle.hist_model.proofs.Laws.Consistent.{legal_is_consistent}
+use Rattle.hist_model.proofs.Laws.Consistent.{legal_is_consistent, runs_known}
 use Rattle.hist_model.proofs.Laws.HoldsApart.{legal_holds_apart}
 use Rattle.hist_model.proofs.Laws.OneThing.{wanted_by, legal_does_one_thing}
 use Rattle.hist_model.proofs.Laws.Takes.{by_driver}
@@ -111,12 +112,12 @@ own_acts script past seat kind w may d all runs = all seat w runs
 
 acts_next : (script : Plan) (past : List Entry) (e : Entry) → may_come script past e.seat e.kind ≡ true → DoesOneThing script past → ActsWithin script past
     → ActsWithin script (past ++ e ∷ [])
-acts_next script past e may d all seat w runs = by (eqb e.seat seat) refl
+acts_next script past e may d all seat w runs = by_seat (eqb e.seat seat) refl
   where
-    by : (b : Bool) → eqb e.seat seat ≡ b → acts_done (past ++ e ∷ []) seat ≤ length (acts_of script w.task)
-    by true here = rw (acts_done_push past e seat, here) (subst (λ s. acts_after (acts_done past s) e.kind ≤ length (acts_of script w.task))
+    by_seat : (b : Bool) → eqb e.seat seat ≡ b → acts_done (past ++ e ∷ []) seat ≤ length (acts_of script w.task)
+    by_seat true here = rw (acts_done_push past e seat, here) (subst (λ s. acts_after (acts_done past s) e.kind ≤ length (acts_of script w.task))
         (eqb-true e.seat seat here) (own_acts script past e.seat e.kind w may d all (sym (running_here past e seat here) ∙ runs)))
-    by false other = rw (acts_other past e seat other) (all seat w (sym (running_other past e seat other) ∙ runs))
+    by_seat false other = rw (acts_other past e seat other) (all seat w (sym (running_other past e seat other) ∙ runs))
 
 nothing_acted : (script : Plan) → ActsWithin script []
 unfolding running
@@ -127,11 +128,6 @@ acts_within script = legal_induction script (ActsWithin script) (nothing_acted s
     acts_next script past e (and_parts _ (may_come script past e.seat e.kind) allowed).1 (legal_does_one_thing script past legal) all)
 
 -- ---- tasks
-
--- who runs is a seat of the script
-runs_known : (script : Plan) (past : List Entry) (seat : ℕ) (w : Running) (main : Bool) → RunsAs script past seat w main → seat ≤ script.workers
-runs_known script past seat w false r = r.known
-runs_known script past seat w true r = omega (arith, r.driver)
 
 pub runner_known : (script : Plan) (past : List Entry) (seat : ℕ) (w : Running) → IsLegal script past → running past seat ≡ Some w → seat ≤ script.workers
 runner_known script past seat w legal runs = runs_known script past seat w w.is_main ((legal_is_consistent script past legal).runs seat w runs)
@@ -181,7 +177,7 @@ end_may_come : (script : Plan) (past : List Entry) (seat : ℕ) (w : Running) (m
     → may_come script past seat (cond main (kinds.MainEnd w.task (after (steps_of script w.task) w.found))
     (kinds.End w.task (after (steps_of script w.task) w.found))) ≡ true
 unfolding may_come
-end_may_come script past seat w main is r runs done = by main is r
+end_may_come script past seat w main is r runs done = by_main main is r
   where
     left : ℕ
     left = after (steps_of script w.task) w.found
@@ -189,10 +185,10 @@ end_may_come script past seat w main is r runs done = by main is r
     all_done : has_done script past seat left w ≡ true
     all_done = rw (eq-eqb (acts_done past seat) (length (acts_of script w.task)) done, eq-eqb left left refl) refl
 
-    by : (b : Bool) → w.is_main ≡ b → RunsAs script past seat w b
+    by_main : (b : Bool) → w.is_main ≡ b → RunsAs script past seat w b
         → may_come script past seat (cond b (kinds.MainEnd w.task left) (kinds.End w.task left)) ≡ true
-    by true is_main as_main = rw (eq-eqb seat 0 as_main.driver, runs) (rw (is_main, eq-eqb w.task w.task refl, all_done) refl)
-    by false is_pool as_pool = rw (runs) (rw (is_pool, eq-eqb w.task w.task refl, all_done) refl)
+    by_main true is_main as_main = rw (eq-eqb seat 0 as_main.driver, runs) (rw (is_main, eq-eqb w.task w.task refl, all_done) refl)
+    by_main false is_pool as_pool = rw (runs) (rw (is_pool, eq-eqb w.task w.task refl, all_done) refl)
 
 -- a list has no element at a place past its end alone
 past_the_end : (xs : List Step) (n : ℕ) → slice_get xs n ≡ None → n ≤ length xs → n ≡ length xs
@@ -201,7 +197,7 @@ past_the_end xs n none within = ⊎_elim (λ less. absurd (none-some _ (sym none
 
 pub task_goes_on : (script : Plan) (past : List Entry) (seat : ℕ) (w : Running) → IsLegal script past → running past seat ≡ Some w
     → TaskGoesOn script past seat w
-task_goes_on script past seat w legal runs = by (next_act script past seat) refl
+task_goes_on script past seat w legal runs = by_next_act (next_act script past seat) refl
   where
     known : seat ≤ script.workers
     known = runner_known script past seat w legal runs
@@ -210,9 +206,9 @@ task_goes_on script past seat w legal runs = by (next_act script past seat) refl
     act step next = subst (λ o. IfSome o (λ s. is_act s ≡ true)) (sym (act_is script past seat w runs) ∙ next)
         (slice_get_all (λ s. is_act s ≡ true) (acts_of script w.task) (acts_done past seat) (filter_passes is_act (steps_of script w.task)))
 
-    by : (o : Option Step) → next_act script past seat ≡ o → TaskGoesOn script past seat w
-    by (Some step) next = step_goes_on script past seat w step known runs next (act step next)
-    by None none = Ends none (may_make script past seat (end_of script w) known (end_may_come script past seat w w.is_main refl
+    by_next_act : (o : Option Step) → next_act script past seat ≡ o → TaskGoesOn script past seat w
+    by_next_act (Some step) next = step_goes_on script past seat w step known runs next (act step next)
+    by_next_act None none = Ends none (may_make script past seat (end_of script w) known (end_may_come script past seat w w.is_main refl
         ((legal_is_consistent script past legal).runs seat w runs) runs
         (past_the_end (acts_of script w.task) (acts_done past seat) (sym (act_is script past seat w runs) ∙ none) (acts_within script past legal seat w runs))))
 

@@ -37,13 +37,13 @@ use Rattle.hist_model.proofs.Laws.Progress.Actions.{action_goes_on}
 range_fails : (p : ℕ → Bool) (start len : ℕ) → list_all p (range_with_len start len) ≡ false
     → (x : ℕ) × (start ≤ x) × (x < start + len) × (p x ≡ false)
 range_fails p start zero h = absurd (true≢false h)
-range_fails p start (suc len) h = by (p start) refl (range_fails p (start + 1) len) h
+range_fails p start (suc len) h = by_test (p start) refl (range_fails p (start + 1) len) h
   where
-    by : (b : Bool) → p start ≡ b
+    by_test : (b : Bool) → p start ≡ b
         → (list_all p (range_with_len (start + 1) len) ≡ false → (x : ℕ) × (start + 1 ≤ x) × (x < start + 1 + len) × (p x ≡ false))
         → (b && list_all p (range_with_len (start + 1) len)) ≡ false → (x : ℕ) × (start ≤ x) × (x < start + suc len) × (p x ≡ false)
-    by true is rest k = let (x, from, to, fails) = rest k in (x, omega (arith, from), omega (arith, to), fails)
-    by false is rest k = (start, omega arith, omega arith, is)
+    by_test true is rest k = let (x, from, to, fails) = rest k in (x, omega (arith, from), omega (arith, to), fails)
+    by_test false is rest k = (start, omega arith, omega arith, is)
 
 -- the script is not finished while the driver is at an action
 not_finished : (script : Plan) (past : List Entry) (c : Current) → current script (own_entries 0 past) ≡ Some c → is_finished script past ≡ false
@@ -57,7 +57,7 @@ flush_proceeds : (script : Plan) (past : List Entry) (made : List Entry) → Qui
     → current script (own_entries 0 past) ≡ Some (record { action = actions.Flush; made = made })
     → Proceeds script past (record { action = actions.Flush; made = made })
 unfolding may_come
-flush_proceeds script past made q is = by (list_all (λ worker. is_none (best_of script past worker)) (worker_seats script)) refl
+flush_proceeds script past made q is = by_all (list_all (λ worker. is_none (best_of script past worker)) (worker_seats script)) refl
   where
     c : Current
     c = record { action = actions.Flush; made = made }
@@ -67,9 +67,9 @@ flush_proceeds script past made q is = by (list_all (λ worker. is_none (best_of
     best worker None is_it some from to = absurd cc
     best worker (Some b) is_it some from to = takes_best script past worker b q (not_finished script past c is) from to is_it
 
-    by : (b : Bool) → list_all (λ worker. is_none (best_of script past worker)) (worker_seats script) ≡ b → Proceeds script past c
-    by true idle = Wanted (by_it script past c kinds.Idle refl (and_from _ _ (and_from _ _ (wanted_now script past c kinds.Idle is refl) q.quiet) idle))
-    by false busy =
+    by_all : (b : Bool) → list_all (λ worker. is_none (best_of script past worker)) (worker_seats script) ≡ b → Proceeds script past c
+    by_all true idle = Wanted (by_it script past c kinds.Idle refl (and_from _ _ (and_from _ _ (wanted_now script past c kinds.Idle is refl) q.quiet) idle))
+    by_all false busy =
         let (worker, from, to, some) = range_fails (λ seat. is_none (best_of script past seat)) 1 script.workers busy in
         Takes refl (best worker (best_of script past worker) refl some from (omega (arith, to)))
 
@@ -96,7 +96,7 @@ shutdown_proceeds : (script : Plan) (past : List Entry) (x : Entry) (made : List
     → current script (own_entries 0 past) ≡ Some (record { action = actions.Shutdown; made = x ∷ made })
     → Proceeds script past (record { action = actions.Shutdown; made = x ∷ made })
 unfolding may_come
-shutdown_proceeds script past x [] sound q s is = by (eqb (blockers_of script past) 0) refl
+shutdown_proceeds script past x [] sound q s is = by_blockers (eqb (blockers_of script past) 0) refl
   where
     c : Current
     c = record { action = actions.Shutdown; made = x ∷ [] }
@@ -104,10 +104,10 @@ shutdown_proceeds script past x [] sound q s is = by (eqb (blockers_of script pa
     started : phase_of past ≡ phases.Started
     started = s.started refl (λ none. absurd cc)
 
-    by : (b : Bool) → eqb (blockers_of script past) 0 ≡ b → Proceeds script past c
-    by true free = Wanted (by_it script past c kinds.Done refl
+    by_blockers : (b : Bool) → eqb (blockers_of script past) 0 ≡ b → Proceeds script past c
+    by_blockers true free = Wanted (by_it script past c kinds.Done refl
         (and_from _ _ (and_from _ _ (wanted_now script past c kinds.Done is refl) (ap is_started started)) free))
-    by false blocked =
+    by_blockers false blocked =
         let w = blocked_waits script past sound q started (λ none. true≢false (sym (eq-eqb (blockers_of script past) 0 none) ∙ blocked)) in
         Takes refl (worker_takes script past w.source sound q (not_finished script past c is) w.waits w.for_one)
 shutdown_proceeds script past x (y ∷ made) sound q s is = absurd (none-some made (sym s.waits))
@@ -147,16 +147,17 @@ of_action script past c (Takes waits w) = one script past w.seat w.kind w.may
 
 -- where somebody is at something, that goes on
 of_seat : (script : Plan) (past : List Entry) (seat : ℕ) → GoesOn script past → is_free past seat ≡ false → SomeMayCome script past
-of_seat script past seat g busy = by (running past seat) (holding past seat) refl refl busy
+of_seat script past seat g busy = by_running (running past seat) (holding past seat) refl refl busy
   where
-    by : (r : Option Running) (h : Option Holding) → running past seat ≡ r → holding past seat ≡ h → (is_none r && is_none h) ≡ false → SomeMayCome script past
-    by (Some w) h runs holds k = of_task script past seat w (g.tasks_go_on seat w runs)
-    by None (Some h) runs holds k = one script past seat (step_of script past seat h) (g.items_go_on seat h holds)
-    by None None runs holds k = absurd cc
+    by_running : (r : Option Running) (h : Option Holding) → running past seat ≡ r → holding past seat ≡ h → (is_none r && is_none h) ≡ false
+        → SomeMayCome script past
+    by_running (Some w) h runs holds k = of_task script past seat w (g.tasks_go_on seat w runs)
+    by_running None (Some h) runs holds k = one script past seat (step_of script past seat h) (g.items_go_on seat h holds)
+    by_running None None runs holds k = absurd cc
 
 pub some_may_come : (script : Plan) (past : List Entry) → IsSound script → IsLegal script past → is_whole script past ≡ false → SomeMayCome script past
 unfolding is_quiet is_finished
-some_may_come script past sound legal not_whole = by (is_quiet script past) refl
+some_may_come script past sound legal not_whole = by_quiet (is_quiet script past) refl
   where
     g : GoesOn script past
     g = goes_on script past sound legal
@@ -165,6 +166,6 @@ some_may_come script past sound legal not_whole = by (is_quiet script past) refl
     at None is quiet k = absurd cc
     at (Some c) is quiet k = of_action script past c (g.quiet_proceeds c quiet is)
 
-    by : (b : Bool) → is_quiet script past ≡ b → SomeMayCome script past
-    by true quiet = at (current script (own_entries 0 past)) refl quiet (ap (λ b. is_finished script past && b) (sym quiet) ∙ not_whole)
-    by false busy = let (seat, from, to, fails) = range_fails (is_free past) 0 (script.workers + 1) busy in of_seat script past seat g fails
+    by_quiet : (b : Bool) → is_quiet script past ≡ b → SomeMayCome script past
+    by_quiet true quiet = at (current script (own_entries 0 past)) refl quiet (ap (λ b. is_finished script past && b) (sym quiet) ∙ not_whole)
+    by_quiet false busy = let (seat, from, to, fails) = range_fails (is_free past) 0 (script.workers + 1) busy in of_seat script past seat g fails

@@ -33,13 +33,13 @@ use Rattle.hist_model.proofs.Laws.Progress.Quiet.{Quiet, has_room_now}
 pub takes_best : (script : Plan) (past : List Entry) (seat : ℕ) (best : Candidate) → Quiet script past → is_finished script past ≡ false → 1 ≤ seat
     → seat ≤ script.workers → best_of script past seat ≡ Some best → WorkerTakes script past
 unfolding may_come
-takes_best script past seat best q going worker known is = by best.source refl (best_is script past seat best is).waits
+takes_best script past seat best q going worker known is = by_source best.source refl (best_is script past seat best is).waits
   where
     ready : is_ready_worker script past seat ≡ true
     ready = rw (le-leb 1 seat worker, le-leb seat script.workers known, q.runs seat, q.holds seat, going) refl
 
-    by : (source : TaskSource) → best.source ≡ source → IsWaitingSource script past source → WorkerTakes script past
-    by (Sequence s) same (head, head_is, not_running) = record {
+    by_source : (source : TaskSource) → best.source ≡ source → IsWaitingSource script past source → WorkerTakes script past
+    by_source (Sequence s) same (head, head_is, not_running) = record {
       seat = seat;
       worker = worker;
       known = known;
@@ -58,7 +58,7 @@ takes_best script past seat best q going worker known is = by best.source refl (
             eq-eqb (cell_of script past s) (cell_of script past s) refl,
           ) refl));
     }
-    by (Job j) same may = let id = free_id_is_first script past j in record {
+    by_source (Job j) same may = let id = free_id_is_first script past j in record {
       seat = seat;
       worker = worker;
       known = known;
@@ -75,11 +75,11 @@ takes_best script past seat best q going worker known is = by best.source refl (
 -- a seat that may take a source that waits has a best one
 some_best : (script : Plan) (past : List Entry) (seat : ℕ) (c : Candidate) → IsWaiting script past c → is_takeable script past seat c ≡ true
     → (best : Candidate) × (best_of script past seat ≡ Some best)
-some_best script past seat c waits takeable = by (best_of script past seat) refl
+some_best script past seat c waits takeable = by_best (best_of script past seat) refl
   where
-    by : (o : Option Candidate) → best_of script past seat ≡ o → (best : Candidate) × (best_of script past seat ≡ Some best)
-    by (Some best) is = (best, is)
-    by None none = absurd (both_ways (is_takeable script past seat c) (All-contains (λ d. is_takeable script past seat d ≡ false) (waiting script past) c
+    by_best : (o : Option Candidate) → best_of script past seat ≡ o → (best : Candidate) × (best_of script past seat ≡ Some best)
+    by_best (Some best) is = (best, is)
+    by_best None none = absurd (both_ways (is_takeable script past seat c) (All-contains (λ d. is_takeable script past seat d ≡ false) (waiting script past) c
         (no_best script past seat none) waits) takeable)
 
 -- a worker that may take what a runner has
@@ -95,7 +95,7 @@ any_seat script sound = record { seat = 1; worker = omega arith; known = sound.c
 
 -- and what a single-thread runner has is for a worker of the script
 pub seat_for : (script : Plan) (runner : ℕ) → IsSound script → SeatFor script (seat_of script runner)
-seat_for script runner sound = by (slice_get script.runners runner)
+seat_for script runner sound = by_runner (slice_get script.runners runner)
     (slice_get_all (λ r. IsSeatThere script r.kind) script.runners runner sound.declarations.seats_there)
   where
     of_kind : (kind : RunnerKind) → IsSeatThere script kind → SeatFor script (seat_of_kind kind)
@@ -103,9 +103,9 @@ seat_for script runner sound = by (slice_get script.runners runner)
     of_kind Sequenced there = any_seat script sound
     of_kind (Single seat) there = record { seat = seat; worker = there.0; known = there.1; fits = eq-eqb seat seat refl }
 
-    by : (o : Option Runner) → IfSome o (λ r. IsSeatThere script r.kind) → SeatFor script (option_and_then (λ r. seat_of_kind r.kind) o)
-    by None there = any_seat script sound
-    by (Some r) there = of_kind r.kind there
+    by_runner : (o : Option Runner) → IfSome o (λ r. IsSeatThere script r.kind) → SeatFor script (option_and_then (λ r. seat_of_kind r.kind) o)
+    by_runner None there = any_seat script sound
+    by_runner (Some r) there = of_kind r.kind there
 
 -- where a source waits that some worker may take, a worker takes something
 pub worker_takes : (script : Plan) (past : List Entry) (c : Candidate) → IsSound script → Quiet script past → is_finished script past ≡ false

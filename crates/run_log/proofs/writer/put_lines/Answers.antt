@@ -7,14 +7,16 @@ use Rattle.run_log.proofs.writer.put_lines.Goals as goal
 
 pub returns-in_err-put_all-clause-cut : goal.returns-in_err-put_all-clause-cut
 returns-in_err-put_all-clause-cut g c =
-    let cut = gains_cut _ _ _ _ _ _ _ _ c.as_slice-entry-items.ensures (c.deref.ensures.0 ∙ c.line.ensures.items) c.loop-place-test.true c.loop-place.invariant.taken
+    let cut = gains_cut _ _ _ _ _ _ _ _ c.as_slice-entry-items.ensures
+    (c.deref.ensures.0 ∙ c.line.ensures.items) c.loop-place-test.true c.loop-place.invariant.taken
     c.in_err-put_all.ensures.cut in
     elim c.from_residual.result as (λ r. OnErr r ((n : ℕ) × Gains (g.K.Sink.holds c.args.sink.now) (take n (log_lines c.args.log.now.items))
     (g.K.Sink.holds c.put_all.new.sink))) [ Ok _ ↦ tt | Err _ ↦ cut ]
 
 pub loop-place-preserved : goal.loop-place-preserved
 loop-place-preserved g c = record {
-  taken = gains_line _ _ _ _ _ _ _ _ c.as_slice-entry-items.ensures (c.deref.ensures.0 ∙ c.line.ensures.items) c.loop-place-test.true c.loop-place.invariant.taken
+  taken = gains_line _ _ _ _ _ _ _ _ c.as_slice-entry-items.ensures
+      (c.deref.ensures.0 ∙ c.line.ensures.items) c.loop-place-test.true c.loop-place.invariant.taken
       c.in_ok-put_all.ensures.written;
   steady = c.in_ok-put_all.ensures.steady ∙ c.loop-place.invariant.steady;
 }

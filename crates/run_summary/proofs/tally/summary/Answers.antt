@@ -1,6 +1,6 @@
 -- A legal log of a sound script is short, and the four figures are those of its summary.
 use Rattle.std.proofs.Common.{arith}
-use Rattle.hist_model.proofs.Laws.Entries.{entries_within_limit}
+use Rattle.hist_model.proofs.Laws.Entries.Bound.{entries_within_limit}
 use Rattle.run_summary.proofs.CellTable.{figures}
 use Rattle.run_summary.proofs.tally.summary.Goals as goal
 

@@ -1,5 +1,6 @@
+use Rattle.task_body.proofs.Progress.{stepped}
 use Rattle.std.proofs.Common.{◌∙◌}
-use Rattle.seat_hand.proofs.UnderWay.{acts_stay, stepped}
+use Rattle.seat_hand.proofs.UnderWay.{acts_stay}
 use Rattle.seat_hand.proofs.hand.advance.Goals as goal
 
 pub loop-next-preserved : goal.loop-next-preserved

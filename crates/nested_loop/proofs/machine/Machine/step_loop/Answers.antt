@@ -1,7 +1,8 @@
 use Rattle.std.proofs.Common.{◌≡◌, ◌<◌, ◌≤◌, true, false, sym, ap, ◌∙◌, subst}
 use Rattle.nested_loop.specs.Nest.{is_nestable}
 use Rattle.nested_loop.specs.Stands.{Made}
-use Rattle.nested_loop.proofs.Made.{can_take, deferred_free, defers_front, frames_free, loop_depth, loop_room, quits_full, quits_nested, quits_outermost, starts_nested, starts_outermost}
+use Rattle.nested_loop.proofs.Made.{can_take, deferred_free, defers_front, frames_free, loop_depth, loop_room, quits_full}
+use Rattle.nested_loop.proofs.Made.{quits_nested, quits_outermost, starts_nested, starts_outermost}
 use Rattle.nested_loop.proofs.machine.Machine.step_loop.Goals as goal
 
 pub quit-requires : goal.quit-requires

@@ -1,14 +1,14 @@
 use Rattle.std.proofs.Common.{◌≡◌, ◌+◌, arith, refl, rules, Some, None}
 use Rattle.sequence_manager.specs.Calls.{after_take}
 use Rattle.nested_loop.specs.Nest.{front_task}
-use Rattle.nested_loop.specs.Waiting.{script_of}
+use Rattle.nested_loop.specs.Waiting.{nest_script}
 use Rattle.nested_loop.proofs.Kept.{can_take, keeps_taken, place_fits, running_of, runs_taken, takes_front}
 use Rattle.nested_loop.proofs.waiting.Waiting.take.Goals as goal
 
 pub returns-in_err-task-clause-front : goal.returns-in_err-task-clause-front
 returns-in_err-task-clause-front c = λ nest past can.
     let none : None ≡ front_task nest past = takes_front nest past c.args.self.now can None
-    (c.in_err-task.ensures.answer (script_of nest) can.keeps.entries (can_take nest past c.args.self.now can)) in
+    (c.in_err-task.ensures.answer (nest_script nest) can.keeps.entries (can_take nest past c.args.self.now can)) in
     first_of (cc, grind (arith, none), search (rules, none))
 
 pub end-requires : goal.end-requires
@@ -18,11 +18,11 @@ end-requires c =
     let can = c.requires.2 in
     let main = can_take nest past c.args.self.now can in
     let taken = c.in_ok-task in (
-      script_of nest,
+      nest_script nest,
       after_take can.keeps.entries (Some (taken.task, taken.queue, taken.cell)),
       running_of taken.task taken.queue taken.cell,
       runs_taken nest past c.args.self.now can taken.task taken.queue taken.cell c.take.new.self
-          (taken.ensures.answer (script_of nest) can.keeps.entries main) (taken.ensures.stands (script_of nest) can.keeps.entries main),
+          (taken.ensures.answer (nest_script nest) can.keeps.entries main) (taken.ensures.stands (nest_script nest) can.keeps.entries main),
     )
 
 pub overflow_add-self : goal.overflow_add-self
@@ -34,13 +34,13 @@ overflow_add-self c =
 pub returns-clause-front : goal.returns-clause-front
 returns-clause-front c = λ nest past can.
     takes_front nest past c.args.self.now can (Some (c.in_ok-task.task, c.in_ok-task.queue, c.in_ok-task.cell))
-    (c.in_ok-task.ensures.answer (script_of nest) can.keeps.entries (can_take nest past c.args.self.now can))
+    (c.in_ok-task.ensures.answer (nest_script nest) can.keeps.entries (can_take nest past c.args.self.now can))
 
 pub returns-clause-taken : goal.returns-clause-taken
 returns-clause-taken c = λ nest past can.
     let main = can_take nest past c.args.self.now can in
     let taken = c.in_ok-task in
     keeps_taken nest past c.args.self.now (record { queues = c.end.new.self; place = c.args.self.now.place + 2 }) can taken.task taken.queue taken.cell
-    (c.end.ensures (script_of nest) (after_take can.keeps.entries (Some (taken.task, taken.queue, taken.cell))) (running_of taken.task taken.queue taken.cell)
+    (c.end.ensures (nest_script nest) (after_take can.keeps.entries (Some (taken.task, taken.queue, taken.cell))) (running_of taken.task taken.queue taken.cell)
     (runs_taken nest past c.args.self.now can taken.task taken.queue taken.cell c.take.new.self
-    (taken.ensures.answer (script_of nest) can.keeps.entries main) (taken.ensures.stands (script_of nest) can.keeps.entries main))) refl
+    (taken.ensures.answer (nest_script nest) can.keeps.entries main) (taken.ensures.stands (nest_script nest) can.keeps.entries main))) refl

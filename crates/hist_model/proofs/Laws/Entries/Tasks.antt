@@ -18,8 +18,8 @@ use Rattle.task_model.specs.Seats.{Running, running, running_after, acts_done, a
 use Rattle.task_model.proofs.Growth.{running_push, acts_done_push}
 use Rattle.hist_model.specs.Allowed.{enters, by_task}
 use Rattle.hist_model.proofs.Laws.Choice.{Found, found}
-use Rattle.hist_model.proofs.Laws.TaskPostings.{takes_nothing, is_untaken, was_untaken, is_now_taken, entered}
-use Rattle.hist_model.proofs.Laws.EntriesSums.{sum_from, sum_from_less, sum_from_change, sum_from_within, sum_from_nothing, range_at}
+use Rattle.hist_model.proofs.Laws.Postings.Tasks.{takes_nothing, is_untaken, was_untaken, is_now_taken, entered}
+use Rattle.hist_model.proofs.Laws.Entries.Sums.{sum_from, sum_from_less, sum_from_change, sum_from_within, sum_from_nothing, range_at}
 
 -- how many entries a seat has left that runs this and has entered n act steps: those of the other act steps, and the end
 seat_left : Plan → Option Running → ℕ → ℕ

@@ -1,5 +1,6 @@
 -- The postings that the tasks have left: those of the tasks that no seat has taken, and those of what each seat runs.
-use Rattle.std.proofs.Common.{◌≡◌, ℕ, zero, suc, ◌+◌, ◌≤◌, Bool, true, false, cond, eqb, List, [], ◌∷◌, ◌++◌, refl, sym, ap, subst, ◌∙◌, Option, Some, None, arith, add-one, zero-add}
+use Rattle.std.proofs.Common.{◌≡◌, ℕ, zero, suc, ◌+◌, ◌≤◌, Bool, true, false, cond, eqb, List, [], ◌∷◌, ◌++◌}
+use Rattle.std.proofs.Common.{refl, sym, ap, subst, ◌∙◌, Option, Some, None, arith, add-one, zero-add}
 use Rattle.std.specs.Prelude.{◌||◌, not, filter, flat_map, slice_get, option_and_then}
 use Rattle.std.specs.Option.{option_map_or}
 use Rattle.std.proofs.Math.Bool.{or-false}
@@ -18,7 +19,7 @@ use Rattle.task_model.proofs.Growth.{running_push, acts_done_push, is_taken_push
 use Rattle.hist_model.specs.Allowed.{enters, by_task}
 use Rattle.hist_model.specs.Laws.Postings.{kind_posts}
 use Rattle.script_model.specs.Postings.{posts_of_step, times}
-use Rattle.hist_model.proofs.Laws.DriverPostings.{times-append}
+use Rattle.hist_model.proofs.Laws.Postings.Driver.{times-append}
 
 -- how often the steps behind the first n post a task
 rest_posts : ℕ → ℕ → List Step → ℕ

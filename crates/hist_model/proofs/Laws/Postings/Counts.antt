@@ -21,8 +21,9 @@ use Rattle.script_model.specs.Postings.{posts_of_step, posts_of_action, postings
 use Rattle.hist_model.proofs.Laws.Legal.{entry_induction}
 use Rattle.hist_model.proofs.Laws.Takes.{take_is, main_take_is}
 use Rattle.hist_model.proofs.Laws.Consistent.{taken_as, takes_as, taken_as_push, posts_as, posted_as, posts_as_push}
-use Rattle.hist_model.proofs.Laws.DriverPostings.{times-append, driver_has, driver_has_less, driver_posts, driver_begins}
-use Rattle.hist_model.proofs.Laws.TaskPostings.{seats_have, seats_have_less, seats_post, seats_take, seats_begin, takes_nothing, is_untaken, tasks_have, tasks_have_less, tasks_take, tasks_begin}
+use Rattle.hist_model.proofs.Laws.Postings.Driver.{times-append, driver_has, driver_has_less, driver_posts, driver_begins}
+use Rattle.hist_model.proofs.Laws.Postings.Tasks.{seats_have, seats_have_less, seats_post, seats_take, seats_begin, takes_nothing}
+use Rattle.hist_model.proofs.Laws.Postings.Tasks.{is_untaken, tasks_have, tasks_have_less, tasks_take, tasks_begin}
 
 -- how many accepted posts name a task
 abbrev pub of_task : ℕ → List Posted → ℕ
@@ -58,7 +59,7 @@ posted_in_push t past e = ap (times t) (flat_map-append (λ x. kind_posts x.kind
     ∙ times-append t (flat_map (λ x. kind_posts x.kind) past) (kind_posts e.kind)
 
 -- one accepted post is one posting
-one_post : (t : ℕ) (p : Posted) → of_task t (p ∷ []) ≡ times t (p.task ∷ [])
+pub one_post : (t : ℕ) (p : Posted) → of_task t (p ∷ []) ≡ times t (p.task ∷ [])
 one_post t p = elim (eqb p.task t) as (λ b. length (cond b (p ∷ []) []) ≡ length (cond b (p.task ∷ []) [])) [
   | true ↦ refl
   | false ↦ refl

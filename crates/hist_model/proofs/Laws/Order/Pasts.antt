@@ -1,5 +1,6 @@
 -- A past of a log and a later one: what was taken, which tick came first, and where accepted tasks were posted.
-use Rattle.std.proofs.Common.{◌≡◌, ℕ, zero, suc, ◌+◌, ◌<◌, ◌≤◌, Bool, true, false, leb, cond, List, [], ◌∷◌, ◌++◌, length, take, drop, refl, sym, ap, subst, ◌∙◌, append_assoc, Option, Some, None, inl, inr, arith}
+use Rattle.std.proofs.Common.{◌≡◌, ℕ, zero, suc, ◌+◌, ◌<◌, ◌≤◌, Bool, true, false, leb, cond, List, [], ◌∷◌, ◌++◌, length}
+use Rattle.std.proofs.Common.{take, drop, refl, sym, ap, subst, ◌∙◌, append_assoc, Option, Some, None, inl, inr, arith}
 use Rattle.std.specs.Prelude.{◌⊎◌, slice_get, Contains}
 use Rattle.std.specs.Option.{option_or}
 use Rattle.std.specs.List.{AllByRecursion, position_from}
@@ -55,24 +56,24 @@ taken_behind log i j seat t r v less is = passed_by (λ e. takes t e.kind) (take
 -- the first place is not before the start
 pub position_behind : {A : Type 0} (test : A → Bool) (i : ℕ) (xs : List A) (n : ℕ) → position_from test i xs ≡ Some n → i ≤ n
 position_behind test i [] n is = absurd (none-some n is)
-position_behind test i (x ∷ xs) n is = by (test x) is (position_behind test (i + 1) xs n)
+position_behind test i (x ∷ xs) n is = by_test (test x) is (position_behind test (i + 1) xs n)
   where
-    by : (b : Bool) → cond b (Some i) (position_from test (i + 1) xs) ≡ Some n → (position_from test (i + 1) xs ≡ Some n → i + 1 ≤ n) → i ≤ n
-    by true h rest = omega (arith, same_Some i n h)
-    by false h rest = omega (arith, rest h)
+    by_test : (b : Bool) → cond b (Some i) (position_from test (i + 1) xs) ≡ Some n → (position_from test (i + 1) xs ≡ Some n → i + 1 ≤ n) → i ≤ n
+    by_test true h rest = omega (arith, same_Some i n h)
+    by_test false h rest = omega (arith, rest h)
 
 -- a first tick inside the front is the first tick of the front
 pub tick_early : (xs rest : List Entry) (moment place : ℕ) → tick_from (xs ++ rest) moment ≡ Some place → place < length xs → tick_from xs moment ≡ Some place
 unfolding tick_from
 tick_early xs rest moment place is less =
-    by (position_from test 0 xs) (sym (position-append test 0 xs rest) ∙ is)
+    by_place (position_from test 0 xs) (sym (position-append test 0 xs rest) ∙ is)
   where
     test : Entry → Bool
     test e = is_tick_from moment e.kind
 
-    by : (o : Option ℕ) → option_or o (position_from test (0 + length xs) rest) ≡ Some place → o ≡ Some place
-    by (Some n) h = h
-    by None h = absurd (omega (arith, less, position_behind test (0 + length xs) rest place h))
+    by_place : (o : Option ℕ) → option_or o (position_from test (0 + length xs) rest) ≡ Some place → o ≡ Some place
+    by_place (Some n) h = h
+    by_place None h = absurd (omega (arith, less, position_behind test (0 + length xs) rest place h))
 
 -- ---- accepted tasks
 
@@ -138,12 +139,12 @@ posts_early main xs rest p among less = push_induction (λ ys. Contains (posts_a
     (λ h. subst (λ ys. Contains (posts_as main ys) p) (append-nil xs) h) (λ ys e before h. before (earlier ys e h)) rest among
   where
     earlier : (ys : List Entry) (e : Entry) → Contains (posts_as main (xs ++ (ys ++ e ∷ []))) p → Contains (posts_as main (xs ++ ys)) p
-    earlier ys e h = by (Contains-append_cases (posts_as main (xs ++ ys)) (posted_as main (xs ++ ys) e.kind) p
+    earlier ys e h = by_side (Contains-append_cases (posts_as main (xs ++ ys)) (posted_as main (xs ++ ys) e.kind) p
         (subst (λ all. Contains all p) (ap (posts_as main) (sym (append_assoc xs ys (e ∷ []))) ∙ posts_as_push main (xs ++ ys) e) h))
       where
-        by : Contains (posts_as main (xs ++ ys)) p ⊎ Contains (posted_as main (xs ++ ys) e.kind) p → Contains (posts_as main (xs ++ ys)) p
-        by (inl k) = k
-        by (inr k) = let made = AllByRecursion-contains _ (posted_as main (xs ++ ys) e.kind) p (added_by main (xs ++ ys) e.kind) k in
+        by_side : Contains (posts_as main (xs ++ ys)) p ⊎ Contains (posted_as main (xs ++ ys) e.kind) p → Contains (posts_as main (xs ++ ys)) p
+        by_side (inl k) = k
+        by_side (inr k) = let made = AllByRecursion-contains _ (posted_as main (xs ++ ys) e.kind) p (added_by main (xs ++ ys) e.kind) k in
             absurd (omega (arith, less, ap (λ q. q.place) made.1, length-append xs ys))
 
 -- no tick at or past the ripe moment of a delayed task stands before its post

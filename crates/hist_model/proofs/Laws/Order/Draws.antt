@@ -1,5 +1,6 @@
 -- The main tasks of a lane are taken in the order of what they drew.
-use Rattle.std.proofs.Common.{◌≡◌, ℕ, zero, suc, ◌+◌, ◌<◌, ◌≤◌, Bool, true, false, eqb, cond, List, [], ◌∷◌, ◌++◌, length, take, drop, refl, sym, ap, subst, ◌∙◌, append_assoc, Option, Some, None, inl, inr, arith}
+use Rattle.std.proofs.Common.{◌≡◌, ℕ, zero, suc, ◌+◌, ◌<◌, ◌≤◌, Bool, true, false, eqb, cond, List, [], ◌∷◌, ◌++◌, length}
+use Rattle.std.proofs.Common.{take, drop, refl, sym, ap, subst, ◌∙◌, append_assoc, Option, Some, None, inl, inr, arith}
 use Rattle.std.specs.Prelude.{◌⊎◌, not, ◌&&◌, nat_lt, Contains, option_and_then, filter, if◌then◌else◌}
 use Rattle.std.specs.Option.{option_map, option_to_list}
 use Rattle.std.specs.List.{AllByRecursion, flat_map, range_with_len}
@@ -13,19 +14,21 @@ use Rattle.task_base.specs.declared.entry.Entry.{Entry}
 use Rattle.task_base.specs.declared.entry.Kind.TheVariants as kinds
 use Rattle.list_laws.specs.Lists.{IsLeast, count, holds_of}
 use Rattle.list_laws.proofs.Elements.{slice_get-front, AllByRecursion-append, AllByRecursion-contains, AllByRecursion-filter, push_induction}
-use Rattle.list_laws.proofs.Made.{contains_filter, contains_filter_map, filter_contains, filter_map_contains}
+use Rattle.list_laws.proofs.Made.{contains_filter, contains_filter_map, filter_contains, filter_map_contains, contains_cases}
 use Rattle.task_model.specs.Time.{tick_from}
 use Rattle.task_model.specs.Posts.{Posted, is_delayed, ripens_before, post_behind, main_posts, is_main_taken, main_takes}
 use Rattle.task_base.specs.declared.script.Lane.{Lane}
 use Rattle.task_base.specs.declared.script.Lane.TheVariants.{Immediate, Delayed}
 use Rattle.task_model.specs.Cells.{main_cell_of}
-use Rattle.task_model.specs.MainQueues.{streak_of, Front, is_of_lane, is_immediate, is_in_lane, front_with, order_below, front_of, fronts_of, is_open, open_fronts, class_of, chosen_class, chosen_fronts, immediate_fronts, is_starved, chosen_of, choice_among, of_least_class}
+use Rattle.task_model.specs.MainQueues.{streak_of, Front, is_of_lane, is_immediate, is_in_lane, front_with, order_below, front_of, fronts_of, is_open}
+use Rattle.task_model.specs.MainQueues.{open_fronts, class_of, chosen_class, chosen_fronts, immediate_fronts, is_starved, chosen_of, choice_among}
+use Rattle.task_model.specs.MainQueues.{of_least_class}
 use Rattle.queue_laws.specs.Fronts.{lane_of}
 use Rattle.queue_laws.proofs.Fronts.{front_is_first}
 use Rattle.task_model.proofs.Growth.{draws_push}
 use Rattle.task_model.specs.Orders.{ripens, ripening, draws, next_draw, drawn_at, moment_of, moment_at, order_of}
 use Rattle.queue_laws.specs.Orders.{Distinct}
-use Rattle.queue_laws.proofs.Orders.{drawn, order_is}
+use Rattle.queue_laws.proofs.Orders.{drawn, order_is, drawn_front}
 use Rattle.hist_model.specs.Allowed.{is_front, by_script, may_come}
 use Rattle.hist_model.specs.Legal.{IsLegal}
 use Rattle.hist_model.specs.Laws.Places.{IsAt}
@@ -33,7 +36,7 @@ use Rattle.hist_model.specs.Laws.Order.{HasOrderAt}
 use Rattle.hist_model.proofs.Laws.AtPlaces.{in_past, of_past, passes_at, passed_by, past_is_legal, may_come_at}
 use Rattle.hist_model.proofs.Laws.Choice.{found, of_least, option_map_some}
 use Rattle.hist_model.proofs.Laws.Rising.{legal_rises, orders_are_distinct}
-use Rattle.hist_model.proofs.Laws.OrderPasts.{take_take, longer_past, tick_early, IsPostedAt, was_posted, posts_early, no_tick_before}
+use Rattle.hist_model.proofs.Laws.Order.Pasts.{take_take, longer_past, tick_early, IsPostedAt, was_posted, posts_early, no_tick_before}
 
 -- ---- orders
 
@@ -51,27 +54,20 @@ draws_by past rest k le =
     = ap (λ xs. xs ++ drop (length past) (take k all)) (sym front) ∙ take-append-drop (length past) (take k all) in
     omega (arith, draws_rise past (drop (length past) (take k all)), ap draws whole)
 
--- what a delayed task drew at a tick of the front
-pub drawn_in_front : (past rest : List Entry) (p : Posted) (place : ℕ) → place < length past → drawn (past ++ rest) p place ≡ drawn past p place
-drawn_in_front past rest p place less =
-    ap (λ before. option_and_then (λ moment. drawn_at before moment p) (moment_at (past ++ rest) place)) (take-append-le place past rest (omega (arith, less)))
-    ∙ ap (λ o. option_and_then (λ moment. drawn_at (take place past) moment p) (option_and_then (λ x. moment_of x.kind) o))
-    (slice_get-front past rest place less)
-
 -- what a delayed task draws is not below the next draw
 pub drawn_from : (before : List Entry) (o : Option ℕ) (p : Posted) (n : ℕ) → option_and_then (λ moment. drawn_at before moment p) o ≡ Some n
     → next_draw before ≤ n
 drawn_from before None p n h = absurd (none-some n h)
-drawn_from before (Some moment) p n h = by (ripens before moment p) h
+drawn_from before (Some moment) p n h = by_ripens (ripens before moment p) h
   where
-    by : (b : Bool) → cond b (Some (next_draw before + count (λ q. ripens_before q p) (ripening before moment))) None ≡ Some n → next_draw before ≤ n
-    by true k = omega (arith, same_Some _ n k)
-    by false k = absurd (none-some n k)
+    by_ripens : (b : Bool) → cond b (Some (next_draw before + count (λ q. ripens_before q p) (ripening before moment))) None ≡ Some n → next_draw before ≤ n
+    by_ripens true k = omega (arith, same_Some _ n k)
+    by_ripens false k = absurd (none-some n k)
 
 -- an order is known in the front, and so is its task, or it was drawn behind the front
 pub order_early : (script : Plan) (past rest : List Entry) (p : Posted) (n : ℕ) → IsLegal script (past ++ rest) → Contains (main_posts (past ++ rest)) p
     → order_of (past ++ rest) p ≡ Some n → (Contains (main_posts past) p × (order_of past p ≡ Some n)) ⊎ (next_draw past ≤ n)
-order_early script past rest p n legal among is = by (is_delayed p) refl (sym (order_is later p) ∙ is)
+order_early script past rest p n legal among is = by_delayed (is_delayed p) refl (sym (order_is later p) ∙ is)
   where
     later : List Entry
     later = past ++ rest
@@ -86,7 +82,7 @@ order_early script past rest p n legal among is = by (is_delayed p) refl (sym (o
         let less : place < length past = ltb-true place (length past) early in
         inl (
           posts_early true past rest p among (omega (arith, less, no_tick_before script true later p place legal was delayed tick)),
-          ap (option_and_then (drawn past p)) (tick_early past rest p.ripe place tick less) ∙ sym (drawn_in_front past rest p place less) ∙ h,
+          ap (option_and_then (drawn past p)) (tick_early past rest p.ripe place tick less) ∙ sym (drawn_front past rest p place less) ∙ h,
         )
     at_tick delayed place tick h false late = inr (omega (
       arith,
@@ -106,9 +102,10 @@ order_early script past rest p n legal among is = by (is_delayed p) refl (sym (o
         inl (posts_early true past rest p among less, ap next_draw (sym (take-append-le p.place past rest (omega (arith, less)))) ∙ h)
     at_post h false late = inr (omega (arith, draws_by past rest p.place (grind (arith, late)), h))
 
-    by : (b : Bool) → is_delayed p ≡ b → cond b (option_and_then (drawn later p) (tick_from later p.ripe)) (Some (next_draw (take p.place later))) ≡ Some n
+    by_delayed : (b : Bool) → is_delayed p ≡ b → cond b (option_and_then (drawn later p) (tick_from later p.ripe))
+        (Some (next_draw (take p.place later))) ≡ Some n
         → (Contains (main_posts past) p × (order_of past p ≡ Some n)) ⊎ (next_draw past ≤ n)
-    by true delayed h = known (λ k. order_is past p ∙ ap (λ b. cond b (option_and_then (drawn past p) (tick_from past p.ripe))
+    by_delayed true delayed h = known (λ k. order_is past p ∙ ap (λ b. cond b (option_and_then (drawn past p) (tick_from past p.ripe))
         (Some (next_draw (take p.place past)))) delayed ∙ k) (ticked_at delayed (tick_from later p.ripe) refl h)
       where
         known : ((option_and_then (drawn past p) (tick_from past p.ripe) ≡ Some n) → order_of past p ≡ Some n)
@@ -116,7 +113,7 @@ order_early script past rest p n legal among is = by (is_delayed p) refl (sym (o
             → (Contains (main_posts past) p × (order_of past p ≡ Some n)) ⊎ (next_draw past ≤ n)
         known f (inl k) = inl (k.0, f k.1)
         known f (inr k) = inr k
-    by false immediate h = known (at_post (same_Some _ n h) (nat_lt p.place (length past)) refl)
+    by_delayed false immediate h = known (at_post (same_Some _ n h) (nat_lt p.place (length past)) refl)
       where
         known : (Contains (main_posts past) p × (next_draw (take p.place past) ≡ n)) ⊎ (next_draw past ≤ n)
             → (Contains (main_posts past) p × (order_of past p ≡ Some n)) ⊎ (next_draw past ≤ n)
@@ -127,25 +124,21 @@ order_early script past rest p n legal among is = by (is_delayed p) refl (sym (o
         )
         known (inr k) = inr k
 
--- an element of a list with one more in front
-pub one_more : {A : Type 0} (x : A) (xs : List A) (y : A) → Contains (x ∷ xs) y → (x ≡ y) ⊎ Contains xs y
-one_more x xs y (zero, less, is) = inl is
-one_more x xs y (suc k, less, is) = inr (k, omega (arith, less), is)
-
 -- where no two have one number, two with one number are the same
 pub same_number : (number : Posted → Option ℕ) (ps : List Posted) (p q : Posted) (n : ℕ) → Distinct number ps → Contains ps p → Contains ps q
     → number p ≡ Some n → number q ≡ Some n → p ≡ q
 same_number number [] p q n apart (k, less, is) among pn qn = absurd (omega (arith, less))
-same_number number (x ∷ ps) p q n apart one two pn qn = by (one_more x ps p one) (one_more x ps q two) (λ a b. same_number number ps p q n apart.1 a b pn qn)
+same_number number (x ∷ ps) p q n apart one two pn qn = by_side (contains_cases x ps p one) (contains_cases x ps q two)
+    (λ a b. same_number number ps p q n apart.1 a b pn qn)
   where
     alone : (r : Posted) → Contains ps r → (m : ℕ) → number x ≡ Some m → number r ≡ Some m → ⊥
     alone r among = AllByRecursion-contains (λ s. (m : ℕ) → number x ≡ Some m → number s ≡ Some m → ⊥) ps r apart.0 among
 
-    by : (x ≡ p) ⊎ Contains ps p → (x ≡ q) ⊎ Contains ps q → (Contains ps p → Contains ps q → p ≡ q) → p ≡ q
-    by (inl a) (inl b) later = sym a ∙ b
-    by (inl a) (inr b) later = absurd (alone q b n (ap number a ∙ pn) qn)
-    by (inr a) (inl b) later = absurd (alone p a n (ap number b ∙ qn) pn)
-    by (inr a) (inr b) later = later a b
+    by_side : (x ≡ p) ⊎ Contains ps p → (x ≡ q) ⊎ Contains ps q → (Contains ps p → Contains ps q → p ≡ q) → p ≡ q
+    by_side (inl a) (inl b) later = sym a ∙ b
+    by_side (inl a) (inr b) later = absurd (alone q b n (ap number a ∙ pn) qn)
+    by_side (inr a) (inl b) later = absurd (alone p a n (ap number b ∙ qn) pn)
+    by_side (inr a) (inr b) later = later a b
 
 -- ---- fronts
 
@@ -329,7 +322,7 @@ pub orders_rise : (script : Plan) (log : List Entry) (i j seat worker task other
     → IsAt log i seat (kinds.MainTake task queue value) → IsAt log j worker (kinds.MainTake other queue w)
     → (a : MainTaking script log i task queue) (b : MainTaking script log j other queue) → is_delayed a.p ≡ is_delayed b.p → a.order < b.order
 orders_rise script log i j seat worker task other queue value w legal less first second a b one =
-    by (order_early script past rest b.p b.order (subst (IsLegal script) (sym longer) (past_is_legal script log j _ legal second))
+    by_side (order_early script past rest b.p b.order (subst (IsLegal script) (sym longer) (past_is_legal script log j _ legal second))
     (subst (λ l. Contains (main_posts l) b.p) (sym longer) b.among) (ap (λ l. order_of l b.p) longer ∙ b.ordered))
   where
     past : List Entry
@@ -365,9 +358,9 @@ orders_rise script log i j seat worker task other queue value w legal less first
             absurd (differ (same_number (order_of past) (main_posts past) a.p b.p a.order (orders_are_distinct script past known) a.among among a.ordered
             (ordered ∙ ap Some (sym equal))))
 
-    by : (Contains (main_posts past) b.p × (order_of past b.p ≡ Some b.order)) ⊎ (next_draw past ≤ b.order) → a.order < b.order
-    by (inl early) = waited early.0 early.1
-    by (inr late) = omega (
+    by_side : (Contains (main_posts past) b.p × (order_of past b.p ≡ Some b.order)) ⊎ (next_draw past ≤ b.order) → a.order < b.order
+    by_side (inl early) = waited early.0 early.1
+    by_side (inr late) = omega (
       arith,
       late,
       AllByRecursion-contains (λ p. (n : ℕ) → order_of past p ≡ Some n → n < next_draw past) (main_posts past) a.p

@@ -37,11 +37,11 @@ running_fits_after now kind fits known = known
 
 running_fits_next : (past : List Entry) (e : Entry) (seat : ℕ) → Fits e → IfSome (running past seat) RunningFits
     → IfSome (running (past ++ e ∷ []) seat) RunningFits
-running_fits_next past e seat fits known = rw (running_push past e seat) (by (eqb e.seat seat))
+running_fits_next past e seat fits known = rw (running_push past e seat) (by_seat (eqb e.seat seat))
   where
-    by : (b : Bool) → IfSome (cond b (running_after (running past seat) e.kind) (running past seat)) RunningFits
-    by true = running_fits_after (running past seat) e.kind fits.kind known
-    by false = known
+    by_seat : (b : Bool) → IfSome (cond b (running_after (running past seat) e.kind) (running past seat)) RunningFits
+    by_seat true = running_fits_after (running past seat) e.kind fits.kind known
+    by_seat false = known
 
 pub running_fits : (past : List Entry) (seat : ℕ) (w : Running) → AllByRecursion Fits past → running past seat ≡ Some w → RunningFits w
 unfolding running
@@ -59,11 +59,11 @@ holding_fits_after now kind fits known = known
 
 holding_fits_next : (past : List Entry) (e : Entry) (seat : ℕ) → Fits e → IfSome (holding past seat) HoldingFits
     → IfSome (holding (past ++ e ∷ []) seat) HoldingFits
-holding_fits_next past e seat fits known = rw (holding_push past e seat) (by (eqb e.seat seat))
+holding_fits_next past e seat fits known = rw (holding_push past e seat) (by_seat (eqb e.seat seat))
   where
-    by : (b : Bool) → IfSome (cond b (holding_after (holding past seat) e.kind) (holding past seat)) HoldingFits
-    by true = holding_fits_after (holding past seat) e.kind fits.kind known
-    by false = known
+    by_seat : (b : Bool) → IfSome (cond b (holding_after (holding past seat) e.kind) (holding past seat)) HoldingFits
+    by_seat true = holding_fits_after (holding past seat) e.kind fits.kind known
+    by_seat false = known
 
 pub holding_fits : (past : List Entry) (seat : ℕ) (h : Holding) → AllByRecursion Fits past → holding past seat ≡ Some h → HoldingFits h
 unfolding holding
@@ -77,33 +77,33 @@ either_fits true left value first second = first
 either_fits false left value first second = second
 
 cell_fits_next : (script : Plan) (past : List Entry) (e : Entry) (s : ℕ) → Fits e → cell_of script past s < 2 ^ 64 → cell_of script (past ++ e ∷ []) s < 2 ^ 64
-cell_fits_next script past e s fits known = rw (cell_of_push script past e s) (by e.kind fits.kind)
+cell_fits_next script past e s fits known = rw (cell_of_push script past e s) (by_kind e.kind fits.kind)
   where
-    by : (kind : Kind) → KindFits kind → cell_after script s past (cell_of script past s) e.seat kind < 2 ^ 64
-    by (kinds.End task left) fit = either_fits (holds_of (runs_of script s) (running past e.seat)) left (cell_of script past s) fit.1 known
-    by kind fit = known
+    by_kind : (kind : Kind) → KindFits kind → cell_after script s past (cell_of script past s) e.seat kind < 2 ^ 64
+    by_kind (kinds.End task left) fit = either_fits (holds_of (runs_of script s) (running past e.seat)) left (cell_of script past s) fit.1 known
+    by_kind kind fit = known
 
 pub cell_fits : (script : Plan) (past : List Entry) (s : ℕ) → AllByRecursion Fits past → cell_of script past s < 2 ^ 64
 unfolding cell_of fold_past
 cell_fits script past s = fitting_induction (λ before. cell_of script before s < 2 ^ 64) (omega arith) (λ before e. cell_fits_next script before e s) past
 
 main_cell_fits_next : (past : List Entry) (e : Entry) (q : ℕ) → Fits e → main_cell_of past q < 2 ^ 64 → main_cell_of (past ++ e ∷ []) q < 2 ^ 64
-main_cell_fits_next past e q fits known = rw (main_cell_of_push past e q) (by e.kind fits.kind)
+main_cell_fits_next past e q fits known = rw (main_cell_of_push past e q) (by_kind e.kind fits.kind)
   where
-    by : (kind : Kind) → KindFits kind → main_cell_after q past (main_cell_of past q) e.seat kind < 2 ^ 64
-    by (kinds.MainEnd task left) fit = either_fits (holds_of (λ w. w.is_main && eqb w.home q) (running past e.seat)) left (main_cell_of past q) fit.1 known
-    by kind fit = known
+    by_kind : (kind : Kind) → KindFits kind → main_cell_after q past (main_cell_of past q) e.seat kind < 2 ^ 64
+    by_kind (kinds.MainEnd task left) fit = either_fits (holds_of (λ w. w.is_main && eqb w.home q) (running past e.seat)) left (main_cell_of past q) fit.1 known
+    by_kind kind fit = known
 
 pub main_cell_fits : (past : List Entry) (q : ℕ) → AllByRecursion Fits past → main_cell_of past q < 2 ^ 64
 unfolding main_cell_of fold_past
 main_cell_fits past q = fitting_induction (λ before. main_cell_of before q < 2 ^ 64) (omega arith) (λ before e. main_cell_fits_next before e q) past
 
 job_sum_fits_next : (past : List Entry) (e : Entry) (j : ℕ) → job_sum past j < 2 ^ 64 → job_sum (past ++ e ∷ []) j < 2 ^ 64
-job_sum_fits_next past e j known = rw (job_sum_push past e j) (by (value_by j e.kind))
+job_sum_fits_next past e j known = rw (job_sum_push past e j) (by_value (value_by j e.kind))
   where
-    by : (o : Option ℕ) → option_map_or (λ value. (job_sum past j + value) % 2 ^ 64) o (job_sum past j) < 2 ^ 64
-    by None = known
-    by (Some value) = omega arith
+    by_value : (o : Option ℕ) → option_map_or (λ value. (job_sum past j + value) % 2 ^ 64) o (job_sum past j) < 2 ^ 64
+    by_value None = known
+    by_value (Some value) = omega arith
 
 -- in whatever past
 pub job_sum_fits : (past : List Entry) (j : ℕ) → job_sum past j < 2 ^ 64

@@ -35,7 +35,8 @@ use Rattle.hist_model.proofs.Laws.AtPlaces.{of_past, length-past, past_is_legal,
 use Rattle.hist_model.proofs.Laws.Choice.{Found, found}
 use Rattle.hist_model.proofs.Laws.Phases.{forbidden_on}
 use Rattle.hist_model.proofs.Laws.State.{same_at}
-use Rattle.hist_model.proofs.Laws.OrderPasts.{take_take, longer_past, still_taken, taken_behind, tick_early, IsPostedAt, was_posted, posts_early, no_tick_before}
+use Rattle.hist_model.proofs.Laws.Order.Pasts.{take_take, longer_past, still_taken, taken_behind, tick_early}
+use Rattle.hist_model.proofs.Laws.Order.Pasts.{IsPostedAt, was_posted, posts_early, no_tick_before}
 
 -- ---- keys
 
@@ -45,20 +46,20 @@ ticked p place = record { place = place; ripe = p.ripe; post = p.place }
 
 -- the key tells the place of the post
 pub key_post : (past : List Entry) (p : Posted) (key : Key) → key_of past p ≡ Some key → key.post ≡ p.place
-key_post past p key is = by (is_delayed p) is
+key_post past p key is = by_delayed (is_delayed p) is
   where
     late : (o : Option ℕ) → option_map (ticked p) o ≡ Some key → key.post ≡ p.place
     late None h = absurd (none-some key h)
     late (Some place) h = sym (ap (λ k. k.post) (same_Some _ key h))
 
-    by : (b : Bool) → cond b (option_map (ticked p) (tick_from past p.ripe)) (Some (key_at p.place)) ≡ Some key → key.post ≡ p.place
-    by true h = late (tick_from past p.ripe) h
-    by false h = sym (ap (λ k. k.post) (same_Some _ key h))
+    by_delayed : (b : Bool) → cond b (option_map (ticked p) (tick_from past p.ripe)) (Some (key_at p.place)) ≡ Some key → key.post ≡ p.place
+    by_delayed true h = late (tick_from past p.ripe) h
+    by_delayed false h = sym (ap (λ k. k.post) (same_Some _ key h))
 
 -- a key whose place stands in the front is known in the front, and so is its task
 pub key_early : (script : Plan) (past rest : List Entry) (p : Posted) (key : Key) → IsLegal script (past ++ rest) → Contains (posts (past ++ rest)) p
     → key_of (past ++ rest) p ≡ Some key → key.place < length past → Contains (posts past) p × (key_of past p ≡ Some key)
-key_early script past rest p key legal among is less = by (is_delayed p) refl is
+key_early script past rest p key legal among is less = by_delayed (is_delayed p) refl is
   where
     later : List Entry
     later = past ++ rest
@@ -75,10 +76,10 @@ key_early script past rest p key legal among is less = by (is_delayed p) refl is
           ap (option_map (ticked p)) (tick_early past rest p.ripe place tick (omega (arith, here, less))) ∙ h,
         )
 
-    by : (b : Bool) → is_delayed p ≡ b → cond b (option_map (ticked p) (tick_from later p.ripe)) (Some (key_at p.place)) ≡ Some key
+    by_delayed : (b : Bool) → is_delayed p ≡ b → cond b (option_map (ticked p) (tick_from later p.ripe)) (Some (key_at p.place)) ≡ Some key
         → Contains (posts past) p × (cond b (option_map (ticked p) (tick_from past p.ripe)) (Some (key_at p.place)) ≡ Some key)
-    by true delayed h = late delayed (tick_from later p.ripe) refl h
-    by false immediate h = (posts_early false past rest p among (omega (arith, ap (λ k. k.place) (same_Some _ key h), less)), h)
+    by_delayed true delayed h = late delayed (tick_from later p.ripe) refl h
+    by_delayed false immediate h = (posts_early false past rest p among (omega (arith, ap (λ k. k.place) (same_Some _ key h), less)), h)
 
 -- ---- heads
 

@@ -1,5 +1,7 @@
 -- What shutdown waits for and forbids in a legal log, over its places.
-use Rattle.std.proofs.Common.{◌≡◌, ℕ, ◌+◌, ◌<◌, Bool, true, false, List, [], ◌∷◌, ◌++◌, length, take, refl, sym, ap, subst, ◌∙◌, Option, Some, None, ⊎_elim, arith, cond, leb, eqb}
+use Rattle.pool_laws.proofs.Choice.Sources.{no_job_post}
+use Rattle.std.proofs.Common.{◌≡◌, ℕ, ◌+◌, ◌<◌, Bool, true, false, List, [], ◌∷◌, ◌++◌, length, take, refl}
+use Rattle.std.proofs.Common.{sym, ap, subst, ◌∙◌, Option, Some, None, ⊎_elim, arith, cond, leb, eqb}
 use Rattle.std.specs.Prelude.{not, ◌&&◌, slice_get, Contains}
 use Rattle.std.specs.List.{range_with_len}
 use Rattle.std.specs.Option.{option_map_or}
@@ -114,18 +116,14 @@ accepted_reply script past seat job h = said (is_job_forbidden script past job)
     said false k = refl
     said true k = absurd cc
 
-not_posted : (j : ℕ) → job_post_of [] j ≡ None
-unfolding job_post_of fold_past
-not_posted j = refl
-
 -- a job whose first post was refused is forbidden from then on
 refused_job : (script : Plan) (j : ℕ) (past : List Entry) → IsLegal script past → was_refused (job_post_of past j) ≡ true
     → is_job_forbidden script past j ≡ true
 refused_job script j = entry_induction script
     (λ past. was_refused (job_post_of past j) ≡ true → is_job_forbidden script past j ≡ true)
-    (λ h. absurd (true≢false (sym h ∙ ap was_refused (not_posted j))))
+    (λ h. absurd (true≢false (sym h ∙ ap was_refused (no_job_post j))))
     (λ past e known may before h. job_forbidden_on script past (e ∷ []) j
-    (by past e.seat (job_post_of past j) e.kind may before (ap was_refused (sym (job_post_of_push past e j)) ∙ h)))
+    (by_past past e.seat (job_post_of past j) e.kind may before (ap was_refused (sym (job_post_of_push past e j)) ∙ h)))
   where
     ours : (past : List Entry) (job : ℕ) (b : Bool) → eqb job j ≡ b → is_job_forbidden script past job ≡ true
         → was_refused (cond b (Some (record { place = length past; ok = false })) None) ≡ true → is_job_forbidden script past j ≡ true
@@ -136,13 +134,13 @@ refused_job script j = entry_induction script
     theirs past true h = absurd cc
     theirs past false h = absurd cc
 
-    by : (past : List Entry) (seat : ℕ) (post : Option JobPosted) (kind : Kind) → may_come script past seat kind ≡ true
+    by_past : (past : List Entry) (seat : ℕ) (post : Option JobPosted) (kind : Kind) → may_come script past seat kind ≡ true
         → (was_refused post ≡ true → is_job_forbidden script past j ≡ true)
         → was_refused (job_post_after j past post kind) ≡ true → is_job_forbidden script past j ≡ true
-    by past seat (Some p) kind may before h = before (ap was_refused (sym (first_stays j past p kind)) ∙ h)
-    by past seat None (kinds.JobPost job true) may before h = absurd (theirs past (eqb job j) h)
-    by past seat None (kinds.JobPost job false) may before h = ours past job (eqb job j) refl (refused_reply script past seat job may) h
-    by past seat None kind may before h = absurd cc
+    by_past past seat (Some p) kind may before h = before (ap was_refused (sym (first_stays j past p kind)) ∙ h)
+    by_past past seat None (kinds.JobPost job true) may before h = absurd (theirs past (eqb job j) h)
+    by_past past seat None (kinds.JobPost job false) may before h = ours past job (eqb job j) refl (refused_reply script past seat job may) h
+    by_past past seat None kind may before h = absurd cc
 
 -- a job one of whose posts was accepted is accepted: its first post was
 accepted_job : (script : Plan) (j : ℕ) (past : List Entry) → IsLegal script past → (i seat : ℕ) → IsAt past i seat (kinds.JobPost j true)

@@ -16,9 +16,9 @@ use Rattle.hist_model.specs.Laws.Postings.{kind_posts, posted_in, AreAcceptedOnc
 use Rattle.script_model.specs.Postings.{times, IsPostedOnce}
 use Rattle.hist_model.proofs.Laws.Legal.{is_legal_push, legal_induction}
 use Rattle.hist_model.proofs.Laws.Consistent.{posts_as, posted_as, posts_as_push, legal_is_consistent}
-use Rattle.hist_model.proofs.Laws.PostingCounts.{of_task, Counted, counted, posted_in_push, posted_at_most_once}
+use Rattle.hist_model.proofs.Laws.Postings.Counts.{of_task, Counted, counted, posted_in_push, posted_at_most_once}
 
-once_in_one : (t : ℕ) → times t (t ∷ []) ≡ 1
+pub once_in_one : (t : ℕ) → times t (t ∷ []) ≡ 1
 once_in_one t = rw (eq-eqb t t refl) refl
 
 -- what is posted now was not posted before

@@ -16,7 +16,7 @@ use Rattle.hist_model.specs.Legal.{IsLegal}
 use Rattle.hist_model.proofs.Laws.Legal.{entry_induction}
 use Rattle.hist_model.proofs.Laws.Claims.{claimed_is}
 use Rattle.hist_model.proofs.Laws.JobEntries.{entering_is, job_step_is}
-use Rattle.hist_model.proofs.Laws.EntriesSums.{sum_from, sum_from_less, sum_from_change, sum_from_within}
+use Rattle.hist_model.proofs.Laws.Entries.Sums.{sum_from, sum_from_less, sum_from_change, sum_from_within}
 
 -- a job that may be entered has an unclaimed item
 enters_unclaimed : (script : Plan) (past : List Entry) (j : ℕ) → MayEnter script past j → claimed past j + 1 ≤ items_of script j
