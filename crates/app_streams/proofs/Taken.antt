@@ -1,4 +1,5 @@
 -- Bytes that are taken piece by piece.
+-- Cited by `read_input`.
 use Rattle.std.proofs.Common.{◌≡◌, ◌≤◌, ◌+◌, ℕ, List, ◌++◌, length, take, Option, arith}
 use Rattle.std.proofs.lemmas.List.{length-append, length-take}
 use Rattle.env_io.specs.Bytes.{Gives}

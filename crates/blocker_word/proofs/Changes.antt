@@ -1,4 +1,5 @@
 -- The word counts the tokens after one of them has changed.
+-- Cited by `Plays`, `Steps`, `Widths`, `Worth`, `blocker_word.rt`.
 use Rattle.std.proofs.Common.{◌≡◌, ℕ, ◌+◌, ◌-◌, ◌*◌, ◌/◌, ◌%◌, ◌^◌, ◌<◌, ◌≤◌, List, get_or, set, sym, subst, ap, arith}
 use Rattle.std.specs.List.{All}
 use Rattle.std.proofs.lemmas.List.Elements.{All-set}

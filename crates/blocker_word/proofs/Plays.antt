@@ -1,4 +1,5 @@
 -- What the steps on the word ask of the table: each is allowed, whatever the word is.
+-- Cited by 5 functions of `BlockerWord`.
 use Rattle.std.proofs.Common.{◌≡◌, ℕ, ◌+◌, ◌-◌, ◌%◌, ◌^◌, List, set, eqb, refl, sym, subst, ◌∙◌, arith}
 use Rattle.std.specs.Int.Bits.{bit_or, bit_and}
 use Rattle.std.proofs.lemmas.Nat.{and_mask, or_disjoint}

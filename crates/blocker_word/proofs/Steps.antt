@@ -1,4 +1,5 @@
 -- The steps on the word keep what it counts.
+-- Cited by `Plays`.
 use Rattle.std.proofs.Common.{◌≡◌, ℕ, ◌+◌, ◌-◌, ◌%◌, List, set, refl, ap, arith}
 use mathlib.Core.Option.{some}
 use lib.ListN.{get_elem?}

@@ -1,4 +1,5 @@
 -- Sums over the tokens, where one of them changes or one more comes.
+-- Cited by `Changes`, `Steps`, `Widths`, `Worth`.
 use Rattle.std.proofs.Common.{◌≡◌, ℕ, zero, suc, ◌+◌, ◌<◌, ◌≤◌, List, [], ◌∷◌, ◌++◌, length, get_or, set, refl, sym, subst, subst₂, arith}
 use Rattle.std.specs.List.{All, sum_by}
 use Rattle.std.proofs.lemmas.List.Elements.{All-get_or, All-weaker, All-head, All-tail}

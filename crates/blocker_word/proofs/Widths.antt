@@ -1,4 +1,5 @@
 -- Making, splitting and joining tokens keep what the word counts.
+-- Cited by `BlockerWord::join`, `BlockerWord::new`, `BlockerWord::split`.
 use Rattle.std.proofs.Common.{◌≡◌, ℕ, ◌+◌, ◌%◌, ◌<◌, ◌≤◌, List, [], ◌∷◌, ◌++◌, set, eqb, refl, subst, ◌∙◌, ap, arith}
 use Rattle.std.proofs.lemmas.List.Elements.{All-cons, All-nil, All-push, All-set}
 use mathlib.Core.Option.{some}

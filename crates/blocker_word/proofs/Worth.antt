@@ -1,4 +1,5 @@
 -- What the word is worth.
+-- Cited by `live_items.rt`.
 use Rattle.std.proofs.Common.{refl, ◌≡◌, ℕ, ◌≤◌, List, ap, arith}
 use mathlib.Core.Option.{some}
 use lib.ListN.{get_elem?}

@@ -1,4 +1,5 @@
 -- The number that a word names, by how the word is parsed and by how its number is written.
+-- Cited by `number_named`.
 use Rattle.std.proofs.Common.{◌≡◌, ℕ, ◌<◌, ◌≤◌, ◌^◌, Bool, true, false, cond, ◌&&◌, leb, List, []}
 use Rattle.std.proofs.Common.{◌∷◌, refl, ap, ap₂, sym, Option, Some, None, Result, Ok, arith}
 use Rattle.std.specs.Fmt.{decimal}

@@ -1,4 +1,5 @@
 -- What clap's answers say of the command that the words are.
+-- Cited by `command_of`.
 use Rattle.std.proofs.Common.{◌≡◌, ℕ, true, List, [], ◌∷◌, codes, refl, sym, ap, ap₂, subst, ◌∙◌, inl, inr, Option, None}
 use Rattle.clap.specs.Walk.{Row, rows_of}
 use Rattle.clap.specs.Simple.{App, HasMatchesOf, is_simple, matches_of}

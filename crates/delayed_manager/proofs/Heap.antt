@@ -1,4 +1,5 @@
 -- What a push, a pop and a peek of the heap are for the list that it stands for.
+-- Cited by `Delayed::add`, `Delayed::peek`, `Delayed::remove_first`.
 use Rattle.std.proofs.Common.{◌≡◌, ℕ, ◌<◌, ◌≤◌, Bool, true, false, cond, List, [], ◌∷◌, length, get_or, drop, map}
 use Rattle.std.proofs.Common.{refl, sym, ap, ◌∙◌, inl, inr, arith, Option, Some, None, Result, Ok, Err, subst}
 use Rattle.std.specs.Prelude.{◌⊎◌, ◌&&◌, ◌||◌, ◌==◌, nat_lt, IsPermutation, slice_get, IfSome, IfNone, All, IsOk, OnOk}

@@ -1,4 +1,5 @@
 -- A sort by an order in which of any two different elements one goes before the other doesn't depend on how they stood.
+-- Cited by `Heap`.
 use Rattle.std.proofs.Common.{◌≡◌, ℕ, zero, suc, ◌<◌, Bool, true, false, cond, List, [], ◌∷◌, length}
 use Rattle.std.proofs.Common.{get_or, set, drop, refl, sym, ap, ◌∙◌, inl, inr, arith, subst}
 use Rattle.std.specs.Prelude.{◌⊎◌, IsPermutation, swap}

@@ -1,4 +1,5 @@
 -- When the clock of a run is as it was.
+-- Cited by `execute`.
 use Rattle.std.proofs.Common.{◌≡◌, ◌≢◌, ℕ, Bool, true, false, Option, Some, ap, refl}
 use Rattle.std.specs.Prelude.{alloc_error, IfErr, Result, Ok, Err}
 use Rattle.task_base.specs.declared.fault.Fault.{Fault}

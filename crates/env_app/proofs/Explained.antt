@@ -1,4 +1,5 @@
 -- What an explanation says of the verdict that it is of, and what a line is meant to be.
+-- Cited by `meant_at`, `why`.
 use Rattle.std.proofs.Common.{◌≡◌, ◌≤◌, ℕ, false, List, length, refl, sym, ◌∙◌, Option, Some, None, IfSome}
 use Rattle.task_base.specs.Plan.{Plan}
 use Rattle.task_base.specs.declared.entry.Entry.{Entry}

@@ -1,4 +1,5 @@
 -- What the answers of the parts of a command say together.
+-- Cited by `judge`, `explain`, `write_generated`, `tell`, `run_replies`, `execute`, `run_and_tell`, `run_script`.
 use Rattle.std.proofs.Common.{◌≡◌, ℕ, false, List, ◌++◌, codes, Option, Some, refl, sym, ap, inl, inr}
 use Rattle.std.specs.Prelude.{Result, Ok, Err}
 use Rattle.task_base.specs.declared.fault.Fault.{Fault}

@@ -1,4 +1,5 @@
 -- What a verdict on a log says of the text that the log has.
+-- Cited by `wrong_line`, `why`, `judge_log`, `Causes`, `Explained`.
 use Rattle.std.proofs.Common.{◌≡◌, ◌≤◌, ◌+◌, ℕ, Bool, true, false, cond, List, [], ◌∷◌, ◌++◌, length, refl}
 use Rattle.std.proofs.Common.{sym, ap, subst, ◌∙◌, inl, inr, length-append, Option, Some, None, arith}
 use Rattle.std.specs.Prelude.{is_none}

@@ -1,4 +1,5 @@
 -- What judges an entry: what the environment entered in its place, or that it may not come.
+-- Cited by 10 functions of `Replay`, `Passes`, `Posts`, `Scripted`, `Takes`, `Waited`.
 use Rattle.std.proofs.Common.{◌≡◌, ℕ, Bool, true, false, [], ◌∷◌, ◌++◌, refl, sym, ap, ◌∙◌}
 use Rattle.std.proofs.lemmas.Bool.{and_parts, false_from_ne_true, true≢false}
 use Rattle.std.specs.Prelude.{nat_le}

@@ -1,4 +1,5 @@
 -- The items of jobs that seats have in hand: what goes in, and what an end of one leaves.
+-- Cited by `Replay::holds`, `Replay::job_step`, `Replay::join_in`, `Replay::take_best`.
 use Rattle.hist_model.proofs.Laws.JobEntries.{same_number_is}
 use Rattle.std.proofs.Common.{◌≡◌, ℕ, ◌≤◌, Bool, true, false, List, refl, sym, ap, ◌∙◌, Option, Some, None, ⊎_elim, arith}
 use Rattle.std.proofs.lemmas.Bool.{and_parts, eq-eqb, eqb-true, false_from_ne_true, true≢false}

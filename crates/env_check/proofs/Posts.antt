@@ -1,4 +1,5 @@
 -- Posts by the script and by tasks: only one reply may come.
+-- Cited by `Replay::enter`, `Replay::leave`, `Replay::main_post`, `Replay::post`.
 use Rattle.std.proofs.Common.{◌≡◌, ℕ, Bool, true, false, List, refl, sym, ap, ◌∙◌}
 use Rattle.std.proofs.lemmas.Bool.{and_parts}
 use Rattle.std.proofs.Math.Bool.{beq}

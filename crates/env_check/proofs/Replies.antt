@@ -1,4 +1,5 @@
 -- Which replies may come to what the driver asks.
+-- Cited by `Posts`, `Scripted`, `Waited`.
 use Rattle.std.proofs.Common.{◌≡◌, ℕ, Bool, true, false, List, Some, refl, sym, ap, subst, arith}
 use Rattle.std.proofs.lemmas.Bool.{and_parts, eqb-true, leb-true}
 use Rattle.std.specs.Prelude.{nat_le, not, ◌&&◌}

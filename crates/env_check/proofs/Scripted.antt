@@ -1,4 +1,5 @@
 -- Entries that the driver makes by the script: it has nothing in hand, and its entry is judged by the one that was entered.
+-- Cited by 5 functions of `Replay`, `Waited`, `driver.rt`.
 use Rattle.std.proofs.Common.{◌≡◌, ℕ, Bool, true, false, List, Option, refl, sym, ap, ◌∙◌}
 use Rattle.std.proofs.lemmas.Bool.{eq-eqb, eqb-true, true≢false}
 use Rattle.std.proofs.Math.Bool.{beq}

@@ -1,4 +1,5 @@
 -- What the driver waits for: it comes, and was entered, or it may not come yet.
+-- Cited by `Replay::joined`, `waits.rt`.
 use Rattle.std.proofs.Common.{◌≡◌, ℕ, Bool, true, List, Option, Result, Ok, Err, refl, sym, ap, subst}
 use Rattle.std.proofs.lemmas.Bool.{false_from_ne_true, false≢true}
 use Rattle.std.specs.Prelude.{◌↔◌, IsOk, OnErr, OnOk}

@@ -1,4 +1,5 @@
 -- When nothing is left to be done of a log.
+-- Cited by `Replay::is_whole`, `Replay::open`, `env_explain`.
 use Rattle.std.proofs.Common.{◌≡◌, ℕ, ◌+◌, suc, Bool, true, false, List, [], ◌∷◌, length, refl, sym, ap, subst, ◌∙◌, Option, Some, None, arith}
 use Rattle.std.specs.Prelude.{◌&&◌, is_none, is_some, not, replicate, slice_get}
 use Rattle.std.proofs.lemmas.List.{length-replicate}

@@ -1,4 +1,5 @@
 -- What the script wants next of the driver, and what may not come without it.
+-- Cited by `Replay::is_wanted`, `Replay::job_take`, `Replay::main_none`, `Passes`, `Posts`, `Scripted`, `Takes`, `Waited`.
 use Rattle.std.proofs.Common.{◌≡◌, ℕ, Bool, true, false, List, [], ◌∷◌, Option, Some, None, refl, sym, ap, ◌∙◌}
 use Rattle.std.proofs.lemmas.Bool.{and_parts, eqb-true, false_from_ne_true, true≢false}
 use Rattle.std.proofs.lemmas.Option.{same_Some}

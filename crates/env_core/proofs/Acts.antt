@@ -1,4 +1,5 @@
 -- What is known of a seat whose task does its next act step, and of one whose task has done all of them: the pool may hear of it.
+-- Cited by 5 functions of `Env`.
 use Rattle.env_core.proofs.Driver.{driver_ends, task_waits}
 use Rattle.env_core.proofs.Plans.{act_is, main_runs, next_is_of, pool_runs}
 use Rattle.env_core.proofs.Queues.{accepted_right, is_scope, no_scope_steps}

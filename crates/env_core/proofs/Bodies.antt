@@ -1,4 +1,5 @@
 -- The bodies in the drawer, as the history grows.
+-- Cited by 5 functions of `Env`, `Entries`, `Taking`.
 use Rattle.env_core.specs.Drawer.{kept_if}
 use Rattle.std.proofs.Math.Bool.{and-false, and-true}
 use Rattle.env_core.specs.Calls.{AreFresh}

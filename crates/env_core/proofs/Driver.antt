@@ -1,4 +1,5 @@
 -- The driver's place in its script, as the history grows.
+-- Cited by 5 functions of `Ledger`, `Acts`, `Entries`, `JobCalls`, `Taking`.
 use Rattle.env_core.specs.Agenda.{counted, entries_of, moved_on, passed, passed_on}
 use Rattle.env_core.specs.Ledger.{IsAt}
 use Rattle.hist_model.specs.Allowed.{by_script}

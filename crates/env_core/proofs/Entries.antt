@@ -1,4 +1,5 @@
 -- One more entry: when it may come, what the pool and the main queues ask before it, and that everything holds behind it.
+-- Cited by 27 functions of `Env`.
 use Rattle.env_core.proofs.Bodies.{bodies_kept}
 use Rattle.env_core.proofs.Driver.{driver_moves, driver_waits, is_counted}
 use Rattle.env_core.proofs.Wanted.{is_plain, main_post_is_sound, named, plain_allowed, post_is_sound, queue_declared, runner_declared, wanted_by_script}

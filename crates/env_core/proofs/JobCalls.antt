@@ -1,4 +1,5 @@
 -- The calls on jobs: what the pool asks, what its answers say, and when an entry may come.
+-- Cited by 6 functions of `Env`.
 use Rattle.env_core.proofs.Driver.{driver_goes_in, holder_waits}
 use Rattle.env_core.proofs.JobEntries.{IsOpenJob, holds_item, job_declared, job_step_allowed, job_take_allowed, named_job}
 use Rattle.env_core.proofs.Plans.{driver_holds_nothing}

@@ -1,4 +1,5 @@
 -- The entries of jobs: which job the script names in one, and what the rules ask of it besides; and that a join goes on.
+-- Cited by `Env::job_post`, `Env::try_cancelled`, `Env::try_joined`, `JobCalls`.
 use Rattle.hist_model.proofs.Laws.BySound.{current_is_one}
 use Rattle.env_core.proofs.Wanted.{driver_allowed, wanted_by_script}
 use Rattle.env_core.specs.Calls.{IsWantedNext}

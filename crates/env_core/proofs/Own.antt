@@ -1,4 +1,5 @@
 -- What an entry by which a seat takes gives it: the assignment or the pass is the seat's own.
+-- Cited by `Env::job_step`, `Env::job_take`, `Env::main_take`, `Env::take`, `Taking`.
 use Rattle.std.proofs.Common.{◌≡◌, ℕ, List, [], ◌∷◌, ◌++◌, refl, ◌∙◌, Option, Some}
 use Rattle.list_laws.proofs.Values.{eqb-same}
 use Rattle.task_base.specs.declared.entry.Entry.{Entry}

@@ -1,4 +1,5 @@
 -- What a script posts to its main queues: it is as the main queues ask, and so is what was accepted.
+-- Cited by `Env::open`, `Acts`, `Taking`, `Wanted`.
 use Rattle.hist_model.proofs.Laws.Choice.{of_least}
 use Rattle.list_laws.proofs.Elements.{AllByRecursion-append, AllByRecursion-contains, AllByRecursion-contains_itself, AllByRecursion-map}
 use Rattle.list_laws.proofs.Least.{no_least}

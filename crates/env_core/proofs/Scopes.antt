@@ -1,4 +1,5 @@
 -- In a legal history the scopes of a task open and close in turn, as its steps say.
+-- Cited by `Acts`.
 use Rattle.script_model.specs.Laws.Sound.{IsSound}
 use Rattle.env_core.specs.Scopes.{is_open_after}
 use Rattle.env_core.proofs.Plans.{EntersStep, entered_by, main_runs, next_is_of, pool_runs}

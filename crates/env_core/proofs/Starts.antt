@@ -1,4 +1,5 @@
 -- The driver posts each job once, and before it joins or cancels it.
+-- Cited by `JobCalls`, `JobEntries`.
 use Rattle.hist_model.proofs.Laws.Agenda.{agenda_push, current_is_first}
 use Rattle.hist_model.proofs.Laws.Choice.{found}
 use Rattle.hist_model.proofs.Laws.JobEntries.{none_is}

@@ -1,4 +1,5 @@
 -- A seat takes a task or an item: what the pool and the main queues ask, the body that leaves the drawer, and when the entry may come.
+-- Cited by `Env::has_own_work`, `Env::has_work`, `Env::main_take`, `Env::take`.
 use Rattle.env_core.proofs.Bodies.{accepted_in_drawer, body_there, main_accepted_in_drawer}
 use Rattle.env_core.proofs.Driver.{driver_passes, driver_takes}
 use Rattle.env_core.proofs.Own.{pass_is_own}

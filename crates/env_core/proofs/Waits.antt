@@ -1,4 +1,5 @@
 -- What the driver waits for, by the action at its place in the script, and what the pool answers about it.
+-- Cited by `Env::may_go_on`.
 use Rattle.hist_model.proofs.Laws.BySound.{current_is_one}
 use Rattle.env_core.specs.Agenda.{counted}
 use Rattle.env_core.specs.Views.{EnvView}

@@ -1,4 +1,5 @@
 -- What is known of an entry that the script wants next, or that is the next act step of a task: it may come.
+-- Cited by 10 functions of `Env`, `Acts`, `Entries`, `JobCalls`, `JobEntries`, `Taking`, `env_check`, `next_entry`.
 use Rattle.hist_model.proofs.Laws.BySound.{current_is_one}
 use Rattle.hist_model.proofs.Laws.Progress.Pump.{none_open}
 use Rattle.env_core.proofs.Plans.{act_is, by_next, driver_holds_nothing, driver_runs_nothing, entered_by, enters_main, enters_post}

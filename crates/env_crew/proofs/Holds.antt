@@ -1,4 +1,5 @@
 -- What is known of a desk behind one hold of the turn.
+-- Cited by `drive`, `perform`, `tick`, `finish_cancel`, `finish_shutdown`, `flush`, `Done`, `Joins`, `Pump`, `Spares`, `Tasks`, `Visits`.
 use Rattle.std.proofs.Common.{◌≡◌, ◌+◌, List, [], ◌∷◌, ◌++◌, length, refl, sym, ap, ◌∙◌, append-nil, append_assoc, arith}
 use Rattle.std.proofs.lemmas.List.{length-append}
 use Rattle.list_laws.proofs.Values.{eqb-same}

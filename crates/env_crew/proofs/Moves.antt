@@ -1,4 +1,5 @@
 -- How the driver moves on in its actions.
+-- Cited by `drive`, `perform`, `pump`, `tick`, `Done`, `Joins`, `Pump`.
 use Rattle.std.proofs.Common.{◌≡◌, ℕ, zero, suc, ◌+◌, ◌<◌, Bool, true, false, List, [], ◌∷◌, ◌++◌}
 use Rattle.std.proofs.Common.{length, refl, sym, ap, subst, ◌∙◌, Some, None, append-nil, append_assoc, arith, get_or, drop, drop-cons}
 use Rattle.std.specs.Option.{option_map_or}

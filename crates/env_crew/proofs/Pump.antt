@@ -1,4 +1,5 @@
 -- How the driver moves on in a pump.
+-- Cited by `pump`.
 use Rattle.std.proofs.Common.{◌≡◌, ℕ, zero, suc, ◌+◌, ◌-◌, ◌<◌, ◌≤◌, true, false, leb, List}
 use Rattle.std.proofs.Common.{[], ◌∷◌, ◌++◌, refl, sym, ap, ◌∙◌, append-nil, append_assoc, Option, Some, None, arith}
 use Rattle.std.specs.List.{AllByRecursion}

@@ -1,4 +1,5 @@
 -- Entries that leave what their seat runs and holds.
+-- Cited by `tick`, `Done`, `Joins`, `Pump`, `Tasks`.
 use Rattle.std.proofs.Common.{◌≡◌, ℕ, Bool, true, false, cond, eqb, List, [], ◌∷◌, ◌++◌, refl, sym, ap, ◌∙◌, append-nil, append_assoc, Option}
 use Rattle.std.specs.List.{AllByRecursion}
 use Rattle.task_base.specs.declared.entry.Entry.{Entry}

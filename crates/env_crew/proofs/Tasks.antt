@@ -1,4 +1,5 @@
 -- A task that a seat has taken: while its steps are done, and behind its end.
+-- Cited by `pump`, `do_steps`, `serve_or`, `Pump`.
 use Rattle.task_body.proofs.Progress.{computes_first}
 use Rattle.std.proofs.Common.{◌≡◌, ◌≢◌, ℕ, zero, suc, ◌+◌, ◌<◌, ◌≤◌, Bool, true, false, List, [], ◌∷◌}
 use Rattle.std.proofs.Common.{◌++◌, length, take, drop, refl, sym, ap, ◌∙◌, append-nil, append_assoc, Option, Some, None, arith}

@@ -1,4 +1,5 @@
 -- The moments of the driver's ticks are those of the clock's readings.
+-- Cited by `drive`, `tick`, `Done`, `Joins`, `Pump`.
 use Rattle.std.proofs.Common.{◌≡◌, ℕ, ◌+◌, Bool, true, false, cond, eqb, List, [], ◌∷◌, ◌++◌}
 use Rattle.std.proofs.Common.{length, take, get_or, refl, sym, ap, ◌∙◌, append-nil, Option, Some, None, arith}
 use Rattle.std.specs.Prelude.{IfSome, fold, nat_le}

@@ -1,4 +1,5 @@
 -- A seat inside a job: how it goes in, and the items that it ends there.
+-- Cited by `do_items`, `serve_or`, `Joins`.
 use Rattle.std.proofs.Common.{◌≡◌, ℕ, ◌<◌, ◌≤◌, true, List, [], ◌∷◌, ◌++◌, length, refl, sym, ap, ◌∙◌, append-nil, append_assoc, Option, Some, None, arith}
 use Rattle.std.specs.Prelude.{is_none, nat_lt, slice_get}
 use Rattle.std.specs.List.{AllByRecursion}

@@ -1,4 +1,5 @@
 -- Which seats run or hold something, found in their hands.
+-- Cited by `busy_seats`, `end_told`.
 use Rattle.std.proofs.Common.{◌≡◌, ℕ, ◌+◌, ◌<◌, List, [], ◌∷◌, ◌++◌, append-nil, length, refl, sym, ap, ◌∙◌, Option, Some, None, ⊎_elim, arith}
 use Rattle.std.proofs.lemmas.List.Elements.{filter_map-append}
 use Rattle.std.proofs.lemmas.Option.{slice_get_cases}

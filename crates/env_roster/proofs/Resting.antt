@@ -1,4 +1,5 @@
 -- Who rests, and that no wake is lost.
+-- Cited by `Notes::pick`, `Roster::new`.
 use Rattle.std.proofs.Common.{◌≡◌, ◌<◌, ◌≤◌, ◌+◌, ◌-◌, ℕ, zero, suc, Bool, true, false, List, [], ◌∷◌, length}
 use Rattle.std.proofs.Common.{replicate, Option, Some, None, refl, sym, ◌∙◌, arith, slice_set}
 use Rattle.std.proofs.lemmas.List.{length-replicate}

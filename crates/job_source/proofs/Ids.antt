@@ -1,4 +1,5 @@
 -- The least free id, and a job where a worker enters, and where one ends its item.
+-- Cited by `JobSource::done`, `JobSource::enter`.
 use Rattle.std.proofs.Common.{◌≡◌, ℕ, suc, ◌+◌, ◌≤◌, ◌<◌, Bool, true, false, cond, List, [], ◌∷◌, length}
 use Rattle.std.proofs.Common.{get_or, set, refl, sym, ap, ◌∙◌, Option, Some, None, add-one, arith}
 use Rattle.std.specs.Prelude.{◌||◌, nat_lt, not, find, is_none, is_some, slice_get, unwrap_or, IsSome}

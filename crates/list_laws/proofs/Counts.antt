@@ -1,4 +1,6 @@
 -- How many elements pass a test.
+-- Cited by `Pigeons`, `Places`, `Ranges`, `Sorts`, `env_core`, `hist_model`, `nested_loop`, `pool_core`, `pool_laws`, `queue_laws`,
+-- `queue_selector`, `run_summary`, `script_model`, `sequence_manager`, `task_reply`, `task_script`, `thread_group`.
 use Rattle.std.proofs.Common.{◌≡◌, ℕ, suc, ◌+◌, ◌≤◌, Bool, true, false, cond, List, [], ◌∷◌, ◌++◌, length, refl, sym, ap, ◌∙◌, arith}
 use Rattle.std.specs.Prelude.{◌||◌, filter, not}
 use Rattle.std.specs.List.{list_any, AllByRecursion}

@@ -1,4 +1,5 @@
 -- Lists of the same elements.
+-- Cited by `Rises`, `pool_laws`, `queue_laws`.
 use Rattle.std.proofs.Common.{◌≡◌, List, [], ◌∷◌, ◌++◌, map, refl, sym, Option, Some, None}
 use Rattle.std.specs.Prelude.{Contains}
 use Rattle.std.specs.Option.{option_or}

@@ -1,4 +1,5 @@
 -- The numbers of a row.
+-- Cited by `Made`, `Pigeons`, `env_core`, `env_explain`, `hist_model`, `pool_core`, `pool_laws`, `run_summary`.
 use Rattle.std.proofs.Common.{◌≡◌, ℕ, zero, suc, ◌+◌, ◌<◌, ◌≤◌, Bool, true, false, eqb, ◌∷◌, ◌++◌, refl, sym, ap, ◌∙◌, inl, inr, arith}
 use Rattle.std.specs.Prelude.{◌||◌, ◌⊎◌}
 use Rattle.std.specs.List.{list_any, list_all, range_with_len, AllByRecursion}

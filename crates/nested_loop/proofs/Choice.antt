@@ -1,5 +1,6 @@
 -- The front that the main queues choose is the arrival of the least class of its queue, then of the least order, of those
 -- that have not been taken.
+-- Cited by `Front`, `Kept`.
 use Rattle.std.proofs.Common.{◌≡◌, ℕ, ◌+◌, ◌<◌, ◌≤◌, length, Bool, true, false, cond, eqb, List, [], ◌∷◌}
 use Rattle.std.proofs.Common.{◌++◌, refl, sym, ap, ◌∙◌, subst, Option, Some, None, arith, inl, inr}
 use Rattle.std.specs.Prelude.{◌⊎◌, ◌&&◌, not, nat_lt, filter, find, flat_map, Contains}

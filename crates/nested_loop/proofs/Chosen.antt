@@ -1,4 +1,5 @@
 -- The front and the first of the deferred tasks: they were posted, and have not started.
+-- Cited by `Deferrals`, `Left`, `LegalNests`, `Made`.
 use Rattle.sequence_manager.proofs.Lists.{any_contains}
 use Rattle.std.proofs.Common.{◌≡◌, ℕ, zero, suc, length, Bool, true, false, eqb, List, [], ◌∷◌, ◌++◌, refl, sym, ap, ◌∙◌, subst, Option, Some, None, arith}
 use Rattle.std.specs.Prelude.{◌&&◌, ◌||◌, not, nat_lt, slice_get, Contains}

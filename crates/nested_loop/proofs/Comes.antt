@@ -1,4 +1,5 @@
 -- What the event that comes next is, case by case, and what it leaves open.
+-- Cited by `Chosen`, `Deferrals`, `Known`, `Left`, `LegalNests`, `Made`, `MainScript`, `Parts`.
 use Rattle.std.proofs.Common.{◌≡◌, ℕ, ◌+◌, Bool, true, false, cond, eqb, List, [], ◌∷◌, ◌++◌, refl}
 use Rattle.std.proofs.Common.{sym, subst, Option, Some, None, append_assoc, append-nil, arith}
 use Rattle.std.specs.Prelude.{slice_get}

@@ -1,4 +1,5 @@
 -- What one more event does to the deferred tasks, and to the depth.
+-- Cited by `Made`.
 use Rattle.std.proofs.Common.{◌≡◌, ℕ, ◌+◌, ◌-◌, ◌≤◌, length, Bool, true, false, cond, eqb, List, [], ◌∷◌}
 use Rattle.std.proofs.Common.{◌++◌, drop, refl, sym, ap, ◌∙◌, subst, Some, None, arith, append-nil}
 use Rattle.std.specs.Prelude.{◌||◌, ◌&&◌, not, slice_get, filter}

@@ -1,4 +1,5 @@
 -- What one more event does to the notions of the past.
+-- Cited by `Chosen`, `Deferrals`, `Front`, `Kept`, `Known`, `Left`.
 use Rattle.std.proofs.Common.{◌≡◌, ℕ, ◌+◌, List, [], ◌∷◌, ◌++◌, length, refl, sym, ap, ◌∙◌, Option, Some, None, append_assoc, append-nil, arith, add-zero}
 use Rattle.std.specs.Prelude.{◌||◌}
 use Rattle.std.specs.List.{filter_map, list_any}

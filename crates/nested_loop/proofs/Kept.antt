@@ -1,4 +1,5 @@
 -- What the manager of the main queues is asked at each event of a nest, and what it then stands for.
+-- Cited by `Waiting::new`, `Waiting::post`, `Waiting::take`, `Made`.
 use Rattle.std.proofs.Common.{◌≡◌, ℕ, ◌+◌, ◌<◌, ◌^◌, length, Bool, true, false, eqb, List, [], ◌∷◌, ◌++◌, map, refl}
 use Rattle.std.proofs.Common.{sym, ap, ◌∙◌, subst, Option, Some, None, arith, length-append, append-nil}
 use Rattle.std.specs.Prelude.{◌||◌, not, filter}

@@ -1,4 +1,5 @@
 -- What a sound nest posts: tasks and queues that are declared, no task twice, and so no more events than there is room for.
+-- Cited by `run_nest`, `Kept`, `Made`, `MainScript`, `Parts`.
 use Rattle.std.proofs.Common.{◌≡◌, ℕ, ◌+◌, ◌*◌, ◌<◌, ◌≤◌, length, Bool, true, false, cond, eqb, List, [], ◌∷◌}
 use Rattle.std.proofs.Common.{◌++◌, refl, sym, ap, subst, Option, Some, None, arith, length-append}
 use Rattle.std.specs.Prelude.{◌||◌, slice_get, sum_by, flat_map}

@@ -1,4 +1,5 @@
 -- What is left to do: each event takes its weight from it.
+-- Cited by `Known`.
 use Rattle.std.proofs.Common.{◌≡◌, ℕ, zero, suc, ◌+◌, ◌*◌, ◌<◌, ◌≤◌, length, Bool, true, false, cond}
 use Rattle.std.proofs.Common.{List, [], ◌∷◌, ◌++◌, drop, refl, sym, ap, ◌∙◌, Some, arith, add-one}
 use Rattle.std.specs.Prelude.{◌||◌, slice_get, sum_by}

@@ -1,4 +1,5 @@
 -- What the machine has made at each event: its parts are those that the event leaves.
+-- Cited by `Machine::act`, `Machine::next_outermost`, `Machine::step_loop`, `Machine::step_task`.
 use Rattle.std.proofs.Common.{◌≡◌, ◌≢◌, ℕ, ◌+◌, ◌-◌, ◌<◌, ◌≤◌, ◌^◌, length, true, false, cond, eqb, drop, List}
 use Rattle.std.proofs.Common.{[], ◌∷◌, ◌++◌, refl, sym, ap, ◌∙◌, subst, Option, Some, None, arith}
 use Rattle.std.specs.Prelude.{◌||◌, slice_get}

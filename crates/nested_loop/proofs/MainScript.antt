@@ -1,4 +1,5 @@
 -- The script of a sound nest is one that the manager of the main queues can be made with.
+-- Cited by `Waiting::new`, `most_events`, `Kept`, `Made`.
 use Rattle.std.proofs.Common.{◌≡◌, ℕ, zero, suc, ◌+◌, ◌*◌, ◌<◌, ◌≤◌, ◌^◌, length, List, [], ◌∷◌, ◌++◌}
 use Rattle.std.proofs.Common.{map, refl, sym, ap, subst, Option, Some, None, arith, length-append}
 use Rattle.std.specs.Prelude.{slice_get, flat_map, sum_by, Contains}

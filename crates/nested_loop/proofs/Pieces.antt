@@ -1,4 +1,5 @@
 -- The steps of a line, read one after the other, as a loop does.
+-- Cited by `steps_said`.
 use Rattle.std.proofs.Common.{◌≡◌, ℕ, ◌+◌, ◌<◌, Bool, true, false, eqb, List, [], ◌∷◌, ◌++◌, length, get_or, drop}
 use Rattle.std.proofs.Common.{map, refl, Option, Some, None, arith, add-one, drop-cons, append_assoc}
 use Rattle.std.specs.List.{slice_split, onto_first}

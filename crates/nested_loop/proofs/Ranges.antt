@@ -1,4 +1,5 @@
 -- The numbers of a line that says something are in their ranges.
+-- Cited by `SoundNests`.
 use Rattle.std.proofs.Common.{◌≡◌, ℕ, ◌≤◌, Bool, true, false, cond, leb, List, [], ◌∷◌, map, refl, Option, Some, None, arith}
 use Rattle.std.specs.Prelude.{◌-◌, ◌^◌, ◌&&◌, codes, IfSome}
 use Rattle.std.specs.List.{AllByRecursion, slice_split}

@@ -1,4 +1,5 @@
 -- Every nest that is read is sound: each line keeps it so.
+-- Cited by `read_nest`.
 use Rattle.std.proofs.Common.{◌≡◌, ℕ, ◌+◌, ◌<◌, ◌≤◌, true, eqb, List, [], ◌∷◌, ◌++◌, length, refl}
 use Rattle.std.proofs.Common.{sym, subst, inl, inr, Option, Some, None, Result, Ok, Err, arith}
 use Rattle.std.specs.Prelude.{not, nat_lt, flat_map, IfSome}

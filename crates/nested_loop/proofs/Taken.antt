@@ -1,4 +1,5 @@
 -- What a sink took of the text of a log, line after line.
+-- Cited by `write_nest`.
 use Rattle.std.proofs.Common.{◌≡◌, ℕ, ◌+◌, ◌<◌, ◌≤◌, min, List, [], ◌++◌, length, get_or, take, drop, Option}
 use Rattle.std.proofs.Common.{refl, sym, ◌∙◌, arith, add-one, append_assoc, append-nil, drop-cons}
 use Rattle.std.proofs.Math.Seq.{take-append-add}

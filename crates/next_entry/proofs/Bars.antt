@@ -1,4 +1,5 @@
 -- Where a worker may take nothing, and nothing else is against a source, there is no room for it.
+-- Cited by `task_bar`, `next_of_worker`.
 use Rattle.std.proofs.Common.{◌≡◌, ℕ, ◌+◌, ◌<◌, Bool, true, false, cond, List, [], length, refl, sym, ap, subst, ◌∙◌, Option, Some, None, arith}
 use Rattle.std.proofs.lemmas.Bool.{eqb-true}
 use Rattle.std.proofs.lemmas.List.Elements.{All-contains}

@@ -1,4 +1,5 @@
 -- Why an entry may not come: what the driver's action wants, and what a task does next.
+-- Cited by `acted`, `next_of_item`, `next_of_task`, 7 functions of `wanted`.
 use Rattle.hist_model.proofs.Laws.Progress.Actions.{same_policy_now, same_fence_now}
 use Rattle.hist_model.proofs.Laws.Progress.Driver.{current_waits}
 use Rattle.std.proofs.Common.{◌≡◌, ◌⊎◌, inl, inr, ℕ, zero, suc, ◌≤◌, Bool, true, false, List, [], ◌∷◌}

@@ -1,4 +1,5 @@
 -- By what sources are compared, found in a log and in the hands of seats.
+-- Cited by `seats_inside`.
 use Rattle.std.proofs.Common.{◌≡◌, ℕ, ◌+◌, suc, Bool, true, false, cond, eqb, List, [], ◌∷◌, length, refl, sym, ap, ◌∙◌, Option, Some, None, arith}
 use Rattle.std.specs.List.{range_with_len}
 use Rattle.std.specs.Prelude.{◌==◌, filter, slice_get}

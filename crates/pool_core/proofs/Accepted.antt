@@ -1,4 +1,6 @@
 -- What a past of the pool says of the tasks that were accepted.
+-- Cited by `Pool::post`, `Pool::start`, `Calls/Posts`, `Calls/Ripening`, `Calls/Takes`, `LineGrowth`, `Lines`, `Pasts`, `Sources/Choosing`,
+-- `Sources/Following`, `Sources/Places`, `Tables`, `Tracking`, `Works/AtSeat`, `Works/GroupWorks`, `env_core`, `next_entry`.
 use Rattle.pool_laws.proofs.Choice.Least.{head_is}
 use Rattle.list_laws.proofs.Elements.{AllByRecursion-append, AllByRecursion-contains, AllByRecursion-map}
 use Rattle.list_laws.proofs.Finds.{find_contains, find_passes}

@@ -1,4 +1,6 @@
 -- The delayed tasks that are not ripe, as the past grows.
+-- Cited by `Pool::post`, `Calls/Ends`, `Calls/Kept`, `Calls/Posts`, `Calls/Reprio`, `Calls/Ripening`, `Calls/Shutdown`, `Calls/Takes`,
+-- `Calls/Ticks`, `Jobs/JobStands`.
 use Rattle.list_laws.proofs.Rises.{map-insert_by, sort_by-filter, sort_by-push}
 use Rattle.list_laws.proofs.Counts.{count_le}
 use Rattle.list_laws.proofs.Elements.{AllByRecursion-filter, AllByRecursion-map, AllByRecursion-mapped}

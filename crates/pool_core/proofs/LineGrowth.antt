@@ -1,4 +1,6 @@
 -- The lists of the sequences, and their cells, at each entry.
+-- Cited by `Calls/EmptyPool`, `Calls/Ends`, `Calls/Kept`, `Calls/Others`, `Calls/Posts`, `Calls/Reprio`, `Calls/Shutdown`, `Calls/Takes`,
+-- `Calls/Ticks`, `Jobs/JobStands`.
 use Rattle.list_laws.proofs.Rises.{found_dropped}
 use Rattle.list_laws.proofs.Elements.{AllByRecursion-map}
 use Rattle.list_laws.proofs.Filters.{filter-filter, filter-map, filter_congr, filter_congr_in, filter_never, filter_none}

@@ -1,4 +1,6 @@
 -- What the lists of the sequences, and their cells, say of heads, of takes and of tasks that run; one more arrival.
+-- Cited by `Pool::end`, `Pool::is_cell_out`, `Calls/Posts`, `Calls/Ripening`, `Calls/Takes`, `LineGrowth`, `Sources/Following`,
+-- `Sources/Places`, `Works/AtSeat`, `next_entry`.
 use Rattle.list_laws.proofs.Rises.{rises_last}
 use Rattle.list_laws.proofs.Elements.{AllByRecursion-filter, AllByRecursion-map, AllByRecursion-mapped}
 use Rattle.list_laws.proofs.Values.{eqb-same, some-injective}

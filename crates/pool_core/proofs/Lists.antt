@@ -1,4 +1,6 @@
 -- Lists, places in them, and values that are there or not: facts of no one part of the pool.
+-- Cited by `Calls/EmptyPool`, `Calls/Takes`, `LineGrowth`, `Sources/Idling`, `Sources/Places`, `Tables`, `Works/AtSeat`,
+-- `Works/GroupWorks`, `Works/Room`.
 use Rattle.list_laws.proofs.Counts.{count-append, count-cons, count_step}
 use Rattle.list_laws.proofs.Filters.{filter-map, filter_congr_in, filter_none}
 use Rattle.list_laws.proofs.Ranges.{AllByRecursion-range}

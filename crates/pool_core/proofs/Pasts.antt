@@ -1,4 +1,6 @@
 -- What the pool knows of a past stays true with one more entry.
+-- Cited by `Calls/EmptyPool`, `Calls/Ends`, `Calls/Others`, `Calls/Posts`, `Calls/Reprio`, `Calls/Scopes`, `Calls/Shutdown`, `Calls/Takes`,
+-- `Calls/Ticks`, `Jobs/JobStands`.
 use Rattle.pool_laws.proofs.Seats.Whose.{RunsBehind, runs_behind}
 use Rattle.list_laws.proofs.Elements.{AllByRecursion-append}
 use Rattle.list_laws.proofs.Values.{eqb-same}

@@ -1,4 +1,6 @@
 -- The tables of tasks and seats as the past grows.
+-- Cited by `Calls/EmptyPool`, `Calls/Ends`, `Calls/Kept`, `Calls/Others`, `Calls/Posts`, `Calls/Reprio`, `Calls/Shutdown`, `Calls/Takes`,
+-- `Calls/Ticks`, `Jobs/JobStands`, `Works/AtSeat`.
 use Rattle.list_laws.proofs.Places.{slice_get-replicate, slice_get-set_other, slice_get-set_same}
 use Rattle.list_laws.specs.Lists.{holds_of, keep}
 use Rattle.pool_core.proofs.Accepted.{one_post}

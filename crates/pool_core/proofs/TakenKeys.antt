@@ -1,4 +1,5 @@
 -- A task that was taken has a key, as the past grows.
+-- Cited by `LineGrowth`, `Lines`, `Pasts`.
 use Rattle.list_laws.proofs.Finds.{find_contains}
 use Rattle.list_laws.proofs.Elements.{AllByRecursion-contains, AllByRecursion-contains_itself, AllByRecursion-through}
 use Rattle.list_laws.proofs.Values.{some-injective}

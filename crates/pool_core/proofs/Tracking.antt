@@ -1,4 +1,6 @@
 -- The phase, the policy and what shutdown waits for, as the past grows.
+-- Cited by 5 functions of `Pool`, `Calls/EmptyPool`, `Calls/Ends`, `Calls/Others`, `Calls/Posts`, `Calls/Reprio`, `Calls/Scopes`,
+-- `Calls/Shutdown`, `Calls/Takes`, `Calls/Ticks`, `Jobs/AtJob`, `Jobs/JobStands`, `Works/AtSeat`.
 use Rattle.list_laws.proofs.Counts.{count_le}
 use Rattle.list_laws.proofs.Filters.{filter_never}
 use Rattle.pool_core.proofs.Accepted.{head_accepted, new_is_not_taken, one_post, posts_fit}

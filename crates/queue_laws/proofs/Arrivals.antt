@@ -1,5 +1,6 @@
 -- The main arrivals: they rise in order, they are the accepted main tasks that have orders, and the front of a lane is
 -- the first of them that is in it.
+-- Cited by `Distinct`, `hist_model`, `nested_loop`, `sequence_manager`.
 use Rattle.std.proofs.Common.{◌≡◌, ℕ, suc, ◌+◌, ◌<◌, ◌≤◌, Bool, true, false, cond, List, [], ◌∷◌, ◌++◌, length}
 use Rattle.std.proofs.Common.{map, take, refl, sym, ap, ◌∙◌, subst, Option, Some, None, arith}
 use Rattle.std.specs.Prelude.{not, ◌&&◌, nat_lt, nat_le, find, filter, is_none, option_and_then}

@@ -1,4 +1,5 @@
 -- The orders of main tasks: each is below the next draw, and no two tasks have one. Both hold since the main arrivals rise.
+-- Cited by `hist_model`.
 use Rattle.std.proofs.Common.{◌≡◌, ℕ, ◌+◌, ◌<◌, Bool, true, cond, None, arith, List, [], ◌∷◌, ◌++◌, sym, ap, ◌∙◌, subst, Option, Some, inl, inr}
 use Rattle.std.specs.Prelude.{◌⊎◌, ◌&&◌, not, nat_lt, nat_le, Contains}
 use Rattle.std.specs.Option.{option_map, IfSome}

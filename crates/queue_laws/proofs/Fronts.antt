@@ -1,4 +1,5 @@
 -- The front of a lane is its task of least order. An entry that touches no main queue leaves the streak.
+-- Cited by `Arrivals`, `hist_model`, `sequence_manager`.
 use Rattle.std.proofs.Common.{◌≡◌, ℕ, false, List, [], ◌∷◌, ◌++◌, refl, sym, ◌∙◌, Some}
 use Rattle.std.proofs.lemmas.Bool.{true≢false}
 use Rattle.task_base.specs.Plan.{Plan}

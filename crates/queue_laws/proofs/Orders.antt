@@ -1,5 +1,6 @@
 -- What one more entry does to the orders of main tasks. An order that was drawn stays; an immediate task draws at its post,
 -- and a delayed one at the first tick at or past its ripe moment, where its queue is not closed.
+-- Cited by `Arrivals`, `Distinct`, `hist_model`, `sequence_manager`.
 use Rattle.std.proofs.Common.{◌≡◌, ℕ, ◌+◌, ◌<◌, Bool, true, false, cond, eqb, List, [], ◌∷◌, ◌++◌, length, take, refl, sym, ap, ◌∙◌, Option, Some, None, arith}
 use Rattle.std.specs.Prelude.{not, ◌&&◌, ◌||◌, nat_lt, nat_le, filter, option_and_then, is_none}
 use Rattle.std.specs.Option.{option_or}

@@ -1,4 +1,5 @@
 -- A queue goes into another class: it is closed, put there, and given its fronts again.
+-- Cited by `Selector::put_closed`, `Selector::set_class`.
 use Rattle.std.proofs.Common.{◌≡◌, ℕ, ◌<◌, ◌≤◌, List, ◌∷◌, ◌++◌, length, get_or, set}
 use Rattle.std.proofs.Common.{length-set, get_or-set_same, refl, sym, ap, ◌∙◌, inl, inr, arith, Option, Some, None, All, IfSome, subst}
 use Rattle.std.specs.Prelude.{◌≢◌}

@@ -1,4 +1,5 @@
 -- The choice among open fronts, by the first fronts of each class in each lane.
+-- Cited by 6 functions of `Selector`.
 use Rattle.std.proofs.Common.{◌≡◌, ℕ, suc, ◌+◌, ◌<◌, ◌≤◌, Bool, true, false, cond, not, List, [], ◌∷◌, length, map}
 use Rattle.std.proofs.Common.{refl, sym, ap, ◌∙◌, inl, inr, arith, Option, Some, None, All, Contains}
 use Rattle.std.specs.Prelude.{◌⊎◌, ◌==◌, ◌&&◌, ◌||◌, nat_lt, nat_le, ◌↔◌, is_some, IsNone, filter, slice_get}

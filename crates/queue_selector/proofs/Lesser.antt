@@ -1,4 +1,5 @@
 -- The least of a list, by the least of those that pass a test and the least of those that fail it.
+-- Cited by `Choice`.
 use Rattle.std.proofs.Common.{◌≡◌, Bool, true, false, cond, not, List, [], ◌∷◌}
 use Rattle.std.proofs.Common.{refl, sym, ap, ◌∙◌, inl, inr, Option, Some, None, Contains, subst}
 use Rattle.std.specs.Prelude.{◌⊎◌, filter}

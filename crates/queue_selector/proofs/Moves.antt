@@ -1,4 +1,5 @@
 -- The sets stay sorted where a front is opened or closed.
+-- Cited by `Selector::close`, `Selector::first`, `Selector::new`, `Selector::open`, `Again`.
 use Rattle.std.proofs.Common.{◌≡◌, ℕ, zero, suc, ◌+◌, ◌<◌, ◌≤◌, Bool, true, false, not, List, [], ◌∷◌, ◌++◌, length, get_or, set, replicate}
 use Rattle.std.proofs.Common.{length-set, get_or-set_same, get_or-set_other, refl, sym, ap, ◌∙◌, inl, inr, arith, Option, Some, None, All, IfSome, subst}
 use Rattle.std.specs.Prelude.{◌⊎◌, ◌==◌, ◌≢◌, ◌&&◌, filter}

@@ -1,4 +1,5 @@
 -- The open fronts before and behind that of one lane of a queue.
+-- Cited by `Selector::put_closed`, `Selector::set_front`, `Again`, `Choice`, `Held`, `Moves`.
 use Rattle.std.proofs.Common.{◌≡◌, ℕ, zero, suc, ◌+◌, ◌<◌, List, [], ◌∷◌, ◌++◌, length, get_or, set, append_assoc}
 use Rattle.std.proofs.Common.{get_or-set_same, set-set, refl, sym, ap, ◌∙◌, arith, Option, None, subst}
 use Rattle.std.specs.Option.{option_map, option_to_list}

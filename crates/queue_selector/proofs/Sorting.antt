@@ -1,4 +1,5 @@
 -- A sorted list, when one element more is among those that are sorted.
+-- Cited by `FrontSet::insert`, `Again`, `Choice`, `Held`, `Moves`.
 use Rattle.std.proofs.Common.{◌≡◌, suc, ◌+◌, Bool, true, false, cond, List, [], ◌∷◌, ◌++◌}
 use Rattle.std.proofs.Common.{take, drop, refl, sym, ap, ◌∙◌, inl, inr, arith}
 use Rattle.std.specs.Prelude.{◌⊎◌, filter, find, slice_get}

@@ -1,4 +1,5 @@
 -- The words of the line of an entry.
+-- Cited by `entry_at`.
 use Rattle.std.proofs.Common.{◌≡◌, ℕ, suc, ◌-◌, ◌<◌, ◌≤◌, List, [], ◌∷◌, ◌++◌, length, get_or, take, All, map, eqb, false}
 use Rattle.std.proofs.Common.{Option, Some, None, IfSome, refl, sym, ap, ◌∙◌, arith, length-append, drop-cons}
 use Rattle.std.specs.Fmt.{decimal}

@@ -1,4 +1,5 @@
 -- What the plain words of a line tell.
+-- Cited by `entry_behind_place`, `meant`, `Worked`.
 use Rattle.std.proofs.Common.{◌≡◌, ◌≤◌, ◌-◌, ℕ, Bor, List, [], ◌∷◌, length, get_or, take, drop, map, Option, Some, None, IfSome, refl, sym, ap, ◌∙◌, arith}
 use Rattle.std.proofs.lemmas.List.{take_all}
 use Rattle.task_base.specs.declared.entry.Entry.{Entry}

@@ -1,4 +1,5 @@
 -- The words of a kind are read as that kind.
+-- Cited by `entry_at`, `meant`, `PlainWords`.
 use Rattle.std.proofs.Common.{◌≡◌, ◌<◌, ◌≤◌, ◌^◌, ℕ, true, false, List, ◌∷◌, None, Some, length, map, refl, arith}
 use Rattle.std.specs.Fmt.{decimal}
 use Rattle.std.specs.Prelude.{codes}

@@ -1,4 +1,5 @@
 -- What every run of a generated script adds up to: the tasks, the items, the cells and the sums together.
+-- Cited by `generated.rt`.
 use Rattle.std.proofs.Common.{◌≡◌, ℕ, zero, suc, ◌*◌, ◌/◌, ◌^◌, ◌<◌, ◌≤◌, List, refl, arith}
 use Rattle.std.specs.Prelude.{sum_by}
 use Rattle.std.proofs.Math.Nat.{mod-eq_of_lt, mod-lt}

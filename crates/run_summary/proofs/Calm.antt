@@ -1,5 +1,6 @@
 -- Calm scripts, whose logs have no tick, no policy, no fence, no vote, no rank, no close, no cancel, no shutdown and no scope: what
 -- stays as it was at first in each legal log of theirs. The generated scripts are calm.
+-- Cited by `Items`, `Joins`, `Tasks/Adding`, `Tasks/Comes`, `Tasks/Numbers`, `Tasks/Posted`, `Tasks/Pumped`, `Tasks/Rest`.
 use Rattle.hist_model.proofs.Laws.BySound.{current_is_one}
 use Rattle.std.proofs.Common.{◌≡◌, ℕ, ◌+◌, Bool, true, false, cond, eqb, leb, List, [], ◌∷◌, ◌++◌}
 use Rattle.std.proofs.Common.{length, refl, sym, ap, subst, ◌∙◌, Option, Some, None, ⊎_elim}

@@ -1,4 +1,5 @@
 -- The table of cells stands for the past: before the first entry, and behind one more.
+-- Cited by `Cells::new`, `cells_behind`, `summary`.
 use Rattle.std.proofs.Common.{◌≡◌, ℕ, ◌+◌, ◌%◌, ◌^◌, ◌<◌, ◌≤◌, Bool, true, false, cond, eqb, leb, List, [], ◌∷◌, ◌++◌, length, get_or, take, set, replicate}
 use Rattle.std.proofs.Common.{map, sum, refl, sym, ap, ◌∙◌, Option, Some, None, ◌⊎◌, inl, inr, arith, length-set, get_or-set_same, get_or-set_other}
 use Rattle.std.specs.Prelude.{◌&&◌, not, sum_by}

@@ -1,4 +1,5 @@
 -- What the items of a generated script's job add up to: all are done, and item i gives 3 i + 1.
+-- Cited by `AddUp`.
 use Rattle.std.proofs.Common.{◌≡◌, ℕ, zero, suc, ◌+◌, ◌-◌, ◌*◌, ◌%◌, ◌^◌, ◌<◌, ◌≤◌, Bool, true, false, cond, eqb, List, [], ◌∷◌, refl, ap, ◌∙◌, None, arith}
 use Rattle.std.specs.Prelude.{sum_by}
 use Rattle.std.specs.List.{list_any, range_with_len, AllByRecursion}

@@ -1,4 +1,5 @@
 -- The items of the job of a generated script: all of them are done in each whole log, and what they give.
+-- Cited by `Items`.
 use Rattle.std.proofs.Common.{◌≡◌, ℕ, zero, suc, ◌+◌, ◌<◌, ◌≤◌, Bool, true, false, cond, eqb, List, [], ◌∷◌, ◌++◌, refl}
 use Rattle.std.proofs.Common.{sym, ap, ◌∙◌, Option, Some, None, ◌⊎◌, inl, inr, arith, add-one, add-zero, leb}
 use Rattle.std.specs.Prelude.{◌&&◌, is_some, sum_by}

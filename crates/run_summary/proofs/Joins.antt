@@ -1,4 +1,5 @@
 -- What a finished script has joined, and what its joined job has done.
+-- Cited by `Items`.
 use Rattle.std.proofs.Common.{◌≡◌, ℕ, zero, suc, ◌-◌, Bool, true, false, cond, eqb, leb, List, [], ◌∷◌}
 use Rattle.std.proofs.Common.{◌++◌, refl, sym, ap, subst, ◌∙◌, Option, Some, None, ⊎_elim, arith}
 use Rattle.std.specs.Prelude.{◌&&◌, ◌||◌, filter}

@@ -1,4 +1,5 @@
 -- In every whole run of a generated script each task ends once, and the cells hold what the tasks add.
+-- Cited by `AddUp`.
 use Rattle.std.proofs.Common.{◌≡◌, ℕ, ◌+◌, ◌^◌, ◌<◌, ◌≤◌, true, false, cond, List, refl, ◌∙◌}
 use Rattle.std.specs.Prelude.{sum_by}
 use Rattle.task_base.specs.declared.entry.Entry.{Entry}

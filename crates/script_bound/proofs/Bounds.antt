@@ -1,4 +1,5 @@
 -- The entries bound of a valid script, and its parts, fit a counter.
+-- Cited by `bound.rt`.
 use Rattle.std.proofs.Common.{◌<◌, ◌^◌, arith}
 use Rattle.task_base.specs.Plan.{Plan}
 use Rattle.script_model.specs.Bound.{events_bound_of}

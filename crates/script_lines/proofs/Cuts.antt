@@ -1,4 +1,5 @@
 -- A text that is cut between two words, where none of the words before the cut is the mark.
+-- Cited by `Words::split_at_mark`.
 use Rattle.std.proofs.Common.{◌≡◌, ℕ, ◌+◌, ◌-◌, ◌≤◌, true, false, List, [], ◌∷◌, ◌++◌, length, take, drop, refl, sym}
 use Rattle.std.proofs.Common.{◌∙◌, ap, arith, add-zero, add_assoc, append_assoc, length-take, length-drop}
 use Rattle.std.specs.Prelude.{All, slice_range}

@@ -1,4 +1,5 @@
 -- The first word of a text, found by the places of blanks.
+-- Cited by `Words::is_empty`, `first_word`, `word_len`.
 use Rattle.std.proofs.Common.{◌≡◌, ℕ, zero, suc, ◌+◌, ◌-◌, ◌<◌, ◌≤◌, Bool, true, false, cond, ltb, List, [], ◌∷◌, Option, Some, None, get_or, length}
 use Rattle.std.proofs.Common.{take, drop, refl, sym, ◌∙◌, ap, arith, zero-add, suc-add, length-take, length-drop, drop-cons, add_assoc}
 use Rattle.std.specs.Prelude.{not, filter, ◌==◌, unwrap_or, is_some, IsTrue}

@@ -1,4 +1,5 @@
 -- What stands at the later places of words, when those before them have been read.
+-- Cited by `runner_places`, `job`.
 use Rattle.std.proofs.Common.{◌≡◌, ℕ, suc, ltb, List, [], ◌∷◌, length, drop, refl, inl, inr, arith}
 use Rattle.std.proofs.lemmas.Bool.{cases_lt, lt-ltb, le-ltb}
 use Rattle.script_model.specs.Reasons.{◌&◌}

@@ -1,4 +1,5 @@
 -- The number that a word writes: the text of digits, their value, and the range that it must lie in.
+-- Cited by `number_from`.
 use Rattle.std.proofs.Common.{◌≡◌, ℕ, ◌<◌, ◌^◌, true, false, cond, ltb, leb, List, Some, None, Err, refl, sym, inl, inr, arith}
 use Rattle.std.specs.Str.Parse.{digits_value}
 use Rattle.std.proofs.lemmas.Bool.{cases_lt, lt-ltb, le-ltb, lt-leb}

@@ -1,4 +1,5 @@
 -- What the words of a line say, by its first word.
+-- Cited by `read_line`.
 use Rattle.std.proofs.Common.{◌≡◌, ℕ, List, [], ◌∷◌, drop, cond, refl, Some, None, Ok}
 use Rattle.std.specs.Prelude.{not, slice_get}
 use Rattle.script_model.specs.Words.{begins_comment, is_all_ascii}

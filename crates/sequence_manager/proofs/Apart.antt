@@ -1,4 +1,5 @@
 -- The open fronts that the selector knows have different orders.
+-- Cited by `Manager::end`, `Manager::refresh`, `Manager::take`, `Fences`, `Parts`.
 use Rattle.std.proofs.Common.{◌≡◌, ℕ, zero, suc, ◌+◌, Bool, true, false, List, [], ◌∷◌, refl, sym, ap, ◌∙◌, subst, Option, Some, None, inl, inr, arith}
 use Rattle.std.specs.Prelude.{◌≢◌, ◌⊎◌, All, Contains, IfSome, nat_lt, not, slice_get, slice_index_or, slice_set}
 use Rattle.std.specs.Option.{option_map, option_to_list}

@@ -1,5 +1,6 @@
 -- A delayed task goes from those of its queue that wait to the end of the lane of its queue, under the order that is drawn
 -- next: what that does to the queues of a script.
+-- Cited by `Posts`, `Ripens`.
 use Rattle.delayed_manager.specs.Delayed.{with_held}
 use Rattle.list_laws.proofs.Elements.{AllByRecursion-append, AllByRecursion-filter, AllByRecursion-mapped}
 use Rattle.list_laws.proofs.Values.{eqb-same}

@@ -1,4 +1,5 @@
 -- A manager of fresh parts stands for a history that has not begun.
+-- Cited by `Manager::new`.
 use Rattle.list_laws.proofs.Made.{none_contained}
 use Rattle.list_laws.proofs.Values.{some-injective}
 use Rattle.pool_laws.proofs.Keys.Ready.{no_tick_ahead_at_start}

@@ -1,4 +1,5 @@
 -- The choice among the open fronts is the selector's, and is the first task of its lane.
+-- Cited by `Streak`, `Takes`, `Taking`.
 use Rattle.std.proofs.Common.{◌≡◌, ℕ, ◌<◌, Bool, true, false, cond, List, length, map, refl, sym, ap, ◌∙◌, subst, Option, Some, None, inl, inr, arith}
 use Rattle.std.specs.Prelude.{◌&&◌, ◌==◌, ◌⊎◌, not, nat_lt, find, filter, Contains}
 use Rattle.std.specs.List.{range_with_len}

@@ -1,4 +1,5 @@
 -- A queue is closed: its tasks are dropped.
+-- Cited by `Manager::close`.
 use Rattle.std.proofs.Common.{◌≡◌, ℕ, ◌+◌, ◌≤◌, Bool, true, false, List, [], ◌∷◌, ◌++◌, length, refl, sym, ap, ◌∙◌, subst, Some, inl, inr, arith}
 use Rattle.std.specs.Prelude.{◌⊎◌, ◌&&◌, ◌||◌, ◌==◌, nat_lt, not, filter, slice_get}
 use Rattle.std.proofs.lemmas.Bool.{cases_eq, ne_eqb, not_from_false}

@@ -1,4 +1,5 @@
 -- Counting what is posted to main queues, posting by posting.
+-- Cited by `count_actions`, `count_steps`, `rooms`, `Fresh`.
 use Rattle.list_laws.proofs.Counts.{count_le}
 use Rattle.list_laws.proofs.Elements.{AllByRecursion-back, AllByRecursion-front, AllByRecursion-made, slice_get_all}
 use Rattle.list_laws.proofs.Places.{count-push, slice_get-set_other, slice_get-set_same}

@@ -1,4 +1,5 @@
 -- What the driver's takes and ends of main tasks leave of the queues.
+-- Cited by `Ends`, `TakenLanes`, `TakenPast`, `Takes`, `Taking`.
 use Rattle.std.proofs.Common.{◌≡◌, ℕ, ◌≤◌, cond, List, [], ◌∷◌, ◌++◌, map, refl, ap, ◌∙◌, Option, Some, None}
 use Rattle.std.specs.Prelude.{filter}
 use Rattle.std.specs.List.{range_with_len}

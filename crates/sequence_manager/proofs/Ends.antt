@@ -1,4 +1,5 @@
 -- The end of the driver's task keeps what the manager stands for.
+-- Cited by `Manager::end`.
 use Rattle.std.proofs.Common.{◌≡◌, ℕ, Bool, false, cond, List, [], ◌∷◌, length, refl, sym, ap, ◌∙◌, subst, Some, None, arith}
 use Rattle.std.specs.Prelude.{◌==◌, ◌&&◌, not, filter}
 use Rattle.std.proofs.lemmas.Bool.{ne_eqb}

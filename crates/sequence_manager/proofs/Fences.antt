@@ -1,4 +1,5 @@
 -- Fences, votes and classes.
+-- Cited by `Manager::fence`, `Manager::unfence`, `Manager::vote`, `Closes`, `Posts`.
 use Rattle.std.proofs.Common.{◌≡◌, ℕ, ◌+◌, ◌<◌, ◌≤◌, Bool, true, false, cond, List, [], ◌∷◌, ◌++◌, length, refl, sym, ap, ◌∙◌, subst, Option, Some, None, arith}
 use Rattle.std.specs.Prelude.{◌&&◌, ◌||◌, ◌==◌, not, slice_get, slice_set}
 use Rattle.std.proofs.lemmas.Bool.{ne_eqb, not_from_false}

@@ -1,4 +1,5 @@
 -- The parts of a manager as they are made, queue by queue.
+-- Cited by `TaskQueues::new`, `set_classes`, `AtStart`.
 use Rattle.list_laws.proofs.Values.{some-injective}
 use Rattle.queue_selector.specs.Rows.{closed_row}
 use Rattle.queue_selector.specs.Selecting.{Selecting, with_class}

@@ -1,4 +1,5 @@
 -- The open fronts that the selector knows are those of the past.
+-- Cited by `Choice`.
 use Rattle.std.proofs.Common.{◌≡◌, ℕ, suc, ◌+◌, ◌<◌, Bool, true, false, cond, List, [], ◌∷◌, ◌++◌, length, map, refl, sym, ap, ◌∙◌, Option, Some, None, arith}
 use Rattle.std.specs.Prelude.{◌&&◌, nat_lt, find, filter, slice_get}
 use Rattle.std.specs.List.{flat_map, list_all, range_with_len}

@@ -1,4 +1,5 @@
 -- What an entry leaves of the main queues.
+-- Cited by `Closes`, `Driver`, `Fences`, `Others`, `Parts`, `Posts`, `Ranks`, `TickedPast`, `Ticks`, `Waiting`.
 use Rattle.std.proofs.Common.{◌≡◌, ℕ, Bool, true, false, cond, List, [], ◌∷◌, ◌++◌, map, refl, sym, ap, ◌∙◌, Some, None}
 use Rattle.std.specs.Prelude.{◌&&◌, ◌||◌, ◌==◌, not, filter}
 use Rattle.std.specs.List.{range_with_len}

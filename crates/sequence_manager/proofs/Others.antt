@@ -1,4 +1,5 @@
 -- Entries that are not of the main queues.
+-- Cited by `other_entries_keep_the_main_queues`, `Closes`, `Fences`, `Posts`, `Ranks`, `env_core`.
 use Rattle.std.proofs.Common.{◌≡◌, ℕ, ◌<◌, ◌≤◌, Bool, true, false, List, [], ◌∷◌, ◌++◌, length, refl, sym, ap, ◌∙◌, subst, arith}
 use Rattle.std.specs.Prelude.{not}
 use Rattle.std.proofs.lemmas.Bool.{ne_eqb, true≢false}

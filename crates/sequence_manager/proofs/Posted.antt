@@ -1,4 +1,5 @@
 -- What the main queues need to know of a past that has accepted one more task.
+-- Cited by `Posts`.
 use Rattle.std.proofs.Common.{◌≡◌, ℕ, ◌+◌, ◌<◌, ◌≤◌, Bool, true, false, cond, List, [], ◌∷◌, ◌++◌, refl, sym, ap, ◌∙◌, subst, Some, None, inl, inr, arith}
 use Rattle.std.specs.Prelude.{◌⊎◌, ◌&&◌, ◌==◌, nat_lt, not, find, filter, Contains}
 use Rattle.std.specs.List.{AllByRecursion}

@@ -1,4 +1,5 @@
 -- No more tasks are accepted for a queue than the script posts to it.
+-- Cited by `Posts`, `Ripens`.
 use Rattle.pool_laws.proofs.Keys.Posts.{in_order_counts}
 use Rattle.list_laws.proofs.Counts.{count_mono}
 use Rattle.list_laws.proofs.Elements.{AllByRecursion-both, AllByRecursion-filter, AllByRecursion-map}

@@ -1,4 +1,5 @@
 -- A main task is posted: an immediate one goes to its lane, a delayed one waits, and one to a closed queue is refused.
+-- Cited by `Manager::post`.
 use Rattle.std.proofs.Common.{◌≡◌, ℕ, ◌+◌, ◌<◌, ◌≤◌, Bool, true, false, cond, List, [], ◌∷◌, ◌++◌}
 use Rattle.std.proofs.Common.{length, map, refl, sym, ap, ◌∙◌, subst, Some, inl, inr, arith}
 use Rattle.std.specs.Prelude.{◌≢◌, ◌⊎◌, ◌==◌, nat_lt, not, filter, All, slice_get}

@@ -1,4 +1,5 @@
 -- Entries that accept no main task, make no tick and close no queue: which tasks have orders, and which wait, stays.
+-- Cited by `Closes`, `Driver`, `Fences`, `Others`, `Posted`, `Posts`, `Ranks`.
 use Rattle.std.proofs.Common.{◌≡◌, ℕ, ◌+◌, ◌<◌, ◌≤◌, Bool, true, false, List, [], ◌∷◌, ◌++◌, refl, sym, ap, ◌∙◌, subst, arith}
 use Rattle.std.specs.Prelude.{◌&&◌, ◌||◌, ◌==◌, nat_lt, not, filter, find, Contains, Some}
 use Rattle.std.specs.List.{AllByRecursion}

@@ -1,4 +1,5 @@
 -- What the selector is told of a queue: orders that its tasks drew, so that no two are the same.
+-- Cited by `Ends`, `Fronts`, `Parts`, `Ranks`, `Ripens`, `TakenLanes`, `Takes`, `Taking`.
 use Rattle.std.proofs.Common.{◌≡◌, ℕ, ◌<◌, ◌≤◌, Bool, true, false, cond, List, [], ◌∷◌, length, map}
 use Rattle.std.proofs.Common.{refl, sym, ap, ◌∙◌, subst, Option, Some, None, inl, inr, arith}
 use Rattle.std.specs.Prelude.{◌⊎◌, ◌&&◌, ◌==◌, not, Contains, filter, slice_get, slice_index_or, slice_set}

@@ -1,4 +1,5 @@
 -- One delayed task ripens in the course of a tick: it goes to the end of its lane.
+-- Cited by `Ticks`.
 use Rattle.delayed_manager.specs.Delayed.{with_held}
 use Rattle.list_laws.proofs.Elements.{AllByRecursion-append, AllByRecursion-at, AllByRecursion-contains, AllByRecursion-map}
 use Rattle.list_laws.proofs.Filters.{filter_all, filter_front}

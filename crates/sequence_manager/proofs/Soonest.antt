@@ -1,4 +1,5 @@
 -- Which queue has the delayed task that ripens first.
+-- Cited by `Ripens`, `Ticks`.
 use Rattle.delayed_manager.specs.Delayed.{ripens_before}
 use Rattle.delayed_manager.specs.declared.ripening.Ripening.{Ripening}
 use Rattle.list_laws.proofs.Elements.{AllByRecursion-filter, AllByRecursion-mapped, slice_get_all}

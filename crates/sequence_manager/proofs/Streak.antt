@@ -1,4 +1,5 @@
 -- How long immediate tasks have waited, once the chosen task was taken.
+-- Cited by `Takes`.
 use Rattle.std.proofs.Common.{◌≡◌, ℕ, ◌+◌, Bool, true, false, cond, List, length, refl, sym, ap, ◌∙◌}
 use Rattle.std.specs.Prelude.{◌==◌, ◌&&◌, nat_lt, Contains}
 use Rattle.std.specs.List.{list_any}

@@ -1,4 +1,5 @@
 -- What the take of the first task of a lane does to the queues.
+-- Cited by `Takes`, `Taking`.
 use Rattle.std.proofs.Common.{◌≡◌, ℕ, ◌<◌, Bool, true, false, cond, List, [], length, map, drop, refl, sym, ap, ◌∙◌, Some, None}
 use Rattle.std.specs.Prelude.{◌==◌, ◌&&◌, ◌||◌, not, filter, find, Contains}
 use Rattle.std.specs.List.{AllByRecursion}

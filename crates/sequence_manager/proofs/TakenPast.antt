@@ -1,4 +1,5 @@
 -- What the main queues know of a past stays true where the driver takes or ends a main task.
+-- Cited by `Ends`, `Takes`.
 use Rattle.std.proofs.Common.{◌≡◌, ℕ, true, List, [], ◌∷◌, ◌++◌, sym, ap, ◌∙◌, subst, Some, inl, inr, arith}
 use Rattle.std.specs.Prelude.{◌⊎◌, Contains}
 use Rattle.std.proofs.lemmas.Bool.{eqb-true, or_cases, true≢false}

@@ -1,4 +1,5 @@
 -- What the manager chooses is the chosen task of the past, and is there to be taken.
+-- Cited by `Manager::take`.
 use Rattle.std.proofs.Common.{◌≡◌, ℕ, ◌<◌, Bool, false, cond, List, [], length, map, refl, sym, ap, ◌∙◌, subst, Option, Some, None}
 use Rattle.std.specs.Prelude.{IfSome, filter, find, slice_get}
 use Rattle.std.specs.Option.{option_map}

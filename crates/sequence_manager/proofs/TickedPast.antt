@@ -1,4 +1,5 @@
 -- What the main queues know of a past stays true with a tick.
+-- Cited by `Ticks`.
 use Rattle.pool_laws.proofs.Keys.Posts.{main_posts_same}
 use Rattle.pool_laws.proofs.Keys.Ready.{no_tick_ahead_grows}
 use Rattle.queue_laws.proofs.Arrivals.{main_arrivals_are_ordered_grows}

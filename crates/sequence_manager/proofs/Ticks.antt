@@ -1,5 +1,6 @@
 -- A tick: at its start no delayed task has ripened, each step ripens one, and once none is left that is ripe the manager stands
 -- for the past with the tick.
+-- Cited by `Manager::tick`.
 use Rattle.delayed_manager.specs.Delayed.{is_ripe}
 use Rattle.delayed_manager.specs.declared.ripening.Ripening.{Ripening}
 use Rattle.list_laws.proofs.Elements.{AllByRecursion-map}

@@ -1,5 +1,6 @@
 -- The delayed main tasks that are not ripe: they rise, none of them was taken, and at a tick those of them ripen whose moment
 -- has come.
+-- Cited by `Arriving`, `Closes`, `Posts`, `Ripens`, `Ticks`.
 use Rattle.list_laws.proofs.Elements.{AllByRecursion-both, AllByRecursion-contains_itself, AllByRecursion-filter, AllByRecursion-map}
 use Rattle.list_laws.proofs.Filters.{filter-filter, filter_congr, filter_passes}
 use Rattle.list_laws.proofs.Rises.{sort_by-filter}

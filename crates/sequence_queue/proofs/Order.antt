@@ -1,4 +1,5 @@
 -- The order of a heap: how it is lost at one place, and won back by exchanges.
+-- Cited by `Steps`.
 use Rattle.std.proofs.Common.{◌≡◌, ℕ, zero, suc, ◌+◌, ◌<◌, ◌≤◌, Bool, true, false, eqb, Option, Some, None, refl, sym, subst, ◌∙◌, inl, inr, arith}
 use Rattle.std.specs.Prelude.{◌≢◌, ◌⊎◌, nat_lt, ◌&&◌, ◌||◌, is_some}
 use Rattle.std.proofs.lemmas.Bool.{true≢false, cases_lt, le-ltb}

@@ -1,4 +1,5 @@
 -- The first six words of a line tell what it says.
+-- Cited by `read_line`.
 use Rattle.std.proofs.Common.{◌≡◌, ℕ, List, [], ◌∷◌, take, refl}
 use Rattle.task_reply.specs.Replies.{reply_said, reply_words_said}
 

@@ -1,4 +1,5 @@
 -- What a script has when one more step, which posts a task, stands behind those of a task.
+-- Cited by `OnePosting`, `RepliesOfLogs`, `Standing`, `StaysSound`.
 use Rattle.std.proofs.Common.{◌≡◌, ℕ, ◌+◌, ◌<◌, Bool, true, false, eqb, List, [], ◌∷◌, ◌++◌, length, get_or, cond, refl, ap, ◌∙◌, inl, inr, arith}
 use Rattle.std.specs.Prelude.{slice_set, sum_by, count_by, flat_map, ◌||◌}
 use Rattle.std.specs.List.{list_any}

@@ -1,4 +1,5 @@
 -- The lines read one after the other, as a loop does, and the script that stands for them.
+-- Cited by `elaborate`.
 use Rattle.std.proofs.Common.{◌≡◌, ℕ, ◌+◌, ◌<◌, eqb, List, length, get_or, drop, map, Some, Result, Ok, Err, refl, sym, ◌∙◌}
 use Rattle.std.specs.List.{slice_split}
 use Rattle.std.specs.Str.Lines.{strip_carriage_return}

@@ -1,4 +1,5 @@
 -- Which tasks have marks.
+-- Cited by `Reasons`.
 use Rattle.std.proofs.Common.{◌≡◌, ℕ, ◌<◌, Bool, true, false, eqb, List, [], ◌∷◌, length, get_or, refl, sym, ap, ◌∙◌}
 use Rattle.std.specs.Prelude.{◌||◌, replicate, slice_set}
 use Rattle.std.specs.List.{list_any}

@@ -1,5 +1,6 @@
 -- Where a task is posted once, by one step: the step that posts a reply stands in the reply's task, at one place among
 -- its act steps.
+-- Cited by `RepliesOfLogs`, `Runs`.
 use Rattle.hist_model.proofs.Laws.Postings.Once.{once_in_one}
 use Rattle.std.proofs.Common.{◌≡◌, ℕ, zero, suc, ◌+◌, ◌<◌, ◌≤◌, Bool, true, false, cond, eqb, List, [], ◌∷◌, ◌++◌}
 use Rattle.std.proofs.Common.{length, map, take, refl, sym, ap, subst, ◌∙◌, Option, Some, None, arith}

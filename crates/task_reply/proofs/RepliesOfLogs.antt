@@ -1,4 +1,5 @@
 -- Where a legal log has the posts of replies, and what stands before and behind them.
+-- Cited by `laws.rt`.
 use Rattle.hist_model.proofs.Laws.Postings.Once.{once_in_one}
 use Rattle.std.proofs.Common.{◌≡◌, ℕ, ◌+◌, ◌<◌, ◌≤◌, Bool, true, false, eqb, List, [], ◌∷◌, ◌++◌, length}
 use Rattle.std.proofs.Common.{take, refl, sym, ap, subst, ◌∙◌, ◌⊎◌, inl, inr, Some, arith}

@@ -1,4 +1,5 @@
 -- How a task that runs goes through its act steps.
+-- Cited by `RepliesOfLogs`.
 use Rattle.hist_model.proofs.Laws.Postings.Once.{once_in_one}
 use Rattle.std.proofs.Common.{◌≡◌, ℕ, zero, suc, ◌+◌, ◌-◌, ◌<◌, ◌≤◌, Bool, true, false, cond, eqb, List, [], ◌∷◌, ◌++◌}
 use Rattle.std.proofs.Common.{length, take, get_or, refl, sym, ap, subst, ◌∙◌, ◌⊎◌, inl, inr, Some, arith, add-zero}

@@ -1,4 +1,5 @@
 -- What is held stands for the script with the replies so far: at first, and with one more.
+-- Cited by `Held::read_line`.
 use Rattle.std.proofs.Common.{◌≡◌, ℕ, ◌<◌, Bool, true, false, cond, eqb, List, [], ◌∷◌, ◌++◌, length, get_or, map, refl}
 use Rattle.std.proofs.Common.{sym, ap, subst, ◌∙◌, Some, None, Result, Ok, Err, arith, append_assoc, append-nil}
 use Rattle.std.specs.Prelude.{replicate, slice_get, slice_set}

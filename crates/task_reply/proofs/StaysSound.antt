@@ -1,4 +1,5 @@
 -- A sound script stays sound with one more reply against which there is no reason.
+-- Cited by `Reasons`, `Standing`.
 use Rattle.std.proofs.Common.{◌≡◌, ℕ, ◌+◌, ◌<◌, ◌≤◌, Bool, true, false, eqb, List, [], ◌∷◌, ◌++◌}
 use Rattle.std.proofs.Common.{length, get_or, refl, sym, ap, subst, ◌∙◌, inl, inr, Some, arith}
 use Rattle.std.specs.Prelude.{slice_get, not, ◌&&◌}

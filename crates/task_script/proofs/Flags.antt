@@ -1,4 +1,5 @@
 -- The flags of a reader, over one more task, job or action.
+-- Cited by `Reader::add_job`, `Reader::posts_again`, `Reader::push_job`.
 use Rattle.script_model.proofs.Laws.Computing.{computing_posts}
 use Rattle.std.proofs.Common.{◌≡◌, ℕ, zero, suc, ◌+◌, ◌<◌, ◌≤◌, ◌≢◌, Bool, true, false, eqb, ltb, List, [], ◌∷◌, ◌++◌, length}
 use Rattle.std.proofs.Common.{get_or, flat_map, refl, sym, ap, subst, ◌∙◌, arith, append_assoc, length-append}

@@ -1,4 +1,5 @@
 -- The script that is made from a number and a size is sound.
+-- Cited by `generate`, `numbers_behind`, `generator.rt`, `run_summary`.
 use Rattle.std.proofs.Common.{◌≡◌, ℕ, zero, suc, ◌+◌, ◌-◌, ◌*◌, ◌<◌, ◌≤◌, Bool, true, false, cond, eqb, List, [], ◌∷◌, ◌++◌, length, take}
 use Rattle.std.proofs.Common.{get_or, flat_map, refl, sym, ap, subst, ◌∙◌, inl, inr, Option, Some, arith, append_assoc, length-append}
 use Rattle.std.specs.Prelude.{slice_get, IfSome, sum_by}

@@ -1,4 +1,5 @@
 -- What a sink took of a text, piece after piece.
+-- Cited by `JobElement::put`, `TaskElement::put`, `put_each`, `put_script`.
 use Rattle.std.proofs.Common.{◌≡◌, ◌<◌, ◌≤◌, ◌+◌, ℕ, min, List, [], ◌++◌, length, get_or, take, Option, refl, subst, ap, sym, ◌∙◌, arith}
 use Rattle.std.proofs.Math.Seq.{take-append-add}
 use Rattle.std.proofs.lemmas.List.{take_min, take-append-le}

@@ -1,4 +1,5 @@
 -- The canonical text as the pieces that are put, one behind the other.
+-- Cited by `JobElement::put`, `TaskElement::put`, `put_script`, `Puts`, `write_lines.rt`.
 use Rattle.std.proofs.Common.{◌≡◌, ◌≢◌, ◌<◌, ◌+◌, ℕ, suc, List, [], ◌∷◌, ◌++◌, length, get_or, take, drop, map, refl, sym, ap}
 use Rattle.std.proofs.Common.{◌∙◌, append_assoc, append-nil, add-zero, zero-add, take-append-drop, arith, codes, decimal}
 use Rattle.std.specs.List.{flat_map, join_with_byte}

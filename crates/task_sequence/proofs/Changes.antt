@@ -1,4 +1,5 @@
 -- What becomes of the lists where one node is put at the end of a list, and where the first node of a list is removed.
+-- Cited by `append`, `take_first`.
 use Rattle.std.proofs.Common.{◌≡◌, ◌≢◌, ℕ, ◌+◌, ◌-◌, ◌<◌, List, [], ◌∷◌, ◌++◌, drop, refl, sym, ap, ◌∙◌, subst, Option, Some, None, arith, length-append}
 use Rattle.std.specs.Prelude.{unwrap_or}
 use Rattle.task_sequence.specs.Sequences.{Waiting}

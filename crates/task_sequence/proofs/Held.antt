@@ -1,4 +1,5 @@
 -- How many tasks all sequences have together, and how many of them a phase forbids.
+-- Cited by `Sequences::new`, `Sequences::purge`.
 use Rattle.std.proofs.Common.{◌≡◌, ℕ, zero, suc, ◌+◌, ◌-◌, replicate, Bool, true, false, cond, List, [], ◌∷◌, length, map, refl, ap, ◌∙◌, Option, arith}
 use Rattle.std.proofs.Math.Nat.{sub-zero}
 use Rattle.std.specs.Prelude.{filter, not, is_some}

@@ -1,4 +1,5 @@
 -- What becomes of the lines where one list is changed and the others are kept.
+-- Cited by `append_at`, `purge_at`, `put_at`, `take_at`.
 use Rattle.std.proofs.Common.{◌≡◌, ◌≢◌, ℕ, zero, suc, ◌+◌, ◌<◌, List, [], ◌∷◌, length, map, get_or, refl, sym}
 use Rattle.std.proofs.Common.{ap, ◌∙◌, subst, Option, arith, inl, inr, get_or-set_other, get_or-set_same}
 use Rattle.std.proofs.Math.ListN.{set}

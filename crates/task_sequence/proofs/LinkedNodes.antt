@@ -1,5 +1,6 @@
 -- Linked nodes: a list is what its nodes say, lists that end apart have no node in common, and a list is kept where none
 -- of its nodes is changed.
+-- Cited by `append`, `take_first`, `Changes`.
 use Rattle.std.proofs.Common.{◌≡◌, ◌≢◌, ℕ, suc, ◌<◌, List, [], ◌∷◌, length, refl, sym, ap, ◌∙◌, subst, Option, Some, None, arith}
 use Rattle.std.specs.Prelude.{unwrap_or}
 use Rattle.list_laws.proofs.Values.{some-injective}

@@ -1,4 +1,5 @@
 -- A list whose tasks go, one after the other, from the front to the end where they pass a test.
+-- Cited by `purge_list`, `Held`.
 use Rattle.std.proofs.Common.{◌≡◌, ℕ, suc, ◌+◌, ◌<◌, Bool, List, [], ◌∷◌, ◌++◌, append_assoc, length}
 use Rattle.std.proofs.Common.{take, drop, get_or, sym, ap, ◌∙◌, Option, drop-cons, add-one, arith}
 use Rattle.std.specs.Prelude.{filter}

@@ -1,4 +1,5 @@
 -- The counts where one seat's work changes, and at a later moment.
+-- Cited by `Group::may_start`, `Group::put`, `at_moment`.
 use Rattle.std.proofs.Common.{◌≡◌, ℕ, zero, suc, ◌+◌, ◌≤◌, ◌<◌, ◌^◌, Bool, true, false, cond, List, [], ◌∷◌, ◌++◌, length}
 use Rattle.std.proofs.Common.{get_or, set, take, drop, refl, sym, ap, ◌∙◌, Option, Some, None, arith, subst}
 use Rattle.std.specs.Prelude.{is_some, not, ◌&&◌, ◌||◌, nat_lt}

@@ -1,4 +1,5 @@
 -- The events of a trace: which entry each one comes from, and their order.
+-- Cited by `trace_of`, `Sequences`, `Turns`, `spans.rt`.
 use Rattle.std.proofs.Common.{◌≡◌, ◌<◌, ◌≤◌, ◌+◌, ℕ, zero, suc, add-zero, zero-add, List, [], ◌∷◌, ◌++◌, length, take, drop, get_or}
 use Rattle.std.proofs.Common.{refl, sym, ap, subst, ◌∙◌, append_assoc, append-nil, Option, None, Some, inl, inr, arith}
 use Rattle.std.specs.Prelude.{◌⊎◌, slice_get}

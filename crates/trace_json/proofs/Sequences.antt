@@ -1,4 +1,5 @@
 -- In the trace of a legal log the tasks of a sequence show one at a time.
+-- Cited by `spans.rt`.
 use Rattle.std.proofs.Common.{◌≡◌, ◌<◌, ◌≤◌, ℕ, true, eqb, List, take, refl, sym, ap, subst, ◌∙◌, Some, inl, inr, arith}
 use Rattle.std.specs.Prelude.{◌⊎◌, slice_get}
 use Rattle.std.proofs.lemmas.Bool.{and_parts, eqb-true}

@@ -1,4 +1,5 @@
 -- The text of a trace's data is the text of the trace.
+-- Cited by `TraceSerialize::serialize`, `trace_text`.
 use Rattle.std.proofs.Common.{◌≡◌, ◌==◌, ◌<◌, ◌%◌, ◌/◌, ℕ, zero, suc, true, false, if◌then◌else◌, List, [], ◌∷◌}
 use Rattle.std.proofs.Common.{◌++◌, map, length, Some, refl, sym, ap, ◌∙◌, subst, append_assoc, arith}
 use Rattle.std.specs.Prelude.{codes}

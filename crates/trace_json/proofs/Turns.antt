@@ -1,4 +1,5 @@
 -- In the trace of a legal log the events of a seat begin and end by turns.
+-- Cited by `spans.rt`.
 use Rattle.std.proofs.Common.{◌≡◌, ℕ, Bool, true, false, eqb, List, [], ◌∷◌, ◌++◌, length, append-nil}
 use Rattle.std.proofs.Common.{append_assoc, leb, refl, sym, ap, subst, ◌∙◌, Option, None, Some}
 use Rattle.std.specs.Prelude.{◌&&◌, is_none}

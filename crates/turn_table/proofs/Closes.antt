@@ -1,4 +1,5 @@
 -- What the close finds.
+-- Cited by `Turnstile::into_value`, `Turnstile::join_all`.
 use Rattle.std.proofs.Common.{◌≡◌, ℕ, ◌+◌, ◌-◌, ◌^◌, ◌<◌, ◌≤◌, Bool, true, false, List, [], ◌∷◌, ◌++◌, map, length, refl}
 use Rattle.std.proofs.Common.{sym, ap, subst, ◌∙◌, add-zero, eq-zero-or-pos, ⊎_elim, lt_of_not-le, arith, Option, Some}
 use Rattle.std.specs.List.{AllByRecursion}

@@ -1,4 +1,5 @@
 -- Setting and reading the place of a shutdown keep what holds of the turn.
+-- Cited by `Turnstile::load_front`, `Turnstile::set_front`.
 use Rattle.std.proofs.Common.{◌≡◌, ◌≢◌, ℕ, ◌+◌, ◌-◌, ◌*◌, Bool, true, false, eqb, List, [], ◌∷◌, length}
 use Rattle.std.proofs.Common.{set, get_or, refl, sym, ap, subst, ◌∙◌, append-nil, arith, Option}
 use mathlib.Core.Option.{some}

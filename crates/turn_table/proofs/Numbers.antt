@@ -1,4 +1,5 @@
 -- Where numbers stand, and which views stand after one was set.
+-- Cited by `Fronts`, `Others`, `Splits`, `Steps`, `Turns`.
 use Rattle.std.proofs.Common.{◌≡◌, ◌≢◌, ℕ, zero, suc, true, false, cond, eqb, List, [], ◌∷◌, ◌++◌, length, length-set}
 use Rattle.std.proofs.Common.{◌⊎◌, inl, inr, set, refl, sym, ap, subst, ◌∙◌, ⊎_elim, eq-eqb, ne_eqb}
 use mathlib.Core.Option.{some, some-injective, some-ne-none}

@@ -1,4 +1,5 @@
 -- What is known of a seat still holds after a step of another seat.
+-- Cited by `Fronts`, `Splits`, `Steps`, `Turns`.
 use Rattle.std.proofs.Common.{◌≡◌, ◌≢◌, ℕ, ◌+◌, ◌<◌, Bool, true, false, cond, List, [], ◌∷◌, ◌++◌, sym, ap, ◌∙◌, append_assoc, ne_eqb}
 use Rattle.std.specs.List.{AllByRecursion}
 use Rattle.list_laws.proofs.Elements.{AllByRecursion-map}

@@ -1,4 +1,5 @@
 -- Splitting a seat and joining seats keep what holds of the turn.
+-- Cited by `Turnstile::close`, `Turnstile::join`, `Turnstile::split`.
 use Rattle.std.proofs.Common.{◌≡◌, ◌≢◌, ℕ, ◌<◌, true, false, List, length, set, sym, ◌∙◌, arith}
 use Rattle.list_laws.proofs.Elements.{AllByRecursion-map}
 use Rattle.atomic_table.specs.Table.{Splits, Joins}

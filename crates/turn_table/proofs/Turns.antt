@@ -1,4 +1,5 @@
 -- Taking the turn, entering and giving it back keep what holds of it.
+-- Cited by 5 functions of `Turnstile`, `Fronts`.
 use Rattle.std.proofs.Common.{◌≡◌, ◌≢◌, ℕ, zero, suc, ◌+◌, ◌-◌, ◌*◌, ◌%◌, ◌^◌, ◌<◌, Bool, true, false, eqb, List, [], ◌∷◌, ◌++◌, length}
 use Rattle.std.proofs.Common.{length-append, set, get_or, refl, sym, ap, ap₂, subst, ◌∙◌, append-nil, arith, Option, Some, None}
 use Rattle.std.specs.Prelude.{◌&&◌, slice_get}

@@ -1,4 +1,5 @@
 -- A task whose order is above all others keeps the lanes in order.
+-- Cited by `WorkQueue::push`, `WorkQueue::push_immediate`.
 use Rattle.std.proofs.Common.{◌≡◌, List, [], ◌∷◌, ◌++◌, true, rules, sym, ◌∙◌, append_assoc, subst}
 use Rattle.std.specs.Prelude.{All}
 use Rattle.std.specs.List.{AllByRecursion}

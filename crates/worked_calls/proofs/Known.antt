@@ -1,4 +1,5 @@
 -- What a test knows behind its calls, and what that allows.
+-- Cited by `end`, `end_main`, `end`, `Scopes`.
 use Rattle.std.proofs.Common.{◌≡◌, ℕ, Bool, List, [], length, refl, sym, ap, ◌∙◌, false, true, Some}
 use Rattle.std.specs.Prelude.{filter}
 use Rattle.list_laws.proofs.Values.{some-injective}

@@ -1,4 +1,7 @@
 -- The scripts of the tests are sound.
+-- Cited by `serve_answers_as_its_take`, `shutdown_is_seen_without_the_turn`, `three_desks_by_turns`, `turnstile_of`,
+-- `a_take_or_a_refused_post_empties_the_drawer`, `env_is_dropped_with_bodies_in_the_drawer`, `cancel_with_worker_inside`, `job_yields`,
+-- `may_block`, `will_block`, `no_turn_is_held_at_the_gate`, `nobody_takes_what_is_not_posted`.
 use Rattle.std.proofs.Common.{refl}
 use Rattle.script_model.specs.Laws.Sound.{IsSound}
 use Rattle.script_model.specs.Postings.{postings}

@@ -1,4 +1,5 @@
 -- What the scripts of two tasks, of which the first one is in a scope, allow on their way.
+-- Cited by 6 functions of `one_env`.
 use Rattle.std.proofs.Common.{◌≡◌, Bool, true, false, Some, refl, ap, ◌∙◌, arith}
 use Rattle.task_base.specs.declared.entry.Kind.TheVariants as kinds
 use Rattle.task_base.specs.declared.step.Scope.{Scope}

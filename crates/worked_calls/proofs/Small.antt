@@ -1,4 +1,5 @@
 -- Whether a small script is sound, decided by computing: one whose tasks post nothing.
+-- Cited by `Plans`.
 use Rattle.std.proofs.Common.{◌≡◌, ℕ, zero, suc, ◌+◌, ◌≤◌, Bool, true, false, cond, not, ◌&&◌, ◌||◌, List, [], ◌∷◌, ◌++◌, length, take, Some}
 use Rattle.std.proofs.Common.{refl, subst, append-nil, append_assoc, arith}
 use Rattle.std.specs.List.{list_any, AllByRecursion}

@@ -1,4 +1,5 @@
 -- A spare desk that is the only one.
+-- Cited by `drive_seats`.
 use Rattle.std.proofs.Common.{◌≡◌, zero, suc, ◌≤◌, List, [], ◌∷◌, ◌++◌, length, true, refl, sym, ap, ◌∙◌, arith, length-append}
 use Rattle.std.proofs.lemmas.Option.{none-some}
 use Rattle.list_laws.proofs.Values.{some-injective}

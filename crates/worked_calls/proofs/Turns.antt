@@ -1,4 +1,5 @@
 -- What the driver may enter in a turn, where its entries are known.
+-- Cited by `post`, `shut_down`.
 use Rattle.std.proofs.Common.{◌≡◌, true, List, sym, ap, refl, ◌∙◌}
 use Rattle.task_base.specs.Plan.{Plan}
 use Rattle.task_base.specs.declared.entry.Entry.{Entry}

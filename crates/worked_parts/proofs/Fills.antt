@@ -1,4 +1,5 @@
 -- What a test keeps that pushes one task at each number, with the number as its order.
+-- Cited by `lanes_beside_plain_lists`.
 use Rattle.std.proofs.Common.{◌≡◌, ◌≤◌, ◌+◌, ℕ, List, [], ◌∷◌, ◌++◌, drop, length, arith, length-append}
 use Rattle.std.specs.List.{AllByRecursion}
 use Rattle.list_laws.proofs.Elements.{AllByRecursion-append, AllByRecursion-map}

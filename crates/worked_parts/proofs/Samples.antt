@@ -1,4 +1,5 @@
 -- Why the entries of the tests are allowed.
+-- Cited by `Steps::add`.
 use Rattle.std.proofs.Common.{◌≡◌, ℕ, List, [], ◌∷◌, ◌++◌, length, take, refl, sym, ap, subst, ◌∙◌, Some}
 use Rattle.std.specs.Prelude.{slice_get}
 use Rattle.task_base.specs.declared.entry.Entry.{Entry}

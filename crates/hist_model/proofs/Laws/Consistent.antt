@@ -1,4 +1,6 @@
 -- Every legal past is consistent.
+-- Cited by `Laws/LegalPast`, `Laws/OneSeat`, `Laws/Order/Pasts`, `Laws/Postings/Counts`, `Laws/Postings/Once`, `Laws/Progress/Tasks`,
+-- `Laws/Rising`, `Laws/Singly`, `Laws/Starts`, `Laws/Whole`, `seats.rt`, `env_core`, `run_summary`.
 use Rattle.std.proofs.Common.{◌≡◌, ℕ, ◌≤◌, Bool, true, false, eqb, List, [], ◌∷◌, ◌++◌, refl, sym, ap, subst, ◌∙◌, Option, Some, None, ◌⊎◌, inl, inr, arith}
 use Rattle.std.specs.Prelude.{◌||◌, Contains}
 use Rattle.std.proofs.lemmas.Bool.{eqb-true, or_cases, or_right, both_ways, false_from_ne_true, true≢false, eq-eqb}

@@ -1,4 +1,5 @@
 -- No queue of a legal log passes its fence, over its places.
+-- Cited by `fences.rt`.
 use Rattle.std.proofs.Common.{◌≡◌, ℕ, zero, suc, ◌+◌, ◌<◌, ◌≤◌, Bool, true, false, cond, eqb, ltb, List, length, get_or}
 use Rattle.std.proofs.Common.{take, refl, sym, ap, ◌∙◌, Option, Some, None, ◌⊎◌, inl, inr, arith, [], ◌∷◌, ◌++◌}
 use Rattle.std.specs.Prelude.{not, ◌&&◌, option_and_then, slice_get}

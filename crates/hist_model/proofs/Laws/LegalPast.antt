@@ -1,4 +1,5 @@
 -- What every legal past gives, in one place.
+-- Cited by `env_core`.
 use Rattle.std.proofs.Common.{List}
 use Rattle.task_base.specs.Plan.{Plan}
 use Rattle.task_base.specs.declared.entry.Entry.{Entry}

@@ -1,4 +1,5 @@
 -- What was taken and has not ended is run by one seat.
+-- Cited by `Laws/Progress/Blockers`, `Laws/Singly`, `Laws/Whole`, `seats.rt`.
 use Rattle.std.proofs.Common.{◌≡◌, ℕ, Bool, true, false, eqb, List, [], ◌∷◌, ◌++◌, refl, sym, ap, subst, ◌∙◌, Option, Some, ◌⊎◌, inl, inr}
 use Rattle.std.specs.Prelude.{is_none}
 use Rattle.std.proofs.lemmas.Bool.{eqb-true, and_parts, or_cases, or_parts, both_ways, true≢false, eq-eqb}

@@ -1,4 +1,5 @@
 -- A phase never goes back: what it forbids stays forbidden.
+-- Cited by `Laws/Order/Keys`, `Laws/Shutdown/Places`, `phases.rt`, `env_shared`.
 use Rattle.std.proofs.Common.{◌≡◌, ℕ, true, List, [], ◌∷◌, ◌++◌, refl, sym, ap, subst, ◌∙◌}
 use Rattle.std.specs.Prelude.{fold}
 use Rattle.std.proofs.lemmas.Bool.{true≢false}

@@ -1,4 +1,5 @@
 -- Which posts of a legal log are refused, over its places.
+-- Cited by `Laws/Fences`, `Laws/Shutdown/Places`, `refusals.rt`.
 use Rattle.std.proofs.Common.{◌≡◌, ℕ, Bool, true, false, eqb, List, [], ◌∷◌, ◌++◌, take, drop, suc, subst, ◌≤◌, refl, sym, ap, ◌∙◌, Some}
 use Rattle.std.specs.Prelude.{◌↔◌, not, ◌&&◌, ◌||◌}
 use Rattle.std.specs.List.{list_any}

@@ -1,4 +1,5 @@
 -- Moments, orders and scopes in every legal past.
+-- Cited by `moments_and_orders_rise`, `Laws/LegalPast`, `Laws/Order/Draws`, `Laws/Order/Pasts`, `Laws/Whole`.
 use Rattle.std.proofs.Common.{◌≡◌, ℕ, ◌≤◌, Bool, true, false, eqb, leb, List, [], ◌∷◌, ◌++◌, refl, sym, ap, ◌∙◌, Some, None, arith}
 use Rattle.std.proofs.lemmas.Bool.{cond_both, eqb-true, leb-true, and_parts, both_ways, or_parts}
 use Rattle.task_base.specs.Plan.{Plan}

@@ -1,4 +1,5 @@
 -- Since when a seat runs what it runs.
+-- Cited by `Laws/Singly`, `Laws/Starts`, `Laws/State`, `task_reply`.
 use Rattle.std.proofs.Common.{◌≡◌, ℕ, ◌<◌, true, false, Bool, eqb, List, [], ◌∷◌, ◌++◌, length, refl, sym, ap, subst, ◌∙◌, Option, Some, ◌⊎◌, inl, inr, arith}
 use Rattle.std.specs.Prelude.{slice_get}
 use Rattle.std.proofs.lemmas.Bool.{both_ways, eq-eqb}

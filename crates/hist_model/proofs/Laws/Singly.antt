@@ -1,4 +1,5 @@
 -- A sequence runs one task at a time, and so do the main queues.
+-- Cited by `singly.rt`, `trace_json`.
 use Rattle.std.proofs.Common.{◌≡◌, ℕ, ◌<◌, Bool, true, false, List, take, refl, sym, ap, subst, ◌∙◌, Some, inl, inr, arith}
 use Rattle.std.specs.Prelude.{slice_get, is_none}
 use Rattle.std.specs.List.{list_any}

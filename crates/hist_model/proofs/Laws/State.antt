@@ -1,4 +1,5 @@
 -- The state of a sequence, or of a main queue, moves along from task to task.
+-- Cited by `Laws/Fitting/Entries`, `Laws/Order/Keys`, `state.rt`.
 use Rattle.std.proofs.Common.{◌≡◌, ℕ, zero, suc, ◌<◌, ◌≤◌, Bool, true, false, eqb, cond, List, [], ◌∷◌}
 use Rattle.std.proofs.Common.{length, take, refl, sym, ap, subst, ◌∙◌, Some, inl, inr, arith}
 use Rattle.std.specs.Prelude.{not, ◌&&◌, slice_get}

@@ -1,4 +1,5 @@
 -- What a legal and whole log has done, and what it has left.
+-- Cited by `whole_logs_lose_nothing`, `Laws/Progress/Blockers`, `whole.rt`, `run_summary`, `seat_hand`, `trace_json`.
 use Rattle.std.proofs.Common.{◌≡◌, ℕ, ◌+◌, ◌<◌, ◌≤◌, Bool, true, false, cond, eqb, List, [], ◌∷◌, ◌++◌, length}
 use Rattle.std.proofs.Common.{refl, sym, ap, subst, ◌∙◌, Option, Some, None, inl, inr, ⊎_elim, arith}
 use Rattle.std.specs.Prelude.{◌⊎◌, ◌&&◌, ◌||◌, not, nat_lt, nat_le, filter, take, slice_get, Contains, is_none}

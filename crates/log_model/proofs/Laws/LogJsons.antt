@@ -1,4 +1,5 @@
 -- The JSON form of a log tells the history.
+-- Cited by `log_text.rt`, `hist_model`.
 use Rattle.std.proofs.Common.{◌≡◌, ◌+◌, ℕ, List, [], ◌∷◌, ◌++◌, All, refl, sym, ap, ◌∙◌, arith, append_assoc}
 use Rattle.std.specs.Prelude.{map}
 use Rattle.std.specs.Fmt.{decimal}

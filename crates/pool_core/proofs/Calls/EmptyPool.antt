@@ -1,4 +1,5 @@
 -- The pool of a history that has not begun.
+-- Cited by `Pool::new`.
 use Rattle.pool_core.specs.PoolJobs.{fresh_job}
 use Rattle.pool_core.proofs.Jobs.JobTables.{holders_at_start}
 use Rattle.pool_core.specs.Jobs.{AreJobs, job_as}

@@ -1,4 +1,5 @@
 -- The end of a task keeps what the pool stands for.
+-- Cited by `Pool::end`.
 use Rattle.pool_core.proofs.Jobs.JobTables.{holders_kept, jobs_kept}
 use Rattle.pool_core.proofs.Works.AtSeat.{IsAtSeat}
 use Rattle.pool_core.proofs.Delays.{unripe_kept}

@@ -1,4 +1,5 @@
 -- The pool at an entry that leaves the tasks where they are.
+-- Cited by `Calls/Others`, `Calls/Posts`, `Calls/Scopes`, `Calls/Shutdown`.
 use Rattle.pool_core.proofs.Delays.{no_post, unripe_kept}
 use Rattle.pool_core.proofs.LineGrowth.{lines_kept}
 use Rattle.pool_core.proofs.Sources.Queues.{hold_same}

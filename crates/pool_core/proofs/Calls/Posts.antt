@@ -1,4 +1,5 @@
 -- A post keeps what the pool stands for.
+-- Cited by `Pool::post`.
 use Rattle.pool_core.proofs.Jobs.JobTables.{holders_kept, jobs_kept}
 use Rattle.pool_core.proofs.Jobs.JobQueues.{jobs_wait}
 use Rattle.list_laws.proofs.Places.{slice_get-set_same}

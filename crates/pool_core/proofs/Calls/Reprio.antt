@@ -1,4 +1,5 @@
 -- The pool where a runner's priority has changed: those of its sequences that wait go by it.
+-- Cited by `Pool::reprio`.
 use Rattle.list_laws.proofs.Places.{slice_get-set_other, slice_get-set_same}
 use Rattle.list_laws.proofs.Values.{eqb-same, some-injective}
 use Rattle.pool_core.proofs.Delays.{unripe_kept}

@@ -1,4 +1,5 @@
 -- One delayed task ripens in the course of a tick: it goes to the end of its sequence, if it may start.
+-- Cited by `Calls/Ticks`.
 use Rattle.list_laws.proofs.Rises.{rises_front}
 use Rattle.delayed_manager.specs.Delayed.{Waiting, with_held}
 use Rattle.list_laws.proofs.Elements.{AllByRecursion-append, AllByRecursion-at, AllByRecursion-both, AllByRecursion-contains_itself, AllByRecursion-filter}

@@ -1,4 +1,5 @@
 -- A scope that a task opens, and that it closes, keep what the pool stands for.
+-- Cited by `Pool::enter`, `Pool::leave`.
 use Rattle.pool_core.proofs.Works.GroupGrowth.{groups_at_enter, groups_at_leave}
 use Rattle.pool_core.proofs.Calls.Kept.{stands_kept}
 use Rattle.pool_core.proofs.Pasts.{past_at_enter, past_at_leave}

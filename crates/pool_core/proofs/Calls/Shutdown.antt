@@ -1,4 +1,5 @@
 -- The pool at the start of shutdown and at its end, and where another policy comes into force.
+-- Cited by `Pool::blockers`, `Pool::policy`, `Pool::start_shutdown`, `Pool::try_done`.
 use Rattle.std.proofs.lemmas.Bool.{cases_lt, false≢true, le-ltb, true≢false}
 use Rattle.task_base.specs.declared.source.TaskSource.{TaskSource}
 use Rattle.task_base.specs.declared.source.TaskSource.TheVariants.{Job, Sequence}

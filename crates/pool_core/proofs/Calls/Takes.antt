@@ -1,4 +1,5 @@
 -- A take keeps what the pool stands for.
+-- Cited by `Pool::start`, `Pool::take`.
 use Rattle.pool_core.proofs.Jobs.JobTables.{holders_kept, jobs_kept}
 use Rattle.list_laws.proofs.Values.{some-injective}
 use Rattle.pool_core.proofs.Accepted.{head_accepted, is_declared}

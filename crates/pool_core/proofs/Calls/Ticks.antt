@@ -1,5 +1,6 @@
 -- A tick: at its start no delayed task has ripened, each step ripens one, and once none is left that is ripe the pool stands
 -- for the past with the tick.
+-- Cited by `Pool::ripen_all`.
 use Rattle.pool_core.proofs.Jobs.JobTables.{holders_kept, jobs_kept}
 use Rattle.pool_core.proofs.Jobs.JobQueues.{jobs_wait}
 use Rattle.delayed_manager.specs.Delayed.{Waiting, is_ripe, with_held}

@@ -1,4 +1,5 @@
 -- What the pool's tables say of an item that a seat holds.
+-- Cited by `Pool::job_step`.
 use Rattle.job_source.specs.Job.{held_by}
 use Rattle.list_laws.proofs.Values.{some-injective}
 use Rattle.pool_core.proofs.Works.GroupWorks.{seat_there as place_there, work_of_item, works_here}

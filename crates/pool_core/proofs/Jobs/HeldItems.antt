@@ -1,4 +1,5 @@
 -- The items of a job that are held, by their numbers: as many as seats are inside, and what an entry changes of them.
+-- Cited by `Pool::job_step`, `Calls/EmptyPool`, `Jobs/AtJob`, `Jobs/JobTables`, `Jobs/JobViews`.
 use Rattle.list_laws.proofs.Counts.{count-cons, count_change, filter_length_congr}
 use Rattle.list_laws.proofs.Elements.{AllByRecursion-always}
 use Rattle.list_laws.proofs.Filters.{filter-map, filter_map_congr, filter_map_never, filter_never, map-congr_in}

@@ -1,4 +1,6 @@
 -- The queues where a job is given its place.
+-- Cited by `Pool::refresh_jobs`, `Calls/Posts`, `Calls/Reprio`, `Calls/Shutdown`, `Calls/Ticks`, `Jobs/AtJob`, `Jobs/JobStands`,
+-- `Sources/Choosing`, `Sources/Following`, `Sources/Places`.
 use Rattle.pool_core.proofs.Sources.Queues.{IsGiven, IsOfLane, hold_given, hold_same, shape_kept}
 use Rattle.pool_core.specs.JobState.{HasJobPlace, HaveJobPlaces, job_at, jobs_placed, jobs_refreshed_below, with_job_place}
 use Rattle.pool_core.specs.declared.pool.Pool.{Pool}

@@ -1,4 +1,5 @@
 -- An entry of a job keeps what the pool stands for.
+-- Cited by 7 functions of `Pool`, `Jobs/AtJob`.
 use Rattle.list_laws.specs.Lists.{holds_of}
 use Rattle.pool_core.proofs.Works.GroupGrowth.{groups_at_driver, groups_at_goes_on, groups_at_item, groups_at_item_left, groups_kept}
 use Rattle.pool_core.proofs.Jobs.Insides.{accepted_grows, inside_at_step, inside_at_take}

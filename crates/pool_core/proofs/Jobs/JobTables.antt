@@ -1,4 +1,6 @@
 -- The tables of jobs as the past grows.
+-- Cited by `Calls/EmptyPool`, `Calls/Ends`, `Calls/Kept`, `Calls/Posts`, `Calls/Reprio`, `Calls/Shutdown`, `Calls/Takes`, `Calls/Ticks`,
+-- `Jobs/JobStands`.
 use Rattle.job_source.specs.Job.{with_done, with_entered}
 use Rattle.list_laws.proofs.Places.{slice_get-replicate, slice_get-set_other, slice_get-set_same}
 use Rattle.list_laws.proofs.Values.{eqb-same}

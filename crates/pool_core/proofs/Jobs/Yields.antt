@@ -1,4 +1,5 @@
 -- Whether better work waits, and so whether a worker at a job makes way.
+-- Cited by `Pool::has_better`, `Pool::makes_way`.
 use Rattle.list_laws.proofs.Elements.{AllByRecursion-contains, AllByRecursion-contains_itself, AllByRecursion-map}
 use Rattle.list_laws.proofs.Options.{AllByRecursion-not_any}
 use Rattle.list_laws.proofs.Tests.{list_any_congr, list_any_never, list_any_none}

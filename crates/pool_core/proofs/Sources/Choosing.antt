@@ -1,4 +1,5 @@
 -- What the pool chooses is the best source.
+-- Cited by 6 functions of `Pool`, `Calls/Takes`, `Jobs/Yields`, `Sources/Idling`.
 use Rattle.task_model.specs.Refusal.{behaviour_of_job, effective_at}
 use Rattle.task_model.specs.Jobs.{JobPosted, job_post_of, may_enter}
 use Rattle.pool_core.proofs.Jobs.JobViews.{enters_parts}

@@ -1,4 +1,6 @@
 -- The queues hold what waits by the rules where they hold what the lists and the cells of the sequences say.
+-- Cited by `Pool::end`, `Calls/EmptyPool`, `Calls/Ends`, `Calls/Posts`, `Calls/Reprio`, `Calls/Ripening`, `Calls/Shutdown`, `Calls/Takes`,
+-- `Calls/Ticks`, `Sources/Choosing`, `Sources/Places`.
 use Rattle.list_laws.proofs.Elements.{slice_get_all}
 use Rattle.list_laws.proofs.Values.{eqb-same}
 use Rattle.list_laws.specs.Lists.{holds_of}

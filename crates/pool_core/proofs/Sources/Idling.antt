@@ -1,4 +1,5 @@
 -- What the pool tells of its workers: how many are at work, and whether one may take a source.
+-- Cited by `Pool::idle`, `Pool::is_any_ready`.
 use Rattle.list_laws.proofs.Elements.{AllByRecursion-filter}
 use Rattle.list_laws.proofs.Ranges.{AllByRecursion-range}
 use Rattle.list_laws.proofs.Values.{eqb-same}

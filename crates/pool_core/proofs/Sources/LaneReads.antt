@@ -1,4 +1,5 @@
 -- A lane as it is read from among the lanes.
+-- Cited by `Lanes::let_go`, `Lanes::put`.
 use Rattle.pool_core.specs.Queues.{no_lane, queue_in, queue_of}
 use Rattle.pool_core.specs.declared.lanes.Lane.{Lane}
 use Rattle.sequence_queue.specs.Ranked.{IsMadeFor}

@@ -1,5 +1,6 @@
 -- What is let go, or put elsewhere, before all are given their places anew: each comes to its place as if it had stayed.
 -- So it does not matter which way they are gone through.
+-- Cited by `Pool::let_go`, `Pool::refresh_back`.
 use Rattle.list_laws.proofs.Places.{slice_set-twice}
 use Rattle.list_laws.specs.Lists.{keep}
 use Rattle.pool_core.proofs.Sources.Places.{posted_is}

@@ -1,4 +1,5 @@
 -- The queues while the sequence of each task that was posted is given its place.
+-- Cited by `Pool::refresh_all`, `Pool::reprio`, `Pool::start_shutdown`, `Calls/Reprio`, `Calls/Shutdown`, `Sources/Leaving`.
 use Rattle.list_laws.proofs.Values.{some-injective}
 use Rattle.list_laws.specs.Lists.{keep}
 use Rattle.pool_core.proofs.Accepted.{head_accepted, is_declared, post_in}

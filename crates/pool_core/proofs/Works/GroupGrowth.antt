@@ -1,4 +1,6 @@
 -- The two groups at each entry.
+-- Cited by `Calls/EmptyPool`, `Calls/Ends`, `Calls/Others`, `Calls/Posts`, `Calls/Reprio`, `Calls/Scopes`, `Calls/Shutdown`, `Calls/Takes`,
+-- `Calls/Ticks`, `Jobs/JobStands`.
 use Rattle.list_laws.proofs.Values.{eqb-same}
 use Rattle.pool_core.proofs.Works.GroupWorks.{group_kept, groups_moved, groups_moved_here, moment_of, no_work}
 use Rattle.pool_core.proofs.Works.GroupWorks.{not_same_task, other_kept, part, runner_holds_nothing}

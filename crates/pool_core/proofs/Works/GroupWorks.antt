@@ -1,4 +1,5 @@
 -- What each group keeps of the work of a seat.
+-- Cited by `Calls/Takes`, `Jobs/AtJob`, `Jobs/JobStands`, `Works/AtSeat`, `Works/GroupGrowth`, `Works/Room`.
 use Rattle.list_laws.proofs.Values.{some-injective}
 use Rattle.list_laws.specs.Lists.{holds_of, keep}
 use Rattle.pool_core.proofs.Accepted.{runs_accepted}

@@ -1,4 +1,5 @@
 -- The groups have room exactly where the rules say so.
+-- Cited by `Jobs/Yields`, `Sources/Choosing`, `Sources/Idling`.
 use Rattle.list_laws.specs.Lists.{count, holds_of}
 use Rattle.pool_core.proofs.Works.GroupWorks.{group_stands, part, works_by}
 use Rattle.pool_core.proofs.Lists.{count_inside, count_places, kept_holds, kept_is_some}

@@ -1,4 +1,5 @@
 -- Once shutdown is done no job waits.
+-- Cited by `pool_core`.
 use Rattle.std.proofs.Common.{◌≡◌, ℕ, true, List, [], ◌∷◌, ◌++◌, refl, None}
 use Rattle.std.proofs.Math.Bool.{and-false}
 use Rattle.task_base.specs.Plan.{Plan}

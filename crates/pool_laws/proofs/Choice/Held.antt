@@ -1,4 +1,5 @@
 -- An entry that sets no policy and leaves the phase leaves which work is held back.
+-- Cited by `Choice/Candidates`.
 use Rattle.std.proofs.Common.{◌≡◌, false, List, [], ◌∷◌, ◌++◌, refl}
 use Rattle.std.proofs.lemmas.Bool.{true≢false}
 use Rattle.task_base.specs.declared.entry.Entry.{Entry}

@@ -1,4 +1,5 @@
 -- What the key of an accepted task names: the place of its post, at which that task stands.
+-- Cited by `Choice/Sources`.
 use Rattle.std.proofs.Common.{◌≡◌, ℕ, Bool, true, false, cond, List, [], ◌∷◌, ◌++◌, length, refl, ap, ◌∙◌, Option, Some, None, ◌<◌, arith}
 use Rattle.std.specs.Prelude.{◌&&◌, slice_get, option_and_then, Contains, take}
 use Rattle.std.specs.Option.{option_map, IfSome}

@@ -1,5 +1,6 @@
 -- The key of a source that would wait names its source: it is the key of a post to it. So no two sources that would wait, and
 -- no two that wait, have one key.
+-- Cited by `Choice/Best`, `hist_model`.
 use Rattle.std.proofs.Common.{◌≡◌, ℕ, Bool, true, false, cond, eqb, List, [], ◌∷◌, ◌++◌, length, refl, sym, ap, ◌∙◌, Option, Some, None}
 use Rattle.std.specs.Prelude.{slice_get, option_and_then, take}
 use Rattle.std.specs.Option.{IfSome}

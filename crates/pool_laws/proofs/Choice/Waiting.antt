@@ -1,5 +1,6 @@
 -- When a sequence waits as before: where it runs or not as before, and keeps its head and its priority. So it is at each entry
 -- that touches no sequence and no priority, and at the driver's main tasks.
+-- Cited by `Choice/Candidates`, `pool_core`.
 use Rattle.std.proofs.Common.{◌≡◌, ℕ, Bool, true, false, cond, List, [], ◌∷◌, ◌++◌, refl, sym, ◌∙◌, Option, Some, None}
 use Rattle.std.specs.Prelude.{◌||◌}
 use Rattle.std.specs.Option.{option_map}

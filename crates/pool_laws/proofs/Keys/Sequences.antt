@@ -1,4 +1,5 @@
 -- An entry that posts and takes nothing, is no tick, and leaves the phase leaves the eligible tasks of a sequence, and its head.
+-- Cited by `Choice/Waiting`.
 use Rattle.std.proofs.Common.{◌≡◌, ℕ, Bool, false, List, [], ◌∷◌, ◌++◌, refl, ap}
 use Rattle.std.specs.Prelude.{◌&&◌, filter}
 use Rattle.std.proofs.lemmas.Bool.{true≢false}

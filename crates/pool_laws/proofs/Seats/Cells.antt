@@ -1,5 +1,6 @@
 -- What one more entry does to the cells: the end of a task leaves its value in the cell of its sequence, the end of a main
 -- task in that of its queue. No other kind changes a cell, and no end that of another sequence or queue.
+-- Cited by `pool_core`, `run_summary`, `sequence_manager`.
 use Rattle.std.proofs.Common.{◌≡◌, false, refl, ◌∙◌}
 use Rattle.std.specs.Prelude.{ℕ, List, [], ◌∷◌, ◌++◌, ◌==◌, if◌then◌else◌, Some, true}
 use Rattle.std.proofs.lemmas.Bool.{true≢false}

@@ -1,6 +1,7 @@
 -- What one more entry does to what shutdown waits for: to the block part, which counts open block tasks and open block jobs,
 -- and to the skip part, which counts skip tasks that run and seats inside skip jobs. Each law here is the sum of laws on these
 -- four counts. A kind that posts, takes and ends nothing, and is of no job, leaves them all.
+-- Cited by `pool_core`.
 use Rattle.std.proofs.Common.{◌≡◌, ℕ, ◌+◌, ◌<◌, Bool, true, false, List, [], ◌∷◌, ◌++◌, length, refl, ap, Some, None, arith}
 use Rattle.std.specs.Prelude.{not, ◌&&◌}
 use Rattle.std.proofs.lemmas.Bool.{or_parts}

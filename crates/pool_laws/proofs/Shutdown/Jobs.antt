@@ -1,6 +1,7 @@
 -- What one more entry does to the counts of the jobs that shutdown waits for, and of the seats inside skip jobs. An
 -- accepted block job counts from its post on until it is over, at the last leaving or at its cancel; a seat counts from
 -- where it enters a skip job on, until it leaves.
+-- Cited by `Shutdown/Blockers`.
 use Rattle.std.proofs.Common.{◌≡◌, ℕ, ◌+◌, ◌<◌, Bool, true, false, eqb, List, [], ◌∷◌, ◌++◌, length, refl, sym, ap, Option, Some, None, arith}
 use Rattle.std.specs.Prelude.{Contains, not, ◌&&◌, ◌||◌, is_some}
 use Rattle.std.specs.List.{range_with_len}

@@ -1,4 +1,5 @@
 -- Scripts whose tasks add: what is asked of a script, so that every run of it ends all its tasks, and the cells hold what they add.
+-- Cited by `Tasks/Cells`, `Tasks/Ends`, `Tasks/Numbers`, `Tasks/Once`, `Tasks/Posted`, `Tasks/Pumped`, `Tasks/Rest`, `Tasks`.
 use Rattle.std.proofs.Common.{◌≡◌, ℕ, ◌+◌, ◌*◌, ◌^◌, ◌<◌, ◌≤◌, true, length, None}
 use Rattle.std.specs.Prelude.{sum_by}
 use Rattle.std.specs.List.{list_any, range_with_len}

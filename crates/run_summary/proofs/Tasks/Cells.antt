@@ -1,5 +1,6 @@
 -- In every legal log of such a script the cells hold what the ended tasks add up to: a task finds what its cell holds, and while it
 -- runs nothing else writes there, so its end leaves as much more as it adds.
+-- Cited by `Tasks`.
 use Rattle.std.proofs.Common.{◌≡◌, ℕ, ◌+◌, ◌^◌, ◌<◌, ◌≤◌, Bool, true, false, cond, eqb, leb, List}
 use Rattle.std.proofs.Common.{[], ◌∷◌, ◌++◌, length, refl, sym, ap, subst, ◌∙◌, Some, arith}
 use Rattle.std.specs.Prelude.{◌&&◌, not, sum_by}

@@ -1,4 +1,5 @@
 -- How an entry comes, where no task has an act step, and what the driver does at an action.
+-- Cited by `Tasks/Posted`, `Tasks/Pumped`, `Tasks/Rest`.
 use Rattle.std.proofs.Common.{◌≡◌, ℕ, Bool, true, eqb, List, [], ◌∷◌, refl, sym, ap, subst, ◌∙◌, Some, inl, inr, ⊎_elim, arith}
 use Rattle.std.specs.Prelude.{◌⊎◌, ◌||◌, filter}
 use Rattle.std.proofs.lemmas.Bool.{and_parts, eqb-true, or_cases, true≢false, both_ways}

@@ -1,5 +1,6 @@
 -- What the driver has left to do, where a script posts its tasks without a delay, pumps them all behind the last post, and ends
 -- with a flush.
+-- Cited by `Tasks/Adding`, `Tasks/Comes`, `Tasks/Numbers`, `Tasks/Posted`, `Tasks/Pumped`, `Tasks/Rest`.
 use Rattle.std.proofs.Common.{◌≡◌, ℕ, ◌+◌, ◌<◌, ◌≤◌, Bool, true, false, cond, eqb, leb, List, [], ◌∷◌, ◌++◌}
 use Rattle.std.proofs.Common.{length, refl, sym, ap, subst, ◌∙◌, None, inl, inr, ⊎_elim, arith}
 use Rattle.std.specs.Prelude.{◌⊎◌, ◌&&◌, flat_map}

@@ -1,4 +1,5 @@
 -- What the ends of tasks add up to: each task ends at most once, so they add up to what the tasks that have ended add up to.
+-- Cited by `Tasks/Cells`, `Tasks/Once`, `Tasks/Pumped`, `Tasks`.
 use Rattle.std.proofs.Common.{◌≡◌, ℕ, ◌+◌, ◌<◌, ◌≤◌, Bool, true, false, cond, eqb, leb, List, [], ◌∷◌, ◌++◌, refl, sym, ap, subst, ◌∙◌, Some, inl, inr, arith}
 use Rattle.std.specs.Prelude.{◌⊎◌, ◌||◌, Contains, sum_by}
 use Rattle.std.specs.List.{range_with_len}

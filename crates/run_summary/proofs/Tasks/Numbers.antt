@@ -1,4 +1,5 @@
 -- The generated scripts are such scripts: what a script of a number and a size posts, and what its tasks add.
+-- Cited by `Tasks`.
 use Rattle.task_script.proofs.Generated.{length-numbers_behind, tasks_posted}
 use Rattle.std.proofs.Common.{◌≡◌, ℕ, zero, suc, ◌+◌, ◌*◌, ◌/◌, ◌^◌, ◌<◌, ◌≤◌, Bool, true, false, cond, eqb, List, []}
 use Rattle.std.proofs.Common.{◌∷◌, ◌++◌, length, map, refl, sym, ap, ◌∙◌, Option, Some, None, arith, add-one}

@@ -1,4 +1,5 @@
 -- In a whole log each task has ended, on the pool or on the main queue and not on both, so the ends add up to what all tasks add up to.
+-- Cited by `Tasks`.
 use Rattle.std.proofs.Common.{◌≡◌, ℕ, ◌+◌, ◌<◌, ◌≤◌, true, false, cond, eqb, List, sym, ap, ◌∙◌, inl, inr, arith}
 use Rattle.std.specs.Prelude.{◌⊎◌, sum_by}
 use Rattle.std.specs.List.{range_with_len}

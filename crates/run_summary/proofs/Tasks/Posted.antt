@@ -1,4 +1,5 @@
 -- The tasks that were accepted: each of them once the driver has no post left.
+-- Cited by `Tasks/Ends`, `Tasks/Once`, `Tasks/Pumped`, `Tasks/Rest`.
 use Rattle.std.proofs.Common.{◌≡◌, ℕ, zero, suc, ◌+◌, ◌<◌, ◌≤◌, Bool, true, false, cond, eqb, leb, List}
 use Rattle.std.proofs.Common.{[], ◌∷◌, ◌++◌, length, refl, sym, ap, subst, ◌∙◌, inl, inr, arith}
 use Rattle.std.specs.Prelude.{◌⊎◌, ◌&&◌, Contains, filter}

@@ -1,5 +1,6 @@
 -- The pump of such a script takes each main task: it goes on until no main task is left, or until as many have ended as there are
 -- tasks.
+-- Cited by `Tasks/Once`.
 use Rattle.std.proofs.Common.{◌≡◌, ℕ, suc, ◌+◌, ◌<◌, ◌≤◌, Bool, true, false, cond, eqb, List, [], ◌∷◌, ◌++◌, length, refl}
 use Rattle.std.proofs.Common.{sym, ap, subst, ◌∙◌, Option, Some, None, inl, inr, arith, append_assoc, append-nil}
 use Rattle.std.specs.Prelude.{◌⊎◌, nat_lt, filter, take, drop, Contains, sum_by}

@@ -1,4 +1,5 @@
 -- A log whose script is finished ends with the pool at rest, so each accepted task of the pool was taken.
+-- Cited by `Tasks/Cells`, `Tasks/Once`, `Tasks/Pumped`.
 use Rattle.hist_model.proofs.Laws.JobEntries.{none_is}
 use Rattle.std.proofs.Common.{◌≡◌, ℕ, ◌+◌, ◌<◌, ◌≤◌, Bool, true, false, cond, eqb, leb, List, [], ◌∷◌, ◌++◌}
 use Rattle.std.proofs.Common.{length, refl, sym, ap, subst, ◌∙◌, Option, Some, None, inl, inr, arith}

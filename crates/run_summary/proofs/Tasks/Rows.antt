@@ -1,4 +1,5 @@
 -- Sums over rows of numbers.
+-- Cited by `Tasks/Cells`, `Tasks/Ends`, `Tasks/Numbers`, `Tasks/Once`, `Tasks/Pumped`, `Tasks`.
 use Rattle.std.proofs.Common.{◌≡◌, ℕ, zero, suc, ◌+◌, ◌<◌, ◌≤◌, Bool, cond, List, [], ◌∷◌, refl, ap, ⊎_elim, arith}
 use Rattle.std.specs.Prelude.{sum_by}
 use Rattle.std.specs.List.{range_with_len}

@@ -1,4 +1,5 @@
 -- What a configuration line or a declaration adds to a sound script keeps it sound.
+-- Cited by `Laws/Sound`.
 use Rattle.std.proofs.Common.{◌≡◌, ℕ, ◌+◌, ◌<◌, ◌≤◌, Bool, true, false, eqb, List, [], ◌∷◌, ◌++◌, length}
 use Rattle.std.proofs.Common.{drop, refl, sym, subst, ◌∙◌, inl, inr, Option, Some, Ok, arith}
 use Rattle.std.specs.Prelude.{sum_by, not, ◌&&◌, ◌==◌, nat_lt, slice_get, is_some, flat_map}

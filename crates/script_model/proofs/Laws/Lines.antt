@@ -1,4 +1,5 @@
 -- Each line of the canonical text is read, behind those before it, as what it is made from.
+-- Cited by `Laws/Canonical`.
 use Rattle.std.proofs.Common.{◌≡◌, ℕ, ◌+◌, ◌<◌, ◌≤◌, Bool, true, false, List, [], ◌∷◌, ◌++◌, length, map}
 use Rattle.std.proofs.Common.{refl, sym, ap, subst, ◌∙◌, Some, Result, Ok, Err, arith, append_assoc}
 use Rattle.std.specs.Prelude.{not, ◌&&◌, decimal, codes, slice_get, slice_index_or}

@@ -1,4 +1,5 @@
 -- The lines of a text one after the other, as a loop reads the pieces between line feeds.
+-- Cited by `nested_loop`, `task_reply`, `task_script`.
 use Rattle.std.proofs.Common.{◌≡◌, ℕ, ◌+◌, ◌<◌, List, [], ◌∷◌, length, get_or, drop, map, refl, arith, add-one, drop-cons}
 use Rattle.std.specs.Str.Lines.{strip_carriage_return}
 use Rattle.std.proofs.lemmas.List.{drop_all, drop-map, length-map}

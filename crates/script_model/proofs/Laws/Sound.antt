@@ -1,4 +1,5 @@
 -- Every script that is read is sound: each action, and so each line, keeps it so.
+-- Cited by `scripts_that_are_read_are_sound`, `Laws/Canonical`, `env_app`, `script_bound`, `task_script`.
 use Rattle.std.proofs.Common.{◌≡◌, ℕ, ◌+◌, ◌<◌, ◌≤◌, Bool, true, false, List, [], ◌∷◌, ◌++◌, length, take, refl}
 use Rattle.std.proofs.Common.{sym, ap, subst, ◌∙◌, inl, inr, Option, Some, None, Result, Ok, Err, arith}
 use Rattle.std.specs.Prelude.{not, nat_lt, slice_get, option_map, unwrap_or, codes}

@@ -1,5 +1,6 @@
 -- Words of plain bytes, joined to lines and these to a text, are cut back into the same lines and words; numbers are
 -- read as they are written.
+-- Cited by `Laws/Lines`, `Laws/Words`, `command_line`.
 use Rattle.std.proofs.Common.{◌≡◌, ℕ, zero, suc, ◌<◌, ◌≤◌, Bool, true, false, eqb, ltb, leb, List, []}
 use Rattle.std.proofs.Common.{◌∷◌, ◌++◌, length, map, refl, ◌∙◌, Some, Ok, arith, append_assoc}
 use Rattle.std.specs.Prelude.{◌-◌, ◌^◌, not, ◌&&◌, filter, flat_map, slice_index, decimal, codes, All}

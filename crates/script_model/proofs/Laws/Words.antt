@@ -1,4 +1,5 @@
 -- The words that the canonical text has at the places of lines are read as what they are made from.
+-- Cited by `Laws/Canonical`, `Laws/Lines`.
 use Rattle.std.proofs.Common.{◌≡◌, ℕ, ◌≤◌, Bool, true, false, List, [], ◌∷◌, ◌++◌, length, drop, map, refl, ap, ◌∙◌, Ok, arith}
 use Rattle.std.specs.Prelude.{◌-◌, ◌^◌, not, flat_map, decimal, codes, All}
 use Rattle.std.specs.List.{list_all, slice_split, AllByRecursion}

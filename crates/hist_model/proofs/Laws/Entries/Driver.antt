@@ -1,4 +1,5 @@
 -- The entries that the driver's actions have left.
+-- Cited by `Laws/Entries/Bound`.
 use Rattle.std.proofs.Common.{◌≡◌, ℕ, zero, suc, ◌+◌, ◌-◌, ◌≤◌, Bool, true, false, cond, eqb, List, [], ◌∷◌}
 use Rattle.std.proofs.Common.{◌++◌, length, refl, sym, ap, ◌∙◌, Option, Some, None, arith, length-append}
 use Rattle.std.specs.Prelude.{sum_by}

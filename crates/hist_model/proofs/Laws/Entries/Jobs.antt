@@ -1,4 +1,5 @@
 -- The entries that the jobs have left: for each item its claim and its step.
+-- Cited by `Laws/Entries/Bound`, `Laws/Fitting/Entries`, `Laws/Progress/Jobs`, `env_core`, `run_summary`.
 use Rattle.std.proofs.Common.{◌≡◌, ℕ, ◌+◌, ◌-◌, ◌≤◌, Bool, true, false, cond, eqb, List, [], ◌∷◌, ◌++◌, refl, sym, ap, subst, ◌∙◌, Option, Some, None, arith}
 use Rattle.std.specs.Prelude.{◌||◌, not, is_some, slice_get, sum_by}
 use Rattle.std.specs.Option.{option_map_or}

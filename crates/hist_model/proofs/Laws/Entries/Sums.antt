@@ -1,4 +1,5 @@
 -- Sums over the elements of a list, each with its number.
+-- Cited by `Laws/Entries/Jobs`, `Laws/Entries/Tasks`.
 use Rattle.std.proofs.Common.{◌≡◌, ℕ, zero, suc, ◌+◌, ◌≤◌, false, eqb, List, [], ◌∷◌, refl, ap, ◌∙◌, Some, arith}
 use Rattle.std.specs.Prelude.{slice_get, sum_by}
 use Rattle.std.specs.List.{range_with_len}

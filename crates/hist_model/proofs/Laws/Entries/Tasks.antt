@@ -1,4 +1,5 @@
 -- The entries that the tasks have left: all of those of a task that no seat has taken, and those of what each seat runs.
+-- Cited by `Laws/Entries/Bound`.
 use Rattle.std.proofs.Common.{◌≡◌, ℕ, ◌+◌, ◌-◌, ◌≤◌, Bool, true, false, cond, eqb, List, [], ◌∷◌, ◌++◌, length, refl, sym, ap, ◌∙◌, Option, Some, None, arith}
 use Rattle.std.specs.Prelude.{◌||◌, filter, slice_get, option_and_then, sum_by}
 use Rattle.std.proofs.Math.Bool.{or-false}

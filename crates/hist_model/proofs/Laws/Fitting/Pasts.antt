@@ -1,4 +1,5 @@
 -- What a past leaves whose entries fit: what seats run and hold, what cells have, and what was accepted fits too.
+-- Cited by `Laws/Fitting/Entries`.
 use Rattle.std.proofs.Common.{◌≡◌, ℕ, ◌+◌, ◌<◌, ◌%◌, ◌^◌, Bool, true, false, cond, eqb, List, [], ◌∷◌, ◌++◌, sym, subst, Option, Some, None, arith}
 use Rattle.std.specs.Prelude.{◌&&◌, Contains}
 use Rattle.std.specs.Option.{IfSome, option_map_or}

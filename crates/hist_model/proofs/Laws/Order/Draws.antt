@@ -1,4 +1,5 @@
 -- The main tasks of a lane are taken in the order of what they drew.
+-- Cited by `Laws/Order/Taken`.
 use Rattle.std.proofs.Common.{◌≡◌, ℕ, zero, suc, ◌+◌, ◌<◌, ◌≤◌, Bool, true, false, eqb, cond, List, [], ◌∷◌, ◌++◌, length}
 use Rattle.std.proofs.Common.{take, drop, refl, sym, ap, subst, ◌∙◌, append_assoc, Option, Some, None, inl, inr, arith}
 use Rattle.std.specs.Prelude.{◌⊎◌, not, ◌&&◌, nat_lt, Contains, option_and_then, filter, if◌then◌else◌}

@@ -1,4 +1,5 @@
 -- The tasks of a sequence are taken in the order of their keys.
+-- Cited by `Laws/Order/Taken`, `next_entry`.
 use Rattle.std.proofs.Common.{◌≡◌, ℕ, ◌<◌, Bool, true, false, eqb, cond, List, ◌++◌, length, take, drop, refl, sym, ap, subst, ◌∙◌, Option, Some, None, arith}
 use Rattle.std.specs.Prelude.{not, ◌&&◌, ◌||◌, nat_lt, Contains}
 use Rattle.std.specs.Option.{option_map}

@@ -1,4 +1,5 @@
 -- A past of a log and a later one: what was taken, which tick came first, and where accepted tasks were posted.
+-- Cited by `Laws/Order/Draws`, `Laws/Order/Keys`, `Laws/Starts`.
 use Rattle.std.proofs.Common.{◌≡◌, ℕ, zero, suc, ◌+◌, ◌<◌, ◌≤◌, Bool, true, false, leb, cond, List, [], ◌∷◌, ◌++◌, length}
 use Rattle.std.proofs.Common.{take, drop, refl, sym, ap, subst, ◌∙◌, append_assoc, Option, Some, None, inl, inr, arith}
 use Rattle.std.specs.Prelude.{◌⊎◌, slice_get, Contains}

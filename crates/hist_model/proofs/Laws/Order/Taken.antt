@@ -1,4 +1,5 @@
 -- The tasks of a sequence and of a main queue are taken in order.
+-- Cited by `order.rt`.
 use Rattle.std.proofs.Common.{List, take, sym, ap, ◌∙◌, arith}
 use Rattle.std.specs.Prelude.{nat_lt}
 use Rattle.task_base.specs.Plan.{Plan}

@@ -1,4 +1,5 @@
 -- A task is posted at most once.
+-- Cited by `Laws/Entries/Bound`, `Laws/Postings/Once`, `postings.rt`, `env_core`, `run_summary`, `task_reply`.
 use Rattle.std.proofs.Common.{◌≡◌, ℕ, ◌+◌, ◌≤◌, Bool, true, false, cond, eqb, List, [], ◌∷◌, ◌++◌, length, refl, sym, ap, ◌∙◌, arith, append-nil, ⊎_elim}
 use Rattle.std.specs.Prelude.{◌||◌, not, flat_map}
 use Rattle.std.proofs.lemmas.List.Concat.{flat_map-append}

@@ -1,4 +1,5 @@
 -- The postings that the driver's actions have left.
+-- Cited by `Laws/Entries/Bound`, `Laws/Postings/Counts`, `Laws/Postings/Tasks`, `run_summary`, `task_reply`.
 use Rattle.std.proofs.Common.{◌≡◌, ℕ, ◌+◌, ◌≤◌, Bool, true, false, cond, eqb, List, [], ◌∷◌, ◌++◌, refl, sym}
 use Rattle.std.proofs.Common.{ap, ◌∙◌, Option, Some, None, arith, append-nil, ◌⊎◌, inl, inr, ⊎_elim}
 use Rattle.std.specs.Prelude.{flat_map}

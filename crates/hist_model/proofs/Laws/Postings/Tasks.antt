@@ -1,4 +1,5 @@
 -- The postings that the tasks have left: those of the tasks that no seat has taken, and those of what each seat runs.
+-- Cited by `Laws/Entries/Bound`, `Laws/Entries/Tasks`, `Laws/Postings/Counts`.
 use Rattle.std.proofs.Common.{◌≡◌, ℕ, zero, suc, ◌+◌, ◌≤◌, Bool, true, false, cond, eqb, List, [], ◌∷◌, ◌++◌}
 use Rattle.std.proofs.Common.{refl, sym, ap, subst, ◌∙◌, Option, Some, None, arith, add-one, zero-add}
 use Rattle.std.specs.Prelude.{◌||◌, not, filter, flat_map, slice_get, option_and_then}

@@ -1,5 +1,6 @@
 -- What blocks shutdown waits for a worker, while nobody is at anything: once shutdown was started, an open block task makes its
 -- sequence wait, and an open block job waits itself. No skip work blocks it, since none runs.
+-- Cited by `Laws/Progress/Ways`.
 use Rattle.std.proofs.Common.{◌≡◌, ℕ, ◌<◌, Bool, true, false, cond, eqb, List, [], ◌∷◌, length, refl, sym, ap, subst, ◌∙◌, Option, Some, None, inl, inr, arith}
 use Rattle.std.specs.Prelude.{◌⊎◌, ◌&&◌, ◌||◌, not, filter, Contains}
 use Rattle.std.specs.List.{range_with_len}

@@ -1,5 +1,6 @@
 -- A job that is neither done, cancelled nor forbidden may be entered while nobody is at anything. So it waits for a worker
 -- once shutdown was started, and a driver that joins it may join it or go into it.
+-- Cited by `Laws/Progress/Blockers`, `Laws/Progress/Ways`.
 use Rattle.std.proofs.Common.{◌≡◌, ℕ, ◌≤◌, ◌<◌, Bool, true, false, cond, eqb, List, [], length, refl, ap, subst, ◌∙◌, Option, Some, None, arith}
 use Rattle.std.specs.Prelude.{◌&&◌, not, is_none, is_some}
 use Rattle.std.specs.Option.{IfSome, option_map}

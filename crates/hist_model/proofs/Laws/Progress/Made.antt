@@ -1,4 +1,6 @@
 -- When a seat may make an entry: by the script, and by the task that it runs.
+-- Cited by `Laws/Progress/Actions`, `Laws/Progress/Jobs`, `Laws/Progress/Pump`, `Laws/Progress/Tasks`, `Laws/Progress/Ways`,
+-- `Laws/Progress/Workers`.
 use Rattle.std.proofs.Common.{◌≡◌, ℕ, ◌≤◌, Bool, true, false, List, refl, ap, ◌∙◌, Some, arith}
 use Rattle.std.specs.Prelude.{not}
 use Rattle.std.proofs.lemmas.Bool.{le-leb}

@@ -1,4 +1,5 @@
 -- What is known of a legal past in which no seat runs a task or holds an item: no work is done, so all groups have room.
+-- Cited by `Laws/Progress/Blockers`, `Laws/Progress/Jobs`, `Laws/Progress/Ways`, `Laws/Progress/Workers`.
 use Rattle.std.proofs.Common.{◌≡◌, ℕ, ◌+◌, ◌≤◌, Bool, true, false, cond, List, [], length, refl, sym, ap, ◌∙◌, Option, Some, None, arith}
 use Rattle.std.specs.Prelude.{◌&&◌, ◌==◌, not, nat_lt}
 use Rattle.std.proofs.lemmas.Bool.{and_from, lt-ltb, ltb-true, or_right}

@@ -1,5 +1,6 @@
 -- While nobody is at anything, the driver may make what its action wants, or go into the job that it joins, or a worker may take
 -- something that the action waits for. So some entry is allowed after each legal past that is not whole.
+-- Cited by `Laws/Progress/Ends`, `progress.rt`.
 use Rattle.std.proofs.Common.{◌≡◌, ℕ, zero, suc, ◌+◌, ◌≤◌, ◌<◌, Bool, true, false, eqb, List, [], ◌∷◌, length, refl, sym, ap, ◌∙◌, Option, Some, None, arith}
 use Rattle.std.specs.Prelude.{◌&&◌, is_none}
 use Rattle.std.specs.List.{list_all, range_with_len}

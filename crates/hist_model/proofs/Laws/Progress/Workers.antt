@@ -1,4 +1,5 @@
 -- While nobody is at anything a worker may take its best source; and where a source waits, some worker has one.
+-- Cited by `Laws/Progress/Blockers`, `Laws/Progress/Ways`.
 use Rattle.std.proofs.Common.{◌≡◌, ℕ, ◌≤◌, true, false, eqb, List, refl, ap, ◌∙◌, Option, Some, None, arith}
 use Rattle.std.specs.Prelude.{◌&&◌, slice_get, option_and_then}
 use Rattle.std.specs.Option.{IfSome, option_map_or}

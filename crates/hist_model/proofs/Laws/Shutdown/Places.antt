@@ -1,4 +1,5 @@
 -- What shutdown waits for and forbids in a legal log, over its places.
+-- Cited by `shutdown.rt`.
 use Rattle.pool_laws.proofs.Choice.Sources.{no_job_post}
 use Rattle.std.proofs.Common.{◌≡◌, ℕ, ◌+◌, ◌<◌, Bool, true, false, List, [], ◌∷◌, ◌++◌, length, take, refl}
 use Rattle.std.proofs.Common.{sym, ap, subst, ◌∙◌, Option, Some, None, ⊎_elim, arith, cond, leb, eqb}
