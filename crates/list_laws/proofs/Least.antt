@@ -1,6 +1,5 @@
 -- The least of a list: one of it, and none of it goes before it.
--- Cited by `Sorts`, `env_core`, `hist_model`, `nested_loop`, `pool_laws`, `queue_laws`, `queue_selector`, `run_summary`,
--- `sequence_manager`.
+-- Cited by `Sorts`, `hist_model`, `nested_loop`, `pool_laws`, `queue_laws`, `queue_selector`, `run_summary`, `sequence_manager`.
 use Rattle.std.proofs.Common.{◌≡◌, Bool, true, false, cond, List, [], ◌∷◌, map, refl, sym, ap, ◌∙◌, Some, None, subst}
 use Rattle.std.specs.Prelude.{Contains}
 use Rattle.std.specs.Option.{option_map}

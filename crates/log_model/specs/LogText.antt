@@ -1,20 +1,13 @@
 -- A log as text, a line for each entry, and as JSON.
-use Rattle.std.specs.Prelude.{◌≡◌, ℕ, ◌+◌, Bool, if◌then◌else◌, Option, None, Some, List, [], ◌∷◌, ◌++◌, length, map, codes, nat_eq}
+use Rattle.std.specs.Prelude.{◌≡◌, ℕ, ◌+◌, if◌then◌else◌, Option, None, Some, List, [], ◌∷◌, ◌++◌, length, map, codes, nat_eq}
 use Rattle.std.specs.Fmt.{decimal}
 use Rattle.std.specs.List.{starts_with, join_with_byte}
-use Rattle.task_traits.specs.declared.traits.Priority.{Priority}
-use Rattle.task_traits.specs.declared.traits.Priority.TheVariants.{BestEffort, UserVisible, UserBlocking}
 use Rattle.task_base.specs.declared.entry.Entry.{Entry}
 use Rattle.task_base.specs.declared.entry.Kind.{Kind}
 use Rattle.task_base.specs.declared.entry.Kind.TheVariants as kinds
 use Rattle.task_base.specs.declared.entry.JobReply.{JobReply}
 use Rattle.task_base.specs.declared.entry.JobReply.TheVariants as replies
-use Rattle.task_base.specs.declared.policy.Policy.{Policy}
-use Rattle.task_base.specs.declared.policy.Policy.TheVariants.{All, Foreground, Nothing}
-use Rattle.task_base.specs.declared.script.FenceAt.{FenceAt}
-use Rattle.task_base.specs.declared.script.FenceAt.TheVariants.{Now, Start}
-use Rattle.task_base.specs.declared.step.Scope.{Scope}
-use Rattle.task_base.specs.declared.step.Scope.TheVariants.{May, Will}
+use Rattle.task_base.specs.Words.{reply_word, vote_word, scope_word, priority_word, policy_word, fence_word}
 use Rattle.log_model.specs.Fits.{Fits}
 use Rattle.log_model.specs.declared.version.Version.{Version}
 use Rattle.log_model.specs.declared.version.Version.TheVariants.{One, Two}
@@ -23,36 +16,6 @@ use Rattle.log_model.specs.declared.version.Version.TheVariants.{One, Two}
 pub data Part : Type 0 where
   word : List ℕ → Part
   number : ℕ → Part
-
--- the word of a post's reply (this project's own)
-abbrev pub reply_word : Bool → List ℕ
-reply_word ok = if ok then codes "ok" else codes "no"
-
--- the word of a vote (this project's own)
-abbrev pub vote_word : Bool → List ℕ
-vote_word on = if on then codes "on" else codes "off"
-
--- the word of a blocking scope (this project's own)
-abbrev pub scope_word : Scope → List ℕ
-scope_word May = codes "may"
-scope_word Will = codes "will"
-
--- the word of a priority (this project's own)
-abbrev pub priority_word : Priority → List ℕ
-priority_word BestEffort = codes "best_effort"
-priority_word UserVisible = codes "user_visible"
-priority_word UserBlocking = codes "user_blocking"
-
--- the word of a policy (this project's own)
-abbrev pub policy_word : Policy → List ℕ
-policy_word All = codes "all"
-policy_word Foreground = codes "foreground"
-policy_word Nothing = codes "none"
-
--- the word of where a fence is set (this project's own)
-abbrev pub fence_word : FenceAt → List ℕ
-fence_word Now = codes "now"
-fence_word Start = codes "start"
 
 -- the item that a seat goes on with: its number, or `-` where it leaves the job (this project's own)
 abbrev pub next_part : Option ℕ → Part

@@ -36,8 +36,8 @@ parts_lack_space [] h = tt
 parts_lack_space (part ∷ parts) h = (shown_lacks 32 refl part h.0, parts_lack_space parts h.1)
 
 -- the words of a line are the parts of its entry
-pub words_of-line : (place : ℕ) (e : Entry) → Fits e → spaced_words (line_words place e) ≡ map shown (entry_parts place e)
-words_of-line place e h =
+pub spaced_words-line : (place : ℕ) (e : Entry) → Fits e → spaced_words (line_words place e) ≡ map shown (entry_parts place e)
+spaced_words-line place e h =
     split_joined 32 (decimal place) (map shown (seat_parts e)) (decimal_lacks 32 refl place, parts_lack_space (seat_parts e) (seat_parts_fit e h))
 
 -- what stands before the last byte of a line is its words
@@ -47,9 +47,9 @@ front_of-line place e bytes same =
     rw (count, same) (take-append_seam (line_words place e) (10 ∷ []))
 
 -- so the bytes before it are split into the parts of the entry
-pub words_of-front : (place : ℕ) (e : Entry) (bytes : List ℕ) → IsLogLine place bytes e
+pub spaced_words-front : (place : ℕ) (e : Entry) (bytes : List ℕ) → IsLogLine place bytes e
     → spaced_words (take (length bytes - 1) bytes) ≡ map shown (entry_parts place e)
-words_of-front place e bytes h = ap spaced_words (front_of-line place e bytes h.same) ∙ words_of-line place e h.fits
+spaced_words-front place e bytes h = ap spaced_words (front_of-line place e bytes h.same) ∙ spaced_words-line place e h.fits
 
 -- what stands before the last byte, and that byte
 front_and_last : (bytes : List ℕ) (last : ℕ) → 0 < length bytes → get_or bytes (length bytes - 1) 0 ≡ last → bytes ≡ take (length bytes - 1) bytes ++ last ∷ []

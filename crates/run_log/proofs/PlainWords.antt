@@ -30,11 +30,6 @@ answers_meant line words (Some e) same parts fits = record { fits = fits; place 
 pub meant_is_read : (line : List ℕ) (e : Entry) → IsMeant line e → entry_behind_place (plain_words line) ≡ Some e
 meant_is_read line e h = ap entry_behind_place h.words ∙ seat_reads_back h.place e h.fits
 
--- so it is one entry alone, and none where none is read
-pub same_meaning : (line : List ℕ) (a b : Entry) → IsMeant line a → IsMeant line b → a ≡ b
-same_meaning line a b p q =
-    let same : Some a ≡ Some b = sym (meant_is_read line a p) ∙ meant_is_read line b q in
-    cc
-
+-- so it is none where none is read
 pub no_meaning : (line : List ℕ) (e : Entry) → entry_behind_place (plain_words line) ≡ None → ¬ IsMeant line e
 no_meaning line e none h = let read = meant_is_read line e h in absurd cc

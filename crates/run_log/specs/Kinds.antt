@@ -1,58 +1,19 @@
 -- The kind that has these words, and the entry. No two kinds have the same words.
-use Rattle.std.specs.Prelude.{ℕ, ◌==◌, if◌then◌else◌, true, false, Bool, List, [], ◌∷◌, codes, Option, Some, None}
+use Rattle.std.specs.Prelude.{ℕ, ◌==◌, if◌then◌else◌, List, [], ◌∷◌, codes, Option, Some, None}
 use Rattle.std.specs.Option.{option_and_then}
 use Rattle.std.specs.Str.{bytes_eq}
-use Rattle.task_traits.specs.declared.traits.Priority.{Priority}
-use Rattle.task_traits.specs.declared.traits.Priority.TheVariants.{BestEffort, UserVisible, UserBlocking}
 use Rattle.task_base.specs.declared.entry.Entry.{Entry}
 use Rattle.task_base.specs.declared.entry.Kind.{Kind}
 use Rattle.task_base.specs.declared.entry.Kind.TheVariants as kinds
 use Rattle.task_base.specs.declared.entry.JobReply.{JobReply}
 use Rattle.task_base.specs.declared.entry.JobReply.TheVariants as replies
-use Rattle.task_base.specs.declared.policy.Policy.{Policy}
-use Rattle.task_base.specs.declared.policy.Policy.TheVariants.{All, Foreground, Nothing}
-use Rattle.task_base.specs.declared.script.FenceAt.{FenceAt}
-use Rattle.task_base.specs.declared.script.FenceAt.TheVariants.{Now, Start}
-use Rattle.task_base.specs.declared.step.Scope.{Scope}
-use Rattle.task_base.specs.declared.step.Scope.TheVariants.{May, Will}
+use Rattle.task_base.specs.Words.{reply_named, vote_named, scope_named, policy_named, priority_named, fence_named}
 use Rattle.run_log.specs.Words.{number_of}
 
 infixl 10 ◌>>=◌
 -- the second, made of the value of the first, if there is one (this project's own)
 abbrev pub ◌>>=◌ : {A B : Type 0} → Option A → (A → Option B) → Option B
 o >>= f = option_and_then f o
-
--- the reply of a post that a word names (this project's own)
-abbrev pub reply_named : List ℕ → Option Bool
-reply_named word = if bytes_eq word (codes "ok") then Some true else (if bytes_eq word (codes "no") then Some false else None)
-
--- the vote that a word names (this project's own)
-abbrev pub vote_of : List ℕ → Option Bool
-vote_of word = if bytes_eq word (codes "on") then Some true else (if bytes_eq word (codes "off") then Some false else None)
-
--- the blocking scope that a word names (this project's own)
-abbrev pub scope_named : List ℕ → Option Scope
-scope_named word = if bytes_eq word (codes "may") then Some May else (if bytes_eq word (codes "will") then Some Will else None)
-
--- the policy that a word names (this project's own)
-abbrev pub policy_of : List ℕ → Option Policy
-policy_of word =
-    if bytes_eq word (codes "all") then Some All
-    else (if bytes_eq word (codes "foreground") then Some Foreground
-    else (if bytes_eq word (codes "none") then Some Nothing
-    else None))
-
--- the priority that a word names (this project's own)
-abbrev pub priority_of : List ℕ → Option Priority
-priority_of word =
-    if bytes_eq word (codes "best_effort") then Some BestEffort
-    else (if bytes_eq word (codes "user_visible") then Some UserVisible
-    else (if bytes_eq word (codes "user_blocking") then Some UserBlocking
-    else None))
-
--- where the fence is set that a word names (this project's own)
-abbrev pub fence_of : List ℕ → Option FenceAt
-fence_of word = if bytes_eq word (codes "now") then Some Now else (if bytes_eq word (codes "start") then Some Start else None)
 
 -- the item that a seat goes on with: `-` says that there is none (this project's own)
 abbrev pub next_of : List ℕ → Option (Option ℕ)
@@ -80,7 +41,7 @@ unfoldable pub kind_with_one : List ℕ → List ℕ → Option Kind
 kind_with_one name first =
     if bytes_eq name (codes "tick") then (number_of 64 first >>= λ now. Some (kinds.Tick now))
     else (if bytes_eq name (codes "unblock") then (number_of 32 first >>= λ task. Some (kinds.Leave task))
-    else (if bytes_eq name (codes "policy") then (policy_of first >>= λ policy. Some (kinds.Policy policy))
+    else (if bytes_eq name (codes "policy") then (policy_named first >>= λ policy. Some (kinds.Policy policy))
     else (if bytes_eq name (codes "unfence") then (number_of 32 first >>= λ queue. Some (kinds.Unfence queue))
     else (if bytes_eq name (codes "close") then (number_of 32 first >>= λ queue. Some (kinds.Close queue))
     else (if bytes_eq name (codes "cancel") then (number_of 32 first >>= λ job. Some (kinds.JobCancel job))
@@ -92,8 +53,8 @@ unfoldable pub kind_with_two : List ℕ → List ℕ → List ℕ → Option Kin
 kind_with_two name first second =
     if bytes_eq name (codes "end") then (number_of 32 first >>= λ task. number_of 64 second >>= λ left. Some (kinds.End task left))
     else (if bytes_eq name (codes "block") then (number_of 32 first >>= λ task. scope_named second >>= λ scope. Some (kinds.Enter task scope))
-    else (if bytes_eq name (codes "reprio") then (number_of 32 first >>= λ runner. priority_of second >>= λ priority. Some (kinds.Reprio runner priority))
-    else (if bytes_eq name (codes "fence") then (number_of 32 first >>= λ queue. fence_of second >>= λ at. Some (kinds.Fence queue at))
+    else (if bytes_eq name (codes "reprio") then (number_of 32 first >>= λ runner. priority_named second >>= λ priority. Some (kinds.Reprio runner priority))
+    else (if bytes_eq name (codes "fence") then (number_of 32 first >>= λ queue. fence_named second >>= λ at. Some (kinds.Fence queue at))
     else (if bytes_eq name (codes "rank") then (number_of 32 first >>= λ queue. number_of 8 second >>= λ class. Some (kinds.Rank queue class))
     else (if bytes_eq name (codes "mainend") then (number_of 32 first >>= λ task. number_of 64 second >>= λ left. Some (kinds.MainEnd task left))
     else (if bytes_eq name (codes "startjob") then (number_of 32 first >>= λ job. reply_named second >>= λ ok. Some (kinds.JobPost job ok))
@@ -111,7 +72,7 @@ unfoldable pub kind_with_three : List ℕ → List ℕ → List ℕ → List ℕ
 kind_with_three name first second third =
     if bytes_eq name (codes "take") then (number_of 32 first >>= λ task. number_of 32 second >>= λ runner. number_of 64 third
     >>= λ found. Some (kinds.Take task runner found))
-    else (if bytes_eq name (codes "vote") then (number_of 32 first >>= λ queue. number_of 8 second >>= λ voter. vote_of third
+    else (if bytes_eq name (codes "vote") then (number_of 32 first >>= λ queue. number_of 8 second >>= λ voter. vote_named third
     >>= λ on. Some (kinds.Vote queue voter on))
     else (if bytes_eq name (codes "maintake") then (number_of 32 first >>= λ task. number_of 32 second >>= λ queue. number_of 64 third
     >>= λ found. Some (kinds.MainTake task queue found))

@@ -18,7 +18,7 @@ pub(crate) fn entry_at(place: Place, bytes: &[u8]) -> Option<Entry>
     let [front @ .., b'\n'] = bytes else {
         return None;
     };
-    entry_of(place, &words_of(front)?)
+    entry_of(place, &spaced_words(front)?)
 }
 
 // The entry whose words these are at this place, if there is one.
@@ -40,7 +40,7 @@ fn entry_of(place: Place, words: &[&[u8]]) -> Option<Entry>
 }
 
 // The words of a line, if there are at most eight: no line of a log has more.
-fn words_of(line: &[u8]) -> Option<ArrayVec<&[u8], 8>>
+fn spaced_words(line: &[u8]) -> Option<ArrayVec<&[u8], 8>>
     ensures { MatchOption result (8 < length (spaced_words line.now)) (λ words. texts words.items ≡ spaced_words line.now) }
 {
     let mut words = ArrayVec::new();

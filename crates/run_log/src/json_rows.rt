@@ -1,11 +1,13 @@
 ghost use Rattle.std.specs.Prelude.{◌≡◌, ◌∷◌, [], map, codes, string_bytes, IfOk, OnOk};
 ghost use Rattle.serde_json.specs.View.{view};
-ghost use Rattle.log_model.specs.LogText.{word, number, json_of, parts_of, next_part, reply_parts, reply_word, vote_word, scope_word, policy_word, priority_word, fence_word};
+ghost use Rattle.task_base.specs.Words.{reply_word, vote_word};
+ghost use Rattle.log_model.specs.LogText.{word, number, json_of, parts_of, next_part, reply_parts};
 ghost use Rattle.run_log.specs.JsonRows.{with_parts};
 
 use serde_json::Value;
 use std::alloc::{AllocError, Global};
-use task_base::{Entry, FenceAt, JobReply, Kind, Policy, Priority, Scope};
+use task_base::words::{fence_word, policy_word, priority_word, reply_word, scope_word, vote_word};
+use task_base::{Entry, JobReply, Kind};
 
 /// The entry in JSON: an array of its place, its seat, the word of its kind and the arguments, numbers as numbers and
 /// words as strings. The error is want of memory.
@@ -43,13 +45,13 @@ fn add_kind(alloc: Global, row: &mut Vec<Value>, kind: &Kind) -> Result<(), Allo
             found,
         } => add_three(alloc, row, "take", task, runner, found),
         Kind::End { task, left } => add_two(alloc, row, "end", task, left),
-        Kind::Enter { task, scope } => add_flag(alloc, row, "block", task, scope_text(scope)),
+        Kind::Enter { task, scope } => add_flag(alloc, row, "block", task, scope_word(scope)),
         Kind::Leave { task } => add_one(alloc, row, "unblock", u64::from(task)),
-        Kind::Policy { policy } => add_words(alloc, row, "policy", policy_text(policy)),
+        Kind::Policy { policy } => add_words(alloc, row, "policy", policy_word(policy)),
         Kind::Reprio { runner, priority } => {
-            add_flag(alloc, row, "reprio", runner, priority_text(priority))
+            add_flag(alloc, row, "reprio", runner, priority_word(priority))
         }
-        Kind::Fence { queue, at } => add_flag(alloc, row, "fence", queue, fence_text(at)),
+        Kind::Fence { queue, at } => add_flag(alloc, row, "fence", queue, fence_word(at)),
         Kind::Unfence { queue } => add_one(alloc, row, "unfence", u64::from(queue)),
         Kind::Vote { queue, voter, on } => add_vote(alloc, row, queue, voter, on),
         Kind::Rank { queue, class } => add_two(alloc, row, "rank", queue, u64::from(class)),
@@ -59,7 +61,7 @@ fn add_kind(alloc: Global, row: &mut Vec<Value>, kind: &Kind) -> Result<(), Allo
         }
         Kind::MainEnd { task, left } => add_two(alloc, row, "mainend", task, left),
         Kind::MainNone => add_word(alloc, row, "mainnone"),
-        Kind::JobPost { job, ok } => add_flag(alloc, row, "startjob", job, reply_text(ok)),
+        Kind::JobPost { job, ok } => add_flag(alloc, row, "startjob", job, reply_word(ok)),
         Kind::JobTake { job, id, item } => {
             add_three(alloc, row, "jobtake", job, id, u64::from(item))
         }
@@ -153,7 +155,7 @@ fn add_post(
         (word name.now ∷ number task ∷ number home ∷ number delay ∷ word (reply_word ok) ∷ [])) }
 {
     add_three(alloc, row, name, task, home, delay)?;
-    add_word(alloc, row, reply_text(ok))
+    add_word(alloc, row, reply_word(ok))
 }
 
 // A vote on a main queue.
@@ -168,7 +170,7 @@ fn add_vote(
         (word (codes "vote") ∷ number queue ∷ number voter ∷ word (vote_word on) ∷ [])) }
 {
     add_two(alloc, row, "vote", queue, u64::from(voter))?;
-    add_word(alloc, row, vote_text(on))
+    add_word(alloc, row, vote_word(on))
 }
 
 // The end of an item, by its job, its worker and its number, and the item that the seat goes on with.
@@ -240,54 +242,4 @@ fn add_number(row: &mut Vec<Value>, value: u64) -> Result<(), AllocError>
 {
     row.push(Value::from(value))?;
     Ok(())
-}
-
-fn reply_text(ok: bool) -> &'static str
-    ensures { result.now ≡ reply_word ok }
-{
-    if ok { "ok" } else { "no" }
-}
-
-fn vote_text(on: bool) -> &'static str
-    ensures { result.now ≡ vote_word on }
-{
-    if on { "on" } else { "off" }
-}
-
-fn scope_text(scope: Scope) -> &'static str
-    ensures { result.now ≡ scope_word scope }
-{
-    match scope {
-        Scope::May => "may",
-        Scope::Will => "will",
-    }
-}
-
-fn policy_text(policy: Policy) -> &'static str
-    ensures { result.now ≡ policy_word policy }
-{
-    match policy {
-        Policy::All => "all",
-        Policy::Foreground => "foreground",
-        Policy::Nothing => "none",
-    }
-}
-
-fn priority_text(priority: Priority) -> &'static str
-    ensures { result.now ≡ priority_word priority }
-{
-    match priority {
-        Priority::BestEffort => "best_effort",
-        Priority::UserVisible => "user_visible",
-        Priority::UserBlocking => "user_blocking",
-    }
-}
-
-fn fence_text(at: FenceAt) -> &'static str
-    ensures { result.now ≡ fence_word at }
-{
-    match at {
-        FenceAt::Now => "now",
-        FenceAt::Start => "start",
-    }
 }

@@ -4,10 +4,11 @@ ghost use Rattle.log_model.specs.LogText.{kind_words};
 ghost use Rattle.run_log.specs.Kinds.{kind_of, kind_alone, kind_with_one, kind_with_two, kind_with_three, kind_with_four, kind_with_five, joined_of};
 ghost use Rattle.run_log.specs.Words.{texts};
 
-use crate::keywords::{
-    ending_of, fence_of, is_word, next_of, policy_of, priority_of, reply_of, scope_of, vote_of,
-};
+use crate::keywords::{ending_of, is_word, next_of};
 use crate::numerals::{number_8, number_32, number_64};
+use task_base::words::{
+    fence_named, policy_named, priority_named, reply_named, scope_named, vote_named,
+};
 use task_base::{JobReply, Kind};
 
 /// The kind that has these words, its name and its arguments, if there is one.
@@ -64,7 +65,7 @@ fn kind_with_one(name: &[u8], first: &[u8]) -> Option<Kind>
         let task = number_32(first)?;
         Some(Kind::Leave { task })
     } else if is_word(name, b"policy") {
-        let policy = policy_of(first)?;
+        let policy = policy_named(first)?;
         Some(Kind::Policy { policy })
     } else if is_word(name, b"unfence") {
         let queue = number_32(first)?;
@@ -93,13 +94,13 @@ fn kind_with_two(name: &[u8], first: &[u8], second: &[u8]) -> Option<Kind>
         let (task, left) = (number_32(first)?, number_64(second)?);
         Some(Kind::End { task, left })
     } else if is_word(name, b"block") {
-        let (task, scope) = (number_32(first)?, scope_of(second)?);
+        let (task, scope) = (number_32(first)?, scope_named(second)?);
         Some(Kind::Enter { task, scope })
     } else if is_word(name, b"reprio") {
-        let (runner, priority) = (number_32(first)?, priority_of(second)?);
+        let (runner, priority) = (number_32(first)?, priority_named(second)?);
         Some(Kind::Reprio { runner, priority })
     } else if is_word(name, b"fence") {
-        let (queue, at) = (number_32(first)?, fence_of(second)?);
+        let (queue, at) = (number_32(first)?, fence_named(second)?);
         Some(Kind::Fence { queue, at })
     } else if is_word(name, b"rank") {
         let (queue, class) = (number_32(first)?, number_8(second)?);
@@ -108,7 +109,7 @@ fn kind_with_two(name: &[u8], first: &[u8], second: &[u8]) -> Option<Kind>
         let (task, left) = (number_32(first)?, number_64(second)?);
         Some(Kind::MainEnd { task, left })
     } else if is_word(name, b"startjob") {
-        let (job, ok) = (number_32(first)?, reply_of(second)?);
+        let (job, ok) = (number_32(first)?, reply_named(second)?);
         Some(Kind::JobPost { job, ok })
     } else if is_word(name, b"joined") {
         let (job, reply) = (number_32(first)?, ending_of(second)?);
@@ -132,7 +133,7 @@ fn kind_with_three(name: &[u8], first: &[u8], second: &[u8], third: &[u8]) -> Op
             found,
         })
     } else if is_word(name, b"vote") {
-        let (queue, voter, on) = (number_32(first)?, number_8(second)?, vote_of(third)?);
+        let (queue, voter, on) = (number_32(first)?, number_8(second)?, vote_named(third)?);
         Some(Kind::Vote { queue, voter, on })
     } else if is_word(name, b"maintake") {
         let (task, queue, found) = (number_32(first)?, number_32(second)?, number_64(third)?);
@@ -175,7 +176,7 @@ fn kind_with_four(
     ensures fits { IfSome result KindFits }
 {
     let (task, home) = (number_32(first)?, number_32(second)?);
-    let (delay, ok) = (number_64(third)?, reply_of(fourth)?);
+    let (delay, ok) = (number_64(third)?, reply_named(fourth)?);
     if is_word(name, b"post") {
         Some(Kind::Post {
             task,

@@ -1,10 +1,12 @@
 ghost use Rattle.std.specs.Prelude.{◌≡◌, ◌+◌, ◌≤◌, [], ◌∷◌, ◌++◌, length, map, decimal};
 ghost use Rattle.task_base.specs.declared.entry.Kind.TheVariants.{Vote, JobStep, Joined};
-ghost use Rattle.log_model.specs.LogText.{kind_words, line_of, shown, next_part, reply_parts, reply_word, vote_word, scope_word, policy_word, priority_word, fence_word};
+ghost use Rattle.task_base.specs.Words.{reply_word};
+ghost use Rattle.log_model.specs.LogText.{kind_words, line_of, shown, next_part, reply_parts};
 ghost use Rattle.run_log.specs.Lines.{with_words};
 
 use line_text::{Line, add_decimal, add_number, add_word};
-use task_base::{Entry, FenceAt, JobId, JobReply, Kind, Place, Policy, Priority, QueueId, Scope};
+use task_base::words::{fence_word, policy_word, priority_word, reply_word, scope_word, vote_word};
+use task_base::{Entry, JobId, JobReply, Kind, Place, QueueId};
 
 /// The line of an entry at its place, with its line feed: decimal numbers and words, parted by single spaces (this
 /// project's own rule). The longest line, that of a job's step, has 95 bytes. It takes no memory.
@@ -46,13 +48,13 @@ fn add_kind(line: &mut Line, kind: &Kind)
             found,
         } => add_three(line, b"take", task, runner, found),
         Kind::End { task, left } => add_two(line, b"end", task, left),
-        Kind::Enter { task, scope } => add_flag(line, b"block", task, scope_bytes(scope)),
+        Kind::Enter { task, scope } => add_flag(line, b"block", task, scope_word(scope).as_bytes()),
         Kind::Leave { task } => add_one(line, b"unblock", u64::from(task)),
-        Kind::Policy { policy } => add_words(line, b"policy", policy_bytes(policy)),
+        Kind::Policy { policy } => add_words(line, b"policy", policy_word(policy).as_bytes()),
         Kind::Reprio { runner, priority } => {
-            add_flag(line, b"reprio", runner, priority_bytes(priority))
+            add_flag(line, b"reprio", runner, priority_word(priority).as_bytes())
         }
-        Kind::Fence { queue, at } => add_flag(line, b"fence", queue, fence_bytes(at)),
+        Kind::Fence { queue, at } => add_flag(line, b"fence", queue, fence_word(at).as_bytes()),
         Kind::Unfence { queue } => add_one(line, b"unfence", u64::from(queue)),
         Kind::Vote { queue, voter, on } => add_vote(line, queue, voter, on),
         Kind::Rank { queue, class } => add_two(line, b"rank", queue, u64::from(class)),
@@ -60,7 +62,7 @@ fn add_kind(line: &mut Line, kind: &Kind)
         Kind::MainTake { task, queue, found } => add_three(line, b"maintake", task, queue, found),
         Kind::MainEnd { task, left } => add_two(line, b"mainend", task, left),
         Kind::MainNone => add_word(line, b"mainnone"),
-        Kind::JobPost { job, ok } => add_flag(line, b"startjob", job, reply_bytes(ok)),
+        Kind::JobPost { job, ok } => add_flag(line, b"startjob", job, reply_word(ok).as_bytes()),
         Kind::JobTake { job, id, item } => add_three(line, b"jobtake", job, id, u64::from(item)),
         Kind::JobStep {
             job,
@@ -150,7 +152,7 @@ fn add_post(line: &mut Line, name: &[u8], task: u32, home: u32, delay: u64, ok: 
     add_number(line, u64::from(task));
     add_number(line, u64::from(home));
     add_number(line, delay);
-    add_word(line, reply_bytes(ok));
+    add_word(line, reply_word(ok).as_bytes());
 }
 
 // A vote on a main queue.
@@ -162,7 +164,7 @@ fn add_vote(line: &mut Line, queue: QueueId, voter: u8, on: bool)
     add_word(line, b"vote");
     add_number(line, u64::from(queue));
     add_number(line, u64::from(voter));
-    add_word(line, vote_bytes(on));
+    add_word(line, vote_word(on).as_bytes());
 }
 
 // The end of an item, and the item that the seat goes on with.
@@ -216,61 +218,5 @@ fn add_reply(line: &mut Line, reply: JobReply)
         }
         JobReply::Cancelled => add_word(line, b"cancelled"),
         JobReply::Stopped => add_word(line, b"stopped"),
-    }
-}
-
-fn reply_bytes(ok: bool) -> &'static [u8]
-    ensures word { result.now ≡ reply_word ok }
-    ensures short { length result.now ≤ 10 }
-{
-    if ok { b"ok" } else { b"no" }
-}
-
-fn vote_bytes(on: bool) -> &'static [u8]
-    ensures word { result.now ≡ vote_word on }
-    ensures short { length result.now ≤ 10 }
-{
-    if on { b"on" } else { b"off" }
-}
-
-fn scope_bytes(scope: Scope) -> &'static [u8]
-    ensures word { result.now ≡ scope_word scope }
-    ensures short { length result.now ≤ 10 }
-{
-    match scope {
-        Scope::May => b"may",
-        Scope::Will => b"will",
-    }
-}
-
-fn policy_bytes(policy: Policy) -> &'static [u8]
-    ensures word { result.now ≡ policy_word policy }
-    ensures short { length result.now ≤ 10 }
-{
-    match policy {
-        Policy::All => b"all",
-        Policy::Foreground => b"foreground",
-        Policy::Nothing => b"none",
-    }
-}
-
-fn priority_bytes(priority: Priority) -> &'static [u8]
-    ensures word { result.now ≡ priority_word priority }
-    ensures short { length result.now ≤ 20 }
-{
-    match priority {
-        Priority::BestEffort => b"best_effort",
-        Priority::UserVisible => b"user_visible",
-        Priority::UserBlocking => b"user_blocking",
-    }
-}
-
-fn fence_bytes(at: FenceAt) -> &'static [u8]
-    ensures word { result.now ≡ fence_word at }
-    ensures short { length result.now ≤ 10 }
-{
-    match at {
-        FenceAt::Now => b"now",
-        FenceAt::Start => b"start",
     }
 }

@@ -40,7 +40,7 @@ fn plain_words(line: &[u8]) -> Option<ArrayVec<&[u8], 8>>
     ensures { MatchOption result (8 < length (plain_words line.now)) (λ words. texts words.items ≡ plain_words line.now) }
 {
     let pieces = line
-        .split(|byte| is_blank(*byte))
+        .split(|byte| is_blank_byte(*byte))
         .filter(|piece| !piece.is_empty());
     let mut words = ArrayVec::new();
     for piece in pieces {
@@ -52,7 +52,7 @@ fn plain_words(line: &[u8]) -> Option<ArrayVec<&[u8], 8>>
     Some(words)
 }
 
-fn is_blank(byte: u8) -> bool
+fn is_blank_byte(byte: u8) -> bool
     ensures { result ≡ is_blank_byte byte }
 {
     byte == b' ' || byte == b'\t' || byte == b'\r' || byte == b'\n'

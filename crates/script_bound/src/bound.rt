@@ -3,7 +3,7 @@ ghost use Rattle.task_base.specs.Steps.{is_act};
 ghost use Rattle.script_model.specs.Bound.{events_bound_of, events_of_task, events_of_job, events_of_action};
 ghost use Rattle.script_model.specs.Canonical.{IsValid};
 
-use task_base::{Action, Job, Script, Step, Task};
+use task_base::{Action, Job, Script, Task, is_act};
 
 /// How many entries the history of a run of the script has at most.
 #[tactic(auto, using(crate::proofs::Bounds::bound_fits))]
@@ -57,15 +57,6 @@ fn events_of_task(task: &Task) -> u32
 {
     let steps = task.steps.as_slice();
     2 + steps.iter().filter(|step| is_act(step)).count() as u32
-}
-
-fn is_act(step: &Step) -> bool
-    ensures { result ≡ is_act step.now }
-{
-    match step {
-        Step::Add(_) | Step::Mul(_) | Step::Set(_) => false,
-        Step::Post { .. } | Step::Main { .. } | Step::Block(_) | Step::Unblock => true,
-    }
 }
 
 // The entries of an action: a tick for each reading of the clock, a start and an end of a wait, or one.

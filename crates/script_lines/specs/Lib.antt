@@ -2,6 +2,5 @@ pub mod Said
 pub mod Saying
 pub mod FirstWord
 pub mod Numerals
-pub mod Kinds
 pub mod Steps
 pub mod Plain

@@ -6,7 +6,8 @@ use Rattle.task_base.specs.declared.script.Action.TheVariants.{Post, Main, Tick,
 use Rattle.task_base.specs.declared.limits.TheConstants.{MOST_WORKERS}
 use Rattle.script_model.specs.Words.{words_of, is_word, begins_comment, is_all_ascii}
 use Rattle.script_model.specs.Reasons.{◌>>=◌, ◌>>◌, ◌&◌, refuse, not_ascii, unknown_word, out_of_range}
-use Rattle.script_model.specs.Places.{said_at, ends_at, number_at, id_at, time_at, priority_named, behaviour_named, policy_named, fence_named, vote_named, kind_named, may_block_at, steps_read}
+use Rattle.task_base.specs.Words.{priority_named, behaviour_named, policy_named, fence_named, vote_named}
+use Rattle.script_model.specs.Places.{said_at, name_at, ends_at, number_at, id_at, time_at, kind_named, may_block_at, steps_read}
 use Rattle.script_lines.specs.declared.command.Command.{Command}
 use Rattle.script_lines.specs.declared.command.Command.TheVariants as commands
 
@@ -36,7 +37,7 @@ threshold_said words = do
 -- `runner R KIND PRIORITY BEHAVIOUR`, with `mayblock` at the end or without it
 unfoldable pub runner_said : List (List ℕ) → Result Command ℕ
 runner_said words = do
-  (r, (kind, (priority, (behaviour, (may_block, _))))) ← id_at words 0 & said_at kind_named words 1 & said_at priority_named words 2 & said_at behaviour_named
+  (r, (kind, (priority, (behaviour, (may_block, _))))) ← id_at words 0 & said_at kind_named words 1 & name_at priority_named words 2 & name_at behaviour_named
       words 3 & may_block_at words 4 & ends_at words 5
   Ok (commands.Runner r (record { kind = kind; traits = record { priority = priority; behaviour = behaviour; may_block = may_block } }))
 
@@ -55,7 +56,7 @@ task_said words = do
 -- `job J PRIORITY BEHAVIOUR ITEMS CAP STEPS`
 unfoldable pub job_said : List (List ℕ) → Result Command ℕ
 job_said words = do
-  (j, (priority, (behaviour, (items, (cap, steps))))) ← id_at words 0 & said_at priority_named words 1 & said_at behaviour_named words 2 & number_at 0 65536
+  (j, (priority, (behaviour, (items, (cap, steps))))) ← id_at words 0 & name_at priority_named words 1 & name_at behaviour_named words 2 & number_at 0 65536
       words 3 & number_at 1 64 words 4 & steps_read (drop 5 words)
   Ok (commands.Job j (record { priority = priority; behaviour = behaviour; items = items; cap = cap; steps = steps }))
 
@@ -92,25 +93,25 @@ bare_said action words = ends_at words 0 >> Ok (commands.Act action)
 -- `policy all`, `policy foreground`, `policy none`
 unfoldable pub policy_said : List (List ℕ) → Result Command ℕ
 policy_said words = do
-  (policy, _) ← said_at policy_named words 0 & ends_at words 1
+  (policy, _) ← name_at policy_named words 0 & ends_at words 1
   Ok (commands.Act (Policy policy))
 
 -- `reprio R PRIORITY`
 unfoldable pub reprio_said : List (List ℕ) → Result Command ℕ
 reprio_said words = do
-  (runner, (priority, _)) ← id_at words 0 & said_at priority_named words 1 & ends_at words 2
+  (runner, (priority, _)) ← id_at words 0 & name_at priority_named words 1 & ends_at words 2
   Ok (commands.Act (Reprio runner priority))
 
 -- `fence Q now`, `fence Q start`
 unfoldable pub fence_said : List (List ℕ) → Result Command ℕ
 fence_said words = do
-  (queue, (place, _)) ← id_at words 0 & said_at fence_named words 1 & ends_at words 2
+  (queue, (place, _)) ← id_at words 0 & name_at fence_named words 1 & ends_at words 2
   Ok (commands.Act (Fence queue place))
 
 -- `vote Q V on`, `vote Q V off`
 unfoldable pub vote_said : List (List ℕ) → Result Command ℕ
 vote_said words = do
-  (queue, (voter, (on, _))) ← id_at words 0 & number_at 0 255 words 1 & said_at vote_named words 2 & ends_at words 3
+  (queue, (voter, (on, _))) ← id_at words 0 & number_at 0 255 words 1 & name_at vote_named words 2 & ends_at words 3
   Ok (commands.Act (Vote queue voter on))
 
 -- `rank Q CLASS`

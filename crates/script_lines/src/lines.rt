@@ -1,7 +1,8 @@
 ghost use Rattle.std.specs.Prelude.{◌≡◌};
 ghost use Rattle.script_lines.specs.Said.{workers_said, groups_said, threshold_said, runner_said, queue_said};
 ghost use Rattle.script_model.specs.Reasons.{◌&◌};
-ghost use Rattle.script_model.specs.Places.{id_at, said_at, ends_at, may_block_at, kind_named, priority_named, behaviour_named};
+ghost use Rattle.task_base.specs.Words.{priority_named, behaviour_named};
+ghost use Rattle.script_model.specs.Places.{id_at, said_at, name_at, ends_at, may_block_at, kind_named};
 
 use crate::command::Command;
 use crate::reason::{Reason, both};
@@ -71,8 +72,8 @@ pub(crate) fn runner(words: Words<'_>) -> Result<Command, Reason>
 type RunnerPlaces = (RunnerId, (RunnerKind, (Priority, (Behaviour, (bool, ())))));
 
 fn runner_places(mut words: Words<'_>) -> Result<RunnerPlaces, Reason>
-    ensures { result ≡ (id_at words.entry 0 & said_at kind_named words.entry 1 & said_at priority_named words.entry 2
-        & said_at behaviour_named words.entry 3 & may_block_at words.entry 4 & ends_at words.entry 5) }
+    ensures { result ≡ (id_at words.entry 0 & said_at kind_named words.entry 1 & name_at priority_named words.entry 2
+        & name_at behaviour_named words.entry 3 & may_block_at words.entry 4 & ends_at words.entry 5) }
 {
     let number = words.id();
     let kind = words.kind();

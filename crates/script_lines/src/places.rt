@@ -1,13 +1,14 @@
 ghost use Rattle.std.specs.Prelude.{◌≡◌, ◌≤◌, drop, IfOk};
-ghost use Rattle.script_model.specs.Places.{said_at, ends_at, number_at, id_at, time_at, may_block_at, priority_named, behaviour_named, policy_named, fence_named, vote_named, scope_named, kind_named};
+ghost use Rattle.task_base.specs.Words.{priority_named, behaviour_named, policy_named, fence_named, vote_named, scope_named};
+ghost use Rattle.script_model.specs.Places.{said_at, name_at, ends_at, number_at, id_at, time_at, may_block_at, kind_named};
 
-use crate::keywords::{
-    behaviour_named, fence_named, kind_named, may_block_named, policy_named, priority_named,
-    scope_named, vote_named,
-};
+use crate::keywords::{kind_named, may_block_named};
 use crate::numbers::number_from;
 use crate::reason::Reason;
 use crate::words::Words;
+use task_base::words::{
+    behaviour_named, fence_named, policy_named, priority_named, scope_named, vote_named,
+};
 use task_base::{Behaviour, FenceAt, MOST_MICROSECONDS, Policy, Priority, RunnerKind, Scope};
 
 impl<'a> Words<'a> {
@@ -58,21 +59,21 @@ impl<'a> Words<'a> {
     }
 
     pub(crate) fn priority(&mut self) -> Result<Priority, Reason>
-        ensures value { result ≡ said_at priority_named self.old 0 }
+        ensures value { result ≡ name_at priority_named self.old 0 }
         ensures rest { self.new ≡ drop 1 self.old }
     {
         match self.next() {
-            Some(word) => priority_named(word),
+            Some(word) => priority_named(word).ok_or(Reason::UNKNOWN_WORD),
             None => Err(Reason::WORD_COUNT),
         }
     }
 
     pub(crate) fn behaviour(&mut self) -> Result<Behaviour, Reason>
-        ensures value { result ≡ said_at behaviour_named self.old 0 }
+        ensures value { result ≡ name_at behaviour_named self.old 0 }
         ensures rest { self.new ≡ drop 1 self.old }
     {
         match self.next() {
-            Some(word) => behaviour_named(word),
+            Some(word) => behaviour_named(word).ok_or(Reason::UNKNOWN_WORD),
             None => Err(Reason::WORD_COUNT),
         }
     }
@@ -100,42 +101,42 @@ impl<'a> Words<'a> {
     }
 
     pub(crate) fn policy(&mut self) -> Result<Policy, Reason>
-        ensures value { result ≡ said_at policy_named self.old 0 }
+        ensures value { result ≡ name_at policy_named self.old 0 }
         ensures rest { self.new ≡ drop 1 self.old }
     {
         match self.next() {
-            Some(word) => policy_named(word),
+            Some(word) => policy_named(word).ok_or(Reason::UNKNOWN_WORD),
             None => Err(Reason::WORD_COUNT),
         }
     }
 
     /// Where a fence is put.
     pub(crate) fn fence(&mut self) -> Result<FenceAt, Reason>
-        ensures value { result ≡ said_at fence_named self.old 0 }
+        ensures value { result ≡ name_at fence_named self.old 0 }
         ensures rest { self.new ≡ drop 1 self.old }
     {
         match self.next() {
-            Some(word) => fence_named(word),
+            Some(word) => fence_named(word).ok_or(Reason::UNKNOWN_WORD),
             None => Err(Reason::WORD_COUNT),
         }
     }
 
     pub(crate) fn vote(&mut self) -> Result<bool, Reason>
-        ensures value { result ≡ said_at vote_named self.old 0 }
+        ensures value { result ≡ name_at vote_named self.old 0 }
         ensures rest { self.new ≡ drop 1 self.old }
     {
         match self.next() {
-            Some(word) => vote_named(word),
+            Some(word) => vote_named(word).ok_or(Reason::UNKNOWN_WORD),
             None => Err(Reason::WORD_COUNT),
         }
     }
 
     pub(crate) fn scope(&mut self) -> Result<Scope, Reason>
-        ensures value { result ≡ said_at scope_named self.old 0 }
+        ensures value { result ≡ name_at scope_named self.old 0 }
         ensures rest { self.new ≡ drop 1 self.old }
     {
         match self.next() {
-            Some(word) => scope_named(word),
+            Some(word) => scope_named(word).ok_or(Reason::UNKNOWN_WORD),
             None => Err(Reason::WORD_COUNT),
         }
     }

@@ -2,6 +2,7 @@
 pub mod Faults
 pub mod Parts
 pub mod Postings
+pub mod Configuration
 pub mod Declarations
 pub mod Sound
 pub mod Computing
@@ -9,4 +10,5 @@ pub mod Texts
 pub mod LinesInTurn
 pub mod Words
 pub mod Lines
+pub mod TaskLines
 pub mod Canonical

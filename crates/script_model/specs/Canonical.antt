@@ -2,30 +2,14 @@
 use Rattle.std.specs.Prelude.{ℕ, ◌+◌, Bool, if◌then◌else◌, List, [], ◌∷◌, ◌++◌, drop, map, codes, decimal, flat_map}
 use Rattle.std.specs.List.{join_with_byte}
 use Rattle.task_base.specs.Plan.{Plan, JobPlan}
-use Rattle.task_traits.specs.declared.traits.Behaviour.{Behaviour}
-use Rattle.task_traits.specs.declared.traits.Behaviour.TheVariants.{ContinueOnShutdown, SkipOnShutdown, BlockShutdown}
 use Rattle.task_base.specs.declared.step.Step.{Step}
 use Rattle.task_base.specs.declared.step.Step.TheVariants.{Add, Mul, Set, Post as PostStep, Main as MainStep, Block, Unblock}
 use Rattle.task_base.specs.declared.script.Runner.{Runner}
-use Rattle.task_base.specs.declared.script.RunnerKind.{RunnerKind}
-use Rattle.task_base.specs.declared.script.RunnerKind.TheVariants.{Parallel, Sequenced, Single}
 use Rattle.task_base.specs.declared.script.MainQueue.{MainQueue}
 use Rattle.task_base.specs.declared.script.Action.{Action}
 use Rattle.task_base.specs.declared.script.Action.TheVariants.{Post, Main, Tick, Policy, Reprio, Fence, Unfence, Vote, Rank, Close, Pump, Flush, StartJob, Join, Cancel, Shutdown}
-use Rattle.log_model.specs.LogText.{priority_word, policy_word, scope_word, fence_word, vote_word}
+use Rattle.task_base.specs.Words.{priority_word, behaviour_word, policy_word, fence_word, scope_word, vote_word, kind_word}
 use Rattle.script_model.specs.Grammar.{Reads}
-
--- the word of a behaviour at shutdown
-abbrev pub behaviour_word : Behaviour → List ℕ
-behaviour_word ContinueOnShutdown = codes "continue"
-behaviour_word SkipOnShutdown = codes "skip"
-behaviour_word BlockShutdown = codes "block"
-
--- the word of a runner's kind
-abbrev pub kind_word : RunnerKind → List ℕ
-kind_word Parallel = codes "parallel"
-kind_word Sequenced = codes "sequenced"
-kind_word (Single seat) = codes "single:" ++ decimal seat
 
 -- the words of a step
 abbrev pub step_words : Step → List (List ℕ)

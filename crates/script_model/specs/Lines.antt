@@ -14,7 +14,8 @@ use Rattle.script_model.specs.Reasons.{◌>>=◌, ◌>>◌, ◌&◌, refuse, not
 use Rattle.script_model.specs.Bound.{events_of_task, events_of_job, events_of_action}
 use Rattle.script_model.specs.Draft.{Draft, has_no_actions, is_bare, is_above_workers, is_declared, has_runner, has_queue, has_voter, has_job, posted_in, is_any_posted, has_bad_scopes, is_bad_post, is_started, has_shutdown, ticks_of, items_in, steps_in, ticks_in, events_in}
 use Rattle.script_model.specs.Postings.{posts_of_step}
-use Rattle.script_model.specs.Places.{said_at, ends_at, number_at, id_at, time_at, priority_named, behaviour_named, policy_named, fence_named, vote_named, kind_named, may_block_at, steps_read}
+use Rattle.task_base.specs.Words.{priority_named, behaviour_named, policy_named, fence_named, vote_named}
+use Rattle.script_model.specs.Places.{said_at, name_at, ends_at, number_at, id_at, time_at, kind_named, may_block_at, steps_read}
 
 -- ---- configuration
 
@@ -48,7 +49,7 @@ threshold_line d words = do
 -- `runner R KIND PRIORITY BEHAVIOUR`, with `mayblock` at the end or without it
 unfoldable pub runner_line : Draft → List (List ℕ) → Result Draft ℕ
 runner_line d words = do
-  (r, (kind, (priority, (behaviour, (may_block, _))))) ← id_at words 0 & said_at kind_named words 1 & said_at priority_named words 2 & said_at behaviour_named
+  (r, (kind, (priority, (behaviour, (may_block, _))))) ← id_at words 0 & said_at kind_named words 1 & name_at priority_named words 2 & name_at behaviour_named
       words 3 & may_block_at words 4 & ends_at words 5
   refuse (not (r == length d.runners)) out_of_order
   refuse (is_above_workers d kind) undeclared
@@ -83,7 +84,7 @@ task_line d words = do
 -- `job J PRIORITY BEHAVIOUR ITEMS CAP STEPS`
 unfoldable pub job_line : Draft → List (List ℕ) → Result Draft ℕ
 job_line d words = do
-  (j, (priority, (behaviour, (items, (cap, steps))))) ← id_at words 0 & said_at priority_named words 1 & said_at behaviour_named words 2 & number_at 0 65536
+  (j, (priority, (behaviour, (items, (cap, steps))))) ← id_at words 0 & name_at priority_named words 1 & name_at behaviour_named words 2 & number_at 0 65536
       words 3 & number_at 1 64 words 4 & steps_read (drop 5 words)
   refuse (not (j == length d.jobs)) out_of_order
   refuse (not (list_all (is_declared d) steps)) undeclared
@@ -137,20 +138,20 @@ tick_line d words = do
 -- `policy all`, `policy foreground`, `policy none`
 unfoldable pub policy_line : Draft → List (List ℕ) → Result Draft ℕ
 policy_line d words = do
-  (policy, _) ← said_at policy_named words 0 & ends_at words 1
+  (policy, _) ← name_at policy_named words 0 & ends_at words 1
   acted d (Policy policy)
 
 -- `reprio R PRIORITY`: from here on the runner has this priority
 unfoldable pub reprio_line : Draft → List (List ℕ) → Result Draft ℕ
 reprio_line d words = do
-  (runner, (priority, _)) ← id_at words 0 & said_at priority_named words 1 & ends_at words 2
+  (runner, (priority, _)) ← id_at words 0 & name_at priority_named words 1 & ends_at words 2
   refuse (not (has_runner d runner)) undeclared
   acted d (Reprio runner priority)
 
 -- `fence Q now`, `fence Q start`
 unfoldable pub fence_line : Draft → List (List ℕ) → Result Draft ℕ
 fence_line d words = do
-  (queue, (place, _)) ← id_at words 0 & said_at fence_named words 1 & ends_at words 2
+  (queue, (place, _)) ← id_at words 0 & name_at fence_named words 1 & ends_at words 2
   refuse (not (has_queue d queue)) undeclared
   acted d (Fence queue place)
 
@@ -164,7 +165,7 @@ unfence_line d words = do
 -- `vote Q V on`, `vote Q V off`
 unfoldable pub vote_line : Draft → List (List ℕ) → Result Draft ℕ
 vote_line d words = do
-  (queue, (voter, (on, _))) ← id_at words 0 & number_at 0 255 words 1 & said_at vote_named words 2 & ends_at words 3
+  (queue, (voter, (on, _))) ← id_at words 0 & number_at 0 255 words 1 & name_at vote_named words 2 & ends_at words 3
   refuse (not (has_voter d queue voter)) undeclared
   acted d (Vote queue voter on)
 

@@ -1,21 +1,12 @@
 -- What the words at the places of a line say: each place gives its value, or its own reason.
-use Rattle.std.specs.Prelude.{ℕ, ◌-◌, ◌^◌, Bool, true, false, nat_lt, nat_le, ◌&&◌, if◌then◌else◌, List, [], ◌∷◌, length, take, drop, map, codes, slice_get, Option, Some, None, Result, Ok, Err}
+use Rattle.std.specs.Prelude.{ℕ, ◌-◌, ◌^◌, Bool, true, false, nat_lt, nat_le, ◌&&◌, if◌then◌else◌, List, [], ◌∷◌, length, take, drop, map, codes, slice_get, Option, Some, None, ok_or, Result, Ok, Err}
 use Rattle.std.specs.List.{slice_split}
-use Rattle.task_traits.specs.declared.traits.Priority.{Priority}
-use Rattle.task_traits.specs.declared.traits.Priority.TheVariants.{BestEffort, UserVisible, UserBlocking}
-use Rattle.task_traits.specs.declared.traits.Behaviour.{Behaviour}
-use Rattle.task_traits.specs.declared.traits.Behaviour.TheVariants.{ContinueOnShutdown, SkipOnShutdown, BlockShutdown}
-use Rattle.task_base.specs.declared.policy.Policy.{Policy}
-use Rattle.task_base.specs.declared.policy.Policy.TheVariants.{All, Foreground, Nothing}
-use Rattle.task_base.specs.declared.step.Scope.{Scope}
-use Rattle.task_base.specs.declared.step.Scope.TheVariants.{May, Will}
 use Rattle.task_base.specs.declared.step.Step.{Step}
 use Rattle.task_base.specs.declared.step.Step.TheVariants.{Add, Mul, Set, Post, Main, Block, Unblock}
 use Rattle.task_base.specs.declared.script.RunnerKind.{RunnerKind}
 use Rattle.task_base.specs.declared.script.RunnerKind.TheVariants.{Parallel, Sequenced, Single}
-use Rattle.task_base.specs.declared.script.FenceAt.{FenceAt}
-use Rattle.task_base.specs.declared.script.FenceAt.TheVariants.{Now, Start}
 use Rattle.task_base.specs.declared.limits.TheConstants.{MOST_WORKERS, MOST_MICROSECONDS}
+use Rattle.task_base.specs.Words.{named, kind_word, scope_named}
 use Rattle.script_model.specs.Words.{is_word, number_of}
 use Rattle.script_model.specs.Reasons.{◌>>=◌, ◌>>◌, ◌&◌, refuse, unknown_word, word_count, bad_number, out_of_range}
 
@@ -32,10 +23,13 @@ said_at {A} say words k = elim (slice_get words k) as (λ _. Result A ℕ) [
 abbrev pub ends_at : List (List ℕ) → ℕ → Result (Unit {0}) ℕ
 ends_at words k = refuse (nat_lt k (length words)) word_count
 
--- the value that a table of words has for this one
-abbrev pub named : {A : Type 0} → List (List ℕ × A) → List ℕ → Result A ℕ
-named [] word = Err unknown_word
-named ((name, value) ∷ rest) word = if is_word word name then Ok value else named rest word
+-- the value that a word names, if there is one
+abbrev pub known : {A : Type 0} → Option A → Result A ℕ
+known value = ok_or value unknown_word
+
+-- the value that the word at a place names
+abbrev pub name_at : {A : Type 0} → (List ℕ → Option A) → List (List ℕ) → ℕ → Result A ℕ
+name_at named words k = said_at (λ word. known (named word)) words k
 
 -- the number, if it is from low to high
 abbrev pub in_range : ℕ → ℕ → Option ℕ → Result ℕ ℕ
@@ -58,43 +52,29 @@ id_at words k = number_at 0 (2 ^ 32 - 1) words k
 abbrev pub time_at : List (List ℕ) → ℕ → Result ℕ ℕ
 time_at words k = number_at 0 MOST_MICROSECONDS words k
 
--- ---- the words that places take (this project's own, all of them)
+-- ---- the words that say what a runner is like
 
--- the priority that a word names
-abbrev pub priority_named : List ℕ → Result Priority ℕ
-priority_named = named ((codes "best_effort", BestEffort) ∷ (codes "user_visible", UserVisible) ∷ (codes "user_blocking", UserBlocking) ∷ [])
+-- the kind of one worker seat, by the word of its number (this project's own rule)
+abbrev pub single_named : List ℕ → Result RunnerKind ℕ
+single_named seat = number_from 1 MOST_WORKERS seat >>= λ n. Ok (Single n)
 
--- the behaviour at shutdown that a word names
-abbrev pub behaviour_named : List ℕ → Result Behaviour ℕ
-behaviour_named = named ((codes "continue", ContinueOnShutdown) ∷ (codes "skip", SkipOnShutdown) ∷ (codes "block", BlockShutdown) ∷ [])
-
--- the policy that a word names
-abbrev pub policy_named : List ℕ → Result Policy ℕ
-policy_named = named ((codes "all", All) ∷ (codes "foreground", Foreground) ∷ (codes "none", Nothing) ∷ [])
-
--- where a word puts a fence
-abbrev pub fence_named : List ℕ → Result FenceAt ℕ
-fence_named = named ((codes "now", Now) ∷ (codes "start", Start) ∷ [])
-
--- the vote that a word names
-abbrev pub vote_named : List ℕ → Result Bool ℕ
-vote_named = named ((codes "on", true) ∷ (codes "off", false) ∷ [])
-
--- the sort of blocking scope that a word names
-abbrev pub scope_named : List ℕ → Result Scope ℕ
-scope_named = named ((codes "may", May) ∷ (codes "will", Will) ∷ [])
+-- the kind that any worker seat serves
+abbrev pub many_named : List ℕ → Option RunnerKind
+many_named = named kind_word (Parallel ∷ Sequenced ∷ [])
 
 -- `parallel`, `sequenced`, or `single:W` for the worker seat W
 unfoldable pub kind_named : List ℕ → Result RunnerKind ℕ
-kind_named word =
-    if is_word (take 7 word) (codes "single:") then (number_from 1 MOST_WORKERS (drop 7 word) >>= λ seat. Ok (Single seat))
-    else named ((codes "parallel", Parallel) ∷ (codes "sequenced", Sequenced) ∷ []) word
+kind_named word = if is_word (take 7 word) (codes "single:") then single_named (drop 7 word) else known (many_named word)
+
+-- `mayblock` (this project's own word)
+abbrev pub may_block_named : List ℕ → Result Bool ℕ
+may_block_named word = if is_word word (codes "mayblock") then Ok true else Err unknown_word
 
 -- `mayblock`, or no word
 abbrev pub may_block_at : List (List ℕ) → ℕ → Result Bool ℕ
 may_block_at words k = elim (slice_get words k) as (λ _. Result Bool ℕ) [
   | None ↦ Ok false
-  | Some word ↦ named ((codes "mayblock", true) ∷ []) word
+  | Some word ↦ may_block_named word
 ]
 
 -- ---- steps
@@ -114,7 +94,7 @@ post_read made words = do
 -- a step that opens a scope
 abbrev pub block_read : List (List ℕ) → Result Step ℕ
 block_read words = do
-  (scope, _) ← said_at scope_named words 0 & ends_at words 1
+  (scope, _) ← name_at scope_named words 0 & ends_at words 1
   Ok (Block scope)
 
 -- a step, by its first word and the words behind it

@@ -1,5 +1,5 @@
 ghost use Rattle.std.specs.Prelude.{◌≡◌};
-ghost use Rattle.task_base.specs.Steps.{apply_step};
+ghost use Rattle.task_base.specs.Steps.{apply_step, is_act};
 
 use crate::script::{QueueId, RunnerId, TaskId};
 
@@ -50,5 +50,15 @@ pub fn apply(step: &Step, value: u64) -> u64
         Step::Mul(by) => value.wrapping_mul(by),
         Step::Set(to) => to,
         Step::Post { .. } | Step::Main { .. } | Step::Block(_) | Step::Unblock => value,
+    }
+}
+
+/// Whether a step makes an entry of the history.
+pub fn is_act(step: &Step) -> bool
+    ensures { result ≡ is_act step.now }
+{
+    match *step {
+        Step::Add(_) | Step::Mul(_) | Step::Set(_) => false,
+        Step::Post { .. } | Step::Main { .. } | Step::Block(_) | Step::Unblock => true,
     }
 }

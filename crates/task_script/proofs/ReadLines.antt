@@ -7,8 +7,8 @@ use Rattle.task_base.specs.declared.script.Action.TheVariants.{Close, Pump, Flus
 use Rattle.task_base.specs.declared.limits.TheConstants.{MOST_WORKERS}
 use Rattle.script_model.specs.Words.{words_of, is_word, begins_comment, is_all_ascii}
 use Rattle.script_model.specs.Reasons.{◌>>=◌, ◌>>◌, ◌&◌, refuse, not_ascii, word_count, out_of_range}
-use Rattle.script_model.specs.Places.{said_at, ends_at, number_at, id_at, time_at, priority_named, behaviour_named, policy_named}
-use Rattle.script_model.specs.Places.{fence_named, vote_named, kind_named, may_block_at, steps_read}
+use Rattle.task_base.specs.Words.{priority_named, behaviour_named, policy_named, fence_named, vote_named}
+use Rattle.script_model.specs.Places.{said_at, name_at, ends_at, number_at, id_at, time_at, kind_named, may_block_at, steps_read}
 use Rattle.script_model.specs.Draft.{Draft}
 use Rattle.script_model.specs.Lines.{workers_line, groups_line, threshold_line, runner_line, queue_line, task_line, job_line, post_line, main_line, tick_line}
 use Rattle.script_model.specs.Lines.{policy_line, reprio_line, fence_line, unfence_line, vote_line, rank_line, close_line, pump_line, flush_line}
@@ -74,7 +74,7 @@ runner-read : (d : Draft) (words : List (List ℕ)) → runner_line d words ≡ 
 unfolding runner_line runner_said added runner_added
 runner-read d words =
     sym (then_then
-    (id_at words 0 & said_at kind_named words 1 & said_at priority_named words 2 & said_at behaviour_named words 3 & may_block_at words 4 & ends_at words 5)
+    (id_at words 0 & said_at kind_named words 1 & name_at priority_named words 2 & name_at behaviour_named words 3 & may_block_at words 4 & ends_at words 5)
     (λ x. Ok (commands.Runner x.0 (record { kind = x.1.0; traits = record { priority = x.1.1.0; behaviour = x.1.1.1.0; may_block = x.1.1.1.1.0 } }))) (added d))
 
 queue-read : (d : Draft) (words : List (List ℕ)) → queue_line d words ≡ (queue_said words >>= added d)
@@ -93,7 +93,7 @@ job-read : (d : Draft) (words : List (List ℕ)) → job_line d words ≡ (job_s
 unfolding job_line job_said added job_added
 job-read d words =
     sym (then_then
-    (id_at words 0 & said_at priority_named words 1 & said_at behaviour_named words 2 & number_at 0 65536 words 3 & number_at 1 64 words 4
+    (id_at words 0 & name_at priority_named words 1 & name_at behaviour_named words 2 & number_at 0 65536 words 3 & number_at 1 64 words 4
     & steps_read (drop 5 words))
     (λ x. Ok (commands.Job x.0 (record { priority = x.1.0; behaviour = x.1.1.0; items = x.1.1.1.0; cap = x.1.1.1.1.0; steps = x.1.1.1.1.1 }))) (added d))
 
@@ -112,25 +112,25 @@ main-read d words =
 policy-read : (d : Draft) (words : List (List ℕ)) → policy_line d words ≡ (policy_said words >>= added d)
 unfolding policy_line policy_said added action_added
 policy-read d words =
-    sym (then_then (said_at policy_named words 0 & ends_at words 1)
+    sym (then_then (name_at policy_named words 0 & ends_at words 1)
     (λ x. Ok (commands.Act (Policy x.0))) (added d))
 
 reprio-read : (d : Draft) (words : List (List ℕ)) → reprio_line d words ≡ (reprio_said words >>= added d)
 unfolding reprio_line reprio_said added action_added on_runner
 reprio-read d words =
-    sym (then_then (id_at words 0 & said_at priority_named words 1 & ends_at words 2)
+    sym (then_then (id_at words 0 & name_at priority_named words 1 & ends_at words 2)
     (λ x. Ok (commands.Act (Reprio x.0 x.1.0))) (added d))
 
 fence-read : (d : Draft) (words : List (List ℕ)) → fence_line d words ≡ (fence_said words >>= added d)
 unfolding fence_line fence_said added action_added on_queue
 fence-read d words =
-    sym (then_then (id_at words 0 & said_at fence_named words 1 & ends_at words 2)
+    sym (then_then (id_at words 0 & name_at fence_named words 1 & ends_at words 2)
     (λ x. Ok (commands.Act (Fence x.0 x.1.0))) (added d))
 
 vote-read : (d : Draft) (words : List (List ℕ)) → vote_line d words ≡ (vote_said words >>= added d)
 unfolding vote_line vote_said added action_added on_voter
 vote-read d words =
-    sym (then_then (id_at words 0 & number_at 0 255 words 1 & said_at vote_named words 2 & ends_at words 3)
+    sym (then_then (id_at words 0 & number_at 0 255 words 1 & name_at vote_named words 2 & ends_at words 3)
     (λ x. Ok (commands.Act (Vote x.0 x.1.0 x.1.1.0))) (added d))
 
 rank-read : (d : Draft) (words : List (List ℕ)) → rank_line d words ≡ (rank_said words >>= added d)

@@ -10,9 +10,9 @@ use Rattle.task_base.specs.Plan.{Plan, JobPlan}
 use Rattle.task_base.specs.declared.step.Step.{Step}
 use Rattle.task_base.specs.declared.step.Step.TheVariants.{Add, Mul, Set, Post, Main, Block, Unblock}
 use Rattle.task_base.specs.declared.script.Action.{Action}
-use Rattle.log_model.specs.LogText.{scope_word, priority_word}
+use Rattle.task_base.specs.Words.{scope_word, priority_word, behaviour_word}
 use Rattle.script_model.specs.Canonical.{step_words, steps_words, runner_words, queue_words, task_words, job_words}
-use Rattle.script_model.specs.Canonical.{action_words, config_lines, numbered, canonical, behaviour_word}
+use Rattle.script_model.specs.Canonical.{action_words, config_lines, numbered, canonical}
 use Rattle.task_script.specs.Written.{with_words, with_line, line_text, step_text, runner_text, queue_text, task_text}
 use Rattle.task_script.specs.Written.{job_text, job_head_text, action_text, config_text, texts_from}
 

@@ -7,8 +7,8 @@ use Rattle.task_base.specs.declared.script.Runner.{Runner}
 use Rattle.task_base.specs.declared.script.MainQueue.{MainQueue}
 use Rattle.task_base.specs.declared.script.Action.{Action}
 use Rattle.env_io.specs.Bytes.{Gains, Rose}
-use Rattle.log_model.specs.LogText.{priority_word}
-use Rattle.script_model.specs.Canonical.{step_words, runner_words, queue_words, task_words, job_words, action_words, config_lines, behaviour_word}
+use Rattle.task_base.specs.Words.{priority_word, behaviour_word}
+use Rattle.script_model.specs.Canonical.{step_words, runner_words, queue_words, task_words, job_words, action_words, config_lines}
 
 -- a line with words behind it, each after a space
 abbrev pub with_words : List ℕ → List (List ℕ) → List ℕ

@@ -6,7 +6,7 @@ ghost use Rattle.script_model.specs.Postings.{posts_of_step};
 ghost use Rattle.task_script.specs.Marks.{marked, is_any_marked};
 ghost use Rattle.task_script.specs.Scopes.{next_inside};
 
-use task_base::{Step, TaskId};
+use task_base::{Step, TaskId, is_act};
 
 /// Whether a step posts a task that has a mark, or one that a step before it posts. If not, all tasks that the steps post
 /// have their marks.
@@ -93,13 +93,4 @@ pub(crate) fn count_act_steps(steps: &[Step]) -> usize
     ensures { result ≡ count_by is_act steps.now }
 {
     steps.iter().filter(|step| is_act(step)).count()
-}
-
-fn is_act(step: &Step) -> bool
-    ensures { result ≡ is_act step.now }
-{
-    match *step {
-        Step::Add(_) | Step::Mul(_) | Step::Set(_) => false,
-        Step::Post { .. } | Step::Main { .. } | Step::Block(_) | Step::Unblock => true,
-    }
 }

@@ -1,13 +1,13 @@
 ghost use Rattle.std.specs.Prelude.{◌≡◌, ◌+◌, ◌<◌, ◌≤◌, ◌^◌, [], ◌∷◌, ◌++◌, length, decimal, codes};
-ghost use Rattle.log_model.specs.LogText.{priority_word, policy_word, scope_word, fence_word, vote_word};
-ghost use Rattle.script_model.specs.Canonical.{behaviour_word, kind_word, may_block_words, step_words, action_words};
+ghost use Rattle.task_base.specs.Words.{vote_word, kind_word};
+ghost use Rattle.script_model.specs.Canonical.{may_block_words, step_words, action_words};
 ghost use Rattle.task_script.specs.Written.{with_words, with_line, before_step, step_text, runner_text, queue_text, job_head_text, action_text, config_text};
 
 use line_text::{Line, add, add_decimal, add_number, add_word};
-use task_base::{
-    Action, Behaviour, FenceAt, Job, MainQueue, Policy, Priority, Runner, RunnerKind, Scope,
-    Script, Step,
+use task_base::words::{
+    behaviour_word, fence_word, policy_word, priority_word, scope_word, vote_word,
 };
+use task_base::{Action, Job, MainQueue, Runner, RunnerKind, Script, Step};
 
 /// The lines of the configuration.
 #[tactic(auto, using(crate::proofs::Texts::config_joined))]
@@ -39,8 +39,11 @@ pub(crate) fn runner_line(number: u64, runner: &Runner) -> Line
     add(&mut line, b"runner");
     add_number(&mut line, number);
     add_kind(&mut line, runner.kind);
-    add_word(&mut line, priority_bytes(runner.traits.priority));
-    add_word(&mut line, behaviour_bytes(runner.traits.behaviour));
+    add_word(&mut line, priority_word(runner.traits.priority).as_bytes());
+    add_word(
+        &mut line,
+        behaviour_word(runner.traits.behaviour).as_bytes(),
+    );
     add_may_block(&mut line, runner.traits.may_block);
     line.push(b'\n');
     line
@@ -80,8 +83,8 @@ pub(crate) fn job_head(number: u64, job: &Job) -> Line
     let mut line = Line::new();
     add(&mut line, b"job");
     add_number(&mut line, number);
-    add_word(&mut line, priority_bytes(job.priority));
-    add_word(&mut line, behaviour_bytes(job.behaviour));
+    add_word(&mut line, priority_word(job.priority).as_bytes());
+    add_word(&mut line, behaviour_word(job.behaviour).as_bytes());
     add_number(&mut line, u64::from(job.items));
     add_number(&mut line, u64::from(job.cap));
     line
@@ -144,7 +147,7 @@ fn add_step(line: &mut Line, step: &Step)
         Step::Main { task, queue, delay } => {
             add_three(line, b"main", u64::from(task), u64::from(queue), delay)
         }
-        Step::Block(scope) => add_named(line, b"block", scope_bytes(scope)),
+        Step::Block(scope) => add_named(line, b"block", scope_word(scope).as_bytes()),
         Step::Unblock => add(line, b"unblock"),
     }
 }
@@ -165,11 +168,11 @@ fn add_action(line: &mut Line, action: &Action)
             add_three(line, b"main", u64::from(task), u64::from(queue), delay)
         }
         Action::Tick { count } => add_one(line, b"tick", u64::from(count)),
-        Action::Policy { policy } => add_named(line, b"policy", policy_bytes(policy)),
+        Action::Policy { policy } => add_named(line, b"policy", policy_word(policy).as_bytes()),
         Action::Reprio { runner, priority } => {
-            add_flag(line, b"reprio", runner, priority_bytes(priority))
+            add_flag(line, b"reprio", runner, priority_word(priority).as_bytes())
         }
-        Action::Fence { queue, at } => add_flag(line, b"fence", queue, fence_bytes(at)),
+        Action::Fence { queue, at } => add_flag(line, b"fence", queue, fence_word(at).as_bytes()),
         Action::Unfence { queue } => add_one(line, b"unfence", u64::from(queue)),
         Action::Vote { queue, voter, on } => add_vote(line, queue, voter, on),
         Action::Rank { queue, class } => add_two(line, b"rank", queue, class),
@@ -251,7 +254,7 @@ fn add_vote(line: &mut Line, queue: u32, voter: u8, on: bool)
     ensures short { length line.new.items ≤ length line.old.items + 72 }
 {
     add_two(line, b"vote", queue, voter);
-    add_word(line, vote_bytes(on));
+    add_word(line, vote_word(on).as_bytes());
 }
 
 // Adds a space and the word of a runner's kind.
@@ -279,64 +282,4 @@ fn add_may_block(line: &mut Line, may_block: bool)
     if may_block {
         add_word(line, b"mayblock");
     }
-}
-
-fn priority_bytes(priority: Priority) -> &'static [u8]
-    ensures word { result.now ≡ priority_word priority }
-    ensures short { length result.now ≤ 20 }
-{
-    match priority {
-        Priority::BestEffort => b"best_effort",
-        Priority::UserVisible => b"user_visible",
-        Priority::UserBlocking => b"user_blocking",
-    }
-}
-
-fn behaviour_bytes(behaviour: Behaviour) -> &'static [u8]
-    ensures word { result.now ≡ behaviour_word behaviour }
-    ensures short { length result.now ≤ 20 }
-{
-    match behaviour {
-        Behaviour::ContinueOnShutdown => b"continue",
-        Behaviour::SkipOnShutdown => b"skip",
-        Behaviour::BlockShutdown => b"block",
-    }
-}
-
-fn scope_bytes(scope: Scope) -> &'static [u8]
-    ensures word { result.now ≡ scope_word scope }
-    ensures short { length result.now ≤ 20 }
-{
-    match scope {
-        Scope::May => b"may",
-        Scope::Will => b"will",
-    }
-}
-
-fn policy_bytes(policy: Policy) -> &'static [u8]
-    ensures word { result.now ≡ policy_word policy }
-    ensures short { length result.now ≤ 20 }
-{
-    match policy {
-        Policy::All => b"all",
-        Policy::Foreground => b"foreground",
-        Policy::Nothing => b"none",
-    }
-}
-
-fn fence_bytes(at: FenceAt) -> &'static [u8]
-    ensures word { result.now ≡ fence_word at }
-    ensures short { length result.now ≤ 20 }
-{
-    match at {
-        FenceAt::Now => b"now",
-        FenceAt::Start => b"start",
-    }
-}
-
-fn vote_bytes(on: bool) -> &'static [u8]
-    ensures word { result.now ≡ vote_word on }
-    ensures short { length result.now ≤ 20 }
-{
-    if on { b"on" } else { b"off" }
 }

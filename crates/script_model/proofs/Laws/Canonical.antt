@@ -23,7 +23,8 @@ use Rattle.script_model.proofs.Laws.Words.{number_is, id_is, time_is, plain_id, 
 use Rattle.script_model.proofs.Laws.Words.{policy_is, policy_plain, fence_is, fence_plain, vote_is, vote_plain}
 use Rattle.script_model.proofs.Laws.Postings.{posted_parts, posted_in_parts, posted_at, not_posted}
 use Rattle.script_model.proofs.Laws.Lines.{IsLineRead, are_read-append, text_is_read, numbered_are_read, mapped_are_read, draft_at, all_at}
-use Rattle.script_model.proofs.Laws.Lines.{sum_at, get_at, good_post, config_read, runner_read, queue_read, task_read, job_read}
+use Rattle.script_model.proofs.Laws.Lines.{sum_at, get_at, config_read, runner_read, queue_read}
+use Rattle.script_model.proofs.Laws.TaskLines.{good_post, task_read, job_read}
 
 -- a draft with all declarations of a script, and some of its actions
 abbrev pub acted_at : Plan → List Action → Draft

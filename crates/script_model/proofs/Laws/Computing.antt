@@ -1,5 +1,5 @@
 -- Steps that compute name nothing, post nothing and open no scope.
--- Cited by `Laws/Lines`, `task_script`.
+-- Cited by `Laws/TaskLines`, `task_script`.
 use Rattle.std.proofs.Common.{◌≡◌, ℕ, true, false, List, [], ◌∷◌, refl}
 use Rattle.std.specs.Prelude.{flat_map}
 use Rattle.std.specs.List.{list_any, list_all}

@@ -1,8 +1,8 @@
--- What a configuration line or a declaration adds to a sound script keeps it sound.
+-- What a declaration adds to a sound script keeps it sound.
 -- Cited by `Laws/Sound`.
-use Rattle.std.proofs.Common.{◌≡◌, ℕ, ◌+◌, ◌<◌, ◌≤◌, Bool, true, false, eqb, List, [], ◌∷◌, ◌++◌, length}
-use Rattle.std.proofs.Common.{drop, refl, sym, subst, ◌∙◌, inl, inr, Option, Some, Ok, arith}
-use Rattle.std.specs.Prelude.{sum_by, not, ◌&&◌, ◌==◌, nat_lt, slice_get, is_some, flat_map}
+use Rattle.std.proofs.Common.{◌≡◌, ℕ, ◌+◌, ◌<◌, ◌≤◌, Bool, true, false, List, [], ◌∷◌, ◌++◌, length}
+use Rattle.std.proofs.Common.{drop, refl, sym, subst, inl, inr, Ok, arith}
+use Rattle.std.specs.Prelude.{sum_by, not, ◌&&◌, ◌==◌, nat_lt, flat_map}
 use Rattle.std.specs.List.{list_any, list_all, AllByRecursion}
 use Rattle.std.proofs.lemmas.List.Sums.{sum_by_push}
 use Rattle.std.proofs.lemmas.List.{length-append}
@@ -16,184 +16,23 @@ use Rattle.task_base.specs.declared.script.Runner.{Runner}
 use Rattle.task_base.specs.declared.script.RunnerKind.{RunnerKind}
 use Rattle.task_base.specs.declared.script.RunnerKind.TheVariants.{Parallel, Sequenced, Single}
 use Rattle.task_base.specs.declared.script.MainQueue.{MainQueue}
-use Rattle.script_model.specs.Reasons.{◌&◌, out_of_range, out_of_order, undeclared, posted_twice, declaration_late, bad_block, job_use, config_twice, too_many}
-use Rattle.script_model.specs.Places.{said_at, ends_at, number_at, id_at, time_at, priority_named, behaviour_named, kind_named, may_block_at, steps_read}
+use Rattle.script_model.specs.Reasons.{◌&◌, out_of_order, undeclared, posted_twice, declaration_late, bad_block, job_use, too_many}
+use Rattle.task_base.specs.Words.{priority_named, behaviour_named}
+use Rattle.script_model.specs.Places.{said_at, name_at, ends_at, number_at, id_at, kind_named, may_block_at, steps_read}
 use Rattle.script_model.specs.Bound.{events_of_task, events_of_job, events_bound_of}
 use Rattle.script_model.specs.Postings.{posts_of_step, postings}
-use Rattle.std.proofs.Math.ListN.{get_or-append}
-use Rattle.script_model.specs.Draft.{Draft, Groups, script_of, has_no_actions, is_bare, is_above_workers, is_declared, posted_in, is_any_posted}
+use Rattle.script_model.specs.Draft.{Draft, script_of, has_no_actions, is_above_workers, is_declared, posted_in, is_any_posted}
 use Rattle.script_model.specs.Draft.{has_bad_scopes, is_bad_post, items_in, steps_in, events_in, workers_in, opens_scope, may_block_on}
-use Rattle.task_base.specs.declared.limits.TheConstants.{MOST_WORKERS, MOST_RUNNERS, MOST_QUEUES, MOST_TASKS, MOST_JOBS}
-use Rattle.task_base.specs.declared.limits.TheConstants.{MOST_ITEMS, MOST_STEPS, MOST_EVENTS, MOST_MICROSECONDS}
-use Rattle.script_model.specs.Lines.{workers_line, groups_line, threshold_line, runner_line, queue_line, task_line, job_line}
-use Rattle.script_model.specs.Laws.Sound.{IsSound, IsConfigSound, AreActionsSound, IsRunnerPost, IsQueuePost}
+use Rattle.task_base.specs.declared.limits.TheConstants.{MOST_RUNNERS, MOST_QUEUES, MOST_TASKS, MOST_JOBS}
+use Rattle.task_base.specs.declared.limits.TheConstants.{MOST_ITEMS, MOST_STEPS, MOST_EVENTS}
+use Rattle.script_model.specs.Lines.{runner_line, queue_line, task_line, job_line}
+use Rattle.script_model.specs.Laws.Sound.{IsRunnerPost, IsQueuePost}
 use Rattle.script_model.specs.Laws.Sound.{IsSeatThere, IsQueueWithin, IsStepSound, IsTaskSound, IsJobSound}
-use Rattle.list_laws.proofs.Elements.{AllByRecursion-map, slice_get-front}
 use Rattle.script_model.proofs.Laws.Postings.{posts_of_task, posted_once_with_task}
 use Rattle.script_model.proofs.Laws.Parts.{both_ok, line_ok, number_at-within, said_ok, IsSeatWithin, kind_named-within, steps_read-within, nothing}
 use Rattle.std.proofs.lemmas.Bool.{and_parts, ltb-false, ltb-true, not-false, or_parts}
 use Rattle.list_laws.proofs.Places.{AllByRecursion-push, slice_get_push}
-
-abbrev pub Keeps : Draft → Type 0
-Keeps d = IsSound (script_of d)
-
--- ---- what is not there yet
-
--- a bare draft has no runners and no actions
-bare_parts : (d : Draft) → is_bare d ≡ true → (d.runners ≡ []) × (d.actions ≡ [])
-bare_parts d e =
-    let a = and_parts (eqb (length d.runners) 0 && eqb (length d.queues) 0 && eqb (length d.tasks) 0 && eqb (length d.jobs) 0) (has_no_actions d) e in
-    let b = and_parts (eqb (length d.runners) 0 && eqb (length d.queues) 0 && eqb (length d.tasks) 0) (eqb (length d.jobs) 0) a.0 in
-    let c = and_parts (eqb (length d.runners) 0 && eqb (length d.queues) 0) (eqb (length d.tasks) 0) b.0 in
-    let f = and_parts (eqb (length d.runners) 0) (eqb (length d.queues) 0) c.0 in
-    (nothing d.runners f.0, nothing d.actions a.1)
-
--- where nothing is done, the actions are sound
-no_actions : (script : Plan) → script.actions ≡ [] → AreActionsSound script
-no_actions script none = record {
-  each_sound = rw none tt;
-  in_order = λ k action h. absurd (let e : slice_get [] k ≡ Some action = rw none at h in cc);
-}
-
-no_seats : (script : Plan) (runners : List Runner) → runners ≡ [] → AllByRecursion (λ runner. IsSeatThere script runner.kind) runners
-no_seats script runners none = rw none tt
-
--- ---- what stays
-
--- what was declared in the first script is the same in the second
-pub record Stays (s z : Plan) : Type 0 where
-  runners : (r : ℕ) → r < length s.runners → (r < length z.runners) × (may_block_on z.runners r ≡ may_block_on s.runners r)
-  queues : (q : ℕ) → q < length s.queues → q < length z.queues
-  tasks : (t : ℕ) → t < length s.tasks → (t < length z.tasks) × (opens_scope z.tasks t ≡ opens_scope s.tasks t)
-
-pub runner_post_stays : (s z : Plan) (task runner : ℕ) → Stays s z → IsRunnerPost s task runner → IsRunnerPost z task runner
-runner_post_stays s z task runner stays post =
-    let there = stays.tasks task post.task_declared in
-    let home = stays.runners runner post.runner_declared in
-    record {
-      task_declared = there.0;
-      runner_declared = home.0;
-      may_block = λ opens. home.1 ∙ post.may_block (sym there.1 ∙ opens);
-    }
-
-pub queue_post_stays : (s z : Plan) (task queue : ℕ) → Stays s z → IsQueuePost s task queue → IsQueuePost z task queue
-queue_post_stays s z task queue stays post =
-    let there = stays.tasks task post.task_declared in
-    record {
-      task_declared = there.0;
-      queue_declared = stays.queues queue post.queue_declared;
-      no_scope = there.1 ∙ post.no_scope;
-    }
-
-step_stays : (s z : Plan) (t : ℕ) → Stays s z → (step : Step) → IsStepSound s t step → IsStepSound z t step
-step_stays s z t stays (PostStep task runner delay) h = (h.0, runner_post_stays s z task runner stays h.1)
-step_stays s z t stays (MainStep task queue delay) h = (h.0, queue_post_stays s z task queue stays h.1)
-step_stays s z t stays (Add by) h = tt
-step_stays s z t stays (Mul by) h = tt
-step_stays s z t stays (Set to) h = tt
-step_stays s z t stays (Block scope) h = tt
-step_stays s z t stays Unblock h = tt
-
-pub task_stays : (s z : Plan) (t : ℕ) (steps : List Step) → Stays s z → IsTaskSound s t steps → IsTaskSound z t steps
-task_stays s z t steps stays h = record {
-  steps_within = h.steps_within;
-  steps_sound = AllByRecursion-map (IsStepSound s t) (IsStepSound z t) steps (step_stays s z t stays) h.steps_sound;
-  scopes_in_turn = h.scopes_in_turn;
-}
-
--- with one more runner, queue or task, what was declared stays
-runners_stay : (d : Draft) (made : Runner) → Stays (script_of d) (script_of (record d { runners = d.runners ++ made ∷ [] }))
-runners_stay d made = record {
-  runners = λ r here. (omega (arith, here, length-append d.runners (made ∷ [])), rw (slice_get-front d.runners (made ∷ []) r here) refl);
-  queues = λ q here. here;
-  tasks = λ t here. (here, refl);
-}
-
-queues_stay : (d : Draft) (made : MainQueue) → Stays (script_of d) (script_of (record d { queues = d.queues ++ made ∷ [] }))
-queues_stay d made = record {
-  runners = λ r here. (here, refl);
-  queues = λ q here. omega (arith, here, length-append d.queues (made ∷ []));
-  tasks = λ t here. (here, refl);
-}
-
-tasks_stay : (d : Draft) (made : List Step) → Stays (script_of d) (script_of (record d { tasks = d.tasks ++ made ∷ [] }))
-tasks_stay d made = record {
-  runners = λ r here. (here, refl);
-  queues = λ q here. here;
-  tasks = λ t here. (omega (arith, here, length-append d.tasks (made ∷ [])), rw (get_or-append d.tasks (made ∷ []) [] t here) refl);
-}
-
--- a script with the same declarations
-pub same_stays : (s z : Plan) → s.runners ≡ z.runners → s.queues ≡ z.queues → s.tasks ≡ z.tasks → Stays s z
-same_stays s z runners queues tasks = record {
-  runners = λ r here. (rw (← runners) here, rw (← runners) refl);
-  queues = λ q here. rw (← queues) here;
-  tasks = λ t here. (rw (← tasks) here, rw (← tasks) refl);
-}
-
--- ---- configuration
-
--- where nothing was declared and nothing is done, only the configuration can be unsound
-with_config : (d : Draft) (workers : Option ℕ) (groups : Option Groups) (threshold : Option ℕ) → is_bare d ≡ true
-    → IsConfigSound (script_of (record d { workers = workers; groups = groups; threshold = threshold })) → Keeps d
-    → Keeps (record d { workers = workers; groups = groups; threshold = threshold })
-unfolding postings
-with_config d workers groups threshold bare config sound =
-    let script = script_of (record d { workers = workers; groups = groups; threshold = threshold }) in
-    let none = bare_parts d bare in
-    let stay = same_stays (script_of d) script refl refl refl in
-    record {
-      config = config;
-      limits = assumption;
-      declarations = record {
-        seats_there = no_seats script d.runners none.0;
-        queues_within = sound.declarations.queues_within;
-        tasks_sound = λ t steps h. task_stays (script_of d) script t steps stay (sound.declarations.tasks_sound t steps h);
-        jobs_sound = sound.declarations.jobs_sound;
-      };
-      actions = no_actions script none.1;
-      once = assumption;
-    }
-
--- `workers N`
-pub keeps_workers : (d d' : Draft) (words : List (List ℕ)) → Keeps d → workers_line d words ≡ Ok d' → Keeps d'
-unfolding workers_line
-keeps_workers d d' words sound e =
-    let g = line_ok (number_at 1 MOST_WORKERS words 0 & ends_at words 1) (λ p. (not (is_bare d), declaration_late) ∷ (is_some d.workers, config_twice) ∷ [])
-    (λ p. record d { workers = Some p.0 }) d' e in
-    let n = number_at-within 1 MOST_WORKERS words 0 g.0.0 (both_ok (number_at 1 MOST_WORKERS words 0) (ends_at words 1) g.0.0 g.0.1 g.1).0 in
-    subst Keeps g.3 (with_config d (Some g.0.0) d.groups d.threshold (not-false (is_bare d) g.2.0) (assumption) sound)
-
--- `groups F FB B`
-pub keeps_groups : (d d' : Draft) (words : List (List ℕ)) → Keeps d → groups_line d words ≡ Ok d' → Keeps d'
-unfolding groups_line
-keeps_groups d d' words sound e =
-    let f_at = number_at 1 64 words 0 in
-    let fb_at = number_at 1 64 words 1 in
-    let b_at = number_at 0 64 words 2 in
-    let g = line_ok (f_at & fb_at & b_at & ends_at words 3) (λ p. (nat_lt p.0 p.1.0, out_of_range) ∷ (not (is_bare d), declaration_late) ∷
-    (is_some d.groups, config_twice) ∷ []) (λ p. record d { groups = Some (record { foreground = p.0; foreground_best = p.1.0; background = p.1.1.0 }) })
-    d' e in
-    let b0 = both_ok f_at (fb_at & b_at & ends_at words 3) g.0.0 g.0.1 g.1 in
-    let b1 = both_ok fb_at (b_at & ends_at words 3) g.0.1.0 g.0.1.1 b0.1 in
-    let b2 = both_ok b_at (ends_at words 3) g.0.1.1.0 g.0.1.1.1 b1.1 in
-    let f = number_at-within 1 64 words 0 g.0.0 b0.0 in
-    let fb = number_at-within 1 64 words 1 g.0.1.0 b1.0 in
-    let b = number_at-within 0 64 words 2 g.0.1.1.0 b2.0 in
-    let within = ltb-false g.0.0 g.0.1.0 g.2.0 in
-    let groups : Groups = record { foreground = g.0.0; foreground_best = g.0.1.0; background = g.0.1.1.0 } in
-    subst Keeps g.3 (with_config d d.workers (Some groups) d.threshold (not-false (is_bare d) g.2.1.0) (assumption) sound)
-
--- `threshold U`
-pub keeps_threshold : (d d' : Draft) (words : List (List ℕ)) → Keeps d → threshold_line d words ≡ Ok d' → Keeps d'
-unfolding threshold_line
-keeps_threshold d d' words sound e =
-    let g = line_ok (time_at words 0 & ends_at words 1) (λ p. (not (is_bare d), declaration_late) ∷ (is_some d.threshold, config_twice) ∷ [])
-    (λ p. record d { threshold = Some p.0 }) d' e in
-    let u = number_at-within 0 MOST_MICROSECONDS words 0 g.0.0 (both_ok (time_at words 0) (ends_at words 1) g.0.0 g.0.1 g.1).0 in
-    subst Keeps g.3 (with_config d d.workers d.groups (Some g.0.0) (not-false (is_bare d) g.2.0) (assumption) sound)
-
--- ---- runners and queues
+use Rattle.script_model.proofs.Laws.Configuration.{Keeps, no_actions, task_stays, runners_stay, queues_stay, tasks_stay, same_stays}
 
 with_runner : (d : Draft) (made : Runner) → IsSeatThere (script_of d) made.kind → d.actions ≡ [] → length d.runners + 1 ≤ MOST_RUNNERS → Keeps d
     → Keeps (record d { runners = d.runners ++ made ∷ [] })
@@ -227,7 +66,7 @@ runner_made kind priority behaviour may_block = record { kind = kind; traits = r
 pub keeps_runner : (d d' : Draft) (words : List (List ℕ)) → Keeps d → runner_line d words ≡ Ok d' → Keeps d'
 unfolding runner_line
 keeps_runner d d' words sound e =
-    let rest2 = said_at priority_named words 2 & said_at behaviour_named words 3 & may_block_at words 4 & ends_at words 5 in
+    let rest2 = name_at priority_named words 2 & name_at behaviour_named words 3 & may_block_at words 4 & ends_at words 5 in
     let rest1 = said_at kind_named words 1 & rest2 in
     let g = line_ok (id_at words 0 & rest1)
     (λ p. (not (p.0 == length d.runners), out_of_order) ∷ (is_above_workers d p.1.0, undeclared) ∷ (not (has_no_actions d), declaration_late) ∷
@@ -418,8 +257,8 @@ unfolding job_line
 keeps_job d d' words sound e =
     let rest4 = number_at 1 64 words 4 & steps_read (drop 5 words) in
     let rest3 = number_at 0 65536 words 3 & rest4 in
-    let rest2 = said_at behaviour_named words 2 & rest3 in
-    let rest1 = said_at priority_named words 1 & rest2 in
+    let rest2 = name_at behaviour_named words 2 & rest3 in
+    let rest1 = name_at priority_named words 1 & rest2 in
     let g = line_ok (id_at words 0 & rest1)
     (λ p.
     let steps = p.1.1.1.1.1 in
@@ -431,8 +270,8 @@ keeps_job d d' words sound e =
     (nat_lt MOST_EVENTS (events_in d + events_of_job (job_made p.1.0 p.1.1.0 p.1.1.1.0 p.1.1.1.1.0 steps)), too_many) ∷ [])
     (λ p. record d { jobs = d.jobs ++ job_made p.1.0 p.1.1.0 p.1.1.1.0 p.1.1.1.1.0 p.1.1.1.1.1 ∷ [] }) d' e in
     let b0 = both_ok (id_at words 0) rest1 g.0.0 g.0.1 g.1 in
-    let b1 = both_ok (said_at priority_named words 1) rest2 g.0.1.0 g.0.1.1 b0.1 in
-    let b2 = both_ok (said_at behaviour_named words 2) rest3 g.0.1.1.0 g.0.1.1.1 b1.1 in
+    let b1 = both_ok (name_at priority_named words 1) rest2 g.0.1.0 g.0.1.1 b0.1 in
+    let b2 = both_ok (name_at behaviour_named words 2) rest3 g.0.1.1.0 g.0.1.1.1 b1.1 in
     let b3 = both_ok (number_at 0 65536 words 3) rest4 g.0.1.1.1.0 g.0.1.1.1.1 b2.1 in
     let b4 = both_ok (number_at 1 64 words 4) (steps_read (drop 5 words)) g.0.1.1.1.1.0 g.0.1.1.1.1.1 b3.1 in
     let items = number_at-within 0 65536 words 3 g.0.1.1.1.0 b3.0 in

@@ -1,9 +1,10 @@
 -- What a line that is read says of its places, and which refusals it passed.
--- Cited by `Laws/Canonical`, `Laws/Declarations`, `Laws/Lines`, `Laws/Sound`, `Laws/Words`, `nested_loop`.
+-- Cited by `Laws/Canonical`, `Laws/Configuration`, `Laws/Declarations`, `Laws/Lines`, `Laws/Sound`, `Laws/Words`, `nested_loop`.
 use Rattle.std.proofs.Common.{◌≡◌, ℕ, ◌≤◌, Bool, true, false, cond, eqb, ltb, leb, List, [], ◌∷◌, length}
 use Rattle.std.proofs.Common.{drop, map, refl, ap, subst, Option, Some, None, Result, Ok, Err, arith}
 use Rattle.std.specs.Prelude.{◌-◌, ◌^◌, take, ◌&&◌, codes, slice_get}
 use Rattle.std.specs.List.{AllByRecursion, slice_split}
+use Rattle.std.specs.Str.{bytes_eq}
 use Rattle.std.proofs.lemmas.Bool.Decides.{nat_tests}
 use Rattle.std.proofs.lemmas.Bool.{eqb-true}
 use Rattle.task_base.specs.declared.limits.TheConstants.{MOST_WORKERS, MOST_MICROSECONDS}
@@ -14,7 +15,8 @@ use Rattle.task_base.specs.declared.script.RunnerKind.{RunnerKind}
 use Rattle.task_base.specs.declared.script.RunnerKind.TheVariants.{Parallel, Sequenced, Single}
 use Rattle.script_model.specs.Words.{is_word, number_of}
 use Rattle.script_model.specs.Reasons.{◌>>=◌, ◌>>◌, ◌&◌, refuse, unknown_word, word_count, out_of_range}
-use Rattle.script_model.specs.Places.{said_at, ends_at, named, in_range, number_from, number_at, id_at, time_at, kind_named, scope_named}
+use Rattle.task_base.specs.Words.{scope_named}
+use Rattle.script_model.specs.Places.{known, single_named, many_named, said_at, name_at, ends_at, in_range, number_from, number_at, id_at, time_at, kind_named}
 use Rattle.script_model.specs.Places.{compute_read, post_read, block_read, step_said, step_read, all_read, steps_read}
 use Rattle.script_model.specs.Laws.Sound.{IsStepWithin}
 
@@ -97,13 +99,6 @@ pub either_way : {A : Type 0} (P : A → Type 0) (b : Bool) (r s : Result A ℕ)
 either_way P true r s f g x e = f x e
 either_way P false r s f g x e = g x e
 
--- what a table of words gives
-named_all : {A : Type 0} (P : A → Type 0) (table : List (List ℕ × A)) (word : List ℕ) → AllByRecursion (λ entry. P entry.1) table → (x : A)
-    → named table word ≡ Ok x → P x
-named_all P [] word all x e = absurd cc
-named_all P (entry ∷ table) word all x e = either_way P (is_word word entry.0) (Ok entry.1) (named table word)
-    (λ y h. subst P (ok_same {E = ℕ} entry.1 y h) all.0) (named_all P table word all.1) x e
-
 -- a seat that a kind names is from 1 to the most workers
 abbrev pub IsSeatWithin : RunnerKind → Type 0
 IsSeatWithin (Single seat) = (1 ≤ seat) × (seat ≤ MOST_WORKERS)
@@ -112,12 +107,15 @@ IsSeatWithin Sequenced = Unit {0}
 
 pub kind_named-within : (word : List ℕ) (kind : RunnerKind) → kind_named word ≡ Ok kind → IsSeatWithin kind
 unfolding kind_named
-kind_named-within word kind e = either_way IsSeatWithin (is_word (take 7 word) (codes "single:"))
-    (number_from 1 MOST_WORKERS (drop 7 word) >>= λ seat. Ok (Single seat))
-    (named ((codes "parallel", Parallel) ∷ (codes "sequenced", Sequenced) ∷ []) word)
+kind_named-within word kind e = either_way IsSeatWithin (is_word (take 7 word) (codes "single:")) (single_named (drop 7 word)) (known (many_named word))
     (λ x h. let seat = bind_ok (number_from 1 MOST_WORKERS (drop 7 word)) (λ seat. Ok (Single seat)) x h in
     subst IsSeatWithin (ok_same {E = ℕ} (Single seat.0) x seat.2) (number_from-within 1 64 (drop 7 word) seat.0 seat.1))
-    (named_all IsSeatWithin ((codes "parallel", Parallel) ∷ (codes "sequenced", Sequenced) ∷ []) word (tt, (tt, tt))) kind e
+    (by_word (bytes_eq word (codes "parallel")) (bytes_eq word (codes "sequenced"))) kind e
+  where
+    by_word : (a b : Bool) (x : RunnerKind) → known (cond a (Some Parallel) (cond b (Some Sequenced) None)) ≡ Ok x → IsSeatWithin x
+    by_word true b x h = subst IsSeatWithin (ok_same {E = ℕ} Parallel x h) tt
+    by_word false true x h = subst IsSeatWithin (ok_same {E = ℕ} Sequenced x h) tt
+    by_word false false x h = absurd cc
 
 compute_within : (made : ℕ → Step) → ((k : ℕ) → k ≤ 2 ^ 64 - 1 → IsStepWithin (made k)) → (words : List (List ℕ)) (step : Step)
     → compute_read made words ≡ Ok step → IsStepWithin step
@@ -138,7 +136,7 @@ post_within made f words step e =
 
 block_within : (words : List (List ℕ)) (step : Step) → block_read words ≡ Ok step → IsStepWithin step
 block_within words step e =
-    let p = bind_ok (said_at scope_named words 0 & ends_at words 1) (λ p. Ok (Block p.0)) step e in
+    let p = bind_ok (name_at scope_named words 0 & ends_at words 1) (λ p. Ok (Block p.0)) step e in
     subst IsStepWithin (ok_same {E = ℕ} (Block p.0.0) step p.2) tt
 
 unblock_within : (words : List (List ℕ)) (step : Step) → (ends_at words 0 >> Ok Unblock) ≡ Ok step → IsStepWithin step

@@ -1,5 +1,5 @@
 -- How often the parts of a script post a task, and that a task that was not posted is posted once with one more.
--- Cited by `Laws/Canonical`, `Laws/Declarations`, `Laws/Lines`, `Laws/Sound`, `nested_loop`, `task_reply`, `task_script`.
+-- Cited by `Laws/Canonical`, `Laws/Declarations`, `Laws/Sound`, `Laws/TaskLines`, `nested_loop`, `task_reply`, `task_script`.
 use Rattle.std.proofs.Common.{◌≡◌, ℕ, ◌+◌, ◌≤◌, false, eqb, List, [], ◌∷◌, ◌++◌, subst, sym, ap, ◌∙◌, refl, inl, inr, arith}
 use Rattle.std.specs.Prelude.{flat_map}
 use Rattle.std.specs.List.{list_any}

@@ -19,7 +19,8 @@ use Rattle.list_laws.specs.Lists.{count}
 use Rattle.script_model.specs.Words.{words_of, is_word, begins_comment, is_all_ascii, lines_of}
 use Rattle.script_model.specs.Reasons.{◌>>=◌, ◌>>◌, ◌&◌, refuse, not_ascii, unknown_word, undeclared, posted_twice}
 use Rattle.script_model.specs.Reasons.{bad_block, job_use, shutdown_twice, too_many, word_count}
-use Rattle.script_model.specs.Places.{said_at, ends_at, number_at, id_at, time_at, priority_named, policy_named, fence_named, vote_named}
+use Rattle.task_base.specs.Words.{priority_named, policy_named, fence_named, vote_named}
+use Rattle.script_model.specs.Places.{name_at, ends_at, number_at, id_at, time_at}
 use Rattle.script_model.specs.Bound.{events_of_action}
 use Rattle.script_model.specs.Postings.{posts_of_step, posts_of_action, postings}
 use Rattle.std.proofs.lemmas.Option.{slice_get_within}
@@ -36,8 +37,9 @@ use Rattle.script_model.proofs.Laws.Faults.{ok_same, first_ok}
 use Rattle.list_laws.proofs.Elements.{AllByRecursion-map}
 use Rattle.script_model.proofs.Laws.Parts.{either_way, none_such, both_ok, refuse_ok, Passed, line_ok, number_at-within, behind}
 use Rattle.script_model.proofs.Laws.Postings.{posted_once_with_action}
-use Rattle.script_model.proofs.Laws.Declarations.{Keeps, runner_post_stays, queue_post_stays, task_stays, same_stays, keeps_workers, keeps_groups}
-use Rattle.script_model.proofs.Laws.Declarations.{keeps_threshold, keeps_runner, keeps_queue, declared_runner_post, declared_queue_post, keeps_task, keeps_job}
+use Rattle.script_model.proofs.Laws.Configuration.{Keeps, runner_post_stays, queue_post_stays, task_stays, same_stays, keeps_workers, keeps_groups}
+use Rattle.script_model.proofs.Laws.Configuration.{keeps_threshold}
+use Rattle.script_model.proofs.Laws.Declarations.{keeps_runner, keeps_queue, declared_runner_post, declared_queue_post, keeps_task, keeps_job}
 use Rattle.list_laws.proofs.Places.{AllByRecursion-push, count_once-push, slice_get_push}
 
 start_fresh : (earlier : List Action) (action : Action) (j : ℕ) → IsInOrder earlier action → is_start_of j action ≡ true
@@ -182,13 +184,13 @@ keeps_tick d d' words sound e = keeps_acted d d' (number_at 1 65536 words 0 & en
 -- `policy all`, `policy foreground`, `policy none`
 keeps_policy : (d d' : Draft) (words : List (List ℕ)) → Keeps d → policy_line d words ≡ Ok d' → Keeps d'
 unfolding policy_line
-keeps_policy d d' words sound e = keeps_acted d d' (said_at policy_named words 0 & ends_at words 1) (λ p. []) (λ p. Policy p.0) sound e
+keeps_policy d d' words sound e = keeps_acted d d' (name_at policy_named words 0 & ends_at words 1) (λ p. []) (λ p. Policy p.0) sound e
     (λ p is passed. (tt, tt, refl))
 
 -- `reprio R PRIORITY`
 keeps_reprio : (d d' : Draft) (words : List (List ℕ)) → Keeps d → reprio_line d words ≡ Ok d' → Keeps d'
 unfolding reprio_line
-keeps_reprio d d' words sound e = keeps_acted d d' (id_at words 0 & said_at priority_named words 1 & ends_at words 2)
+keeps_reprio d d' words sound e = keeps_acted d d' (id_at words 0 & name_at priority_named words 1 & ends_at words 2)
     (λ p. (not (has_runner d p.0), undeclared) ∷ []) (λ p. Reprio p.0 p.1.0) sound e
     (λ p is passed. (ltb-true p.0 (length d.runners) (not-false (has_runner d p.0) passed.0), tt, refl))
 
@@ -202,7 +204,7 @@ queue_there d queue passed = ltb-true queue (length d.queues) (not-false (has_qu
 -- `fence Q now`, `fence Q start`
 keeps_fence : (d d' : Draft) (words : List (List ℕ)) → Keeps d → fence_line d words ≡ Ok d' → Keeps d'
 unfolding fence_line
-keeps_fence d d' words sound e = keeps_acted d d' (id_at words 0 & said_at fence_named words 1 & ends_at words 2) (λ p. queue_test d p.0)
+keeps_fence d d' words sound e = keeps_acted d d' (id_at words 0 & name_at fence_named words 1 & ends_at words 2) (λ p. queue_test d p.0)
     (λ p. Fence p.0 p.1.0) sound e (λ p is passed. (queue_there d p.0 passed, tt, refl))
 
 -- `unfence Q`
@@ -223,11 +225,11 @@ voter_queue d queue voter e = by_queue (slice_get d.queues queue) refl e
 -- `vote Q V on`, `vote Q V off`
 keeps_vote : (d d' : Draft) (words : List (List ℕ)) → Keeps d → vote_line d words ≡ Ok d' → Keeps d'
 unfolding vote_line
-keeps_vote d d' words sound e = keeps_acted d d' (id_at words 0 & number_at 0 255 words 1 & said_at vote_named words 2 & ends_at words 3)
+keeps_vote d d' words sound e = keeps_acted d d' (id_at words 0 & number_at 0 255 words 1 & name_at vote_named words 2 & ends_at words 3)
     (λ p. (not (has_voter d p.0 p.1.0), undeclared) ∷ []) (λ p. Vote p.0 p.1.0 p.1.1.0) sound e
     (λ p is passed.
-    let b0 = both_ok (id_at words 0) (number_at 0 255 words 1 & said_at vote_named words 2 & ends_at words 3) p.0 p.1 is in
-    let b1 = both_ok (number_at 0 255 words 1) (said_at vote_named words 2 & ends_at words 3) p.1.0 p.1.1 b0.1 in
+    let b0 = both_ok (id_at words 0) (number_at 0 255 words 1 & name_at vote_named words 2 & ends_at words 3) p.0 p.1 is in
+    let b1 = both_ok (number_at 0 255 words 1) (name_at vote_named words 2 & ends_at words 3) p.1.0 p.1.1 b0.1 in
     let voter = not-false (has_voter d p.0 p.1.0) passed.0 in
     ((voter_queue d p.0 p.1.0 voter, (number_at-within 0 255 words 1 p.1.0 b1.0).1, voter), tt, refl))
 

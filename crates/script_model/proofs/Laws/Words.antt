@@ -1,6 +1,6 @@
 -- The words that the canonical text has at the places of lines are read as what they are made from.
--- Cited by `Laws/Canonical`, `Laws/Lines`.
-use Rattle.std.proofs.Common.{◌≡◌, ℕ, ◌≤◌, Bool, true, false, List, [], ◌∷◌, ◌++◌, length, drop, map, refl, ap, ◌∙◌, Ok, arith}
+-- Cited by `Laws/Canonical`, `Laws/Lines`, `Laws/TaskLines`.
+use Rattle.std.proofs.Common.{◌≡◌, ℕ, ◌≤◌, Bool, true, false, List, [], ◌∷◌, ◌++◌, length, drop, map, refl, ap, ◌∙◌, Some, Ok, arith}
 use Rattle.std.specs.Prelude.{◌-◌, ◌^◌, not, flat_map, decimal, codes, All}
 use Rattle.std.specs.List.{list_all, slice_split, AllByRecursion}
 use Rattle.std.proofs.lemmas.Bool.{lt-ltb, not-true}
@@ -23,11 +23,11 @@ use Rattle.task_base.specs.declared.script.RunnerKind.TheVariants.{Parallel, Seq
 use Rattle.task_base.specs.declared.script.FenceAt.{FenceAt}
 use Rattle.task_base.specs.declared.script.FenceAt.TheVariants.{Now, Start}
 use Rattle.task_base.specs.declared.limits.TheConstants.{MOST_WORKERS, MOST_MICROSECONDS}
+use Rattle.task_base.specs.Words.{priority_word, behaviour_word, policy_word, fence_word, scope_word, vote_word, kind_word}
+use Rattle.task_base.specs.Words.{priority_named, behaviour_named, policy_named, fence_named, scope_named, vote_named}
 use Rattle.script_model.specs.Words.{is_word}
-use Rattle.script_model.specs.Places.{number_from, priority_named, behaviour_named, policy_named, fence_named, vote_named}
-use Rattle.script_model.specs.Places.{scope_named, kind_named, step_said, step_read, all_read, steps_read}
-use Rattle.log_model.specs.LogText.{priority_word, policy_word, scope_word, fence_word, vote_word}
-use Rattle.script_model.specs.Canonical.{behaviour_word, kind_word, step_words, steps_words, may_block_words}
+use Rattle.script_model.specs.Places.{number_from, kind_named, step_said, step_read, all_read, steps_read}
+use Rattle.script_model.specs.Canonical.{step_words, steps_words, may_block_words}
 use Rattle.script_model.proofs.Laws.Parts.{IsSeatWithin}
 use Rattle.script_model.proofs.Laws.Texts.{none_passes, is_plain_word, is_visible, number_from-decimal, decimal_plain, decimal_visible, decimal_no_mark}
 
@@ -53,7 +53,7 @@ plain_time n small = decimal_plain n (omega (arith, small))
 
 -- ---- names
 
-pub priority_is : (p : Priority) → priority_named (priority_word p) ≡ Ok p
+pub priority_is : (p : Priority) → priority_named (priority_word p) ≡ Some p
 priority_is BestEffort = refl
 priority_is UserVisible = refl
 priority_is UserBlocking = refl
@@ -63,7 +63,7 @@ priority_plain BestEffort = refl
 priority_plain UserVisible = refl
 priority_plain UserBlocking = refl
 
-pub behaviour_is : (b : Behaviour) → behaviour_named (behaviour_word b) ≡ Ok b
+pub behaviour_is : (b : Behaviour) → behaviour_named (behaviour_word b) ≡ Some b
 behaviour_is ContinueOnShutdown = refl
 behaviour_is SkipOnShutdown = refl
 behaviour_is BlockShutdown = refl
@@ -73,7 +73,7 @@ behaviour_plain ContinueOnShutdown = refl
 behaviour_plain SkipOnShutdown = refl
 behaviour_plain BlockShutdown = refl
 
-pub policy_is : (p : Policy) → policy_named (policy_word p) ≡ Ok p
+pub policy_is : (p : Policy) → policy_named (policy_word p) ≡ Some p
 policy_is AllTasks = refl
 policy_is Foreground = refl
 policy_is Nothing = refl
@@ -83,7 +83,7 @@ policy_plain AllTasks = refl
 policy_plain Foreground = refl
 policy_plain Nothing = refl
 
-pub fence_is : (f : FenceAt) → fence_named (fence_word f) ≡ Ok f
+pub fence_is : (f : FenceAt) → fence_named (fence_word f) ≡ Some f
 fence_is Now = refl
 fence_is Start = refl
 
@@ -91,7 +91,7 @@ pub fence_plain : (f : FenceAt) → is_plain_word (fence_word f) ≡ true
 fence_plain Now = refl
 fence_plain Start = refl
 
-pub vote_is : (on : Bool) → vote_named (vote_word on) ≡ Ok on
+pub vote_is : (on : Bool) → vote_named (vote_word on) ≡ Some on
 vote_is true = refl
 vote_is false = refl
 
@@ -99,7 +99,7 @@ pub vote_plain : (on : Bool) → is_plain_word (vote_word on) ≡ true
 vote_plain true = refl
 vote_plain false = refl
 
-scope_is : (s : Scope) → scope_named (scope_word s) ≡ Ok s
+scope_is : (s : Scope) → scope_named (scope_word s) ≡ Some s
 scope_is May = refl
 scope_is Will = refl
 

@@ -8,4 +8,4 @@ returns-in-Some c = rw c.in-Some.ensures.cases.0 (c.single_named.ensures ∙ rw 
 
 pub returns-in-None : goal.returns-in-None
 unfolding kind_named
-returns-in-None c = rw c.in-None.ensures.cases c.many_named.ensures
+returns-in-None c = rw c.in-None.ensures.cases (c.ok_or.ensures.value ∙ rw c.many_named.ensures refl)

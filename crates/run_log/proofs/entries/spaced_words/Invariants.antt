@@ -1,5 +1,5 @@
 use Rattle.std.proofs.Common.{◌≡◌}
-use Rattle.run_log.proofs.entries.words_of.Given as goal
+use Rattle.run_log.proofs.entries.spaced_words.Given as goal
 
 abbrev pub invariant-loop-word : goal.invariant-loop-word
 invariant-loop-word l = l.words.items ≡ l.yielded

@@ -4,7 +4,7 @@ use Rattle.std.proofs.lemmas.Iterator.Consumers.{YieldsList-at}
 use Rattle.std.proofs.lemmas.Iterator.Splits.{YieldsList-from_slice_split}
 use Rattle.run_log.specs.Words.{texts, spaced_words}
 use Rattle.run_log.proofs.Turns.{turn_of, end_of}
-use Rattle.run_log.proofs.entries.words_of.Goals as goal
+use Rattle.run_log.proofs.entries.spaced_words.Goals as goal
 
 pub returns-then-is_full : goal.returns-then-is_full
 returns-then-is_full c =
