@@ -1,5 +1,5 @@
 -- The lines of an input before the one that parts it.
--- Cited by `parts_of`, `env_app`.
+-- Cited by `parts_of`, `app_modes`.
 use Rattle.std.proofs.Common.{◌≡◌, ◌<◌, ◌≤◌, ◌+◌, ℕ, true, false, cond, List, [], ◌∷◌, ◌++◌, length, take}
 use Rattle.std.proofs.Common.{drop, get_or, refl, sym, ap, ◌∙◌, arith, append_assoc, append-nil}
 use Rattle.std.specs.List.{concat}

@@ -27,7 +27,7 @@ use Rattle.task_body.specs.declared.act.Act.{Act}
 use Rattle.task_body.specs.declared.act.Act.TheVariants as acts
 use Rattle.env_core.specs.Calls.{CanEnd, CanEndMain}
 use Rattle.env_core.specs.Views.{EnvView, Enters}
-use Rattle.env_core.proofs.Plans.{pool_runs}
+use Rattle.env_core.proofs.Plans.{runs_as}
 use Rattle.seat_hand.specs.Hands.{IsAtTask, IsDue}
 use Rattle.seat_hand.proofs.Hands.{holds_now, runs_now}
 use Rattle.seat_hand.proofs.UnderWay.{all_entered, driver_runs_main, runs_it, worker_runs_pool}
@@ -183,7 +183,7 @@ pub driver_ends_none : (script : Plan) (past : List Entry) (seat task left : ℕ
     → may_come script past seat (kinds.End task left) ≡ false
 driver_ends_none script past seat task left legal driver = false_from_ne_true (may_come script past seat (kinds.End task left)) (λ may.
     let (w, runs, pool, same) = end_is script past seat task left may in
-    let worker : 1 ≤ seat = (pool_runs script past seat w legal runs pool).worker in absurd (omega (arith, driver, worker)))
+    let worker : 1 ≤ seat = (runs_as script past seat w false legal runs pool).can.worker refl in absurd (omega (arith, driver, worker)))
 
 -- a worker ends no main task
 pub worker_ends_no_main : (script : Plan) (past : List Entry) (seat task left : ℕ) → (seat ≡ 0 → ⊥)

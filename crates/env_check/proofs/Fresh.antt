@@ -1,5 +1,5 @@
 -- Bodies that are made task by task.
--- Cited by `bodies_of`, `env_app`.
+-- Cited by `bodies_of`, `app_modes`.
 use Rattle.std.proofs.Common.{◌≡◌, ℕ, zero, suc, ◌+◌, ◌<◌, ◌≤◌, List, [], ◌∷◌, ◌++◌, length, get_or, refl, inl, inr, Some, arith}
 use Rattle.std.specs.Prelude.{◌⊎◌, slice_get, sum_by}
 use Rattle.std.proofs.lemmas.Option.{same_Some, slice_get-get_or}

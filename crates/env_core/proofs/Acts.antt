@@ -1,7 +1,7 @@
 -- What is known of a seat whose task does its next act step, and of one whose task has done all of them: the pool may hear of it.
 -- Cited by 5 functions of `Env`.
 use Rattle.env_core.proofs.Driver.{driver_ends, task_waits}
-use Rattle.env_core.proofs.Plans.{act_is, main_runs, next_is_of, pool_runs}
+use Rattle.env_core.proofs.Plans.{act_is, next_is_of, runs_as}
 use Rattle.env_core.proofs.Queues.{accepted_right, is_scope, no_scope_steps}
 use Rattle.env_core.proofs.Scopes.{closed_at_block, closed_at_end, open_at_unblock}
 use Rattle.env_core.proofs.Wanted.{act_allowed, main_end_allowed}
@@ -149,9 +149,9 @@ module _ {X : Type 0} {bodies : List (Option X)} {whole rest : X → List Step} 
   at_scope {seat = seat} does scope = by_main does.now.is_main refl
     where
       by_main : (main : Bool) → does.now.is_main ≡ main → IsAtScope seat does.now
-      by_main false is = record { is_pool = is; worker = (pool_runs view.script view.history seat does.now holds.legal does.runs is).worker }
+      by_main false is = record { is_pool = is; worker = (runs_as view.script view.history seat does.now false holds.legal does.runs is).can.worker refl }
       by_main true is =
-          let runs = main_runs view.script view.history seat does.now holds.legal does.runs is in
+          let runs = (runs_as view.script view.history seat does.now true holds.legal does.runs is).can in
           let right = accepted_right view.script view.history runs.accepted holds.plan holds.main.past_fits runs.posted in
           let none = subst (λ t. AllByRecursion (λ s. is_scope s ≡ false) (steps_of view.script t)) runs.task_is
           (no_scope_steps view.script runs.accepted.task runs.accepted.home holds.plan right) in
@@ -204,17 +204,17 @@ module _ {X : Type 0} {bodies : List (Option X)} {whole rest : X → List Step} 
   -- a worker runs it
   pub ends_at_worker : {seat : ℕ} {work : AssignmentView} → CanEnd view seat work → 1 ≤ seat
   ends_at_worker {seat = seat} can =
-      (pool_runs view.script view.history seat can.seats.now holds.legal (end_closed can).runs can.is_pool).worker
+      (runs_as view.script view.history seat can.seats.now false holds.legal (end_closed can).runs can.is_pool).can.worker refl
 
   -- the driver runs the main task of this queue
   pub runs_main : {seat : ℕ} {work : AssignmentView} (can : CanEndMain view seat work)
       → (seat ≡ 0) × (running view.history 0 ≡ Some can.seats.now) × RunsMain view.script view.history manager work.home can.seats.now
   runs_main {seat = seat} can =
       let here : running view.history seat ≡ Some can.seats.now = rw (← running_own view.history seat) can.seats.runs in
-      let runs = main_runs view.script view.history seat can.seats.now holds.legal here can.is_main in
+      let runs = (runs_as view.script view.history seat can.seats.now true holds.legal here can.is_main).can in
       let right = accepted_right view.script view.history runs.accepted holds.plan holds.main.past_fits runs.posted in
-      let driver : running view.history 0 ≡ Some can.seats.now = ap (running view.history) (sym runs.driver) ∙ here in (
-        runs.driver,
+      let driver : running view.history 0 ≡ Some can.seats.now = ap (running view.history) (sym (runs.driver refl)) ∙ here in (
+        runs.driver refl,
         driver,
         record {
           stands = holds.main;

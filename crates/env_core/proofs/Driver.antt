@@ -1,32 +1,30 @@
 -- The driver's place in its script, as the history grows.
--- Cited by 5 functions of `Ledger`, `Acts`, `Entries`, `JobCalls`, `Taking`.
+-- Cited by `Ledger::open`, `Acts`, `Entries`, `JobCalls`, `Taking`.
 use Rattle.env_core.specs.Agenda.{counted, entries_of, moved_on, passed, passed_on}
-use Rattle.env_core.specs.Ledger.{IsAt}
+use Rattle.env_core.specs.Ledger.{IsDriverAt}
 use Rattle.hist_model.specs.Allowed.{by_script}
 use Rattle.env_core.specs.declared.agenda.Agenda.{Agenda}
 use Rattle.hist_model.specs.Laws.Agenda.{agenda, agenda_from, completes, first_of, next_agenda}
 use Rattle.hist_model.specs.Laws.Agenda as laws
 use Rattle.hist_model.specs.Laws.Consistent.{is_join, is_pump}
 use Rattle.hist_model.specs.Legal.{IsLegal}
-use Rattle.hist_model.specs.Script.{Current, behind, behind_action, behind_join, behind_pump, current, is_finished, is_joined, is_main_end, is_main_none, wants}
+use Rattle.hist_model.specs.Script.{Current, behind, behind_action, behind_join, behind_pump, current, is_joined, is_main_end, is_main_none, wants}
 use Rattle.hist_model.specs.Views.{own_entries}
 use Rattle.hist_model.proofs.Laws.Agenda.{agenda_push, current_is_first}
-use Rattle.hist_model.proofs.Laws.Entries.Bound.{entries_within_limit}
 use Rattle.hist_model.proofs.Laws.LegalPast.{legal_past}
 use Rattle.hist_model.proofs.Laws.OneThing.{wanted_by, join_wants}
 use Rattle.hist_model.proofs.Laws.Own.{own_entries_push}
 use Rattle.hist_model.proofs.Laws.Takes.{by_driver}
-use Rattle.list_laws.proofs.Counts.{count_le}
 use Rattle.list_laws.proofs.Places.{count-push}
 use Rattle.list_laws.specs.Lists.{count}
 use Rattle.script_model.specs.Laws.Sound.{IsActionSound, IsSound}
 use Rattle.std.proofs.Common.{Bool, List, None, Option, Some, [], add-one, cond, drop, eqb, false, leb, length, length-append, true, zero, suc, ℕ}
-use Rattle.std.proofs.Common.{◌+◌, ◌-◌, ◌++◌, ◌<◌, ◌^◌, ◌∙◌, ◌∷◌, ◌≡◌, ◌≤◌, refl, sym, ap, subst, arith}
+use Rattle.std.proofs.Common.{◌+◌, ◌-◌, ◌++◌, ◌<◌, ◌∙◌, ◌∷◌, ◌≡◌, ◌≤◌, refl, sym, ap, subst, arith}
 use Rattle.std.proofs.lemmas.Bool.{eq-eqb, eqb-true}
 use Rattle.std.proofs.lemmas.Option.{none-some, same_Some}
 use Rattle.std.specs.List.{AllByRecursion}
-use Rattle.std.specs.Option.{option_map, option_map_or}
-use Rattle.std.specs.Prelude.{◌==◌, ◌&&◌, ◌||◌, IfSome, filter, is_none, slice_get}
+use Rattle.std.specs.Option.{option_map_or}
+use Rattle.std.specs.Prelude.{◌==◌, ◌&&◌, ◌||◌, filter, slice_get}
 use Rattle.task_base.specs.Plan.{Plan}
 use Rattle.task_base.specs.declared.entry.Entry.{Entry}
 use Rattle.task_base.specs.declared.entry.Kind.{Kind}
@@ -53,7 +51,7 @@ nothing_counts (actions.Join job ∷ xs) = refl
 nothing_counts (x ∷ xs) = refl
 
 -- at the start the driver is at the first action
-pub driver_at_start : (script : Plan) → IsSound script → IsAt script [] (record { place = 0; made = 0 })
+pub driver_at_start : (script : Plan) → IsSound script → IsDriverAt script [] (record { place = 0; made = 0 })
 unfolding agenda
 driver_at_start script plan =
     let fresh = fresh_agenda script script.actions plan.actions.each_sound in
@@ -64,8 +62,8 @@ driver_at_start script plan =
     }
 
 -- an entry of a worker
-pub driver_waits : (script : Plan) (past : List Entry) (e : Entry) (a : Agenda) → (e.seat == 0) ≡ false → IsAt script past a
-    → IsAt script (past ++ e ∷ []) a
+pub driver_waits : (script : Plan) (past : List Entry) (e : Entry) (a : Agenda) → (e.seat == 0) ≡ false → IsDriverAt script past a
+    → IsDriverAt script (past ++ e ∷ []) a
 driver_waits script past e a other at =
     let same : own_entries 0 (past ++ e ∷ []) ≡ own_entries 0 past = rw (own_entries_push past e 0, other) refl in
     record { within = at.within; actions_are = rw same at.actions_are; made_is = rw same at.made_is }
@@ -256,8 +254,8 @@ join_ends script b x rest made e join joined sound is waits counts = absurd cc
 
 -- an entry of the driver moves its place as it does that of its action
 driver_to : (script : Plan) (past : List Entry) (e : Entry) (b later : Agenda) (c : Current) → IsSound script → (e.seat == 0) ≡ true
-    → IsAt script past b → current script (own_entries 0 past) ≡ Some c
-    → ((rest : List Action) (made : List Entry) → Moves script b later c.action rest made e) → IsAt script (past ++ e ∷ []) later
+    → IsDriverAt script past b → current script (own_entries 0 past) ≡ Some c
+    → ((rest : List Action) (made : List Entry) → Moves script b later c.action rest made e) → IsDriverAt script (past ++ e ∷ []) later
 unfolding agenda
 driver_to script past e b later c plan driver at now moves =
     let own = own_entries 0 past in
@@ -299,7 +297,7 @@ moves_wanted script b own x front e w h rest made = moves_other script b x rest 
 
 -- an entry by the script that counts
 pub driver_moves : (script : Plan) (past : List Entry) (e : Entry) (a : Agenda) → IsSound script → by_script script past e.seat e.kind ≡ true
-    → is_counted e.kind ≡ true → IsAt script past a → IsAt script (past ++ e ∷ []) (moved_on script.actions a)
+    → is_counted e.kind ≡ true → IsDriverAt script past a → IsDriverAt script (past ++ e ∷ []) (moved_on script.actions a)
 driver_moves script past e a plan by counts at =
     let c = wanted_by script past e.seat e.kind by in
     driver_to script past e a (moved_on script.actions a) c.value plan (eq-eqb e.seat 0 (by_driver script past e.seat e.kind by)) at c.is
@@ -307,15 +305,15 @@ driver_moves script past e a plan by counts at =
 
 -- inside a join, an entry of the driver other than the reply leaves its place
 pub driver_joins_on : (script : Plan) (past : List Entry) (e : Entry) (a : Agenda) (c : Current) → IsSound script → e.seat ≡ 0
-    → current script (own_entries 0 past) ≡ Some c → is_join c.action ≡ true → is_joined e.kind ≡ false → IsAt script past a
-    → IsAt script (past ++ e ∷ []) a
+    → current script (own_entries 0 past) ≡ Some c → is_join c.action ≡ true → is_joined e.kind ≡ false → IsDriverAt script past a
+    → IsDriverAt script (past ++ e ∷ []) a
 driver_joins_on script past e a c plan driver now join joined at =
     driver_to script past e a a c plan (eq-eqb e.seat 0 driver) at now (λ rest front. join_stays script a c.action rest front e join joined)
 
 -- so does the take of an item that the script wants
 pub driver_goes_in : (script : Plan) (past : List Entry) (seat job id item : ℕ) (a : Agenda) → IsSound script
-    → by_script script past seat (kinds.JobTake job id item) ≡ true → IsAt script past a
-    → IsAt script (past ++ (record { seat = seat; kind = kinds.JobTake job id item }) ∷ []) a
+    → by_script script past seat (kinds.JobTake job id item) ≡ true → IsDriverAt script past a
+    → IsDriverAt script (past ++ (record { seat = seat; kind = kinds.JobTake job id item }) ∷ []) a
 driver_goes_in script past seat job id item a plan by at =
     let c = wanted_by script past seat (kinds.JobTake job id item) by in
     driver_joins_on script past (record { seat = seat; kind = kinds.JobTake job id item }) a c.value plan
@@ -331,8 +329,8 @@ wants_main_take own x made kind w h = absurd cc
 
 -- the take of a main task leaves the driver's place
 pub driver_takes : (script : Plan) (past : List Entry) (e : Entry) (a : Agenda) → IsSound script → by_script script past e.seat e.kind ≡ true
-    → is_of_pump e.kind ≡ true → is_main_none e.kind ≡ false → is_main_end e.kind ≡ false → IsAt script past a
-    → IsAt script (past ++ e ∷ []) a
+    → is_of_pump e.kind ≡ true → is_main_none e.kind ≡ false → is_main_end e.kind ≡ false → IsDriverAt script past a
+    → IsDriverAt script (past ++ e ∷ []) a
 driver_takes script past e a plan by pumps none ends at =
     let c = wanted_by script past e.seat e.kind by in
     driver_to script past e a a c.value plan (eq-eqb e.seat 0 (by_driver script past e.seat e.kind by)) at c.is
@@ -341,7 +339,7 @@ driver_takes script past e a plan by pumps none ends at =
 
 -- where no main task is found the driver passes on to the next action
 pub driver_passes : (script : Plan) (past : List Entry) (seat : ℕ) (a : Agenda) → IsSound script → by_script script past seat kinds.MainNone ≡ true
-    → IsAt script past a → IsAt script (past ++ (record { seat = seat; kind = kinds.MainNone }) ∷ []) (passed_on script.actions a)
+    → IsDriverAt script past a → IsDriverAt script (past ++ (record { seat = seat; kind = kinds.MainNone }) ∷ []) (passed_on script.actions a)
 driver_passes script past seat a plan by at =
     let c = wanted_by script past seat kinds.MainNone by in
     let e : Entry = record { seat = seat; kind = kinds.MainNone } in
@@ -351,8 +349,8 @@ driver_passes script past seat a plan by at =
 
 -- the end of a main task counts for its pump
 pub driver_ends : (script : Plan) (past : List Entry) (e : Entry) (a : Agenda) (w : Running) → IsSound script → IsLegal script past
-    → running past 0 ≡ Some w → e.seat ≡ 0 → is_main_end e.kind ≡ true → is_main_none e.kind ≡ false → IsAt script past a
-    → IsAt script (past ++ e ∷ []) (moved_on script.actions a)
+    → running past 0 ≡ Some w → e.seat ≡ 0 → is_main_end e.kind ≡ true → is_main_none e.kind ≡ false → IsDriverAt script past a
+    → IsDriverAt script (past ++ e ∷ []) (moved_on script.actions a)
 driver_ends script past e a w plan legal runs driver ends none at =
     let (c, now, pump) = (legal_past script past legal).one_thing.pumps w runs in
     driver_to script past e a (moved_on script.actions a) c plan (eq-eqb e.seat 0 driver) at now
@@ -360,11 +358,11 @@ driver_ends script past e a w plan legal runs driver ends none at =
 
 -- while a task runs, its entries other than its end leave the driver's place
 pub task_waits : (script : Plan) (past : List Entry) (e : Entry) (a : Agenda) (w : Running) → IsSound script → IsLegal script past
-    → running past e.seat ≡ Some w → is_main_end e.kind ≡ false → is_main_none e.kind ≡ false → IsAt script past a
-    → IsAt script (past ++ e ∷ []) a
+    → running past e.seat ≡ Some w → is_main_end e.kind ≡ false → is_main_none e.kind ≡ false → IsDriverAt script past a
+    → IsDriverAt script (past ++ e ∷ []) a
 task_waits script past e a w plan legal runs ends none at = by_seat (eqb e.seat 0) refl
   where
-    by_seat : (c : Bool) → eqb e.seat 0 ≡ c → IsAt script (past ++ e ∷ []) a
+    by_seat : (c : Bool) → eqb e.seat 0 ≡ c → IsDriverAt script (past ++ e ∷ []) a
     by_seat false other = driver_waits script past e a other at
     by_seat true driver =
         let (c, now, pump) = (legal_past script past legal).one_thing.pumps w (ap (running past) (sym (eqb-true e.seat 0 driver)) ∙ runs) in
@@ -372,120 +370,12 @@ task_waits script past e a w plan legal runs ends none at = by_seat (eqb e.seat 
 
 -- while a seat holds an item, its entries other than a reply leave the driver's place
 pub holder_waits : (script : Plan) (past : List Entry) (e : Entry) (a : Agenda) (h : Holding) → IsSound script → IsLegal script past
-    → holding past e.seat ≡ Some h → is_joined e.kind ≡ false → IsAt script past a → IsAt script (past ++ e ∷ []) a
+    → holding past e.seat ≡ Some h → is_joined e.kind ≡ false → IsDriverAt script past a → IsDriverAt script (past ++ e ∷ []) a
 holder_waits script past e a h plan legal holds joined at = by_seat (eqb e.seat 0) refl
   where
-    by_seat : (c : Bool) → eqb e.seat 0 ≡ c → IsAt script (past ++ e ∷ []) a
+    by_seat : (c : Bool) → eqb e.seat 0 ≡ c → IsDriverAt script (past ++ e ∷ []) a
     by_seat false other = driver_waits script past e a other at
     by_seat true is =
         let driver = eqb-true e.seat 0 is in
         let (c, now, join) = (legal_past script past legal).one_thing.joins h (ap (holding past) (sym driver) ∙ holds) in
         driver_joins_on script past e a c plan driver now join joined at
-
--- what is behind a complete action is part of what there was
-behind_within : (n : ℕ) (own left : List Entry) → behind n own ≡ Some left → length left ≤ length own
-behind_within zero own left h = let same : own ≡ left = cc in rw same (omega arith)
-behind_within (suc n) [] left h = absurd cc
-behind_within (suc n) (e ∷ own) left h = omega (arith, behind_within n own left h)
-
--- what is behind a complete pump is part of what there was
-pump_within : (n : ℕ) (own left : List Entry) → behind_pump n own ≡ Some left → length left ≤ length own
-pump_within n [] left h = absurd cc
-pump_within n (e ∷ own) left h = by_main_none (is_main_none e.kind || (is_main_end e.kind && leb n 1)) h
-    (pump_within (cond (is_main_end e.kind) (n - 1) n) own left)
-  where
-    by_main_none : (b : Bool) → cond b (Some own) (behind_pump (cond (is_main_end e.kind) (n - 1) n) own) ≡ Some left
-        → (behind_pump (cond (is_main_end e.kind) (n - 1) n) own ≡ Some left → length left ≤ length own) → length left ≤ suc (length own)
-    by_main_none true k next = let same : own ≡ left = same_Some own left k in rw same (omega arith)
-    by_main_none false k next = omega (arith, next k)
-
--- what is behind a complete join is part of what there was
-join_within : (own left : List Entry) → behind_join own ≡ Some left → length left ≤ length own
-join_within [] left h = absurd cc
-join_within (e ∷ own) left h = by_joined (is_joined e.kind) h (join_within own left)
-  where
-    by_joined : (b : Bool) → cond b (Some own) (behind_join own) ≡ Some left → (behind_join own ≡ Some left → length left ≤ length own)
-        → length left ≤ suc (length own)
-    by_joined true k next = let same : own ≡ left = same_Some own left k in rw same (omega arith)
-    by_joined false k next = omega (arith, next k)
-
--- what is behind a complete action is part of what there was
-action_within : (x : Action) (own left : List Entry) → behind_action x own ≡ Some left → length left ≤ length own
-action_within (actions.Tick n) own left h = behind_within n own left h
-action_within (actions.Pump n) own left h = pump_within n own left h
-action_within (actions.Join job) own left h = join_within own left h
-action_within (actions.Cancel job) own left h = behind_within 2 own left h
-action_within actions.Shutdown own left h = behind_within 2 own left h
-action_within x own left h = behind_within 1 own left h
-
--- the first action has made no more entries than there are
-agenda_within : (xs : List Action) (own : List Entry) → length (agenda_from xs own).made ≤ length own
-agenda_within [] own = omega arith
-agenda_within (x ∷ xs) own = by_behind_action (behind_action x own) refl (agenda_within xs)
-  where
-    by_behind_action : (o : Option (List Entry)) → behind_action x own ≡ o → ((left : List Entry) → length (agenda_from xs left).made ≤ length left)
-        → length (option_map_or (λ left. agenda_from xs left) o (record { actions = x ∷ xs; made = own })).made ≤ length own
-    by_behind_action None is next = omega arith
-    by_behind_action (Some left) is next = omega (arith, next left, action_within x own left is)
-
--- no more count than were made
-counted_within : (xs : List Action) (made : List Entry) → counted xs made ≤ length made
-counted_within [] made = omega arith
-counted_within (actions.Pump n ∷ xs) made = count_le (λ (e : Entry). is_main_end e.kind) made
-counted_within (actions.Join job ∷ xs) made = count_le (λ (e : Entry). is_joined e.kind) made
-counted_within (x ∷ xs) made = omega arith
-
--- a legal history is short, so the current action has made few entries
-pub few_entries_made : (script : Plan) (past : List Entry) (a : Agenda) → IsSound script → IsLegal script past → IsAt script past a → a.made < 2 ^ 31
-unfolding agenda
-few_entries_made script past a plan legal at = omega (
-  arith,
-  agenda_within script.actions (own_entries 0 past),
-  counted_within (agenda script (own_entries 0 past)).actions (agenda script (own_entries 0 past)).made,
-  at.made_is,
-  count_le (λ (e : Entry). eqb e.seat 0) past,
-  entries_within_limit script past plan legal,
-)
-
--- the script is finished exactly where all actions are complete
-pub finished_is : (script : Plan) (past : List Entry) (a : Agenda) → IsAt script past a → is_finished script past ≡ (a.place == length script.actions)
-unfolding is_finished
-finished_is script past a at = rw (current_is_first script (own_entries 0 past), at.actions_are)
-    (none_from script.actions a.place (agenda script (own_entries 0 past)).made at.within)
-  where
-    none_from : (xs : List Action) (n : ℕ) (front : List Entry) → n ≤ length xs → is_none (first_of (drop n xs) front) ≡ eqb n (length xs)
-    none_from [] zero front h = refl
-    none_from [] (suc n) front h = absurd (omega (arith, h))
-    none_from (x ∷ xs) zero front h = grind arith
-    none_from (x ∷ xs) (suc n) front h =
-        let same : eqb (suc n) (suc (length xs)) ≡ eqb n (length xs) = grind arith in rw same (none_from xs n front (omega (arith, h)))
-
--- the driver is at the action of its place
-pub action_at : (script : Plan) (past : List Entry) (a : Agenda) → IsAt script past a
-    → slice_get script.actions a.place ≡ option_map (λ (c : Current). c.action) (current script (own_entries 0 past))
-action_at script past a at = rw (current_is_first script (own_entries 0 past), at.actions_are)
-    (first_from script.actions a.place (agenda script (own_entries 0 past)).made)
-  where
-    first_from : (xs : List Action) (n : ℕ) (front : List Entry) → slice_get xs n ≡ option_map (λ (c : Current). c.action) (first_of (drop n xs) front)
-    first_from [] n front = at_each n
-      where
-        at_each : (k : ℕ) → slice_get [] k ≡ option_map (λ (c : Current). c.action) (first_of (drop k []) front)
-        at_each zero = refl
-        at_each (suc k) = refl
-    first_from (x ∷ xs) zero front = refl
-    first_from (x ∷ xs) (suc n) front = first_from xs n front
-
--- and that action has made so many entries that count
-pub made_at : (script : Plan) (past : List Entry) (a : Agenda) → IsAt script past a
-    → IfSome (current script (own_entries 0 past)) (λ c. a.made ≡ counted (c.action ∷ []) c.made)
-made_at script past a at = rw (current_is_first script (own_entries 0 past))
-    (by_agenda (agenda script (own_entries 0 past)).actions (agenda script (own_entries 0 past)).made at.made_is)
-  where
-    first_counts : (x : Action) (rest : List Action) (front : List Entry) → counted (x ∷ rest) front ≡ counted (x ∷ []) front
-    first_counts (actions.Pump n) rest front = refl
-    first_counts (actions.Join job) rest front = refl
-    first_counts x rest front = refl
-
-    by_agenda : (xs : List Action) (front : List Entry) → counted xs front ≡ a.made → IfSome (first_of xs front) (λ c. a.made ≡ counted (c.action ∷ []) c.made)
-    by_agenda [] front is = tt
-    by_agenda (x ∷ rest) front is = sym is ∙ first_counts x rest front

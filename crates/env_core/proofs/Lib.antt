@@ -2,9 +2,11 @@ pub mod Plans
 pub mod Shutdown
 pub mod Queues
 pub mod Driver
+pub mod MadeWithin
 pub mod Scopes
 pub mod Bodies
 pub mod Wanted
+pub mod Declared
 pub mod Entries
 pub mod Taking
 pub mod Acts

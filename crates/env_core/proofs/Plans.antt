@@ -1,14 +1,14 @@
 -- What a script gives in a legal history: what its actions and steps are, and who runs and holds what.
--- Cited by `Acts`, `JobCalls`, `Scopes`, `Shutdown`, `Taking`, `Wanted`, `env_check`, `seat_hand`.
+-- Cited by `Acts`, `Declared`, `JobCalls`, `Scopes`, `Shutdown`, `Taking`, `Wanted`, `env_check`, `seat_hand`.
 use Rattle.hist_model.proofs.Laws.Choice.{Found, found}
 use Rattle.hist_model.proofs.Laws.Consistent.{legal_is_consistent}
 use Rattle.hist_model.proofs.Laws.OneThing.{legal_does_one_thing, wanted_by}
 use Rattle.hist_model.proofs.Laws.Own.{holding_own, running_own}
 use Rattle.hist_model.specs.Allowed.{by_script, by_task, enters}
-use Rattle.pool_laws.specs.Seats.{RunsPoolTask}
-use Rattle.hist_model.specs.Laws.Consistent.{RunsAs, RunsMainTask, is_join, is_pump}
+use Rattle.pool_laws.specs.Runs.{RunsAs}
+use Rattle.hist_model.specs.Laws.Consistent.{is_join, is_pump}
 use Rattle.hist_model.specs.Legal.{IsLegal}
-use Rattle.hist_model.specs.Script.{Current, behind_action, current, current_from, wants}
+use Rattle.hist_model.specs.Script.{Current, current, wants}
 use Rattle.hist_model.specs.Views.{own_entries}
 use Rattle.list_laws.proofs.Elements.{AllByRecursion-filter, slice_get_all}
 use Rattle.list_laws.proofs.Places.{none_from_count}
@@ -16,9 +16,9 @@ use Rattle.list_laws.proofs.Ranges.{range_any_at}
 use Rattle.list_laws.specs.Lists.{holds_of}
 use Rattle.pool_core.specs.Calls.{is_working, running_tasks}
 use Rattle.script_model.specs.Laws.Sound.{AreDeclarationsSound, IsStepSound, IsStepWithin}
-use Rattle.std.proofs.Common.{Bool, List, None, Option, Some, [], ap, arith, eqb, false, refl, subst, suc, sym, true, zero, ℕ, ◌∙◌, ◌∷◌, ◌≡◌, ◌≤◌}
+use Rattle.std.proofs.Common.{Bool, List, None, Option, Some, [], ap, arith, eqb, false, refl, subst, suc, sym, true, zero, ℕ, ◌∙◌, ◌≡◌, ◌≤◌}
 use Rattle.std.proofs.lemmas.Bool.{and_parts, eqb-true, false_from_ne_true, true≢false}
-use Rattle.std.proofs.lemmas.Option.{none-some, same_Some}
+use Rattle.std.proofs.lemmas.Option.{same_Some}
 use Rattle.std.specs.List.{AllByRecursion}
 use Rattle.std.specs.Option.{IfSome, option_map_or}
 use Rattle.std.specs.Prelude.{filter, is_none, is_some, not, slice_get, ◌&&◌, ◌||◌}
@@ -126,14 +126,9 @@ enters_main t step task queue delay ok h = absurd cc
 -- Who runs and holds what.
 
 -- a worker runs the tasks of the pool, and the driver the main tasks
-pub pool_runs : (script : Plan) (past : List Entry) (seat : ℕ) (w : Running) → IsLegal script past → running past seat ≡ Some w → w.is_main ≡ false
-    → RunsPoolTask script past seat w
-pool_runs script past seat w legal runs pool = subst (RunsAs script past seat w) pool ((legal_is_consistent script past legal).runs seat w runs)
-
--- who runs a main task is the driver
-pub main_runs : (script : Plan) (past : List Entry) (seat : ℕ) (w : Running) → IsLegal script past → running past seat ≡ Some w → w.is_main ≡ true
-    → RunsMainTask past seat w
-main_runs script past seat w legal runs main = subst (RunsAs script past seat w) main ((legal_is_consistent script past legal).runs seat w runs)
+pub runs_as : (script : Plan) (past : List Entry) (seat : ℕ) (w : Running) (main : Bool) → IsLegal script past → running past seat ≡ Some w
+    → w.is_main ≡ main → RunsAs script past seat w main
+runs_as script past seat w main legal runs side = (legal_is_consistent script past legal main).runs seat w runs side
 
 -- what a pump wants, it wants while the driver runs nothing
 pump_wants : (own : List Entry) (action : Action) (made : List Entry) (kind : Kind) → is_pump action ≡ true → wants own action made kind ≡ true
@@ -195,7 +190,7 @@ idle_is_free script past seat legal worker idle = by_running (running past seat)
       where
         of_main : (main : Bool) → w.is_main ≡ main → (is_none (Some w) && is_none h) ≡ true
         of_main true main =
-            let driver : seat ≡ 0 = (main_runs script past seat w legal is main).driver in absurd (omega (arith, driver, worker))
+            let driver : seat ≡ 0 = (runs_as script past seat w true legal is main).can.driver refl in absurd (omega (arith, driver, worker))
         of_main false pool = let works : (not w.is_main || is_some h) ≡ true = rw pool refl in absurd (true≢false (sym works ∙ k))
 
 -- where the driver runs and holds nothing and no worker works, each seat is free

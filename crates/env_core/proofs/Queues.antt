@@ -1,33 +1,26 @@
 -- What a script posts to its main queues: it is as the main queues ask, and so is what was accepted.
--- Cited by `Env::open`, `Acts`, `Taking`, `Wanted`.
-use Rattle.hist_model.proofs.Laws.Choice.{of_least}
-use Rattle.list_laws.proofs.Elements.{AllByRecursion-append, AllByRecursion-contains, AllByRecursion-contains_itself, AllByRecursion-map}
-use Rattle.list_laws.proofs.Least.{no_least}
-use Rattle.list_laws.proofs.Made.{contains_filter, contains_filter_map, contains_not_empty}
-use Rattle.list_laws.proofs.Values.{eqb-same}
-use Rattle.list_laws.specs.Lists.{holds_of, least}
+-- Cited by `Env::open`, `Acts`, `Declared`, `Taking`.
+use Rattle.list_laws.proofs.Elements.{AllByRecursion-append, AllByRecursion-contains, AllByRecursion-map}
+use Rattle.list_laws.proofs.Made.{contains_filter_map}
 use Rattle.script_model.specs.Bound.{events_of_action}
 use Rattle.script_model.specs.Draft.{has_bad_scopes, is_block}
 use Rattle.script_model.specs.Laws.Sound.{IsActionSound, IsQueuePost, IsSound, IsStepSound}
 use Rattle.script_model.specs.Laws.Sound as sounds
 use Rattle.sequence_manager.specs.Pasts.{IsMainPast, IsMainScript, IsPostedTo, IsQueueWithin}
 use Rattle.sequence_manager.specs.Postings.{MainPosting, main_postings, posting_of_action, posting_of_step, postings_of_tasks}
-use Rattle.std.proofs.Common.{◌≡◌, ℕ, zero, suc, ◌+◌, ◌<◌, ◌≤◌, ◌^◌, Bool, true, false, cond, List, [], ◌∷◌, length, length-append, refl}
-use Rattle.std.proofs.Common.{ap, Option, Some, None, arith}
-use Rattle.std.proofs.lemmas.Bool.{and_parts, leb-true}
+use Rattle.std.proofs.Common.{◌≡◌, ℕ, zero, suc, ◌+◌, ◌<◌, ◌≤◌, ◌^◌, Bool, true, false, List, [], ◌∷◌, length, length-append, refl}
+use Rattle.std.proofs.Common.{Some, arith}
 use Rattle.std.proofs.lemmas.List.Elements.{Contains-append_left, Contains-append_right}
 use Rattle.std.proofs.lemmas.List.Sums.{sum_by-cons}
 use Rattle.std.proofs.lemmas.Option.{none-some, slice_get-get_or}
 use Rattle.std.specs.List.{AllByRecursion, filter_map, list_any, sum_by}
-use Rattle.std.specs.Prelude.{◌==◌, Contains, filter, slice_get, slice_index_or}
+use Rattle.std.specs.Prelude.{◌==◌, Contains, slice_get, slice_index_or}
 use Rattle.task_base.specs.Plan.{Plan}
 use Rattle.task_base.specs.declared.entry.Entry.{Entry}
 use Rattle.task_base.specs.declared.script.Action.{Action}
 use Rattle.task_base.specs.declared.script.Action.TheVariants as actions
 use Rattle.task_base.specs.declared.step.Step.{Step}
 use Rattle.task_base.specs.declared.step.Step.TheVariants as steps
-use Rattle.task_model.specs.MainQueues.{Front, choice_among, chosen_of, class_below, immediate_of_least_class, is_starved, least_class}
-use Rattle.task_model.specs.MainQueues.{of_least_class, open_fronts, order_below, streak_of}
 use Rattle.task_model.specs.Posts.{Posted, main_posts}
 use Rattle.task_model.specs.Seats.{steps_of}
 

@@ -2,7 +2,7 @@
 -- Cited by `Acts`.
 use Rattle.script_model.specs.Laws.Sound.{IsSound}
 use Rattle.env_core.specs.Scopes.{is_open_after}
-use Rattle.env_core.proofs.Plans.{EntersStep, entered_by, main_runs, next_is_of, pool_runs}
+use Rattle.env_core.proofs.Plans.{EntersStep, entered_by, next_is_of, runs_as}
 use Rattle.hist_model.specs.Allowed.{IsAllowed, by_script, by_task, enters, is_reply, may_come, same_scope}
 use Rattle.hist_model.specs.Legal.{IsLegal}
 use Rattle.hist_model.proofs.Laws.AtPlaces.{take_at}
@@ -18,7 +18,7 @@ use Rattle.pool_laws.proofs.Seats.Running.{acts_other}
 use Rattle.pool_laws.specs.Room.{scopes}
 use Rattle.script_model.specs.Draft.{has_bad_scopes}
 use Rattle.std.proofs.Common.{Bool, List, None, Option, Some, [], drop, eqb, false, leb, length, take, true, zero, suc, ℕ, ◌+◌, ◌++◌, ◌∙◌, ◌∷◌, ◌≡◌}
-use Rattle.std.proofs.Common.{◌≤◌, add-one, ap, arith, refl, subst, sym, ⊎_elim}
+use Rattle.std.proofs.Common.{◌≤◌, add-one, ap, arith, inl, refl, subst, sym, ⊎_elim}
 use Rattle.std.proofs.lemmas.Bool.{and_from, and_parts, eqb-false, eqb-true, false_from_ne_true, not-false, or_cases, or_parts, true≢false}
 use Rattle.std.proofs.lemmas.List.{drop_all}
 use Rattle.std.proofs.lemmas.Option.{none-some, same_Some}
@@ -94,9 +94,9 @@ no_main_taken script past p plan legal accepted =
 pool_or_main : (script : Plan) (past : List Entry) (a b : ℕ) (v w : Running) → IsSound script → IsLegal script past → running past a ≡ Some v
     → running past b ≡ Some w → v.is_main ≡ true → w.is_main ≡ false → v.task ≡ w.task → ⊥
 pool_or_main script past a b v w plan legal runs_v runs_w main pool same =
-    let m = main_runs script past a v legal runs_v main in
-    let p = pool_runs script past b w legal runs_w pool in
-    true≢false (sym m.taken ∙ ap (is_main_taken past) (same ∙ sym p.task_is) ∙ no_main_taken script past p.accepted plan legal p.posted)
+    let m = runs_as script past a v true legal runs_v main in
+    let can = (runs_as script past b w false legal runs_w pool).can in
+    true≢false (sym m.taken ∙ ap (is_main_taken past) (same ∙ sym can.task_is) ∙ no_main_taken script past can.accepted plan legal can.posted)
 
 -- the entry of an act step opens and closes the scope of its task, as the step does
 scope_moves : (t n : ℕ) (past : List Entry) (now : Option OpenScope) (step : Step) (kind : Kind) → enters t step kind ≡ true
@@ -138,7 +138,7 @@ scope_step script past e plan legal allowed before seat w runs pool = ⊎_elim o
     may = (and_parts (leb e.seat script.workers) (may_come script past e.seat e.kind) allowed).1
 
     worker : 1 ≤ seat
-    worker = (pool_runs script (past ++ e ∷ []) seat w (is_legal_push script past e ∙ and_from _ _ legal allowed) runs pool).worker
+    worker = (runs_as script (past ++ e ∷ []) seat w false (is_legal_push script past e ∙ and_from _ _ legal allowed) runs pool).can.worker refl
 
     -- an entry of another seat opens and closes no scope of this task
     other : (running past seat ≡ Some w) × (eqb e.seat seat ≡ false)
@@ -155,7 +155,7 @@ scope_step script past e plan legal allowed before seat w runs pool = ⊎_elim o
             apart : (v : Running) → running past e.seat ≡ Some v → v.task ≡ w.task → (main : Bool) → v.is_main ≡ main → ⊥
             apart v runs_v same true is = pool_or_main script past e.seat seat v w plan legal runs_v now is pool same
             apart v runs_v same false is =
-                eqb-false e.seat seat elsewhere ((legal_past script past legal).consistent.one_task e.seat seat v w runs_v now is pool same)
+                eqb-false e.seat seat elsewhere (((legal_past script past legal).consistent false).alone e.seat seat v w runs_v now is pool (inl same))
 
     -- the scope and the act steps after an entry of the seat's own
     IsNow : Kind → Type 0

@@ -109,7 +109,7 @@ pub record IsOver (before after : EnvView) : Type 0 where
   pub kept : after ≡ before
 
 -- what a worker's take gives
-abbrev pub TakeGives : {B : Type 0} → EnvView → EnvView → ℕ → Taken B → Type 0
+abbrev pub TakeGives : EnvView → EnvView → ℕ → Taken AssignmentView → Type 0
 TakeGives before after seat (taken.Task work) = HasTaken before after seat work
 TakeGives before after seat (taken.Item pass) = HasTakenItem before after seat pass
 TakeGives before after seat taken.Nothing = HasNothing before after seat

@@ -16,7 +16,7 @@ use Rattle.env_core.specs.declared.agenda.Agenda.{Agenda}
 use Rattle.env_core.specs.declared.agenda.Shift.{Shift}
 
 -- so many actions of the script are complete, and the next one has made so many entries that count
-pub record IsAt (script : Plan) (past : List Entry) (a : Agenda) : Type 0 where
+pub record IsDriverAt (script : Plan) (past : List Entry) (a : Agenda) : Type 0 where
   pub within : a.place ≤ length script.actions
   pub actions_are : (agenda script (own_entries 0 past)).actions ≡ drop a.place script.actions
   pub made_is : counted (agenda script (own_entries 0 past)).actions (agenda script (own_entries 0 past)).made ≡ a.made
@@ -25,7 +25,7 @@ pub record IsAt (script : Plan) (past : List Entry) (a : Agenda) : Type 0 where
 pub record IsUnderWay (view : EnvView) (a : Agenda) : Type 0 where
   pub plan : IsSound view.script
   pub legal : IsLegal view.script view.history
-  pub driver : IsAt view.script view.history a
+  pub driver : IsDriverAt view.script view.history a
 
 -- so it is of what the ledger has, where there is room for each entry that may come and for no more: what a call took beside
 -- its entries would show
@@ -37,4 +37,4 @@ pub record IsKept (script : Plan) (log : Listed Entry) (a : Agenda) : Type 0 whe
 pub record MayEnter (view : EnvView) (seat : ℕ) (kind : Kind) (shift : Shift) : Type 0 where
   pub allowed : IsAllowed view.script view.history (record { seat = seat; kind = kind })
   pub place : (a : Agenda) → IsUnderWay view a
-      → IsAt view.script (view.history ++ (record { seat = seat; kind = kind }) ∷ []) (shifted shift view.script.actions a)
+      → IsDriverAt view.script (view.history ++ (record { seat = seat; kind = kind }) ∷ []) (shifted shift view.script.actions a)

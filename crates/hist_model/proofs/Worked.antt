@@ -1,6 +1,7 @@
 -- Histories that were worked out by hand.
 pub mod Rows
 pub mod Pool
+pub mod Shutdown
 pub mod Priorities
 pub mod Queues
 pub mod Jobs

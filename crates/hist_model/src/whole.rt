@@ -16,7 +16,7 @@ ghost use Rattle.hist_model.specs.Laws.Whole.{sequence_at, WaitsInSequence, IsLe
 /// script is sound, that sequence is left to the workers: the policy holds it back, or it waits, and the script was
 /// finished before a worker took it. An accepted main task that was never taken is of a closed queue, or is delayed and
 /// not ripe, or lies in a lane of its queue, behind a front or as the front.
-#[tactic(auto, using(crate::proofs::Laws::Whole::loses_nothing))]
+#[tactic(auto, using(crate::proofs::Laws::Whole::Losing::loses_nothing))]
 pub fn whole_logs_lose_nothing()
     ensures loses_nothing { (script : Plan) (log : List Entry) → IsLegal script log → IsWhole script log → LosesNothing script log }
     ensures waits_for_workers { (script : Plan) (log : List Entry) (p : Posted) → IsSound script → IsLegal script log → Contains (posts log) p → (w : WaitsInSequence script log p) → IsLeftToWorkers script log (sequence_candidate script log (sequence_at script p) w.head) }

@@ -43,7 +43,7 @@ use Rattle.hist_model.proofs.Laws.Postings.Once.{each_is_accepted_once}
 use Rattle.pool_core.specs.Pasts.{IsDeclared}
 use Rattle.pool_core.proofs.Accepted.{one_post}
 use Rattle.pool_core.proofs.Lines.{sequence_there}
-use Rattle.env_core.proofs.Wanted.{post_is_sound}
+use Rattle.env_core.proofs.Declared.{post_is_sound}
 use Rattle.past_lookup.specs.Runners.{is_others}
 use Rattle.next_entry.specs.Bars.{bar_of, has_place, is_room_for, job_bar, posted_bar, task_bar}
 use Rattle.next_entry.specs.Causes.{IsBarred}

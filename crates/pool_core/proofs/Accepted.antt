@@ -1,6 +1,7 @@
 -- What a past of the pool says of the tasks that were accepted.
--- Cited by `Pool::post`, `Pool::start`, `Calls/Posts`, `Calls/Ripening`, `Calls/Takes`, `LineGrowth`, `Lines`, `Pasts`, `Sources/Choosing`,
--- `Sources/Following`, `Sources/Places`, `Tables`, `Tracking`, `Works/AtSeat`, `Works/GroupWorks`, `env_core`, `next_entry`.
+-- Cited by `Pool::post`, `Pool::start`, `Calls/Posts`, `Calls/Ripening`, `Calls/Takes`, `LineGrowth`, `Lines`, `Pasts`, `Sources/Best`,
+-- `Sources/Choosing`, `Sources/Following`, `Sources/Places`, `Tables`, `Tracking`, `Works/AtSeat`, `env_core`, `next_entry`.
+use Rattle.pool_laws.proofs.Seats.Runs.{singly_unended}
 use Rattle.pool_laws.proofs.Choice.Least.{head_is}
 use Rattle.list_laws.proofs.Elements.{AllByRecursion-append, AllByRecursion-contains, AllByRecursion-map}
 use Rattle.list_laws.proofs.Finds.{find_contains, find_passes}
@@ -10,8 +11,8 @@ use Rattle.list_laws.proofs.Values.{eqb-same}
 use Rattle.list_laws.specs.Lists.{holds_of}
 use Rattle.pool_core.specs.Pasts.{IsDeclared, IsPoolPast}
 use Rattle.pool_laws.proofs.Keys.Posts.{posts_in_order, in_order_counts, in_order_found}
-use Rattle.std.proofs.Common.{Bool, List, None, Option, Some, ap, arith, false, length, length-append, refl, sym, true, ℕ, ◌++◌, ◌<◌, ◌∙◌, ◌≡◌, ◌≤◌}
-use Rattle.std.proofs.lemmas.Bool.{and_parts, both_ways, eqb-false, eqb-true, false_from_ne_true, ne_eqb, not-true}
+use Rattle.std.proofs.Common.{Bool, List, None, Option, Some, ap, arith, false, inr, length, length-append, refl, sym, true, ℕ, ◌++◌, ◌<◌, ◌∙◌, ◌≡◌, ◌≤◌}
+use Rattle.std.proofs.lemmas.Bool.{and_parts, eqb-false, eqb-true, false_from_ne_true, ne_eqb, not-true}
 use Rattle.std.proofs.lemmas.List.FromFn.{length-range_with_len}
 use Rattle.std.proofs.lemmas.Option.{none-some}
 use Rattle.std.specs.List.{AllByRecursion, range_with_len}
@@ -50,7 +51,7 @@ pub new_is_not_taken : (script : Plan) (past : List Entry) (t : ℕ) → IsPoolP
     → (is_taken past t ≡ false) × (is_ended past t ≡ false)
 new_is_not_taken script past t fits new = (
   not_taken,
-  false_from_ne_true (is_ended past t) (λ ended. both_ways (is_taken past t) not_taken (fits.ended_was_taken t ended)),
+  singly_unended script past false t fits.singly not_taken,
 )
   where
     not_taken : is_taken past t ≡ false
@@ -64,7 +65,7 @@ is_declared script past p fits in_posts = AllByRecursion-contains (IsDeclared sc
 pub runs_accepted : (script : Plan) (past : List Entry) (seat : ℕ) (w : Running) → IsPoolPast script past → running past seat ≡ Some w → w.is_main ≡ false
     → (p : Posted) × (post_of past w.task ≡ Some p) × (p.home ≡ w.home) × (p.task ≡ w.task) × Contains (posts past) p
 runs_accepted script past seat w fits runs pool =
-    let r = fits.runs seat w runs pool in
+    let r = (fits.singly.runs seat w runs pool).can in
     (r.accepted, ap (post_of past) (sym r.task_is) ∙ one_post past r.accepted fits.in_order r.posted, r.home_is, r.task_is, r.posted)
 
 -- no other seat runs a task of its sequence
@@ -75,7 +76,7 @@ others_run_others script past seat w fits runs pool other another = by_running (
     apart : (v : Running) → running past other ≡ Some v → (b : Bool) → v.is_main ≡ b → runs_of script (sequence_of script w.home w.task) v ≡ false
     apart v also true main = rw main refl
     apart v also false is_pool = rw is_pool (ne_eqb _ _ (λ same. eqb-false seat other another
-        (fits.one_sequence seat other w v runs also pool is_pool (sym same))))
+        (fits.singly.alone seat other w v runs also pool is_pool (inr (sym same)))))
 
     by_running : (o : Option Running) → running past other ≡ o → holds_of (runs_of script (sequence_of script w.home w.task)) o ≡ false
     by_running None also = refl

@@ -13,23 +13,24 @@ use Rattle.pool_core.specs.Tables.{is_unripe, ripening_of, unripe}
 use Rattle.pool_laws.proofs.Keys.Arrivals.{one_ripens_first, posts_differ, ranks_ripens}
 use Rattle.pool_laws.proofs.Keys.Posts.{posts_same}
 use Rattle.pool_laws.proofs.Keys.Ready.{posts_within, tick_from_push}
-use Rattle.pool_laws.specs.Keys.{NoTickAhead, moves_posts, moves_ready, tick_by}
+use Rattle.pool_laws.specs.Keys.{NoTickAhead, moves_ready, tick_by, ready_parts}
 use Rattle.std.proofs.Common.{Bool, List, None, Option, Some, [], ap, arith, cond, false, length}
 use Rattle.std.proofs.Common.{map, refl, sym, true, ℕ, ◌++◌, ◌+◌, ◌<◌, ◌∙◌, ◌∷◌, ◌≡◌, ◌≢◌, ◌≤◌}
-use Rattle.std.proofs.lemmas.Bool.{ltb-true, true≢false}
+use Rattle.std.proofs.lemmas.Bool.{ltb-true}
 use Rattle.std.proofs.lemmas.List.{append-nil}
 use Rattle.std.proofs.lemmas.List.Elements.{All-from_recursion, filter-append}
 use Rattle.std.specs.List.{AllByRecursion}
 use Rattle.std.specs.Option.{option_or}
 use Rattle.std.specs.Prelude.{All, filter, is_none, nat_le, nat_lt, not, ◌&&◌, ◌⊎◌}
 use Rattle.task_base.specs.declared.entry.Entry.{Entry}
-use Rattle.task_base.specs.declared.entry.Kind.{Kind}
 use Rattle.task_model.proofs.Growth.{posts_push}
 use Rattle.task_model.specs.Keys.{becomes_ripe}
 use Rattle.task_model.specs.Posts.{Posted, is_delayed, post_behind, posts, ripens_before}
 use Rattle.task_model.specs.Time.{now_of, tick_from}
 use Rattle.delayed_manager.specs.Delayed as ripenings
 use Rattle.task_base.specs.declared.entry.Kind.TheVariants as kinds
+use Rattle.pool_laws.specs.Moves.{Posts}
+use Rattle.pool_laws.proofs.Moves.{moves_fewer, no_tick}
 
 unripe_differ : (past : List Entry) → Differ ripens_before (filter (is_unripe past) (posts past))
 unripe_differ past = differ-filter ripens_before (is_unripe past) (posts past) (posts_differ past)
@@ -44,19 +45,11 @@ still_unripe past e none = filter_congr (is_unripe (past ++ e ∷ [])) (is_unrip
     (λ p. ap (λ o. is_delayed p && is_none o)
     (tick_from_push past e p.ripe ∙ ap (option_or (tick_from past p.ripe)) (none p.ripe) ∙ option_or-none (tick_from past p.ripe)))
 
--- a kind that gives no task a key posts none
-pub no_post : (kind : Kind) → moves_ready kind ≡ false → moves_posts kind ≡ false
-no_post (kinds.Post task runner delay ok) h = h
-no_post kind h = refl
-
 -- an entry that neither posts to the pool nor is a tick
 pub unripe_kept : (past : List Entry) (e : Entry) → moves_ready e.kind ≡ false → unripe (past ++ e ∷ []) ≡ unripe past
 unripe_kept past e still = ap (sort_by ripens_before)
-    (ap (filter (is_unripe (past ++ e ∷ []))) (posts_same past e (no_post e.kind still)) ∙ still_unripe past e (no_tick e.kind still))
-  where
-    no_tick : (kind : Kind) → moves_ready kind ≡ false → (moment : ℕ) → tick_by past moment kind ≡ None
-    no_tick (kinds.Tick now) h moment = absurd (true≢false h)
-    no_tick kind h moment = refl
+    (ap (filter (is_unripe (past ++ e ∷ []))) (posts_same past e (moves_fewer (Posts ∷ []) ready_parts e.kind refl still))
+    ∙ still_unripe past e (λ moment. rw (no_tick ready_parts e.kind refl still moment) refl))
 
 -- what an accepted post leaves unripe: those before, and the new task if it is unripe
 unripe_behind_post : (past : List Entry) (seat task runner delay : ℕ)

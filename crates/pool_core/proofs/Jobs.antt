@@ -5,5 +5,6 @@ pub mod JobViews
 pub mod JobTables
 pub mod JobQueues
 pub mod JobStands
+pub mod JobSteps
 pub mod AtJob
 pub mod Yields

@@ -1,6 +1,7 @@
 -- The lists of the sequences, and their cells, at each entry.
 -- Cited by `Calls/EmptyPool`, `Calls/Ends`, `Calls/Kept`, `Calls/Others`, `Calls/Posts`, `Calls/Reprio`, `Calls/Shutdown`, `Calls/Takes`,
 -- `Calls/Ticks`, `Jobs/JobStands`.
+use Rattle.pool_laws.proofs.Seats.Runs.{singly_unended}
 use Rattle.list_laws.proofs.Rises.{found_dropped}
 use Rattle.list_laws.proofs.Elements.{AllByRecursion-map}
 use Rattle.list_laws.proofs.Filters.{filter-filter, filter-map, filter_congr, filter_congr_in, filter_never, filter_none}
@@ -19,7 +20,7 @@ use Rattle.pool_laws.proofs.Keys.Arrivals.{arrivals_rise, arrivals_same, head_is
 use Rattle.pool_laws.proofs.Seats.Cells.{cell_at_end, cell_same}
 use Rattle.pool_laws.proofs.Seats.Running.{runs_at_end, runs_at_main, runs_at_other_end, runs_at_take, runs_same}
 use Rattle.pool_laws.specs.Keys.{ready_below}
-use Rattle.pool_laws.specs.Seats.{moves_cells, moves_main, moves_running, runs_pool_task}
+use Rattle.pool_laws.specs.Seats.{moves_main, runs_pool_task, main_parts, running_parts}
 use Rattle.std.proofs.Common.{Bool, List, None, Some, [], ap, arith, cond, eqb, false, get_or, length}
 use Rattle.std.proofs.Common.{map, refl, subst, sym, true, ℕ, ◌++◌, ◌+◌, ◌<◌, ◌∙◌, ◌∷◌, ◌≡◌, ◌≤◌}
 use Rattle.std.proofs.lemmas.Bool.{and_from, and_left, and_parts, and_right, false_from_ne_true, not-true, not_from_false, or_right, true≢false}
@@ -29,7 +30,6 @@ use Rattle.std.specs.Prelude.{Contains, filter, not, replicate, slice_index_or, 
 use Rattle.task_base.specs.Plan.{Plan}
 use Rattle.task_base.specs.Runners.{sequence_count, sequence_of}
 use Rattle.task_base.specs.declared.entry.Entry.{Entry}
-use Rattle.task_base.specs.declared.entry.Kind.{Kind}
 use Rattle.task_model.proofs.Growth.{is_taken_push, phase_of_push}
 use Rattle.task_model.specs.Blockers.{block_part, blockers_of, is_block, is_open_block}
 use Rattle.task_model.specs.Cells.{cell_of}
@@ -42,12 +42,14 @@ use Rattle.task_model.specs.Seats.{Running, all_seats, running, runs_sequence}
 use Rattle.task_model.specs.Sequences.{head_of, is_of, may_start}
 use Rattle.task_sequence.specs.Sequences.{Held, behind_first, fresh, may_stay, purged, sequence_at, with_sequence}
 use Rattle.task_traits.specs.Behaviour.{forbids}
-use Rattle.task_traits.specs.declared.phase.Phase.{Phase}
 use Rattle.task_traits.specs.declared.traits.Behaviour.{Behaviour}
 use Rattle.task_base.specs.declared.entry.Kind.TheVariants as kinds
 use Rattle.task_sequence.specs.Sequences as sequences
 use Rattle.task_traits.specs.declared.phase.Phase.TheVariants as phases
 use Rattle.task_traits.specs.declared.traits.Behaviour.TheVariants as behaviours
+use Rattle.pool_laws.specs.Moves.{Ends, moves}
+use Rattle.pool_laws.proofs.Moves.{moves_fewer, moves_apart, no_take, same_phase}
+use Rattle.pool_core.specs.Others.{line_parts}
 
 pub lines_at_start : (script : Plan) (held : Held) → held.sequences ≡ replicate (sequence_count script) fresh → AreLines script [] (arrivals []) held
 unfolding arrivals cell_of fold_past running runs_sequence
@@ -81,38 +83,25 @@ lines_same script past later arrived held may runs cell are = record {
   cells = λ s there. rw (runs s, cell s) (are.cells s there);
 }
 
--- a kind that takes no task, brings no cell home, and leaves the phase
-record LeavesLines (kind : Kind) : Type 0 where
-  takes : (t : ℕ) → takes t kind ≡ false
-  cells : moves_cells kind ≡ false
-  phase : (now : Phase) → phase_after now kind ≡ now
-
-lines_left : (script : Plan) (past : List Entry) (e : Entry) (arrived : List Ready) (held : Held) → LeavesLines e.kind
+-- an entry that takes and ends no task of the pool, and leaves the phase
+lines_left : (script : Plan) (past : List Entry) (e : Entry) (arrived : List Ready) (held : Held) → moves line_parts e.kind ≡ false
     → ((s : ℕ) → runs_sequence script (past ++ e ∷ []) s ≡ runs_sequence script past s) → AreLines script past arrived held
     → AreLines script (past ++ e ∷ []) arrived held
 lines_left script past e arrived held leaves runs are = lines_same script past (past ++ e ∷ []) arrived held
-    (λ p. starts_same script past e p (leaves.takes p.task) (leaves.phase (phase_of past))) runs (λ s. cell_same script past e s leaves.cells) are
+    (λ p. starts_same script past e p (no_take line_parts e.kind refl leaves p.task) (same_phase line_parts e.kind refl leaves (phase_of past))) runs
+    (λ s. cell_same script past e s (moves_fewer (Ends ∷ []) line_parts e.kind refl leaves)) are
 
 -- an entry that changes neither what runs nor the phase
-pub lines_kept : (script : Plan) (past : List Entry) (e : Entry) (arrived : List Ready) (held : Held) → moves_running e.kind ≡ false
-    → ((now : Phase) → phase_after now e.kind ≡ now) → AreLines script past arrived held → AreLines script (past ++ e ∷ []) arrived held
-lines_kept script past e arrived held still same are =
-    lines_left script past e arrived held (leaves e.kind still same) (λ s. runs_same script past e s still) are
-  where
-    leaves : (kind : Kind) → moves_running kind ≡ false → ((now : Phase) → phase_after now kind ≡ now) → LeavesLines kind
-    leaves (kinds.Take task runner found) h phase = absurd (true≢false h)
-    leaves (kinds.End task left) h phase = absurd (true≢false h)
-    leaves kind h phase = record { takes = λ t. refl; cells = refl; phase = phase }
+pub lines_kept : (script : Plan) (past : List Entry) (e : Entry) (arrived : List Ready) (held : Held) → moves (main_parts ++ line_parts) e.kind ≡ false
+    → AreLines script past arrived held → AreLines script (past ++ e ∷ []) arrived held
+lines_kept script past e arrived held still are =
+    lines_left script past e arrived held (moves_fewer line_parts (main_parts ++ line_parts) e.kind refl still)
+    (λ s. runs_same script past e s (moves_fewer running_parts (main_parts ++ line_parts) e.kind refl still)) are
 
 pub lines_at_main : (script : Plan) (past : List Entry) (e : Entry) (arrived : List Ready) (held : Held) → moves_main e.kind ≡ true
     → runs_pool_task past e.seat ≡ false → AreLines script past arrived held → AreLines script (past ++ e ∷ []) arrived held
 lines_at_main script past e arrived held main apart are =
-    lines_left script past e arrived held (leaves e.kind main) (λ s. runs_at_main script past e s main apart) are
-  where
-    leaves : (kind : Kind) → moves_main kind ≡ true → LeavesLines kind
-    leaves (kinds.MainTake task queue found) h = record { takes = λ t. refl; cells = refl; phase = λ now. refl }
-    leaves (kinds.MainEnd task left) h = record { takes = λ t. refl; cells = refl; phase = λ now. refl }
-    leaves kind h = absurd (true≢false (sym h))
+    lines_left script past e arrived held (moves_apart main_parts line_parts e.kind refl main) (λ s. runs_at_main script past e s main apart) are
 
 -- A take, and an end.
 
@@ -315,7 +304,7 @@ none_starts script past fits started none p among = false_from_ne_true (may_star
     blocks behaviours.BlockShutdown h = refl
 
     untaken : is_taken past p.task ≡ false → is_ended past p.task ≡ false
-    untaken h = false_from_ne_true (is_ended past p.task) (λ ended. true≢false (sym (fits.ended_was_taken p.task ended) ∙ h))
+    untaken h = singly_unended script past false p.task fits.singly h
 
     unended : may_start script past p ≡ true → is_open_block script past p ≡ true
     unended may =

@@ -63,7 +63,7 @@ runs_of_it script past seat w s runs pool = rw (runs, pool) refl
 pub out_while_running : (script : Plan) (past : List Entry) (known : List Ready) (held : Held) (seat : ℕ) (w : Running) → IsPoolPast script past
     → AreLines script past known held → running past seat ≡ Some w → w.is_main ≡ false → (sequence_at held (sequence_of script w.home w.task)).cell ≡ None
 out_while_running script past known held seat w fits are runs pool =
-    let at : seat ≤ script.workers = (fits.runs seat w runs pool).known in
+    let at : seat ≤ script.workers = (fits.singly.runs seat w runs pool).can.known in
     are.cells q (running_there script past seat w fits runs pool)
     ∙ ap (λ b. cond b None (Some (cell_of script past q)))
     (seat_runs script past q seat (omega (arith, at)) (runs_of_it script past seat w q runs pool ∙ eqb-same q))

@@ -3,6 +3,7 @@ pub mod Queues
 pub mod LaneReads
 pub mod Following
 pub mod Choosing
+pub mod Best
 pub mod Places
 pub mod Leaving
 pub mod Idling

@@ -180,4 +180,4 @@ seats_at_main script past e seats main apart are = seats_same script past e seat
 pub seat_is : (script : Plan) (past : List Entry) (seat : ℕ) (w : Running) (seats : List (Option ℕ)) → IsPoolPast script past → AreSeats script past seats
     → running past seat ≡ Some w → w.is_main ≡ false → slice_get seats seat ≡ Some (Some w.task)
 seat_is script past seat w seats fits are runs pool =
-    rw (are.runs seat (let r = fits.runs seat w runs pool in omega (arith, r.known)), runs, pool) refl
+    rw (are.runs seat (let r = fits.singly.runs seat w runs pool in omega (arith, r.can.known)), runs, pool) refl

@@ -10,7 +10,7 @@ use Rattle.pool_laws.proofs.Keys.Arrivals.{head_is_first_arrival}
 use Rattle.pool_laws.proofs.Keys.Posts.{posts_same}
 use Rattle.pool_laws.proofs.Keys.Ready.{AllByRecursion-filter_map, key_of_stays}
 use Rattle.pool_laws.specs.Keys.{moves_posts}
-use Rattle.std.proofs.Common.{Bool, List, None, Option, Some, [], ap, false, inl, inr, refl, subst, sym, true, true≢false, ℕ, ◌++◌, ◌∙◌, ◌∷◌, ◌≡◌}
+use Rattle.std.proofs.Common.{List, None, Option, Some, [], ap, false, inl, inr, refl, subst, sym, true, true≢false, ℕ, ◌++◌, ◌∙◌, ◌∷◌, ◌≡◌}
 use Rattle.std.proofs.lemmas.Bool.{eqb-true, or_cases}
 use Rattle.std.proofs.lemmas.List.Elements.{Contains-push_cases}
 use Rattle.std.proofs.lemmas.Option.{none-some}
@@ -79,12 +79,10 @@ keys_kept past e still none have p among taken = by_taken (taken_cases past e p.
     by_taken (inl before) = some_key_stays past e p (have p (subst (λ ps. Contains ps p) (posts_same past e still) among) before)
     by_taken (inr now) = absurd (true≢false (sym now ∙ none p.task))
 
--- a post of a task that was not taken
-pub keys_at_post : (past : List Entry) (seat task runner delay : ℕ) (ok : Bool) → is_taken past task ≡ false → TakenHaveKeys past
-    → TakenHaveKeys (after_post past seat task runner delay ok)
-keys_at_post past seat task runner delay false untaken have p among taken =
-    keys_kept past (record { seat = seat; kind = kinds.Post task runner delay false }) refl (λ t. refl) have p among taken
-keys_at_post past seat task runner delay true untaken have p among taken =
+-- an accepted post of a task that was not taken
+pub keys_at_post : (past : List Entry) (seat task runner delay : ℕ) → is_taken past task ≡ false → TakenHaveKeys past
+    → TakenHaveKeys (after_post past seat task runner delay true)
+keys_at_post past seat task runner delay untaken have p among taken =
     by_side (Contains-push_cases (posts past) (post_behind past task runner delay) p (subst (λ ps. Contains ps p) (posts_push past e) among))
     (taken_cases past e p.task taken)
   where

@@ -1,11 +1,12 @@
 -- The phase, the policy and what shutdown waits for, as the past grows.
 -- Cited by 5 functions of `Pool`, `Calls/EmptyPool`, `Calls/Ends`, `Calls/Others`, `Calls/Posts`, `Calls/Reprio`, `Calls/Scopes`,
--- `Calls/Shutdown`, `Calls/Takes`, `Calls/Ticks`, `Jobs/AtJob`, `Jobs/JobStands`, `Works/AtSeat`.
+-- `Calls/Shutdown`, `Calls/Takes`, `Calls/Ticks`, `Jobs/AtJob`, `Jobs/JobStands`, `Jobs/JobSteps`, `Works/AtSeat`.
+use Rattle.pool_laws.proofs.Seats.Runs.{singly_unended}
 use Rattle.list_laws.proofs.Counts.{count_le}
 use Rattle.list_laws.proofs.Filters.{filter_never}
 use Rattle.pool_core.proofs.Accepted.{head_accepted, new_is_not_taken, one_post, posts_fit}
 use Rattle.pool_core.specs.Calls.{after_done, after_end, after_policy, after_post, after_shutdown, next}
-use Rattle.pool_core.specs.Others.{is_still, keeps_counts}
+use Rattle.pool_core.specs.Others.{tracked_parts}
 use Rattle.pool_core.specs.Pasts.{IsPoolPast, IsPoolScript}
 use Rattle.pool_core.specs.Tables.{tracked}
 use Rattle.pool_laws.proofs.Shutdown.Tasks.{blocks_and_skips}
@@ -20,21 +21,20 @@ use Rattle.std.proofs.lemmas.List.FromFn.{length-range_with_len}
 use Rattle.std.specs.List.{range_with_len}
 use Rattle.task_model.specs.Jobs.{is_empty, is_job_accepted, is_over, job_post_of}
 use Rattle.pool_laws.specs.Room.{share}
-use Rattle.pool_laws.specs.Shutdown.{moves_block_part, moves_skip_part}
+use Rattle.pool_laws.specs.Shutdown.{block_parts, skip_parts}
 use Rattle.shutdown_phase.specs.declared.phase_count.TheConstants.{MAX_BLOCKERS}
-use Rattle.std.proofs.Common.{Bool, List, None, Some, [], ap, arith, false, length, refl, sym, true, ℕ, ◌++◌, ◌+◌, ◌-◌, ◌<◌, ◌∙◌, ◌∷◌, ◌≡◌, ◌≤◌}
+use Rattle.std.proofs.Common.{Bool, List, None, Some, [], ap, arith, false, length, refl, true, ℕ, ◌++◌, ◌+◌, ◌-◌, ◌<◌, ◌∙◌, ◌∷◌, ◌≡◌, ◌≤◌}
 use Rattle.std.proofs.lemmas.Bool.{false≢true}
-use Rattle.std.specs.Prelude.{if◌then◌else◌, not, ◌&&◌, ◌||◌}
+use Rattle.std.specs.Prelude.{if◌then◌else◌, not, ◌&&◌}
 use Rattle.task_base.specs.Plan.{Plan}
 use Rattle.task_base.specs.declared.entry.Entry.{Entry}
-use Rattle.task_base.specs.declared.entry.Kind.{Kind}
 use Rattle.task_base.specs.declared.policy.Policy.{Policy}
 use Rattle.task_model.proofs.Growth.{phase_of_push, policy_of_push}
 use Rattle.task_model.specs.Blockers.{block_part, blockers_of, is_block, is_in_skip_job, is_open_job, is_skip, open_jobs, seats_in_skip_jobs, skip_part}
 use Rattle.task_model.specs.Keys.{Ready}
 use Rattle.task_model.specs.Past.{fold_past}
-use Rattle.task_model.specs.Phase.{phase_after, phase_of}
-use Rattle.task_model.specs.Policies.{policy_after, policy_of}
+use Rattle.task_model.specs.Phase.{phase_of}
+use Rattle.task_model.specs.Policies.{policy_of}
 use Rattle.task_model.specs.Posts.{Posted, is_ended, is_taken, post_of, posts}
 use Rattle.task_model.specs.Refusal.{behaviour_of_job, effective_at}
 use Rattle.task_model.specs.Seats.{Holding, Running, all_seats, holding, running}
@@ -46,6 +46,8 @@ use Rattle.task_traits.specs.declared.traits.Behaviour.TheVariants.{BlockShutdow
 use Rattle.task_base.specs.declared.entry.Kind.TheVariants as kinds
 use Rattle.task_base.specs.declared.policy.Policy.TheVariants as policies
 use Rattle.task_traits.specs.declared.phase.Phase.TheVariants as phases
+use Rattle.pool_laws.specs.Moves.{moves}
+use Rattle.pool_laws.proofs.Moves.{moves_fewer, same_phase, same_policy}
 
 -- what is tracked, part by part
 tracked_is : (script : Plan) (past : List Entry) (phase : Phase) (policy : Policy) (blocks skips : ℕ) → phase_of past ≡ phase → policy_of past ≡ policy
@@ -94,11 +96,6 @@ tracked_at_refusal script past seat task runner delay =
     let e : Entry = record { seat = seat; kind = kinds.Post task runner delay false } in
     rw (phase_of_push past e, policy_of_push past e, block_part_same script past e refl, skip_part_same script past e refl) refl
 
--- what was not taken has not ended
-unended : (ended taken : Bool) → (ended ≡ true → taken ≡ true) → taken ≡ false → ended ≡ false
-unended true taken only none = absurd (false≢true (sym none ∙ only refl))
-unended false taken only none = refl
-
 pub tracked_at_take : (script : Plan) (past : List Entry) (seat s found : ℕ) (head : Ready) → IsPoolPast script past → head_of script past s ≡ Some head
     → tracked script (next past seat (kinds.Take head.posted.task head.posted.home found))
     ≡ record (tracked script past) { skip_items = skip_part script past + skip_share (effective_at script head.posted.home head.posted.delay) }
@@ -109,7 +106,7 @@ tracked_at_take script past seat s found head fits is_head =
     (block_part_same script past e refl)
     (skip_part_at_take script past e head.posted head.posted.task head.posted.home found refl fits.in_order
     (one_post past head.posted fits.in_order accepted.0) accepted.2
-    (unended (is_ended past head.posted.task) (is_taken past head.posted.task) (fits.ended_was_taken head.posted.task) accepted.2)
+    (singly_unended script past false head.posted.task fits.singly accepted.2)
     ∙ rw (skip_share_is (effective_at script head.posted.home head.posted.delay)) refl)
 
 -- the end of a task that was posted in this way
@@ -118,14 +115,14 @@ block_at_end : (script : Plan) (past : List Entry) (seat left : ℕ) (w : Runnin
     → block_part script past ≡ block_part script (after_end past seat w.task left) + block_share (effective_at script p.home p.delay)
 block_at_end script past seat left w p fits runs pool posted =
     block_part_at_end script past (record { seat = seat; kind = kinds.End w.task left }) p w.task left refl fits.in_order posted
-    (fits.runs seat w runs pool).not_ended ∙ rw (block_share_is (effective_at script p.home p.delay)) refl
+    (fits.singly.runs seat w runs pool).not_ended ∙ rw (block_share_is (effective_at script p.home p.delay)) refl
 
 skip_at_end : (script : Plan) (past : List Entry) (seat left : ℕ) (w : Running) (p : Posted) → IsPoolPast script past → running past seat ≡ Some w
     → w.is_main ≡ false → post_of past w.task ≡ Some p
     → skip_part script past ≡ skip_part script (after_end past seat w.task left) + skip_share (effective_at script p.home p.delay)
 skip_at_end script past seat left w p fits runs pool posted =
     skip_part_at_end script past (record { seat = seat; kind = kinds.End w.task left }) p w.task left refl fits.in_order posted
-    (fits.runs seat w runs pool).taken (fits.runs seat w runs pool).not_ended ∙ rw (skip_share_is (effective_at script p.home p.delay)) refl
+    (fits.singly.runs seat w runs pool).taken (fits.singly.runs seat w runs pool).not_ended ∙ rw (skip_share_is (effective_at script p.home p.delay)) refl
 
 -- what it counts for, and what is left
 pub counts_at_end : (script : Plan) (past : List Entry) (seat : ℕ) (w : Running) (p : Posted) → IsPoolPast script past → running past seat ≡ Some w
@@ -166,38 +163,18 @@ tracked_at_done script past seat =
     rw (phase_of_push past e, policy_of_push past e, block_part_same script past e refl, skip_part_same script past e refl) refl
 
 -- an entry that moves none of the counts, neither the phase nor the policy
-record LeavesCounts (kind : Kind) : Type 0 where
-  blocks : moves_block_part kind ≡ false
-  skips : moves_skip_part kind ≡ false
-  phase : (now : Phase) → phase_after now kind ≡ now
-  policy : (now : Policy) → policy_after now kind ≡ now
-
-leaves_counts : (kind : Kind) → (is_still kind || keeps_counts kind) ≡ true → LeavesCounts kind
-leaves_counts (kinds.Post task runner delay ok) h = absurd (false≢true h)
-leaves_counts (kinds.Take task runner found) h = absurd (false≢true h)
-leaves_counts (kinds.End task left) h = absurd (false≢true h)
-leaves_counts (kinds.Policy policy) h = absurd (false≢true h)
-leaves_counts (kinds.JobTake job id item) h = absurd (false≢true h)
-leaves_counts (kinds.JobStep job id item value next) h = absurd (false≢true h)
-leaves_counts (kinds.JobPost job ok) h = absurd (false≢true h)
-leaves_counts (kinds.JobCancel job) h = absurd (false≢true h)
-leaves_counts kinds.Shutdown h = absurd (false≢true h)
-leaves_counts kinds.Done h = absurd (false≢true h)
-leaves_counts kind h = record { blocks = refl; skips = refl; phase = λ now. refl; policy = λ now. refl }
-
--- a tick, a scope, and what is not the pool's
-pub tracked_kept : (script : Plan) (past : List Entry) (e : Entry) → (is_still e.kind || keeps_counts e.kind) ≡ true
+pub tracked_kept : (script : Plan) (past : List Entry) (e : Entry) → moves tracked_parts e.kind ≡ false
     → tracked script (past ++ e ∷ []) ≡ tracked script past
 tracked_kept script past e still =
-    let leaves = leaves_counts e.kind still in
     rw (
       phase_of_push past e,
-      leaves.phase (phase_of past),
+      same_phase tracked_parts e.kind refl still (phase_of past),
       policy_of_push past e,
-      leaves.policy (policy_of past),
-      block_part_same script past e leaves.blocks,
-      skip_part_same script past e leaves.skips,
-    ) refl
+      same_policy tracked_parts e.kind refl still (policy_of past),
+      block_part_same script past e (moves_fewer block_parts tracked_parts e.kind refl still),
+      skip_part_same script past e (moves_fewer skip_parts tracked_parts e.kind refl still),
+    )
+    refl
 
 -- what is counted, and that it is little
 pub counted_is : (script : Plan) (past : List Entry) → blocker_count (tracked script past) ≡ blockers_of script past

@@ -1,43 +1,39 @@
 -- Entries that change nothing of the pool, or little.
-use Rattle.std.specs.Prelude.{Bool, true, false}
+use Rattle.std.specs.Prelude.{Bool, List, [], ◌∷◌, ◌++◌, not}
 use Rattle.task_base.specs.declared.entry.Kind.{Kind}
-use Rattle.task_base.specs.declared.entry.Kind.TheVariants as kinds
+use Rattle.pool_laws.specs.Choice.{held_parts, waiting_parts}
+use Rattle.pool_laws.specs.Keys.{ready_parts}
+use Rattle.pool_laws.specs.Moves.{Part, Ends, Phases, Posts, Priorities, Moment, Scopes, Takes, moves}
+use Rattle.pool_laws.specs.Seats.{seat_parts}
+use Rattle.pool_laws.specs.Shutdown.{block_parts, open_job_parts, skip_parts}
 
--- an entry of the main queues, other than those at which the driver takes or ends, or one that only reports
+-- what the pool knows of the past: what waits, and scopes
+abbrev pub pool_parts : List Part
+pool_parts = Scopes ∷ waiting_parts
+
+-- an entry that moves none of it: one of the main queues, other than those at which the driver takes or ends, or one that only reports
 abbrev pub is_still : Kind → Bool
-is_still (kinds.Main task queue delay ok) = true
-is_still (kinds.Fence queue at) = true
-is_still (kinds.Unfence queue) = true
-is_still (kinds.Vote queue voter on) = true
-is_still (kinds.Rank queue class) = true
-is_still (kinds.Close queue) = true
-is_still kinds.MainNone = true
-is_still (kinds.Cancelled job) = true
-is_still (kinds.Joined job reply) = true
-is_still kinds.Idle = true
-is_still kind = false
+is_still kind = not (moves pool_parts kind)
 
--- such an entry, or one that changes the policy, the priority of a runner, or the phase alone
-abbrev pub is_quiet : Kind → Bool
-is_quiet (kinds.Reprio runner priority) = true
-is_quiet (kinds.Policy policy) = true
-is_quiet kinds.Shutdown = true
-is_quiet kinds.Done = true
-is_quiet kind = is_still kind
+-- what the groups know, and with the posts what the past of the pool tells
+abbrev pub group_parts : List Part
+group_parts = Moment ∷ Scopes ∷ seat_parts
 
--- a post to the pool, of a task or of a job, or the cancel of a job
-abbrev pub posts_to_pool : Kind → Bool
-posts_to_pool (kinds.Post task runner delay ok) = true
-posts_to_pool (kinds.JobPost job ok) = true
-posts_to_pool (kinds.JobCancel job) = true
-posts_to_pool kind = false
+abbrev pub past_parts : List Part
+past_parts = Posts ∷ group_parts
 
--- an entry that changes neither the phase, nor the policy, nor what shutdown waits for: a changed priority, a tick, a scope, a main task
-abbrev pub keeps_counts : Kind → Bool
-keeps_counts (kinds.Reprio runner priority) = true
-keeps_counts (kinds.Tick now) = true
-keeps_counts (kinds.Enter task scope) = true
-keeps_counts (kinds.Leave task) = true
-keeps_counts (kinds.MainTake task queue found) = true
-keeps_counts (kinds.MainEnd task left) = true
-keeps_counts kind = false
+-- what it tells of the pool's tasks
+abbrev pub task_parts : List Part
+task_parts = Takes ∷ Ends ∷ Scopes ∷ ready_parts
+
+-- what the lines of tasks know beside the arrivals and what runs
+abbrev pub line_parts : List Part
+line_parts = Takes ∷ Ends ∷ Phases ∷ []
+
+-- what the tracker counts, with the phase and the policy
+abbrev pub tracked_parts : List Part
+tracked_parts = held_parts ++ block_parts ++ skip_parts
+
+-- what the tables know of priorities, keys and jobs
+abbrev pub table_parts : List Part
+table_parts = Priorities ∷ ready_parts ++ open_job_parts

@@ -2,18 +2,18 @@
 use Rattle.std.specs.Prelude.{◌≡◌, ℕ, ◌<◌, ◌≤◌, true, false, List, length, Option, Some, None, is_some, not, Contains}
 use Rattle.std.specs.List.{AllByRecursion}
 use Rattle.task_base.specs.Plan.{Plan}
-use Rattle.task_base.specs.Runners.{sequence_of, seat_of_kind}
+use Rattle.task_base.specs.Runners.{seat_of_kind}
 use Rattle.task_base.specs.declared.entry.Entry.{Entry}
 use Rattle.task_base.specs.declared.limits.TheConstants.{MOST_WORKERS, MOST_RUNNERS, MOST_TASKS, MOST_JOBS, LAST_MOMENT}
 use Rattle.list_laws.specs.Lists.{keep}
 use Rattle.list_laws.specs.Sorts.{SameMembers}
-use Rattle.task_model.specs.Posts.{Posted, posts, post_of, is_taken, is_ended, InOrder}
+use Rattle.task_model.specs.Posts.{Posted, posts, post_of, is_taken, InOrder}
 use Rattle.task_model.specs.Time.{now_of}
 use Rattle.task_model.specs.Keys.{key_of, ready, arrivals}
 use Rattle.task_model.specs.Seats.{Running, running}
 use Rattle.task_model.specs.Capacity.{open_scope}
 use Rattle.pool_laws.specs.Keys.{NoTickAhead}
-use Rattle.pool_laws.specs.Seats.{RunsPoolTask}
+use Rattle.pool_laws.specs.Runs.{RunsSingly}
 use Rattle.pool_core.specs.Holdings.{AreInside}
 
 -- within the limits of scripts; a single-thread runner states the seat of a worker
@@ -32,18 +32,15 @@ IsDeclared script p = (p.home < length script.runners) × (p.task < length scrip
 abbrev pub TakenHaveKeys : List Entry → Type 0
 TakenHaveKeys past = (p : Posted) → Contains (posts past) p → is_taken past p.task ≡ true → is_some (key_of past p) ≡ true
 
--- each accepted task is declared and was posted once, a task that was taken was accepted and has a key, and one that has
--- ended was taken; workers run such tasks, one of a sequence at a time; keys come as ticks reach ripe moments; only a task
--- that was taken has an open scope; and who is inside a job is a seat of the script, under a number of its own, and as a
--- worker runs no task. Every legal past is such a past
+-- each accepted task is declared and was posted once, and a task that was taken was accepted and has a key; workers run such
+-- tasks, one of a sequence at a time; keys come as ticks reach ripe moments; only a task that was taken has an open scope; and
+-- who is inside a job is a seat of the script, under a number of its own, and as a worker runs no task. Every legal past is
+-- such a past
 pub record IsPoolPast (script : Plan) (past : List Entry) : Type 0 where
   pub in_order : InOrder (posts past)
   pub declared : AllByRecursion (IsDeclared script) (posts past)
   pub taken_was_accepted : (t : ℕ) → is_taken past t ≡ true → (p : Posted) × (post_of past t ≡ Some p)
-  pub ended_was_taken : (t : ℕ) → is_ended past t ≡ true → is_taken past t ≡ true
-  pub runs : (seat : ℕ) (w : Running) → running past seat ≡ Some w → w.is_main ≡ false → RunsPoolTask script past seat w
-  pub one_sequence : (a b : ℕ) (v w : Running) → running past a ≡ Some v → running past b ≡ Some w → v.is_main ≡ false → w.is_main ≡ false
-      → sequence_of script v.home v.task ≡ sequence_of script w.home w.task → a ≡ b
+  pub singly : RunsSingly script past false
   pub moment_fits : now_of past ≤ LAST_MOMENT
   pub no_tick_ahead : NoTickAhead past
   pub arrivals_are_ready : SameMembers (arrivals past) (ready past)

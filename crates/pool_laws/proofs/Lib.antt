@@ -1,3 +1,4 @@
+pub mod Moves
 pub mod Keys
 pub mod Seats
 pub mod Room

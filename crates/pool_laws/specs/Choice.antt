@@ -1,5 +1,5 @@
 -- Words of the laws on what waits, and what a worker takes next.
-use Rattle.std.specs.Prelude.{◌≡◌, ℕ, false, List, Option, Some, None, slice_get, take, option_and_then, Bool, true, All, ◌||◌, nat_lt, if◌then◌else◌, length, Contains}
+use Rattle.std.specs.Prelude.{◌≡◌, ℕ, false, List, [], ◌∷◌, ◌++◌, Option, Some, None, slice_get, take, option_and_then, Bool, true, All, nat_lt, if◌then◌else◌, length, Contains}
 use Rattle.task_base.specs.Plan.{Plan}
 use Rattle.task_base.specs.declared.entry.Entry.{Entry}
 use Rattle.task_base.specs.declared.entry.Kind.{Kind}
@@ -10,9 +10,10 @@ use Rattle.task_base.specs.Runners.{sequence_of, sequence_count}
 use Rattle.task_model.specs.Sources.{Candidate, sequence_waiting, would_wait, waiting, IsTakeable, is_takeable, goes_before, job_waiting}
 use Rattle.task_model.specs.Posts.{Posted, post_behind}
 use Rattle.task_model.specs.Policies.{is_held}
-use Rattle.pool_laws.specs.Keys.{moves_sequences}
-use Rattle.pool_laws.specs.Jobs.{moves_jobs}
-use Rattle.pool_laws.specs.Seats.{moves_running}
+use Rattle.pool_laws.specs.Keys.{sequence_parts}
+use Rattle.pool_laws.specs.Jobs.{job_parts}
+use Rattle.pool_laws.specs.Moves.{Part, Phases, Policies, Priorities, moves}
+use Rattle.pool_laws.specs.Seats.{running_parts}
 
 -- the source that the entry is a post to
 abbrev pub posted_source : Plan → Kind → Option TaskSource
@@ -42,33 +43,6 @@ pub record IsBest (script : Plan) (past : List Entry) (seat : ℕ) (c : Candidat
 abbrev pub WouldWait : Plan → List Entry → Candidate → Type 0
 WouldWait script past c = Contains (would_wait script past) c
 
--- the kinds that may change what waits
-abbrev pub moves_waiting : Kind → Bool
-moves_waiting (kinds.Post task runner delay ok) = ok
-moves_waiting (kinds.Tick now) = true
-moves_waiting (kinds.Take task runner found) = true
-moves_waiting (kinds.End task left) = true
-moves_waiting (kinds.Policy policy) = true
-moves_waiting (kinds.Reprio runner priority) = true
-moves_waiting (kinds.MainTake task queue found) = true
-moves_waiting (kinds.MainEnd task left) = true
-moves_waiting (kinds.JobPost job ok) = true
-moves_waiting (kinds.JobTake job id item) = true
-moves_waiting (kinds.JobStep job id item value next) = true
-moves_waiting (kinds.JobCancel job) = true
-moves_waiting kinds.Shutdown = true
-moves_waiting kinds.Done = true
-moves_waiting kind = false
-
--- the kind that changes the priority of a runner
-abbrev pub moves_priorities : Kind → Bool
-moves_priorities (kinds.Reprio runner priority) = true
-moves_priorities kind = false
-
--- the kinds that may change whether a sequence waits, and with which priority
-abbrev pub moves_sequence_waiting : Kind → Bool
-moves_sequence_waiting kind = moves_sequences kind || (moves_running kind || moves_priorities kind)
-
 -- the candidate of a source, where it is one of the script's and waits
 abbrev pub source_waiting : Plan → List Entry → TaskSource → Option Candidate
 source_waiting script past (Sequence s) = if nat_lt s (sequence_count script) then sequence_waiting script past s else None
@@ -79,16 +53,37 @@ pub record IsFree (script : Plan) (past : List Entry) (c : Candidate) : Type 0 w
   pub candidate : source_waiting script past c.source ≡ Some c
   pub not_held : is_held past c.priority ≡ false
 
+-- the kind that changes the priority of a runner
+abbrev pub moves_priorities : Kind → Bool
+moves_priorities = moves (Priorities ∷ [])
+
+-- the kinds that may change whether a sequence waits, and with which priority
+abbrev pub sequence_waiting_parts : List Part
+sequence_waiting_parts = Priorities ∷ sequence_parts ++ running_parts
+
+abbrev pub moves_sequence_waiting : Kind → Bool
+moves_sequence_waiting = moves sequence_waiting_parts
+
 -- the kinds that may change whether a source waits
+abbrev pub source_parts : List Part
+source_parts = sequence_waiting_parts ++ job_parts
+
 abbrev pub moves_sources : Kind → Bool
-moves_sources kind = moves_sequence_waiting kind || moves_jobs kind
+moves_sources = moves source_parts
+
+-- the kinds that may change what waits
+abbrev pub waiting_parts : List Part
+waiting_parts = Policies ∷ source_parts
+
+abbrev pub moves_waiting : Kind → Bool
+moves_waiting = moves waiting_parts
 
 -- the kinds that may change which work is held back
+abbrev pub held_parts : List Part
+held_parts = Policies ∷ Phases ∷ []
+
 abbrev pub moves_held : Kind → Bool
-moves_held (kinds.Policy policy) = true
-moves_held kinds.Shutdown = true
-moves_held kinds.Done = true
-moves_held kind = false
+moves_held = moves held_parts
 
 -- each source but one waits as before
 abbrev pub OthersKept : Plan → List Entry → List Entry → TaskSource → Type 0

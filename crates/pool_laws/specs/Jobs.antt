@@ -1,22 +1,20 @@
 -- Words of the laws on jobs.
-use Rattle.std.specs.Prelude.{◌≡◌, ℕ, ◌==◌, Bool, true, false, List}
+use Rattle.std.specs.Prelude.{◌≡◌, ℕ, ◌==◌, Bool, false, List, [], ◌∷◌}
 use Rattle.task_base.specs.Plan.{Plan}
 use Rattle.task_base.specs.declared.entry.Entry.{Entry}
 use Rattle.task_base.specs.declared.entry.Kind.{Kind}
 use Rattle.task_base.specs.declared.entry.Kind.TheVariants as kinds
 use Rattle.task_model.specs.Phase.{phase_of}
 use Rattle.task_model.specs.Seats.{inside}
+use Rattle.pool_laws.specs.Moves.{Part, Cancels, Items, JobPosts, Phases, moves}
 use Rattle.task_model.specs.Jobs.{job_post_of, is_cancelled, claimed, done, job_sum}
 
 -- the kinds that may change what is known of a job
+abbrev pub job_parts : List Part
+job_parts = JobPosts ∷ Items ∷ Cancels ∷ Phases ∷ []
+
 abbrev pub moves_jobs : Kind → Bool
-moves_jobs (kinds.JobPost job ok) = true
-moves_jobs (kinds.JobTake job id item) = true
-moves_jobs (kinds.JobStep job id item value next) = true
-moves_jobs (kinds.JobCancel job) = true
-moves_jobs kinds.Shutdown = true
-moves_jobs kinds.Done = true
-moves_jobs kind = false
+moves_jobs = moves job_parts
 
 -- the entry is a post of the job
 abbrev pub posts_job : ℕ → Kind → Bool

@@ -25,8 +25,8 @@ use Rattle.task_model.specs.Refusal.{is_closed}
 use Rattle.task_model.specs.Orders.{Ordered, ordered, numbered_from, drawing_by, main_arrivals, ripens}
 use Rattle.task_model.specs.Orders.{ripening, next_draw, draws, drawn_by, drawn_at, order_of}
 use Rattle.task_model.specs.MainQueues.{class_of, front_with, is_in_lane, order_below, front_of}
-use Rattle.pool_laws.specs.Keys.{NoTickAhead, moves_main_posts}
-use Rattle.queue_laws.specs.Orders.{moves_orders, order_at_tick_of, ordered_below}
+use Rattle.pool_laws.specs.Keys.{NoTickAhead}
+use Rattle.queue_laws.specs.Orders.{moves_orders, order_at_tick_of, ordered_below, order_parts}
 use Rattle.queue_laws.specs.Fronts.{front_for}
 use Rattle.list_laws.proofs.Values.{some-injective}
 use Rattle.list_laws.proofs.Counts.{count-cons}
@@ -41,18 +41,18 @@ use Rattle.task_model.proofs.Growth.{main_posts_push, main_arrivals_push, draws_
 use Rattle.pool_laws.proofs.Keys.Arrivals.{ranks_ripens, main_posts_differ}
 use Rattle.queue_laws.proofs.Orders.{main_places, drawn, order_is, order_of_same, order_tick, order_at_post, unordered}
 use Rattle.queue_laws.proofs.Fronts.{front_is_least}
+use Rattle.pool_laws.specs.Moves.{moves}
 
 -- What one more entry does to the main arrivals.
 
-pub main_arrivals_same : (past : List Entry) (e : Entry) → moves_main_posts e.kind ≡ false → moves_orders e.kind ≡ false
-    → main_arrivals (past ++ e ∷ []) ≡ main_arrivals past
-main_arrivals_same past e no_post no_tick =
-    main_arrivals_push past e ∙ ap (λ xs. main_arrivals past ++ xs) (none e.kind no_post no_tick) ∙ append-nil (main_arrivals past)
+pub main_arrivals_same : (past : List Entry) (e : Entry) → moves order_parts e.kind ≡ false → main_arrivals (past ++ e ∷ []) ≡ main_arrivals past
+main_arrivals_same past e quiet =
+    main_arrivals_push past e ∙ ap (λ xs. main_arrivals past ++ xs) (none e.kind quiet) ∙ append-nil (main_arrivals past)
   where
-    none : (kind : Kind) → moves_main_posts kind ≡ false → moves_orders kind ≡ false → drawing_by past kind ≡ []
-    none (kinds.Main task queue delay true) h k = absurd (true≢false h)
-    none (kinds.Tick now) h k = absurd (true≢false k)
-    none kind h k = refl
+    none : (kind : Kind) → moves order_parts kind ≡ false → drawing_by past kind ≡ []
+    none (kinds.Main task queue delay true) h = absurd (true≢false h)
+    none (kinds.Tick now) h = absurd (true≢false h)
+    none kind h = refl
 
 pub main_arrivals_at_post : (past : List Entry) (e : Entry) (task queue delay : ℕ) → e.kind ≡ kinds.Main task queue delay true → nat_lt 0 delay ≡ false
     → main_arrivals (past ++ e ∷ []) ≡ main_arrivals past ++ record { posted = post_behind past task queue delay; order = next_draw past } ∷ []

@@ -5,18 +5,19 @@ use Rattle.std.proofs.Common.{◌≡◌, ℕ, ◌+◌, ◌<◌, Bool, true, fals
 use Rattle.std.specs.Prelude.{not, ◌&&◌, ◌||◌, nat_lt, nat_le, filter, option_and_then, is_none}
 use Rattle.std.specs.Option.{option_or}
 use Rattle.std.specs.List.{AllByRecursion}
-use Rattle.std.proofs.lemmas.Bool.{true≢false, ltb-true}
+use Rattle.std.proofs.lemmas.Bool.{ltb-true}
 use Rattle.std.proofs.lemmas.Option.{none-some}
 use Rattle.std.proofs.lemmas.List.{take-append-le}
 use Rattle.std.proofs.Math.Seq.{take-append_seam}
 use Rattle.task_base.specs.declared.entry.Entry.{Entry}
-use Rattle.task_base.specs.declared.entry.Kind.{Kind}
 use Rattle.task_base.specs.declared.entry.Kind.TheVariants as kinds
-use Rattle.task_model.specs.Time.{now_of, is_tick_from, tick_from}
+use Rattle.task_model.specs.Time.{now_of, tick_from}
 use Rattle.task_model.specs.Posts.{Posted, is_delayed, post_behind, main_posts}
 use Rattle.task_model.specs.Refusal.{is_closed}
 use Rattle.task_model.specs.Orders.{ripening, next_draw, drawn_at, moment_of, moment_at, order_of}
 use Rattle.pool_laws.specs.Keys.{tick_by}
+use Rattle.pool_laws.proofs.Moves.{no_tick}
+use Rattle.pool_laws.specs.Moves.{Moment}
 use Rattle.queue_laws.specs.Orders.{moves_orders, order_at_tick_of}
 use Rattle.list_laws.proofs.Options.{option_or-none}
 use Rattle.list_laws.proofs.Elements.{slice_get-front, slice_get-end, AllByRecursion-map}
@@ -77,13 +78,9 @@ order_of_stays past rest p n lt is = order_is (past ++ rest) p ∙ by_delayed (i
     by_delayed false immediate h = ap (λ before. Some (next_draw before)) (take-append-le p.place past rest (omega (arith, lt))) ∙ h
 
 -- an entry that is no tick leaves the first ticks
-no_tick : (kind : Kind) → moves_orders kind ≡ false → (moment : ℕ) → is_tick_from moment kind ≡ false
-no_tick (kinds.Tick now) h moment = absurd (true≢false h)
-no_tick kind h moment = refl
-
 pub tick_same : (past : List Entry) (e : Entry) → moves_orders e.kind ≡ false → (moment : ℕ) → tick_from (past ++ e ∷ []) moment ≡ tick_from past moment
 tick_same past e quiet moment = tick_from_push past e moment
-    ∙ ap (λ (b : Bool). option_or (tick_from past moment) (cond b (Some (length past)) None)) (no_tick e.kind quiet moment)
+    ∙ ap (λ (b : Bool). option_or (tick_from past moment) (cond b (Some (length past)) None)) (no_tick (Moment ∷ []) e.kind refl quiet moment)
     ∙ option_or-none (tick_from past moment)
 
 pub order_of_same : (past : List Entry) (e : Entry) (p : Posted) → p.place < length past → moves_orders e.kind ≡ false

@@ -1,26 +1,12 @@
 -- Words of the laws on lanes, their fronts, and the streak.
-use Rattle.std.specs.Prelude.{ℕ, Bool, true, false, List, filter}
+use Rattle.std.specs.Prelude.{ℕ, List, filter}
 use Rattle.std.specs.List.{filter_map}
 use Rattle.task_base.specs.Plan.{Plan}
 use Rattle.task_base.specs.declared.entry.Entry.{Entry}
-use Rattle.task_base.specs.declared.entry.Kind.{Kind}
-use Rattle.task_base.specs.declared.entry.Kind.TheVariants as kinds
 use Rattle.task_base.specs.declared.script.Lane.{Lane}
 use Rattle.task_model.specs.Posts.{main_posts}
 use Rattle.task_model.specs.Orders.{Ordered}
 use Rattle.task_model.specs.MainQueues.{Front, class_of, front_with, is_in_lane}
-
--- the kinds that may change which main task is chosen
-abbrev pub moves_main_queues : Kind → Bool
-moves_main_queues (kinds.Main task queue delay ok) = ok
-moves_main_queues (kinds.Tick now) = true
-moves_main_queues (kinds.Fence queue at) = true
-moves_main_queues (kinds.Unfence queue) = true
-moves_main_queues (kinds.Vote queue voter on) = true
-moves_main_queues (kinds.Rank queue class) = true
-moves_main_queues (kinds.Close queue) = true
-moves_main_queues (kinds.MainTake task queue found) = true
-moves_main_queues kind = false
 
 -- the tasks in a lane that have orders, and have not been taken
 abbrev pub lane_of : Plan → List Entry → ℕ → Lane → List Front

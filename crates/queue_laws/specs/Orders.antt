@@ -1,11 +1,11 @@
 -- Words of the laws on the orders of main tasks.
-use Rattle.std.specs.Prelude.{◌≡◌, ℕ, List, [], ◌∷◌, Option, Some, ◌<◌, nat_lt, Bool, true, false, ◌&&◌, if◌then◌else◌, is_none}
+use Rattle.std.specs.Prelude.{◌≡◌, ℕ, List, [], ◌∷◌, Option, Some, ◌<◌, nat_lt, Bool, ◌&&◌, if◌then◌else◌, is_none}
 use Rattle.std.specs.List.{AllByRecursion}
 use Rattle.task_base.specs.declared.entry.Entry.{Entry}
 use Rattle.task_model.specs.Posts.{Posted, main_posts, is_delayed}
 use Rattle.task_model.specs.Orders.{Ordered, order_of, next_draw, drawn_at}
 use Rattle.task_base.specs.declared.entry.Kind.{Kind}
-use Rattle.task_base.specs.declared.entry.Kind.TheVariants as kinds
+use Rattle.pool_laws.specs.Moves.{Part, MainPosts, Moment, moves}
 use Rattle.task_model.specs.Time.{tick_from}
 
 -- no two of the tasks have one number
@@ -17,10 +17,12 @@ Distinct number (p ∷ ps) = AllByRecursion (λ q. (n : ℕ) → number p ≡ So
 abbrev pub OrdersDistinct : List Entry → Type 0
 OrdersDistinct past = Distinct (order_of past) (main_posts past)
 
--- the kinds that may give a task of the past its order
+-- the kinds that may give a main task its order: an accepted post, and a tick, which alone does so to a task of the past
+abbrev pub order_parts : List Part
+order_parts = MainPosts ∷ Moment ∷ []
+
 abbrev pub moves_orders : Kind → Bool
-moves_orders (kinds.Tick now) = true
-moves_orders kind = false
+moves_orders = moves (Moment ∷ [])
 
 -- each order that was drawn is below the next draw; it holds where the moments of the ticks never fall
 abbrev pub OrdersBelow : List Entry → Type 0

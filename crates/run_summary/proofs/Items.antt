@@ -18,7 +18,7 @@ use Rattle.hist_model.specs.Legal.{IsLegal}
 use Rattle.hist_model.specs.Script.{is_finished, IsWhole}
 use Rattle.hist_model.specs.Laws.Consistent.{is_join}
 use Rattle.hist_model.specs.Laws.Whole.{LosesNothing}
-use Rattle.hist_model.proofs.Laws.Whole.{loses_nothing}
+use Rattle.hist_model.proofs.Laws.Whole.Losing.{loses_nothing}
 use Rattle.task_script.specs.Generated.{numbers_behind, goal_of, posting_of, postings_from, generated}
 use Rattle.run_summary.specs.Summary.{ends_item, value_in}
 use Rattle.run_summary.proofs.Calm.{postings_all, generated_is_calm}

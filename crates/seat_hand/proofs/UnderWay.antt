@@ -1,9 +1,9 @@
 -- A task that a seat has in hand: whose it is, its next act step, and what is in hand behind its take and its acts.
 -- Cited by `advance`, `env_check`, `env_explain`, `next_entry`.
 use Rattle.task_body.proofs.Progress.{computes_first}
-use Rattle.hist_model.proofs.Laws.Whole.{none_of}
-use Rattle.std.proofs.Common.{◌≡◌, ◌≢◌, ℕ, zero, suc, ◌+◌, ◌≤◌, Bool, true, false, List, [], ◌∷◌, ◌++◌, length, refl, sym, ap, subst, ◌∙◌, Option, Some, None}
-use Rattle.std.proofs.Common.{append-nil, append_assoc, arith, drop, take}
+use Rattle.hist_model.proofs.Laws.Whole.Rest.{none_of}
+use Rattle.std.proofs.Common.{◌≡◌, ◌≢◌, ℕ, ◌+◌, ◌≤◌, Bool, true, false, List, [], ◌∷◌, ◌++◌, length, refl, sym, ap, subst, ◌∙◌, Option, Some, None}
+use Rattle.std.proofs.Common.{append-nil, append_assoc, arith}
 use Rattle.std.proofs.Math.Bool.{or-false}
 use Rattle.std.proofs.lemmas.Bool.{and_parts, eqb-true, false_from_ne_true}
 use Rattle.std.proofs.lemmas.List.{length-append}
@@ -31,13 +31,13 @@ use Rattle.hist_model.proofs.Laws.OneThing.{legal_does_one_thing}
 use Rattle.hist_model.proofs.Laws.Own.{acts_done_own, holding_own, running_own}
 use Rattle.task_body.specs.Bodies.{AssignmentView}
 use Rattle.task_body.specs.Passes.{PassView}
-use Rattle.task_body.specs.Progress.{OnlyComputes, Progress}
+use Rattle.task_body.specs.Progress.{Progress}
 use Rattle.task_body.specs.declared.act.Act.{Act}
 use Rattle.task_body.specs.declared.act.Act.TheVariants as acts
 use Rattle.env_core.specs.Calls.{EntersAct, HasTaken, HasTakenMain, IsNextAct, act_of, entry_of}
 use Rattle.env_core.specs.Jobs.{held_by}
 use Rattle.env_core.specs.Views.{EnvView, Enters}
-use Rattle.env_core.proofs.Plans.{main_runs, pool_runs}
+use Rattle.env_core.proofs.Plans.{runs_as}
 use Rattle.seat_hand.specs.Entries.{with_reply}
 use Rattle.seat_hand.specs.Hands.{AreInHand, IsAtTask, told_by}
 use Rattle.seat_hand.specs.declared.hand.AtTask.{AtTask}
@@ -225,7 +225,7 @@ entry_with t step kind ok h = absurd cc
 pub worker_runs_pool : (script : Plan) (past : List Entry) (seat : ℕ) (w : Running) → IsLegal script past → 1 ≤ seat → running past seat ≡ Some w
     → w.is_main ≡ false
 worker_runs_pool script past seat w legal worker runs = false_from_ne_true w.is_main
-    (λ main. let driver : seat ≡ 0 = (main_runs script past seat w legal runs main).driver in absurd (omega (arith, driver, worker)))
+    (λ main. let driver : seat ≡ 0 = (runs_as script past seat w true legal runs main).can.driver refl in absurd (omega (arith, driver, worker)))
 
 -- the driver runs a main task
 pub driver_runs_main : (script : Plan) (past : List Entry) (seat : ℕ) (w : Running) → IsLegal script past → seat ≡ 0 → running past seat ≡ Some w
@@ -234,7 +234,7 @@ driver_runs_main script past seat w legal driver runs = by_main w.is_main refl
   where
     by_main : (main : Bool) → w.is_main ≡ main → main ≡ true
     by_main true is = refl
-    by_main false is = let worker : 1 ≤ seat = (pool_runs script past seat w legal runs is).worker in absurd (omega (arith, driver, worker))
+    by_main false is = let worker : 1 ≤ seat = (runs_as script past seat w false legal runs is).can.worker refl in absurd (omega (arith, driver, worker))
 
 -- The steps before it.
 

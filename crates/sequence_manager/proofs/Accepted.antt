@@ -1,5 +1,5 @@
 -- What a past of the main queues says of the tasks that were accepted.
--- Cited by `Streak`, `TakenLanes`, `TakenPast`, `Takes`.
+-- Cited by `Pasts`, `Streak`, `TakenLanes`, `Takes`.
 use Rattle.pool_laws.proofs.Keys.Posts.{in_order_found}
 use Rattle.std.proofs.Common.{◌≡◌, ℕ, ◌<◌, ◌≤◌, List, refl, sym, ap, ◌∙◌, Option, Some, None, inl, inr}
 use Rattle.std.specs.Prelude.{◌⊎◌, Contains}

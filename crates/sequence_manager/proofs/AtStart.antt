@@ -1,20 +1,17 @@
 -- A manager of fresh parts stands for a history that has not begun.
 -- Cited by `Manager::new`.
-use Rattle.list_laws.proofs.Made.{none_contained}
 use Rattle.list_laws.proofs.Values.{some-injective}
-use Rattle.pool_laws.proofs.Keys.Ready.{no_tick_ahead_at_start}
-use Rattle.queue_laws.proofs.Arrivals.{main_arrivals_are_ordered_at_start}
 use Rattle.sequence_manager.proofs.Fresh.{row_of_class}
 use Rattle.sequence_manager.proofs.Parts.{load}
+use Rattle.sequence_manager.proofs.Pasts.{past_at_start}
 use Rattle.sequence_manager.proofs.Tables.{queue_at_is}
-use Rattle.sequence_manager.specs.Pasts.{IsMainPast, IsMainScript}
+use Rattle.sequence_manager.specs.Pasts.{IsMainScript}
 use Rattle.sequence_manager.specs.Postings.{room_of}
 use Rattle.sequence_manager.specs.Queues.{IsTable, queue_of, row_of}
 use Rattle.sequence_manager.specs.StandsFor.{StandsFor}
 use Rattle.sequence_manager.specs.State.{fresh_from, fresh_queue, fresh_queues, queue_at}
 use Rattle.sequence_manager.specs.declared.manager.Manager.{Manager}
 use Rattle.std.proofs.Common.{List, Some, [], ap, arith, length, map, refl, replicate, suc, sym, true, zero, ℕ, ◌+◌, ◌<◌, ◌∙◌, ◌∷◌, ◌≡◌}
-use Rattle.std.proofs.lemmas.Bool.{false≢true}
 use Rattle.std.proofs.lemmas.List.{length-map}
 use Rattle.std.proofs.lemmas.Option.{none-some, slice_get-get_or, slice_get-map}
 use Rattle.std.specs.List.{range_with_len}
@@ -26,23 +23,10 @@ use Rattle.task_model.specs.Cells.{main_cell_of}
 use Rattle.task_model.specs.MainQueues.{class_of, fence_of, streak_of, votes_on}
 use Rattle.task_model.specs.Orders.{draws, main_arrivals}
 use Rattle.task_model.specs.Past.{fold_past}
-use Rattle.task_model.specs.Posts.{is_main_taken, main_posts}
+use Rattle.task_model.specs.Posts.{main_posts}
 use Rattle.task_model.specs.Refusal.{is_closed}
 use Rattle.task_model.specs.Seats.{running}
 use Rattle.task_model.specs.Time.{now_of}
-
--- a past that has not begun is one of the main queues
-past_at_start : (script : Plan) → IsMainPast script []
-unfolding main_posts is_main_taken now_of fold_past
-past_at_start script = record {
-  in_order = tt;
-  posted = tt;
-  taken_was_accepted = λ t taken. absurd (false≢true taken);
-  taken_was_due = λ p among taken. absurd (none_contained p among);
-  moment_fits = omega arith;
-  no_tick_ahead = no_tick_ahead_at_start;
-  arrivals_are_ordered = main_arrivals_are_ordered_at_start;
-}
 
 -- all voters vote on
 votes_at_start : (q start n : ℕ) → replicate n true ≡ map (votes_on [] q) (range_with_len start n)

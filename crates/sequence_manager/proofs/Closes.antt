@@ -134,12 +134,12 @@ pub stands_at_close : {script : Plan} {past : List Entry} {manager after : Manag
 stands_at_close {script = script} {past = past} {manager = manager} {q = q} {behind = behind} seat at there is after =
     subst (StandsFor script then) (sym after) (record {
       script_fits = at.stands.script_fits;
-      past_fits = past_kept script past e refl refl (λ t. is_main_taken_push past e t ∙ or-false (is_main_taken past t)) at.stands.past_fits;
+      past_fits = past_kept script past e refl (λ t. is_main_taken_push past e t ∙ or-false (is_main_taken past t)) at.stands.past_fits;
       parts =
           subst (λ order. ArePartsOf script then (main_arrivals then) (unripe then) order told) (order ∙ sym drawn)
           (subst (λ waiting. ArePartsOf script then (main_arrivals then) waiting manager.next_order told) (sym (unripe_at_close past seat q))
           (subst (λ arrivals. ArePartsOf script then arrivals (others q (unripe past)) manager.next_order told) (sym
-          (main_arrivals_same past e refl refl)) parts));
+          (main_arrivals_same past e refl)) parts));
       moment = at.stands.moment ∙ sym (now_kept past e refl);
     })
   where

@@ -1,27 +1,21 @@
 -- What the driver's takes and ends of main tasks leave of the queues.
--- Cited by `Ends`, `TakenLanes`, `TakenPast`, `Takes`, `Taking`.
-use Rattle.std.proofs.Common.{◌≡◌, ℕ, ◌≤◌, cond, List, [], ◌∷◌, ◌++◌, map, refl, ap, ◌∙◌, Option, Some, None}
+-- Cited by `Ends`, `TakenLanes`, `Takes`, `Taking`.
+use Rattle.std.proofs.Common.{◌≡◌, ℕ, ◌≤◌, cond, List, [], ◌∷◌, ◌++◌, map, refl, ◌∙◌, Option, Some, None}
 use Rattle.std.specs.Prelude.{filter}
 use Rattle.std.specs.List.{range_with_len}
-use Rattle.std.proofs.Math.Bool.{or-false}
 use Rattle.list_laws.proofs.Filters.{map-congr_in}
 use Rattle.list_laws.proofs.Elements.{AllByRecursion-always}
-use Rattle.pool_laws.specs.Seats.{moves_main}
-use Rattle.task_base.specs.declared.entry.Kind.{Kind}
-use Rattle.task_model.specs.MainQueues.{fence_after, vote_after}
-use Rattle.task_model.specs.Refusal.{closes}
-use Rattle.std.proofs.lemmas.Bool.{true≢false}
-use Rattle.std.proofs.Common.{Bool, true, false, sym}
-use Rattle.std.specs.Prelude.{◌||◌}
-use Rattle.sequence_manager.proofs.Kept.{class_kept, keeps_class}
+use Rattle.pool_laws.specs.Seats.{moves_main, main_parts}
+use Rattle.std.proofs.lemmas.Bool.{and_left}
+use Rattle.std.proofs.Common.{true, false}
+use Rattle.sequence_manager.proofs.Kept.{class_kept, setting_parts, sets, closed_kept, fence_kept, votes_kept}
 use Rattle.sequence_manager.proofs.Parts.{load, posted_to}
-use Rattle.sequence_manager.proofs.Quiet.{draw_kept, draws_none, is_quiet, quiet_arrivals, quiet_now, quiet_posts, quiet_unripe}
+use Rattle.sequence_manager.proofs.Quiet.{draw_kept, quiet_arrivals, quiet_now, quiet_posts, quiet_unripe, due_parts, draw_parts, no_draw}
 use Rattle.task_base.specs.Plan.{Plan}
 use Rattle.task_base.specs.declared.entry.Entry.{Entry}
 use Rattle.task_base.specs.declared.entry.Kind.TheVariants as kinds
 use Rattle.task_base.specs.declared.script.Lane.{Lane}
 use Rattle.task_base.specs.declared.script.Lane.TheVariants.{Immediate, Delayed}
-use Rattle.task_model.proofs.Growth.{fence_of_push, is_closed_push, votes_on_push}
 use Rattle.task_model.specs.Cells.{main_cell_of}
 use Rattle.task_model.specs.MainQueues.{class_of, fence_of, is_in_lane, votes_on, voters_of}
 use Rattle.task_model.specs.Orders.{Ordered, main_arrivals, next_draw}
@@ -31,6 +25,8 @@ use Rattle.task_model.specs.Time.{now_of}
 use Rattle.work_queue.specs.declared.queued.Queued.{Queued}
 use Rattle.sequence_manager.specs.Queues.{held_in, is_out, queue_of, queued_of, unripe}
 use Rattle.sequence_manager.specs.declared.task_queue.TaskQueue.{TaskQueue}
+use Rattle.pool_laws.specs.Moves.{Classes, moves}
+use Rattle.pool_laws.proofs.Moves.{moves_apart}
 
 -- the later past has the same posts and draws, fences, votes, classes and moment
 pub record LeavesQueues (script : Plan) (past later : List Entry) : Type 0 where
@@ -44,36 +40,25 @@ pub record LeavesQueues (script : Plan) (past later : List Entry) : Type 0 where
   pub votes : (q v : ℕ) → votes_on later q v ≡ votes_on past q v
   pub class : (q : ℕ) → class_of script later q ≡ class_of script past q
 
--- the tests that such kinds pass
-record IsDrivers (before : List Entry) (kind : Kind) : Type 0 where
-  quiet : is_quiet kind ≡ true
-  none : draws_none kind ≡ true
-  class : keeps_class kind ≡ true
-  open_still : (q : ℕ) → closes q kind ≡ false
-  fence : (q : ℕ) (f : Option ℕ) → fence_after q before f kind ≡ f
-  votes : (q v : ℕ) (b : Bool) → vote_after q v b kind ≡ b
-
-is_drivers : (before : List Entry) (kind : Kind) → moves_main kind ≡ true → IsDrivers before kind
-is_drivers before (kinds.MainTake task queue found) h =
-    record { quiet = refl; none = refl; class = refl; open_still = λ q. refl; fence = λ q f. refl; votes = λ q v b. refl }
-is_drivers before (kinds.MainEnd task left) h =
-    record { quiet = refl; none = refl; class = refl; open_still = λ q. refl; fence = λ q f. refl; votes = λ q v b. refl }
-is_drivers before kind h = absurd (true≢false (sym h))
-
 -- it is so after a take or an end of the driver's
 left_by : (script : Plan) (past : List Entry) (e : Entry) → moves_main e.kind ≡ true → LeavesQueues script past (past ++ e ∷ [])
-left_by script past e moves =
-    let is : IsDrivers past e.kind = is_drivers past e.kind moves in record {
-      posts = quiet_posts past e is.quiet;
-      arrivals = quiet_arrivals past e is.quiet;
-      waiting = quiet_unripe past e is.quiet;
-      draw = draw_kept past e is.none;
-      now = quiet_now past e is.quiet;
-      closed = λ q. is_closed_push past e q ∙ ap (λ b. is_closed past q || b) (is.open_still q) ∙ or-false (is_closed past q);
-      fence = λ q. fence_of_push past e q ∙ is.fence q (fence_of past q);
-      votes = λ q v. votes_on_push past e q v ∙ is.votes q v (votes_on past q v);
-      class = λ q. class_kept script past e q is.class;
-    }
+left_by script past e main = record {
+  posts = quiet_posts past e quiet;
+  arrivals = quiet_arrivals past e quiet;
+  waiting = quiet_unripe past e quiet;
+  draw = draw_kept past e (no_draw past e.kind (moves_apart main_parts draw_parts e.kind refl main));
+  now = quiet_now past e quiet;
+  closed = λ q. closed_kept past e q (sets_none q);
+  fence = λ q. fence_kept past e q (sets_none q);
+  votes = λ q. votes_kept past e q (sets_none q);
+  class = λ q. class_kept script past e q (moves_apart main_parts (Classes ∷ []) e.kind refl main);
+}
+  where
+    quiet : moves due_parts e.kind ≡ false
+    quiet = moves_apart main_parts due_parts e.kind refl main
+
+    sets_none : (q : ℕ) → sets q e.kind ≡ false
+    sets_none q = and_left _ _ (moves_apart main_parts setting_parts e.kind refl main)
 
 -- so it is after the take of a main task
 pub left_at_take : (script : Plan) (past : List Entry) (seat task queue found : ℕ)

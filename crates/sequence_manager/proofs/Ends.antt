@@ -30,7 +30,7 @@ use Rattle.sequence_manager.proofs.Driver.{HasRoom, LeavesQueues, cell_in, held_
 use Rattle.sequence_manager.proofs.Lists.{kept_is}
 use Rattle.sequence_manager.proofs.Refreshing.{lane_is_held}
 use Rattle.sequence_manager.proofs.Tables.{queue_at_is, table_same, table_set}
-use Rattle.sequence_manager.proofs.TakenPast.{past_at_end}
+use Rattle.sequence_manager.proofs.Pasts.{past_at_end}
 
 -- the cell of a queue while a main task runs
 cell_before : (past : List Entry) (w : Running) (q : ℕ) → main_running past ≡ Some w

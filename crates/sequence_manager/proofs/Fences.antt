@@ -1,10 +1,9 @@
 -- Fences, votes and classes.
--- Cited by `Manager::fence`, `Manager::unfence`, `Manager::vote`, `Closes`, `Posts`.
+-- Cited by `Manager::fence`, `Manager::unfence`, `Manager::vote`, `Closes`, `DelayedPosts`, `Posts`.
 use Rattle.std.proofs.Common.{◌≡◌, ℕ, ◌+◌, ◌<◌, ◌≤◌, Bool, true, false, cond, List, [], ◌∷◌, ◌++◌, length, refl, sym, ap, ◌∙◌, subst, Option, Some, None, arith}
-use Rattle.std.specs.Prelude.{◌&&◌, ◌||◌, ◌==◌, not, slice_get, slice_set}
+use Rattle.std.specs.Prelude.{◌&&◌, ◌==◌, not, slice_get, slice_set}
 use Rattle.std.proofs.lemmas.Bool.{ne_eqb, not_from_false}
 use Rattle.std.proofs.lemmas.List.FromFn.{length-map-range_with_len}
-use Rattle.std.proofs.Math.Bool.{or-false}
 use Rattle.list_laws.specs.Lists.{count}
 use Rattle.list_laws.proofs.Values.{eqb-same}
 use Rattle.queue_laws.proofs.Arrivals.{main_arrivals_rise}
@@ -14,12 +13,10 @@ use Rattle.task_base.specs.declared.entry.Kind.{Kind}
 use Rattle.task_base.specs.declared.entry.Kind.TheVariants as kinds
 use Rattle.task_base.specs.declared.script.FenceAt.{FenceAt}
 use Rattle.task_base.specs.declared.script.FenceAt.TheVariants.{Now, Start}
-use Rattle.task_model.proofs.Growth.{draws_push, fence_of_push, is_closed_push, is_main_taken_push, streak_of_push, votes_on_push}
-use Rattle.task_model.specs.Cells.{main_cell_of}
+use Rattle.task_model.proofs.Growth.{draws_push, fence_of_push, votes_on_push}
 use Rattle.task_model.specs.MainQueues.{class_of, fence_of, streak_of, voters_of, votes_on}
-use Rattle.task_model.specs.Orders.{main_arrivals, next_draw}
+use Rattle.task_model.specs.Orders.{main_arrivals, next_draw, drawn_by}
 use Rattle.task_model.specs.Posts.{is_main_taken}
-use Rattle.task_model.specs.Refusal.{is_closed}
 use Rattle.pool_laws.proofs.Seats.Cells.{main_cell_same}
 use Rattle.list_laws.specs.Lists.{holds_of}
 use Rattle.sequence_manager.specs.Calls.{CanFence, CanVote, HasQueue, after_fence, after_unfence, after_vote}
@@ -29,16 +26,21 @@ use Rattle.sequence_manager.specs.State.{CanRefresh, order_at, refreshed, with_o
 use Rattle.sequence_manager.specs.declared.manager.Manager.{Manager}
 use Rattle.sequence_manager.specs.declared.task_queue.TaskQueue.{TaskQueue}
 use Rattle.sequence_manager.proofs.Apart.{queue_there}
-use Rattle.sequence_manager.proofs.Kept.{IsDriversAsBefore, KeepsTasks, class_kept, driver_same, is_of_other}
+use Rattle.sequence_manager.proofs.Kept.{IsDriversAsBefore, KeepsTasks, class_kept, driver_same, is_of_other, taken_kept}
 use Rattle.sequence_manager.proofs.Kept.{other_keeps, queue_kept, tasks_kept, votes_of, votes_same}
 use Rattle.sequence_manager.proofs.Others.{longer}
 use Rattle.sequence_manager.proofs.Parts.{can_tell, load, parts_changed, posted_to, room_by_past}
-use Rattle.sequence_manager.proofs.Quiet.{draw_kept, draws_none, is_quiet, quiet_arrivals, quiet_now, quiet_past, quiet_posts, quiet_unripe}
+use Rattle.sequence_manager.proofs.Quiet.{draw_kept, quiet_arrivals, quiet_now, past_kept, quiet_posts, quiet_unripe, due_parts, quiet_closed}
 use Rattle.sequence_manager.proofs.Tables.{map_is_table, queue_at_is, table_is, table_set}
+use Rattle.pool_laws.specs.Moves.{Part, Takes, Ends, Classes, MainTakes, MainEnds, moves}
+use Rattle.pool_laws.specs.Seats.{main_parts, running_parts}
+use Rattle.pool_laws.proofs.Moves.{moves_fewer}
+use Rattle.queue_laws.proofs.Fronts.{streak_of_same}
+use Rattle.queue_laws.specs.Orders.{order_parts}
 
 -- an entry that sets a queue's fence, or one of its votes, and changes nothing else
 pub record Sets (q : ℕ) (past : List Entry) (e : Entry) : Type 0 where
-  pub quiet : is_quiet e.kind ≡ true
+  pub quiet : moves due_parts e.kind ≡ false
   pub other : (p : ℕ) → (p ≡ q → ⊥) → is_of_other p e.kind ≡ true
   pub tasks : KeepsTasks past (past ++ e ∷ []) q
   pub class : (script : Plan) (p : ℕ) → class_of script (past ++ e ∷ []) p ≡ class_of script past p
@@ -79,7 +81,7 @@ pub stands_set : (script : Plan) (past : List Entry) (e : Entry) (manager : Mana
     → StandsFor script (past ++ e ∷ []) (refreshed (record (with_queue manager q (set_to script (past ++ e ∷ []) q queue)) { next_order = now }) q)
 stands_set script past e manager q queue now is at there draw few = record {
   script_fits = at.stands.script_fits;
-  past_fits = quiet_past script past e is.quiet is.taken at.stands.past_fits;
+  past_fits = past_kept script past e (moves_fewer order_parts due_parts e.kind refl is.quiet) is.taken at.stands.past_fits;
   parts =
       subst (λ order. ArePartsOf script after (main_arrivals after) (unripe after) order behind) draw
       (subst (λ waiting. ArePartsOf script after (main_arrivals after) waiting now behind) (sym (quiet_unripe past e is.quiet))
@@ -115,48 +117,46 @@ another p q other = not_from_false (q == p) (ne_eqb q p (λ is. other (sym is)))
 abbrev entry : ℕ → Kind → Entry
 entry seat kind = record { seat = seat; kind = kind }
 
-keeps_at : (past : List Entry) (e : Entry) (q : ℕ) → is_closed (past ++ e ∷ []) q ≡ (is_closed past q || false)
-    → ((t : ℕ) → is_main_taken (past ++ e ∷ []) t ≡ (is_main_taken past t || false)) → IsDriversAsBefore past e
-    → main_cell_of (past ++ e ∷ []) q ≡ main_cell_of past q → KeepsTasks past (past ++ e ∷ []) q
-keeps_at past e q closed taken driver cell = record {
-  closed_is = closed ∙ or-false (is_closed past q);
-  taken_is = λ t. taken t ∙ or-false (is_main_taken past t);
-  out_is = ap (holds_of (λ w. w.home == q)) driver;
-  cell_is = cell;
+-- what such an entry leaves alone
+abbrev left_parts : List Part
+left_parts = Takes ∷ Ends ∷ Classes ∷ main_parts ++ due_parts
+
+sets_at : (past : List Entry) (e : Entry) (q : ℕ) → moves left_parts e.kind ≡ false → ((p : ℕ) → (p ≡ q → ⊥) → is_of_other p e.kind ≡ true) → Sets q past e
+sets_at past e q leaves other = record {
+  quiet = quiet;
+  other = other;
+  tasks = record {
+    closed_is = quiet_closed past e q quiet;
+    taken_is = taken;
+    out_is = ap (holds_of (λ w. w.home == q)) driver;
+    cell_is = main_cell_same past e q (moves_fewer (MainEnds ∷ []) left_parts e.kind refl leaves);
+  };
+  class = λ script p. class_kept script past e p (moves_fewer (Classes ∷ []) left_parts e.kind refl leaves);
+  streak = λ script. streak_of_same script past e untaken;
+  driver = driver;
+  taken = taken;
 }
+  where
+    quiet : moves due_parts e.kind ≡ false
+    quiet = moves_fewer due_parts left_parts e.kind refl leaves
+
+    untaken : moves (MainTakes ∷ []) e.kind ≡ false
+    untaken = moves_fewer (MainTakes ∷ []) left_parts e.kind refl leaves
+
+    taken : (t : ℕ) → is_main_taken (past ++ e ∷ []) t ≡ is_main_taken past t
+    taken = taken_kept past e untaken
+
+    driver : IsDriversAsBefore past e
+    driver = driver_same past e (moves_fewer running_parts left_parts e.kind refl leaves)
 
 pub fence_sets : (past : List Entry) (seat q : ℕ) (at : FenceAt) → Sets q past (record { seat = seat; kind = kinds.Fence q at })
-fence_sets past seat q at = record {
-  quiet = refl;
-  other = λ p other. another p q other;
-  tasks = keeps_at past _ q (is_closed_push past _ q) (λ t. is_main_taken_push past _ t) (driver_same past _ refl) (main_cell_same past _ q refl);
-  class = λ script p. class_kept script past _ p refl;
-  streak = λ script. streak_of_push script past _;
-  driver = driver_same past _ refl;
-  taken = λ t. is_main_taken_push past _ t ∙ or-false (is_main_taken past t);
-}
+fence_sets past seat q at = sets_at past _ q refl (λ p. another p q)
 
 pub unfence_sets : (past : List Entry) (seat q : ℕ) → Sets q past (record { seat = seat; kind = kinds.Unfence q })
-unfence_sets past seat q = record {
-  quiet = refl;
-  other = λ p other. another p q other;
-  tasks = keeps_at past _ q (is_closed_push past _ q) (λ t. is_main_taken_push past _ t) (driver_same past _ refl) (main_cell_same past _ q refl);
-  class = λ script p. class_kept script past _ p refl;
-  streak = λ script. streak_of_push script past _;
-  driver = driver_same past _ refl;
-  taken = λ t. is_main_taken_push past _ t ∙ or-false (is_main_taken past t);
-}
+unfence_sets past seat q = sets_at past _ q refl (λ p. another p q)
 
 pub vote_sets : (past : List Entry) (seat q voter : ℕ) (on : Bool) → Sets q past (record { seat = seat; kind = kinds.Vote q voter on })
-vote_sets past seat q voter on = record {
-  quiet = refl;
-  other = λ p other. another p q other;
-  tasks = keeps_at past _ q (is_closed_push past _ q) (λ t. is_main_taken_push past _ t) (driver_same past _ refl) (main_cell_same past _ q refl);
-  class = λ script p. class_kept script past _ p refl;
-  streak = λ script. streak_of_push script past _;
-  driver = driver_same past _ refl;
-  taken = λ t. is_main_taken_push past _ t ∙ or-false (is_main_taken past t);
-}
+vote_sets past seat q voter on = sets_at past _ q refl (λ p. another p q)
 
 -- What the calls leave is set so.
 
@@ -284,7 +284,7 @@ stands_at_fence {script = script} {past = past} {manager = manager} {drawn = dra
     next = next_at_fence past seat q at manager can.at.stands.parts.order_is
 
 -- where no order is drawn
-undrawn : {script : Plan} {past : List Entry} {manager : Manager} {q : ℕ} (e : Entry) → HasQueue script past manager q → draws_none e.kind ≡ true
+undrawn : {script : Plan} {past : List Entry} {manager : Manager} {q : ℕ} (e : Entry) → HasQueue script past manager q → drawn_by past e.kind ≡ 0
     → (manager.next_order ≡ next_draw (past ++ e ∷ [])) × (manager.next_order ≤ next_draw past + 1)
 undrawn {past = past} {manager = manager} e at none =
     let is : manager.next_order ≡ next_draw past = at.stands.parts.order_is in (is ∙ sym (draw_kept past e none), omega (arith, is))

@@ -1,9 +1,9 @@
 -- What an entry leaves of the main queues.
--- Cited by `Closes`, `Driver`, `Fences`, `Others`, `Parts`, `Posts`, `Ranks`, `TickedPast`, `Ticks`, `Waiting`.
-use Rattle.std.proofs.Common.{◌≡◌, ℕ, Bool, true, false, cond, List, [], ◌∷◌, ◌++◌, map, refl, sym, ap, ◌∙◌, Some, None}
+-- Cited by `Closes`, `DelayedPosts`, `Driver`, `Fences`, `Others`, `Parts`, `Posts`, `Ranks`, `Ticks`, `Waiting`.
+use Rattle.std.proofs.Common.{◌≡◌, ℕ, Bool, true, false, cond, List, [], ◌∷◌, ◌++◌, map, refl, ap, ◌∙◌, Some, None}
 use Rattle.std.specs.Prelude.{◌&&◌, ◌||◌, ◌==◌, not, filter}
 use Rattle.std.specs.List.{range_with_len}
-use Rattle.std.proofs.lemmas.Bool.{true≢false}
+use Rattle.std.proofs.lemmas.Bool.{true≢false, not-true, not_from_false, or_from, and_left, or_parts}
 use Rattle.std.proofs.Math.Bool.{or-false}
 use Rattle.list_laws.specs.Lists.{holds_of, keep}
 use Rattle.list_laws.proofs.Filters.{filter_congr}
@@ -11,7 +11,7 @@ use Rattle.list_laws.proofs.Filters.{map-congr_in}
 use Rattle.list_laws.proofs.Elements.{AllByRecursion-always}
 use Rattle.pool_laws.proofs.Seats.Cells.{main_cell_same}
 use Rattle.pool_laws.proofs.Seats.Running.{running_same}
-use Rattle.pool_laws.specs.Seats.{moves_main_cells, moves_running}
+use Rattle.pool_laws.specs.Seats.{moves_running, main_parts}
 use Rattle.task_base.specs.Plan.{Plan}
 use Rattle.task_base.specs.declared.entry.Entry.{Entry}
 use Rattle.task_base.specs.declared.entry.Kind.{Kind}
@@ -27,6 +27,8 @@ use Rattle.task_model.specs.Posts.{Posted, is_main_taken, main_takes}
 use Rattle.task_model.specs.Refusal.{closes, is_closed}
 use Rattle.sequence_manager.specs.Pasts.{main_running}
 use Rattle.sequence_manager.specs.Queues.{held_in, is_out, queue_of, queued_of}
+use Rattle.pool_laws.specs.Moves.{Part, Fences, Votes, Classes, Closes, MainTakes, MainEnds, moves}
+use Rattle.pool_laws.proofs.Moves.{moves_fewer}
 
 -- the later past says of the queue what the earlier one did of which tasks were taken, and of its cell
 pub record KeepsTasks (before past : List Entry) (q : ℕ) : Type 0 where
@@ -89,86 +91,87 @@ queue_kept script before past arrivals waiting q keeps =
 
 -- Which entries keep what.
 
+-- the queue that an entry names is this one
+abbrev names : ℕ → Kind → Bool
+names q (kinds.Fence queue at) = queue == q
+names q (kinds.Unfence queue) = queue == q
+names q (kinds.Vote queue voter on) = queue == q
+names q (kinds.Close queue) = queue == q
+names q kind = true
+
+-- the entry sets or removes the queue's fence, sets one of its votes, or closes it
+abbrev pub setting_parts : List Part
+setting_parts = Fences ∷ Votes ∷ Closes ∷ []
+
+abbrev pub sets : ℕ → Kind → Bool
+sets q kind = moves setting_parts kind && names q kind
+
 -- the entry is of another queue, or of none
 abbrev pub is_of_other : ℕ → Kind → Bool
-is_of_other q (kinds.Fence queue at) = not (queue == q)
-is_of_other q (kinds.Unfence queue) = not (queue == q)
-is_of_other q (kinds.Vote queue voter on) = not (queue == q)
-is_of_other q (kinds.Close queue) = not (queue == q)
-is_of_other q (kinds.MainTake task queue found) = false
-is_of_other q (kinds.MainEnd task left) = false
-is_of_other q kind = true
+is_of_other q kind = not (moves main_parts kind || sets q kind)
 
-other_from : (b : Bool) → not b ≡ true → b ≡ false
-other_from true h = absurd (true≢false (sym h))
-other_from false h = refl
+pub other_of : (q : ℕ) (kind : Kind) → moves main_parts kind ≡ false → moves setting_parts kind ≡ false → is_of_other q kind ≡ true
+other_of q kind no_main no_setting =
+    not_from_false _ (or_from (moves main_parts kind) (sets q kind) no_main (and_left (moves setting_parts kind) (names q kind) no_setting))
 
-pub closed_kept : (past : List Entry) (e : Entry) (q : ℕ) → is_of_other q e.kind ≡ true → is_closed (past ++ e ∷ []) q ≡ is_closed past q
-closed_kept past e q other = is_closed_push past e q ∙ ap (λ b. is_closed past q || b) (by_kind e.kind other) ∙ or-false (is_closed past q)
+pub closed_kept : (past : List Entry) (e : Entry) (q : ℕ) → sets q e.kind ≡ false → is_closed (past ++ e ∷ []) q ≡ is_closed past q
+closed_kept past e q none = is_closed_push past e q ∙ ap (λ b. is_closed past q || b) (by_kind e.kind none) ∙ or-false (is_closed past q)
   where
-    by_kind : (kind : Kind) → is_of_other q kind ≡ true → closes q kind ≡ false
-    by_kind (kinds.Close queue) h = other_from (queue == q) h
+    by_kind : (kind : Kind) → sets q kind ≡ false → closes q kind ≡ false
+    by_kind (kinds.Close queue) h = h
     by_kind kind h = refl
 
-pub taken_kept : (past : List Entry) (e : Entry) (q : ℕ) → is_of_other q e.kind ≡ true → (t : ℕ) → is_main_taken (past ++ e ∷ []) t ≡ is_main_taken past t
-taken_kept past e q other t = is_main_taken_push past e t ∙ ap (λ b. is_main_taken past t || b) (by_kind e.kind other) ∙ or-false (is_main_taken past t)
+pub taken_kept : (past : List Entry) (e : Entry) → moves (MainTakes ∷ []) e.kind ≡ false → (t : ℕ) → is_main_taken (past ++ e ∷ []) t ≡ is_main_taken past t
+taken_kept past e none t = is_main_taken_push past e t ∙ ap (λ b. is_main_taken past t || b) (by_kind e.kind none) ∙ or-false (is_main_taken past t)
   where
-    by_kind : (kind : Kind) → is_of_other q kind ≡ true → main_takes t kind ≡ false
-    by_kind (kinds.MainTake task queue found) h = absurd (true≢false (sym h))
+    by_kind : (kind : Kind) → moves (MainTakes ∷ []) kind ≡ false → main_takes t kind ≡ false
+    by_kind (kinds.MainTake task queue found) h = absurd (true≢false h)
     by_kind kind h = refl
 
-fence_kept : (past : List Entry) (e : Entry) (q : ℕ) → is_of_other q e.kind ≡ true → fence_of (past ++ e ∷ []) q ≡ fence_of past q
-fence_kept past e q other = fence_of_push past e q ∙ by_kind e.kind other
+pub fence_kept : (past : List Entry) (e : Entry) (q : ℕ) → sets q e.kind ≡ false → fence_of (past ++ e ∷ []) q ≡ fence_of past q
+fence_kept past e q none = fence_of_push past e q ∙ by_kind e.kind none
   where
-    by_kind : (kind : Kind) → is_of_other q kind ≡ true → fence_after q past (fence_of past q) kind ≡ fence_of past q
-    by_kind (kinds.Fence queue Now) h = ap (λ b. cond b (Some (next_draw past)) (fence_of past q)) (other_from (queue == q) h)
-    by_kind (kinds.Fence queue Start) h = ap (λ b. cond b (Some 1) (fence_of past q)) (other_from (queue == q) h)
-    by_kind (kinds.Unfence queue) h = ap (λ b. cond b None (fence_of past q)) (other_from (queue == q) h)
+    by_kind : (kind : Kind) → sets q kind ≡ false → fence_after q past (fence_of past q) kind ≡ fence_of past q
+    by_kind (kinds.Fence queue Now) h = ap (λ b. cond b (Some (next_draw past)) (fence_of past q)) h
+    by_kind (kinds.Fence queue Start) h = ap (λ b. cond b (Some 1) (fence_of past q)) h
+    by_kind (kinds.Unfence queue) h = ap (λ b. cond b None (fence_of past q)) h
     by_kind kind h = refl
 
-votes_kept : (past : List Entry) (e : Entry) (q : ℕ) → is_of_other q e.kind ≡ true → (v : ℕ) → votes_on (past ++ e ∷ []) q v ≡ votes_on past q v
-votes_kept past e q other v = votes_on_push past e q v ∙ by_kind e.kind other
+pub votes_kept : (past : List Entry) (e : Entry) (q : ℕ) → sets q e.kind ≡ false → (v : ℕ) → votes_on (past ++ e ∷ []) q v ≡ votes_on past q v
+votes_kept past e q none v = votes_on_push past e q v ∙ by_kind e.kind none
   where
-    by_kind : (kind : Kind) → is_of_other q kind ≡ true → vote_after q v (votes_on past q v) kind ≡ votes_on past q v
-    by_kind (kinds.Vote queue voter on) h = ap (λ b. cond (b && voter == v) on (votes_on past q v)) (other_from (queue == q) h)
+    by_kind : (kind : Kind) → sets q kind ≡ false → vote_after q v (votes_on past q v) kind ≡ votes_on past q v
+    by_kind (kinds.Vote queue voter on) h = ap (λ b. cond (b && voter == v) on (votes_on past q v)) h
     by_kind kind h = refl
 
 -- the driver runs what it ran
 abbrev pub IsDriversAsBefore : List Entry → Entry → Type 0
 IsDriversAsBefore past e = main_running (past ++ e ∷ []) ≡ main_running past
 
-cell_kept : (past : List Entry) (e : Entry) (q : ℕ) → is_of_other q e.kind ≡ true → main_cell_of (past ++ e ∷ []) q ≡ main_cell_of past q
-cell_kept past e q other = main_cell_same past e q (by_kind e.kind other)
-  where
-    by_kind : (kind : Kind) → is_of_other q kind ≡ true → moves_main_cells kind ≡ false
-    by_kind (kinds.MainEnd task left) h = absurd (true≢false (sym h))
-    by_kind kind h = refl
-
 -- an entry of another queue, or of none, keeps what the queue is
 pub other_keeps : (past : List Entry) (e : Entry) (q : ℕ) → is_of_other q e.kind ≡ true → IsDriversAsBefore past e → Keeps past (past ++ e ∷ []) q
 other_keeps past e q other as_before = record {
   tasks = record {
-    closed_is = closed_kept past e q other;
-    taken_is = taken_kept past e q other;
+    closed_is = closed_kept past e q none.1;
+    taken_is = taken_kept past e (moves_fewer (MainTakes ∷ []) main_parts e.kind refl none.0);
     out_is = ap (holds_of (λ w. w.home == q)) as_before;
-    cell_is = cell_kept past e q other;
+    cell_is = main_cell_same past e q (moves_fewer (MainEnds ∷ []) main_parts e.kind refl none.0);
   };
-  fence_is = fence_kept past e q other;
-  votes_are = votes_kept past e q other;
+  fence_is = fence_kept past e q none.1;
+  votes_are = votes_kept past e q none.1;
 }
+  where
+    none : (moves main_parts e.kind ≡ false) × (sets q e.kind ≡ false)
+    none = or_parts (moves main_parts e.kind) (sets q e.kind) (not-true _ other)
 
 pub driver_same : (past : List Entry) (e : Entry) → moves_running e.kind ≡ false → IsDriversAsBefore past e
 driver_same past e quiet = ap (keep (λ w. w.is_main)) (running_same past e 0 quiet)
 
--- the entry leaves each queue's class
-abbrev pub keeps_class : Kind → Bool
-keeps_class (kinds.Rank queue class) = false
-keeps_class kind = true
-
-pub class_kept : (script : Plan) (past : List Entry) (e : Entry) (q : ℕ) → keeps_class e.kind ≡ true
+-- an entry that ranks no queue leaves each one's class
+pub class_kept : (script : Plan) (past : List Entry) (e : Entry) (q : ℕ) → moves (Classes ∷ []) e.kind ≡ false
     → class_of script (past ++ e ∷ []) q ≡ class_of script past q
-class_kept script past e q keeps = class_of_push script past e q ∙ by_kind e.kind keeps
+class_kept script past e q none = class_of_push script past e q ∙ by_kind e.kind none
   where
-    by_kind : (kind : Kind) → keeps_class kind ≡ true → class_after q (class_of script past q) kind ≡ class_of script past q
-    by_kind (kinds.Rank queue class) h = absurd (true≢false (sym h))
+    by_kind : (kind : Kind) → moves (Classes ∷ []) kind ≡ false → class_after q (class_of script past q) kind ≡ class_of script past q
+    by_kind (kinds.Rank queue class) h = absurd (true≢false h)
     by_kind kind h = refl

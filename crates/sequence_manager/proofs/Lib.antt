@@ -4,9 +4,11 @@ pub mod Refreshing
 pub mod Apart
 pub mod Kept
 pub mod Parts
+pub mod Accepted
+pub mod Pasts
 pub mod Quiet
 pub mod Others
-pub mod Postings_fit
+pub mod PostingsFit
 pub mod Counting
 pub mod Fresh
 pub mod AtStart
@@ -15,15 +17,12 @@ pub mod Waiting
 pub mod Fences
 pub mod Closes
 pub mod Soonest
-pub mod TickedPast
 pub mod Arriving
 pub mod Ripens
 pub mod Ticks
 pub mod Fronts
 pub mod Choice
-pub mod Accepted
 pub mod Driver
-pub mod TakenPast
 pub mod Streak
 pub mod TakenLanes
 pub mod Takes
@@ -31,3 +30,4 @@ pub mod Taking
 pub mod Ends
 pub mod Posted
 pub mod Posts
+pub mod DelayedPosts

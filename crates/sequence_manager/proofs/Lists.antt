@@ -1,5 +1,5 @@
 -- Lists: the first that passes a test, flattened lists, and values that are kept.
--- Cited by `Choice`, `Ends`, `Fronts`, `Posted`, `Streak`, `TakenLanes`, `Taking`, `Ticks`, `nested_loop`.
+-- Cited by `Choice`, `Ends`, `Fronts`, `Streak`, `TakenLanes`, `Taking`, `Ticks`, `nested_loop`.
 use Rattle.std.proofs.Common.{◌≡◌, zero, suc, Bool, true, false, cond, List, [], ◌∷◌, ◌++◌, map, refl, sym, ap, ◌∙◌, Option, Some, None, inl, inr, arith}
 use Rattle.std.specs.Prelude.{not, ◌⊎◌, find, filter, slice_get, Contains}
 use Rattle.std.specs.List.{AllByRecursion, flat_map, list_any}

@@ -1,5 +1,5 @@
 -- The manager's parts, when one entry has come.
--- Cited by `Arriving`, `AtStart`, `Closes`, `Driver`, `Fences`, `Others`, `Posted`, `Posts`, `Ranks`, `Ripens`, `Ticks`.
+-- Cited by `Arriving`, `AtStart`, `Closes`, `DelayedPosts`, `Driver`, `Fences`, `Others`, `Posted`, `Posts`, `Ranks`, `Ripens`, `Ticks`.
 use Rattle.std.proofs.Common.{◌≡◌, ℕ, ◌+◌, ◌<◌, ◌≤◌, List, [], ◌∷◌, ◌++◌, length, refl, sym, ap, ◌∙◌, subst, inl, inr, arith}
 use Rattle.std.specs.Prelude.{◌⊎◌, ◌==◌, Contains, slice_set}
 use Rattle.std.proofs.lemmas.List.{length-set}

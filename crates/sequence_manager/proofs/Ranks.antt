@@ -23,7 +23,7 @@ use Rattle.sequence_manager.specs.declared.manager.Manager.{Manager}
 use Rattle.sequence_manager.proofs.Kept.{driver_same, other_keeps, queue_kept}
 use Rattle.sequence_manager.proofs.Others.{longer}
 use Rattle.sequence_manager.proofs.Parts.{load}
-use Rattle.sequence_manager.proofs.Quiet.{draw_kept, quiet_arrivals, quiet_now, quiet_past, quiet_posts, quiet_unripe}
+use Rattle.sequence_manager.proofs.Quiet.{draw_kept, quiet_arrivals, quiet_now, past_kept, quiet_posts, quiet_unripe}
 use Rattle.sequence_manager.proofs.Refreshing.{row_at_is}
 use Rattle.sequence_manager.proofs.Tables.{table_same, table_set}
 
@@ -32,7 +32,7 @@ pub stands_at_rank : (script : Plan) (past : List Entry) (seat q class : ℕ) (m
     → selector ≡ with_class manager.selector q class → StandsFor script (after_rank past seat q class) (record manager { selector = selector })
 stands_at_rank script past seat q class manager selector can told = record {
   script_fits = can.at.stands.script_fits;
-  past_fits = quiet_past script past e refl (λ t. is_main_taken_push past e t ∙ or-false (is_main_taken past t)) can.at.stands.past_fits;
+  past_fits = past_kept script past e refl (λ t. is_main_taken_push past e t ∙ or-false (is_main_taken past t)) can.at.stands.past_fits;
   parts =
       subst (λ order. ArePartsOf script after (main_arrivals after) (unripe after) order behind) (sym (draw_kept past e refl))
       (subst (λ waiting. ArePartsOf script after (main_arrivals after) waiting (next_draw past) behind) (sym (quiet_unripe past e refl))

@@ -2,7 +2,7 @@
 -- Cited by `Ticks`.
 use Rattle.delayed_manager.specs.Delayed.{with_held}
 use Rattle.list_laws.proofs.Elements.{AllByRecursion-append, AllByRecursion-at, AllByRecursion-contains, AllByRecursion-map}
-use Rattle.list_laws.proofs.Filters.{filter_all, filter_front}
+use Rattle.list_laws.proofs.Filters.{filter_front}
 use Rattle.list_laws.proofs.Rises.{rises_front, rises_last}
 use Rattle.list_laws.proofs.Values.{eqb-same}
 use Rattle.list_laws.specs.Sorts.{Rises}
@@ -10,7 +10,7 @@ use Rattle.queue_laws.proofs.Arrivals.{main_arrivals_at_tick, main_arrivals_rise
 use Rattle.queue_laws.specs.Orders.{ordered_below}
 use Rattle.sequence_manager.proofs.Arriving.{all_below, arrived, behind_first, other_arrived, other_waiting, room_left, load_same}
 use Rattle.sequence_manager.proofs.Parts.{load, posted_to, room_by_past}
-use Rattle.sequence_manager.proofs.Postings_fit.{posts_fit}
+use Rattle.sequence_manager.proofs.PostingsFit.{posts_fit}
 use Rattle.sequence_manager.proofs.Refreshing.{can_refresh, refreshed_rows}
 use Rattle.sequence_manager.proofs.Soonest.{delayed_of}
 use Rattle.sequence_manager.proofs.Tables.{queue_at_is, table_set}
@@ -27,7 +27,7 @@ use Rattle.sequence_manager.specs.declared.task_queue.TaskQueue.{TaskQueue}
 use Rattle.std.proofs.Common.{List, Some, [], ap, append_assoc, arith, cond, drop, length, refl, subst, sym, true, ℕ, ◌++◌, ◌+◌, ◌<◌, ◌^◌, ◌∙◌, ◌∷◌, ◌≡◌, ◌≤◌}
 use Rattle.std.proofs.lemmas.Bool.{ltb-true}
 use Rattle.std.proofs.lemmas.List.{length-append}
-use Rattle.std.proofs.lemmas.List.Elements.{Contains-append_left, filter-append}
+use Rattle.std.proofs.lemmas.List.Elements.{Contains-append_left}
 use Rattle.std.specs.List.{AllByRecursion}
 use Rattle.std.specs.Prelude.{All, Contains, filter, nat_le, slice_get}
 use Rattle.task_base.specs.Plan.{Plan}

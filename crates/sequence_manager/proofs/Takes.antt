@@ -26,7 +26,7 @@ use Rattle.sequence_manager.proofs.Refreshing.{can_refresh, refreshed_rows}
 use Rattle.sequence_manager.proofs.Streak.{streak_at_take}
 use Rattle.sequence_manager.proofs.Tables.{queue_at_is, table_set}
 use Rattle.sequence_manager.proofs.TakenLanes.{IsTake, other_queue, taken, taken_queue}
-use Rattle.sequence_manager.proofs.TakenPast.{past_at_take}
+use Rattle.sequence_manager.proofs.Pasts.{past_at_take}
 
 -- a queue by a past whose tasks have drawn, and wait, as at another one
 abbrev queue_by : Plan → List Entry → List Entry → ℕ → TaskQueue

@@ -17,7 +17,7 @@ use Rattle.sequence_manager.proofs.Lists.{rises_back}
 use Rattle.sequence_manager.proofs.Parts.{parts_kept}
 use Rattle.sequence_manager.proofs.Ripens.{can_ripen, few_drawn, first_held, known_with, ripens_on, there}
 use Rattle.sequence_manager.proofs.Soonest.{soonest_is, soonest_of_none}
-use Rattle.sequence_manager.proofs.TickedPast.{main_past_at_tick}
+use Rattle.sequence_manager.proofs.Pasts.{past_at_tick}
 use Rattle.sequence_manager.proofs.Waiting.{ripe_at_tick, unripe_at_tick, unripe_rises}
 use Rattle.sequence_manager.specs.Calls.{CanTick, after_tick}
 use Rattle.sequence_manager.specs.Queues.{ripening_of, unripe}
@@ -217,7 +217,7 @@ module _ {script : Plan} {past : List Entry} {moment : ℕ} {front rest : List P
   pub stands_after : (seat : ℕ) → StandsFor script (after_tick past seat moment) manager
   stands_after seat = record {
     script_fits = tick.can.stands.script_fits;
-    past_fits = main_past_at_tick script past seat moment tick.can.stands.past_fits tick.can.later tick.can.fits;
+    past_fits = past_at_tick script past seat moment tick.can.stands.past_fits tick.can.later tick.can.fits;
     parts =
         subst (λ os. ArePartsOf script later os (unripe later) (next_draw later) manager) (sym (arrivals_after seat))
         (subst (λ ps. ArePartsOf script later (known past front) ps (next_draw later) manager) (sym (unripe_after seat))

@@ -1,6 +1,6 @@
 -- The delayed main tasks that are not ripe: they rise, none of them was taken, and at a tick those of them ripen whose moment
 -- has come.
--- Cited by `Arriving`, `Closes`, `Posts`, `Ripens`, `Ticks`.
+-- Cited by `Arriving`, `Closes`, `DelayedPosts`, `Ripens`, `Ticks`.
 use Rattle.list_laws.proofs.Elements.{AllByRecursion-both, AllByRecursion-contains_itself, AllByRecursion-filter, AllByRecursion-map}
 use Rattle.list_laws.proofs.Filters.{filter-filter, filter_congr, filter_passes}
 use Rattle.list_laws.proofs.Rises.{sort_by-filter}
@@ -8,6 +8,7 @@ use Rattle.list_laws.proofs.Sorts.{AllByRecursion-sort_by, differ-filter, rises-
 use Rattle.list_laws.specs.Sorts.{Differ, Rises, sort_by}
 use Rattle.pool_laws.proofs.Keys.Arrivals.{main_posts_differ, ranks_ripens}
 use Rattle.pool_laws.proofs.Keys.Posts.{main_posts_same}
+use Rattle.sequence_manager.proofs.Pasts.{was_due}
 use Rattle.sequence_manager.proofs.Kept.{closed_kept}
 use Rattle.sequence_manager.specs.Calls.{after_tick}
 use Rattle.sequence_manager.specs.Pasts.{IsMainPast}
@@ -82,7 +83,7 @@ is_waiting script past p fits among waiting = record {
   still_open = false_from_ne_true (is_closed past p.home) (λ closed. true≢false (sym first.1 ∙ ap not closed));
   untaken = false_from_ne_true (is_main_taken past p.task) (λ taken.
       let ahead : now_of past < p.ripe = ltb-true (now_of past) p.ripe both.1 in
-      let due : p.ripe ≤ now_of past = fits.taken_was_due p among taken first.0 in
+      let due : p.ripe ≤ now_of past = was_due script past p fits among taken first.0 in
       omega (arith, ahead, due));
 }
   where

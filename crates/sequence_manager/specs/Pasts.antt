@@ -36,13 +36,18 @@ IsPostedTo script task queue = Contains (main_postings script) (record { task = 
 abbrev pub IsDue : List Entry → Posted → Type 0
 IsDue past p = IsDelayed p → p.ripe ≤ now_of past
 
+-- the task was accepted, and is due
+pub record WasDue (past : List Entry) (t : ℕ) : Type 0 where
+  pub post : Posted
+  pub accepted : main_post_of past t ≡ Some post
+  pub due : IsDue past post
+
 -- each accepted main task is one that the script posts to this queue, and was posted once; a main task that was taken was
 -- accepted, and was due; orders come as ticks reach ripe moments
 pub record IsMainPast (script : Plan) (past : List Entry) : Type 0 where
   pub in_order : InOrder (main_posts past)
   pub posted : AllByRecursion (λ p. IsPostedTo script p.task p.home) (main_posts past)
-  pub taken_was_accepted : (t : ℕ) → is_main_taken past t ≡ true → (p : Posted) × (main_post_of past t ≡ Some p)
-  pub taken_was_due : (p : Posted) → Contains (main_posts past) p → is_main_taken past p.task ≡ true → IsDue past p
+  pub taken_was_due : (t : ℕ) → is_main_taken past t ≡ true → WasDue past t
   pub moment_fits : now_of past ≤ LAST_MOMENT
   pub no_tick_ahead : NoTickAhead past
   pub arrivals_are_ordered : SameMembers (main_arrivals past) (ordered past)

@@ -19,7 +19,7 @@ use Rattle.hist_model.proofs.Laws.Legal.{legal_induction, is_legal_push}
 use Rattle.hist_model.proofs.Laws.Takes.{take_is, end_is, main_end_is}
 use Rattle.hist_model.proofs.Laws.JobEntries.{none_is}
 use Rattle.hist_model.proofs.Laws.OneThing.{main_take_free, job_take_free, job_step_holds, legal_does_one_thing}
-use Rattle.hist_model.proofs.Laws.Whole.{loses_nothing}
+use Rattle.hist_model.proofs.Laws.Whole.Losing.{loses_nothing}
 use Rattle.trace_json.specs.declared.event.EventName.{EventName}
 use Rattle.trace_json.specs.declared.event.EventName.TheVariants.{Task, Item}
 use Rattle.trace_json.specs.declared.event.EventPhase.{EventPhase}

@@ -1,6 +1,7 @@
 -- A log at one of its places: the past of the place, and the entry that may come after it.
--- Cited by `Laws/Fences`, `Laws/Order/Draws`, `Laws/Order/Keys`, `Laws/Order/Pasts`, `Laws/Refusals`, `Laws/Shutdown/Places`,
--- `Laws/Singly`, `Laws/Starts`, `Laws/State`, `env_core`, `env_shared`, `run_summary`, `task_reply`, `trace_json`, `worked_parts`.
+-- Cited by `Laws/Fences`, `Laws/Order/Draws`, `Laws/Order/Keys`, `Laws/Order/Lanes`, `Laws/Order/Pasts`, `Laws/Refusals`,
+-- `Laws/Shutdown/Places`, `Laws/Singly`, `Laws/Starts`, `Laws/State`, `env_core`, `env_shared`, `run_summary`, `task_reply`, `trace_json`,
+-- `worked_parts`.
 use Rattle.std.proofs.Common.{◌≡◌, ℕ, zero, suc, ◌<◌, Bool, true, leb, List, [], ◌∷◌, ◌++◌, length}
 use Rattle.std.proofs.Common.{take, drop, refl, sym, ap, subst, ◌∙◌, Some, inl, inr, arith}
 use Rattle.std.specs.Prelude.{◌⊎◌, slice_get}

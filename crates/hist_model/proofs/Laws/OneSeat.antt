@@ -1,5 +1,5 @@
 -- What was taken and has not ended is run by one seat.
--- Cited by `Laws/Progress/Blockers`, `Laws/Singly`, `Laws/Whole`, `seats.rt`.
+-- Cited by `Laws/Progress/Blockers`, `Laws/Singly`, `Laws/Whole/Rest`, `seats.rt`.
 use Rattle.std.proofs.Common.{◌≡◌, ℕ, Bool, true, false, eqb, List, [], ◌∷◌, ◌++◌, refl, sym, ap, subst, ◌∙◌, Option, Some, ◌⊎◌, inl, inr}
 use Rattle.std.specs.Prelude.{is_none}
 use Rattle.std.proofs.lemmas.Bool.{eqb-true, and_parts, or_cases, or_parts, both_ways, true≢false, eq-eqb}
@@ -13,10 +13,12 @@ use Rattle.task_model.specs.Seats.{Running, running, running_after, holding}
 use Rattle.pool_laws.proofs.Seats.Running.{running_here, running_other}
 use Rattle.hist_model.specs.Allowed.{may_come}
 use Rattle.hist_model.specs.Legal.{IsLegal}
-use Rattle.hist_model.specs.Laws.Consistent.{RunsAs, RunsAtOneSeat, RunsAtDriver}
+use Rattle.hist_model.specs.Laws.Consistent.{RunsAtOneSeat, RunsAtDriver}
 use Rattle.hist_model.proofs.Laws.Legal.{entry_induction}
 use Rattle.hist_model.proofs.Laws.Takes.{take_is, end_is, main_end_is}
-use Rattle.hist_model.proofs.Laws.Consistent.{taken_as, ended_as, takes_as, ends_as, taken_as_push, ended_as_push, legal_is_consistent}
+use Rattle.pool_laws.specs.Runs.{taken_as, ended_as, takes_as, ends_as}
+use Rattle.pool_laws.proofs.Seats.Runs.{taken_as_push, ended_as_push}
+use Rattle.hist_model.proofs.Laws.Consistent.{legal_is_consistent}
 use Rattle.hist_model.proofs.Laws.OneThing.{main_take_free}
 
 -- some seat runs it
@@ -108,17 +110,17 @@ pub runs_at_one_seat : (script : Plan) (past : List Entry) (t : ℕ) → IsLegal
     → RunsAtOneSeat script past t
 runs_at_one_seat script past t legal taken not_ended =
     let r = all_run script past legal false t taken not_ended in
-    let c = legal_is_consistent script past legal in
-    let as_pool = subst (RunsAs script past r.seat r.now) r.as_main (c.runs r.seat r.now r.running_is) in
+    let c = legal_is_consistent script past legal false in
+    let can = (c.runs r.seat r.now r.running_is r.as_main).can in
     record {
       seat = r.seat;
       now = r.now;
       running_is = r.running_is;
       is_pool = r.as_main;
       task_is = r.task_is;
-      worker = as_pool.worker;
-      known = as_pool.known;
-      alone = λ other w runs pool is. c.one_task other r.seat w r.now runs r.running_is pool r.as_main (is ∙ sym r.task_is);
+      worker = can.worker refl;
+      known = can.known;
+      alone = λ other w runs pool is. c.alone other r.seat w r.now runs r.running_is pool r.as_main (inl (is ∙ sym r.task_is));
     }
 
 -- a main task that was taken and has not ended is run by the driver alone
@@ -126,12 +128,11 @@ pub runs_at_driver : (script : Plan) (past : List Entry) (t : ℕ) → IsLegal s
     → RunsAtDriver past t
 runs_at_driver script past t legal taken not_ended =
     let r = all_run script past legal true t taken not_ended in
-    let c = legal_is_consistent script past legal in
-    let as_main = subst (RunsAs script past r.seat r.now) r.as_main (c.runs r.seat r.now r.running_is) in
+    let c = legal_is_consistent script past legal true in
     record {
       now = r.now;
-      running_is = ap (running past) (sym as_main.driver) ∙ r.running_is;
+      running_is = ap (running past) (sym ((c.runs r.seat r.now r.running_is r.as_main).can.driver refl)) ∙ r.running_is;
       is_main = r.as_main;
       task_is = r.task_is;
-      alone = λ other w runs main is. (subst (RunsAs script past other w) main (c.runs other w runs)).driver;
+      alone = λ other w runs main is. (c.runs other w runs main).can.driver refl;
     }

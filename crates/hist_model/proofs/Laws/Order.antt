@@ -2,4 +2,5 @@
 pub mod Pasts
 pub mod Keys
 pub mod Draws
+pub mod Lanes
 pub mod Taken

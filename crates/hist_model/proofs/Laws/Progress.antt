@@ -2,6 +2,7 @@
 pub mod Made
 pub mod Tasks
 pub mod Quiet
+pub mod Coming
 pub mod Driver
 pub mod Workers
 pub mod Jobs

@@ -1,5 +1,5 @@
 -- Moments, orders and scopes in every legal past.
--- Cited by `moments_and_orders_rise`, `Laws/LegalPast`, `Laws/Order/Draws`, `Laws/Order/Pasts`, `Laws/Whole`.
+-- Cited by `moments_and_orders_rise`, `Laws/LegalPast`, `Laws/Order/Lanes`, `Laws/Order/Pasts`, `Laws/Whole/MainTasks`.
 use Rattle.std.proofs.Common.{◌≡◌, ℕ, ◌≤◌, Bool, true, false, eqb, leb, List, [], ◌∷◌, ◌++◌, refl, sym, ap, ◌∙◌, Some, None, arith}
 use Rattle.std.proofs.lemmas.Bool.{cond_both, eqb-true, leb-true, and_parts, both_ways, or_parts}
 use Rattle.task_base.specs.Plan.{Plan}
@@ -26,7 +26,8 @@ use Rattle.queue_laws.proofs.Arrivals.{main_arrivals_are_ordered_at_start, main_
 use Rattle.queue_laws.proofs.Distinct.{orders_below, orders_distinct}
 use Rattle.hist_model.specs.Allowed.{enters, by_script, by_task, may_come, IsAllowed}
 use Rattle.hist_model.specs.Legal.{IsLegal}
-use Rattle.hist_model.specs.Laws.Consistent.{RunsAs, IsConsistent}
+use Rattle.pool_laws.specs.Runs.{taken_as}
+use Rattle.hist_model.specs.Laws.Consistent.{IsConsistent}
 use Rattle.hist_model.specs.Laws.Rising.{Rises}
 use Rattle.hist_model.proofs.Laws.Legal.{legal_induction}
 use Rattle.hist_model.proofs.Laws.Choice.{found}
@@ -52,11 +53,10 @@ opens_as_running script past seat task scope h =
     same t (steps.Block s) k = sym (eqb-true task t (and_parts (eqb task t) _ k).0)
     same t step k = absurd cc
 
--- what a seat runs was taken
-was_taken : (script : Plan) (past : List Entry) (seat : ℕ) (w : Running) (main : Bool) → RunsAs script past seat w main → is_taken past w.task ≡ false
-    → is_main_taken past w.task ≡ false → ⊥
-was_taken script past seat w false r free main_free = both_ways (is_taken past w.task) free r.taken
-was_taken script past seat w true r free main_free = both_ways (is_main_taken past w.task) main_free r.taken
+-- what was taken, of the pool or of a main queue
+was_taken : (past : List Entry) (t : ℕ) (main : Bool) → taken_as main past t ≡ true → is_taken past t ≡ false → is_main_taken past t ≡ false → ⊥
+was_taken past t false taken free main_free = both_ways (is_taken past t) free taken
+was_taken past t true taken free main_free = both_ways (is_main_taken past t) main_free taken
 
 -- an entry that is allowed opens scopes of taken tasks alone
 scopes_next : (script : Plan) (past : List Entry) (seat : ℕ) (kind : Kind) → may_come script past seat kind ≡ true → IsConsistent script past → (t : ℕ)
@@ -69,8 +69,8 @@ scopes_next script past seat (kinds.Enter task scope) h c t free main_free none 
     runs = opens_as_running script past seat task scope h
 
     not_now : eqb task t ≡ true → ⊥
-    not_now same = was_taken script past seat runs.0 runs.0.is_main (c.runs seat runs.0 runs.1) (ap (is_taken past) (runs.2 ∙ eqb-true task t same) ∙ free)
-        (ap (is_main_taken past) (runs.2 ∙ eqb-true task t same) ∙ main_free)
+    not_now same = was_taken past runs.0.task runs.0.is_main ((c runs.0.is_main).runs seat runs.0 runs.1 refl).taken
+        (ap (is_taken past) (runs.2 ∙ eqb-true task t same) ∙ free) (ap (is_main_taken past) (runs.2 ∙ eqb-true task t same) ∙ main_free)
 scopes_next script past seat (kinds.Leave task) h c t free main_free none = cond_both (eqb task t) None (open_scope past t) (λ o. o ≡ None) (λ is. refl)
     (λ is. none)
 scopes_next script past seat kind h c t free main_free none = none

@@ -21,7 +21,7 @@ use Rattle.hist_model.proofs.Laws.AtPlaces.{PassesAt, passes_at, of_past, past_i
 use Rattle.hist_model.proofs.Laws.Takes.{take_is, main_take_is}
 use Rattle.hist_model.proofs.Laws.OneThing.{main_take_free}
 use Rattle.hist_model.proofs.Laws.OneSeat.{runs_at_one_seat, runs_at_driver}
-use Rattle.hist_model.proofs.Laws.Consistent.{ends_as, takes_as}
+use Rattle.pool_laws.specs.Runs.{ends_as, takes_as}
 use Rattle.hist_model.proofs.Laws.Since.{taking}
 use Rattle.hist_model.proofs.Laws.Starts.{passed_before, TakenAs, taken_as_before, one_take_place, taken_before_end, same_entry, tasks_start_at_most_once}
 

@@ -21,7 +21,9 @@ use Rattle.hist_model.specs.Laws.Choice.{IsTake, IsMainTake}
 use Rattle.hist_model.specs.Laws.Starts.{TasksStartAtMostOnce}
 use Rattle.hist_model.proofs.Laws.AtPlaces.{in_past, of_past, passed_by, past_is_legal, may_come_at}
 use Rattle.hist_model.proofs.Laws.Takes.{take_is, main_take_is, end_is, main_end_is}
-use Rattle.hist_model.proofs.Laws.Consistent.{taken_as, ended_as, takes_as, ends_as, posts_as, posted_as, posts_as_push, as_runs, legal_is_consistent}
+use Rattle.pool_laws.specs.Runs.{taken_as, ended_as, takes_as, ends_as, posts_as, posted_as}
+use Rattle.pool_laws.proofs.Seats.Runs.{posts_as_push}
+use Rattle.hist_model.proofs.Laws.Consistent.{legal_is_consistent}
 use Rattle.hist_model.proofs.Laws.Order.Pasts.{post_as}
 use Rattle.hist_model.proofs.Laws.Since.{taking, RunningSince, running_since}
 
@@ -114,8 +116,7 @@ ends_fresh : (script : Plan) (past : List Entry) (seat : ℕ) (kind : Kind) (mai
     → may_come script past seat kind ≡ true → ends_as main t kind ≡ true → ended_as main past t ≡ false
 ends_fresh script past seat kind main t legal may ends_it =
     let r : RunsIt past seat main t = ends_what_runs script past seat kind main t may ends_it in
-    let open_still = (as_runs script past seat r.now r.now.is_main ((legal_is_consistent script past legal).runs seat r.now r.running_is)).1 in
-    ap (λ m. ended_as m past t) (sym r.as_main) ∙ ap (ended_as r.now.is_main past) (sym r.task_is) ∙ open_still
+    ap (ended_as main past) (sym r.task_is) ∙ ((legal_is_consistent script past legal main).runs seat r.now r.running_is r.as_main).not_ended
 
 -- ---- at one place
 

@@ -1,41 +1,19 @@
 -- What every legal past gives about tasks and seats.
-use Rattle.std.specs.Prelude.{◌≡◌, ℕ, ◌<◌, ◌≤◌, Bool, true, false, List, Some, Contains}
+use Rattle.std.specs.Prelude.{◌≡◌, ℕ, ◌<◌, ◌≤◌, Bool, true, false, List, Some}
 use Rattle.task_base.specs.Plan.{Plan}
 use Rattle.task_base.specs.declared.entry.Entry.{Entry}
-use Rattle.task_model.specs.Posts.{Posted, main_posts, is_taken, is_ended, is_main_taken, is_main_ended}
-use Rattle.task_base.specs.Runners.{sequence_of}
 use Rattle.task_base.specs.declared.script.Action.{Action}
 use Rattle.task_base.specs.declared.script.Action.TheVariants as actions
 use Rattle.task_model.specs.Seats.{Running, Holding, running, holding}
 use Rattle.task_model.specs.Jobs.{claimed}
-use Rattle.pool_laws.specs.Seats.{RunsPoolTask}
+use Rattle.pool_laws.specs.Runs.{RunsSingly}
 use Rattle.hist_model.specs.Views.{own_entries}
 use Rattle.hist_model.specs.Script.{Current, current}
 
--- the driver runs a main task that was accepted, was taken, and has not ended
-pub record RunsMainTask (past : List Entry) (seat : ℕ) (w : Running) : Type 0 where
-  pub accepted : Posted
-  pub posted : Contains (main_posts past) accepted
-  pub task_is : accepted.task ≡ w.task
-  pub home_is : accepted.home ≡ w.home
-  pub taken : is_main_taken past w.task ≡ true
-  pub not_ended : is_main_ended past w.task ≡ false
-  pub driver : seat ≡ 0
-
--- the seat runs a task of the pool, or a main task
-abbrev pub RunsAs : Plan → List Entry → ℕ → Running → Bool → Type 0
-RunsAs script past seat w false = RunsPoolTask script past seat w
-RunsAs script past seat w true = RunsMainTask past seat w
-
--- a task that has ended was taken, of the pool and of a main queue; what a seat runs was accepted and taken, and has not
--- ended; no two seats run one pool task, or pool tasks of one sequence
-pub record IsConsistent (script : Plan) (past : List Entry) : Type 0 where
-  pub taken_before_ended : (t : ℕ) → is_ended past t ≡ true → is_taken past t ≡ true
-  pub main_taken_before_ended : (t : ℕ) → is_main_ended past t ≡ true → is_main_taken past t ≡ true
-  pub runs : (seat : ℕ) (w : Running) → running past seat ≡ Some w → RunsAs script past seat w w.is_main
-  pub one_task : (a b : ℕ) (v w : Running) → running past a ≡ Some v → running past b ≡ Some w → v.is_main ≡ false → w.is_main ≡ false → v.task ≡ w.task → a ≡ b
-  pub one_sequence : (a b : ℕ) (v w : Running) → running past a ≡ Some v → running past b ≡ Some w → v.is_main ≡ false → w.is_main ≡ false
-      → sequence_of script v.home v.task ≡ sequence_of script w.home w.task → a ≡ b
+-- of the pool, and of the main queues: a task that has ended was taken; what a seat runs was accepted and taken, and has not
+-- ended; no two seats run one task, or tasks of one sequence
+abbrev pub IsConsistent : Plan → List Entry → Type 0
+IsConsistent script past = (main : Bool) → RunsSingly script past main
 
 -- one seat runs this task of the pool, a worker, and no other seat does
 pub record RunsAtOneSeat (script : Plan) (past : List Entry) (t : ℕ) : Type 0 where

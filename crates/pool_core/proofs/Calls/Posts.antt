@@ -143,7 +143,7 @@ pub stands_at_delayed_post : (script : Plan) (past : List Entry) (pool : Pool) (
 stands_at_delayed_post script past pool seat place task runner delay can later =
     let s : StandsFor script past pool = can.stands in
     let tells = told seat delay pool.sequences can (rw (arrivals_at_delayed_post past e task runner delay refl later)
-    (lines_kept script past e (arrivals past) pool.sequences refl (λ now. refl) s.lines)) in
+    (lines_kept script past e (arrivals past) pool.sequences refl s.lines)) in
     record {
       script_fits = s.script_fits;
       past_fits = tells.fits;
@@ -236,4 +236,4 @@ stands_at_post script past pool seat place task runner delay can now allowed =
     tells : Tells script (past ++ e ∷ []) pool.priorities.items table held
     tells = told seat delay held can (rw (arrivals_at_post past e task runner delay refl now)
         (lines_at_arrival script (past ++ e ∷ []) (arrivals past) pool.sequences r
-        (lines_kept script past e (arrivals past) pool.sequences refl (λ now. refl) s.lines) there may))
+        (lines_kept script past e (arrivals past) pool.sequences refl s.lines) there may))

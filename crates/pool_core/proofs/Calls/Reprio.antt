@@ -130,7 +130,7 @@ stands_given script past pool seat runner priority priorities lanes knows given 
     tells : Tells script (past ++ e ∷ []) priorities.items pool.postings.items pool.sequences
     tells = record {
       fits = past_kept script past e refl stands.past_fits;
-      lines = rw (arrivals_same past e refl) (lines_kept script past e (arrivals past) pool.sequences refl (λ now. refl) stands.lines);
+      lines = rw (arrivals_same past e refl) (lines_kept script past e (arrivals past) pool.sequences refl stands.lines);
       postings_are = postings_kept script past e pool.postings.items refl stands.postings;
       priorities_are = rw given (priorities_given script past seat runner priority pool.priorities.items stands.priorities knows.declared);
     }

@@ -192,7 +192,7 @@ stands_at_done script past pool seat tracker can none is =
     let stands = can.stands in
     let lines = lines_at_done script past pool.sequences seat stands.past_fits stands.lines can.phase_is none in
     let fits = past_kept script past e refl stands.past_fits in
-    stands_with script past pool e pool.groups tracker stands (record { ready = refl; priorities = refl; now = λ moment. refl }) fits
+    stands_with script past pool e pool.groups tracker stands refl fits
     (rw (arrivals_same past e refl) at lines)
     (hold_from script past (past ++ e ∷ []) pool.priorities.items pool.postings.items pool.sequences pool.lanes (record {
       fits = fits;
@@ -202,7 +202,7 @@ stands_at_done script past pool seat tracker can none is =
     }) (λ j. job_at_done script past seat j can.phase_is none) (hold_standing script past pool stands))
     (groups_kept script past e pool.groups refl stands.groups)
     (is ∙ ap (λ (t : Tracked). record t { phase = phases.Done }) stands.tracker ∙ sym (tracked_at_done script past seat))
-    (seats_kept script past e pool.seats.items refl stands.seats) refl
+    (seats_kept script past e pool.seats.items refl stands.seats)
 
 pub stands_at_policy : (script : Plan) (past : List Entry) (pool : Pool) (seat : ℕ) (policy : Policy) (tracker : Tracked) → StandsFor script past pool
     → tracker ≡ record pool.tracker { policy = policy } → StandsFor script (after_policy past seat policy) (record pool { tracker = tracker })

@@ -218,7 +218,7 @@ stands_at_tick script past seat moment place front rest entry pool tick ripens n
     tells = record {
       fits = past_at_tick script past seat moment tick.can.stands.past_fits tick.can.later tick.can.fits;
       lines = subst (λ rs. AreLines script later rs pool.sequences) (sym all)
-          (lines_kept script past e (known past front) pool.sequences refl (λ now. refl) ripens.lines);
+          (lines_kept script past e (known past front) pool.sequences refl ripens.lines);
       postings_are = postings_kept script past e pool.postings.items refl ripens.postings;
       priorities_are = priorities_kept script past e pool.priorities.items refl ripens.priorities;
     }

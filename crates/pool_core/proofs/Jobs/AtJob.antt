@@ -5,7 +5,8 @@ use Rattle.list_laws.proofs.Values.{some-injective}
 use Rattle.pool_core.proofs.Works.GroupWorks.{seat_there as place_there, work_of_item, works_here}
 use Rattle.pool_core.proofs.Jobs.HeldItems.{held_at, under_here}
 use Rattle.pool_core.proofs.Jobs.JobQueues.{job_made}
-use Rattle.pool_core.proofs.Jobs.JobStands.{held_is, job_is, left_share_is, stepped_job}
+use Rattle.pool_core.proofs.Jobs.JobStands.{held_is, job_is}
+use Rattle.pool_core.proofs.Jobs.JobSteps.{left_share_is, stepped_job}
 use Rattle.pool_core.proofs.Tracking.{counts_at_left}
 use Rattle.pool_core.specs.Groups.{group_at}
 use Rattle.pool_core.specs.Holdings.{HoldsItem}

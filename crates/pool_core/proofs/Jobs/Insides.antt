@@ -1,5 +1,5 @@
 -- Who is inside a job, as the past grows.
--- Cited by `Jobs/JobStands`, `Pasts`.
+-- Cited by `Jobs/JobStands`, `Jobs/JobSteps`, `Pasts`.
 use Rattle.list_laws.proofs.Values.{eqb-same, some-injective}
 use Rattle.list_laws.specs.Lists.{holds_of}
 use Rattle.pool_core.specs.Holdings.{AreInside, HoldsItem}

@@ -1,6 +1,6 @@
 -- The tables of jobs as the past grows.
 -- Cited by `Calls/EmptyPool`, `Calls/Ends`, `Calls/Kept`, `Calls/Posts`, `Calls/Reprio`, `Calls/Shutdown`, `Calls/Takes`, `Calls/Ticks`,
--- `Jobs/JobStands`.
+-- `Jobs/JobStands`, `Jobs/JobSteps`.
 use Rattle.job_source.specs.Job.{with_done, with_entered}
 use Rattle.list_laws.proofs.Places.{slice_get-replicate, slice_get-set_other, slice_get-set_same}
 use Rattle.list_laws.proofs.Values.{eqb-same}
@@ -13,23 +13,24 @@ use Rattle.pool_core.specs.declared.pool_job.Holder.{Holder}
 use Rattle.pool_core.specs.declared.pool_job.PoolJob.{PoolJob}
 use Rattle.pool_laws.proofs.Jobs.Answers.{job_at_other_cancel, job_at_other_post, job_at_other_step, job_at_other_take, post_stays}
 use Rattle.pool_laws.proofs.Seats.Running.{holding_here, holding_other, holding_same}
-use Rattle.pool_laws.specs.Jobs.{JobKept, posts_job}
+use Rattle.pool_laws.specs.Jobs.{JobKept}
 use Rattle.pool_laws.specs.Seats.{moves_holding}
-use Rattle.pool_laws.specs.Shutdown.{moves_open_jobs}
+use Rattle.pool_laws.specs.Shutdown.{moves_open_jobs, open_job_parts}
 use Rattle.std.proofs.Common.{Bool, List, None, Option, Some, [], ap, arith, eqb, false, length, refl, sym, true, ℕ, ◌++◌, ◌+◌, ◌<◌, ◌∙◌, ◌∷◌, ◌≡◌, ◌≤◌}
 use Rattle.std.proofs.Math.Bool.{or-false, or-true}
 use Rattle.std.proofs.Math.Nat.{add-zero}
-use Rattle.std.proofs.lemmas.Bool.{eqb-false, eqb-true, true≢false}
+use Rattle.std.proofs.lemmas.Bool.{eqb-false, eqb-true}
 use Rattle.std.proofs.lemmas.List.{length-replicate, length-set}
 use Rattle.std.specs.Option.{option_map}
 use Rattle.std.specs.Prelude.{replicate, slice_get, slice_set, ◌==◌}
 use Rattle.task_base.specs.Plan.{Plan}
 use Rattle.task_base.specs.declared.entry.Entry.{Entry}
-use Rattle.task_base.specs.declared.entry.Kind.{Kind}
 use Rattle.task_base.specs.declared.entry.Kind.TheVariants as kinds
 use Rattle.task_model.proofs.Growth.{claimed_push, done_push, is_cancelled_push, job_post_of_push, job_sum_push}
-use Rattle.task_model.specs.Jobs.{cancels, claimed, claims, done, is_cancelled, job_post_of, value_by}
+use Rattle.task_model.specs.Jobs.{claimed, done, is_cancelled, job_post_of}
 use Rattle.task_model.specs.Seats.{Holding, holding, holding_after}
+use Rattle.pool_laws.specs.Moves.{Items}
+use Rattle.pool_laws.proofs.Moves.{moves_fewer, no_job_post, no_cancel, no_claim, no_value}
 
 -- One job at each entry.
 
@@ -42,41 +43,19 @@ as_kept script past later j kept held = rw (kept.post, kept.cancelled, kept.clai
 as_beside : (script : Plan) (past : List Entry) (e : Entry) (j : ℕ) → moves_open_jobs e.kind ≡ false → job_as script (past ++ e ∷ []) j ≡ job_as script past j
 as_beside script past e j quiet = rw (
   job_post_of_push past e j,
-  post_stays j past (job_post_of past j) e.kind (no_post e.kind quiet),
+  post_stays j past (job_post_of past j) e.kind (no_job_post open_job_parts e.kind refl quiet j),
   is_cancelled_push past e j,
-  no_cancel e.kind quiet,
+  no_cancel open_job_parts e.kind refl quiet j,
   or-false (is_cancelled past j),
   claimed_push past e j,
-  no_claim e.kind quiet,
+  no_claim open_job_parts e.kind refl quiet j,
   add-zero (claimed past j),
   done_push past e j,
   job_sum_push past e j,
-  no_value e.kind quiet,
+  no_value open_job_parts e.kind refl quiet j,
   add-zero (done past j),
-  held_kept script past e j (no_holding e.kind quiet),
+  held_kept script past e j (moves_fewer (Items ∷ []) open_job_parts e.kind refl quiet),
 ) refl
-  where
-    no_post : (kind : Kind) → moves_open_jobs kind ≡ false → posts_job j kind ≡ false
-    no_post (kinds.JobPost job ok) h = absurd (true≢false h)
-    no_post kind h = refl
-
-    no_cancel : (kind : Kind) → moves_open_jobs kind ≡ false → cancels j kind ≡ false
-    no_cancel (kinds.JobCancel job) h = absurd (true≢false h)
-    no_cancel kind h = refl
-
-    no_claim : (kind : Kind) → moves_open_jobs kind ≡ false → claims j kind ≡ false
-    no_claim (kinds.JobTake job id item) h = absurd (true≢false h)
-    no_claim (kinds.JobStep job id item value goes_on) h = absurd (true≢false h)
-    no_claim kind h = refl
-
-    no_value : (kind : Kind) → moves_open_jobs kind ≡ false → value_by j kind ≡ None
-    no_value (kinds.JobStep job id item value goes_on) h = absurd (true≢false h)
-    no_value kind h = refl
-
-    no_holding : (kind : Kind) → moves_open_jobs kind ≡ false → moves_holding kind ≡ false
-    no_holding (kinds.JobTake job id item) h = h
-    no_holding (kinds.JobStep job id item value goes_on) h = h
-    no_holding kind h = refl
 
 -- its post
 pub as_at_post : (script : Plan) (past : List Entry) (seat job : ℕ) (ok : Bool) → job_post_of past job ≡ None

@@ -1,5 +1,5 @@
 -- A job as the pool keeps it says what the rules say of it.
--- Cited by `Pool::enter_job`, `Pool::job_step`, `Pool::joined`, `Calls/Shutdown`, `Jobs/JobStands`, `Sources/Choosing`.
+-- Cited by `Pool::enter_job`, `Pool::job_step`, `Pool::joined`, `Calls/Shutdown`, `Jobs/JobStands`, `Jobs/JobSteps`, `Sources/Choosing`.
 use Rattle.job_source.specs.Job as source
 use Rattle.list_laws.proofs.Tests.{find_congr}
 use Rattle.list_laws.proofs.Values.{some-injective}

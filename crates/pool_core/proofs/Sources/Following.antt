@@ -1,6 +1,7 @@
 -- The queues hold what waits by the rules where they hold what the lists and the cells of the sequences say.
 -- Cited by `Pool::end`, `Calls/EmptyPool`, `Calls/Ends`, `Calls/Posts`, `Calls/Reprio`, `Calls/Ripening`, `Calls/Shutdown`, `Calls/Takes`,
 -- `Calls/Ticks`, `Sources/Choosing`, `Sources/Places`.
+use Rattle.pool_laws.proofs.Seats.Running.{both}
 use Rattle.list_laws.proofs.Elements.{slice_get_all}
 use Rattle.list_laws.proofs.Values.{eqb-same}
 use Rattle.list_laws.specs.Lists.{holds_of}
@@ -148,11 +149,7 @@ home_is script past postings s head fits known is =
 
 -- a sequence without a first task has no rank
 pub no_first : (priority : Priority) (sequence : sequences.Sequence) → first_of sequence.tasks ≡ None → rank_of_head priority sequence ≡ None
-no_first priority sequence none = rw none (by_cell (is_some sequence.cell))
-  where
-    by_cell : (b : Bool) → ◌≡◌ {A = Option Rank} (cond b None None) None
-    by_cell true = refl
-    by_cell false = refl
+no_first priority sequence none = rw none (both (is_some sequence.cell) None)
 
 -- a sequence that has no rank is no candidate
 unranked : (script : Plan) (priorities : List Priority) (postings : List (Option Posting)) (held : Held) (s : ℕ)

@@ -45,14 +45,14 @@ pub record IsAtSeat (script : Plan) (past : List Entry) (pool : Pool) (seat : �
 at_seat : (script : Plan) (past : List Entry) (pool : Pool) (seat : ℕ) (w : Running) → StandsFor script past pool → running past seat ≡ Some w
     → w.is_main ≡ false → IsAtSeat script past pool seat w
 at_seat script past pool seat w stands runs is_pool =
-    let at = stands.past_fits.runs seat w runs is_pool in
+    let at = (stands.past_fits.singly.runs seat w runs is_pool).can in
     let accepted = runs_accepted script past seat w stands.past_fits runs is_pool in
     let declared = is_declared script past accepted.0 stands.past_fits accepted.4 in
     record {
       stands = stands;
       runs = runs;
       is_pool = is_pool;
-      worker = at.worker;
+      worker = at.worker refl;
       known = at.known;
       post = accepted.0;
       accepted = accepted.1;

@@ -1,6 +1,6 @@
 -- The two groups at each entry.
 -- Cited by `Calls/EmptyPool`, `Calls/Ends`, `Calls/Others`, `Calls/Posts`, `Calls/Reprio`, `Calls/Scopes`, `Calls/Shutdown`, `Calls/Takes`,
--- `Calls/Ticks`, `Jobs/JobStands`.
+-- `Calls/Ticks`, `Jobs/JobStands`, `Jobs/JobSteps`.
 use Rattle.list_laws.proofs.Values.{eqb-same}
 use Rattle.pool_core.proofs.Works.GroupWorks.{group_kept, groups_moved, groups_moved_here, moment_of, no_work}
 use Rattle.pool_core.proofs.Works.GroupWorks.{not_same_task, other_kept, part, runner_holds_nothing}
@@ -8,34 +8,35 @@ use Rattle.pool_core.proofs.Works.GroupWorks.{seat_there, still_kept, task_of_po
 use Rattle.pool_core.specs.Calls.{after_end, after_enter, after_leave, after_tick, next}
 use Rattle.pool_core.specs.Groups.{AreGroups, StandsForGroup, empty_group, empty_groups, group_at, is_background}
 use Rattle.pool_core.specs.Groups.{opened_as, pool_work, ticked, with_group_at, work_of}
-use Rattle.pool_core.specs.Others.{is_quiet, posts_to_pool}
+use Rattle.pool_core.specs.Others.{group_parts}
 use Rattle.pool_core.specs.Pasts.{IsPoolPast, IsPoolScript}
 use Rattle.pool_core.specs.declared.groups.Groups.{Groups}
 use Rattle.pool_laws.proofs.Room.Capacity.{scope_kept}
 use Rattle.pool_laws.proofs.Seats.Running.{holding_here, holding_same, running_here, running_same, taken_here, taken_same}
 use Rattle.pool_laws.specs.Room.{scopes as scopes_of}
-use Rattle.pool_laws.specs.Seats.{moves_holding, moves_main, moves_running}
+use Rattle.pool_laws.specs.Seats.{moves_holding, moves_running, running_parts}
 use Rattle.std.proofs.Common.{Bool, List, None, Option, Some, [], ap, eqb, false, refl, sym, true, ℕ, ◌++◌, ◌+◌, ◌<◌, ◌∙◌, ◌∷◌, ◌≡◌, ◌≤◌}
-use Rattle.std.proofs.lemmas.Bool.{eqb-true, false≢true, ne_eqb}
+use Rattle.std.proofs.lemmas.Bool.{eqb-true, ne_eqb}
 use Rattle.std.proofs.lemmas.List.{get_or-replicate}
 use Rattle.std.proofs.lemmas.Option.{unwrap_or-slice_get}
 use Rattle.std.specs.Option.{option_map}
-use Rattle.std.specs.Prelude.{replicate, ◌||◌}
+use Rattle.std.specs.Prelude.{replicate}
 use Rattle.task_base.specs.Groups.{Background, Foreground, Group}
 use Rattle.task_base.specs.Plan.{Plan}
 use Rattle.task_base.specs.declared.entry.Entry.{Entry}
-use Rattle.task_base.specs.declared.entry.Kind.{Kind}
 use Rattle.task_base.specs.declared.limits.TheConstants.{MOST_WORKERS}
 use Rattle.task_base.specs.declared.step.Scope.{Scope}
 use Rattle.task_model.proofs.Growth.{now_of_push, open_scope_push}
 use Rattle.task_model.specs.Capacity.{best_limit, limit, open_scope, priority_of, priority_of_job, taken_with}
 use Rattle.task_model.specs.Seats.{Holding, Running, holding, running}
 use Rattle.task_traits.specs.declared.traits.Priority.{Priority}
-use Rattle.task_model.specs.Time.{now_after, now_of}
+use Rattle.task_model.specs.Time.{now_of}
 use Rattle.thread_group.specs.Group.{GroupWork, with_scope, with_work}
 use Rattle.thread_group.specs.declared.work.OpenScope as scopes
 use Rattle.task_base.specs.declared.entry.Kind.TheVariants as kinds
 use Rattle.task_model.specs.Capacity as capacities
+use Rattle.pool_laws.specs.Moves.{Moment, Scopes, Items, moves}
+use Rattle.pool_laws.proofs.Moves.{moves_fewer, same_moment, no_scope}
 
 pub groups_at_start : (script : Plan) → AreGroups script [] (empty_groups script)
 unfolding now_of running holding
@@ -79,7 +80,7 @@ groups_at_end script past groups seat left w limits fits are runs pool =
     let does = task_of_pool script past seat w fits runs pool in
     groups_moved_here script past (past ++ e ∷ []) groups seat does.0 (option_map opened_as (open_scope past w.task)) None are (record {
       now = now_of_push past e;
-      there = seat_there script seat limits (fits.runs seat w runs pool).known;
+      there = seat_there script seat limits (fits.singly.runs seat w runs pool).can.known;
       was = does.2;
       is = no_work script (past ++ e ∷ []) seat (running_here past e seat (eqb-same seat))
           (holding_same past e seat refl ∙ runner_holds_nothing script past seat w fits runs pool);
@@ -99,8 +100,8 @@ scope_moved script past groups e w after limits fits are runs pool still leaves 
       now = now;
       there = there;
       was = does.2;
-      is = work_of_task script (past ++ e ∷ []) e.seat w does.0 (fits.runs e.seat w runs pool).worker (running_same past e e.seat still ∙ runs)
-          (taken_same script past e e.seat still ∙ does.1) ∙ rw is refl;
+      is = work_of_task script (past ++ e ∷ []) e.seat w does.0 ((fits.singly.runs e.seat w runs pool).can.worker refl)
+          (running_same past e e.seat still ∙ runs) (taken_same script past e e.seat still ∙ does.1) ∙ rw is refl;
       others = λ other another. still_kept script past e other still leaves
           (λ v its main. apart v.task (not_same_task script past e.seat other w v fits runs pool its main another));
     }))
@@ -112,7 +113,7 @@ scope_moved script past groups e w after limits fits are runs pool still leaves 
     does = task_of_pool script past e.seat w fits runs pool
 
     there : e.seat < MOST_WORKERS + 1
-    there = seat_there script e.seat limits (fits.runs e.seat w runs pool).known
+    there = seat_there script e.seat limits (fits.singly.runs e.seat w runs pool).can.known
 
 pub groups_at_enter : (script : Plan) (past : List Entry) (groups : Groups) (seat : ℕ) (scope : Scope) (w : Running) → IsPoolScript script
     → IsPoolPast script past → AreGroups script past groups → running past seat ≡ Some w → w.is_main ≡ false
@@ -161,55 +162,24 @@ groups_same script past later groups now same are = record {
   background = group_kept script past later Background groups.background are.background now (λ seat. ap (part script Background) (same seat));
 }
 
--- a kind that moves no scope and no moment
-record LeavesScopes (kind : Kind) : Type 0 where
-  scope : (t : ℕ) → scopes_of t kind ≡ false
-  now : (moment : ℕ) → now_after moment kind ≡ moment
-
--- and that moves nothing that a seat runs or holds
-record LeavesWork (kind : Kind) : Type 0 where
-  runs : moves_running kind ≡ false
-  holds : moves_holding kind ≡ false
-  scopes : LeavesScopes kind
-
-leaves_groups : (kind : Kind) → (is_quiet kind || posts_to_pool kind) ≡ true → LeavesWork kind
-leaves_groups (kinds.Tick now) h = absurd (false≢true h)
-leaves_groups (kinds.Take task runner found) h = absurd (false≢true h)
-leaves_groups (kinds.End task left) h = absurd (false≢true h)
-leaves_groups (kinds.MainTake task queue found) h = absurd (false≢true h)
-leaves_groups (kinds.MainEnd task left) h = absurd (false≢true h)
-leaves_groups (kinds.Enter task scope) h = absurd (false≢true h)
-leaves_groups (kinds.Leave task) h = absurd (false≢true h)
-leaves_groups (kinds.JobTake job id item) h = absurd (false≢true h)
-leaves_groups (kinds.JobStep job id item value next) h = absurd (false≢true h)
-leaves_groups kind h = record { runs = refl; holds = refl; scopes = record { scope = λ t. refl; now = λ moment. refl } }
-
 -- a post, and an entry that is not the groups'
-pub groups_kept : (script : Plan) (past : List Entry) (e : Entry) (groups : Groups) → (is_quiet e.kind || posts_to_pool e.kind) ≡ true
+pub groups_kept : (script : Plan) (past : List Entry) (e : Entry) (groups : Groups) → moves group_parts e.kind ≡ false
     → AreGroups script past groups → AreGroups script (past ++ e ∷ []) groups
 groups_kept script past e groups still are =
-    let leaves = leaves_groups e.kind still in
-    groups_same script past (past ++ e ∷ []) groups (now_of_push past e ∙ leaves.scopes.now (now_of past))
-    (λ seat. still_kept script past e seat leaves.runs leaves.holds (λ w runs pool. leaves.scopes.scope w.task)) are
+    groups_same script past (past ++ e ∷ []) groups (now_of_push past e ∙ same_moment group_parts e.kind refl still (now_of past))
+    (λ seat. still_kept script past e seat (moves_fewer running_parts group_parts e.kind refl still)
+    (moves_fewer (Items ∷ []) group_parts e.kind refl still) (λ w runs pool. no_scope group_parts e.kind refl still w.task)) are
 
 -- what the driver takes, enters and ends is no work of the groups
-pub groups_at_driver : (script : Plan) (past : List Entry) (e : Entry) (groups : Groups) → (moves_main e.kind || moves_holding e.kind) ≡ true → e.seat ≡ 0
+pub groups_at_driver : (script : Plan) (past : List Entry) (e : Entry) (groups : Groups) → moves (Moment ∷ Scopes ∷ []) e.kind ≡ false → e.seat ≡ 0
     → AreGroups script past groups → AreGroups script (past ++ e ∷ []) groups
-groups_at_driver script past e groups moves driver are =
-    groups_same script past (past ++ e ∷ []) groups (now_of_push past e ∙ leaves.now (now_of past)) (λ seat. by_seat seat (eqb e.seat seat) refl) are
+groups_at_driver script past e groups still driver are =
+    groups_same script past (past ++ e ∷ []) groups (now_of_push past e ∙ same_moment (Moment ∷ Scopes ∷ []) e.kind refl still (now_of past))
+    (λ seat. by_seat seat (eqb e.seat seat) refl) are
   where
-    leaves_scopes : (kind : Kind) → (moves_main kind || moves_holding kind) ≡ true → LeavesScopes kind
-    leaves_scopes (kinds.Tick moment) h = absurd (false≢true h)
-    leaves_scopes (kinds.Enter task scope) h = absurd (false≢true h)
-    leaves_scopes (kinds.Leave task) h = absurd (false≢true h)
-    leaves_scopes kind h = record { scope = λ t. refl; now = λ moment. refl }
-
-    leaves : LeavesScopes e.kind
-    leaves = leaves_scopes e.kind moves
-
     by_seat : (seat : ℕ) (b : Bool) → eqb e.seat seat ≡ b → pool_work script (past ++ e ∷ []) seat ≡ pool_work script past seat
     by_seat seat true is = rw (← eqb-true e.seat seat is, driver) refl
-    by_seat seat false is = other_kept script past e seat is (λ w runs pool. leaves.scope w.task)
+    by_seat seat false is = other_kept script past e seat is (λ w runs pool. no_scope (Moment ∷ Scopes ∷ []) e.kind refl still w.task)
 
 -- Items of jobs.
 

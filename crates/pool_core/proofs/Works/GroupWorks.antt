@@ -1,15 +1,13 @@
 -- What each group keeps of the work of a seat.
 -- Cited by `Calls/Takes`, `Jobs/AtJob`, `Jobs/JobStands`, `Works/AtSeat`, `Works/GroupGrowth`, `Works/Room`.
-use Rattle.list_laws.proofs.Values.{some-injective}
 use Rattle.list_laws.specs.Lists.{holds_of, keep}
-use Rattle.pool_core.proofs.Accepted.{runs_accepted}
 use Rattle.pool_core.proofs.Lists.{kept_is_some}
 use Rattle.pool_core.specs.Groups.{AreGroups, StandsForGroup, group_at, group_in, in_background, is_background}
 use Rattle.pool_core.specs.Groups.{opened_as, pool_work, scope_of, with_group, with_group_at, work_of}
 use Rattle.pool_core.specs.Pasts.{IsPoolPast, IsPoolScript}
 use Rattle.pool_core.specs.declared.groups.Groups.{Groups}
 use Rattle.pool_laws.proofs.Room.Capacity.{scope_kept}
-use Rattle.pool_laws.proofs.Seats.Running.{holding_other, holding_same, running_other, running_same, taken_other, taken_same, taken_where_runs}
+use Rattle.pool_laws.proofs.Seats.Running.{both, holding_other, holding_same, running_other, running_same, taken_other, taken_same, taken_where_runs}
 use Rattle.pool_laws.specs.Room.{scopes as scopes_of}
 use Rattle.pool_laws.specs.Seats.{moves_holding, moves_running}
 use Rattle.std.proofs.Common.{Bool, List, None, Option, Some, [], ap, arith, cond, eqb, false, inl, inr}
@@ -25,7 +23,6 @@ use Rattle.task_base.specs.Plan.{Plan}
 use Rattle.task_base.specs.declared.entry.Entry.{Entry}
 use Rattle.task_base.specs.declared.limits.TheConstants.{MOST_WORKERS}
 use Rattle.task_model.specs.Capacity.{is_in, open_scope, priority_of_holding, priority_of_job, taken_with}
-use Rattle.task_model.specs.Posts.{post_of}
 use Rattle.task_model.specs.Seats.{Holding, Running, holding, running}
 use Rattle.task_model.specs.Time.{now_of}
 use Rattle.task_traits.specs.declared.traits.Priority.{Priority}
@@ -186,11 +183,7 @@ still_kept script past e seat runs holds quiet = work_kept script past (past ++ 
 
 -- a seat that runs and holds nothing does no work
 pub no_work : (script : Plan) (past : List Entry) (seat : ℕ) → running past seat ≡ None → holding past seat ≡ None → pool_work script past seat ≡ None
-no_work script past seat runs held = rw (runs, held) (by_order (nat_lt 0 seat))
-  where
-    by_order : (b : Bool) → ◌≡◌ {A = Option Work} (cond b None None) None
-    by_order true = refl
-    by_order false = refl
+no_work script past seat runs held = rw (runs, held) (both (nat_lt 0 seat) None)
 
 -- an item that a worker holds, which runs no task
 pub work_of_item : (script : Plan) (past : List Entry) (seat : ℕ) (h : Holding) → 1 ≤ seat → running past seat ≡ None → holding past seat ≡ Some h
@@ -204,7 +197,7 @@ runner_holds_nothing script past seat w fits runs pool = by_holding (holding pas
   where
     by_holding : (o : Option Holding) → holding past seat ≡ o → o ≡ None
     by_holding None is = refl
-    by_holding (Some h) is = absurd (none-some w (sym (fits.inside.one_thing seat h (fits.runs seat w runs pool).worker is) ∙ runs))
+    by_holding (Some h) is = absurd (none-some w (sym (fits.inside.one_thing seat h ((fits.singly.runs seat w runs pool).can.worker refl) is) ∙ runs))
 
 -- a task that a worker runs, by the priority of its take
 pub work_of_task : (script : Plan) (past : List Entry) (seat : ℕ) (w : Running) (priority : Priority) → 1 ≤ seat → running past seat ≡ Some w
@@ -218,21 +211,14 @@ pub task_of_pool : (script : Plan) (past : List Entry) (seat : ℕ) (w : Running
     × (pool_work script past seat ≡ Some (work_of (option_map opened_as (open_scope past w.task)) priority))
 task_of_pool script past seat w fits runs pool =
     let (priority, taken) = taken_of script past seat w runs pool in
-    (priority, taken, work_of_task script past seat w priority (fits.runs seat w runs pool).worker runs taken)
+    (priority, taken, work_of_task script past seat w priority ((fits.singly.runs seat w runs pool).can.worker refl) runs taken)
 
 -- no other seat runs this task
 pub not_same_task : (script : Plan) (past : List Entry) (seat other : ℕ) (w v : Running) → IsPoolPast script past → running past seat ≡ Some w
     → w.is_main ≡ false
     → running past other ≡ Some v → v.is_main ≡ false → (other ≡ seat → ⊥) → eqb w.task v.task ≡ false
-not_same_task script past seat other w v fits runs pool other_runs other_pool another = ne_eqb w.task v.task (λ same. another (at same))
-  where
-    at : w.task ≡ v.task → other ≡ seat
-    at same =
-        let mine = runs_accepted script past seat w fits runs pool in
-        let its = runs_accepted script past other v fits other_runs other_pool in
-        let one : its.0 ≡ mine.0 = some-injective (sym its.1 ∙ ap (post_of past) (sym same) ∙ mine.1) in
-        let home : v.home ≡ w.home = sym its.2 ∙ ap (λ p. p.home) one ∙ mine.2 in
-        fits.one_sequence other seat v w other_runs runs other_pool pool (rw (home, same) refl)
+not_same_task script past seat other w v fits runs pool other_runs other_pool another = ne_eqb w.task v.task (λ same.
+    another (fits.singly.alone other seat v w other_runs runs other_pool pool (inl (sym same))))
 
 -- a worker's seat has a place
 pub seat_there : (script : Plan) (seat : ℕ) → IsPoolScript script → seat ≤ script.workers → seat < MOST_WORKERS + 1

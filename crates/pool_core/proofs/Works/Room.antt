@@ -42,7 +42,7 @@ idle_outside script past seat fits outside = by_order (nat_lt 0 seat) refl
     none None taken (Some h) worker runs counts holds = absurd (outside worker (fits.inside.holds seat h holds).known)
     none (Some w) None held worker runs counts holds = refl
     none (Some w) (Some priority) held worker runs counts holds =
-        absurd (outside worker (fits.runs seat w runs (not-true w.is_main (sym counts))).known)
+        absurd (outside worker (fits.singly.runs seat w runs (not-true w.is_main (sym counts))).can.known)
 
     by_order : (b : Bool) → nat_lt 0 seat ≡ b
         → cond b (works_by script past (running past seat) (taken_with script past seat) (holding past seat)) None ≡ None

@@ -8,14 +8,12 @@ use Rattle.std.proofs.Common.{◌≡◌, ℕ, ◌<◌, Bool, true, false, cond, 
 use Rattle.std.specs.Prelude.{not, ◌⊎◌, nat_lt, Contains}
 use Rattle.std.specs.Option.{option_map}
 use Rattle.std.specs.List.{filter_map, range_with_len}
-use Rattle.std.proofs.lemmas.Bool.{not-true, ltb-true, lt-ltb, or_parts}
+use Rattle.std.proofs.lemmas.Bool.{not-true, ltb-true, lt-ltb}
 use Rattle.std.proofs.lemmas.Option.{none-some}
 use Rattle.std.proofs.lemmas.List.Elements.{Contains-append_left, Contains-append_right, Contains-append_cases}
 use Rattle.task_base.specs.Plan.{Plan}
 use Rattle.task_base.specs.Runners.{sequence_count}
 use Rattle.task_base.specs.declared.entry.Entry.{Entry}
-use Rattle.task_base.specs.declared.entry.Kind.{Kind}
-use Rattle.task_base.specs.declared.entry.Kind.TheVariants as kinds
 use Rattle.task_base.specs.declared.source.TaskSource.{TaskSource}
 use Rattle.task_base.specs.declared.source.TaskSource.TheVariants.{Sequence, Job}
 use Rattle.task_traits.specs.declared.traits.Priority.{Priority}
@@ -26,8 +24,8 @@ use Rattle.task_model.specs.Seats.{runs_sequence}
 use Rattle.task_model.specs.Jobs.{JobPosted, job_post_of, may_enter, MayEnter}
 use Rattle.task_model.specs.Sources.{Candidate, sequence_candidate, sequence_waiting, job_candidate, job_waiting, would_wait, waiting, IsWaiting}
 use Rattle.pool_laws.specs.Seats.{moves_main, runs_pool_task}
-use Rattle.pool_laws.specs.Jobs.{moves_jobs}
-use Rattle.pool_laws.specs.Choice.{source_waiting, WouldWait, IsFree, moves_sequence_waiting, moves_held, moves_sources, moves_waiting}
+use Rattle.pool_laws.specs.Jobs.{job_parts}
+use Rattle.pool_laws.specs.Choice.{source_waiting, WouldWait, IsFree, moves_sources, moves_waiting, sequence_waiting_parts, source_parts, waiting_parts, held_parts}
 use Rattle.list_laws.proofs.Filters.{filter_congr, filter_map_congr_in}
 use Rattle.list_laws.proofs.Made.{filter_contains, contains_filter, filter_map_contains, contains_filter_map, contains_range, range_contains}
 use Rattle.list_laws.proofs.Ranges.{AllByRecursion-range}
@@ -35,6 +33,7 @@ use Rattle.list_laws.proofs.Values.{some-injective}
 use Rattle.pool_laws.proofs.Jobs.Answers.{job_at_main, job_same, job_waiting_kept}
 use Rattle.pool_laws.proofs.Choice.Waiting.{sequence_waiting_same, sequence_waiting_at_main}
 use Rattle.pool_laws.proofs.Choice.Held.{held_same}
+use Rattle.pool_laws.proofs.Moves.{moves_fewer}
 
 -- The candidate of a source.
 
@@ -150,11 +149,9 @@ would_wait_by_sources script past later sources = rw (
 pub source_same : (script : Plan) (past : List Entry) (e : Entry) (source : TaskSource) → moves_sources e.kind ≡ false
     → source_waiting script (past ++ e ∷ []) source ≡ source_waiting script past source
 source_same script past e (Sequence s) quiet =
-    let parts : (moves_sequence_waiting e.kind ≡ false) × (moves_jobs e.kind ≡ false) = or_parts (moves_sequence_waiting e.kind) (moves_jobs e.kind) quiet in
-    rw (sequence_waiting_same script past e s parts.0) refl
+    rw (sequence_waiting_same script past e s (moves_fewer sequence_waiting_parts source_parts e.kind refl quiet)) refl
 source_same script past e (Job j) quiet =
-    let parts : (moves_sequence_waiting e.kind ≡ false) × (moves_jobs e.kind ≡ false) = or_parts (moves_sequence_waiting e.kind) (moves_jobs e.kind) quiet in
-    rw (job_waiting_kept script past (past ++ e ∷ []) j (job_same script past e j parts.1)) refl
+    rw (job_waiting_kept script past (past ++ e ∷ []) j (job_same script past e j (moves_fewer job_parts source_parts e.kind refl quiet))) refl
 
 -- so it stays at each kind that moves no source: a policy, for one, leaves it
 pub would_wait_same : (script : Plan) (past : List Entry) (e : Entry) → moves_sources e.kind ≡ false
@@ -199,29 +196,7 @@ unfolding waiting
 waiting_kept script past later same held = rw same
     (filter_congr (λ c. not (is_held later c.priority)) (λ c. not (is_held past c.priority)) (would_wait script past) (λ c. ap not (held c.priority)))
 
--- what leaves what waits moves no source
-pub source_waits : (kind : Kind) → moves_waiting kind ≡ false → moves_sources kind ≡ false
-source_waits (kinds.Post task runner delay ok) h = rw h refl
-source_waits (kinds.Tick now) h = h
-source_waits (kinds.Take task runner found) h = h
-source_waits (kinds.End task left) h = h
-source_waits (kinds.Reprio runner priority) h = h
-source_waits (kinds.MainTake task queue found) h = h
-source_waits (kinds.MainEnd task left) h = h
-source_waits (kinds.JobPost job ok) h = h
-source_waits (kinds.JobTake job id item) h = h
-source_waits (kinds.JobStep job id item value next) h = h
-source_waits (kinds.JobCancel job) h = h
-source_waits kinds.Shutdown h = h
-source_waits kinds.Done h = h
-source_waits kind h = refl
-
 pub waiting_same : (script : Plan) (past : List Entry) (e : Entry) → moves_waiting e.kind ≡ false → waiting script (past ++ e ∷ []) ≡ waiting script past
-waiting_same script past e quiet = waiting_kept script past (past ++ e ∷ []) (would_wait_same script past e (source_waits e.kind quiet))
-    (λ priority. held_same past e priority (no_policy e.kind quiet))
-  where
-    no_policy : (kind : Kind) → moves_waiting kind ≡ false → moves_held kind ≡ false
-    no_policy (kinds.Policy new) h = h
-    no_policy kinds.Shutdown h = h
-    no_policy kinds.Done h = h
-    no_policy kind h = refl
+waiting_same script past e quiet = waiting_kept script past (past ++ e ∷ [])
+    (would_wait_same script past e (moves_fewer source_parts waiting_parts e.kind refl quiet))
+    (λ priority. held_same past e priority (moves_fewer held_parts waiting_parts e.kind refl quiet))

@@ -1,10 +1,9 @@
 -- When a sequence waits as before: where it runs or not as before, and keeps its head and its priority. So it is at each entry
 -- that touches no sequence and no priority, and at the driver's main tasks.
 -- Cited by `Choice/Candidates`, `pool_core`.
-use Rattle.std.proofs.Common.{◌≡◌, ℕ, Bool, true, false, cond, List, [], ◌∷◌, ◌++◌, refl, sym, ◌∙◌, Option, Some, None}
-use Rattle.std.specs.Prelude.{◌||◌}
+use Rattle.std.proofs.Common.{◌≡◌, ℕ, Bool, true, false, cond, List, [], ◌∷◌, ◌++◌, refl, ◌∙◌, Option, Some, None}
 use Rattle.std.specs.Option.{option_map}
-use Rattle.std.proofs.lemmas.Bool.{true≢false, or_parts}
+use Rattle.std.proofs.lemmas.Bool.{true≢false}
 use Rattle.task_base.specs.Plan.{Plan}
 use Rattle.task_base.specs.declared.entry.Entry.{Entry}
 use Rattle.task_base.specs.declared.entry.Kind.{Kind}
@@ -14,12 +13,14 @@ use Rattle.task_model.specs.Sequences.{head_of}
 use Rattle.task_model.specs.Seats.{runs_sequence}
 use Rattle.task_model.specs.Capacity.{priority_of, priority_after}
 use Rattle.task_model.specs.Sources.{sequence_candidate, sequence_waiting}
-use Rattle.pool_laws.specs.Keys.{moves_sequences}
-use Rattle.pool_laws.specs.Seats.{moves_main, moves_running, runs_pool_task}
-use Rattle.pool_laws.specs.Choice.{moves_priorities, moves_sequence_waiting}
+use Rattle.pool_laws.specs.Keys.{sequence_parts}
+use Rattle.pool_laws.specs.Seats.{moves_main, runs_pool_task, main_parts, running_parts}
+use Rattle.pool_laws.specs.Choice.{moves_priorities, moves_sequence_waiting, sequence_waiting_parts}
 use Rattle.task_model.proofs.Growth.{priority_of_push}
 use Rattle.pool_laws.proofs.Keys.Sequences.{head_same}
 use Rattle.pool_laws.proofs.Seats.Running.{runs_same, runs_at_main}
+use Rattle.pool_laws.specs.Moves.{Priorities}
+use Rattle.pool_laws.proofs.Moves.{moves_fewer, moves_apart}
 
 -- the priorities of the runners are the same in a later past
 abbrev PrioritiesKept : Plan → List Entry → List Entry → Type 0
@@ -49,19 +50,13 @@ sequence_waiting_kept script past later s runs head priorities =
 
 pub sequence_waiting_same : (script : Plan) (past : List Entry) (e : Entry) (s : ℕ) → moves_sequence_waiting e.kind ≡ false
     → sequence_waiting script (past ++ e ∷ []) s ≡ sequence_waiting script past s
-sequence_waiting_same script past e s quiet =
-    let parts : (moves_sequences e.kind ≡ false) × ((moves_running e.kind || moves_priorities e.kind) ≡ false) =
-    or_parts (moves_sequences e.kind) (moves_running e.kind || moves_priorities e.kind) quiet in
-    let still : (moves_running e.kind ≡ false) × (moves_priorities e.kind ≡ false) = or_parts (moves_running e.kind) (moves_priorities e.kind) parts.1 in
-    sequence_waiting_kept script past (past ++ e ∷ []) s (runs_same script past e s still.0) (head_same script past e s parts.0)
-    (priority_same script past e still.1)
+sequence_waiting_same script past e s quiet = sequence_waiting_kept script past (past ++ e ∷ []) s
+    (runs_same script past e s (moves_fewer running_parts sequence_waiting_parts e.kind refl quiet))
+    (head_same script past e s (moves_fewer sequence_parts sequence_waiting_parts e.kind refl quiet))
+    (priority_same script past e (moves_fewer (Priorities ∷ []) sequence_waiting_parts e.kind refl quiet))
 
 pub sequence_waiting_at_main : (script : Plan) (past : List Entry) (e : Entry) (s : ℕ) → moves_main e.kind ≡ true → runs_pool_task past e.seat ≡ false
     → sequence_waiting script (past ++ e ∷ []) s ≡ sequence_waiting script past s
 sequence_waiting_at_main script past e s main none = sequence_waiting_kept script past (past ++ e ∷ []) s (runs_at_main script past e s main none)
-    (head_same script past e s (still e.kind main).0) (priority_same script past e (still e.kind main).1)
-  where
-    still : (kind : Kind) → moves_main kind ≡ true → (moves_sequences kind ≡ false) × (moves_priorities kind ≡ false)
-    still (kinds.MainTake task queue found) h = (refl, refl)
-    still (kinds.MainEnd task left) h = (refl, refl)
-    still kind h = absurd (true≢false (sym h))
+    (head_same script past e s (moves_apart main_parts sequence_parts e.kind refl main))
+    (priority_same script past e (moves_apart main_parts (Priorities ∷ []) e.kind refl main))

@@ -1,11 +1,10 @@
 -- What one more entry leaves of a job: each entry that is of no job and leaves the phase, and each entry of another job,
 -- leaves all that is known of it. Then it may be entered, is over, is replied to and waits as before.
-use Rattle.std.proofs.Common.{◌≡◌, ℕ, Bool, true, false, cond, List, [], ◌∷◌, ◌++◌, refl, sym, ap, ◌∙◌, Option, Some, None}
+use Rattle.std.proofs.Common.{◌≡◌, ℕ, Bool, true, false, cond, List, [], ◌∷◌, ◌++◌, refl, ap, ◌∙◌, Option, Some, None}
 use Rattle.std.specs.Prelude.{◌==◌}
 use Rattle.std.specs.Option.{option_map}
 use Rattle.std.proofs.Math.Bool.{or-false}
 use Rattle.std.proofs.Math.Nat.{add-zero}
-use Rattle.std.proofs.lemmas.Bool.{true≢false}
 use Rattle.task_base.specs.Plan.{Plan}
 use Rattle.task_base.specs.declared.entry.Entry.{Entry}
 use Rattle.task_base.specs.declared.entry.Kind.{Kind}
@@ -13,12 +12,14 @@ use Rattle.task_base.specs.declared.entry.Kind.TheVariants as kinds
 use Rattle.task_traits.specs.declared.phase.Phase.{Phase}
 use Rattle.task_model.specs.Phase.{phase_of, phase_after}
 use Rattle.task_model.specs.Seats.{holding, inside}
-use Rattle.task_model.specs.Jobs.{JobPosted, job_post_of, job_post_after, is_cancelled, cancels, claimed, claims, done, value_by, may_enter, is_over, reply_of}
+use Rattle.task_model.specs.Jobs.{JobPosted, job_post_of, job_post_after, is_cancelled, cancels, claimed, claims, done, value_by, may_enter}
 use Rattle.task_model.specs.Sources.{job_candidate, job_waiting}
-use Rattle.pool_laws.specs.Seats.{moves_main, moves_holding, holds_job}
-use Rattle.pool_laws.specs.Jobs.{moves_jobs, posts_job, JobKept}
+use Rattle.pool_laws.specs.Seats.{moves_main, moves_holding, holds_job, main_parts}
+use Rattle.pool_laws.specs.Jobs.{moves_jobs, posts_job, JobKept, job_parts}
 use Rattle.task_model.proofs.Growth.{phase_of_push, job_post_of_push, is_cancelled_push, claimed_push, done_push, job_sum_push}
 use Rattle.pool_laws.proofs.Seats.Running.{inside_same, inside_at_other_take, inside_at_step, inside_at_other_leave}
+use Rattle.pool_laws.specs.Moves.{Items}
+use Rattle.pool_laws.proofs.Moves.{moves_fewer, moves_apart, same_phase, no_job_post, no_cancel, no_claim, no_value}
 
 -- the first post of a job stays at each entry that is no post of it
 pub post_stays : (j : ℕ) (past : List Entry) (now : Option JobPosted) (kind : Kind) → posts_job j kind ≡ false → job_post_after j past now kind ≡ now
@@ -41,44 +42,13 @@ kept_by script past e j no_post no_cancel no_claim no_value no_phase same = reco
 }
 
 pub job_same : (script : Plan) (past : List Entry) (e : Entry) (j : ℕ) → moves_jobs e.kind ≡ false → JobKept script past (past ++ e ∷ []) j
-job_same script past e j quiet = kept_by script past e j (no_post e.kind quiet) (no_cancel e.kind quiet) (no_claim e.kind quiet) (no_value e.kind quiet)
-    (λ phase. no_phase phase e.kind quiet) (inside_same script past e j (no_holding e.kind quiet))
-  where
-    no_holding : (kind : Kind) → moves_jobs kind ≡ false → moves_holding kind ≡ false
-    no_holding (kinds.JobTake job id item) h = h
-    no_holding (kinds.JobStep job id item value next) h = h
-    no_holding kind h = refl
-
-    no_post : (kind : Kind) → moves_jobs kind ≡ false → posts_job j kind ≡ false
-    no_post (kinds.JobPost job ok) h = absurd (true≢false h)
-    no_post kind h = refl
-
-    no_cancel : (kind : Kind) → moves_jobs kind ≡ false → cancels j kind ≡ false
-    no_cancel (kinds.JobCancel job) h = absurd (true≢false h)
-    no_cancel kind h = refl
-
-    no_phase : (phase : Phase) (kind : Kind) → moves_jobs kind ≡ false → phase_after phase kind ≡ phase
-    no_phase phase kinds.Shutdown h = absurd (true≢false h)
-    no_phase phase kinds.Done h = absurd (true≢false h)
-    no_phase phase kind h = refl
-
-    no_claim : (kind : Kind) → moves_jobs kind ≡ false → claims j kind ≡ false
-    no_claim (kinds.JobTake job id item) h = absurd (true≢false h)
-    no_claim (kinds.JobStep job id item value next) h = absurd (true≢false h)
-    no_claim kind h = refl
-
-    no_value : (kind : Kind) → moves_jobs kind ≡ false → value_by j kind ≡ None
-    no_value (kinds.JobStep job id item value next) h = absurd (true≢false h)
-    no_value kind h = refl
+job_same script past e j quiet = kept_by script past e j (no_job_post job_parts e.kind refl quiet j) (no_cancel job_parts e.kind refl quiet j)
+    (no_claim job_parts e.kind refl quiet j) (no_value job_parts e.kind refl quiet j) (same_phase job_parts e.kind refl quiet)
+    (inside_same script past e j (moves_fewer (Items ∷ []) job_parts e.kind refl quiet))
 
 -- a main task is of no job
 pub job_at_main : (script : Plan) (past : List Entry) (e : Entry) (j : ℕ) → moves_main e.kind ≡ true → JobKept script past (past ++ e ∷ []) j
-job_at_main script past e j main = job_same script past e j (still e.kind main)
-  where
-    still : (kind : Kind) → moves_main kind ≡ true → moves_jobs kind ≡ false
-    still (kinds.MainTake task queue found) h = refl
-    still (kinds.MainEnd task left) h = refl
-    still kind h = absurd (true≢false (sym h))
+job_at_main script past e j main = job_same script past e j (moves_apart main_parts job_parts e.kind refl main)
 
 -- the entries of one job leave the others
 pub job_at_other_post : (script : Plan) (past : List Entry) (e : Entry) (j job : ℕ) (ok : Bool) → e.kind ≡ kinds.JobPost job ok → (job == j) ≡ false
@@ -105,17 +75,10 @@ pub job_at_other_cancel : (script : Plan) (past : List Entry) (e : Entry) (j job
 job_at_other_cancel script past e j job is other = kept_by script past e j (ap (posts_job j) is) (rw is other) (ap (claims j) is) (ap (value_by j) is)
     (λ phase. ap (phase_after phase) is) (inside_same script past e j (ap moves_holding is))
 
--- what follows for a job of which a later past says the same: whether it may be entered, whether it is over, its reply,
--- and its place among what waits
+-- what follows for a job of which a later past says the same: whether it may be entered, and its place among what waits
 pub may_enter_kept : (script : Plan) (past later : List Entry) (j : ℕ) → JobKept script past later j → may_enter script later j ≡ may_enter script past j
 unfolding may_enter
 may_enter_kept script past later j kept = rw (kept.post, kept.cancelled, kept.phase, kept.claims_same, kept.done_same, kept.inside_now) refl
-
-pub over_kept : (script : Plan) (past later : List Entry) (j : ℕ) → JobKept script past later j → is_over script later j ≡ is_over script past j
-over_kept script past later j kept = rw (kept.inside_now, kept.done_same, kept.cancelled) refl
-
-pub reply_kept : (script : Plan) (past later : List Entry) (j : ℕ) → JobKept script past later j → reply_of script later j ≡ reply_of script past j
-reply_kept script past later j kept = rw (kept.post, kept.done_same, kept.sum_same, kept.cancelled, kept.phase) refl
 
 pub job_waiting_kept : (script : Plan) (past later : List Entry) (j : ℕ) → JobKept script past later j → job_waiting script later j ≡ job_waiting script past j
 job_waiting_kept script past later j kept = rw (may_enter_kept script past later j kept, kept.post)

@@ -21,13 +21,11 @@ use Rattle.pool_laws.specs.Keys.{moves_posts, moves_main_posts}
 use Rattle.task_model.proofs.Growth.{posts_push, main_posts_push}
 use Rattle.list_laws.proofs.Elements.{AllByRecursion-map, AllByRecursion-both}
 use Rattle.pool_laws.proofs.Keys.Ready.{posts_within, main_posts_within}
+use Rattle.pool_laws.specs.Moves.{Posts}
+use Rattle.pool_laws.proofs.Moves.{no_posted}
 
 pub posts_same : (past : List Entry) (e : Entry) → moves_posts e.kind ≡ false → posts (past ++ e ∷ []) ≡ posts past
-posts_same past e quiet = rw (posts_push past e, none e.kind quiet) (append-nil _)
-  where
-    none : (kind : Kind) → moves_posts kind ≡ false → posted_by past kind ≡ []
-    none (Post task runner delay true) h = absurd (true≢false h)
-    none kind h = refl
+posts_same past e quiet = rw (posts_push past e, no_posted (Posts ∷ []) past e.kind refl quiet) (append-nil _)
 
 pub main_posts_same : (past : List Entry) (e : Entry) → moves_main_posts e.kind ≡ false → main_posts (past ++ e ∷ []) ≡ main_posts past
 main_posts_same past e quiet = rw (main_posts_push past e, none e.kind quiet) (append-nil _)

@@ -16,7 +16,7 @@ use Rattle.std.specs.Option.{option_map, option_or}
 use Rattle.std.specs.Prelude.{nat_lt}
 use Rattle.std.specs.List.{filter_map, cons_option, AllByRecursion}
 use Rattle.std.proofs.lemmas.Option.{none-some}
-use Rattle.std.proofs.lemmas.Bool.{true≢false, ltb-true, lt-ltb, lt-leb}
+use Rattle.std.proofs.lemmas.Bool.{ltb-true, lt-ltb, lt-leb}
 use Rattle.std.proofs.Math.Nat.{zero-add}
 use Rattle.std.proofs.lemmas.List.{append-nil, length-append}
 use Rattle.std.proofs.lemmas.List.Elements.{filter_map-append}
@@ -28,12 +28,13 @@ use Rattle.task_model.specs.Time.{now_of, now_after, is_tick_from, tick_from}
 use Rattle.task_model.specs.Past.{fold_past, fold_past_from}
 use Rattle.task_model.specs.Posts.{Posted, is_delayed, posted_by, posts, main_posted_by, main_posts}
 use Rattle.task_model.specs.Keys.{Ready, key_at, key_of, ready, ready_behind}
-use Rattle.pool_laws.specs.Keys.{tick_by, key_by, moves_ready, NoTickAhead, ready_at_tick_of}
+use Rattle.pool_laws.specs.Keys.{tick_by, key_by, moves_ready, NoTickAhead, ready_at_tick_of, ready_parts}
 use Rattle.task_model.proofs.Growth.{now_of_push, posts_push}
 use Rattle.list_laws.proofs.Options.{option_or-none, option_map-or, position-append, position-within}
 use Rattle.list_laws.proofs.Values.{some-injective}
 use Rattle.list_laws.proofs.Filters.{filter_map_congr}
 use Rattle.list_laws.proofs.Elements.{AllByRecursion-map, AllByRecursion-append}
+use Rattle.pool_laws.proofs.Moves.{no_posted, no_tick}
 
 pub tick_from_push : (past : List Entry) (e : Entry) (moment : ℕ)
     → tick_from (past ++ e ∷ []) moment ≡ option_or (tick_from past moment) (tick_by past moment e.kind)
@@ -114,15 +115,8 @@ added past e kind is no_tick = grown past e kind is
     same p = rw (by_posted p (is_delayed p)) (option_or-none (key_of past p))
 
 pub ready_same : (past : List Entry) (e : Entry) → moves_ready e.kind ≡ false → ready (past ++ e ∷ []) ≡ ready past
-ready_same past e quiet = added past e e.kind refl (no_tick e.kind quiet) ∙ rw (no_post e.kind quiet) (append-nil _)
-  where
-    no_tick : (kind : Kind) → moves_ready kind ≡ false → (moment : ℕ) → is_tick_from moment kind ≡ false
-    no_tick (Tick now) h moment = absurd (true≢false h)
-    no_tick kind h moment = refl
-
-    no_post : (kind : Kind) → moves_ready kind ≡ false → posted_by past kind ≡ []
-    no_post (Post task runner delay true) h = absurd (true≢false h)
-    no_post kind h = refl
+ready_same past e quiet = added past e e.kind refl (no_tick ready_parts e.kind refl quiet)
+    ∙ rw (no_posted ready_parts past e.kind refl quiet) (append-nil _)
 
 pub ready_at_post : (past : List Entry) (e : Entry) (task runner delay : ℕ) → e.kind ≡ Post task runner delay true → nat_lt 0 delay ≡ false
     → ready (past ++ e ∷ []) ≡ ready past ++ ready_behind past task runner delay ∷ []

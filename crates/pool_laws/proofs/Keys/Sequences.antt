@@ -2,22 +2,20 @@
 -- Cited by `Choice/Waiting`.
 use Rattle.std.proofs.Common.{◌≡◌, ℕ, Bool, false, List, [], ◌∷◌, ◌++◌, refl, ap}
 use Rattle.std.specs.Prelude.{◌&&◌, filter}
-use Rattle.std.proofs.lemmas.Bool.{true≢false}
 use Rattle.std.proofs.Math.Bool.{or-false}
 use Rattle.task_base.specs.Plan.{Plan}
 use Rattle.task_base.specs.declared.entry.Entry.{Entry}
-use Rattle.task_base.specs.declared.entry.Kind.{Kind}
-use Rattle.task_base.specs.declared.entry.Kind.TheVariants as kinds
 use Rattle.task_traits.specs.declared.phase.Phase.{Phase}
 use Rattle.list_laws.specs.Lists.{least}
 use Rattle.task_model.specs.Phase.{phase_of, phase_after}
 use Rattle.task_model.specs.Posts.{Posted, is_taken, takes}
 use Rattle.task_model.specs.Keys.{Ready, ready}
 use Rattle.task_model.specs.Sequences.{is_of, may_start, eligible, head_of}
-use Rattle.pool_laws.specs.Keys.{moves_ready, moves_sequences, ready_below}
+use Rattle.pool_laws.specs.Keys.{moves_sequences, ready_below, ready_parts, sequence_parts}
 use Rattle.task_model.proofs.Growth.{phase_of_push, is_taken_push}
 use Rattle.list_laws.proofs.Filters.{filter_congr}
 use Rattle.pool_laws.proofs.Keys.Ready.{ready_same}
+use Rattle.pool_laws.proofs.Moves.{moves_fewer, no_take, same_phase}
 
 abbrev chosen : Plan → List Entry → ℕ → Ready → Bool
 chosen script past s r = is_of script s r.posted && may_start script past r.posted
@@ -35,22 +33,8 @@ chosen_same script past e s no_take no_phase xs = filter_congr _ _ xs (λ r. rw 
 pub eligible_same : (script : Plan) (past : List Entry) (e : Entry) (s : ℕ) → moves_sequences e.kind ≡ false
     → eligible script (past ++ e ∷ []) s ≡ eligible script past s
 unfolding eligible
-eligible_same script past e s quiet =
-    rw (ready_same past e (no_ready e.kind quiet)) (chosen_same script past e s (no_take e.kind quiet) (no_phase e.kind quiet) (ready past))
-  where
-    no_ready : (kind : Kind) → moves_sequences kind ≡ false → moves_ready kind ≡ false
-    no_ready (kinds.Post task runner delay ok) h = h
-    no_ready (kinds.Tick now) h = h
-    no_ready kind h = refl
-
-    no_take : (kind : Kind) → moves_sequences kind ≡ false → (t : ℕ) → takes t kind ≡ false
-    no_take (kinds.Take task runner found) h t = absurd (true≢false h)
-    no_take kind h t = refl
-
-    no_phase : (kind : Kind) → moves_sequences kind ≡ false → (phase : Phase) → phase_after phase kind ≡ phase
-    no_phase kinds.Shutdown h phase = absurd (true≢false h)
-    no_phase kinds.Done h phase = absurd (true≢false h)
-    no_phase kind h phase = refl
+eligible_same script past e s quiet = rw (ready_same past e (moves_fewer ready_parts sequence_parts e.kind refl quiet))
+    (chosen_same script past e s (no_take sequence_parts e.kind refl quiet) (same_phase sequence_parts e.kind refl quiet) (ready past))
 
 pub head_same : (script : Plan) (past : List Entry) (e : Entry) (s : ℕ) → moves_sequences e.kind ≡ false
     → head_of script (past ++ e ∷ []) s ≡ head_of script past s

@@ -8,7 +8,7 @@ use Rattle.task_base.specs.declared.entry.Entry.{Entry}
 use Rattle.task_base.specs.declared.entry.Kind.{Kind}
 use Rattle.task_base.specs.declared.entry.Kind.TheVariants.{Enter, Leave}
 use Rattle.task_model.specs.Seats.{Running, Holding, running, holding, is_free}
-use Rattle.task_model.specs.Capacity.{open_scope, scope_after}
+use Rattle.task_model.specs.Capacity.{OpenScope, open_scope, scope_after}
 use Rattle.pool_laws.specs.Room.{scopes}
 use Rattle.task_model.proofs.Growth.{open_scope_push}
 
@@ -21,10 +21,10 @@ free_parts past seat free = by_running (running past seat) (holding past seat) f
     by_running None (Some h) is = absurd (true≢false (sym is))
     by_running (Some r) h is = absurd (true≢false (sym is))
 
+pub scope_stays : (t : ℕ) (past : List Entry) (now : Option OpenScope) (kind : Kind) → scopes t kind ≡ false → scope_after t past now kind ≡ now
+scope_stays t past now (Enter task scope) h = rw h refl
+scope_stays t past now (Leave task) h = rw h refl
+scope_stays t past now kind h = refl
+
 pub scope_kept : (past : List Entry) (e : Entry) (t : ℕ) → scopes t e.kind ≡ false → open_scope (past ++ e ∷ []) t ≡ open_scope past t
-scope_kept past e t quiet = open_scope_push past e t ∙ by_kind e.kind quiet
-  where
-    by_kind : (kind : Kind) → scopes t kind ≡ false → scope_after t past (open_scope past t) kind ≡ open_scope past t
-    by_kind (Enter task scope) h = rw h refl
-    by_kind (Leave task) h = rw h refl
-    by_kind kind h = refl
+scope_kept past e t quiet = open_scope_push past e t ∙ scope_stays t past (open_scope past t) e.kind quiet

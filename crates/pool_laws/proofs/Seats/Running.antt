@@ -10,11 +10,11 @@
 -- its next item. No other kind changes that, and no entry of another job.
 --
 -- All is quiet exactly where each seat is free, and a sequence runs exactly where a seat runs a task of it.
--- Cited by `Jobs`, `Choice/Waiting`, `Seats/Whose`, `Shutdown/Jobs`, `env_core`, `env_threads`, `hist_model`, `pool_core`, `run_summary`,
--- `sequence_manager`, `trace_json`.
+-- Cited by `Jobs`, `Choice/Waiting`, `Seats/Runs`, `Seats/Whose`, `Shutdown/Jobs`, `env_core`, `env_threads`, `hist_model`, `pool_core`,
+-- `run_summary`, `sequence_manager`, `trace_json`.
 use Rattle.std.proofs.Common.{◌≡◌, ℕ, ◌+◌, Bool, true, false, cond, eqb, List, [], ◌∷◌, ◌++◌, length, refl, sym, ◌∙◌, Option, Some, None, arith}
 use Rattle.std.specs.Prelude.{not, ◌||◌, is_some, ◌==◌}
-use Rattle.std.proofs.lemmas.Bool.{true≢false, eqb-true, or_parts}
+use Rattle.std.proofs.lemmas.Bool.{true≢false, eqb-true}
 use Rattle.std.proofs.Math.Bool.{and-true}
 use Rattle.task_base.specs.Plan.{Plan}
 use Rattle.task_base.specs.declared.entry.Entry.{Entry}
@@ -27,7 +27,7 @@ use Rattle.task_model.specs.Past.{fold_past}
 use Rattle.task_model.specs.Seats.{Running, Holding, running, running_after, holding, holding_after, acts_done}
 use Rattle.task_model.specs.Seats.{is_free, is_quiet, runs_of, runs_sequence, inside, all_seats}
 use Rattle.task_model.specs.Capacity.{taken_after, taken_with}
-use Rattle.pool_laws.specs.Seats.{moves_main, moves_running, moves_holding, IsSeat, moves_seats, runs_pool_task, holds_job}
+use Rattle.pool_laws.specs.Seats.{moves_main, moves_running, moves_holding, IsSeat, moves_seats, runs_pool_task, holds_job, running_parts, seat_parts}
 use Rattle.task_model.proofs.Growth.{running_push, holding_push, acts_done_push, taken_with_push}
 use Rattle.list_laws.proofs.Values.{eqb-same}
 use Rattle.list_laws.proofs.Elements.{push_induction}
@@ -35,8 +35,10 @@ use Rattle.list_laws.proofs.Filters.{filter_congr}
 use Rattle.list_laws.proofs.Tests.{list_any_congr, list_all_congr, list_any_none, any_change, list_all-from_recursion}
 use Rattle.list_laws.proofs.Counts.{count_change, any_from_count}
 use Rattle.list_laws.proofs.Ranges.{range_with, AllByRecursion-range, range_all_at, range_any_at}
+use Rattle.pool_laws.specs.Moves.{Items}
+use Rattle.pool_laws.proofs.Moves.{moves_fewer}
 
-both : {A : Type 0} (b : Bool) (x : A) → cond b x x ≡ x
+pub both : {A : Type 0} (b : Bool) (x : A) → cond b x x ≡ x
 both true x = refl
 both false x = refl
 
@@ -119,8 +121,10 @@ holding_same past e seat quiet = rw (holding_push past e seat, still (holding pa
 
 pub is_free_same : (past : List Entry) (e : Entry) (seat : ℕ) → moves_seats e.kind ≡ false → is_free (past ++ e ∷ []) seat ≡ is_free past seat
 is_free_same past e seat quiet =
-    let parts : (moves_running e.kind ≡ false) × (moves_holding e.kind ≡ false) = or_parts _ _ quiet in
-    rw (running_same past e seat parts.0, holding_same past e seat parts.1) refl
+    rw (
+      running_same past e seat (moves_fewer running_parts seat_parts e.kind refl quiet),
+      holding_same past e seat (moves_fewer (Items ∷ []) seat_parts e.kind refl quiet),
+    ) refl
 
 pub is_quiet_same : (script : Plan) (past : List Entry) (e : Entry) → moves_seats e.kind ≡ false → is_quiet script (past ++ e ∷ []) ≡ is_quiet script past
 unfolding is_quiet

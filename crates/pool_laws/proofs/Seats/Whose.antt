@@ -1,6 +1,6 @@
 -- Whose is what a seat runs or holds behind one more entry: it ran or held it before, and the entry is another seat's, or it
 -- is what the entry leaves its own seat.
--- Cited by `env_core`, `hist_model`, `pool_core`.
+-- Cited by `Seats/Runs`, `env_core`, `hist_model`.
 use Rattle.std.proofs.Common.{◌≡◌, ℕ, Bool, true, false, eqb, List, [], ◌∷◌, ◌++◌, refl, sym, ◌∙◌, Some, ◌⊎◌, inl, inr}
 use Rattle.std.proofs.lemmas.Bool.{eqb-true}
 use Rattle.task_base.specs.declared.entry.Entry.{Entry}

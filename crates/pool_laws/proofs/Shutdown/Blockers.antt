@@ -4,7 +4,6 @@
 -- Cited by `pool_core`.
 use Rattle.std.proofs.Common.{◌≡◌, ℕ, ◌+◌, ◌<◌, Bool, true, false, List, [], ◌∷◌, ◌++◌, length, refl, ap, Some, None, arith}
 use Rattle.std.specs.Prelude.{not, ◌&&◌}
-use Rattle.std.proofs.lemmas.Bool.{or_parts}
 use Rattle.task_base.specs.Plan.{Plan}
 use Rattle.task_base.specs.declared.entry.Entry.{Entry}
 use Rattle.task_base.specs.declared.entry.Kind.TheVariants.{Post, Take, End, JobPost, JobTake, JobStep, JobCancel}
@@ -15,11 +14,13 @@ use Rattle.task_model.specs.Jobs.{job_post_of, is_job_accepted, is_empty, is_ove
 use Rattle.task_model.specs.Blockers.{is_block, is_skip, block_part, skip_part}
 use Rattle.pool_laws.specs.Seats.{moves_holding, IsSeat, holds_job}
 use Rattle.pool_laws.specs.Room.{share}
-use Rattle.pool_laws.specs.Shutdown.{moves_open_blocks, moves_running_skips, moves_open_jobs, moves_block_part, moves_skip_part, is_block_task, is_skip_task}
+use Rattle.pool_laws.specs.Shutdown.{moves_open_blocks, moves_running_skips, moves_open_jobs, moves_block_part, moves_skip_part, is_block_task, is_skip_task, open_block_parts, running_skip_parts, open_job_parts, block_parts, skip_parts}
 use Rattle.pool_laws.proofs.Shutdown.Tasks.{open_blocks_same, open_blocks_at_post, open_blocks_at_end, running_skips_same}
 use Rattle.pool_laws.proofs.Shutdown.Tasks.{running_skips_at_post, running_skips_at_take, running_skips_at_end}
 use Rattle.pool_laws.proofs.Shutdown.Jobs.{open_jobs_same, open_jobs_at_post, open_jobs_at_take, open_jobs_at_step, open_jobs_at_leave, open_jobs_at_cancel}
 use Rattle.pool_laws.proofs.Shutdown.Jobs.{skip_seats_same, skip_seats_at_take, skip_seats_at_step, skip_seats_at_leave}
+use Rattle.pool_laws.specs.Moves.{Items}
+use Rattle.pool_laws.proofs.Moves.{moves_fewer}
 
 -- The block part.
 
@@ -27,8 +28,11 @@ pub block_part_same : (script : Plan) (past : List Entry) (e : Entry) → moves_
     → block_part script (past ++ e ∷ []) ≡ block_part script past
 unfolding block_part
 block_part_same script past e quiet =
-    let parts : (moves_open_blocks e.kind ≡ false) × (moves_open_jobs e.kind ≡ false) = or_parts (moves_open_blocks e.kind) (moves_open_jobs e.kind) quiet in
-    rw (open_blocks_same script past e parts.0, open_jobs_same script past e parts.1) refl
+    rw (
+      open_blocks_same script past e (moves_fewer open_block_parts block_parts e.kind refl quiet),
+      open_jobs_same script past e (moves_fewer open_job_parts block_parts e.kind refl quiet),
+    )
+    refl
 
 -- a block task counts from its post on, until its end
 pub block_part_at_post : (script : Plan) (past : List Entry) (e : Entry) (task runner delay : ℕ) → e.kind ≡ Post task runner delay true
@@ -88,8 +92,11 @@ pub skip_part_same : (script : Plan) (past : List Entry) (e : Entry) → moves_s
     → skip_part script (past ++ e ∷ []) ≡ skip_part script past
 unfolding skip_part
 skip_part_same script past e quiet =
-    let parts : (moves_running_skips e.kind ≡ false) × (moves_holding e.kind ≡ false) = or_parts (moves_running_skips e.kind) (moves_holding e.kind) quiet in
-    rw (running_skips_same script past e parts.0, skip_seats_same script past e parts.1) refl
+    rw (
+      running_skips_same script past e (moves_fewer running_skip_parts skip_parts e.kind refl quiet),
+      skip_seats_same script past e (moves_fewer (Items ∷ []) skip_parts e.kind refl quiet),
+    )
+    refl
 
 -- a skip task does not count at its post
 pub skip_part_at_post : (script : Plan) (past : List Entry) (e : Entry) (task runner delay : ℕ) → e.kind ≡ Post task runner delay true

@@ -3,24 +3,23 @@
 -- where it enters a skip job on, until it leaves.
 -- Cited by `Shutdown/Blockers`.
 use Rattle.std.proofs.Common.{◌≡◌, ℕ, ◌+◌, ◌<◌, Bool, true, false, eqb, List, [], ◌∷◌, ◌++◌, length, refl, sym, ap, Option, Some, None, arith}
-use Rattle.std.specs.Prelude.{Contains, not, ◌&&◌, ◌||◌, is_some}
+use Rattle.std.specs.Prelude.{Contains, not, ◌&&◌, ◌||◌}
 use Rattle.std.specs.List.{range_with_len}
 use Rattle.std.proofs.Math.Bool.{or-false, and-true, and-false, or-true}
 use Rattle.std.proofs.Math.Nat.{add-zero}
-use Rattle.std.proofs.lemmas.Bool.{true≢false, false≢true, eqb-true, ne_eqb}
+use Rattle.std.proofs.lemmas.Bool.{false≢true, eqb-true, ne_eqb}
 use Rattle.task_base.specs.Plan.{Plan}
 use Rattle.task_base.specs.declared.entry.Entry.{Entry}
-use Rattle.task_base.specs.declared.entry.Kind.{Kind}
 use Rattle.task_base.specs.declared.entry.Kind.TheVariants.{JobPost, JobTake, JobStep, JobCancel}
 use Rattle.list_laws.specs.Lists.{holds_of}
 use Rattle.task_model.specs.Refusal.{behaviour_of_job}
 use Rattle.task_model.specs.Seats.{Holding, holding, holding_after, all_seats, inside}
-use Rattle.task_model.specs.Jobs.{job_post_of, is_cancelled, cancels, done, value_by, is_job_accepted, is_finished_job, is_empty, is_over}
+use Rattle.task_model.specs.Jobs.{job_post_of, is_cancelled, done, is_job_accepted, is_finished_job, is_empty, is_over}
 use Rattle.task_model.specs.Blockers.{open_jobs, seats_in_skip_jobs, is_block, is_skip, is_open_job, is_in_skip_job}
 use Rattle.pool_laws.specs.Seats.{moves_holding, IsSeat, holds_job}
 use Rattle.pool_laws.specs.Room.{share}
 use Rattle.pool_laws.specs.Jobs.{posts_job, JobKept}
-use Rattle.pool_laws.specs.Shutdown.{moves_open_jobs}
+use Rattle.pool_laws.specs.Shutdown.{moves_open_jobs, open_job_parts}
 use Rattle.task_model.proofs.Growth.{job_post_of_push, is_cancelled_push, done_push}
 use Rattle.list_laws.proofs.Counts.{filter_length_congr, count_change}
 use Rattle.list_laws.proofs.Made.{contains_filter, contains_range}
@@ -28,6 +27,8 @@ use Rattle.list_laws.proofs.Ranges.{range_with}
 use Rattle.list_laws.proofs.Values.{eqb-same}
 use Rattle.pool_laws.proofs.Seats.Running.{holding_same, holding_here, holding_other, seat_once, inside_same}
 use Rattle.pool_laws.proofs.Jobs.Answers.{post_stays, job_at_other_post, job_at_other_take, job_at_other_step, job_at_other_cancel}
+use Rattle.pool_laws.specs.Moves.{Items}
+use Rattle.pool_laws.proofs.Moves.{moves_fewer, no_job_post, no_cancel, no_value}
 
 -- Open block jobs.
 
@@ -79,32 +80,15 @@ open_jobs_same script past e quiet =
     filter_length_congr (is_open_job script (past ++ e ∷ [])) (is_open_job script past) (range_with_len 0 (length script.jobs))
     (λ j. rw (
       job_post_of_push past e j,
-      post_stays j past (job_post_of past j) e.kind (no_post j e.kind quiet),
-      inside_same script past e j (no_holding e.kind quiet),
+      post_stays j past (job_post_of past j) e.kind (no_job_post open_job_parts e.kind refl quiet j),
+      inside_same script past e j (moves_fewer (Items ∷ []) open_job_parts e.kind refl quiet),
       done_push past e j,
-      no_value j e.kind quiet,
+      no_value open_job_parts e.kind refl quiet j,
       add-zero (done past j),
       is_cancelled_push past e j,
-      no_cancel j e.kind quiet,
+      no_cancel open_job_parts e.kind refl quiet j,
       or-false (is_cancelled past j),
     ) refl)
-  where
-    no_post : (j : ℕ) (kind : Kind) → moves_open_jobs kind ≡ false → posts_job j kind ≡ false
-    no_post j (JobPost job ok) h = absurd (true≢false h)
-    no_post j kind h = refl
-
-    no_cancel : (j : ℕ) (kind : Kind) → moves_open_jobs kind ≡ false → cancels j kind ≡ false
-    no_cancel j (JobCancel job) h = absurd (true≢false h)
-    no_cancel j kind h = refl
-
-    no_value : (j : ℕ) (kind : Kind) → moves_open_jobs kind ≡ false → is_some (value_by j kind) ≡ false
-    no_value j (JobStep job id item value next) h = absurd (true≢false h)
-    no_value j kind h = refl
-
-    no_holding : (kind : Kind) → moves_open_jobs kind ≡ false → moves_holding kind ≡ false
-    no_holding (JobTake job id item) h = h
-    no_holding (JobStep job id item value next) h = h
-    no_holding kind h = refl
 
 -- a block job counts from its post on
 pub open_jobs_at_post : (script : Plan) (past : List Entry) (e : Entry) (job : ℕ) (ok : Bool) → e.kind ≡ JobPost job ok → job < length script.jobs

@@ -7,12 +7,11 @@ use Rattle.std.proofs.Common.{◌≡◌, ℕ, ◌+◌, ◌≤◌, Bool, true, fa
 use Rattle.std.specs.Prelude.{◌&&◌, not, find, filter}
 use Rattle.std.proofs.Math.Bool.{or-false, and-true, and-false}
 use Rattle.std.proofs.Math.Nat.{add-zero}
-use Rattle.std.proofs.lemmas.Bool.{true≢false, eqb-true, ne_eqb, or_right}
+use Rattle.std.proofs.lemmas.Bool.{eqb-true, ne_eqb, or_right}
 use Rattle.std.proofs.lemmas.Option.{none-some}
 use Rattle.std.proofs.lemmas.List.{append-nil}
 use Rattle.task_base.specs.Plan.{Plan}
 use Rattle.task_base.specs.declared.entry.Entry.{Entry}
-use Rattle.task_base.specs.declared.entry.Kind.{Kind}
 use Rattle.task_base.specs.declared.entry.Kind.TheVariants.{Post, Take, End}
 use Rattle.task_traits.specs.declared.traits.Behaviour.{Behaviour}
 use Rattle.task_traits.specs.declared.traits.Behaviour.TheVariants.{ContinueOnShutdown, SkipOnShutdown, BlockShutdown}
@@ -21,13 +20,14 @@ use Rattle.task_model.specs.Posts.{Posted, Before, InOrder, post_behind, posted_
 use Rattle.task_model.specs.Refusal.{effective_at}
 use Rattle.task_model.specs.Blockers.{open_blocks, running_skips, is_block, is_skip, is_open_block, is_running_skip}
 use Rattle.pool_laws.specs.Room.{share}
-use Rattle.pool_laws.specs.Shutdown.{moves_open_blocks, moves_running_skips, is_block_task, is_skip_task}
+use Rattle.pool_laws.specs.Shutdown.{moves_open_blocks, moves_running_skips, is_block_task, is_skip_task, open_block_parts, running_skip_parts}
 use Rattle.task_model.proofs.Growth.{posts_push, is_taken_push, is_ended_push}
 use Rattle.list_laws.proofs.Counts.{count_apart, filter_length_congr, count-cons}
 use Rattle.list_laws.proofs.Elements.{AllByRecursion-map}
 use Rattle.list_laws.proofs.Filters.{filter_congr_in}
 use Rattle.list_laws.proofs.Places.{count-push}
 use Rattle.list_laws.proofs.Values.{eqb-same, some-injective}
+use Rattle.pool_laws.proofs.Moves.{no_posted, no_take, no_end}
 
 -- tests that agree on all tasks but one, over posts that are each of another task
 count_at : (f g : Posted → Bool) (t : ℕ) (xs : List Posted) (p : Posted) → InOrder xs → find (λ q. eqb q.task t) xs ≡ Some p
@@ -91,15 +91,8 @@ blocks_kept script past e no_post no_end = rw (posts_kept past e no_post)
 
 pub open_blocks_same : (script : Plan) (past : List Entry) (e : Entry) → moves_open_blocks e.kind ≡ false
     → open_blocks script (past ++ e ∷ []) ≡ open_blocks script past
-open_blocks_same script past e quiet = blocks_kept script past e (no_post e.kind quiet) (no_end e.kind quiet)
-  where
-    no_post : (kind : Kind) → moves_open_blocks kind ≡ false → posted_by past kind ≡ []
-    no_post (Post task runner delay true) h = absurd (true≢false h)
-    no_post kind h = refl
-
-    no_end : (kind : Kind) → moves_open_blocks kind ≡ false → (t : ℕ) → ends t kind ≡ false
-    no_end (End task left) h t = absurd (true≢false h)
-    no_end kind h t = refl
+open_blocks_same script past e quiet =
+    blocks_kept script past e (no_posted open_block_parts past e.kind refl quiet) (no_end open_block_parts e.kind refl quiet)
 
 -- a block task counts from its post on
 pub open_blocks_at_post : (script : Plan) (past : List Entry) (e : Entry) (task runner delay : ℕ) → e.kind ≡ Post task runner delay true
@@ -154,22 +147,10 @@ open_blocks_at_end script past e p task left is order posted unended =
 
 pub running_skips_same : (script : Plan) (past : List Entry) (e : Entry) → moves_running_skips e.kind ≡ false
     → running_skips script (past ++ e ∷ []) ≡ running_skips script past
-running_skips_same script past e quiet = rw (posts_kept past e (no_post e.kind quiet))
+running_skips_same script past e quiet = rw (posts_kept past e (no_posted running_skip_parts past e.kind refl quiet))
     (filter_length_congr (is_running_skip script (past ++ e ∷ [])) (is_running_skip script past) (posts past)
-    (λ p. running_skip_at script past (past ++ e ∷ []) p (taken_kept past e p.task (no_take e.kind quiet p.task))
-    (ended_kept past e p.task (no_end e.kind quiet p.task))))
-  where
-    no_post : (kind : Kind) → moves_running_skips kind ≡ false → posted_by past kind ≡ []
-    no_post (Post task runner delay true) h = absurd (true≢false h)
-    no_post kind h = refl
-
-    no_take : (kind : Kind) → moves_running_skips kind ≡ false → (t : ℕ) → takes t kind ≡ false
-    no_take (Take task runner found) h t = absurd (true≢false h)
-    no_take kind h t = refl
-
-    no_end : (kind : Kind) → moves_running_skips kind ≡ false → (t : ℕ) → ends t kind ≡ false
-    no_end (End task left) h t = absurd (true≢false h)
-    no_end kind h t = refl
+    (λ p. running_skip_at script past (past ++ e ∷ []) p (taken_kept past e p.task (no_take running_skip_parts e.kind refl quiet p.task))
+    (ended_kept past e p.task (no_end running_skip_parts e.kind refl quiet p.task))))
 
 -- a task does not run at its post
 pub running_skips_at_post : (script : Plan) (past : List Entry) (e : Entry) (task runner delay : ℕ) → e.kind ≡ Post task runner delay true

@@ -2,7 +2,7 @@
 -- runs nothing else writes there, so its end leaves as much more as it adds.
 -- Cited by `Tasks`.
 use Rattle.std.proofs.Common.{◌≡◌, ℕ, ◌+◌, ◌^◌, ◌<◌, ◌≤◌, Bool, true, false, cond, eqb, leb, List}
-use Rattle.std.proofs.Common.{[], ◌∷◌, ◌++◌, length, refl, sym, ap, subst, ◌∙◌, Some, arith}
+use Rattle.std.proofs.Common.{[], ◌∷◌, ◌++◌, length, refl, sym, ap, subst, ◌∙◌, Some, inr, arith}
 use Rattle.std.specs.Prelude.{◌&&◌, not, sum_by}
 use Rattle.std.specs.List.{range_with_len}
 use Rattle.std.proofs.lemmas.Bool.{and_parts, eqb-true, eqb-false, eq-eqb, ne_eqb, not-true}
@@ -21,7 +21,6 @@ use Rattle.pool_laws.proofs.Seats.Cells.{cell_same, cell_at_end, main_cell_same,
 use Rattle.pool_laws.proofs.Seats.Running.{running_here, running_other}
 use Rattle.hist_model.specs.Allowed.{has_done, may_come}
 use Rattle.hist_model.specs.Legal.{IsLegal}
-use Rattle.hist_model.specs.Laws.Consistent.{RunsAs}
 use Rattle.hist_model.proofs.Laws.Choice.{found}
 use Rattle.hist_model.proofs.Laws.Consistent.{legal_is_consistent}
 use Rattle.hist_model.proofs.Laws.Legal.{is_legal_push, legal_induction}
@@ -100,15 +99,13 @@ cell_of_other script past seat other (kinds.End task left) w false legal may run
     cell_at_end script past (record { seat = seat; kind = kinds.End task left }) (sequence_of script w.home w.task) task left v.now refl v.running_is v.as_main
     ∙ ap (λ b. cond b left (cell_of script past (sequence_of script w.home w.task)))
     (ne_eqb (sequence_of script v.now.home v.now.task) (sequence_of script w.home w.task) (λ same.
-    apart ((legal_is_consistent script past legal).one_sequence seat other v.now w v.running_is runs v.as_main pool same)))
+    apart ((legal_is_consistent script past legal false).alone seat other v.now w v.running_is runs v.as_main pool (inr same))))
 cell_of_other script past seat other (kinds.MainEnd task left) w true legal may runs main apart =
     let v : EndsWhatRuns script past seat task left true = main_end_leaves script past seat task left may in
     absurd (apart (driver seat v.now v.running_is v.as_main ∙ sym (driver other w runs main)))
   where
     driver : (s : ℕ) (x : Running) → running past s ≡ Some x → x.is_main ≡ true → s ≡ 0
-    driver s x is as_main =
-        let r : RunsAs script past s x true = subst (RunsAs script past s x) as_main ((legal_is_consistent script past legal).runs s x is) in
-        r.driver
+    driver s x is as_main = ((legal_is_consistent script past legal true).runs s x is as_main).can.driver refl
 cell_of_other script past seat other (kinds.MainEnd task left) w false legal may runs pool apart =
     cell_same script past (record { seat = seat; kind = kinds.MainEnd task left }) (sequence_of script w.home w.task) refl
 cell_of_other script past seat other kind w main legal may runs as_main apart = cell_stays script past (record { seat = seat; kind = kind }) w main refl refl

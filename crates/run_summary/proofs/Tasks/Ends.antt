@@ -1,7 +1,7 @@
 -- What the ends of tasks add up to: each task ends at most once, so they add up to what the tasks that have ended add up to.
 -- Cited by `Tasks/Cells`, `Tasks/Once`, `Tasks/Pumped`, `Tasks`.
 use Rattle.std.proofs.Common.{◌≡◌, ℕ, ◌+◌, ◌<◌, ◌≤◌, Bool, true, false, cond, eqb, leb, List, [], ◌∷◌, ◌++◌, refl, sym, ap, subst, ◌∙◌, Some, inl, inr, arith}
-use Rattle.std.specs.Prelude.{◌⊎◌, ◌||◌, Contains, sum_by}
+use Rattle.std.specs.Prelude.{◌⊎◌, ◌||◌, sum_by}
 use Rattle.std.specs.List.{range_with_len}
 use Rattle.std.proofs.lemmas.Bool.{and_parts, eq-eqb, ne_eqb}
 use Rattle.std.proofs.lemmas.List.Sums.{sum_by_push, sum_by-le-sum_by}
@@ -11,12 +11,13 @@ use Rattle.task_base.specs.declared.entry.Entry.{Entry}
 use Rattle.task_base.specs.declared.entry.Kind.{Kind}
 use Rattle.task_base.specs.declared.entry.Kind.TheVariants as kinds
 use Rattle.list_laws.proofs.Elements.{AllByRecursion-contains}
-use Rattle.task_model.specs.Posts.{Posted, is_ended, is_main_ended}
+use Rattle.task_model.specs.Posts.{is_ended, is_main_ended}
 use Rattle.task_model.specs.Seats.{Running, running}
 use Rattle.hist_model.specs.Allowed.{may_come}
 use Rattle.hist_model.specs.Legal.{IsLegal}
-use Rattle.hist_model.specs.Laws.Consistent.{RunsAs}
-use Rattle.hist_model.proofs.Laws.Consistent.{ended_as, ends_as, ended_as_push, posts_as, as_runs, legal_is_consistent}
+use Rattle.pool_laws.specs.Runs.{ended_as, ends_as, posts_as, RunsAs}
+use Rattle.pool_laws.proofs.Seats.Runs.{ended_as_push}
+use Rattle.hist_model.proofs.Laws.Consistent.{legal_is_consistent}
 use Rattle.hist_model.proofs.Laws.Legal.{legal_induction}
 use Rattle.hist_model.proofs.Laws.Takes.{end_is, main_end_is}
 use Rattle.run_summary.proofs.Tasks.Adding.{AddsUp}
@@ -44,12 +45,6 @@ ended_sum main f size past = sum_by (λ t. cond (ended_as main past t) (f t) 0) 
 
 -- ---- what runs was accepted
 
--- the accepted post of what a seat runs
-pub runs_accepted : (script : Plan) (past : List Entry) (seat : ℕ) (w : Running) (main : Bool) → RunsAs script past seat w main
-    → (p : Posted) × Contains (posts_as main past) p × (p.task ≡ w.task) × (p.home ≡ w.home)
-runs_accepted script past seat w false r = (r.accepted, r.posted, r.task_is, r.home_is)
-runs_accepted script past seat w true r = (r.accepted, r.posted, r.task_is, r.home_is)
-
 -- what a seat runs is one of the script's tasks, and has not ended
 pub record RunsOne (main : Bool) (size : ℕ) (past : List Entry) (w : Running) : Type 0 where
   pub task_is : w.task < size
@@ -60,14 +55,13 @@ pub record RunsOne (main : Bool) (size : ℕ) (past : List Entry) (w : Running) 
 pub runs_one : (script : Plan) (size : ℕ) (amount : ℕ → ℕ) (past : List Entry) (seat : ℕ) (w : Running) → AddsUp script size amount → IsLegal script past
     → running past seat ≡ Some w → RunsOne w.is_main size past w
 runs_one script size amount past seat w a legal runs =
-    let r : RunsAs script past seat w w.is_main = (legal_is_consistent script past legal).runs seat w runs in
-    let (p, among, task_is, home_is) = runs_accepted script past seat w w.is_main r in
-    let plain : IsPlainPost w.is_main size p = AllByRecursion-contains (IsPlainPost w.is_main size) (posts_as w.is_main past) p
-    (plain_posts w.is_main script size amount a past legal) among in
+    let r : RunsAs script past seat w w.is_main = (legal_is_consistent script past legal w.is_main).runs seat w runs refl in
+    let plain : IsPlainPost w.is_main size r.can.accepted = AllByRecursion-contains (IsPlainPost w.is_main size) (posts_as w.is_main past) r.can.accepted
+    (plain_posts w.is_main script size amount a past legal) r.can.posted in
     record {
-      task_is = omega (arith, task_is, plain.task_is);
-      home_is = subst (λ n. n < cond w.is_main 1 4) home_is plain.home_is;
-      not_ended = (as_runs script past seat w w.is_main r).1;
+      task_is = omega (arith, r.can.task_is, plain.task_is);
+      home_is = subst (λ n. n < cond w.is_main 1 4) r.can.home_is plain.home_is;
+      not_ended = r.not_ended;
     }
 
 -- ---- ends

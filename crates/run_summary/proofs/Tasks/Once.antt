@@ -1,6 +1,6 @@
 -- In a whole log each task has ended, on the pool or on the main queue and not on both, so the ends add up to what all tasks add up to.
 -- Cited by `Tasks`.
-use Rattle.std.proofs.Common.{◌≡◌, ℕ, ◌+◌, ◌<◌, ◌≤◌, true, false, cond, eqb, List, sym, ap, ◌∙◌, inl, inr, arith}
+use Rattle.std.proofs.Common.{◌≡◌, ℕ, ◌+◌, ◌<◌, ◌≤◌, Bool, true, false, cond, eqb, List, sym, ap, ◌∙◌, inl, inr, arith}
 use Rattle.std.specs.Prelude.{◌⊎◌, sum_by}
 use Rattle.std.specs.List.{range_with_len}
 use Rattle.std.proofs.lemmas.Bool.{and_parts, eq-eqb, false_from_ne_true}
@@ -9,12 +9,13 @@ use Rattle.task_base.specs.declared.entry.Entry.{Entry}
 use Rattle.list_laws.proofs.Finds.{contained_counts}
 use Rattle.task_model.specs.Posts.{Posted, posts, main_posts, is_taken, is_ended, is_main_taken, is_main_ended}
 use Rattle.task_model.specs.Seats.{is_quiet}
+use Rattle.pool_laws.specs.Runs.{ended_as, posts_as}
 use Rattle.hist_model.specs.Script.{is_finished, IsFinished, IsWhole}
 use Rattle.hist_model.specs.Legal.{IsLegal}
 use Rattle.hist_model.proofs.Laws.Consistent.{legal_is_consistent}
 use Rattle.hist_model.proofs.Laws.Postings.Driver.{actions_post}
 use Rattle.hist_model.proofs.Laws.Postings.Counts.{of_task, counted}
-use Rattle.hist_model.proofs.Laws.Whole.{loses_nothing}
+use Rattle.hist_model.proofs.Laws.Whole.Losing.{loses_nothing}
 use Rattle.run_summary.proofs.Tasks.Adding.{AddsUp}
 use Rattle.run_summary.proofs.Tasks.Posted.{is_accepted, HasPost, accepted_post}
 use Rattle.run_summary.proofs.Tasks.Rows.{sum_same, sum_plus}
@@ -36,20 +37,17 @@ ended_once script size amount log t a legal whole below =
     done = (and_parts (is_finished script log) (is_quiet script log) whole).0
 
     -- what ended was taken, and so accepted
-    of_pool : is_ended log t ≡ true → 1 ≤ of_task t (posts log)
-    of_pool ended = (counted script a.posted_once log legal).taken false t ((legal_is_consistent script log legal).taken_before_ended t ended)
-
-    of_main : is_main_ended log t ≡ true → 1 ≤ of_task t (main_posts log)
-    of_main ended = (counted script a.posted_once log legal).taken true t ((legal_is_consistent script log legal).main_taken_before_ended t ended)
+    accepted : (main : Bool) → ended_as main log t ≡ true → 1 ≤ of_task t (posts_as main log)
+    accepted main ended = (counted script a.posted_once log legal).taken main t ((legal_is_consistent script log legal main).taken_before_ended t ended)
 
     by_side : HasPost (posts log) t ⊎ HasPost (main_posts log) t → EndedOnce log t
     by_side (inl (p, among, is)) = inl (
       (loses_nothing script log legal whole).tasks_ended t (ap (is_taken log) (sym is) ∙ pool_tasks_taken script size amount log p a legal whole among),
       false_from_ne_true (is_main_ended log t) (λ ended. not_on_both script size amount log t a legal
-          (contained_counts (λ (x : Posted). eqb x.task t) (posts log) p among (eq-eqb p.task t is)) (of_main ended)),
+          (contained_counts (λ (x : Posted). eqb x.task t) (posts log) p among (eq-eqb p.task t is)) (accepted true ended)),
     )
     by_side (inr (p, among, is)) = inr (
-      false_from_ne_true (is_ended log t) (λ ended. not_on_both script size amount log t a legal (of_pool ended)
+      false_from_ne_true (is_ended log t) (λ ended. not_on_both script size amount log t a legal (accepted false ended)
           (contained_counts (λ (x : Posted). eqb x.task t) (main_posts log) p among (eq-eqb p.task t is))),
       (loses_nothing script log legal whole).main_tasks_ended t
           (ap (is_main_taken log) (sym is) ∙ main_tasks_taken script size amount log p a legal done among),

@@ -25,7 +25,8 @@ use Rattle.hist_model.specs.Allowed.{by_script, may_come}
 use Rattle.hist_model.specs.Legal.{IsLegal}
 use Rattle.hist_model.specs.Laws.Agenda.{Agenda, completes, next_agenda, agenda_after}
 use Rattle.hist_model.specs.Laws.Consistent.{is_pump, is_join}
-use Rattle.hist_model.proofs.Laws.Consistent.{posts_as, posted_as, posts_as_push}
+use Rattle.pool_laws.specs.Runs.{posts_as, posted_as}
+use Rattle.pool_laws.proofs.Seats.Runs.{posts_as_push}
 use Rattle.hist_model.proofs.Laws.Postings.Driver.{actions_post, one_more}
 use Rattle.hist_model.proofs.Laws.Legal.{is_legal_push, entry_induction, legal_induction}
 use Rattle.hist_model.proofs.Laws.Postings.Counts.{of_task, one_post}

@@ -34,7 +34,9 @@ use Rattle.hist_model.specs.Allowed.{by_script, may_come}
 use Rattle.hist_model.specs.Legal.{IsLegal}
 use Rattle.hist_model.specs.Laws.Consistent.{is_pump}
 use Rattle.hist_model.proofs.Laws.AtPlaces.{parted_at, passes_at, past_is_legal, may_come_at}
-use Rattle.hist_model.proofs.Laws.Consistent.{posts_as, posted_as, posts_as_push, legal_is_consistent}
+use Rattle.pool_laws.specs.Runs.{posts_as, posted_as}
+use Rattle.pool_laws.proofs.Seats.Runs.{posts_as_push}
+use Rattle.hist_model.proofs.Laws.Consistent.{legal_is_consistent}
 use Rattle.hist_model.proofs.Laws.Postings.Driver.{actions_post}
 use Rattle.hist_model.proofs.Laws.Postings.Counts.{of_task, counted, posted_at_most_once}
 use Rattle.run_summary.proofs.Calm.{IsCalm, calm_logs}
@@ -227,5 +229,5 @@ main_tasks_taken script size amount log p a legal done among =
         (subst (λ k. may_come script (take at.place log) at.value.seat k ≡ true) (is_none_kind at.value.kind at.passes)
         (may_come_at script log at.place at.value legal at.is))
         (subst (λ l. Contains (main_posts l) p) (sym parts) among) (ap (λ l. is_main_taken l p.task) parts ∙ free)
-    by_free free (inr (inr ends)) = both_ways (is_main_taken log p.task) free ((legal_is_consistent script log legal).main_taken_before_ended p.task
+    by_free free (inr (inr ends)) = both_ways (is_main_taken log p.task) free ((legal_is_consistent script log legal true).taken_before_ended p.task
         (all_main_ended script size amount log p.task a legal ends plain.task_is))

@@ -2,7 +2,7 @@
 -- Cited by `Tasks/Cells`, `Tasks/Once`, `Tasks/Pumped`.
 use Rattle.hist_model.proofs.Laws.JobEntries.{none_is}
 use Rattle.std.proofs.Common.{◌≡◌, ℕ, ◌+◌, ◌<◌, ◌≤◌, Bool, true, false, cond, eqb, leb, List, [], ◌∷◌, ◌++◌}
-use Rattle.std.proofs.Common.{length, refl, sym, ap, subst, ◌∙◌, Option, Some, None, inl, inr, arith}
+use Rattle.std.proofs.Common.{length, refl, sym, ap, subst, ◌∙◌, None, inl, inr, arith}
 use Rattle.std.specs.Prelude.{◌⊎◌, ◌&&◌, not, nat_lt, filter, Contains, is_none, slice_get}
 use Rattle.std.specs.List.{list_any, list_all}
 use Rattle.std.specs.Option.{option_map_or}
@@ -45,7 +45,7 @@ use Rattle.hist_model.specs.Laws.Whole.{sequence_at, LeftTask, LosesNothing}
 use Rattle.hist_model.specs.Laws.Whole.LeftTask.{Forbidden, Unripe, Waits}
 use Rattle.hist_model.proofs.Laws.Agenda.{current_is_first}
 use Rattle.hist_model.proofs.Laws.Legal.{legal_induction}
-use Rattle.hist_model.proofs.Laws.Whole.{loses_nothing}
+use Rattle.hist_model.proofs.Laws.Whole.Losing.{loses_nothing}
 use Rattle.run_summary.proofs.Calm.{IsCalm, calm_logs}
 use Rattle.run_summary.proofs.Tasks.Driver.{IsPlain, plan_of, plan_push, plan_begins, next_plan, next_is}
 use Rattle.run_summary.proofs.Tasks.Comes.{Comes, comes, WantedAt, wanted_at, driver_does}

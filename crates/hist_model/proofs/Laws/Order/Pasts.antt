@@ -1,5 +1,5 @@
 -- A past of a log and a later one: what was taken, which tick came first, and where accepted tasks were posted.
--- Cited by `Laws/Order/Draws`, `Laws/Order/Keys`, `Laws/Starts`.
+-- Cited by `Laws/Order/Draws`, `Laws/Order/Keys`, `Laws/Order/Lanes`, `Laws/Starts`.
 use Rattle.std.proofs.Common.{◌≡◌, ℕ, zero, suc, ◌+◌, ◌<◌, ◌≤◌, Bool, true, false, leb, cond, List, [], ◌∷◌, ◌++◌, length}
 use Rattle.std.proofs.Common.{take, drop, refl, sym, ap, subst, ◌∙◌, append_assoc, Option, Some, None, inl, inr, arith}
 use Rattle.std.specs.Prelude.{◌⊎◌, slice_get, Contains}
@@ -23,7 +23,8 @@ use Rattle.task_model.specs.Posts.{Posted, is_delayed, post_behind, posts, main_
 use Rattle.hist_model.specs.Legal.{IsLegal}
 use Rattle.hist_model.specs.Laws.Places.{IsAt}
 use Rattle.hist_model.proofs.Laws.AtPlaces.{in_past, of_past, length-past, passes_at, passed_by, past_is_legal}
-use Rattle.hist_model.proofs.Laws.Consistent.{posts_as, posted_as, posts_as_push}
+use Rattle.pool_laws.specs.Runs.{posts_as, posted_as}
+use Rattle.pool_laws.proofs.Seats.Runs.{posts_as_push}
 use Rattle.hist_model.proofs.Laws.Rising.{legal_rises}
 
 -- ---- pasts of one log

@@ -9,7 +9,8 @@ use Rattle.task_model.specs.Keys.{key_at}
 use Rattle.hist_model.specs.Legal.{IsLegal}
 use Rattle.hist_model.specs.Laws.Order.{TakenInOrder}
 use Rattle.hist_model.proofs.Laws.Order.Keys.{posted_first, immediate_key, taking, keys_rise, has_key}
-use Rattle.hist_model.proofs.Laws.Order.Draws.{main_taking, orders_rise, drawn_first, has_order}
+use Rattle.hist_model.proofs.Laws.Order.Draws.{main_taking}
+use Rattle.hist_model.proofs.Laws.Order.Lanes.{orders_rise, drawn_first, has_order}
 
 -- in every legal log the tasks of a sequence, and of a main queue, are taken in order
 pub taken_in_order : (script : Plan) (log : List Entry) → IsLegal script log → TakenInOrder script log

@@ -21,7 +21,8 @@ use Rattle.hist_model.specs.Laws.Postings.{kind_posts, posted_in}
 use Rattle.script_model.specs.Postings.{posts_of_step, posts_of_action, postings, times, IsPostedOnce}
 use Rattle.hist_model.proofs.Laws.Legal.{entry_induction}
 use Rattle.hist_model.proofs.Laws.Takes.{take_is, main_take_is}
-use Rattle.hist_model.proofs.Laws.Consistent.{taken_as, takes_as, taken_as_push, posts_as, posted_as, posts_as_push}
+use Rattle.pool_laws.specs.Runs.{taken_as, takes_as, posts_as, posted_as}
+use Rattle.pool_laws.proofs.Seats.Runs.{taken_as_push, posts_as_push}
 use Rattle.hist_model.proofs.Laws.Postings.Driver.{times-append, driver_has, driver_has_less, driver_posts, driver_begins}
 use Rattle.hist_model.proofs.Laws.Postings.Tasks.{seats_have, seats_have_less, seats_post, seats_take, seats_begin, takes_nothing}
 use Rattle.hist_model.proofs.Laws.Postings.Tasks.{is_untaken, tasks_have, tasks_have_less, tasks_take, tasks_begin}

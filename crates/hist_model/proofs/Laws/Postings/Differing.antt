@@ -1,5 +1,5 @@
 -- The test for lists without repetitions, and what it does on scripts.
--- Cited by `postings.rt`, `worked_calls`.
+-- Cited by `postings.rt`.
 use Rattle.std.proofs.Common.{◌≡◌, ℕ, ◌≤◌, Bool, true, false, cond, eqb, List, [], ◌∷◌, length, refl, arith}
 use Rattle.std.specs.Prelude.{◌↔◌, IsTrue, filter}
 use Rattle.std.proofs.lemmas.Bool.{eqb-true, and_parts, eq-eqb}

@@ -2,13 +2,13 @@
 -- Cited by `each_task_is_posted_once`, `Laws/LegalPast`, `postings.rt`, `env_core`, `next_entry`, `task_reply`.
 use Rattle.std.proofs.Common.{◌≡◌, ℕ, ◌<◌, Bool, true, false, eqb, List, [], ◌∷◌, ◌++◌, length, refl, sym, ap, subst, ◌∙◌, arith, length-append, append-nil}
 use Rattle.std.specs.List.{AllByRecursion}
-use Rattle.std.proofs.lemmas.Bool.{false_from_ne_true, eq-eqb, both_ways, eqb-false}
+use Rattle.std.proofs.lemmas.Bool.{false_from_ne_true, eq-eqb, eqb-false}
 use Rattle.task_base.specs.Plan.{Plan}
 use Rattle.task_base.specs.declared.entry.Entry.{Entry}
 use Rattle.task_base.specs.declared.entry.Kind.{Kind}
 use Rattle.task_base.specs.declared.entry.Kind.TheVariants as kinds
 use Rattle.task_model.specs.Past.{fold_past}
-use Rattle.task_model.specs.Posts.{Posted, post_behind, posts, main_posts, is_taken, is_ended, is_main_taken, Before, InOrder}
+use Rattle.task_model.specs.Posts.{Posted, post_behind, posts, main_posts, is_taken, is_main_taken, Before, InOrder}
 use Rattle.list_laws.proofs.Elements.{AllByRecursion-append, AllByRecursion-map, AllByRecursion-both}
 use Rattle.hist_model.specs.Allowed.{IsAllowed}
 use Rattle.hist_model.specs.Legal.{IsLegal}
@@ -16,7 +16,9 @@ use Rattle.list_laws.proofs.Finds.{none_counted, none_found, found_counts}
 use Rattle.hist_model.specs.Laws.Postings.{kind_posts, posted_in, AreAcceptedOnce, IsNew}
 use Rattle.script_model.specs.Postings.{times, IsPostedOnce}
 use Rattle.hist_model.proofs.Laws.Legal.{is_legal_push, legal_induction}
-use Rattle.hist_model.proofs.Laws.Consistent.{posts_as, posted_as, posts_as_push, legal_is_consistent}
+use Rattle.pool_laws.specs.Runs.{posts_as, posted_as}
+use Rattle.pool_laws.proofs.Seats.Runs.{posts_as_push, singly_unended}
+use Rattle.hist_model.proofs.Laws.Consistent.{legal_is_consistent}
 use Rattle.hist_model.proofs.Laws.Postings.Counts.{of_task, Counted, counted, posted_in_push, posted_at_most_once}
 
 pub once_in_one : (t : ℕ) → times t (t ∷ []) ≡ 1
@@ -43,7 +45,7 @@ a_posted_task_is_new script past e t once legal allowed posts_it =
       not_main_accepted = none_found (λ p. eqb p.task t) (main_posts past) (omega (arith, zero_times, known.accepted t));
       not_taken = free;
       not_main_taken = false_from_ne_true (is_main_taken past t) (λ k. omega (arith, zero_times, known.taken true t k, known.accepted t));
-      not_ended = false_from_ne_true (is_ended past t) (λ k. both_ways (is_taken past t) free ((legal_is_consistent script past legal).taken_before_ended t k));
+      not_ended = singly_unended script past false t (legal_is_consistent script past legal false) free;
     }
 
 in_order_push : (ps : List Posted) (q : Posted) → InOrder ps → AllByRecursion (λ p. Before p q) ps → InOrder (ps ++ q ∷ [])

@@ -38,7 +38,7 @@ use Rattle.pool_laws.proofs.Choice.Candidates.{not_held_is_waiting}
 use Rattle.pool_laws.proofs.Choice.Least.{head_is_least, no_head, keys_total}
 use Rattle.hist_model.specs.Laws.Whole.{sequence_at, WaitsInSequence}
 use Rattle.hist_model.proofs.Laws.OneSeat.{runs_at_one_seat}
-use Rattle.hist_model.proofs.Laws.Whole.{waits_for_workers}
+use Rattle.hist_model.proofs.Laws.Whole.Workers.{waits_for_workers}
 use Rattle.hist_model.proofs.Laws.Progress.Jobs.{may_go_in, job_waits}
 use Rattle.hist_model.proofs.Laws.Progress.Quiet.{Quiet, nobody_inside, no_sequence_runs}
 use Rattle.hist_model.proofs.Laws.Progress.Workers.{SeatFor, any_seat, seat_for}

@@ -17,12 +17,12 @@ use Rattle.hist_model.specs.Script.{current, is_finished, is_whole, IsWhole}
 use Rattle.hist_model.specs.Allowed.{by_script, may_come, IsAllowed}
 use Rattle.hist_model.specs.Legal.{IsLegal}
 use Rattle.hist_model.specs.Laws.Progress.{IsAtEnd, AlwaysAllowed, grown}
-use Rattle.hist_model.proofs.Laws.Legal.{nothing_is_legal, is_legal_push, legal_next}
+use Rattle.hist_model.proofs.Laws.Legal.{nothing_is_legal, legal_next}
 use Rattle.hist_model.proofs.Laws.Entries.Bound.{entries_within}
 use Rattle.hist_model.proofs.Laws.JobEntries.{none_is}
 use Rattle.hist_model.proofs.Laws.OneThing.{wanted_by}
 use Rattle.hist_model.proofs.Laws.Takes.{IsReadyWorker}
-use Rattle.hist_model.proofs.Laws.Progress.Driver.{comes_by}
+use Rattle.hist_model.proofs.Laws.Progress.Coming.{comes_by}
 use Rattle.hist_model.proofs.Laws.Progress.Ways.{some_may_come}
 
 pub ends_whole : (script : Plan) (past : List Entry) → IsSound script → IsLegal script past → IsAtEnd script past → IsWhole script past

@@ -30,12 +30,13 @@ use Rattle.hist_model.specs.Views.{own_entries}
 use Rattle.hist_model.specs.Script.{wants}
 use Rattle.hist_model.specs.Allowed.{enters, same_scope, by_script, by_task, has_done, same_number, may_come}
 use Rattle.hist_model.specs.Legal.{IsLegal}
-use Rattle.hist_model.specs.Laws.Consistent.{RunsAs, is_pump, DoesOneThing}
+use Rattle.pool_laws.specs.Runs.{RunsAs}
+use Rattle.hist_model.specs.Laws.Consistent.{is_pump, DoesOneThing}
 use Rattle.hist_model.specs.Laws.Progress.{MayMake, end_of, step_of, TaskGoesOn}
 use Rattle.hist_model.specs.Laws.Progress.TaskGoesOn.{ByStep, Ends}
 use Rattle.hist_model.proofs.Laws.Legal.{legal_induction}
 use Rattle.hist_model.proofs.Laws.Choice.{found}
-use Rattle.hist_model.proofs.Laws.Consistent.{legal_is_consistent, runs_known}
+use Rattle.hist_model.proofs.Laws.Consistent.{legal_is_consistent}
 use Rattle.hist_model.proofs.Laws.HoldsApart.{legal_holds_apart}
 use Rattle.hist_model.proofs.Laws.OneThing.{wanted_by, legal_does_one_thing}
 use Rattle.hist_model.proofs.Laws.Takes.{by_driver}
@@ -131,7 +132,7 @@ acts_within script = legal_induction script (ActsWithin script) (nothing_acted s
 -- ---- tasks
 
 pub runner_known : (script : Plan) (past : List Entry) (seat : ℕ) (w : Running) → IsLegal script past → running past seat ≡ Some w → seat ≤ script.workers
-runner_known script past seat w legal runs = runs_known script past seat w w.is_main ((legal_is_consistent script past legal).runs seat w runs)
+runner_known script past seat w legal runs = ((legal_is_consistent script past legal w.is_main).runs seat w runs refl).can.known
 
 -- the next act step may make its entry
 step_goes_on : (script : Plan) (past : List Entry) (seat : ℕ) (w : Running) (step : Step) → seat ≤ script.workers → running past seat ≡ Some w
@@ -188,7 +189,7 @@ end_may_come script past seat w main is r runs done = by_main main is r
 
     by_main : (b : Bool) → w.is_main ≡ b → RunsAs script past seat w b
         → may_come script past seat (cond b (kinds.MainEnd w.task left) (kinds.End w.task left)) ≡ true
-    by_main true is_main as_main = rw (eq-eqb seat 0 as_main.driver, runs) (rw (is_main, eq-eqb w.task w.task refl, all_done) refl)
+    by_main true is_main as_main = rw (eq-eqb seat 0 (as_main.can.driver refl), runs) (rw (is_main, eq-eqb w.task w.task refl, all_done) refl)
     by_main false is_pool as_pool = rw (runs) (rw (is_pool, eq-eqb w.task w.task refl, all_done) refl)
 
 -- a list has no element at a place past its end alone
@@ -210,7 +211,7 @@ task_goes_on script past seat w legal runs = by_next_act (next_act script past s
     by_next_act : (o : Option Step) → next_act script past seat ≡ o → TaskGoesOn script past seat w
     by_next_act (Some step) next = step_goes_on script past seat w step known runs next (act step next)
     by_next_act None none = Ends none (may_make script past seat (end_of script w) known (end_may_come script past seat w w.is_main refl
-        ((legal_is_consistent script past legal).runs seat w runs) runs
+        ((legal_is_consistent script past legal w.is_main).runs seat w runs refl) runs
         (past_the_end (acts_of script w.task) (acts_done past seat) (sym (act_is script past seat w runs) ∙ none) (acts_within script past legal seat w runs))))
 
 -- ---- items

@@ -22,7 +22,6 @@ use Rattle.list_laws.specs.Lists.{holds_of}
 use Rattle.list_laws.proofs.Elements.{push_induction, AllByRecursion-contains}
 use Rattle.list_laws.proofs.Made.{contains_range}
 use Rattle.list_laws.proofs.Places.{slice_get_push}
-use Rattle.task_model.specs.Past.{fold_past}
 use Rattle.task_model.specs.Phase.{phase_of}
 use Rattle.task_model.specs.Posts.{Posted, posts, posted_by, post_behind, is_taken, takes, is_ended, ends}
 use Rattle.task_model.specs.Refusal.{effective_at, behaviour_of_job, is_job_forbidden}

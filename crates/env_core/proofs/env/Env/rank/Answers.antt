@@ -1,5 +1,5 @@
 use Rattle.env_core.proofs.Entries.{at_queue, holds_at_main, plain}
-use Rattle.env_core.proofs.Wanted.{class_within}
+use Rattle.env_core.proofs.Declared.{class_within}
 use Rattle.std.proofs.Common.{refl}
 use Rattle.task_base.specs.declared.entry.Kind.TheVariants as kinds
 use Rattle.env_core.proofs.env.Env.rank.Goals as goal

@@ -1,5 +1,6 @@
 use Rattle.env_core.proofs.Entries.{holds_at_pool, plain}
-use Rattle.env_core.proofs.Wanted.{plain_allowed, starts_while_running}
+use Rattle.env_core.proofs.Wanted.{plain_allowed}
+use Rattle.env_core.proofs.Declared.{starts_while_running}
 use Rattle.std.proofs.Common.{refl, ◌∙◌}
 use Rattle.task_base.specs.declared.entry.Kind.TheVariants as kinds
 use Rattle.task_model.proofs.Growth.{phase_of_push}

@@ -1,5 +1,6 @@
 use Rattle.env_core.proofs.Entries.{counts, holds_at_pool}
-use Rattle.env_core.proofs.Wanted.{done_allowed, done_while_started}
+use Rattle.env_core.proofs.Wanted.{done_allowed}
+use Rattle.env_core.proofs.Declared.{done_while_started}
 use Rattle.env_core.specs.Calls.{IsWantedNext}
 use Rattle.env_core.specs.Views.{EnvView}
 use Rattle.hist_model.specs.Legal.{IsLegal}

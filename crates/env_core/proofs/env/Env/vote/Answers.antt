@@ -1,5 +1,5 @@
 use Rattle.env_core.proofs.Entries.{at_queue, holds_at_main, plain}
-use Rattle.env_core.proofs.Wanted.{voter_declared}
+use Rattle.env_core.proofs.Declared.{voter_declared}
 use Rattle.std.proofs.Common.{refl}
 use Rattle.task_base.specs.declared.entry.Kind.TheVariants as kinds
 use Rattle.env_core.proofs.env.Env.vote.Goals as goal

@@ -1,4 +1,4 @@
-use Rattle.env_core.proofs.Driver.{action_at}
+use Rattle.env_core.proofs.MadeWithin.{action_at}
 use Rattle.std.proofs.Common.{rules}
 use Rattle.env_core.proofs.ledger.Ledger.action.Goals as goal
 

@@ -1,4 +1,4 @@
-use Rattle.env_core.proofs.Driver.{few_entries_made}
+use Rattle.env_core.proofs.MadeWithin.{few_entries_made}
 use Rattle.env_core.specs.Agenda.{shifted}
 use Rattle.env_core.specs.Ledger.{IsKept, MayEnter}
 use Rattle.env_core.specs.Views.{Enters, spare_of}

@@ -1,4 +1,4 @@
-use Rattle.env_core.proofs.Driver.{finished_is}
+use Rattle.env_core.proofs.MadeWithin.{finished_is}
 use Rattle.std.proofs.Common.{sym, ◌∙◌}
 use Rattle.env_core.proofs.ledger.Ledger.is_finished.Goals as goal
 

@@ -1,4 +1,4 @@
-use Rattle.env_core.proofs.Driver.{made_at}
+use Rattle.env_core.proofs.MadeWithin.{made_at}
 use Rattle.env_core.proofs.ledger.Ledger.made.Goals as goal
 
 pub returns : goal.returns

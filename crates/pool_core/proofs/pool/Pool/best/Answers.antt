@@ -1,4 +1,4 @@
-use Rattle.pool_core.proofs.Sources.Choosing.{best_of_queues}
+use Rattle.pool_core.proofs.Sources.Best.{best_of_queues}
 use Rattle.pool_core.proofs.pool.Pool.best.Goals as goal
 
 pub returns : goal.returns

@@ -1,4 +1,5 @@
-use Rattle.pool_core.proofs.Sources.Choosing.{offers_none, own_is}
+use Rattle.pool_core.proofs.Sources.Choosing.{offers_none}
+use Rattle.pool_core.proofs.Sources.Best.{own_is}
 use Rattle.pool_core.specs.Choice.{HasOffer}
 use Rattle.std.proofs.Common.{arith, subst, sym, ◌∙◌}
 use Rattle.pool_core.proofs.pool.Pool.has_own_work.Goals as goal

@@ -1,4 +1,5 @@
-use Rattle.pool_core.proofs.Jobs.JobStands.{cancel_share_is, cancelled_job, held_of, job_set, stands_at_job_cancel}
+use Rattle.pool_core.proofs.Jobs.JobSteps.{cancel_share_is, cancelled_job, stands_at_job_cancel}
+use Rattle.pool_core.proofs.Jobs.JobStands.{held_of, job_set}
 use Rattle.pool_core.proofs.Tracking.{counts_at_cancel}
 use Rattle.pool_core.specs.JobCalls.{after_job_cancel}
 use Rattle.pool_core.specs.JobState.{job_at, job_of, job_refreshed, settled_share}

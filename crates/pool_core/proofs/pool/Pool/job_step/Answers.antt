@@ -1,6 +1,7 @@
 use Rattle.pool_core.proofs.Jobs.AtJob.{has_holder, holder_is, item_counted, item_is_held, item_work, job_counted}
 use Rattle.pool_core.proofs.Jobs.AtJob.{job_place, job_there, knows_job, seat_fits, seat_there}
-use Rattle.pool_core.proofs.Jobs.JobStands.{held_is, held_of, stands_at_goes_on, stands_at_job_left, stepped_job}
+use Rattle.pool_core.proofs.Jobs.JobStands.{held_is, held_of}
+use Rattle.pool_core.proofs.Jobs.JobSteps.{stands_at_goes_on, stands_at_job_left, stepped_job}
 use Rattle.pool_core.proofs.Jobs.JobViews.{next_is}
 use Rattle.pool_core.specs.JobState.{job_of}
 use Rattle.pool_core.specs.JobCalls.{CanStep, has_to_leave}

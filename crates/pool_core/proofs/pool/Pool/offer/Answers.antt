@@ -1,4 +1,4 @@
-use Rattle.pool_core.proofs.Sources.Choosing.{best_in_queue}
+use Rattle.pool_core.proofs.Sources.Best.{best_in_queue}
 use Rattle.std.proofs.Common.{sym, ◌∙◌, Some}
 use Rattle.pool_core.proofs.pool.Pool.offer.Goals as goal
 

@@ -1,5 +1,6 @@
 use Rattle.std.proofs.Common.{ap, le-ltb, lt-ltb, not, sym}
-use Rattle.sequence_manager.proofs.Posts.{can_add, can_push, is_closed_as, others_differ, stands_at_delayed_post, stands_at_post, stands_at_refusal}
+use Rattle.sequence_manager.proofs.DelayedPosts.{can_add, others_differ, stands_at_delayed_post}
+use Rattle.sequence_manager.proofs.Posts.{can_push, is_closed_as, stands_at_post, stands_at_refusal}
 use Rattle.sequence_manager.proofs.manager.Manager.post.Goals as goal
 
 pub returns-then-at-clause-reply : goal.returns-then-at-clause-reply

@@ -1,7 +1,7 @@
 use Rattle.std.proofs.Common.{List, None, Option, Some, ap, arith, length, suc, sym, true, zero, [], ℕ, ◌<◌, ◌∙◌, ◌∷◌, ◌≡◌}
 use Rattle.std.proofs.lemmas.Option.{slice_get-get_or}
 use Rattle.std.specs.Prelude.{is_some, slice_get, slice_index_or, unwrap_or}
-use Rattle.env_core.proofs.env.take_body.Goals as goal
+use Rattle.env_core.proofs.drawer.take_body.Goals as goal
 
 -- what is found stands within the list
 found_within : {X : Type 0} (xs : List (Option X)) (i : ℕ) → is_some (unwrap_or (slice_get xs i) None) ≡ true → i < length xs

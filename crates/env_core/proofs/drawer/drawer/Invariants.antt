@@ -1,5 +1,5 @@
 use Rattle.std.specs.Prelude.{Some, map, ◌≡◌}
-use Rattle.env_core.proofs.env.drawer.Given as goal
+use Rattle.env_core.proofs.drawer.drawer.Given as goal
 
 -- each body that has been moved stands in its place
 abbrev pub invariant-loop-body : goal.invariant-loop-body
