@@ -2,9 +2,9 @@ ghost use Rattle.std.specs.Prelude.{◌≡◌, ℕ, ◌<◌, ◌≤◌, ◌↔�
 ghost use Rattle.std.specs.Option.{option_map};
 ghost use Rattle.script_model.specs.Laws.Sound.{IsSound};
 ghost use Rattle.env_core.specs.Agenda.{counted};
-ghost use Rattle.env_core.specs.Calls.{IsWantedNext, IsFreeWorker, IsNextAct, CanEnd, CanEndMain};
-ghost use Rattle.env_core.specs.Calls.{MainTakeGives, EntersAct, lets_in};
-ghost use Rattle.env_core.specs.Drawer.{is_in_drawer, kept_if};
+ghost use Rattle.env_core.specs.Calls.{IsWantedNext, IsFreeWorker, IsNextAct, CanEnd};
+ghost use Rattle.env_core.specs.Calls.{EntersAct, lets_in};
+ghost use Rattle.env_core.specs.Drawer.{is_in_drawer};
 ghost use Rattle.env_core.specs.Ledger.{MayEnter};
 ghost use Rattle.env_core.specs.Views.{Enters, spare_of};
 ghost use Rattle.env_core.specs.Waits.{may_go_on};
@@ -12,19 +12,20 @@ ghost use Rattle.hist_model.specs.Moments.{moment_behind};
 ghost use Rattle.hist_model.specs.Script.{current, is_finished};
 ghost use Rattle.hist_model.specs.Views.{own_entries};
 ghost use Rattle.pool_core.specs.Calls.{running_tasks, is_any_ready, is_own};
-ghost use Rattle.sequence_manager.specs.Queues.{is_out};
 ghost use Rattle.task_base.specs.Runners.{sequence_of};
 ghost use Rattle.task_model.specs.Blockers.{blockers_of};
 ghost use Rattle.task_model.specs.Phase.{phase_of};
-ghost use Rattle.task_model.specs.Refusal.{is_closed, is_refused};
+ghost use Rattle.task_model.specs.Refusal.{is_refused};
 ghost use Rattle.task_model.specs.Seats.{runs_sequence};
 ghost use Rattle.task_traits.specs.declared.phase.Phase.TheVariants as phases;
 ghost use Rattle.task_model.specs.Sources.{best_of};
 ghost use Rattle.task_model.specs.Time.{now_of};
 
 mod jobs;
+mod queues;
 
 use crate::agenda::Shift;
+use crate::drawer::{drawer, keep_if, take_body};
 use crate::ledger::Ledger;
 use hist_model::Chronicle;
 use pool_core::{Pool, PoolTake};
@@ -33,8 +34,8 @@ use shutdown_phase::StillBlocked;
 use std::alloc::{AllocError, Global};
 use std::marker::Model;
 use task_base::{
-    Action, Entry, FenceAt, Kind, LAST_MOMENT, NotYet, Policy, Priority, QueueId, Rows, RunnerId,
-    Scope, Script, SeatNo, TaskId,
+    Action, Entry, Kind, LAST_MOMENT, NotYet, Policy, Priority, Rows, RunnerId, Scope, Script,
+    SeatNo, TaskId,
 };
 use task_body::{Act, Assignment, JobPass, Taken, TaskBody};
 
@@ -102,15 +103,6 @@ impl<B: TaskBody> Env<B> {
         self.enter_post(seat, task, runner, delay, Shift::Counts)
     }
 
-    /// The driver posts a task to a main queue, with a delay in microseconds. A refused post drops the task's body.
-    pub fn main_post(&mut self, seat: SeatNo, task: TaskId, queue: QueueId, delay: u64) -> bool
-        requires { (ok : Bool) → IsWantedNext self.old seat (Kind.Main task queue delay ok) }
-        ensures reply { result ≡ not (is_closed self.old.history queue) }
-        ensures enters { Enters self.old self.new seat (Kind.Main task queue delay result) }
-    {
-        self.enter_main_post(seat, task, queue, delay, Shift::Counts)
-    }
-
     /// The driver has read the clock, in microseconds. Answers the moment that is entered.
     pub fn tick(&mut self, seat: SeatNo, reading: u64) -> u64
         requires { (now : ℕ) → IsWantedNext self.old seat (Kind.Tick now) }
@@ -146,100 +138,8 @@ impl<B: TaskBody> Env<B> {
             .enter(seat, Kind::Reprio { runner, priority }, Shift::Counts);
     }
 
-    /// The driver puts a fence into a main queue: behind all tasks that are ready by now, or before all tasks.
-    pub fn fence(&mut self, seat: SeatNo, queue: QueueId, at: FenceAt)
-        requires { IsWantedNext self.old seat (Kind.Fence queue at) }
-        ensures { Enters self.old self.new seat (Kind.Fence queue at) }
-    {
-        self.main.fence(queue, at);
-        self.ledger
-            .enter(seat, Kind::Fence { queue, at }, Shift::Counts);
-    }
-
-    /// The driver removes the fence of a main queue, if it has one.
-    pub fn unfence(&mut self, seat: SeatNo, queue: QueueId)
-        requires { IsWantedNext self.old seat (Kind.Unfence queue) }
-        ensures { Enters self.old self.new seat (Kind.Unfence queue) }
-    {
-        self.main.unfence(queue);
-        self.ledger
-            .enter(seat, Kind::Unfence { queue }, Shift::Counts);
-    }
-
-    /// A voter of a main queue votes for it, or against it.
-    pub fn vote(&mut self, seat: SeatNo, queue: QueueId, voter: u8, on: bool)
-        requires { IsWantedNext self.old seat (Kind.Vote queue voter on) }
-        ensures { Enters self.old self.new seat (Kind.Vote queue voter on) }
-    {
-        self.main.vote(queue, voter, on);
-        self.ledger
-            .enter(seat, Kind::Vote { queue, voter, on }, Shift::Counts);
-    }
-
-    /// The driver puts a main queue in another class.
-    pub fn rank(&mut self, seat: SeatNo, queue: QueueId, class: u8)
-        requires { IsWantedNext self.old seat (Kind.Rank queue class) }
-        ensures { Enters self.old self.new seat (Kind.Rank queue class) }
-    {
-        self.main.rank(queue, class);
-        self.ledger
-            .enter(seat, Kind::Rank { queue, class }, Shift::Counts);
-    }
-
-    /// The driver closes a main queue: its tasks never run, and it accepts no more. What was taken is done to its end.
-    pub fn close_queue(&mut self, seat: SeatNo, queue: QueueId)
-        requires { IsWantedNext self.old seat (Kind.Close queue) }
-        ensures { Enters self.old self.new seat (Kind.Close queue) }
-    {
-        self.main.close(queue);
-        self.ledger
-            .enter(seat, Kind::Close { queue }, Shift::Counts);
-    }
-
-    /// The driver, inside a pump and with no task, takes the chosen front of the main queues, whose body leaves the drawer.
-    /// None where no front is open, which completes the pump.
-    pub fn main_take(&mut self, seat: SeatNo) -> Option<Assignment<B>>
-        requires { IsWantedNext self.old seat Kind.MainNone }
-        ensures { MainTakeGives self.old self.new seat result }
-    {
-        match self.main.take() {
-            None => {
-                self.ledger.enter(seat, Kind::MainNone, Shift::Completes);
-                None
-            }
-            Some((task, queue, cell)) => {
-                let body = take_body(&mut self.bodies, task);
-                self.ledger.enter(
-                    seat,
-                    Kind::MainTake {
-                        task,
-                        queue,
-                        found: cell.value(),
-                    },
-                    Shift::Stays,
-                );
-                Some(Assignment::new(task, queue, cell, body))
-            }
-        }
-    }
-
-    /// The driver has ended its main task: the cell goes home with what the task left. Answers the body, which is done.
-    pub fn main_end(&mut self, seat: SeatNo, work: Assignment<B>) -> Box<B>
-        requires { CanEndMain self.old seat work }
-        ensures { Enters self.old self.new seat (Kind.MainEnd work.task work.value) }
-    {
-        let task = work.task();
-        let queue = work.home();
-        let (cell, body) = work.split_up();
-        let left = cell.value();
-        self.main.end(queue, cell);
-        self.ledger
-            .enter(seat, Kind::MainEnd { task, left }, Shift::Counts);
-        body
-    }
-
     /// A worker asks for work. A body leaves the drawer as its task is taken.
-    pub fn take(&mut self, seat: SeatNo) -> Taken<B>
+    pub fn take(&mut self, seat: SeatNo) -> Taken<Assignment<B>>
         requires { IsFreeWorker self.old seat }
         ensures { TakeGives self.old self.new seat result }
     {
@@ -432,14 +332,6 @@ impl<B: TaskBody> Env<B> {
         self.pool.is_cell_out(runner, task)
     }
 
-    /// Whether the cell of a main queue is out: from a take of one of its tasks to the end of that.
-    pub fn is_main_cell_out(&self, queue: QueueId) -> bool
-        requires { queue < length self.now.script.queues }
-        ensures { result ≡ is_out self.now.history queue }
-    {
-        self.main.is_cell_out(queue)
-    }
-
     /// The history, with the room that is left for further entries. What bodies are left are dropped.
     pub fn into_log(self) -> Rows<Entry>
         ensures items { result.items ≡ self.history }
@@ -476,34 +368,6 @@ impl<B: TaskBody> Env<B> {
         ok
     }
 
-    // A post to a main queue, by the script or by a task.
-    fn enter_main_post(
-        &mut self,
-        seat: SeatNo,
-        task: TaskId,
-        queue: QueueId,
-        delay: u64,
-        shift: Shift,
-    ) -> bool
-        requires { MayEnter self.old seat (Kind.Main task queue delay (not (is_closed self.old.history queue))) shift }
-        ensures reply { result ≡ not (is_closed self.old.history queue) }
-        ensures enters { Enters self.old self.new seat (Kind.Main task queue delay result) }
-    {
-        let ok = self.main.post(self.ledger.len(), task, queue, delay);
-        keep_if(ok, &mut self.bodies, task);
-        self.ledger.enter(
-            seat,
-            Kind::Main {
-                task,
-                queue,
-                delay,
-                ok,
-            },
-            shift,
-        );
-        ok
-    }
-
     fn enter(&mut self, seat: SeatNo, scope: Scope) -> bool
         requires { IsNextAct self.old seat (Act.Enter scope) }
         ensures reply { result ≡ true }
@@ -526,37 +390,4 @@ impl<B: TaskBody> Env<B> {
         self.ledger.enter(seat, Kind::Leave { task }, Shift::Stays);
         true
     }
-}
-
-// The bodies in a drawer, each in the place of its task. The error is want of memory.
-fn drawer<B: TaskBody>(
-    alloc: Global,
-    bodies: Vec<Box<B>>,
-) -> Result<Vec<Option<Box<B>>>, AllocError>
-    ensures { IfOk result (λ drawer. drawer.items ≡ map Some bodies.items) }
-{
-    let mut drawer = Vec::with_capacity(alloc, bodies.len())?;
-    for body in bodies {
-        drawer.push(Some(body))?;
-    }
-    Ok(drawer)
-}
-
-// Drops the body of a task whose post was refused.
-fn keep_if<B: TaskBody>(ok: bool, bodies: &mut Vec<Option<Box<B>>>, task: TaskId)
-    requires { task < length bodies.old.items }
-    ensures { bodies.new.items ≡ kept_if ok bodies.old.items task }
-{
-    if !ok {
-        bodies[task as usize] = None;
-    }
-}
-
-// Moves a task's body out of the drawer, which has it.
-fn take_body<B: TaskBody>(bodies: &mut Vec<Option<Box<B>>>, task: TaskId) -> Box<B>
-    requires { is_some (unwrap_or (slice_get bodies.old.items task) None) ≡ true }
-    ensures body { slice_get bodies.old.items task ≡ Some (Some result) }
-    ensures after { bodies.new.items ≡ slice_set bodies.old.items task None }
-{
-    bodies[task as usize].take().unwrap()
 }

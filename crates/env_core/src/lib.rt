@@ -3,6 +3,7 @@
 #![tactic(auto)]
 
 mod agenda;
+mod drawer;
 mod env;
 mod laws;
 mod ledger;

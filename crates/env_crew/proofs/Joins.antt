@@ -20,7 +20,7 @@ use Rattle.task_body.specs.Passes.{PassView}
 use Rattle.env_core.specs.Jobs.{HasJoinedIn}
 use Rattle.env_core.specs.Views.{Enters}
 use Rattle.env_crew.specs.Desk.{DeskView, Holds, IsLater, as_seen, mine, view_at}
-use Rattle.env_crew.specs.Driving.{HasDone, IsAt, IsWanted}
+use Rattle.env_crew.specs.Driving.{HasDone, AreLeft, IsWanted}
 use Rattle.env_crew.specs.Items.{HasDoneItems, is_step}
 use Rattle.env_crew.proofs.Holds.{later_entered, later_kept, later_trans, mine_entered, mine_kept}
 use Rattle.env_crew.proofs.Visits.{EndsItems, gone_in, has_visited}
@@ -94,7 +94,7 @@ wants_inside {now = now} job was = rw (eqb-same job) (and_parts (is_none (runnin
 
 -- it is what the script wants next
 pub wanted_inside : {start now : DeskView} (job : ℕ) (rest : List Action) (kind : Kind) → Joining start now → start.seat ≡ 0
-    → IsAt start (actions.Join job ∷ rest) [] → ((made : List Entry) → wants (mine now) (actions.Join job) made kind ≡ true) → IsWanted now kind
+    → AreLeft start (actions.Join job ∷ rest) [] → ((made : List Entry) → wants (mine now) (actions.Join job) made kind ≡ true) → IsWanted now kind
 wanted_inside {start} {now} job rest kind was driver at wanted =
     wanted_at now (actions.Join job) rest was.made kind (was.later.seat_is ∙ driver)
     (at_more start now (actions.Join job ∷ rest) [] was.made was.later.script_is was.grows at)

@@ -11,20 +11,18 @@ use Rattle.task_base.specs.declared.entry.Entry.{Entry}
 use Rattle.task_base.specs.declared.entry.Kind.{Kind}
 use Rattle.task_base.specs.declared.entry.Kind.TheVariants as kinds
 use Rattle.task_base.specs.Groups.{importance}
-use Rattle.task_base.specs.declared.policy.Policy.{Policy}
 use Rattle.task_traits.specs.declared.traits.Priority.{Priority}
-use Rattle.task_base.specs.declared.policy.Policy.TheVariants as policies
 use Rattle.task_base.specs.declared.script.Action.{Action}
 use Rattle.task_base.specs.declared.script.Action.TheVariants as actions
 use Rattle.task_base.specs.declared.script.FenceAt.{FenceAt}
 use Rattle.task_base.specs.declared.script.FenceAt.TheVariants as fences
 use Rattle.task_model.specs.Seats.{running, holding, is_free}
-use Rattle.hist_model.specs.Script.{behind, behind_action, same_policy, wants, current, is_wanted, is_finished}
+use Rattle.hist_model.specs.Script.{behind, behind_action, wants, current, is_wanted, is_finished}
 use Rattle.hist_model.specs.Views.{own_entries}
 use Rattle.hist_model.specs.Laws.Agenda.{agenda, agenda_from, agenda_after, current_of}
 use Rattle.hist_model.proofs.Laws.Agenda.{agenda_push, current_is_first}
 use Rattle.env_crew.specs.Desk.{DeskView, mine}
-use Rattle.env_crew.specs.Driving.{IsAt, IsWanted}
+use Rattle.env_crew.specs.Driving.{AreLeft, IsWanted}
 
 -- one more entry of an agenda
 from_push : (script : Plan) (actions : List Action) (made : List Entry) (e : Entry)
@@ -34,8 +32,8 @@ from_push script actions made e = agenda_push (record script { actions = actions
 
 -- the first of the actions makes more entries
 pub at_more : (old new : DeskView) (actions : List Action) (made more : List Entry) → new.script ≡ old.script → mine new ≡ mine old ++ more
-    → IsAt old actions made → IsAt new actions (made ++ more)
-unfolding IsAt
+    → AreLeft old actions made → AreLeft new actions (made ++ more)
+unfolding AreLeft
 at_more old new actions made more same own at = ap (λ s. agenda s (mine new)) same ∙ ap (λ all. agenda old.script all) own ∙ grown (mine old) made more at
   where
     grown : (own made more : List Entry) → agenda old.script own ≡ agenda_from actions made
@@ -47,9 +45,9 @@ at_more old new actions made more same own at = ap (λ s. agenda s (mine new)) s
         ∙ ap (λ all. agenda_from actions all) (append_assoc made (e ∷ []) more)
 
 -- what the first of the actions wants is wanted next
-pub wanted_at : (d : DeskView) (action : Action) (rest : List Action) (made : List Entry) (kind : Kind) → d.seat ≡ 0 → IsAt d (action ∷ rest) made
+pub wanted_at : (d : DeskView) (action : Action) (rest : List Action) (made : List Entry) (kind : Kind) → d.seat ≡ 0 → AreLeft d (action ∷ rest) made
     → behind_action action made ≡ None → wants (mine d) action made kind ≡ true → IsWanted d kind
-unfolding IsAt is_wanted
+unfolding AreLeft is_wanted
 wanted_at d action rest made kind driver at more is = record {
   driver = driver;
   wanted = subst (λ n. is_wanted d.script (own_entries n d.seen) kind ≡ true) driver (ap (λ c. holds_of (λ c. wants (mine d) c.action c.made kind) c)
@@ -58,15 +56,15 @@ wanted_at d action rest made kind driver at more is = record {
 }
 
 -- an action that has made nothing wants its first entry
-pub wanted_first : (d : DeskView) (given action : Action) (kind : Kind) → d.seat ≡ 0 → given ≡ action → (rest : List Action) × IsAt d (given ∷ rest) []
+pub wanted_first : (d : DeskView) (given action : Action) (kind : Kind) → d.seat ≡ 0 → given ≡ action → (rest : List Action) × AreLeft d (given ∷ rest) []
     → behind_action action [] ≡ None → wants (mine d) action [] kind ≡ true → IsWanted d kind
 wanted_first d given action kind driver is at more wanted =
-    wanted_at d action at.0 [] kind driver (subst (λ x. IsAt d (x ∷ at.0) []) is at.1) more wanted
+    wanted_at d action at.0 [] kind driver (subst (λ x. AreLeft d (x ∷ at.0) []) is at.1) more wanted
 
 -- the first of the actions is complete, and the next one begins
-pub at_next : (d : DeskView) (action : Action) (rest : List Action) (made left : List Entry) → IsAt d (action ∷ rest) made
-    → behind_action action made ≡ Some left → IsAt d rest left
-unfolding IsAt
+pub at_next : (d : DeskView) (action : Action) (rest : List Action) (made left : List Entry) → AreLeft d (action ∷ rest) made
+    → behind_action action made ≡ Some left → AreLeft d rest left
+unfolding AreLeft
 at_next d action rest made left at done =
     at ∙ ap (λ o. option_map_or (λ left. agenda_from rest left) o (record { actions = action ∷ rest; made = made })) done
 
@@ -110,21 +108,21 @@ pub wants_reprio : (own : List Entry) (r : ℕ) (p : Priority) → wants own (ac
 wants_reprio own r p = rw (eqb-same r, eqb-same (importance p)) refl
 
 -- at the start all actions are left
-pub at_start : (d : DeskView) (script : Plan) (actions : List Action) → d.script ≡ script → actions ≡ script.actions → mine d ≡ [] → IsAt d actions []
-unfolding IsAt agenda
+pub at_start : (d : DeskView) (script : Plan) (actions : List Action) → d.script ≡ script → actions ≡ script.actions → mine d ≡ [] → AreLeft d actions []
+unfolding AreLeft agenda
 at_start d script actions same all none = ap (λ s. agenda s (mine d)) same ∙ ap (λ own. agenda script own) none ∙ ap (λ xs. agenda_from xs []) (sym all)
 
 -- nothing is left, so the script is finished
-pub finished_at : (d : DeskView) → d.seat ≡ 0 → IsAt d [] [] → is_finished d.script d.seen ≡ true
-unfolding IsAt is_finished
+pub finished_at : (d : DeskView) → d.seat ≡ 0 → AreLeft d [] [] → is_finished d.script d.seen ≡ true
+unfolding AreLeft is_finished
 finished_at d driver at = subst (λ n. is_none (current d.script (own_entries n d.seen)) ≡ true) driver
     (ap is_none (current_is_first d.script (mine d) ∙ ap current_of at))
 
 -- the next action of a list
-pub at_action : (d : DeskView) (xs : List Action) (i : ℕ) (x : Action) → i < length xs → IsAt d (drop i xs) [] → IsAt d (get_or xs i x ∷ drop (i + 1) xs) []
+pub at_action : (d : DeskView) (xs : List Action) (i : ℕ) (x : Action) → i < length xs → AreLeft d (drop i xs) [] → AreLeft d (get_or xs i x ∷ drop (i + 1) xs) []
 at_action d xs i x below at =
     let next : suc i ≡ i + 1 = omega arith in
-    subst (λ n. IsAt d (get_or xs i x ∷ drop n xs) []) next (subst (λ l. IsAt d l []) (drop-cons xs i x below) at)
+    subst (λ n. AreLeft d (get_or xs i x ∷ drop n xs) []) next (subst (λ l. AreLeft d l []) (drop-cons xs i x below) at)
 
 -- a driver with no entry runs and holds nothing
 pub nothing_rests : (d : DeskView) → mine d ≡ [] → is_free (mine d) 0 ≡ true

@@ -16,7 +16,7 @@ use Rattle.hist_model.specs.Script.{behind_pump, is_main_end, is_main_none}
 use Rattle.task_body.specs.Bodies.{AssignmentView}
 use Rattle.env_core.specs.Views.{Enters}
 use Rattle.env_crew.specs.Desk.{DeskView, Holds, IsLater, as_seen, mine, view_at}
-use Rattle.env_crew.specs.Driving.{HasDone, IsAt}
+use Rattle.env_crew.specs.Driving.{HasDone, AreLeft}
 use Rattle.env_crew.specs.Tasks.{is_acting}
 use Rattle.env_crew.proofs.Holds.{later_entered, later_refl, later_trans, mine_entered}
 use Rattle.env_crew.proofs.Rests.{free_stays}
@@ -65,7 +65,7 @@ pub record Pumping (start now : DeskView) (count ended : ℕ) : Type 0 where
   pub counted : ended + left ≡ count
   pub made : List Entry
   pub pumped : (entries : List Entry) → behind_pump count (made ++ entries) ≡ left_behind left entries
-  pub at : (rest : List Action) → IsAt start (actions.Pump count ∷ rest) [] → IsAt now (actions.Pump count ∷ rest) made
+  pub at : (rest : List Action) → AreLeft start (actions.Pump count ∷ rest) [] → AreLeft now (actions.Pump count ∷ rest) made
   pub rests : is_free (mine now) 0 ≡ true
   pub ticks : ticks_of (mine now) ≡ ticks_of (mine start)
 

@@ -12,12 +12,12 @@ use Rattle.shutdown_phase.specs.declared.phase_count.StillBlocked.{StillBlocked}
 use Rattle.task_body.specs.Bodies.{AssignmentView}
 use Rattle.task_body.specs.Passes.{PassView}
 use Rattle.task_body.specs.declared.act.Act.{Act}
+use Rattle.task_body.specs.declared.taken.Taken.{Taken}
+use Rattle.task_body.specs.declared.taken.Taken.TheVariants as taken
 use Rattle.pool_core.specs.Calls.{running_tasks, is_any_ready}
 use Rattle.env_core.specs.Calls.{EntersAct, HasTaken, HasNothing, HasTakenMain, HasNoMain, IsOver, IsIdle, lets_in}
 use Rattle.env_core.specs.Jobs.{HasTakenItem, JobTakeGives, StepGives, TriesToCancel, TriesToJoin}
 use Rattle.env_core.specs.Views.{EnvView, Enters}
-use Rattle.env_crew.specs.declared.desk.Given.{Given}
-use Rattle.env_crew.specs.declared.desk.Given.TheVariants as given
 
 -- the seat made one entry of this kind
 abbrev pub HasEntered : ℕ → Kind → EnvView → EnvView → Type 0
@@ -51,11 +51,11 @@ pub record HasTicked (seat reading now : ℕ) (before after : EnvView) : Type 0 
   pub enters : Enters before after seat (kinds.Tick now)
 
 -- what a take gives the seat
-abbrev pub Gives : {W : Type 0} → (W → AssignmentView) → ℕ → Given W → EnvView → EnvView → Type 0
-Gives work seat (given.Task taken) before after = HasTaken before after seat (work taken)
-Gives work seat (given.Item pass) before after = HasTakenItem before after seat pass
-Gives work seat given.Nothing before after = HasNothing before after seat
-Gives work seat given.Over before after = IsOver before after
+abbrev pub Gives : {W : Type 0} → (W → AssignmentView) → ℕ → Taken W → EnvView → EnvView → Type 0
+Gives work seat (taken.Task got) before after = HasTaken before after seat (work got)
+Gives work seat (taken.Item pass) before after = HasTakenItem before after seat pass
+Gives work seat taken.Nothing before after = HasNothing before after seat
+Gives work seat taken.Over before after = IsOver before after
 
 -- what a take from the main queues gives the driver
 abbrev pub GivesMain : {W : Type 0} → (W → AssignmentView) → ℕ → Option W → EnvView → EnvView → Type 0

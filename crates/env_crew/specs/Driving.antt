@@ -16,8 +16,8 @@ abbrev pub IsWanted : DeskView → Kind → Type 0
 IsWanted d kind = IsWantedNext (as_seen d) d.seat kind
 
 -- these actions are left to the driver, and the first of them has made these entries
-unfoldable pub IsAt : DeskView → List Action → List Entry → Type 0
-IsAt d actions made = agenda d.script (mine d) ≡ agenda_from actions made
+unfoldable pub AreLeft : DeskView → List Action → List Entry → Type 0
+AreLeft d actions made = agenda d.script (mine d) ≡ agenda_from actions made
 
 -- the ticks are the moments of as many first readings, where those are told
 abbrev pub HasMomentsOf : (ℕ → Option ℕ) → List Entry → Type 0
@@ -33,7 +33,7 @@ pub record KeepsTime (told now : ℕ → Option ℕ) (log : List Entry) : Type 0
 -- runs and holds nothing, and it keeps the clock's time
 pub record HasDone (action : Action) (old new : DeskView) (told_then told_now : ℕ → Option ℕ) : Type 0 where
   pub later : IsLater old new
-  pub next : (rest : List Action) → IsAt old (action ∷ rest) [] → IsAt new rest []
+  pub next : (rest : List Action) → AreLeft old (action ∷ rest) [] → AreLeft new rest []
   pub rests : is_free (mine new) 0 ≡ true
   pub time : (told : ℕ → Option ℕ) → KeepsTime told told_then (mine old) → KeepsTime told told_now (mine new)
 

@@ -16,19 +16,7 @@ use std::sync::Wait;
 use task_base::{
     FenceAt, JobId, JobReply, NotYet, Policy, Priority, QueueId, RunnerId, SeatNo, TaskId,
 };
-use task_body::{Act, JobPass};
-
-/// What a worker that asks for work is given at its desk (this project's own rule).
-pub enum Given<W> {
-    /// A task to run.
-    Task(W),
-    /// An item of a job to work on.
-    Item(JobPass),
-    /// There is nothing that this worker may take now.
-    Nothing,
-    /// There will be nothing any more.
-    Over,
-}
+use task_body::{Act, JobPass, Taken};
 
 /// One seat of an environment that many threads share (this project's own rule; a worker of Chromium's pool reaches the
 /// shared pool through the delegate of `base/task/thread_pool/worker_thread.h`).
@@ -111,13 +99,13 @@ pub trait Desk {
         ensures { Answers (desk self.old) (desk self.new) (HasEndedMain (desk self.old).seat (Self.Work.work work)) };
 
     /// A worker asks for work. Nothing may change to a task at any moment, Over never changes.
-    fn take<R: Wait>(&mut self, rt: &R) -> Given<Self::Work>
+    fn take<R: Wait>(&mut self, rt: &R) -> Taken<Self::Work>
         requires { IsFree (desk self.old) }
         ensures { Answers (desk self.old) (desk self.new) (Gives Self.Work.work (desk self.old).seat result) };
 
     /// As `take`, but where it answers Nothing the seat is noted as one that rests, in the same hold: whoever makes work that
     /// it may take wakes it, and it may `sleep` until then.
-    fn take_or_rest<R: Wait>(&mut self, rt: &R) -> Given<Self::Work>
+    fn take_or_rest<R: Wait>(&mut self, rt: &R) -> Taken<Self::Work>
         requires { IsFree (desk self.old) }
         ensures { Answers (desk self.old) (desk self.new) (Gives Self.Work.work (desk self.old).seat result) };
 

@@ -5,7 +5,7 @@ ghost use Rattle.task_model.specs.Seats.{is_free};
 ghost use Rattle.hist_model.specs.Script.{is_finished};
 ghost use Rattle.script_model.specs.Laws.Sound.{IsActionSound, IsSound};
 ghost use Rattle.env_crew.specs.Desk.{IsLater, mine};
-ghost use Rattle.env_crew.specs.Driving.{AllFree, HasDone, IsAt, KeepsTime, SameDesks};
+ghost use Rattle.env_crew.specs.Driving.{AllFree, HasDone, AreLeft, KeepsTime, SameDesks};
 
 use crate::desk::Desk;
 use crate::steps::do_steps;
@@ -17,7 +17,7 @@ use task_base::{Action, Rows, Script};
 /// Reads the clock so many times.
 fn tick<D: Desk, C: Clock, R: Wait>(rt: &R, desk: &mut D, clock: &mut C, count: u32)
     requires driver { (D.desk desk.old).seat ≡ 0 }
-    requires at { (rest : List Action) × IsAt (D.desk desk.old) (actions.Tick count ∷ rest) [] }
+    requires at { (rest : List Action) × AreLeft (D.desk desk.old) (actions.Tick count ∷ rest) [] }
     requires rests { is_free (mine (D.desk desk.old)) 0 ≡ true }
     ensures { HasDone (actions.Tick count) (D.desk desk.old) (D.desk desk.new) (C.readings clock.old) (C.readings clock.new) }
 {
@@ -30,7 +30,7 @@ fn tick<D: Desk, C: Clock, R: Wait>(rt: &R, desk: &mut D, clock: &mut C, count: 
 fn pump<D: Desk, R: Wait>(rt: &R, desk: &mut D, count: u32)
     requires driver { (D.desk desk.old).seat ≡ 0 }
     requires some { 1 ≤ count }
-    requires at { (rest : List Action) × IsAt (D.desk desk.old) (actions.Pump count ∷ rest) [] }
+    requires at { (rest : List Action) × AreLeft (D.desk desk.old) (actions.Pump count ∷ rest) [] }
     requires rests { is_free (mine (D.desk desk.old)) 0 ≡ true }
     ensures { (clock : ℕ → Option ℕ) → HasDone (actions.Pump count) (D.desk desk.old) (D.desk desk.new) clock clock }
 {
@@ -56,7 +56,7 @@ fn perform<D: Desk, C: Clock, G: Gate, R: Wait>(
 )
     requires driver { (D.desk desk.old).seat ≡ 0 }
     requires sound { IsActionSound (D.desk desk.old).script action }
-    requires at { (rest : List Action) × IsAt (D.desk desk.old) (action ∷ rest) [] }
+    requires at { (rest : List Action) × AreLeft (D.desk desk.old) (action ∷ rest) [] }
     requires rests { is_free (mine (D.desk desk.old)) 0 ≡ true }
     requires free { AllFree D.desk spare.old.items }
     ensures done { HasDone action (D.desk desk.old) (D.desk desk.new) (C.readings clock.old) (C.readings clock.new) }

@@ -12,6 +12,6 @@ mod waits;
 mod worker;
 
 pub use assigned::Assigned;
-pub use desk::{Desk, Given};
+pub use desk::Desk;
 pub use driver::drive;
 pub use worker::{Served, serve, work};

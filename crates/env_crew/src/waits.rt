@@ -4,7 +4,7 @@ ghost use Rattle.task_base.specs.declared.script.Action.{Action};
 ghost use Rattle.task_base.specs.declared.script.Action.TheVariants as actions;
 ghost use Rattle.task_model.specs.Seats.{is_free};
 ghost use Rattle.env_crew.specs.Desk.{IsLater, mine, with_own};
-ghost use Rattle.env_crew.specs.Driving.{AllFree, HasDone, IsAt, IsWanted, SameDesks};
+ghost use Rattle.env_crew.specs.Driving.{AllFree, HasDone, AreLeft, IsWanted, SameDesks};
 
 use crate::desk::Desk;
 use crate::items::do_items;
@@ -128,7 +128,7 @@ pub(crate) fn join<D: Desk, G: Gate, R: Wait>(
     gate: &G,
 )
     requires driver { (D.desk desk.old).seat ≡ 0 }
-    requires at { (rest : List Action) × IsAt (D.desk desk.old) (actions.Join job ∷ rest) [] }
+    requires at { (rest : List Action) × AreLeft (D.desk desk.old) (actions.Join job ∷ rest) [] }
     requires sound { job < length (D.desk desk.old).script.jobs }
     requires rests { is_free (mine (D.desk desk.old)) 0 ≡ true }
     requires free { AllFree D.desk spare.old.items }

@@ -5,11 +5,12 @@ ghost use Rattle.env_crew.specs.Desk.{Answers, IsLater};
 ghost use Rattle.env_crew.specs.Serving.{HasServed, IsFree};
 
 use crate::assigned::Assigned;
-use crate::desk::{Desk, Given};
+use crate::desk::Desk;
 use crate::items::do_items;
 use crate::steps::do_steps;
 use env_io::Gate;
 use std::sync::Wait;
+use task_body::Taken;
 
 /// What a worker did when it was served once.
 #[derive(Clone, Copy, Debug, PartialEq, Eq)]
@@ -43,20 +44,20 @@ fn serve_or<D: Desk, G: Gate, R: Wait>(rt: &R, desk: &mut D, gate: &G, may_rest:
     ensures served { HasServed (D.desk desk.old) (D.desk desk.new) result }
 {
     match ask(rt, desk, may_rest) {
-        Given::Task(work) => {
+        Taken::Task(work) => {
             gate.before(desk.number(), work.task());
             let work = do_steps(rt, desk, work);
             desk.end(rt, work);
         }
-        Given::Item(pass) => do_items(rt, desk, pass),
-        Given::Nothing => return Served::Nothing,
-        Given::Over => return Served::Over,
+        Taken::Item(pass) => do_items(rt, desk, pass),
+        Taken::Nothing => return Served::Nothing,
+        Taken::Over => return Served::Over,
     }
     Served::Worked
 }
 
 // Asks for work.
-fn ask<D: Desk, R: Wait>(rt: &R, desk: &mut D, may_rest: bool) -> Given<D::Work>
+fn ask<D: Desk, R: Wait>(rt: &R, desk: &mut D, may_rest: bool) -> Taken<D::Work>
     requires { IsFree (D.desk desk.old) }
     ensures { Answers (D.desk desk.old) (D.desk desk.new) (Gives D.Work.work (D.desk desk.old).seat result) }
 {

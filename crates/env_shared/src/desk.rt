@@ -11,7 +11,7 @@ ghost use Rattle.env_shared.specs.Sits.{Seated, desk_of};
 
 use crate::hold::Hold;
 use crate::shared::{EnvSeat, Shared};
-use env_crew::{Desk, Given};
+use env_crew::Desk;
 use env_roster::Rest;
 use shutdown_phase::StillBlocked;
 use std::marker::Model;
@@ -89,7 +89,7 @@ impl<'a, B: TaskBody> SharedDesk<'a, B> {
     }
 
     // Asks for work. Where there is nothing, the seat rests if it may.
-    fn ask<R: Wait>(&mut self, rt: &R, may_rest: bool) -> Given<Assignment<B>>
+    fn ask<R: Wait>(&mut self, rt: &R, may_rest: bool) -> Taken<Assignment<B>>
         requires { IsFree (desk_of self.old) }
         ensures { Answers (desk_of self.old) (desk_of self.new) (Gives (λ work. work) self.old.number result) }
     {
@@ -98,25 +98,25 @@ impl<'a, B: TaskBody> SharedDesk<'a, B> {
         match env.take(hold.number()) {
             Taken::Task(work) => {
                 self.seat = Some(hold.enter(env));
-                Given::Task(work)
+                Taken::Task(work)
             }
             Taken::Item(pass) => {
                 self.seat = Some(hold.enter(env));
-                Given::Item(pass)
+                Taken::Item(pass)
             }
             Taken::Nothing if may_rest => {
                 let (seat, rest) = hold.rest(env);
                 self.seat = Some(seat);
                 self.rest = Some(rest);
-                Given::Nothing
+                Taken::Nothing
             }
             Taken::Nothing => {
                 self.seat = Some(hold.back(env));
-                Given::Nothing
+                Taken::Nothing
             }
             Taken::Over => {
                 self.seat = Some(hold.back(env));
-                Given::Over
+                Taken::Over
             }
         }
     }
@@ -231,11 +231,11 @@ impl<'a, B: TaskBody> Desk for SharedDesk<'a, B> {
         drop(body);
     }
 
-    fn take<R: Wait>(&mut self, rt: &R) -> Given<Assignment<B>> {
+    fn take<R: Wait>(&mut self, rt: &R) -> Taken<Assignment<B>> {
         self.ask(rt, false)
     }
 
-    fn take_or_rest<R: Wait>(&mut self, rt: &R) -> Given<Assignment<B>> {
+    fn take_or_rest<R: Wait>(&mut self, rt: &R) -> Taken<Assignment<B>> {
         self.ask(rt, true)
     }
 

@@ -1,7 +1,7 @@
 -- The front and the first of the deferred tasks: they were posted, and have not started.
 -- Cited by `Deferrals`, `Left`, `LegalNests`, `Made`.
 use Rattle.sequence_manager.proofs.Lists.{any_contains}
-use Rattle.std.proofs.Common.{◌≡◌, ℕ, zero, suc, length, Bool, true, false, eqb, List, [], ◌∷◌, ◌++◌, refl, sym, ap, ◌∙◌, subst, Option, Some, None, arith}
+use Rattle.std.proofs.Common.{◌≡◌, ℕ, length, Bool, true, false, eqb, List, [], ◌∷◌, ◌++◌, refl, sym, ap, ◌∙◌, subst, Option, Some, None, arith}
 use Rattle.std.specs.Prelude.{◌&&◌, ◌||◌, not, nat_lt, slice_get, Contains}
 use Rattle.std.specs.List.{filter_map, list_any}
 use Rattle.std.specs.Option.{option_map}
@@ -9,15 +9,13 @@ use Rattle.std.proofs.lemmas.Bool.{and_parts, true≢false, eq-eqb, eqb-true}
 use Rattle.std.proofs.Math.Bool.{not-not, or-false}
 use Rattle.std.proofs.lemmas.Option.{none-some, same_Some}
 use Rattle.std.proofs.lemmas.List.Folds.{list_any-append}
-use Rattle.list_laws.specs.Lists.{count, least, Ranks}
-use Rattle.list_laws.proofs.Counts.{any_from_count}
-use Rattle.list_laws.proofs.Finds.{contained_counts}
+use Rattle.list_laws.specs.Lists.{least, Ranks}
 use Rattle.list_laws.proofs.Values.{some-injective}
 use Rattle.list_laws.proofs.Least.{least_is_least}
 use Rattle.list_laws.proofs.Made.{filter_contains, filter_map_contains}
 use Rattle.list_laws.proofs.Ranks.{ranks_by, ranks_then_by}
 use Rattle.nested_loop.specs.Plan.{NestPlan}
-use Rattle.nested_loop.specs.Nest.{IsNestPast, Nesting, NestPosted, class_of_post, deferred_by, deferred_tasks, front_task, goes_before}
+use Rattle.nested_loop.specs.Nest.{IsNestPast, Nesting, NestPosted, class_of_post, deferred_by, deferred_tasks, front_task, runs_before}
 use Rattle.nested_loop.specs.Nest.{is_started, posted_tasks, waiting_tasks, was_deferred, defers, posted_by, next_event, nesting_of}
 use Rattle.nested_loop.specs.NestLaws.{was_posted}
 use Rattle.nested_loop.proofs.Comes.{Comes, IsChosen, resumed, waited, nested, defer, comes, past_induction}
@@ -25,7 +23,7 @@ use Rattle.nested_loop.proofs.Growth.{posted_tasks_push, was_deferred_push}
 use Rattle.nested_loop.specs.declared.event.Event.{Event}
 use Rattle.nested_loop.specs.declared.event.Event.TheVariants as events
 
-pub ranks_goes_before : (nest : NestPlan) → Ranks (goes_before nest)
+pub ranks_goes_before : (nest : NestPlan) → Ranks (runs_before nest)
 ranks_goes_before nest = ranks_then_by (class_of_post nest) (λ p q. nat_lt p.place q.place) (ranks_by (λ p. p.place))
 
 -- the task was posted, and neither deferred nor started
@@ -55,12 +53,12 @@ waits past p among =
 -- the front waits
 pub front_waits : (nest : NestPlan) (past : List Event) (t : ℕ) → front_task nest past ≡ Some t → Waits past t
 unfolding front_task
-front_waits nest past t h = by_least (least (goes_before nest) (waiting_tasks past)) refl h
+front_waits nest past t h = by_least (least (runs_before nest) (waiting_tasks past)) refl h
   where
-    by_least : (o : Option NestPosted) → least (goes_before nest) (waiting_tasks past) ≡ o → option_map (λ p. p.task) o ≡ Some t → Waits past t
+    by_least : (o : Option NestPosted) → least (runs_before nest) (waiting_tasks past) ≡ o → option_map (λ p. p.task) o ≡ Some t → Waits past t
     by_least None is k = absurd (none-some t k)
     by_least (Some p) is k = subst (Waits past) (some-injective k)
-        (waits past p (least_is_least (goes_before nest) (ranks_goes_before nest) (waiting_tasks past) p is).member)
+        (waits past p (least_is_least (runs_before nest) (ranks_goes_before nest) (waiting_tasks past) p is).member)
 
 first_contained : {A : Type 0} (xs : List A) (x : A) → slice_get xs 0 ≡ Some x → Contains xs x
 first_contained [] x h = absurd (none-some x h)

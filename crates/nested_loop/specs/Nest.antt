@@ -89,12 +89,12 @@ abbrev pub class_of_post : NestPlan → NestPosted → ℕ
 class_of_post nest p = option_map_or (λ class. class) (slice_get nest.classes p.queue) 0
 
 -- the first goes before the second: by the class of its queue, then by its order
-abbrev pub goes_before : NestPlan → NestPosted → NestPosted → Bool
-goes_before nest = then_by (class_of_post nest) (λ p q. nat_lt p.place q.place)
+abbrev pub runs_before : NestPlan → NestPosted → NestPosted → Bool
+runs_before nest = then_by (class_of_post nest) (λ p q. nat_lt p.place q.place)
 
 -- the front: the waiting task of the least class of its queue, then of the least order
 unfoldable pub front_task : NestPlan → List Event → Option ℕ
-front_task nest past = option_map (λ p. p.task) (least (goes_before nest) (waiting_tasks past))
+front_task nest past = option_map (λ p. p.task) (least (runs_before nest) (waiting_tasks past))
 
 -- ---- what is open
 

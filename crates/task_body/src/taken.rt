@@ -1,11 +1,9 @@
-use crate::assignment::Assignment;
-use crate::body::TaskBody;
 use crate::pass::JobPass;
 
-/// What a worker that asks for work gets (this project's own rule).
-pub enum Taken<B: TaskBody> {
+/// What a worker that asks for work gets (this project's own rule). `W` is what it is given of a task.
+pub enum Taken<W> {
     /// A task to run.
-    Task(Assignment<B>),
+    Task(W),
     /// An item of a job to work on.
     Item(JobPass),
     /// There is nothing that this worker may take now.

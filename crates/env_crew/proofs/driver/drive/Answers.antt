@@ -3,7 +3,7 @@ use Rattle.std.proofs.lemmas.List.{drop_all}
 use Rattle.std.proofs.lemmas.List.Elements.{All-from_recursion, All-get_or}
 use Rattle.task_base.specs.declared.script.Action.TheVariants as actions
 use Rattle.script_model.specs.Laws.Sound.{IsActionSound}
-use Rattle.env_crew.specs.Driving.{IsAt}
+use Rattle.env_crew.specs.Driving.{AreLeft}
 use Rattle.env_crew.proofs.Holds.{later_refl, later_trans}
 use Rattle.env_crew.proofs.Spares.{desks_refl, desks_trans}
 use Rattle.env_crew.proofs.Moves.{at_start, at_action, finished_at, nothing_rests}
@@ -54,5 +54,5 @@ pub returns-clause-finished : goal.returns-clause-finished
 returns-clause-finished g c =
     let was = c.loop-action.invariant in
     finished_at (g.D.Desk.desk c.loop-action.desk) (was.0.seat_is ∙ c.requires.driver)
-    (subst (λ left. IsAt (g.D.Desk.desk c.loop-action.desk) left [])
+    (subst (λ left. AreLeft (g.D.Desk.desk c.loop-action.desk) left [])
     (drop_all c.loop-action.action-index c.as_slice-action-items.result.now c.loop-action-test.false) was.1)

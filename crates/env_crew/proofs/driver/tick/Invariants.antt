@@ -4,7 +4,7 @@ use Rattle.task_base.specs.declared.script.Action.{Action}
 use Rattle.task_base.specs.declared.script.Action.TheVariants as actions
 use Rattle.task_model.specs.Seats.{is_free}
 use Rattle.env_crew.specs.Desk.{DeskView, IsLater, mine}
-use Rattle.env_crew.specs.Driving.{IsAt, KeepsTime}
+use Rattle.env_crew.specs.Driving.{AreLeft, KeepsTime}
 use Rattle.env_crew.proofs.driver.tick.Given as goal
 
 -- the driver has made these ticks, as many as were counted
@@ -12,7 +12,7 @@ pub record Ticking (start now : DeskView) (count counter : ℕ) (told_then told_
   pub later : IsLater start now
   pub made : List Entry
   pub counted : length made ≡ counter
-  pub at : (rest : List Action) → IsAt start (actions.Tick count ∷ rest) [] → IsAt now (actions.Tick count ∷ rest) made
+  pub at : (rest : List Action) → AreLeft start (actions.Tick count ∷ rest) [] → AreLeft now (actions.Tick count ∷ rest) made
   pub rests : is_free (mine now) 0 ≡ true
   pub time : (told : ℕ → Option ℕ) → KeepsTime told told_then (mine start) → KeepsTime told told_now (mine now)
 
