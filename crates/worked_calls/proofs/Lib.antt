@@ -1,5 +1,3 @@
-pub mod Small
-pub mod Plans
 pub mod Known
 pub mod Seated
 pub mod Turns

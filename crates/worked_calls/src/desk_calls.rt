@@ -9,7 +9,7 @@ ghost use Rattle.env_shared.specs.Sits.{desk_of};
 ghost use Rattle.worked_calls.specs.Known.{IsBack, IsLast, IsOf, IsWork, driver_seat, worker_seat};
 
 use crate::bodies::{CountedBody, bodies_of};
-use env_crew::{Desk, Given, Served, serve};
+use env_crew::{Desk, Served, serve};
 use env_io::OpenGate;
 use env_shared::{EnvSeat, Shared, SharedDesk};
 use std::alloc::{AllocError, Global};
@@ -17,7 +17,7 @@ use std::process::Abort;
 use std::sync::atomic::AtomicU64;
 use std::sync::{Arc, Wait};
 use task_base::{Behaviour, Entry, Rows, Scope, Script, TaskId};
-use task_body::{Act, Assignment};
+use task_body::{Act, Assignment, Taken};
 
 /// The shared environment of a script, with the driver's seat.
 fn open(
@@ -124,13 +124,13 @@ pub fn take<R: Wait + Abort>(
     ensures work { IsWork desk.old.of.basis task result }
 {
     match desk.take(rt) {
-        Given::Task(work) => {
+        Taken::Task(work) => {
             assert!(rt; work.task() == task);
             assert!(rt; work.home() == 0);
             assert!(rt; work.found() == 0);
             work
         }
-        Given::Item(_) | Given::Nothing | Given::Over => panic!(rt; "the worker gets no task"),
+        Taken::Item(_) | Taken::Nothing | Taken::Over => panic!(rt; "the worker gets no task"),
     }
 }
 

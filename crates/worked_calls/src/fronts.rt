@@ -21,10 +21,7 @@ type EnvTurnstile = Turnstile<Env<CountedBody>>;
 type EnvSeat = Seat<Env<CountedBody>>;
 
 /// A turnstile over the environment of a script that shuts down, and the seats of the driver and of its worker.
-fn turnstile_of(
-    rt: &impl Abort,
-    alloc: Global,
-) -> Result<(EnvTurnstile, EnvSeat, EnvSeat), AllocError>
+fn turnstile_of(rt: &impl Abort, alloc: Global) -> Result<(EnvTurnstile, EnvSeat, EnvSeat), Fail>
     ensures script { IfOk result (λ made. made.0.basis ≡ closing_plan) }
     ensures first { IfOk result (λ made. made.1 ≡ driver_seat made.0 2) }
     ensures worker { IfOk result (λ made. made.2 ≡ worker_seat made.0 1) }

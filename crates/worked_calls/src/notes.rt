@@ -1,14 +1,13 @@
 //! What a fault prints.
+use crate::texts::assert_text;
 use std::alloc::{AllocError, Global};
-use std::process::Abort;
 use std::test::Fail;
 use task_base::Fault;
 
 /// A fault prints this note.
-fn assert_note(rt: &impl Abort, alloc: Global, fault: &Fault, note: &str) -> Result<(), Fail> {
+fn assert_note(alloc: Global, fault: &Fault, note: &str) -> Result<(), Fail> {
     let shown = format!(in alloc; "{fault}")?;
-    assert_eq!(rt; shown.as_str(), note);
-    Ok(())
+    assert_text(shown.as_bytes(), note)
 }
 
 #[test]
@@ -25,7 +24,7 @@ fn a_fault_prints_its_note(rt: HostRuntime) -> Result<(), Fail> {
         (Fault::NoMemory(AllocError), "no memory"),
         (Fault::TooLarge, "too large"),
     ] {
-        assert_note(&rt, rt.alloc(), &fault, note)?;
+        assert_note(rt.alloc(), &fault, note)?;
     }
     Ok(())
 }

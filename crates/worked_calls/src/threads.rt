@@ -5,7 +5,7 @@ ghost use Rattle.worked_calls.specs.Known.{CanAsk};
 use crate::bodies::CountedBody;
 use crate::desk_calls::{log_of_three, open_three};
 use crate::scripts::{quiet, will};
-use env_crew::{Desk, Given, serve};
+use env_crew::{Desk, serve};
 use env_io::Gate;
 use env_shared::{EnvSeat, Shared};
 use std::process::Abort;
@@ -15,6 +15,7 @@ use std::sync::atomic::{AtomicBool, AtomicU32, Ordering};
 use std::test::Fail;
 use std::thread::{Promise, PromisedHandle, Scope, Threads};
 use std::{hint, thread};
+use task_body::Taken;
 
 /// A gate that holds its worker up until it is let go, or until it has looked for that often enough.
 #[derive(Drop)]
@@ -81,11 +82,11 @@ fn attend<R: Wait + Abort>(
     let mut worker = shared.desk(seat);
     for _round in 0..takes {
         match worker.take(rt) {
-            Given::Nothing => {
+            Taken::Nothing => {
                 gate.nothing.fetch_add(1, Ordering::SeqCst);
             }
-            Given::Item(_) | Given::Over => panic!(rt; "an item, or it is over"),
-            Given::Task(_work) => panic!(rt; "a task that nobody posted"),
+            Taken::Item(_) | Taken::Over => panic!(rt; "an item, or it is over"),
+            Taken::Task(_work) => panic!(rt; "a task that nobody posted"),
         }
     }
     serve(rt, &mut worker, gate);

@@ -4,21 +4,17 @@ use Rattle.task_base.specs.declared.entry.Kind.TheVariants as kinds
 use Rattle.task_model.specs.Seats.{holding, running}
 use Rattle.hist_model.specs.Script.{current, is_wanted}
 use Rattle.worked_calls.proofs.Seated.{at_entered, at_first, driver_first, free, wanted}
-use Rattle.worked_calls.proofs.Plans.{first_sound}
 use Rattle.worked_calls.specs.Plans.{first_plan}
 use Rattle.worked_calls.proofs.desks.serve_answers_as_its_take.Goals as goal
 
-pub open_two-requires-clause-sound : goal.open_two-requires-clause-sound
-open_two-requires-clause-sound g c = rw c.in_ok-script.ensures first_sound
-
 pub open_two-requires-clause-one : goal.open_two-requires-clause-one
-open_two-requires-clause-one g c = rw c.in_ok-script.ensures refl
+open_two-requires-clause-one g c = rw c.in_ok-script.ensures.plan refl
 
 pub assert_served-requires : goal.assert_served-requires
 unfolding holding running
 assert_served-requires g c =
     let key = c.in_ok-shared.shared in
-    let script = c.in_ok-shared.ensures.script ∙ c.in_ok-script.ensures in
+    let script = c.in_ok-shared.ensures.script ∙ c.in_ok-script.ensures.plan in
     let one = at_first key first_plan 1 c.desk-worker.result (c.desk-worker.ensures.seat ∙ c.in_ok-shared.ensures.second) script in
     free one (leb-true _ _ refl) (leb-true _ _ refl) refl
 
@@ -26,7 +22,7 @@ pub post-requires : goal.post-requires
 unfolding is_wanted current
 post-requires g c ok =
     let key = c.in_ok-shared.shared in
-    let script = c.in_ok-shared.ensures.script ∙ c.in_ok-script.ensures in
+    let script = c.in_ok-shared.ensures.script ∙ c.in_ok-script.ensures.plan in
     let start = driver_first key first_plan 2 c.desk-driver.result (c.desk-driver.ensures.seat ∙ c.in_ok-shared.ensures.first) script in
     wanted start (kinds.Post 0 0 0 ok) refl
 
@@ -34,7 +30,7 @@ pub try_idle-requires : goal.try_idle-requires
 unfolding is_wanted current
 try_idle-requires g c =
     let key = c.in_ok-shared.shared in
-    let script = c.in_ok-shared.ensures.script ∙ c.in_ok-script.ensures in
+    let script = c.in_ok-shared.ensures.script ∙ c.in_ok-script.ensures.plan in
     let start = driver_first key first_plan 2 c.desk-driver.result (c.desk-driver.ensures.seat ∙ c.in_ok-shared.ensures.first) script in
     let posted = at_entered start (kinds.Post 0 0 0 c.post.result) c.post.ensures.holds c.post.ensures.answered.enters in
     wanted posted kinds.Idle refl

@@ -1,22 +1,18 @@
 use Rattle.std.proofs.Common.{refl, arith}
 use Rattle.task_model.specs.Seats.{holding, running}
 use Rattle.hist_model.specs.Script.{current, is_wanted}
-use Rattle.worked_calls.proofs.Plans.{cancel_sound}
 use Rattle.worked_calls.proofs.one_env.cancel_with_worker_inside.Goals as goal
-
-pub open-requires : goal.open-requires
-open-requires g c = rw c.in_ok-script.ensures cancel_sound
 
 pub start_job-requires : goal.start_job-requires
 unfolding is_wanted current
-start_job-requires g c ok = simp (c.in_ok-env.ensures, c.in_ok-script.ensures) (record { driver = refl; wanted = refl })
+start_job-requires g c ok = simp (c.in_ok-env.ensures, c.in_ok-script.ensures.plan) (record { driver = refl; wanted = refl })
 
 pub take_item-pass-requires : goal.take_item-pass-requires
 unfolding holding running
 take_item-pass-requires g c = simp (
   c.start_job.ensures,
   c.in_ok-env.ensures,
-  c.in_ok-script.ensures,
+  c.in_ok-script.ensures.plan,
 ) (record { worker = omega arith; known = omega arith; free = refl })
 
 pub job_cancel-requires : goal.job_cancel-requires
@@ -25,7 +21,7 @@ job_cancel-requires g c = simp (
   c.take_item-pass.ensures.entered,
   c.start_job.ensures,
   c.in_ok-env.ensures,
-  c.in_ok-script.ensures,
+  c.in_ok-script.ensures.plan,
 ) (record { driver = refl; wanted = refl })
 
 pub not_cancelled-requires : goal.not_cancelled-requires
@@ -35,7 +31,7 @@ not_cancelled-requires g c = simp (
   c.take_item-pass.ensures.entered,
   c.start_job.ensures,
   c.in_ok-env.ensures,
-  c.in_ok-script.ensures,
+  c.in_ok-script.ensures.plan,
 ) (record { driver = refl; wanted = refl })
 
 pub leave-requires : goal.leave-requires
@@ -47,7 +43,7 @@ leave-requires g c = simp (
   c.take_item-pass.ensures.pass,
   c.start_job.ensures,
   c.in_ok-env.ensures,
-  c.in_ok-script.ensures,
+  c.in_ok-script.ensures.plan,
 ) (record { held = record { known = omega arith; holds = refl }; value_is = refl })
 
 pub try_cancelled-requires : goal.try_cancelled-requires
@@ -59,5 +55,5 @@ try_cancelled-requires g c = simp (
   c.take_item-pass.ensures.entered,
   c.start_job.ensures,
   c.in_ok-env.ensures,
-  c.in_ok-script.ensures,
+  c.in_ok-script.ensures.plan,
 ) (record { driver = refl; wanted = refl })

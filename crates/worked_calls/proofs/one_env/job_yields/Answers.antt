@@ -1,10 +1,6 @@
 use Rattle.std.proofs.Common.{refl}
 use Rattle.hist_model.specs.Script.{current, is_wanted}
-use Rattle.worked_calls.proofs.Plans.{yield_sound}
 use Rattle.worked_calls.proofs.one_env.job_yields.Goals as goal
-
-pub open-requires : goal.open-requires
-open-requires g c = rw c.in_ok-script.ensures yield_sound
 
 pub try_idle-requires : goal.try_idle-requires
 unfolding is_wanted current

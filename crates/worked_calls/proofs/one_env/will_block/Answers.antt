@@ -1,12 +1,8 @@
 use Rattle.std.proofs.Common.{refl, arith}
 use Rattle.task_base.specs.declared.step.Scope.TheVariants as scopes
 use Rattle.task_model.specs.Seats.{holding, running}
-use Rattle.worked_calls.proofs.Plans.{will_sound}
 use Rattle.worked_calls.proofs.Scopes.{comes_idle}
 use Rattle.worked_calls.proofs.one_env.will_block.Goals as goal
-
-pub open-requires : goal.open-requires
-open-requires g c = rw c.in_ok-script.ensures will_sound
 
 pub take_nothing-requires : goal.take_nothing-requires
 unfolding holding running

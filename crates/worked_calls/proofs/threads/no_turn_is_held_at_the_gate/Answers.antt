@@ -3,34 +3,30 @@ use Rattle.std.proofs.lemmas.Bool.{leb-true}
 use Rattle.task_base.specs.declared.entry.Kind.TheVariants as kinds
 use Rattle.hist_model.specs.Script.{current, is_wanted}
 use Rattle.worked_calls.proofs.Seated.{can_ask, driver_first, wanted}
-use Rattle.worked_calls.proofs.Plans.{will_sound}
 use Rattle.worked_calls.specs.Plans.{will_plan}
 use Rattle.turn_table.specs.Seats.{SeatView}
 use Rattle.worked_calls.proofs.threads.no_turn_is_held_at_the_gate.Goals as goal
 
-pub open_three-requires-clause-sound : goal.open_three-requires-clause-sound
-open_three-requires-clause-sound g c = rw c.in_ok-script.ensures will_sound
-
 pub open_three-requires-clause-two : goal.open_three-requires-clause-two
-open_three-requires-clause-two g c = rw c.in_ok-script.ensures refl
+open_three-requires-clause-two g c = rw c.in_ok-script.ensures.plan refl
 
 pub scoped-one-requires-clause-one : goal.scoped-one-requires-clause-one
 scoped-one-requires-clause-one g c κs =
     let key = c.in_ok-shared.shared in
     can_ask key will_plan 1 c.in_ok-shared.one c.in_ok-shared.ensures.one
-    (c.in_ok-shared.ensures.script ∙ c.in_ok-script.ensures) (leb-true _ _ refl) (leb-true _ _ refl)
+    (c.in_ok-shared.ensures.script ∙ c.in_ok-script.ensures.plan) (leb-true _ _ refl) (leb-true _ _ refl)
 
 pub scoped-one-requires-clause-two : goal.scoped-one-requires-clause-two
 scoped-one-requires-clause-two g c κs =
     let key = c.in_ok-shared.shared in
     can_ask key will_plan 2 c.in_ok-shared.two c.in_ok-shared.ensures.two
-    (c.in_ok-shared.ensures.script ∙ c.in_ok-script.ensures) (leb-true _ _ refl) (leb-true _ _ refl)
+    (c.in_ok-shared.ensures.script ∙ c.in_ok-script.ensures.plan) (leb-true _ _ refl) (leb-true _ _ refl)
 
 pub post-requires : goal.post-requires
 unfolding is_wanted current
 post-requires g c ok =
     let key = c.in_ok-shared.shared in
-    let script = c.in_ok-shared.ensures.script ∙ c.in_ok-script.ensures in
+    let script = c.in_ok-shared.ensures.script ∙ c.in_ok-script.ensures.plan in
     let start = driver_first key will_plan 3 c.desk-driver.result (c.desk-driver.ensures.seat ∙ c.in_ok-shared.ensures.first) script in
     wanted start (kinds.Post 0 0 0 ok) refl
 

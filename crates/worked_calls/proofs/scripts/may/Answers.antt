@@ -1,0 +1,8 @@
+use Rattle.std.proofs.Common.{refl}
+use Rattle.script_model.proofs.Worked.Tables.{opened}
+use Rattle.worked_calls.specs.Plans.{may_plan}
+use Rattle.worked_calls.proofs.scripts.may.Goals as goal
+
+pub returns-clause-plan : goal.returns-clause-plan
+unfolding opened
+returns-clause-plan c = c.script_of.ensures.plan may_plan refl
