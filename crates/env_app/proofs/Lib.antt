@@ -1,5 +1,3 @@
-pub mod Verdicts
-pub mod Explained
-pub mod Outcomes
+pub mod Failures
+pub mod LegalLogs
 pub mod Causes
-pub mod Clocks

@@ -1,5 +1,1 @@
-pub mod Failures
-pub mod Judged
-pub mod Explained
-pub mod Totals
-pub mod Outcome
+pub mod Statuses

@@ -5,20 +5,9 @@
 //! has left, the bytes that the sink and the notes hold, and the count of failures of each.
 #![tactic(auto)]
 
-mod bench;
-mod bodies;
-mod check;
-mod explain;
-mod failure;
-mod generate;
-mod judged;
-mod nests;
 mod notes;
-mod replies;
 mod run;
-mod runs;
-mod trace;
 
-pub use failure::Failure;
+pub use app_modes::Failure;
 pub use notes::tell;
 pub use run::run_words;

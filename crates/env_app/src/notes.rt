@@ -1,9 +1,9 @@
 ghost use Rattle.std.specs.Prelude.{◌≡◌, ◌⊎◌, true};
 ghost use Rattle.env_io.specs.Bytes.{Gains, Rose};
-ghost use Rattle.env_app.specs.Failures.{is_verdict, note_line};
+ghost use Rattle.app_modes.specs.Failures.{is_verdict, note_line};
 ghost use Rattle.app_streams.specs.Written.{WroteFront};
 
-use crate::failure::Failure;
+use app_modes::Failure;
 use env_io::{Sink, put_all};
 
 /// Puts the note of a failure and a line feed, as far as the notes take them; of a log that `check` finds not legal nothing.

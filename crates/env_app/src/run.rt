@@ -1,4 +1,4 @@
-ghost use Rattle.std.specs.Prelude.{◌≡◌, ◌≢◌, ◌⊎◌, ℕ, List, Option, Bool, false, map, string_bytes, alloc_error, Some, None, Err, IfErr};
+ghost use Rattle.std.specs.Prelude.{◌≡◌, ◌≢◌, ◌⊎◌, ℕ, List, Option, Bool, map, string_bytes, Some, Err};
 ghost use Rattle.task_base.specs.Plan.{Plan};
 ghost use Rattle.task_base.specs.declared.entry.Entry.{Entry};
 ghost use Rattle.script_model.specs.Canonical.{canonical};
@@ -6,146 +6,24 @@ ghost use Rattle.task_script.specs.Generated.{generated};
 ghost use Rattle.run_summary.specs.Summary.{generated_totals};
 ghost use Rattle.env_io.specs.Bytes.{Gains, Rose};
 ghost use Rattle.command_line.specs.declared.words.Command.TheVariants.{Run, Check, Explain, Reply, Trace, Nest, Generate, Bench};
-ghost use Rattle.command_line.specs.CommandLine.{IsJudge, IsSized, ReadsClock, TakesInput, WritesJson, command_of, takes_prefix};
-ghost use Rattle.env_app.specs.Failures.{failure_status, is_verdict, note_line};
-ghost use Rattle.env_app.specs.Judged.{HasChecked, HasLegalLog, HasTraced, IsLegalLog};
-ghost use Rattle.env_app.specs.Explained.{HasExplained};
-ghost use Rattle.env_app.specs.Totals.{summary_text};
+ghost use Rattle.command_line.specs.CommandLine.{IsJudge, ReadsClock, TakesInput, WritesJson, command_of, takes_prefix};
+ghost use Rattle.app_modes.specs.declared.failure.Failure.{Failure};
+ghost use Rattle.app_modes.specs.Failures.{note_line};
+ghost use Rattle.app_modes.specs.Judged.{HasChecked, HasLegalLog, HasTraced, IsLegalLog};
+ghost use Rattle.app_modes.specs.Explained.{HasExplained};
+ghost use Rattle.app_modes.specs.Totals.{summary_text};
 ghost use Rattle.app_streams.specs.Ends.{ends};
-ghost use Rattle.app_streams.specs.Taken.{OfTaken, TookMore, TookWithin};
+ghost use Rattle.app_streams.specs.Taken.{OfTaken};
 ghost use Rattle.app_streams.specs.Written.{WroteAll, WroteFront};
-ghost use Rattle.env_app.specs.Outcome.{HasNested, HasReplied, HasRun, in_common, IsEnd, IsVerdictOf, IsWritten, EndsIn, HasCause, readings_of};
+ghost use Rattle.app_modes.specs.Outcome.{HasNested, HasReplied, HasRun, readings_of};
+ghost use Rattle.env_app.specs.Statuses.{IsEnd, IsVerdictOf, HasCause};
 
-use crate::bench::run_generated;
-use crate::check::judge;
-use crate::explain::explain;
-use crate::failure::Failure;
-use crate::generate::write_generated;
-use crate::nests::run_nest_script;
 use crate::notes::tell;
-use crate::replies::run_replies;
-use crate::runs::run_script;
-use crate::trace::trace;
-use command_line::{Command, command_of};
+use app_modes::execute;
 use env_io::{Clock, Gate, Sink, Source};
 use std::alloc::Global;
 use std::sync::Wait;
 use std::thread::Threads;
-use task_base::Fault;
-
-/// The same end of a command, where any fault may be one.
-fn common(end: Result<(), Fault>) -> Result<(), Failure>
-    ensures { result ≡ in_common end }
-{
-    match end {
-        Ok(()) => Ok(()),
-        Err(fault) => Err(Failure::Common(fault)),
-    }
-}
-
-/// Does what a command asks for.
-fn execute<R: Threads + Wait + Sync, S: Source, K: Sink, C: Clock, G: Gate>(
-    rt: &R,
-    alloc: Global,
-    command: Command,
-    source: &mut S,
-    sink: &mut K,
-    clock: &mut C,
-    gate: &G,
-) -> Result<(), Failure>
-    requires { IsSized command }
-    ensures outcome { EndsIn (Some command) (C.readings clock.old)
-        (ends (S.left source.old) (S.left source.new) (S.faults source.old) (S.faults source.new))
-        (ends (K.holds sink.old) (K.holds sink.new) (K.faults sink.old) (K.faults sink.new)) result }
-    ensures sink_kept { IfErr result (λ failure. is_verdict failure ≡ false → failure_status failure ≢ 5 → sink.new ≡ sink.old) }
-    ensures took_more { result ≡ Err (Failure.Common Fault.TooLarge) → TookMore (ends (S.left source.old) (S.left source.new) (S.faults source.old) (S.faults source.new)) }
-    ensures took_within { result ≢ Err (Failure.Common Fault.TooLarge) → TookWithin (ends (S.left source.old) (S.left source.new) (S.faults source.old) (S.faults source.new)) }
-    ensures source_kept { ¬ TakesInput (Some command) → source.new ≡ source.old }
-    ensures source_steady { result ≢ Err (Failure.Common Fault.ReadFault) → S.faults source.new ≡ S.faults source.old }
-    ensures sink_steady { result ≢ Err (Failure.Common Fault.WriteFault) → K.faults sink.new ≡ K.faults sink.old }
-    ensures clock_unread { ¬ ReadsClock (Some command) → clock.new ≡ clock.old }
-    ensures clock_kept { IfErr result (λ failure. failure_status failure ≢ 5 → (failure_status failure ≡ 6 → ¬ WritesJson (Some command)) → clock.new ≡ clock.old) }
-{
-    match command {
-        Command::Run { step, json } => common(run_script(
-            rt, alloc, step, json, source, sink, clock, gate,
-        )),
-        Command::Check { prefix } => common(judge(alloc, prefix, source, sink)),
-        Command::Explain { json } => common(explain(alloc, json, source, sink)),
-        Command::Reply => run_replies(rt, alloc, source, sink, clock, gate),
-        Command::Trace => trace(alloc, source, sink),
-        Command::Nest => run_nest_script(alloc, source, sink),
-        Command::Generate { number, size } => common(write_generated(alloc, number, size, sink)),
-        Command::Bench { number, size } => {
-            common(run_generated(rt, alloc, number, size, sink, gate))
-        }
-    }
-}
-
-/// Does what the words ask for.
-fn run<R: Threads + Wait + Sync, S: Source, K: Sink, C: Clock, G: Gate>(
-    rt: &R,
-    alloc: Global,
-    words: &[String],
-    source: &mut S,
-    sink: &mut K,
-    clock: &mut C,
-    gate: &G,
-) -> Result<(), Failure>
-    ensures outcome { EndsIn (command_of (map string_bytes words.now)) (C.readings clock.old)
-        (ends (S.left source.old) (S.left source.new) (S.faults source.old) (S.faults source.new))
-        (ends (K.holds sink.old) (K.holds sink.new) (K.faults sink.old) (K.faults sink.new)) result }
-    ensures sink_kept { IfErr result (λ failure. is_verdict failure ≡ false → failure_status failure ≢ 5 → sink.new ≡ sink.old) }
-    ensures took_more { result ≡ Err (Failure.Common Fault.TooLarge) → TookMore (ends (S.left source.old) (S.left source.new) (S.faults source.old) (S.faults source.new)) }
-    ensures took_within { result ≢ Err (Failure.Common Fault.TooLarge) → TookWithin (ends (S.left source.old) (S.left source.new) (S.faults source.old) (S.faults source.new)) }
-    ensures source_kept { ¬ TakesInput (command_of (map string_bytes words.now)) → source.new ≡ source.old }
-    ensures source_steady { result ≢ Err (Failure.Common Fault.ReadFault) → S.faults source.new ≡ S.faults source.old }
-    ensures sink_steady { result ≢ Err (Failure.Common Fault.WriteFault) → K.faults sink.new ≡ K.faults sink.old }
-    ensures clock_unread { ¬ ReadsClock (command_of (map string_bytes words.now)) → clock.new ≡ clock.old }
-    ensures clock_kept { IfErr result (λ failure. failure_status failure ≢ 5
-        → (failure_status failure ≡ 6 → ¬ WritesJson (command_of (map string_bytes words.now))) → clock.new ≡ clock.old) }
-{
-    match command_of(alloc, words) {
-        Ok(Some(command)) => execute(rt, alloc, command, source, sink, clock, gate),
-        Ok(None) => Err(Failure::Common(Fault::BadWords)),
-        Err(error) => Err(Failure::Common(Fault::NoMemory(error))),
-    }
-}
-
-/// Does what the words ask for, tells its fault, and answers the exit status.
-fn run_and_tell<R: Threads + Wait + Sync, S: Source, K: Sink, N: Sink, C: Clock, G: Gate>(
-    rt: &R,
-    alloc: Global,
-    words: &[String],
-    source: &mut S,
-    sink: &mut K,
-    notes: &mut N,
-    clock: &mut C,
-    gate: &G,
-) -> u8
-    ensures cause { HasCause (command_of (map string_bytes words.now)) (C.readings clock.old)
-        (ends (S.left source.old) (S.left source.new) (S.faults source.old) (S.faults source.new))
-        (ends (K.holds sink.old) (K.holds sink.new) (K.faults sink.old) (K.faults sink.new)) result }
-    ensures nothing_written { result ≢ 0 → ¬ IsVerdictOf (command_of (map string_bytes words.now)) result → result ≢ 5 → sink.new ≡ sink.old }
-    ensures nothing_taken { ¬ TakesInput (command_of (map string_bytes words.now)) → source.new ≡ source.old }
-    ensures clock_unread { ¬ ReadsClock (command_of (map string_bytes words.now)) → clock.new ≡ clock.old }
-    ensures clock_kept { result ≢ 0 → result ≢ 5 → (result ≡ 6 → ¬ WritesJson (command_of (map string_bytes words.now))) → clock.new ≡ clock.old }
-    ensures quiet { (result ≡ 0) ⊎ IsVerdictOf (command_of (map string_bytes words.now)) result → notes.new ≡ notes.old }
-    ensures note { result ≢ 0 → (failure : Failure) × IsEnd (command_of (map string_bytes words.now))
-        (ends (S.left source.old) (S.left source.new) (S.faults source.old) (S.faults source.new)) result failure
-        × (Rose (N.faults notes.old) (N.faults notes.new) ⊎ Gains (N.holds notes.old) (note_line failure) (N.holds notes.new)) }
-    ensures note_front { result ≢ 0 → (failure : Failure) × IsEnd (command_of (map string_bytes words.now))
-        (ends (S.left source.old) (S.left source.new) (S.faults source.old) (S.faults source.new)) result failure
-        × WroteFront (N.holds notes.old) (N.holds notes.new) (note_line failure) }
-{
-    match run(rt, alloc, words, source, sink, clock, gate) {
-        Ok(()) => 0,
-        Err(failure) => {
-            tell(notes, &failure);
-            failure.status()
-        }
-    }
-}
 
 /// Does what the words ask for, and answers the exit status (this project's own rule).
 ///
@@ -253,5 +131,11 @@ pub fn run_words<R: Threads + Wait + Sync, S: Source, K: Sink, N: Sink, C: Clock
         (ends (S.left source.old) (S.left source.new) (S.faults source.old) (S.faults source.new)) result failure
         × WroteFront (N.holds notes.old) (N.holds notes.new) (note_line failure) }
 {
-    run_and_tell(rt, alloc, words, source, sink, notes, clock, gate)
+    match execute(rt, alloc, words, source, sink, clock, gate) {
+        Ok(()) => 0,
+        Err(failure) => {
+            tell(notes, &failure);
+            failure.status()
+        }
+    }
 }

@@ -2,7 +2,7 @@ use Rattle.std.proofs.Common.{◌⊎◌, ℕ, List, [], ◌∷◌, ◌++◌, ap,
 use Rattle.env_io.specs.Bytes.{Gains, Rose}
 use Rattle.app_streams.specs.Written.{WroteFront}
 use Rattle.app_streams.proofs.Writers.{put_or, wrote_front}
-use Rattle.env_app.proofs.Outcomes.{note_line-other}
+use Rattle.env_app.proofs.Failures.{note_line-other}
 use Rattle.env_app.proofs.notes.tell.Goals as goal
 
 pub returns-clause-written : goal.returns-clause-written

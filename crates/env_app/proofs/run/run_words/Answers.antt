@@ -1,13 +1,36 @@
-use Rattle.std.proofs.Common.{inl, inr}
-use Rattle.env_app.proofs.Causes.{judge_says}
+use Rattle.std.proofs.Common.{◌∙◌, inr, sym}
+use Rattle.app_streams.specs.Ends.{ends}
+use Rattle.env_app.proofs.Failures.{is_end, no_verdict}
+use Rattle.env_app.proofs.Causes.{cause_of_failure, judge_says}
 use Rattle.env_app.proofs.run.run_words.Goals as goal
 
-pub returns-clause-legal_log : goal.returns-clause-legal_log
-returns-clause-legal_log g c judges zero =
-    let says = judge_says _ _ _ _ c.run_and_tell.result c.run_and_tell.ensures.cause judges (inl zero) in
+pub returns-in-Ok-clause-legal_log : goal.returns-in-Ok-clause-legal_log
+returns-in-Ok-clause-legal_log g c judges zero =
+    let says = judge_says _ _ _ (ends _ _ 0 0) 0 c.in-Ok.ensures.outcome.2 judges in
     record { bytes = says.bytes; took = says.took; holds = says.holds.legal zero }
 
-pub returns-clause-no_legal_log : goal.returns-clause-no_legal_log
-returns-clause-no_legal_log g c judges one =
-    let says = judge_says _ _ _ _ c.run_and_tell.result c.run_and_tell.ensures.cause judges (inr one) in
-    record { bytes = says.bytes; took = says.took; holds = says.holds.not_legal one }
+pub returns-in-Err-clause-cause : goal.returns-in-Err-clause-cause
+returns-in-Err-clause-cause g c =
+    rw c.status.ensures.status (cause_of_failure _ _ _ _ c.in-Err.failure c.in-Err.ensures.outcome c.in-Err.ensures.source_steady
+    c.in-Err.ensures.sink_steady c.in-Err.ensures.took_more c.in-Err.ensures.took_within)
+
+pub returns-in-Err-clause-nothing_written : goal.returns-in-Err-clause-nothing_written
+returns-in-Err-clause-nothing_written g c not_zero not_verdict not_five =
+    c.in-Err.ensures.sink_kept (no_verdict _ _ _ _ c.in-Err.failure c.in-Err.ensures.outcome (λ is. not_verdict (rw c.status.ensures.status is)))
+    (λ five. not_five (c.status.ensures.status ∙ five))
+
+pub returns-in-Err-clause-note : goal.returns-in-Err-clause-note
+returns-in-Err-clause-note g c not_zero =
+    (c.in-Err.failure, is_end _ _ _ _ c.in-Err.failure c.status.result c.in-Err.ensures.outcome c.status.ensures.status, c.tell.ensures.written)
+
+pub returns-in-Err-clause-note_front : goal.returns-in-Err-clause-note_front
+returns-in-Err-clause-note_front g c not_zero =
+    (c.in-Err.failure, is_end _ _ _ _ c.in-Err.failure c.status.result c.in-Err.ensures.outcome c.status.ensures.status, c.tell.ensures.front)
+
+pub returns-in-Err-clause-no_legal_log : goal.returns-in-Err-clause-no_legal_log
+returns-in-Err-clause-no_legal_log g c judges one =
+    let is_one = sym c.status.ensures.status ∙ one in
+    let cause = cause_of_failure _ _ _ _ c.in-Err.failure c.in-Err.ensures.outcome c.in-Err.ensures.source_steady c.in-Err.ensures.sink_steady
+    c.in-Err.ensures.took_more c.in-Err.ensures.took_within in
+    let says = judge_says _ _ _ (ends _ _ 0 0) _ (cause.done (inr is_one)) judges in
+    record { bytes = says.bytes; took = says.took; holds = says.holds.not_legal is_one }

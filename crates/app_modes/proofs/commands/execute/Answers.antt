@@ -1,0 +1,36 @@
+use Rattle.std.proofs.Common.{Some, ap, sym, ◌∙◌}
+use Rattle.command_line.specs.declared.words.Command.TheVariants.{Check, Explain, Trace, Nest, Generate, Bench}
+use Rattle.app_modes.proofs.Outcomes.{ends_asked, ends_in_common}
+use Rattle.app_modes.proofs.commands.execute.Goals as goal
+
+pub returns-in-Check-clause-outcome : goal.returns-in-Check-clause-outcome
+returns-in-Check-clause-outcome g c =
+    ends_in_common _ (Check c.in-Check.prefix) _ _ _ c.judge.result _
+    (sym c.in-Ok-Some.ensures.command ∙ c.in-Ok-Some.field-0-is ∙ ap Some c.in-Check.is) c.common-in-Check.ensures c.judge.ensures.outcome
+
+pub returns-in-Explain-clause-outcome : goal.returns-in-Explain-clause-outcome
+returns-in-Explain-clause-outcome g c =
+    ends_in_common _ (Explain c.in-Explain.json) _ _ _ c.explain.result _
+    (sym c.in-Ok-Some.ensures.command ∙ c.in-Ok-Some.field-0-is ∙ ap Some c.in-Explain.is) c.common-in-Explain.ensures c.explain.ensures.outcome
+
+pub returns-in-Trace-clause-outcome : goal.returns-in-Trace-clause-outcome
+returns-in-Trace-clause-outcome g c =
+    ends_asked _ Trace _ _ _ _
+    (sym c.in-Ok-Some.ensures.command ∙ c.in-Ok-Some.field-0-is ∙ ap Some c.in-Trace.is) c.trace.ensures.outcome
+
+pub returns-in-Nest-clause-outcome : goal.returns-in-Nest-clause-outcome
+returns-in-Nest-clause-outcome g c =
+    ends_asked _ Nest _ _ _ _
+    (sym c.in-Ok-Some.ensures.command ∙ c.in-Ok-Some.field-0-is ∙ ap Some c.in-Nest.is) c.run_nest_script.ensures.outcome
+
+pub returns-in-Generate-clause-outcome : goal.returns-in-Generate-clause-outcome
+returns-in-Generate-clause-outcome g c =
+    ends_in_common _ (Generate c.in-Generate.number c.in-Generate.size) _ _ _ c.write_generated.result _
+    (sym c.in-Ok-Some.ensures.command ∙ c.in-Ok-Some.field-0-is ∙ ap Some c.in-Generate.is) c.common-in-Generate.ensures
+    (λ told. c.write_generated.ensures.outcome told _)
+
+pub returns-in-Bench-clause-outcome : goal.returns-in-Bench-clause-outcome
+returns-in-Bench-clause-outcome g c =
+    ends_in_common _ (Bench c.in-Bench.number c.in-Bench.size) _ _ _ c.run_generated.result _
+    (sym c.in-Ok-Some.ensures.command ∙ c.in-Ok-Some.field-0-is ∙ ap Some c.in-Bench.is) c.common-in-Bench.ensures
+    (λ told. c.run_generated.ensures.outcome told _)

@@ -1,0 +1,39 @@
+use Rattle.std.proofs.Common.{ℕ, List, ◌++◌, arith, ap, length, subst, ◌∙◌}
+use Rattle.script_model.specs.Grammar.{Reads}
+use Rattle.app_modes.specs.Explained.{IsSaidAt}
+use Rattle.app_streams.specs.Parts.{part_behind, script_part}
+use Rattle.app_modes.specs.Judged.{verdict_text}
+use Rattle.command_line.specs.declared.words.Command.TheVariants.{Explain}
+use Rattle.app_modes.proofs.Outcomes.{said_ends}
+use Rattle.app_streams.proofs.Passed.{behind_within, script_within}
+use Rattle.app_modes.proofs.explain.explain.Goals as goal
+
+pub script_of-requires : goal.script_of-requires
+script_of-requires g c =
+    omega (arith, ap length c.parts_of.ensures.script, script_within c.deref.result.now, ap length c.deref.ensures.value, c.in_ok-bytes.ensures.whole.within)
+
+pub all_said-requires-clause-short : goal.all_said-requires-clause-short
+all_said-requires-clause-short g c =
+    omega (arith, ap length c.parts_of.ensures.behind, behind_within c.deref.result.now, ap length c.deref.ensures.value, c.in_ok-bytes.ensures.whole.within)
+
+pub returns-in-Ok-clause-outcome : goal.returns-in-Ok-clause-outcome
+returns-in-Ok-clause-outcome g c told =
+    let took = c.in_ok-bytes.ensures.whole in
+    let text = c.parts_of.ensures.script ∙ ap script_part c.deref.ensures.value in
+    let log = c.parts_of.ensures.behind ∙ ap part_behind c.deref.ensures.value in
+    let all = c.in-Ok.ensures in
+    let said = c.in-Ok.said in
+    said_ends (Explain c.args.json) told _ _ c.in_ok-bytes.bytes.items (verdict_text said.line ++ all.0) said.line c.write_said.result tt took
+    (λ Holds holds. record {
+      bytes = c.in_ok-bytes.bytes.items;
+      took = took;
+      holds = record {
+        script = c.in_ok-script.script;
+        line = said.line;
+        said = all.0;
+        reads = subst (λ (t : List ℕ). Reads t c.in_ok-script.script) text c.in_ok-script.ensures.read;
+        found = subst (λ (t : List ℕ). IsSaidAt c.args.json c.in_ok-script.script t said.line all.0) log all.1;
+        holds = holds;
+      };
+    })
+    (rw (c.deref-in-Ok.ensures.value, all.2) at c.write_said.ensures.said)

@@ -1,0 +1,99 @@
+-- What `check` and `trace` say of a log (this project's own rule).
+use Rattle.std.specs.Prelude.{◌≡◌, ◌⊎◌, ℕ, ◌+◌, Bool, true, false, List, [], ◌++◌, All, codes, decimal, Option, Some, None}
+use Rattle.task_base.specs.Plan.{Plan}
+use Rattle.task_base.specs.declared.entry.Entry.{Entry}
+use Rattle.script_model.specs.Grammar.{Reads}
+use Rattle.log_model.specs.Fits.{Fits}
+use Rattle.log_model.specs.declared.version.Version.{Version}
+use Rattle.log_model.specs.LogText.{lines_before, text_in}
+use Rattle.hist_model.specs.Legal.{IsLegal}
+use Rattle.hist_model.specs.Script.{IsWhole}
+use Rattle.run_log.specs.TextLines.{IsBadLine}
+use Rattle.env_check.specs.declared.verdict.Verdict.{Verdict}
+use Rattle.env_check.specs.declared.verdict.Verdict.TheVariants.{Legal, Illegal}
+use Rattle.env_check.specs.Verdicts.{prefix_verdict_of, verdict_of}
+use Rattle.trace_json.specs.Trace.{trace_of}
+use Rattle.trace_json.specs.Text.{trace_text}
+use Rattle.app_modes.specs.declared.judged.Judged.{Judged}
+use Rattle.app_modes.specs.declared.judged.Judged.TheVariants.{Right, Wrong}
+use Rattle.app_streams.specs.Parts.{script_part, part_behind}
+
+-- the text is that of this log, in one of the two versions
+pub record IsTextOf (text : List ℕ) (log : List Entry) : Type 0 where
+  pub fits : All Fits log
+  pub version : Version
+  pub same : text_in version log ≡ text
+
+-- the input is this script, and behind it the text of this log, which is legal and whole for the script; or where a prefix of a
+-- whole log is asked for, legal alone
+pub record IsLegalLog (prefix : Bool) (bytes : List ℕ) (script : Plan) (log : List Entry) : Type 0 where
+  pub reads : Reads (script_part bytes) script
+  pub version : Version
+  pub same : text_in version log ≡ part_behind bytes
+  pub legal : IsLegal script log
+  pub whole : prefix ≡ false → IsWhole script log
+
+-- the input is a script, and behind it the text of such a log, whose numbers fit
+pub record HasLegalLog (prefix : Bool) (bytes : List ℕ) : Type 0 where
+  pub script : Plan
+  pub log : List Entry
+  pub fits : All Fits log
+  pub is : IsLegalLog prefix bytes script log
+
+-- the verdict that is asked for: on a whole log, or on one that may end before the script is done
+unfoldable pub verdict_on : Bool → Plan → List Entry → Verdict
+verdict_on false script log = verdict_of script log
+verdict_on true script log = prefix_verdict_of script log
+
+-- the line of a log's text, counted from 1, that a verdict names: that of the entry at its place
+abbrev pub line_in : Version → Verdict → Option ℕ
+line_in version Legal = None
+line_in version (Illegal place) = Some (place + 1 + lines_before version)
+
+-- the line at which the text is found to be no legal, whole log of the script, or no legal one, or none: where it is the text of
+-- a log, that of the verdict on this log; else the first line that is no log line of its place
+abbrev pub IsFoundAt : Bool → Plan → List ℕ → Option ℕ → Type 0
+IsFoundAt prefix script text line =
+    ((log : List Entry) × (of : IsTextOf text log) × (line ≡ line_in of.version (verdict_on prefix script log)))
+    ⊎ ((bad : ℕ) × IsBadLine text bad × (line ≡ Some bad))
+
+-- what the text is found to be: that of such a log, or wrong at a line
+abbrev pub IsJudged : Bool → Plan → List ℕ → Judged → Type 0
+IsJudged prefix script text (Right log) = IsTextOf text log.items × (verdict_on prefix script log.items ≡ Legal)
+IsJudged prefix script text (Wrong line) = IsFoundAt prefix script text (Some line)
+
+-- what is written of that line
+abbrev pub verdict_text : Option ℕ → List ℕ
+verdict_text None = codes "legal\n"
+verdict_text (Some line) = codes "illegal " ++ decimal line ++ codes "\n"
+
+-- the status that goes with it
+abbrev pub verdict_status : Option ℕ → ℕ
+verdict_status None = 0
+verdict_status (Some line) = 1
+
+-- the input begins with a script, and the log behind it is found wrong at this line, or nowhere
+pub record IsFoundIn (prefix : Bool) (bytes : List ℕ) (line : Option ℕ) : Type 0 where
+  pub script : Plan
+  pub reads : Reads (script_part bytes) script
+  pub found : IsFoundAt prefix script (part_behind bytes) line
+
+-- the input begins with a script, and this holds of the status of the line at which the log behind it is found wrong, and of
+-- what `check` writes of that line
+pub record HasChecked (prefix : Bool) (bytes : List ℕ) (Holds : ℕ → List ℕ → Type 0) : Type 0 where
+  pub script : Plan
+  pub line : Option ℕ
+  pub reads : Reads (script_part bytes) script
+  pub found : IsFoundAt prefix script (part_behind bytes) line
+  pub holds : Holds (verdict_status line) (verdict_text line)
+
+-- this holds of the status of a line, and of what `trace` writes: where no line is wrong the trace of the log, and else nothing
+abbrev pub IsTraced : List ℕ → (ℕ → List ℕ → Type 0) → Option ℕ → Type 0
+IsTraced text Holds None = (log : List Entry) × IsTextOf text log × Holds 0 (trace_text (trace_of log))
+IsTraced text Holds (Some line) = Holds 1 []
+
+-- the same of what `trace` writes
+pub record HasTraced (bytes : List ℕ) (Holds : ℕ → List ℕ → Type 0) : Type 0 where
+  pub line : Option ℕ
+  pub found : IsFoundIn false bytes line
+  pub holds : IsTraced (part_behind bytes) Holds line

@@ -1,0 +1,170 @@
+-- What a command did, by what it read and what it wrote.
+use Rattle.std.specs.Prelude.{◌≡◌, ◌≢◌, ◌<◌, ℕ, Bool, false, List, All, length, Option, Some, None, IsSome, option_map, Result, Ok, Err}
+use Rattle.task_base.specs.Plan.{Plan}
+use Rattle.task_base.specs.declared.limits.TheConstants.{MOST_BYTES}
+use Rattle.task_base.specs.declared.entry.Entry.{Entry}
+use Rattle.task_base.specs.declared.fault.Fault.{Fault}
+use Rattle.task_base.specs.declared.fault.Fault.TheVariants.{NotLegal, BadWords, BadScript, ReadFault, WriteFault, NoMemory, TooLarge}
+use Rattle.env_io.specs.Readings.{no_step, step_readings}
+use Rattle.script_model.specs.Canonical.{canonical}
+use Rattle.script_model.specs.Laws.Sound.{IsSound}
+use Rattle.script_model.specs.Grammar.{Reads, first_fault, script_read}
+use Rattle.log_model.specs.Fits.{Fits}
+use Rattle.log_model.specs.LogText.{log_text}
+use Rattle.hist_model.specs.Legal.{IsLegal}
+use Rattle.hist_model.specs.Script.{IsWhole}
+use Rattle.env_crew.specs.Driving.{HasMomentsOf}
+use Rattle.task_reply.specs.Elaborated.{IsElaboratedBy}
+use Rattle.task_reply.specs.Replies.{reply_fault}
+use Rattle.nested_loop.specs.Plan.{NestPlan}
+use Rattle.nested_loop.specs.NestGrammar.{ReadsNest, nest_fault}
+use Rattle.nested_loop.specs.NestText.{nest_text}
+use Rattle.nested_loop.specs.Nest.{IsLegalNest}
+use Rattle.nested_loop.specs.declared.event.Event.{Event}
+use Rattle.command_line.specs.declared.words.Command.{Command}
+use Rattle.command_line.specs.declared.words.Command.TheVariants.{Run, Check, Explain, Reply, Trace, Nest, Generate, Bench}
+use Rattle.app_streams.specs.Parts.{script_part, part_behind}
+use Rattle.app_streams.specs.Ends.{Ends, Failed}
+use Rattle.app_streams.specs.Taken.{IsReadToEnd, OfBytes, OfTaken}
+use Rattle.app_streams.specs.Written.{WroteAll, WroteFront, output_of}
+use Rattle.app_modes.specs.declared.failure.Failure.{Failure}
+use Rattle.app_modes.specs.declared.failure.Failure.TheVariants.{Common, NotTraced, BadReplies, BadNest}
+use Rattle.command_line.specs.CommandLine.{TakesInput, WritesVerdict}
+use Rattle.app_modes.specs.Judged.{HasChecked, HasTraced, IsFoundIn}
+use Rattle.app_modes.specs.Explained.{HasExplained}
+use Rattle.app_modes.specs.Totals.{summary_text}
+use Rattle.run_summary.specs.Summary.{generated_totals}
+use Rattle.task_script.specs.Generated.{generated}
+
+-- the readings of a run: those of a step, where there is one, and else what the clock tells
+abbrev pub readings_of : Option ℕ → (ℕ → Option ℕ) → ℕ → Option ℕ
+readings_of None told = told
+readings_of (Some step) told = step_readings (no_step step)
+
+-- the bytes are a script, and this holds of what a run writes of one legal, whole history of it, whose numbers fit and whose
+-- ticks are the moments of these readings
+pub record HasRun (bytes : List ℕ) (json : Bool) (told : ℕ → Option ℕ) (Written : List ℕ → Type 0) : Type 0 where
+  pub script : Plan
+  pub log : List Entry
+  pub reads : Reads bytes script
+  pub legal : IsLegal script log
+  pub whole : IsWhole script log
+  pub fits : All Fits log
+  pub moments : HasMomentsOf told log
+  pub written : Written (output_of json log)
+
+-- the bytes are a script and replies to its tasks, and this holds of what is written of one legal, whole history of the script
+-- with the replies, whose numbers fit and whose ticks are the moments of these readings
+pub record HasReplied (bytes : List ℕ) (told : ℕ → Option ℕ) (Written : List ℕ → Type 0) : Type 0 where
+  pub script : Plan
+  pub elaborated : Plan
+  pub log : List Entry
+  pub reads : Reads (script_part bytes) script
+  pub elaborates : IsElaboratedBy script (part_behind bytes) elaborated
+  pub sound : IsSound elaborated
+  pub legal : IsLegal elaborated log
+  pub whole : IsWhole elaborated log
+  pub fits : All Fits log
+  pub moments : HasMomentsOf told log
+  pub written : Written (log_text log)
+
+-- the bytes are a nest script, and this holds of the text of its log
+pub record HasNested (bytes : List ℕ) (Written : List ℕ → Type 0) : Type 0 where
+  pub nest : NestPlan
+  pub log : List Event
+  pub reads : ReadsNest bytes nest
+  pub legal : IsLegalNest nest log
+  pub written : Written (nest_text log)
+
+-- the failure is why replies gave no script
+abbrev pub IsNotElaborated : Plan → List ℕ → Failure → Type 0
+IsNotElaborated script replies (BadReplies line reason) = reply_fault script replies ≡ Some (line, reason)
+IsNotElaborated script replies (Common (NoMemory error)) = Unit {0}
+IsNotElaborated script replies failure = ⊥
+
+-- the failure is why bytes gave no nest
+abbrev pub IsNoNest : List ℕ → Failure → Type 0
+IsNoNest bytes (BadNest line reason) = nest_fault bytes ≡ Some (line, reason)
+IsNoNest bytes (Common (NoMemory error)) = Unit {0}
+IsNoNest bytes failure = ⊥
+
+-- what is wrong with bytes that are to be a script
+abbrev pub script_refusal : List ℕ → Option Failure
+script_refusal bytes = option_map (λ at. Common (BadScript at.0 at.1)) (first_fault bytes)
+
+-- what is wrong with replies behind a script that was read, or with the script
+abbrev pub reply_refusal : Result Plan (ℕ × ℕ) → List ℕ → Option Failure
+reply_refusal (Err at) replies = Some (Common (BadScript at.0 at.1))
+reply_refusal (Ok script) replies = option_map (λ at. BadReplies at.0 at.1) (reply_fault script replies)
+
+-- what is wrong with the bytes that come as the input of a command, if anything is
+abbrev pub refusal_of : Option Command → List ℕ → Option Failure
+refusal_of None bytes = None
+refusal_of (Some (Run step json)) bytes = script_refusal bytes
+refusal_of (Some (Check prefix)) bytes = script_refusal (script_part bytes)
+refusal_of (Some (Explain json)) bytes = script_refusal (script_part bytes)
+refusal_of (Some Reply) bytes = reply_refusal (script_read (script_part bytes)) (part_behind bytes)
+refusal_of (Some Trace) bytes = script_refusal (script_part bytes)
+refusal_of (Some Nest) bytes = option_map (λ at. BadNest at.0 at.1) (nest_fault bytes)
+refusal_of (Some (Generate number size)) bytes = None
+refusal_of (Some (Bench number size)) bytes = None
+
+-- what a command does, where its clock tells these readings: this holds of the status that it ends with where no write fails,
+-- and of the text that it writes
+abbrev pub Does : Option Command → (ℕ → Option ℕ) → Ends → (ℕ → List ℕ → Type 0) → Type 0
+Does None told source Holds = ⊥
+Does (Some (Run step json)) told source Holds = OfTaken source (λ bytes. HasRun bytes json (readings_of step told) (Holds 0))
+Does (Some (Check prefix)) told source Holds = OfTaken source (λ bytes. HasChecked prefix bytes Holds)
+Does (Some (Explain json)) told source Holds = OfTaken source (λ bytes. HasExplained json bytes Holds)
+Does (Some Reply) told source Holds = OfTaken source (λ bytes. HasReplied bytes told (Holds 0))
+Does (Some Trace) told source Holds = OfTaken source (λ bytes. HasTraced bytes Holds)
+Does (Some Nest) told source Holds = OfTaken source (λ bytes. HasNested bytes (Holds 0))
+Does (Some (Generate number size)) told source Holds = Holds 0 (canonical (generated number size))
+Does (Some (Bench number size)) told source Holds = Holds 0 (summary_text (generated_totals number size))
+
+-- the whole text was written, and the status is the one that goes with it
+abbrev pub IsWritten : Ends → ℕ → ℕ → List ℕ → Type 0
+IsWritten sink status due text = (status ≡ due) × WroteAll sink.before sink.after text
+
+-- a front of the text was written
+abbrev pub IsCutOff : Ends → ℕ → List ℕ → Type 0
+IsCutOff sink due text = WroteFront sink.before sink.after text
+
+-- the bytes that were taken are refused for this
+abbrev pub IsRefused : Option Command → Ends → Failure → Type 0
+IsRefused command source failure = OfTaken source (λ bytes. refusal_of command bytes ≡ Some failure)
+
+-- what the answer of a command says: its words are a command or none, its clock told these readings, and its source and its
+-- sink were left so
+abbrev pub RunsTo : Option Command → (ℕ → Option ℕ) → Ends → Ends → Result (Unit {0}) Fault → Type 0
+RunsTo command told source sink (Ok done) = IsSome command × (TakesInput command → IsReadToEnd source) × Does command told source (IsWritten sink 0)
+RunsTo command told source sink (Err (NotLegal line)) = WritesVerdict command × IsReadToEnd source × Does command told source (IsWritten sink 1)
+RunsTo command told source sink (Err BadWords) = command ≡ None
+RunsTo command told source sink (Err WriteFault) =
+    IsSome command × (TakesInput command → IsReadToEnd source) × Failed sink × Does command told source (IsCutOff sink)
+RunsTo command told source sink (Err (BadScript line reason)) =
+    TakesInput command × (command ≢ Some Nest) × IsRefused command source (Common (BadScript line reason))
+RunsTo command told source sink (Err ReadFault) = TakesInput command × Failed source
+RunsTo command told source sink (Err TooLarge) = TakesInput command × OfBytes source (λ bytes. MOST_BYTES < length bytes)
+RunsTo command told source sink (Err (NoMemory error)) = Unit {0}
+
+-- this text was written of what is found at the line, and the answer goes with it
+abbrev pub HasSaid : Option ℕ → List ℕ → Ends → Result (Unit {0}) Fault → Type 0
+HasSaid line text sink (Ok done) = (line ≡ None) × WroteAll sink.before sink.after text
+HasSaid line text sink (Err (NotLegal at)) = (line ≡ Some at) × WroteAll sink.before sink.after text
+HasSaid line text sink (Err WriteFault) = Failed sink × WroteFront sink.before sink.after text
+HasSaid line text sink (Err fault) = ⊥
+
+-- the end of a command, where any fault may be one
+abbrev pub in_common : Result (Unit {0}) Fault → Result (Unit {0}) Failure
+in_common (Ok done) = Ok done
+in_common (Err fault) = Err (Common fault)
+
+-- the same, where the command may also end in a failure of its own
+abbrev pub EndsIn : Option Command → (ℕ → Option ℕ) → Ends → Ends → Result (Unit {0}) Failure → Type 0
+EndsIn command told source sink (Ok done) = RunsTo command told source sink (Ok done)
+EndsIn command told source sink (Err (Common fault)) = RunsTo command told source sink (Err fault)
+EndsIn command told source sink (Err (NotTraced line)) =
+    (command ≡ Some Trace) × IsReadToEnd source × Does command told source (IsWritten sink 1) × OfTaken source (λ bytes. IsFoundIn false bytes (Some line))
+EndsIn command told source sink (Err (BadReplies line reason)) = (command ≡ Some Reply) × IsRefused command source (BadReplies line reason)
+EndsIn command told source sink (Err (BadNest line reason)) = (command ≡ Some Nest) × IsRefused command source (BadNest line reason)

@@ -1,0 +1,91 @@
+//! The mode `check`.
+ghost use Rattle.std.specs.Prelude.{◌≡◌, ◌≢◌, ◌≤◌, ℕ, Option, Some, Err, IfOk, IfErr, length};
+ghost use Rattle.task_base.specs.declared.limits.TheConstants.{MOST_BYTES};
+ghost use Rattle.task_base.specs.Fault.{status_of};
+ghost use Rattle.script_model.specs.Laws.Sound.{IsSound};
+ghost use Rattle.app_modes.specs.Judged.{IsFoundAt, verdict_text};
+ghost use Rattle.command_line.specs.declared.words.Command.TheVariants.{Check};
+ghost use Rattle.app_streams.specs.Ends.{ends};
+ghost use Rattle.app_streams.specs.Taken.{TookMore, TookWithin};
+ghost use Rattle.app_modes.specs.Outcome.{HasSaid, RunsTo};
+
+use crate::judged::{Judged, judge_log};
+use app_streams::{parts_of, script_of, take_all, write_text};
+use env_io::{Sink, Source};
+use line_text::{Line, add, add_decimal};
+use std::alloc::{AllocError, Global};
+use task_base::{Fault, Script};
+
+/// Reads a script from the source, to its end, and the log behind it, and writes whether the log is that of a whole run of
+/// the script, or where a prefix is asked for, that of the beginning of one: `legal`, or `illegal` and the line at which it
+/// is found not to be. That line is in `NotLegal` too.
+pub fn judge<S: Source, K: Sink>(
+    alloc: Global,
+    prefix: bool,
+    source: &mut S,
+    sink: &mut K,
+) -> Result<(), Fault>
+    ensures outcome { (told : ℕ → Option ℕ) → RunsTo (Some (Check prefix)) told
+        (ends (S.left source.old) (S.left source.new) (S.faults source.old) (S.faults source.new))
+        (ends (K.holds sink.old) (K.holds sink.new) (K.faults sink.old) (K.faults sink.new)) result }
+    ensures sink_kept { IfErr result (λ fault. status_of fault ≢ 1 → status_of fault ≢ 5 → sink.new ≡ sink.old) }
+    ensures took_more { result ≡ Err Fault.TooLarge → TookMore (ends (S.left source.old) (S.left source.new) (S.faults source.old) (S.faults source.new)) }
+    ensures took_within { result ≢ Err Fault.TooLarge → TookWithin (ends (S.left source.old) (S.left source.new) (S.faults source.old) (S.faults source.new)) }
+    ensures source_steady { result ≢ Err Fault.ReadFault → S.faults source.new ≡ S.faults source.old }
+    ensures sink_steady { result ≢ Err Fault.WriteFault → K.faults sink.new ≡ K.faults sink.old }
+{
+    let bytes = take_all(alloc, source)?;
+    let (text, log) = parts_of(&bytes);
+    let script = script_of(alloc, text)?;
+    let line = match wrong_line(alloc, prefix, &script, log) {
+        Ok(line) => line,
+        Err(error) => return Err(Fault::NoMemory(error)),
+    };
+    write_said(sink, line, &verdict_text(line))
+}
+
+/// Writes the text on what is found at the line, and answers whether there is one.
+pub(crate) fn write_said<K: Sink>(sink: &mut K, line: Option<u32>, text: &[u8]) -> Result<(), Fault>
+    ensures said { HasSaid line text.now (ends (K.holds sink.old) (K.holds sink.new) (K.faults sink.old) (K.faults sink.new)) result }
+    ensures steady { result ≢ Err Fault.WriteFault → K.faults sink.new ≡ K.faults sink.old }
+{
+    write_text(sink, text)?;
+    match line {
+        None => Ok(()),
+        Some(line) => Err(Fault::NotLegal { line }),
+    }
+}
+
+/// The line at which the text is found to be no log of a whole run of the script, or of the beginning of one. The error is
+/// want of memory.
+fn wrong_line(
+    alloc: Global,
+    prefix: bool,
+    script: &Script,
+    text: &[u8],
+) -> Result<Option<u32>, AllocError>
+    requires plan { IsSound script.now }
+    requires short { length text.now ≤ MOST_BYTES }
+    ensures { IfOk result (IsFoundAt prefix script.now text.now) }
+{
+    match judge_log(alloc, prefix, script, text)? {
+        Judged::Right(_) => Ok(None),
+        Judged::Wrong { line } => Ok(Some(line)),
+    }
+}
+
+/// What is written of that line.
+pub(crate) fn verdict_text(line: Option<u32>) -> Line
+    ensures { result.items ≡ verdict_text line }
+{
+    let mut text = Line::new();
+    match line {
+        None => add(&mut text, b"legal\n"),
+        Some(line) => {
+            add(&mut text, b"illegal ");
+            add_decimal(&mut text, u64::from(line));
+            add(&mut text, b"\n");
+        }
+    }
+    text
+}

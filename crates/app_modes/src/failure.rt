@@ -1,0 +1,63 @@
+ghost use Rattle.std.specs.Prelude.{◌≡◌, ◌≤◌, length};
+ghost use Rattle.app_modes.specs.declared.failure.Failure.TheVariants.{Common};
+ghost use Rattle.app_modes.specs.Failures.{failure_note, failure_status, is_verdict};
+
+use line_text::Line;
+use nested_loop::NestFault;
+use task_base::Fault;
+use task_reply::ReplyFault;
+
+/// Why a command did not end with status 0 (this project's own).
+#[derive(Debug, PartialEq, Eq, Drop)]
+pub enum Failure {
+    /// What may end a command of any mode.
+    Common(Fault),
+    /// In `trace`: the log is not that of a whole run of the script; `line` counts from 1.
+    NotTraced { line: u32 },
+    /// In `reply`: a reply line breaks a rule. `line` counts from 1, behind the line `%%`.
+    BadReplies { line: u32, reason: u8 },
+    /// In `nest`: a line of the nest script breaks a rule. `line` counts from 1.
+    BadNest { line: u32, reason: u8 },
+}
+
+impl From<Fault> for Failure {
+    ghost from_gives = { λ fault failure. failure ≡ Common fault };
+
+    fn from(fault: Fault) -> Failure {
+        Failure::Common(fault)
+    }
+}
+
+impl Failure {
+    /// The exit status, from 1 to 7.
+    pub fn status(&self) -> u8
+        ensures status { result ≡ failure_status self.now }
+        ensures above { 1 ≤ result }
+    {
+        match self {
+            Failure::Common(fault) => fault.status(),
+            Failure::NotTraced { .. } => 1,
+            Failure::BadReplies { .. } | Failure::BadNest { .. } => 3,
+        }
+    }
+
+    /// Whether it is that a log is not legal, which is written as the verdict.
+    pub fn is_verdict(&self) -> bool
+        ensures { result ≡ is_verdict self.now }
+    {
+        matches!(self, Failure::Common(Fault::NotLegal { .. }))
+    }
+
+    /// What is told of the failure, without a line feed. It takes no memory.
+    pub fn note(&self) -> Line
+        ensures note { result.items ≡ failure_note self.now }
+        ensures short { length result.items ≤ 100 }
+    {
+        match *self {
+            Failure::Common(ref fault) => fault.note(),
+            Failure::NotTraced { line } => Fault::NotLegal { line }.note(),
+            Failure::BadReplies { line, reason } => ReplyFault::Bad { line, reason }.note(),
+            Failure::BadNest { line, reason } => NestFault::Bad { line, reason }.note(),
+        }
+    }
+}

@@ -1,0 +1,80 @@
+//! The mode `run`, and the run of a script.
+ghost use Rattle.std.specs.Prelude.{◌≡◌, ◌≢◌, ◌≤◌, All, length, alloc_error, Some, None, Err, IfOk, IfErr, OnErr, false};
+ghost use Rattle.task_base.specs.declared.limits.TheConstants.{MOST_EVENTS};
+ghost use Rattle.task_base.specs.Fault.{status_of};
+ghost use Rattle.log_model.specs.Fits.{Fits};
+ghost use Rattle.hist_model.specs.Legal.{IsLegal};
+ghost use Rattle.hist_model.specs.Script.{IsWhole};
+ghost use Rattle.script_model.specs.Laws.Sound.{IsSound};
+ghost use Rattle.env_crew.specs.Driving.{HasMomentsOf};
+ghost use Rattle.command_line.specs.declared.words.Command.TheVariants.{Run};
+ghost use Rattle.app_streams.specs.Ends.{ends};
+ghost use Rattle.app_streams.specs.Taken.{TookMore, TookWithin};
+ghost use Rattle.app_modes.specs.Outcome.{RunsTo, readings_of};
+
+use crate::bodies::bodies_of;
+use app_streams::{script_of, take_all, write};
+use env_io::{Clock, Gate, Sink, Source, StepClock};
+use env_threads::run_crew;
+use std::alloc::{AllocError, Global};
+use std::sync::Wait;
+use std::thread::Threads;
+use task_base::{Entry, Fault, Rows, Script};
+
+/// Reads a script from the source, to its end, runs it, and writes the log of the run.
+pub fn run_script<R: Threads + Wait + Sync, S: Source, K: Sink, C: Clock, G: Gate>(
+    rt: &R,
+    alloc: Global,
+    step: Option<u64>,
+    json: bool,
+    source: &mut S,
+    sink: &mut K,
+    clock: &mut C,
+    gate: &G,
+) -> Result<(), Fault>
+    ensures outcome { RunsTo (Some (Run step json)) (C.readings clock.old)
+        (ends (S.left source.old) (S.left source.new) (S.faults source.old) (S.faults source.new))
+        (ends (K.holds sink.old) (K.holds sink.new) (K.faults sink.old) (K.faults sink.new)) result }
+    ensures sink_kept { IfErr result (λ fault. fault ≢ Fault.WriteFault → sink.new ≡ sink.old) }
+    ensures took_more { result ≡ Err Fault.TooLarge → TookMore (ends (S.left source.old) (S.left source.new) (S.faults source.old) (S.faults source.new)) }
+    ensures took_within { result ≢ Err Fault.TooLarge → TookWithin (ends (S.left source.old) (S.left source.new) (S.faults source.old) (S.faults source.new)) }
+    ensures source_steady { result ≢ Err Fault.ReadFault → S.faults source.new ≡ S.faults source.old }
+    ensures sink_steady { result ≢ Err Fault.WriteFault → K.faults sink.new ≡ K.faults sink.old }
+    ensures clock_unread { step ≢ None → clock.new ≡ clock.old }
+    ensures clock_kept { IfErr result (λ fault. fault ≢ Fault.WriteFault → (fault ≡ Fault.NoMemory alloc_error → json ≡ false) → clock.new ≡ clock.old) }
+{
+    let bytes = take_all(alloc, source)?;
+    let script = script_of(alloc, &bytes)?;
+    let log = match log_of_run(rt, alloc, &script, step, clock, gate) {
+        Ok(log) => log,
+        Err(error) => return Err(Fault::NoMemory(error)),
+    };
+    write(alloc, sink, &log, json)
+}
+
+/// The log of a script's run, by readings a step apart where there is one, and else by the clock. The error is want of
+/// memory: it comes before the first entry, and the clock was not read.
+pub fn log_of_run<R: Threads + Wait + Sync, C: Clock, G: Gate>(
+    rt: &R,
+    alloc: Global,
+    script: &Script,
+    step: Option<u64>,
+    clock: &mut C,
+    gate: &G,
+) -> Result<Rows<Entry>, AllocError>
+    requires { IsSound script.now }
+    ensures legal { IfOk result (λ log. IsLegal script.now log.items) }
+    ensures whole { IfOk result (λ log. IsWhole script.now log.items) }
+    ensures bounded { IfOk result (λ log. length log.items ≤ MOST_EVENTS) }
+    ensures fits { IfOk result (λ log. All Fits log.items) }
+    ensures moments { IfOk result (λ log. HasMomentsOf (readings_of step (C.readings clock.old)) log.items) }
+    ensures unread { step ≢ None → clock.new ≡ clock.old }
+    ensures kept { OnErr result (clock.new ≡ clock.old) }
+{
+    let bodies = bodies_of(alloc, script)?;
+    let env = match step {
+        Some(step) => run_crew(rt, alloc, script, bodies, &mut StepClock::new(step), gate)?,
+        None => run_crew(rt, alloc, script, bodies, clock, gate)?,
+    };
+    Ok(env.into_log())
+}
