@@ -7,15 +7,10 @@ use Rattle.std.specs.List.{position, position_or_len, range_with_len}
 use Rattle.std.proofs.lemmas.Bool.{and_parts, or_parts, ltb-true, ltb-false, not-true, not-false}
 use Rattle.std.proofs.lemmas.List.{length-set}
 use Rattle.std.proofs.lemmas.List.Quantifiers.{position-Some}
-use Rattle.std.proofs.lemmas.List.Sums.{length-filter, sum_by-set}
 use Rattle.std.proofs.lemmas.Option.{none-some, same_Some, slice_get_within, unwrap_or-slice_get}
 use Rattle.list_laws.specs.Lists.{count}
+use Rattle.list_laws.proofs.Counts.{count-cons, count-set, count_step}
 use Rattle.job_source.specs.Job.{JobView, IsConsistent, held_by, inside, has_unclaimed, concurrency, may_enter, is_free_id, free_id, entered, next_item}
-
--- one element changes
-count-set : {A : Type 0} (test : A → Bool) (xs : List A) (i : ℕ) (d y : A) → i < length xs
-    → count test (set xs i y) + cond (test (get_or xs i d)) 1 0 ≡ count test xs + cond (test y) 1 0
-count-set test xs i d y within = rw (length-filter test (set xs i y), length-filter test xs) (sum_by-set (λ x. cond (test x) 1 0) xs i y d within)
 
 -- where ids from the first one on are free as their places say, the first free id is the first place at which nothing is held
 free_from : {A : Type 0} (held : List (Option A)) (free : ℕ → Bool) (first : ℕ)
@@ -80,7 +75,12 @@ IsConsistent-entered job id item is may found =
     let parts = may_enter-parts job may in
     let free : is_some (get_or job.held id None) ≡ false = not-true _ at.1 in
     let more : count is_some (set job.held id (Some item)) ≡ inside job + 1 =
-    omega (arith, rw free at (count-set is_some job.held id None (Some item) at.0)) in
+    omega (
+      arith,
+      count-set is_some job.held id None (get_or job.held id None) (Some item) at.0 refl,
+      count_step is_some (get_or job.held id None) [] false free,
+      count-cons is_some (Some item) [],
+    ) in
     record {
       places = length-set job.held id (Some item) ∙ is.places;
       parted = omega (arith, more, is.parted);
@@ -101,7 +101,12 @@ inside-set : (job : JobView) (id : ℕ) (next : Option ℕ) → IsSome (held_by 
     → count is_some (set job.held id next) + 1 ≡ inside job + cond (is_some next) 1 0
 inside-set job id next held =
     let here : is_some (get_or job.held id None) ≡ true = ap is_some (sym (unwrap_or-slice_get job.held id None)) ∙ held in
-    rw here at (count-set is_some job.held id None next (held-within job id held))
+    omega (
+      arith,
+      count-set is_some job.held id None (get_or job.held id None) next (held-within job id held) refl,
+      count_step is_some (get_or job.held id None) [] true here,
+      count-cons is_some next [],
+    )
 
 -- who holds an item is inside
 pub inside-some : (job : JobView) (id : ℕ) → IsSome (held_by job id) → 1 ≤ inside job

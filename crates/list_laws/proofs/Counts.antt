@@ -1,7 +1,7 @@
 -- How many elements pass a test.
--- Cited by `Pigeons`, `Places`, `Ranges`, `Sorts`, `env_core`, `hist_model`, `nested_loop`, `pool_core`, `pool_laws`, `queue_laws`,
--- `queue_selector`, `run_summary`, `script_model`, `sequence_manager`, `task_reply`, `task_script`, `thread_group`.
-use Rattle.std.proofs.Common.{◌≡◌, ℕ, suc, ◌+◌, ◌≤◌, Bool, true, false, cond, List, [], ◌∷◌, ◌++◌, length, refl, sym, ap, ◌∙◌, arith}
+-- Cited by `Pigeons`, `Places`, `Ranges`, `Sorts`, `env_core`, `hist_model`, `job_source`, `nested_loop`, `pool_core`, `pool_laws`,
+-- `queue_laws`, `queue_selector`, `run_summary`, `script_model`, `sequence_manager`, `task_reply`, `task_script`, `thread_group`.
+use Rattle.std.proofs.Common.{◌≡◌, ℕ, zero, suc, ◌+◌, ◌<◌, ◌≤◌, Bool, true, false, cond, List, [], ◌∷◌, ◌++◌, length, get_or, set, refl, sym, ap, ◌∙◌, arith}
 use Rattle.std.specs.Prelude.{◌||◌, filter, not}
 use Rattle.std.specs.List.{list_any, AllByRecursion}
 use Rattle.std.proofs.lemmas.List.{length-append}
@@ -27,6 +27,15 @@ count-cons p x xs = by_test (p x) refl
     by_test : (b : Bool) → p x ≡ b → count p (x ∷ xs) ≡ count p xs + cond b 1 0
     by_test true is = count_step p x xs true is ∙ omega arith
     by_test false is = count_step p x xs false is ∙ omega arith
+
+-- one element changes
+pub count-set : {A : Type 0} (p : A → Bool) (xs : List A) (i : ℕ) (d x y : A) → i < length xs → x ≡ get_or xs i d
+    → count p (set xs i y) + count p (x ∷ []) ≡ count p xs + count p (y ∷ [])
+count-set p [] i d x y less is = absurd (omega (arith, less))
+count-set p (z ∷ zs) zero d x y less is =
+    omega (arith, ap (λ w. count p (w ∷ [])) is, count-cons p y zs, count-cons p z zs, count-cons p y [], count-cons p z [])
+count-set p (z ∷ zs) (suc i) d x y less is =
+    omega (arith, count-set p zs i d x y (omega (arith, less)) is, count-cons p z (set zs i y), count-cons p z zs)
 
 pub count-append : {A : Type 0} (p : A → Bool) (xs ys : List A) → count p (xs ++ ys) ≡ count p xs + count p ys
 count-append p xs ys = ap length (filter-append p xs ys) ∙ length-append (filter p xs) (filter p ys)

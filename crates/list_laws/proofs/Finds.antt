@@ -1,5 +1,5 @@
 -- What is found and counted in a list.
--- Cited by `Made`, `env_core`, `hist_model`, `nested_loop`, `next_entry`, `pool_core`, `run_summary`, `sequence_manager`, `task_base`.
+-- Cited by `Made`, `env_core`, `hist_model`, `nested_loop`, `next_entry`, `pool_core`, `run_summary`, `sequence_manager`, `value_words`.
 use Rattle.std.proofs.Common.{◌≡◌, ℕ, ◌≤◌, Bool, true, false, cond, List, [], ◌∷◌, length, refl, sym, ap, ◌∙◌, Some, None, arith}
 use Rattle.std.specs.Prelude.{filter, find, is_some, Contains}
 use Rattle.std.specs.List.{AllByRecursion}

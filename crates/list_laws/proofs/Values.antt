@@ -1,5 +1,5 @@
 -- Equal numbers and options.
--- Cited by `Least`, `Pigeons`, `Rises`, `Sorts`, `env_check`, `env_core`, `env_crew`, `env_roster`, `nested_loop`, `next_entry`,
+-- Cited by `Least`, `Pigeons`, `Rises`, `Sorts`, `env_core`, `env_crew`, `env_roster`, `log_replay`, `nested_loop`, `next_entry`,
 -- `pool_core`, `pool_laws`, `queue_laws`, `queue_selector`, `run_summary`, `script_model`, `seat_hand`, `sequence_manager`, `task_script`,
 -- `task_sequence`, `worked_calls`.
 use Rattle.std.proofs.Common.{◌≡◌, ℕ, true, eqb, ap, Some, arith}

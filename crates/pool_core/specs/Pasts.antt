@@ -32,10 +32,10 @@ IsDeclared script p = (p.home < length script.runners) × (p.task < length scrip
 abbrev pub TakenHaveKeys : List Entry → Type 0
 TakenHaveKeys past = (p : Posted) → Contains (posts past) p → is_taken past p.task ≡ true → is_some (key_of past p) ≡ true
 
--- each accepted task is declared and was posted once, and a task that was taken was accepted and has a key; workers run such
--- tasks, one of a sequence at a time; keys come as ticks reach ripe moments; only a task that was taken has an open scope; and
--- who is inside a job is a seat of the script, under a number of its own, and as a worker runs no task. Every legal past is
--- such a past
+-- each accepted task is declared and was posted once, and a task that was taken was accepted and has a key; what ended was
+-- taken, and workers run such tasks, one of a sequence at a time; keys come as ticks reach ripe moments; only a task that was
+-- taken has an open scope; and who is inside a job is a seat of the script, under a number of its own, and as a worker runs no
+-- task. Every legal past is such a past
 pub record IsPoolPast (script : Plan) (past : List Entry) : Type 0 where
   pub in_order : InOrder (posts past)
   pub declared : AllByRecursion (IsDeclared script) (posts past)

@@ -37,7 +37,7 @@ abbrev pub ends_as : Bool → ℕ → Kind → Bool
 ends_as false t kind = ends t kind
 ends_as true t kind = main_ends t kind
 
--- the kinds that take or end such a task
+-- what the taking and the ending of such a task move
 abbrev pub run_parts : Bool → List Part
 run_parts false = Takes ∷ Ends ∷ []
 run_parts true = main_parts

@@ -5,12 +5,13 @@ use Rattle.std.proofs.lemmas.Bool.{ne_eqb, not-true}
 use Rattle.std.proofs.lemmas.Grind.{length_at_push}
 use Rattle.list_laws.specs.Lists.{keep}
 use Rattle.pool_laws.proofs.Seats.Running.{running_other}
+use Rattle.pool_laws.specs.Runs.{moves_runs, run_parts}
 use Rattle.pool_laws.specs.Seats.{main_parts, running_parts}
 use Rattle.queue_laws.proofs.Fronts.{streak_of_same}
 use Rattle.task_base.specs.Plan.{Plan}
 use Rattle.task_base.specs.declared.entry.Entry.{Entry}
 use Rattle.task_model.specs.Orders.{main_arrivals, next_draw}
-use Rattle.sequence_manager.specs.Others.{is_still, moves_pool, queue_parts, pool_task_parts}
+use Rattle.sequence_manager.specs.Others.{is_still, queue_parts}
 use Rattle.sequence_manager.specs.Queues.{unripe}
 use Rattle.sequence_manager.specs.StandsFor.{ArePartsOf, StandsFor}
 use Rattle.sequence_manager.specs.declared.manager.Manager.{Manager}
@@ -53,13 +54,13 @@ stands_apart script past manager e apart as_before stands = record {
 
 pub stands_still : (script : Plan) (past : List Entry) (manager : Manager) (e : Entry) → is_still e.kind ≡ true
     → StandsFor script past manager → StandsFor script (past ++ e ∷ []) manager
-stands_still script past manager e still = stands_apart script past manager e (moves_fewer queue_parts (queue_parts ++ pool_task_parts) e.kind refl none)
-    (driver_same past e (moves_fewer running_parts (queue_parts ++ pool_task_parts) e.kind refl none))
+stands_still script past manager e still = stands_apart script past manager e (moves_fewer queue_parts (queue_parts ++ run_parts false) e.kind refl none)
+    (driver_same past e (moves_fewer running_parts (queue_parts ++ run_parts false) e.kind refl none))
   where
-    none : moves (queue_parts ++ pool_task_parts) e.kind ≡ false
+    none : moves (queue_parts ++ run_parts false) e.kind ≡ false
     none = not-true _ still
 
-pub stands_pool : (script : Plan) (past : List Entry) (manager : Manager) (e : Entry) → moves_pool e.kind ≡ true → 1 ≤ e.seat
+pub stands_pool : (script : Plan) (past : List Entry) (manager : Manager) (e : Entry) → moves_runs false e.kind ≡ true → 1 ≤ e.seat
     → StandsFor script past manager → StandsFor script (past ++ e ∷ []) manager
-stands_pool script past manager e pool worker = stands_apart script past manager e (moves_apart pool_task_parts queue_parts e.kind refl pool)
+stands_pool script past manager e pool worker = stands_apart script past manager e (moves_apart (run_parts false) queue_parts e.kind refl pool)
     (ap (keep (λ w. w.is_main)) (running_other past e 0 (ne_eqb e.seat 0 (λ is. omega (arith, worker, is)))))

@@ -1,7 +1,8 @@
-ghost use Rattle.std.specs.Prelude.{◌≡◌, ◌≤◌, List, [], ◌∷◌, ◌++◌, true};
+ghost use Rattle.std.specs.Prelude.{◌≡◌, ◌≤◌, List, [], ◌∷◌, ◌++◌, true, false};
 ghost use Rattle.task_base.specs.Plan.{Plan};
 ghost use Rattle.task_base.specs.declared.entry.Entry.{Entry};
-ghost use Rattle.sequence_manager.specs.Others.{is_still, moves_pool};
+ghost use Rattle.pool_laws.specs.Runs.{moves_runs};
+ghost use Rattle.sequence_manager.specs.Others.{is_still};
 ghost use Rattle.sequence_manager.specs.StandsFor.{StandsFor};
 ghost use Rattle.sequence_manager.specs.declared.manager.Manager.{Manager};
 
@@ -10,6 +11,6 @@ ghost use Rattle.sequence_manager.specs.declared.manager.Manager.{Manager};
 pub fn other_entries_keep_the_main_queues()
     ensures still { (script : Plan) (past : List Entry) (manager : Manager) (e : Entry) → is_still e.kind ≡ true
         → StandsFor script past manager → StandsFor script (past ++ e ∷ []) manager }
-    ensures pool { (script : Plan) (past : List Entry) (manager : Manager) (e : Entry) → moves_pool e.kind ≡ true
+    ensures pool { (script : Plan) (past : List Entry) (manager : Manager) (e : Entry) → moves_runs false e.kind ≡ true
         → 1 ≤ e.seat → StandsFor script past manager → StandsFor script (past ++ e ∷ []) manager }
 {}

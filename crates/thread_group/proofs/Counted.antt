@@ -6,7 +6,7 @@ use Rattle.std.specs.Prelude.{is_some, not, ◌&&◌, ◌||◌, nat_lt}
 use Rattle.std.proofs.lemmas.Bool.{leb-true, le-leb, not-false}
 use Rattle.std.proofs.lemmas.List.{take_more, drop_more, take-append-drop, length-append, length-drop}
 use Rattle.list_laws.specs.Lists.{count, holds_of}
-use Rattle.list_laws.proofs.Counts.{count-cons, count_step, count-append, count_le}
+use Rattle.list_laws.proofs.Counts.{count-set, count-cons, count_step, count-append, count_le}
 use Rattle.task_base.specs.Groups.{has_come, is_best_effort}
 use Rattle.task_base.specs.declared.step.Scope.{Scope}
 use Rattle.task_base.specs.declared.step.Scope.TheVariants.{May, Will}
@@ -17,15 +17,6 @@ use Rattle.thread_group.specs.Work.{scope_counts, is_best, is_blocked, is_best_b
 use Rattle.thread_group.specs.Group.{has_room}
 use Rattle.task_traits.specs.declared.traits.Priority.{Priority}
 use Rattle.thread_group.specs.Counts.{AreCounts, IsWithin, HaveRoom, AreMoved}
-
--- one element changes
-count-set : {A : Type 0} (p : A → Bool) (xs : List A) (i : ℕ) (d x y : A) → i < length xs → x ≡ get_or xs i d
-    → count p (set xs i y) + count p (x ∷ []) ≡ count p xs + count p (y ∷ [])
-count-set p [] i d x y less is = absurd (omega (arith, less))
-count-set p (z ∷ zs) zero d x y less is =
-    omega (arith, ap (λ w. count p (w ∷ [])) is, count-cons p y zs, count-cons p z zs, count-cons p y [], count-cons p z [])
-count-set p (z ∷ zs) (suc i) d x y less is =
-    omega (arith, count-set p zs i d x y (omega (arith, less)) is, count-cons p z (set zs i y), count-cons p z zs)
 
 -- one element counts no more than all
 count_one : {A : Type 0} (p : A → Bool) (xs : List A) (i : ℕ) (d x : A) → i < length xs → x ≡ get_or xs i d → count p (x ∷ []) ≤ count p xs
