@@ -7,7 +7,7 @@ use Rattle.task_base.specs.declared.entry.Kind.{Kind}
 use Rattle.task_base.specs.declared.entry.Kind.TheVariants as kinds
 use Rattle.task_base.specs.declared.entry.JobReply.{JobReply}
 use Rattle.task_base.specs.declared.entry.JobReply.TheVariants as replies
-use Rattle.task_base.specs.Words.{reply_word, vote_word, scope_word, priority_word, policy_word, fence_word}
+use Rattle.value_words.specs.Words.{reply_word, vote_word, scope_word, priority_word, policy_word, fence_word}
 use Rattle.log_model.specs.Fits.{Fits}
 use Rattle.log_model.specs.declared.version.Version.{Version}
 use Rattle.log_model.specs.declared.version.Version.TheVariants.{One, Two}

@@ -8,7 +8,7 @@ use Rattle.task_base.specs.declared.script.Runner.{Runner}
 use Rattle.task_base.specs.declared.script.MainQueue.{MainQueue}
 use Rattle.task_base.specs.declared.script.Action.{Action}
 use Rattle.task_base.specs.declared.script.Action.TheVariants.{Post, Main, Tick, Policy, Reprio, Fence, Unfence, Vote, Rank, Close, Pump, Flush, StartJob, Join, Cancel, Shutdown}
-use Rattle.task_base.specs.Words.{priority_word, behaviour_word, policy_word, fence_word, scope_word, vote_word, kind_word}
+use Rattle.value_words.specs.Words.{priority_word, behaviour_word, policy_word, fence_word, scope_word, vote_word, kind_word}
 use Rattle.script_model.specs.Grammar.{Reads}
 
 -- the words of a step

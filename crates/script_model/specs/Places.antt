@@ -6,7 +6,7 @@ use Rattle.task_base.specs.declared.step.Step.TheVariants.{Add, Mul, Set, Post, 
 use Rattle.task_base.specs.declared.script.RunnerKind.{RunnerKind}
 use Rattle.task_base.specs.declared.script.RunnerKind.TheVariants.{Parallel, Sequenced, Single}
 use Rattle.task_base.specs.declared.limits.TheConstants.{MOST_WORKERS, MOST_MICROSECONDS}
-use Rattle.task_base.specs.Words.{named, kind_word, scope_named}
+use Rattle.value_words.specs.Words.{named, kind_word, scope_named}
 use Rattle.script_model.specs.Words.{is_word, number_of}
 use Rattle.script_model.specs.Reasons.{◌>>=◌, ◌>>◌, ◌&◌, refuse, unknown_word, word_count, bad_number, out_of_range}
 

@@ -6,4 +6,3 @@ pub mod Policy
 pub mod Keys
 pub mod Runners
 pub mod Groups
-pub mod Words

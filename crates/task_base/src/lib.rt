@@ -1,5 +1,5 @@
-//! The plain data of the task environment: lists with room, scripts, log entries, cells, policies, the words
-//! that values are written as, and the faults that a run may end with.
+//! The plain data of the task environment: lists with room, scripts, log entries, cells, policies, and the faults
+//! that a run may end with.
 #![tactic(auto)]
 
 mod cell;
@@ -11,7 +11,6 @@ mod rows;
 mod script;
 mod source;
 mod step;
-pub mod words;
 
 pub use cell::Cell;
 pub use entry::{Entry, JobReply, Kind};

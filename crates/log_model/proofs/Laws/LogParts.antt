@@ -2,22 +2,21 @@
 -- Cited by `Laws/LogJsons`, `Laws/LogLines`, `Laws/LogTexts`, `run_log`.
 use Rattle.std.proofs.Common.{◌≡◌, ◌≢◌, ◌==◌, ◌<◌, ◌+◌, ◌/◌, ◌%◌, ◌^◌, ℕ, zero, suc, get_or, Bool, true, false, if◌then◌else◌}
 use Rattle.std.proofs.Common.{Option, None, Some, List, [], ◌∷◌, ◌++◌, refl, sym, ap, ◌∙◌, arith, nat_lt}
-use Rattle.std.specs.Prelude.{◌&&◌, not, nat_eq, map, codes}
+use Rattle.std.specs.Prelude.{◌&&◌, not, nat_eq, map, codes, unwrap_or}
 use Rattle.std.specs.Cmp.Lexicographic.{pointwise}
 use Rattle.std.specs.Fmt.{decimal, digits, digits_onto, digit_glyph}
 use Rattle.std.specs.List.{AllByRecursion, list_all, join_with_byte}
 use Rattle.std.proofs.lemmas.Fmt.{decimal_injective}
 use Rattle.std.proofs.lemmas.List.{append_cancel_right}
-use Rattle.task_traits.specs.declared.traits.Priority.{Priority}
 use Rattle.task_traits.specs.declared.traits.Priority.TheVariants.{BestEffort, UserVisible, UserBlocking}
 use Rattle.task_base.specs.declared.entry.Kind.{Kind}
 use Rattle.task_base.specs.declared.entry.Kind.TheVariants as kinds
 use Rattle.task_base.specs.declared.entry.JobReply.{JobReply}
 use Rattle.task_base.specs.declared.entry.JobReply.TheVariants as replies
-use Rattle.task_base.specs.declared.policy.Policy.{Policy}
 use Rattle.task_base.specs.declared.policy.Policy.TheVariants.{All, Foreground, Nothing}
 use Rattle.task_base.specs.declared.script.FenceAt.TheVariants.{Now, Start}
 use Rattle.task_base.specs.declared.step.Scope.TheVariants.{May, Will}
+use Rattle.value_words.specs.Words.{fence_named, policy_named, priority_named, reply_named, scope_named, vote_named}
 use Rattle.log_model.specs.Fits.{KindFits}
 use Rattle.log_model.specs.LogText.{Part, word, number, parts_of, shown, shown_json}
 use Rattle.log_model.proofs.Laws.Pieces.{Lacks, Lacks-append, same_pieces}
@@ -54,12 +53,9 @@ says parts k name = pointwise nat_eq (bytes_of (get_or parts k (number 0))) name
 abbrev value_at : List Part → ℕ → ℕ
 value_at parts k = value_of (get_or parts k (number 0))
 
-abbrev policy_read : List Part → ℕ → Policy
-policy_read parts k = if says parts k (codes "all") then All else if says parts k (codes "none") then Nothing else Foreground
-
-abbrev priority_read : List Part → ℕ → Priority
-priority_read parts k =
-    if says parts k (codes "best_effort") then BestEffort else if says parts k (codes "user_visible") then UserVisible else UserBlocking
+-- the value that the part at a place names, or else this one
+abbrev named_at : {A : Type 0} → (List ℕ → Option A) → List Part → ℕ → A → A
+named_at named parts k other = unwrap_or (named (bytes_of (get_or parts k (number 0)))) other
 
 abbrev reply_read : List Part → ℕ → JobReply
 reply_read parts k = if says parts k (codes "refused") then replies.Refused else if says parts k (codes "done") then replies.Finished
@@ -72,24 +68,24 @@ next_read parts k = if says parts k (codes "-") then None else Some (value_at pa
 abbrev kind_read : List Part → Kind
 kind_read p =
     let v = value_at p in
-    if says p 0 (codes "post") then kinds.Post (v 1) (v 2) (v 3) (says p 4 (codes "ok"))
-    else if says p 0 (codes "main") then kinds.Main (v 1) (v 2) (v 3) (says p 4 (codes "ok"))
+    if says p 0 (codes "post") then kinds.Post (v 1) (v 2) (v 3) (named_at reply_named p 4 false)
+    else if says p 0 (codes "main") then kinds.Main (v 1) (v 2) (v 3) (named_at reply_named p 4 false)
     else if says p 0 (codes "tick") then kinds.Tick (v 1)
     else if says p 0 (codes "take") then kinds.Take (v 1) (v 2) (v 3)
     else if says p 0 (codes "end") then kinds.End (v 1) (v 2)
-    else if says p 0 (codes "block") then kinds.Enter (v 1) (if says p 2 (codes "may") then May else Will)
+    else if says p 0 (codes "block") then kinds.Enter (v 1) (named_at scope_named p 2 Will)
     else if says p 0 (codes "unblock") then kinds.Leave (v 1)
-    else if says p 0 (codes "policy") then kinds.Policy (policy_read p 1)
-    else if says p 0 (codes "reprio") then kinds.Reprio (v 1) (priority_read p 2)
-    else if says p 0 (codes "fence") then kinds.Fence (v 1) (if says p 2 (codes "now") then Now else Start)
+    else if says p 0 (codes "policy") then kinds.Policy (named_at policy_named p 1 Foreground)
+    else if says p 0 (codes "reprio") then kinds.Reprio (v 1) (named_at priority_named p 2 UserBlocking)
+    else if says p 0 (codes "fence") then kinds.Fence (v 1) (named_at fence_named p 2 Start)
     else if says p 0 (codes "unfence") then kinds.Unfence (v 1)
-    else if says p 0 (codes "vote") then kinds.Vote (v 1) (v 2) (says p 3 (codes "on"))
+    else if says p 0 (codes "vote") then kinds.Vote (v 1) (v 2) (named_at vote_named p 3 false)
     else if says p 0 (codes "rank") then kinds.Rank (v 1) (v 2)
     else if says p 0 (codes "close") then kinds.Close (v 1)
     else if says p 0 (codes "maintake") then kinds.MainTake (v 1) (v 2) (v 3)
     else if says p 0 (codes "mainend") then kinds.MainEnd (v 1) (v 2)
     else if says p 0 (codes "mainnone") then kinds.MainNone
-    else if says p 0 (codes "startjob") then kinds.JobPost (v 1) (says p 2 (codes "ok"))
+    else if says p 0 (codes "startjob") then kinds.JobPost (v 1) (named_at reply_named p 2 false)
     else if says p 0 (codes "jobtake") then kinds.JobTake (v 1) (v 2) (v 3)
     else if says p 0 (codes "jobstep") then kinds.JobStep (v 1) (v 2) (v 3) (v 4) (next_read p 5)
     else if says p 0 (codes "cancel") then kinds.JobCancel (v 1)

@@ -17,7 +17,7 @@ use Rattle.task_base.specs.declared.script.RunnerKind.{RunnerKind}
 use Rattle.task_base.specs.declared.script.RunnerKind.TheVariants.{Parallel, Sequenced, Single}
 use Rattle.task_base.specs.declared.script.MainQueue.{MainQueue}
 use Rattle.script_model.specs.Reasons.{◌&◌, out_of_order, undeclared, posted_twice, declaration_late, bad_block, job_use, too_many}
-use Rattle.task_base.specs.Words.{priority_named, behaviour_named}
+use Rattle.value_words.specs.Words.{priority_named, behaviour_named}
 use Rattle.script_model.specs.Places.{said_at, name_at, ends_at, number_at, id_at, kind_named, may_block_at, steps_read}
 use Rattle.script_model.specs.Bound.{events_of_task, events_of_job, events_bound_of}
 use Rattle.script_model.specs.Postings.{posts_of_step, postings}

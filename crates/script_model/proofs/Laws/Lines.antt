@@ -23,7 +23,7 @@ use Rattle.task_base.specs.declared.limits.TheConstants.{MOST_WORKERS, MOST_RUNN
 use Rattle.script_model.specs.Lines.{workers_line, groups_line, threshold_line, runner_line, queue_line}
 use Rattle.script_model.specs.Lines.{command_read, words_read, line_read}
 use Rattle.script_model.specs.Grammar.{lines_read, script_read}
-use Rattle.task_base.specs.Words.{priority_word, behaviour_word, kind_word}
+use Rattle.value_words.specs.Words.{priority_word, behaviour_word, kind_word}
 use Rattle.script_model.specs.Canonical.{may_block_words, runner_words, queue_words, config_lines, numbered}
 use Rattle.script_model.specs.Laws.Sound.{IsSound, IsConfigSound, IsSeatThere, IsQueueWithin}
 use Rattle.list_laws.proofs.Values.{eqb-same}

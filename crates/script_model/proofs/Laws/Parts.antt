@@ -15,7 +15,7 @@ use Rattle.task_base.specs.declared.script.RunnerKind.{RunnerKind}
 use Rattle.task_base.specs.declared.script.RunnerKind.TheVariants.{Parallel, Sequenced, Single}
 use Rattle.script_model.specs.Words.{is_word, number_of}
 use Rattle.script_model.specs.Reasons.{◌>>=◌, ◌>>◌, ◌&◌, refuse, unknown_word, word_count, out_of_range}
-use Rattle.task_base.specs.Words.{scope_named}
+use Rattle.value_words.specs.Words.{scope_named}
 use Rattle.script_model.specs.Places.{known, single_named, many_named, said_at, name_at, ends_at, in_range, number_from, number_at, id_at, time_at, kind_named}
 use Rattle.script_model.specs.Places.{compute_read, post_read, block_read, step_said, step_read, all_read, steps_read}
 use Rattle.script_model.specs.Laws.Sound.{IsStepWithin}

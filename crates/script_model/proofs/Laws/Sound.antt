@@ -19,7 +19,7 @@ use Rattle.list_laws.specs.Lists.{count}
 use Rattle.script_model.specs.Words.{words_of, is_word, begins_comment, is_all_ascii, lines_of}
 use Rattle.script_model.specs.Reasons.{◌>>=◌, ◌>>◌, ◌&◌, refuse, not_ascii, unknown_word, undeclared, posted_twice}
 use Rattle.script_model.specs.Reasons.{bad_block, job_use, shutdown_twice, too_many, word_count}
-use Rattle.task_base.specs.Words.{priority_named, policy_named, fence_named, vote_named}
+use Rattle.value_words.specs.Words.{priority_named, policy_named, fence_named, vote_named}
 use Rattle.script_model.specs.Places.{name_at, ends_at, number_at, id_at, time_at}
 use Rattle.script_model.specs.Bound.{events_of_action}
 use Rattle.script_model.specs.Postings.{posts_of_step, posts_of_action, postings}

@@ -23,8 +23,8 @@ use Rattle.task_base.specs.declared.script.RunnerKind.TheVariants.{Parallel, Seq
 use Rattle.task_base.specs.declared.script.FenceAt.{FenceAt}
 use Rattle.task_base.specs.declared.script.FenceAt.TheVariants.{Now, Start}
 use Rattle.task_base.specs.declared.limits.TheConstants.{MOST_WORKERS, MOST_MICROSECONDS}
-use Rattle.task_base.specs.Words.{priority_word, behaviour_word, policy_word, fence_word, scope_word, vote_word, kind_word}
-use Rattle.task_base.specs.Words.{priority_named, behaviour_named, policy_named, fence_named, scope_named, vote_named}
+use Rattle.value_words.specs.Words.{priority_word, behaviour_word, policy_word, fence_word, scope_word, vote_word, kind_word}
+use Rattle.value_words.specs.Words.{priority_named, behaviour_named, policy_named, fence_named, scope_named, vote_named}
 use Rattle.script_model.specs.Words.{is_word}
 use Rattle.script_model.specs.Places.{number_from, kind_named, step_said, step_read, all_read, steps_read}
 use Rattle.script_model.specs.Canonical.{step_words, steps_words, may_block_words}

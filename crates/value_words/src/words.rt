@@ -1,14 +1,9 @@
-//! The words that scripts and logs write values as, and the way back from a word to the value that it names. Each value is
-//! tried by its word, since a search in a list of them takes longer.
-
 ghost use Rattle.std.specs.Prelude.{◌≡◌, ◌≤◌, length, IfSome};
-ghost use Rattle.task_base.specs.Words.{priority_word, behaviour_word, policy_word, fence_word, scope_word, vote_word, reply_word, priority_named, behaviour_named, policy_named, fence_named, scope_named, vote_named, reply_named};
+ghost use Rattle.value_words.specs.Words.{priority_word, behaviour_word, policy_word, fence_word, scope_word, vote_word, reply_word, priority_named, behaviour_named, policy_named, fence_named, scope_named, vote_named, reply_named};
 
-use crate::policy::Policy;
-use crate::script::FenceAt;
-use crate::step::Scope;
-use task_traits::{Behaviour, Priority};
+use task_base::{Behaviour, FenceAt, Policy, Priority, Scope};
 
+/// The word of a priority.
 pub fn priority_word(priority: Priority) -> &'static str
     ensures word { result.now ≡ priority_word priority }
     ensures short { length result.now ≤ 13 }
@@ -20,6 +15,7 @@ pub fn priority_word(priority: Priority) -> &'static str
     }
 }
 
+/// The word of a behaviour at shutdown.
 pub fn behaviour_word(behaviour: Behaviour) -> &'static str
     ensures word { result.now ≡ behaviour_word behaviour }
     ensures short { length result.now ≤ 10 }
@@ -31,6 +27,7 @@ pub fn behaviour_word(behaviour: Behaviour) -> &'static str
     }
 }
 
+/// The word of a policy.
 pub fn policy_word(policy: Policy) -> &'static str
     ensures word { result.now ≡ policy_word policy }
     ensures short { length result.now ≤ 10 }
@@ -42,6 +39,7 @@ pub fn policy_word(policy: Policy) -> &'static str
     }
 }
 
+/// The word of where a fence is set.
 pub fn fence_word(at: FenceAt) -> &'static str
     ensures word { result.now ≡ fence_word at }
     ensures short { length result.now ≤ 10 }
@@ -52,6 +50,7 @@ pub fn fence_word(at: FenceAt) -> &'static str
     }
 }
 
+/// The word of a blocking scope.
 pub fn scope_word(scope: Scope) -> &'static str
     ensures word { result.now ≡ scope_word scope }
     ensures short { length result.now ≤ 10 }
@@ -62,6 +61,7 @@ pub fn scope_word(scope: Scope) -> &'static str
     }
 }
 
+/// The word of a vote.
 pub fn vote_word(on: bool) -> &'static str
     ensures word { result.now ≡ vote_word on }
     ensures short { length result.now ≤ 10 }
@@ -77,6 +77,7 @@ pub fn reply_word(ok: bool) -> &'static str
     if ok { "ok" } else { "no" }
 }
 
+/// The priority that a word names, if there is one.
 #[tactic(auto, using(crate::proofs::Named::named_word))]
 pub fn priority_named(word: &[u8]) -> Option<Priority>
     ensures same { result ≡ priority_named word.now }
@@ -93,6 +94,7 @@ pub fn priority_named(word: &[u8]) -> Option<Priority>
     }
 }
 
+/// The behaviour at shutdown that a word names, if there is one.
 #[tactic(auto, using(crate::proofs::Named::named_word))]
 pub fn behaviour_named(word: &[u8]) -> Option<Behaviour>
     ensures same { result ≡ behaviour_named word.now }
@@ -109,6 +111,7 @@ pub fn behaviour_named(word: &[u8]) -> Option<Behaviour>
     }
 }
 
+/// The policy that a word names, if there is one.
 #[tactic(auto, using(crate::proofs::Named::named_word))]
 pub fn policy_named(word: &[u8]) -> Option<Policy>
     ensures same { result ≡ policy_named word.now }
@@ -125,6 +128,7 @@ pub fn policy_named(word: &[u8]) -> Option<Policy>
     }
 }
 
+/// Where a word sets a fence, if it says so.
 #[tactic(auto, using(crate::proofs::Named::named_word))]
 pub fn fence_named(word: &[u8]) -> Option<FenceAt>
     ensures same { result ≡ fence_named word.now }
@@ -139,6 +143,7 @@ pub fn fence_named(word: &[u8]) -> Option<FenceAt>
     }
 }
 
+/// The blocking scope that a word names, if there is one.
 #[tactic(auto, using(crate::proofs::Named::named_word))]
 pub fn scope_named(word: &[u8]) -> Option<Scope>
     ensures same { result ≡ scope_named word.now }
@@ -153,6 +158,7 @@ pub fn scope_named(word: &[u8]) -> Option<Scope>
     }
 }
 
+/// The vote that a word names, if there is one.
 #[tactic(auto, using(crate::proofs::Named::named_word))]
 pub fn vote_named(word: &[u8]) -> Option<bool>
     ensures same { result ≡ vote_named word.now }
@@ -167,6 +173,7 @@ pub fn vote_named(word: &[u8]) -> Option<bool>
     }
 }
 
+/// The reply of a post that a word names, if there is one: whether it is accepted.
 #[tactic(auto, using(crate::proofs::Named::named_word))]
 pub fn reply_named(word: &[u8]) -> Option<bool>
     ensures same { result ≡ reply_named word.now }

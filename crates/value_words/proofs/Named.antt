@@ -5,7 +5,7 @@ use Rattle.std.specs.Prelude.{IfSome}
 use Rattle.std.specs.Str.{bytes_eq}
 use Rattle.std.proofs.lemmas.Slice.Eq.{bytes_eq-Decides}
 use Rattle.list_laws.proofs.Finds.{find_passes}
-use Rattle.task_base.specs.Words.{named}
+use Rattle.value_words.specs.Words.{named}
 
 pub named_word : {A : Type 0} (word_of : A → List ℕ) (values : List A) (word : List ℕ) → IfSome (named word_of values word) (λ value. word ≡ word_of value)
 named_word {A} word_of values word = by_answer (named word_of values word) refl
