@@ -1,2 +1,3 @@
 pub mod Sits
 pub mod Refusals
+pub mod Splits

@@ -1,3 +1,4 @@
 pub mod Sits
 pub mod Holds
 pub mod Workers
+pub mod Splits

@@ -7,6 +7,7 @@ ghost use Rattle.task_model.specs.Jobs.{item_value};
 ghost use Rattle.turn_table.specs.Seats.{Rising, Tells, closed};
 ghost use Rattle.env_roster.specs.Wakes.{names_seats};
 ghost use Rattle.env_shared.specs.Sits.{Seated};
+ghost use Rattle.env_shared.specs.Splits.{AreWorkers, IsDriver};
 
 use crate::desk::SharedDesk;
 use crate::workers::workers_of;
@@ -91,6 +92,30 @@ impl<B: TaskBody> Shared<B> {
         ensures second { result.1 ≡ record { of = seat.of; number = seat.made; seen = seat.seen; mine = []; made = 0; loads = 0; last = 0; turns = 0; told = seat.told } }
     {
         self.turnstile.split(seat)
+    }
+
+    /// Gives the seats of the first so many workers, split off the driver's, which has no entries yet.
+    pub fn split_all(
+        &self,
+        first: EnvSeat<B>,
+        seats: &mut Rows<EnvSeat<B>>,
+        count: u32,
+    ) -> EnvSeat<B>
+        requires first { IsDriver self.now 0 first }
+        requires count { count ≤ self.now.basis.workers }
+        requires none { seats.old.items ≡ [] }
+        requires room { count ≤ seats.old.spare }
+        ensures first { IsDriver self.now count result }
+        ensures all { length seats.new.items ≡ count }
+        ensures workers { AreWorkers self.now 1 seats.new.items }
+    {
+        let mut first = first;
+        for _ in 0..count {
+            let (kept, next) = self.split(first);
+            first = kept;
+            seats.push_spare(next);
+        }
+        first
     }
 
     /// Puts a seat at a desk, from which it takes the turn.

@@ -1,5 +1,5 @@
 -- The workers of a script, from their split to the close.
--- Cited by `perform`, `run_crew`, `join_all`, `split_all`, `start_all`.
+-- Cited by `perform`, `run_crew`, `join_all`, `start_all`.
 use Rattle.std.proofs.Common.{◌≡◌, ℕ, zero, suc, ◌+◌, ◌-◌, ◌<◌, ◌≤◌, Bool, true, false, cond, eqb, append-nil, List, [], ◌∷◌, ◌++◌}
 use Rattle.std.proofs.Common.{length, map, refl, sym, ap, subst, ◌∙◌, length-append, get_or, Option, Some, None, arith, inl, inr}
 use Rattle.std.specs.Prelude.{is_none, slice_get}
@@ -15,7 +15,7 @@ use Rattle.task_base.specs.declared.entry.Entry.{Entry}
 use Rattle.task_base.specs.declared.entry.Kind.{Kind}
 use Rattle.task_base.specs.declared.entry.Kind.TheVariants as kinds
 use Rattle.task_model.specs.Orders.{moment_of}
-use Rattle.task_model.specs.Seats.{is_free, running, holding}
+use Rattle.task_model.specs.Seats.{is_free}
 use Rattle.pool_laws.proofs.Seats.Running.{free_is_quiet}
 use Rattle.hist_model.specs.Allowed.{by_script, may_come}
 use Rattle.hist_model.specs.Legal.{IsLegal}
@@ -28,8 +28,9 @@ use Rattle.turn_table.specs.Seats.{TurnKey, SeatView, Rising, Tells}
 use Rattle.env_crew.specs.Driving.{AllFree, HasMomentsOf, SameDesks}
 use Rattle.env_crew.specs.Serving.{IsFree}
 use Rattle.env_shared.specs.Sits.{Seated, desk_of}
+use Rattle.env_shared.specs.Splits.{IsWorker, AreWorkers}
 use Rattle.env_shared.proofs.Sits.{same_environment}
-use Rattle.env_threads.specs.Crew.{IsWorker, AreWorkers, refused, ArePromised, IsSpare, AreSpare, AreBack}
+use Rattle.env_threads.specs.Crew.{refused, ArePromised, IsSpare, AreSpare, AreBack}
 
 -- Numbers of refused starts.
 
@@ -45,11 +46,6 @@ refused_none n (Some k ∷ starts) = refused_none (n - 1) starts ∙ ap (λ k. r
 
 -- Seats in rising order.
 
-pub workers_push : (key : TurnKey) (n : ℕ) (seats : List SeatView) (s : SeatView) → AreWorkers key n seats → IsWorker key (n + length seats) s
-    → AreWorkers key n (seats ++ s ∷ [])
-workers_push key n [] s all worker = (subst (λ k. IsWorker key k s) (omega arith) worker, tt)
-workers_push key n (x ∷ seats) s all worker = (all.0, workers_push key (n + 1) seats s all.1 (subst (λ k. IsWorker key k s) (omega arith) worker))
-
 pub workers_pop : (key : TurnKey) (n : ℕ) (seats : List SeatView) (s : SeatView) → AreWorkers key n (seats ++ s ∷ [])
     → AreWorkers key n seats × IsWorker key (n + length seats) s
 workers_pop key n [] s all = (tt, subst (λ k. IsWorker key k s) (omega arith) all.0)
@@ -59,11 +55,6 @@ workers_pop key n (x ∷ seats) s all =
 pub workers_rise : (key : TurnKey) (n : ℕ) (seats : List SeatView) → AreWorkers key n seats → Rising key n seats
 workers_rise key n [] all = tt
 workers_rise key n (s ∷ seats) all = (all.0.of_is, all.0.number_is, workers_rise key (n + 1) seats all.1)
-
--- a seat that was just split off
-pub fresh : (key : TurnKey) (n : ℕ) (s : SeatView) → s.of ≡ key → s.number ≡ n → s.mine ≡ [] → IsWorker key n s
-unfolding running holding
-fresh key n s of_is number_is none = record { of_is = of_is; number_is = number_is; free = rw none refl }
 
 -- the last of the seats that are left, where the others were started
 pub last_left : {H : Type 0} (key : TurnKey) (n : ℕ) (seats front : List SeatView) (s : SeatView) (starts : List (Option H)) → seats ≡ front ++ s ∷ []

@@ -6,17 +6,7 @@ use Rattle.hist_model.specs.Script.{current}
 use Rattle.turn_table.specs.Seats.{TurnKey, SeatView}
 use Rattle.env_crew.specs.Serving.{IsFree}
 use Rattle.env_shared.specs.Sits.{desk_of}
-
--- the worker's seat of this number, of the shared environment; it runs nothing
-pub record IsWorker (key : TurnKey) (number : ℕ) (seat : SeatView) : Type 0 where
-  pub of_is : seat.of ≡ key
-  pub number_is : seat.number ≡ number
-  pub free : is_free seat.mine number ≡ true
-
--- the workers' seats from this number on, in rising order
-abbrev pub AreWorkers : TurnKey → ℕ → List SeatView → Type 0
-AreWorkers key number [] = Unit {0}
-AreWorkers key number (seat ∷ rest) = IsWorker key number seat × AreWorkers key (number + 1) rest
+use Rattle.env_shared.specs.Splits.{AreWorkers}
 
 -- the numbers of the starts that were refused, where the first start was that of this worker and the others fall from there
 abbrev pub refused : {H : Type 0} → ℕ → List (Option H) → List ℕ
@@ -50,13 +40,6 @@ pub record AreStarted {H : Type 0} (given : H → SeatView) (key : TurnKey) (wor
   pub spare_are : AreSpare key (refused workers starts.items) spare.items
   pub room : length seats ≤ starts.spare
   pub spare_room : length seats ≤ spare.spare
-
--- the driver's seat, of the shared environment; it has no entries, and the workers' seats are split off it
-pub record IsDriver (key : TurnKey) (workers : ℕ) (seat : SeatView) : Type 0 where
-  pub of_is : seat.of ≡ key
-  pub number_is : seat.number ≡ 0
-  pub mine_is : seat.mine ≡ []
-  pub made_is : seat.made ≡ workers + 1
 
 -- the driver's seat and the workers' seats, which came back when the script was performed
 pub record AreBack (key : TurnKey) (workers : ℕ) (first : SeatView) (rest : List SeatView) : Type 0 where

@@ -7,9 +7,10 @@ ghost use Rattle.hist_model.specs.Script.{IsWhole};
 ghost use Rattle.script_model.specs.Laws.Sound.{IsSound};
 ghost use Rattle.env_core.specs.Calls.{AreFresh};
 ghost use Rattle.env_crew.specs.Driving.{HasMomentsOf};
-ghost use Rattle.env_threads.specs.Crew.{AreBack, ArePromised, AreSpare, IsDriver, refused};
+ghost use Rattle.env_shared.specs.Splits.{IsDriver};
+ghost use Rattle.env_threads.specs.Crew.{AreBack, ArePromised, AreSpare, refused};
 
-use crate::workers::{Start, join_all, split_all, start_all, with_room};
+use crate::workers::{Start, join_all, start_all, with_room};
 use env_core::Env;
 use env_crew::drive;
 use env_io::{Clock, Gate};
@@ -78,7 +79,7 @@ fn attend_all<'s, E, R: Threads + Wait + Sync, B: TaskBody + Send, C: Clock, G: 
     ensures back { AreBack shared.now script.now.workers result.0 result.1.items }
     ensures moments { HasMomentsOf (C.readings clock.old) result.0.mine }
 {
-    let first = split_all(shared, first, &mut seats, script.workers);
+    let first = shared.split_all(first, &mut seats, script.workers);
     start_all(
         rt,
         scope,

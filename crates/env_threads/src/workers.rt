@@ -1,6 +1,7 @@
 //! The workers' seats, and the threads that serve them.
 ghost use Rattle.std.specs.Prelude.{◌≡◌, ◌<◌, ◌≤◌, [], length, true, IfOk, IfErr};
-ghost use Rattle.env_threads.specs.Crew.{AreSpare, ArePromised, AreWorkers, IsDriver, IsWorker, refused};
+ghost use Rattle.env_shared.specs.Splits.{AreWorkers, IsWorker};
+ghost use Rattle.env_threads.specs.Crew.{AreSpare, ArePromised, refused};
 
 use env_crew::{Desk, work};
 use env_io::Gate;
@@ -23,36 +24,12 @@ pub fn with_room<T: Drop>(alloc: Global, room: usize) -> Result<Rows<T>, AllocEr
     Ok(rows)
 }
 
-/// Splits the seats of so many workers off the driver's, which has no entries yet.
-pub fn split_all<B: TaskBody>(
-    shared: &Shared<B>,
-    first: EnvSeat<B>,
-    seats: &mut Rows<EnvSeat<B>>,
-    count: u32,
-) -> EnvSeat<B>
-    requires first { IsDriver shared.now 0 first }
-    requires count { count ≤ shared.now.basis.workers }
-    requires none { seats.old.items ≡ [] }
-    requires room { count ≤ seats.old.spare }
-    ensures first { IsDriver shared.now count result }
-    ensures all { length seats.new.items ≡ count }
-    ensures workers { AreWorkers shared.now 1 seats.new.items }
-{
-    let mut first = first;
-    for _ in 0..count {
-        let (kept, next) = shared.split(first);
-        first = kept;
-        seats.push_spare(next);
-    }
-    first
-}
-
 /// The seat that a thread gives back is the worker's that it was given, and runs nothing.
 #[derive(Drop)]
 pub struct GivesBack<B: TaskBody>(Snapshot<EnvSeat<B>>);
 
 impl<B: TaskBody> Promise<EnvSeat<B>> for GivesBack<B> {
-    ghost use Rattle.env_threads.specs.Crew.{IsWorker};
+    ghost use Rattle.env_shared.specs.Splits.{IsWorker};
 
     ghost kept_by = { λ p seat. IsWorker p.0.value.of p.0.value.number seat };
 }

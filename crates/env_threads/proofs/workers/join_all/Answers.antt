@@ -1,7 +1,9 @@
 use Rattle.std.proofs.Common.{◌≡◌, ◌+◌, ◌-◌, ◌∙◌, ◌++◌, ◌∷◌, [], length, refl, ap, arith, length-append, Some, None}
 use Rattle.list_laws.proofs.Elements.{slice_get-end}
-use Rattle.env_threads.specs.Crew.{AreSpare, IsWorker, refused}
-use Rattle.env_threads.proofs.Seats.{leaves_free, promised_front, refused_none, refused_some, spare_pop, spare_there, workers_push}
+use Rattle.env_shared.specs.Splits.{IsWorker}
+use Rattle.env_shared.proofs.Splits.{workers_push}
+use Rattle.env_threads.specs.Crew.{AreSpare, refused}
+use Rattle.env_threads.proofs.Seats.{leaves_free, promised_front, refused_none, refused_some, spare_pop, spare_there}
 use Rattle.env_threads.proofs.workers.join_all.Goals.{in-Some-start, in-None+in-Some-pop}
 use Rattle.env_threads.proofs.workers.join_all.Goals as goal
 

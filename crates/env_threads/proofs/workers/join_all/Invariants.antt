@@ -1,5 +1,6 @@
 use Rattle.std.proofs.Common.{◌≡◌, ◌+◌, ◌≤◌, length}
-use Rattle.env_threads.specs.Crew.{AreSpare, ArePromised, AreWorkers, refused}
+use Rattle.env_shared.specs.Splits.{AreWorkers}
+use Rattle.env_threads.specs.Crew.{AreSpare, ArePromised, refused}
 use Rattle.env_threads.proofs.workers.join_all.Given as goal
 
 -- the first seats came back, and the others are started or spare

@@ -1,5 +1,5 @@
 use Rattle.std.proofs.Common.{◌≡◌, ◌+◌, ◌-◌, ◌∙◌, ◌∷◌, [], length, ap, arith, length-append, Some, None}
-use Rattle.env_threads.specs.Crew.{IsWorker}
+use Rattle.env_shared.specs.Splits.{IsWorker}
 use Rattle.env_threads.proofs.Seats.{its_own, last_left, promised_some, promised_none, refused_some, refused_none, sits_spare, spare_push}
 use Rattle.env_threads.proofs.workers.start_all.Goals as goal
 

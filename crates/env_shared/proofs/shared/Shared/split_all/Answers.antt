@@ -1,11 +1,11 @@
 use Rattle.std.proofs.Common.{◌≡◌, ◌+◌, ◌∙◌, ◌∷◌, [], ap, length, length-append, arith}
-use Rattle.env_threads.proofs.Seats.{fresh, workers_push}
-use Rattle.env_threads.proofs.workers.split_all.Goals as goal
+use Rattle.env_shared.proofs.Splits.{fresh, workers_push}
+use Rattle.env_shared.proofs.shared.Shared.split_all.Goals as goal
 
 pub loop-preserved : goal.loop-preserved
 loop-preserved g c =
     let was = c.loop.invariant in let first = c.split-kept.ensures.first in let second = c.split-kept.ensures.second in
-    let seats = c.loop.seats.items in let next = c.split-kept.result.1 in let key = c.args.shared.now in
+    let seats = c.loop.seats.items in let next = c.split-kept.result.1 in let key = c.args.self.now in
     let longer : length c.push_spare.new.self.items ≡ length seats + 1 = ap length c.push_spare.ensures.items ∙ length-append seats (next ∷ []) in
     let number : next.number ≡ 1 + length seats = ap (λ s. s.number) second ∙ was.first.made_is ∙ omega (arith, was.all) in
     record {
