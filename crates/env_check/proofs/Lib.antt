@@ -1,12 +1,1 @@
-pub mod Ends
-pub mod Fresh
-pub mod Judged
-pub mod Passes
-pub mod Posts
-pub mod Replies
-pub mod Scripted
-pub mod Takes
 pub mod Verdicts
-pub mod Waited
-pub mod Whole
-pub mod Wishes

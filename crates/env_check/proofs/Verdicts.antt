@@ -14,7 +14,7 @@ use Rattle.hist_model.specs.Script.{IsWhole, is_whole}
 use Rattle.hist_model.proofs.Laws.Entries.Bound.{entries_within_limit}
 use Rattle.hist_model.proofs.Laws.Legal.{first_illegal_none, is_legal_push}
 use Rattle.env_core.specs.Views.{EnvView}
-use Rattle.env_check.specs.Follows.{Follows}
+use Rattle.log_replay.specs.Follows.{Follows}
 use Rattle.env_check.specs.Verdicts.{prefix_verdict_at, prefix_verdict_of, verdict_at, verdict_of}
 use Rattle.env_check.specs.declared.verdict.Verdict.{Verdict}
 use Rattle.env_check.specs.declared.verdict.Verdict.TheVariants.{Legal, Illegal}

@@ -4,8 +4,8 @@ ghost use Rattle.hist_model.specs.Legal.{IsLegal, first_illegal};
 ghost use Rattle.hist_model.specs.Script.{IsWhole};
 ghost use Rattle.env_check.specs.Verdicts.{prefix_verdict_of, verdict_of};
 
-use crate::replay::Replay;
 use crate::verdict::Verdict;
+use log_replay::Replay;
 use std::alloc::{AllocError, Global};
 use task_base::{Entry, Rows, Script};
 

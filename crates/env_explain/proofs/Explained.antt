@@ -30,7 +30,7 @@ use Rattle.next_entry.specs.declared.cause.Explanation.TheVariants as explanatio
 use Rattle.env_check.specs.Verdicts.{verdict_at, verdict_of}
 use Rattle.env_check.specs.declared.verdict.Verdict.TheVariants.{Illegal, Legal}
 use Rattle.env_check.proofs.Verdicts.{legal_answer}
-use Rattle.env_check.proofs.Whole.{whole_told}
+use Rattle.log_replay.proofs.Whole.{whole_told}
 use Rattle.env_explain.specs.Explained.{HasInHand, HasMore, IsExplained, NamesAllowed, verdict_told}
 
 -- Where a log goes wrong.

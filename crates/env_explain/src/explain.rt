@@ -10,8 +10,8 @@ ghost use Rattle.next_entry.specs.Causes.{Explains, is_of_work};
 ghost use Rattle.env_check.specs.declared.verdict.Verdict.{Verdict};
 ghost use Rattle.env_explain.specs.Explained.{HasInHand, HasMore, IsExplained, busy_below, verdict_told, work_in};
 
-use env_check::{Replay, discard};
 use env_core::Env;
+use log_replay::{Replay, discard};
 use next_entry::{
     Busy, Cause, Explanation, Work, next_of_driver, next_of_item, next_of_task, next_of_worker,
 };

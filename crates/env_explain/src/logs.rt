@@ -6,7 +6,8 @@ ghost use Rattle.env_check.specs.Verdicts.{verdict_of};
 ghost use Rattle.env_explain.specs.Explained.{IsExplained, NamesAllowed, verdict_told};
 
 use crate::explain::{explain, explain_end};
-use env_check::{Replay, Verdict, check_log, follow_all};
+use env_check::{Verdict, check_log, follow_all};
+use log_replay::Replay;
 use next_entry::Explanation;
 use std::alloc::{AllocError, Global};
 use task_base::{Entry, Rows, Script};

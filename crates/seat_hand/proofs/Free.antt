@@ -1,5 +1,5 @@
 -- Whether a seat is free, by its hand.
--- Cited by `env_check`, `env_explain`, `next_entry`.
+-- Cited by `env_explain`, `log_replay`, `next_entry`.
 use Rattle.std.proofs.Common.{◌≡◌, ℕ, ◌≤◌, false, List, get_or, length, Option, Some, None, refl, sym, arith}
 use Rattle.std.proofs.lemmas.Option.{slice_get_read}
 use Rattle.std.specs.Prelude.{is_none, ◌&&◌}

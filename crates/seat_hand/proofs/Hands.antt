@@ -1,5 +1,5 @@
 -- What seats have in hand, as the history grows.
--- Cited by `UnderWay`, `env_check`.
+-- Cited by `UnderWay`, `log_replay`.
 use Rattle.std.proofs.Common.{◌≡◌, ℕ, ◌+◌, ◌<◌, ◌≤◌, Bool, true, false, List, [], ◌∷◌, ◌++◌, length, refl, sym, ap, subst, ◌∙◌, Option, Some, arith, eqb}
 use Rattle.std.proofs.lemmas.Bool.{eq-eqb, eqb-true, true≢false}
 use Rattle.std.proofs.lemmas.List.{length-set}

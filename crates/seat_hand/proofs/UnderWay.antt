@@ -1,5 +1,5 @@
 -- A task that a seat has in hand: whose it is, its next act step, and what is in hand behind its take and its acts.
--- Cited by `advance`, `env_check`, `env_explain`, `next_entry`.
+-- Cited by `advance`, `env_explain`, `log_replay`, `next_entry`.
 use Rattle.task_body.proofs.Progress.{computes_first}
 use Rattle.hist_model.proofs.Laws.Whole.Rest.{none_of}
 use Rattle.std.proofs.Common.{◌≡◌, ◌≢◌, ℕ, ◌+◌, ◌≤◌, Bool, true, false, List, [], ◌∷◌, ◌++◌, length, refl, sym, ap, subst, ◌∙◌, Option, Some, None}

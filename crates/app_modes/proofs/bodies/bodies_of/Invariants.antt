@@ -1,6 +1,6 @@
 use Rattle.std.proofs.Common.{◌≡◌, length}
 use Rattle.task_body.specs.Kinds.{view_of}
-use Rattle.env_check.proofs.Fresh.{AreFirst}
+use Rattle.log_replay.proofs.Fresh.{AreFirst}
 use Rattle.app_modes.proofs.bodies.bodies_of.Given as goal
 
 abbrev pub invariant-loop-task : goal.invariant-loop-task

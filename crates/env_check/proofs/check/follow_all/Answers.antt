@@ -1,7 +1,7 @@
 use Rattle.std.proofs.Common.{ℕ, ◌+◌, ap, arith, refl, subst, sym, ◌∙◌}
 use Rattle.std.specs.Prelude.{Some}
 use Rattle.hist_model.proofs.Laws.Legal.{nothing_is_legal}
-use Rattle.env_check.specs.Follows.{Follows}
+use Rattle.log_replay.specs.Follows.{Follows}
 use Rattle.env_check.proofs.Verdicts.{few_followed, goes_on_at, illegal_nowhere, legal_at_end, stops_at}
 use Rattle.env_check.proofs.check.follow_all.Goals as goal
 

@@ -1,0 +1,38 @@
+use Rattle.std.proofs.Common.{refl, sym}
+use Rattle.task_base.specs.declared.entry.Kind.TheVariants as kinds
+use Rattle.env_core.specs.Views.{Enters}
+use Rattle.seat_hand.specs.Hands.{AreInHand}
+use Rattle.log_replay.proofs.Judged.{may_not}
+use Rattle.log_replay.proofs.Posts.{judged_post, no_post, post_wanted}
+use Rattle.log_replay.proofs.Scripted.{hands_stay}
+use Rattle.log_replay.proofs.replay.Replay.post.Goals as goal
+
+pub post-requires : goal.post-requires
+post-requires c ok = rw c.self.view_is
+    (post_wanted c.args.self.now c.args.seat c.args.task c.args.runner c.args.delay c.args.ok ok (sym c.if-is_by_script.ensures))
+
+pub invariant_of-self : goal.invariant_of-self
+invariant_of-self c =
+    let view = c.args.self.now in
+    let are : AreInHand view c.self.inside.hands.items = rw (← c.self.view_is) c.self.invariant in
+    let enters : Enters view c.post.new.self c.args.seat (kinds.Post c.args.task c.args.runner c.args.delay c.post.result) =
+    rw (← c.self.view_is) c.post.ensures.enters in
+    hands_stay (kinds.Post c.args.task c.args.runner c.args.delay c.args.ok) c.self.inside.hands.items are (sym c.if-is_by_script.ensures) enters
+    (λ now. refl) (λ now. refl)
+
+pub returns-then-is_by_script : goal.returns-then-is_by_script
+returns-then-is_by_script c =
+    let enters : Enters c.args.self.now c.post.new.self c.args.seat (kinds.Post c.args.task c.args.runner c.args.delay c.post.result) =
+    rw (← c.self.view_is) c.post.ensures.enters in
+    judged_post c.args.self.now c.post.new.self c.args.seat c.args.task c.args.runner c.args.delay c.args.ok c.post.result enters
+
+pub returns-then-not-is_by_task : goal.returns-then-not-is_by_task
+returns-then-not-is_by_task c =
+    let view = c.args.self.now in
+    may_not view view c.args.seat (kinds.Post c.args.task c.args.runner c.args.delay c.args.ok)
+    (no_post view.script view.history c.args.seat c.args.task c.args.runner c.args.delay c.args.ok (sym c.if-is_by_script.ensures)
+    (sym c.if-not-is_by_task.ensures))
+
+pub returns : goal.returns
+returns c =
+    judged_post c.args.self.now c.act.new.self c.args.seat c.args.task c.args.runner c.args.delay c.args.ok c.act.result c.act.ensures
