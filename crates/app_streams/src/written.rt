@@ -9,9 +9,9 @@ ghost use Rattle.app_streams.specs.Written.{WroteAll, WroteFront, output_of};
 use env_io::{Sink, put_all};
 use nested_loop::{Event, write_nest};
 use run_log::{JsonFault, write_json, write_log};
+use script_text::write_script;
 use std::alloc::Global;
 use task_base::{Entry, Fault, Rows, Script};
-use task_script::write_script;
 use trace_json::{TraceFault, write_trace};
 
 /// Writes a log: its text, or its JSON form and a line feed. Want of memory comes of JSON alone, and before the first byte.

@@ -3,7 +3,7 @@
 use Rattle.std.proofs.Common.{◌≡◌, ℕ, suc, ltb, List, [], ◌∷◌, length, drop, refl, inl, inr, arith}
 use Rattle.std.proofs.lemmas.Bool.{cases_lt, lt-ltb, le-ltb}
 use Rattle.script_model.specs.Reasons.{◌&◌}
-use Rattle.task_base.specs.Words.{priority_named, behaviour_named}
+use Rattle.value_words.specs.Words.{priority_named, behaviour_named}
 use Rattle.script_model.specs.Places.{id_at, number_at, said_at, name_at, ends_at, may_block_at, kind_named, steps_read}
 
 five_more : (n : ℕ) → ltb 5 (suc (suc (suc (suc (suc n))))) ≡ ltb 0 n

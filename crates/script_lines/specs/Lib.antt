@@ -1,6 +1,3 @@
 pub mod Said
 pub mod Saying
-pub mod FirstWord
-pub mod Numerals
-pub mod Steps
 pub mod Plain

@@ -6,7 +6,7 @@ use Rattle.task_base.specs.declared.script.Action.TheVariants.{Post, Main, Tick,
 use Rattle.task_base.specs.declared.limits.TheConstants.{MOST_WORKERS}
 use Rattle.script_model.specs.Words.{words_of, is_word, begins_comment, is_all_ascii}
 use Rattle.script_model.specs.Reasons.{◌>>=◌, ◌>>◌, ◌&◌, refuse, not_ascii, unknown_word, out_of_range}
-use Rattle.task_base.specs.Words.{priority_named, behaviour_named, policy_named, fence_named, vote_named}
+use Rattle.value_words.specs.Words.{priority_named, behaviour_named, policy_named, fence_named, vote_named}
 use Rattle.script_model.specs.Places.{said_at, name_at, ends_at, number_at, id_at, time_at, kind_named, may_block_at, steps_read}
 use Rattle.script_lines.specs.declared.command.Command.{Command}
 use Rattle.script_lines.specs.declared.command.Command.TheVariants as commands

@@ -3,9 +3,7 @@ ghost use Rattle.task_base.specs.declared.script.Action.TheVariants as actions;
 ghost use Rattle.script_lines.specs.Said.{post_said, main_said, number_said, id_said, bare_said, policy_said, reprio_said, fence_said, vote_said, rank_said};
 
 use crate::command::Command;
-use crate::posting::posting;
-use crate::reason::{Reason, both};
-use crate::words::Words;
+use line_words::{Reason, Words, both, read_posting};
 use task_base::Action;
 
 /// `post T R D`
@@ -13,7 +11,7 @@ use task_base::Action;
 pub(crate) fn post(words: Words<'_>) -> Result<Command, Reason>
     ensures { result ≡ post_said words.entry }
 {
-    let (task, (runner, (delay, ()))) = posting(words)?;
+    let (task, (runner, (delay, ()))) = read_posting(words)?;
     let action = Action::Post {
         task,
         runner,
@@ -27,7 +25,7 @@ pub(crate) fn post(words: Words<'_>) -> Result<Command, Reason>
 pub(crate) fn main_task(words: Words<'_>) -> Result<Command, Reason>
     ensures { result ≡ main_said words.entry }
 {
-    let (task, (queue, (delay, ()))) = posting(words)?;
+    let (task, (queue, (delay, ()))) = read_posting(words)?;
     let action = Action::Main { task, queue, delay };
     Ok(Command::Act { action })
 }

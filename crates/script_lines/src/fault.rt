@@ -1,7 +1,7 @@
 ghost use Rattle.std.specs.Prelude.{◌≡◌, alloc_error};
 ghost use Rattle.script_lines.specs.declared.fault.LineFault.TheVariants.{Bad, Memory};
 
-use crate::reason::Reason;
+use line_words::Reason;
 use std::alloc::{AllocError, AllocFailed};
 
 /// Why a line says nothing.

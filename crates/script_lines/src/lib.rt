@@ -5,16 +5,9 @@
 mod actions;
 mod command;
 mod fault;
-mod keywords;
 mod lines;
-mod numbers;
-mod places;
-mod posting;
 mod read;
-mod reason;
 mod stepped;
-mod steps;
-mod words;
 
 pub use command::Command;
 pub use fault::LineFault;

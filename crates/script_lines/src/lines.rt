@@ -1,12 +1,11 @@
 ghost use Rattle.std.specs.Prelude.{◌≡◌};
 ghost use Rattle.script_lines.specs.Said.{workers_said, groups_said, threshold_said, runner_said, queue_said};
 ghost use Rattle.script_model.specs.Reasons.{◌&◌};
-ghost use Rattle.task_base.specs.Words.{priority_named, behaviour_named};
+ghost use Rattle.value_words.specs.Words.{priority_named, behaviour_named};
 ghost use Rattle.script_model.specs.Places.{id_at, said_at, name_at, ends_at, may_block_at, kind_named};
 
 use crate::command::Command;
-use crate::reason::{Reason, both};
-use crate::words::Words;
+use line_words::{Reason, Words, both};
 use task_base::{
     Behaviour, MOST_WORKERS, MainQueue, Priority, Runner, RunnerId, RunnerKind, Traits,
 };

@@ -7,9 +7,8 @@ ghost use Rattle.script_lines.specs.Saying.{Says};
 
 use crate::command::Command;
 use crate::fault::LineFault;
-use crate::reason::Reason;
-use crate::words::Words;
 use crate::{actions, lines, stepped};
+use line_words::{Reason, Words};
 use std::alloc::Global;
 
 /// What one line of a script says by its words alone. The line stands here without its line feed, and without a

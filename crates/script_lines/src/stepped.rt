@@ -6,9 +6,7 @@ ghost use Rattle.script_lines.specs.Saying.{Says};
 
 use crate::command::Command;
 use crate::fault::LineFault;
-use crate::reason::{Reason, both};
-use crate::steps::read_steps;
-use crate::words::Words;
+use line_words::{Reason, Words, both, read_steps};
 use std::alloc::{AllocError, Global};
 use task_base::{Behaviour, Job, Priority, Task};
 

@@ -2,6 +2,4 @@ pub mod Flags
 pub mod Generated
 pub mod LinesOfText
 pub mod ReadLines
-pub mod Puts
-pub mod Texts
 pub mod Worked

@@ -4,4 +4,3 @@ pub mod Marks
 pub mod Scopes
 pub mod Plain
 pub mod Reader
-pub mod Written

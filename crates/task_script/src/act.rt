@@ -1,4 +1,4 @@
-ghost use Rattle.std.specs.Prelude.{◌≡◌, ◌≤◌, ◌++◌, ◌∷◌, [], false, true, OnOk};
+ghost use Rattle.std.specs.Prelude.{◌≡◌, ◌≤◌, ◌++◌, ◌∷◌, [], length, true, OnOk};
 ghost use Rattle.script_model.specs.Bound.{events_of_action};
 ghost use Rattle.script_model.specs.Draft.{has_runner, has_queue, has_voter, has_job, is_started, ticks_of};
 ghost use Rattle.script_model.specs.Lines.{acted, posted};
@@ -10,12 +10,10 @@ use crate::reader::Reader;
 use crate::reasons::{BAD_BLOCK, JOB_USE, POSTED_TWICE, SHUTDOWN_TWICE, TOO_MANY, UNDECLARED};
 use crate::refuse::refuse;
 use script_lines::LineFault;
-use task_base::{Action, JobId, MOST_EVENTS, MOST_TICKS, QueueId, RunnerId, Step, TaskId};
+use task_base::{Action, JobId, MOST_EVENTS, MOST_TICKS, QueueId, RunnerId, Step};
 
 impl Reader {
     ghost use Rattle.task_script.specs.Reader.{draft, Tables, AreTotals, Turns, Sums};
-    ghost use Rattle.task_base.specs.declared.step.Step.TheVariants.{Post as PostStep, Main as MainStep};
-    ghost use Rattle.task_base.specs.declared.script.Action.TheVariants.{Post, Main};
 
     #[tactic(auto, unfolding(crate::specs::Added::action_added))]
     pub(crate) fn act(&mut self, action: Action) -> Result<(), LineFault>
@@ -27,8 +25,17 @@ impl Reader {
                 task,
                 runner,
                 delay,
-            } => self.post(task, runner, delay),
-            Action::Main { task, queue, delay } => self.post_main(task, queue, delay),
+            } => {
+                let step = Step::Post {
+                    task,
+                    runner,
+                    delay,
+                };
+                self.post(step, action)
+            }
+            Action::Main { task, queue, delay } => {
+                self.post(Step::Main { task, queue, delay }, action)
+            }
             Action::Tick { .. } | Action::Policy { .. } | Action::Pump { .. } | Action::Flush => {
                 self.act_alone(action)
             }
@@ -44,34 +51,17 @@ impl Reader {
         }
     }
 
-    fn post(&mut self, task: TaskId, runner: RunnerId, delay: u64) -> Result<(), LineFault>
-        requires { Tables self.old }
-        ensures { Turns result self.new (posted (draft self.old) (PostStep task runner delay) (Post task runner delay)) }
+    /// Adds an action that posts what the step posts.
+    fn post(&mut self, step: Step, action: Action) -> Result<(), LineFault>
+        requires tables { Tables self.old }
+        requires posts { length (posts_of_action action) ≡ 1 }
+        requires same { posts_of_action action ≡ posts_of_step step }
+        ensures { Turns result self.new (posted (draft self.old) step action) }
     {
-        let step = Step::Post {
-            task,
-            runner,
-            delay,
-        };
         refuse(!self.is_declared(&step), UNDECLARED)?;
         refuse(self.posts_again(&[step]), POSTED_TWICE)?;
         refuse(self.is_bad_post(&step), BAD_BLOCK)?;
-        self.push_action(Action::Post {
-            task,
-            runner,
-            delay,
-        })
-    }
-
-    fn post_main(&mut self, task: TaskId, queue: QueueId, delay: u64) -> Result<(), LineFault>
-        requires { Tables self.old }
-        ensures { Turns result self.new (posted (draft self.old) (MainStep task queue delay) (Main task queue delay)) }
-    {
-        let step = Step::Main { task, queue, delay };
-        refuse(!self.is_declared(&step), UNDECLARED)?;
-        refuse(self.posts_again(&[step]), POSTED_TWICE)?;
-        refuse(self.is_bad_post(&step), BAD_BLOCK)?;
-        self.push_action(Action::Main { task, queue, delay })
+        self.push_action(action)
     }
 
     fn act_alone(&mut self, action: Action) -> Result<(), LineFault>

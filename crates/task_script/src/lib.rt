@@ -1,4 +1,4 @@
-//! Scripts as texts: their reader, the writer of their canonical text, and the bound on the entries of a run.
+//! Scripts read from their texts or made from a number, and the bound on the entries of a run.
 //!
 //! Bytes that are a script by the grammar of `script_model` give that script, and all others the first bad line and its
 //! first reason. Contracts see a script as its `Plan`.
@@ -17,11 +17,8 @@ mod reader;
 mod reasons;
 mod refuse;
 mod steps;
-mod write;
-mod write_lines;
 
 pub use fault::ScriptFault;
 pub use generator::generate;
 pub use read::read_script;
 pub use script_bound::events_bound;
-pub use write::write_script;

@@ -1,9 +1,9 @@
 use Rattle.std.proofs.Common.{◌+◌, length, sym, ◌∙◌, rules, tests, arith, length-append}
 use Rattle.std.proofs.lemmas.Iterator.Consumers.{YieldsList-at}
 use Rattle.std.proofs.lemmas.List.{take_rest}
+use Rattle.entry_lines.proofs.Turns.{turn_of, end_of}
 use Rattle.run_log.specs.TextLines.{text_lines}
 use Rattle.run_log.proofs.SplitLines.{YieldsList-from_lines}
-use Rattle.run_log.proofs.Turns.{turn_of, end_of}
 use Rattle.app_streams.proofs.Passed.{all_script, line_within, rest_behind, nothing_behind, one_more, script_before}
 use Rattle.app_streams.proofs.parts.parts_of.Goals as goal
 

@@ -1,6 +1,6 @@
 use Rattle.std.proofs.Common.{◌≡◌, sym, ◌∙◌, refl, drop}
 use Rattle.script_model.specs.Reasons.{◌&◌}
-use Rattle.task_base.specs.Words.{priority_named, behaviour_named}
+use Rattle.value_words.specs.Words.{priority_named, behaviour_named}
 use Rattle.script_model.specs.Places.{id_at, number_at, name_at, steps_read}
 use Rattle.script_lines.specs.Said.{job_said}
 use Rattle.script_lines.proofs.LaterPlaces.{job_line}

@@ -1,0 +1,4 @@
+pub mod FirstWord
+pub mod Numerals
+pub mod Cuts
+pub mod ReadSteps

@@ -1,5 +1,0 @@
-use Rattle.script_lines.proofs.FirstWord.{no_words}
-use Rattle.script_lines.proofs.words.Words.is_empty.Goals as goal
-
-pub returns : goal.returns
-returns c = rw (← c.self.view_is) (no_words c.self.inside.bytes.now c.word_start.result c.is_none.result c.word_start.ensures c.is_none.ensures)

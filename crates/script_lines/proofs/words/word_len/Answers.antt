@@ -1,7 +1,0 @@
-use Rattle.std.proofs.Common.{◌∙◌}
-use Rattle.script_model.specs.Words.{is_blank}
-use Rattle.script_lines.proofs.FirstWord.{position-or_len}
-use Rattle.script_lines.proofs.words.word_len.Goals as goal
-
-pub returns : goal.returns
-returns c = c.unwrap_or.ensures ∙ rw c.blank_start.ensures (position-or_len is_blank c.args.text.now)
