@@ -8,7 +8,7 @@ use Rattle.next_entry.specs.declared.cause.Explanation.TheVariants as explanatio
 use Rattle.env_check.specs.declared.verdict.Verdict.TheVariants.{Legal, Illegal}
 use Rattle.env_explain.specs.Explained.{verdict_told}
 use Rattle.env_check.specs.Verdicts.{verdict_of}
-use Rattle.run_log.specs.Spelling.{IsMeant}
+use Rattle.entry_lines.specs.Spelling.{IsMeant}
 use Rattle.app_modes.specs.Explained.{IsMeantBy, place_told}
 use Rattle.app_modes.specs.Judged.{verdict_on}
 use Rattle.app_modes.proofs.Verdicts.{place_within}

@@ -5,7 +5,7 @@ use Rattle.task_base.specs.declared.entry.Entry.{Entry}
 use Rattle.script_model.specs.Grammar.{Reads}
 use Rattle.log_model.specs.declared.version.Version.{Version}
 use Rattle.log_model.specs.LogText.{lines_before, version_of}
-use Rattle.run_log.specs.Spelling.{IsMeant}
+use Rattle.entry_lines.specs.Spelling.{IsMeant}
 use Rattle.run_log.specs.TextLines.{IsBadLine, text_lines}
 use Rattle.next_entry.specs.declared.cause.Explanation.{Explanation}
 use Rattle.next_entry.specs.declared.cause.Explanation.TheVariants.{Legal, Barred, Unfinished, AtWork}

@@ -13,11 +13,12 @@ ghost use Rattle.app_modes.specs.Outcome.{RunsTo};
 
 use crate::check::{verdict_text, write_said};
 use app_streams::{parts_of, script_of, take_all};
+use entry_lines::meant;
 use env_explain::explain_log;
 use env_io::{Sink, Source};
 use explain_text::{bad_line_json, bad_line_text, told_json, told_text};
 use next_entry::Explanation;
-use run_log::{LogFault, lines_before, meant, read_log, version_of};
+use run_log::{LogFault, lines_before, read_log, version_of};
 use std::alloc::{AllocError, Global};
 use task_base::{Entry, Fault, Script};
 

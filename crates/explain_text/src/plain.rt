@@ -46,7 +46,7 @@ pub fn bad_line_text(line: u32, place: Place, meant: Option<Entry>) -> Line
         ),
         Some(entry) => {
             add_one(&mut text, b"line ", line, b" should be: ");
-            add(&mut text, &run_log::line(place, &entry));
+            add(&mut text, &entry_lines::line(place, &entry));
         }
     }
     text
@@ -146,7 +146,7 @@ fn add_cause(line: &mut Line, place: Place, seat: SeatNo, cause: &Cause)
 {
     add_words(line, seat, cause);
     match named_by(cause) {
-        Some(kind) => add(line, &run_log::line(place, &Entry { seat, kind })),
+        Some(kind) => add(line, &entry_lines::line(place, &Entry { seat, kind })),
         None => add(line, b"\n"),
     }
 }

@@ -1,12 +1,6 @@
-pub mod Words
 pub mod Taken
 pub mod JsonTexts
-pub mod Numbers
-pub mod ReadBack
 pub mod LineWords
-pub mod Turns
 pub mod LinesOfText
 pub mod LogLines
 pub mod SplitLines
-pub mod PlainWords
-pub mod Worked

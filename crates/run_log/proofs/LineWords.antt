@@ -1,6 +1,6 @@
 -- The words of the line of an entry.
 -- Cited by `entry_at`.
-use Rattle.std.proofs.Common.{◌≡◌, ℕ, suc, ◌-◌, ◌<◌, ◌≤◌, List, [], ◌∷◌, ◌++◌, length, get_or, take, All, map, eqb, false}
+use Rattle.std.proofs.Common.{◌≡◌, ℕ, suc, ◌-◌, ◌<◌, ◌≤◌, ◌^◌, List, [], ◌∷◌, ◌++◌, length, get_or, take, All, map, eqb, false}
 use Rattle.std.proofs.Common.{Option, Some, None, IfSome, refl, sym, ap, ◌∙◌, arith, length-append, drop-cons}
 use Rattle.std.specs.Fmt.{decimal}
 use Rattle.std.specs.List.{AllByRecursion, slice_split, join_with_byte}
@@ -15,7 +15,8 @@ use Rattle.log_model.specs.LogText.{IsLogLine, Part, entry_parts, shown, line_of
 use Rattle.log_model.proofs.Laws.Pieces.{Lacks}
 use Rattle.log_model.proofs.Laws.LogParts.{PartFits, decimal_lacks, shown_lacks}
 use Rattle.log_model.proofs.Laws.LogLines.{line_words, seat_parts, seat_parts_fit}
-use Rattle.run_log.specs.Words.{spaced_words}
+use Rattle.entry_lines.proofs.ReadBack.{of_32, reads_back}
+use Rattle.run_log.specs.Entries.{entry_of, spaced_words}
 
 -- a piece that lacks the byte, as a test
 fails_each : (c : ℕ) (piece : List ℕ) → Lacks c piece → All (λ b. eqb b c ≡ false) piece
@@ -72,3 +73,8 @@ pub answers_line : (place : ℕ) (bytes : List ℕ) (words : List (List ℕ)) (o
     → IfSome o (λ e. IsLogLine place bytes e)
 answers_line place bytes words None some feed same parts fits = tt
 answers_line place bytes words (Some e) some feed same parts fits = record { same = line_from-words place e bytes some feed (sym same ∙ parts); fits = fits }
+
+-- the words of an entry at a place are read as that entry
+pub entry_reads_back : (place : ℕ) (e : Entry) → place < 2 ^ 32 → Fits e → entry_of place (map shown (entry_parts place e)) ≡ Some e
+unfolding entry_of
+entry_reads_back place e low h = rw (of_32 place low, of_32 e.seat h.seat, reads_back e.kind h.kind, eq-eqb place place refl) refl

@@ -1,7 +1,4 @@
-pub mod Lines
 pub mod Json
 pub mod JsonRows
-pub mod Words
-pub mod Kinds
+pub mod Entries
 pub mod TextLines
-pub mod Spelling

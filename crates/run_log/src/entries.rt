@@ -2,12 +2,12 @@ ghost use Rattle.std.specs.Prelude.{◌≡◌, ◌<◌, None, MatchOption, IfSom
 ghost use Rattle.task_base.specs.declared.entry.Entry.{Entry};
 ghost use Rattle.log_model.specs.Fits.{Fits};
 ghost use Rattle.log_model.specs.LogText.{IsLogLine, entry_parts, shown};
-ghost use Rattle.run_log.specs.Kinds.{entry_of};
-ghost use Rattle.run_log.specs.Words.{texts, spaced_words};
+ghost use Rattle.entry_lines.specs.Words.{texts};
+ghost use Rattle.run_log.specs.Entries.{entry_of, spaced_words};
 
-use crate::kinds::kind_of;
-use crate::numerals::number_32;
 use arrayvec::ArrayVec;
+use entry_lines::kind_of;
+use numeral_text::number_32;
 use task_base::{Entry, Place};
 
 /// The entry whose line these bytes are at this place, if there is one.
@@ -22,7 +22,7 @@ pub(crate) fn entry_at(place: Place, bytes: &[u8]) -> Option<Entry>
 }
 
 // The entry whose words these are at this place, if there is one.
-#[tactic(auto, unfolding(crate::specs::Kinds::entry_of))]
+#[tactic(auto, unfolding(crate::specs::Entries::entry_of))]
 fn entry_of(place: Place, words: &[&[u8]]) -> Option<Entry>
     ensures same { result ≡ entry_of place (texts words.now) }
     ensures parts { IfSome result (λ e. texts words.now ≡ map shown (entry_parts place e)) }

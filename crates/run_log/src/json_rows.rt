@@ -1,13 +1,13 @@
 ghost use Rattle.std.specs.Prelude.{◌≡◌, ◌∷◌, [], map, codes, string_bytes, IfOk, OnOk};
 ghost use Rattle.serde_json.specs.View.{view};
-ghost use Rattle.task_base.specs.Words.{reply_word, vote_word};
+ghost use Rattle.value_words.specs.Words.{reply_word, vote_word};
 ghost use Rattle.log_model.specs.LogText.{word, number, json_of, parts_of, next_part, reply_parts};
 ghost use Rattle.run_log.specs.JsonRows.{with_parts};
 
 use serde_json::Value;
 use std::alloc::{AllocError, Global};
-use task_base::words::{fence_word, policy_word, priority_word, reply_word, scope_word, vote_word};
 use task_base::{Entry, JobReply, Kind};
+use value_words::{fence_word, policy_word, priority_word, reply_word, scope_word, vote_word};
 
 /// The entry in JSON: an array of its place, its seat, the word of its kind and the arguments, numbers as numbers and
 /// words as strings. The error is want of memory.

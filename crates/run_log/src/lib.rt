@@ -1,5 +1,4 @@
-//! Logs as texts: the writer and the reader of a log's text, and the writer of its JSON form. Of a line that is not spelt
-//! as it must be it tells which entry is meant.
+//! Logs as texts: the writer and the reader of a log's text, and the writer of its JSON form.
 //!
 //! What was written is a prefix of the log's text, and the whole of it where nothing failed; what is read is the log of
 //! exactly this text, in the version that the text's first line says. Contracts see a log as the list of its entries.
@@ -10,12 +9,7 @@ mod fault;
 mod json;
 mod json_fault;
 mod json_rows;
-mod keywords;
-mod kinds;
-mod lines;
-mod numerals;
 mod read;
-mod spelling;
 mod versions;
 mod writer;
 
@@ -23,8 +17,6 @@ pub use fault::LogFault;
 pub use json::write_json;
 pub use json_fault::JsonFault;
 pub use json_rows::json_row;
-pub use lines::line;
 pub use read::read_log;
-pub use spelling::meant;
 pub use versions::{lines_before, version_of};
 pub use writer::write_log;

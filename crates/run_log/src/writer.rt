@@ -2,8 +2,8 @@ ghost use Rattle.std.specs.Prelude.{◌≡◌, ◌<◌, ◌≤◌, ◌^◌, ℕ,
 ghost use Rattle.env_io.specs.Bytes.{Gains, Rose};
 ghost use Rattle.log_model.specs.LogText.{log_lines, log_text};
 
-use crate::lines::line;
 use crate::versions::{end_of, head_of};
+use entry_lines::line;
 use env_io::{Failed, Sink, put_all};
 use log_model::Version;
 use task_base::{Entry, Place, Rows};

@@ -1,8 +1,8 @@
 use Rattle.std.proofs.Common.{ap, ◌∙◌, arith}
-use Rattle.run_log.specs.Kinds.{entry_of}
-use Rattle.run_log.specs.Words.{texts}
-use Rattle.run_log.proofs.LineWords.{spaced_words-front, answers_line}
-use Rattle.run_log.proofs.ReadBack.{entry_reads_back, few_words}
+use Rattle.entry_lines.specs.Words.{texts}
+use Rattle.entry_lines.proofs.ReadBack.{few_words}
+use Rattle.run_log.specs.Entries.{entry_of}
+use Rattle.run_log.proofs.LineWords.{spaced_words-front, answers_line, entry_reads_back}
 use Rattle.run_log.proofs.entries.entry_at.Goals as goal
 
 pub returns-in_err-spaced_words-clause-none : goal.returns-in_err-spaced_words-clause-none

@@ -2,8 +2,9 @@ use Rattle.std.proofs.Common.{◌≡◌, length, sym, ap, ◌∙◌, rules, test
 use Rattle.std.proofs.lemmas.Bool.{eqb-true}
 use Rattle.std.proofs.lemmas.Iterator.Consumers.{YieldsList-at}
 use Rattle.std.proofs.lemmas.Iterator.Splits.{YieldsList-from_slice_split}
-use Rattle.run_log.specs.Words.{texts, spaced_words}
-use Rattle.run_log.proofs.Turns.{turn_of, end_of}
+use Rattle.entry_lines.specs.Words.{texts}
+use Rattle.entry_lines.proofs.Turns.{turn_of, end_of}
+use Rattle.run_log.specs.Entries.{spaced_words}
 use Rattle.run_log.proofs.entries.spaced_words.Goals as goal
 
 pub returns-then-is_full : goal.returns-then-is_full

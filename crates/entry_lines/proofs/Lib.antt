@@ -1,0 +1,5 @@
+pub mod Words
+pub mod ReadBack
+pub mod Turns
+pub mod PlainWords
+pub mod Worked

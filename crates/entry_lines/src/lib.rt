@@ -1,0 +1,12 @@
+//! Entries as lines of a log's text: the line of an entry at its place, and the kind that has the words of a line. Of a line
+//! that is not spelt as it must be it tells which entry is meant. None of it takes memory.
+#![tactic(auto)]
+
+mod keywords;
+mod kinds;
+mod lines;
+mod spelling;
+
+pub use kinds::kind_of;
+pub use lines::line;
+pub use spelling::meant;
