@@ -1,5 +1,5 @@
 -- What follows from the words on bytes and counts.
--- Cited by `PieceSourceSource::take`, `put_all`, `app_modes`, `app_streams`, `nested_loop`, `run_log`, `task_script`.
+-- Cited by `PieceSourceSource::take`, `put_all`, `app_modes`, `app_streams`, `nested_loop`, `run_log`, `script_text`.
 use Rattle.std.proofs.Common.{◌≡◌, ◌≤◌, ◌+◌, ◌-◌, ℕ, List, [], ◌++◌, length, take, drop, Option, None, Some}
 use Rattle.std.proofs.Common.{refl, sym, ◌∙◌, ap, arith, append_assoc, append-nil, length-take, take-add}
 use Rattle.std.proofs.lemmas.List.{drop-append-le, take-append-drop, take_rest}

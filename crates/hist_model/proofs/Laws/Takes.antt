@@ -1,7 +1,7 @@
 -- What is known of an allowed take.
 -- Cited by `Laws/Consistent`, `Laws/Entries/Bound`, `Laws/Fences`, `Laws/Fitting/Entries`, `Laws/JobEntries`, `Laws/OneSeat`,
 -- `Laws/OneThing`, `Laws/Postings/Counts`, `Laws/Progress/Coming`, `Laws/Progress/Driver`, `Laws/Progress/Ends`, `Laws/Progress/Tasks`,
--- `Laws/Shutdown/Histories`, `Laws/Singly`, `Laws/Starts`, `Laws/State`, `seats.rt`, `env_check`, `env_core`, `run_summary`, `task_reply`,
+-- `Laws/Shutdown/Histories`, `Laws/Singly`, `Laws/Starts`, `Laws/State`, `seats.rt`, `env_core`, `log_replay`, `run_summary`, `task_reply`,
 -- `trace_json`.
 use Rattle.std.proofs.Common.{◌≡◌, ℕ, ◌≤◌, true, false, eqb, leb, List, sym, ap, subst, ◌∙◌, Some, ◌⊎◌, inl, inr, ⊎_elim}
 use Rattle.std.specs.Prelude.{not, ◌&&◌}
