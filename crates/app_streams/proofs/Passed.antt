@@ -1,6 +1,6 @@
 -- The lines of an input before the one that parts it.
--- Cited by `parts_of`, `app_modes`.
-use Rattle.std.proofs.Common.{◌≡◌, ◌<◌, ◌≤◌, ◌+◌, ℕ, true, false, cond, List, [], ◌∷◌, ◌++◌, length, take}
+-- Cited by `parts_of`.
+use Rattle.std.proofs.Common.{◌≡◌, ◌<◌, ◌≤◌, ◌+◌, ℕ, true, false, List, [], ◌∷◌, ◌++◌, length, take}
 use Rattle.std.proofs.Common.{drop, get_or, refl, sym, ap, ◌∙◌, arith, append_assoc, append-nil}
 use Rattle.std.specs.List.{concat}
 use Rattle.std.proofs.lemmas.List.{drop_all, drop_at, drop_more, length-append, take-append-drop, take_all, take_at, take_more}
@@ -88,27 +88,3 @@ nothing_behind text n end all passed =
     let lines : List (List ℕ) = text_lines text in
     let behind : behind_mark lines ≡ [] = passed.behind ∙ rw (drop_all n lines all) refl in
     ap concat (sym behind)
-
--- ---- the parts are no longer than the input
-
-few_before : (lines : List (List ℕ)) → length (concat (before_mark lines)) ≤ length (concat lines)
-few_before [] = omega arith
-few_before (line ∷ lines) = elim (is_mark line) as (λ b. length (concat (cond b [] (line ∷ before_mark lines))) ≤ length (line ++ concat lines)) [
-  | true ↦ omega arith
-  | false ↦ omega (arith, few_before lines, length-append line (concat (before_mark lines)), length-append line (concat lines))
-]
-
-few_behind : (lines : List (List ℕ)) → length (concat (behind_mark lines)) ≤ length (concat lines)
-few_behind [] = omega arith
-few_behind (line ∷ lines) = elim (is_mark line) as (λ b. length (concat (cond b lines (behind_mark lines))) ≤ length (line ++ concat lines)) [
-  | true ↦ omega (arith, length-append line (concat lines))
-  | false ↦ omega (arith, few_behind lines, length-append line (concat lines))
-]
-
-pub script_within : (text : List ℕ) → length (script_part text) ≤ length text
-unfolding script_part
-script_within text = rw concat-text_lines at (few_before (text_lines text))
-
-pub behind_within : (text : List ℕ) → length (part_behind text) ≤ length text
-unfolding part_behind
-behind_within text = rw concat-text_lines at (few_behind (text_lines text))

@@ -1,4 +1,4 @@
-ghost use Rattle.std.specs.Prelude.{◌≡◌};
+ghost use Rattle.std.specs.Prelude.{◌≡◌, ◌≤◌, length};
 ghost use Rattle.std.specs.Io.BufRead.{strip_last};
 ghost use Rattle.app_streams.specs.Parts.{is_mark, part_behind, script_part};
 
@@ -8,6 +8,8 @@ use script_lines::without_return;
 pub fn parts_of(bytes: &[u8]) -> (&[u8], &[u8])
     ensures script { result.0.now ≡ script_part bytes.now }
     ensures behind { result.1.now ≡ part_behind bytes.now }
+    ensures script_within { length result.0.now ≤ length bytes.now }
+    ensures behind_within { length result.1.now ≤ length bytes.now }
 {
     let mut end = 0;
     for line in bytes.split_inclusive(|byte| *byte == b'\n') {

@@ -1,19 +1,10 @@
-use Rattle.std.proofs.Common.{ℕ, List, arith, ap, length, subst, ◌∙◌}
+use Rattle.std.proofs.Common.{ℕ, List, ap, subst, ◌∙◌}
 use Rattle.script_model.specs.Grammar.{Reads}
 use Rattle.app_streams.specs.Parts.{part_behind, script_part}
 use Rattle.app_modes.specs.Judged.{IsFoundAt, verdict_text}
 use Rattle.command_line.specs.declared.words.Command.TheVariants.{Check}
 use Rattle.app_modes.proofs.Outcomes.{said_ends}
-use Rattle.app_streams.proofs.Passed.{behind_within, script_within}
 use Rattle.app_modes.proofs.check.judge.Goals as goal
-
-pub script_of-requires : goal.script_of-requires
-script_of-requires g c =
-    omega (arith, ap length c.parts_of.ensures.script, script_within c.deref.result.now, ap length c.deref.ensures.value, c.in_ok-bytes.ensures.whole.within)
-
-pub wrong_line-requires-clause-short : goal.wrong_line-requires-clause-short
-wrong_line-requires-clause-short g c =
-    omega (arith, ap length c.parts_of.ensures.behind, behind_within c.deref.result.now, ap length c.deref.ensures.value, c.in_ok-bytes.ensures.whole.within)
 
 pub returns-clause-outcome : goal.returns-clause-outcome
 returns-clause-outcome g c told =

@@ -1,19 +1,10 @@
-use Rattle.std.proofs.Common.{arith, ap, false, length}
+use Rattle.std.proofs.Common.{false}
 use Rattle.std.proofs.lemmas.Result.{err_from_is_err_and}
 use Rattle.command_line.specs.declared.words.Command.TheVariants.{Reply}
 use Rattle.app_streams.specs.Ends.{ends}
 use Rattle.app_streams.specs.Written.{output_of}
 use Rattle.app_modes.proofs.Outcomes.{ends_cut}
-use Rattle.app_streams.proofs.Passed.{behind_within, script_within}
 use Rattle.app_modes.proofs.replies.run_replies.Goals as goal
-
-pub script_of-requires : goal.script_of-requires
-script_of-requires g c =
-    omega (arith, ap length c.parts_of.ensures.script, script_within c.deref.result.now, ap length c.deref.ensures.value, c.in_ok-bytes.ensures.whole.within)
-
-pub with_replies-requires-clause-short : goal.with_replies-requires-clause-short
-with_replies-requires-clause-short g c =
-    omega (arith, ap length c.parts_of.ensures.behind, behind_within c.deref.result.now, ap length c.deref.ensures.value, c.in_ok-bytes.ensures.whole.within)
 
 pub returns-in_err-write-clause-outcome : goal.returns-in_err-write-clause-outcome
 returns-in_err-write-clause-outcome g c =

@@ -1,18 +1,9 @@
 use Rattle.env_io.proofs.Bytes.{Gains-nil}
-use Rattle.std.proofs.Common.{ℕ, false, List, Some, arith, ap, subst, refl, length, ◌∙◌}
+use Rattle.std.proofs.Common.{ℕ, false, List, Some, ap, subst, refl, ◌∙◌}
 use Rattle.script_model.specs.Grammar.{Reads}
 use Rattle.app_streams.specs.Parts.{part_behind, script_part}
 use Rattle.app_modes.specs.Judged.{IsFoundAt, IsFoundIn}
-use Rattle.app_streams.proofs.Passed.{behind_within, script_within}
 use Rattle.app_modes.proofs.trace.trace.Goals as goal
-
-pub script_of-requires : goal.script_of-requires
-script_of-requires g c =
-    omega (arith, ap length c.parts_of.ensures.script, script_within c.deref.result.now, ap length c.deref.ensures.value, c.in_ok-bytes.ensures.whole.within)
-
-pub judge_log-requires-clause-short : goal.judge_log-requires-clause-short
-judge_log-requires-clause-short g c =
-    omega (arith, ap length c.parts_of.ensures.behind, behind_within c.deref.result.now, ap length c.deref.ensures.value, c.in_ok-bytes.ensures.whole.within)
 
 pub returns-in-Ok-Wrong-clause-outcome : goal.returns-in-Ok-Wrong-clause-outcome
 returns-in-Ok-Wrong-clause-outcome g c told =
