@@ -170,6 +170,17 @@ pub enum Action {
         runner: RunnerId,
         priority: Priority,
     },
+    /// Gives a main queue another priority class.
+    Rank {
+        queue: QueueId,
+        class: u8,
+    },
+    /// Votes on a main queue.
+    Vote {
+        queue: QueueId,
+        voter: u8,
+        on: bool,
+    },
     /// Sets a fence on a main queue.
     Fence {
         queue: QueueId,
@@ -178,17 +189,6 @@ pub enum Action {
     /// Removes the fence of a main queue.
     Unfence {
         queue: QueueId,
-    },
-    /// Votes on a main queue.
-    Vote {
-        queue: QueueId,
-        voter: u8,
-        on: bool,
-    },
-    /// Gives a main queue another priority class.
-    Rank {
-        queue: QueueId,
-        class: u8,
     },
     /// Closes a main queue.
     Close {
