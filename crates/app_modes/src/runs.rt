@@ -1,7 +1,6 @@
 //! The mode `run`, and the run of a script.
 ghost use Rattle.std.specs.Prelude.{◌≡◌, ◌≢◌, ◌≤◌, All, length, alloc_error, Some, None, Err, IfOk, IfErr, OnErr, false};
 ghost use Rattle.task_base.specs.declared.limits.TheConstants.{MOST_EVENTS};
-ghost use Rattle.task_base.specs.Fault.{status_of};
 ghost use Rattle.log_model.specs.Fits.{Fits};
 ghost use Rattle.hist_model.specs.Legal.{IsLegal};
 ghost use Rattle.hist_model.specs.Script.{IsWhole};

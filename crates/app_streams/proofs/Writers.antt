@@ -1,6 +1,6 @@
 -- What the answer of a writer says.
 -- Cited by `app_modes`, `env_app`.
-use Rattle.std.proofs.Common.{◌≡◌, ℕ, List, [], length, take, Option, inl, inr, arith}
+use Rattle.std.proofs.Common.{◌≡◌, ℕ, List, length, take, Option, inl, inr, arith}
 use Rattle.std.specs.Prelude.{◌⊎◌, alloc_error, IfErr, OnOk, OnErr, Result, Ok, Err}
 use Rattle.std.proofs.lemmas.List.{take_all}
 use Rattle.task_base.specs.declared.fault.Fault.{Fault}

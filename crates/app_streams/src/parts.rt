@@ -1,6 +1,6 @@
 ghost use Rattle.std.specs.Prelude.{◌≡◌, ◌≤◌, length};
 ghost use Rattle.std.specs.Io.BufRead.{strip_last};
-ghost use Rattle.app_streams.specs.Parts.{is_mark, part_behind, script_part};
+ghost use Rattle.app_streams.specs.Parts.{is_divider, part_behind, script_part};
 
 use script_lines::without_return;
 
@@ -14,7 +14,7 @@ pub fn parts_of(bytes: &[u8]) -> (&[u8], &[u8])
     let mut end = 0;
     for line in bytes.split_inclusive(|byte| *byte == b'\n') {
         let next = end + line.len();
-        if is_mark(line) {
+        if is_divider(line) {
             return (&bytes[..end], &bytes[next..]);
         }
         end = next;
@@ -23,8 +23,8 @@ pub fn parts_of(bytes: &[u8]) -> (&[u8], &[u8])
 }
 
 /// Whether the line parts the script from what is behind it.
-fn is_mark(line: &[u8]) -> bool
-    ensures { result ≡ is_mark line.now }
+fn is_divider(line: &[u8]) -> bool
+    ensures { result ≡ is_divider line.now }
 {
     without_return(without_feed(line)) == b"%%".as_slice()
 }

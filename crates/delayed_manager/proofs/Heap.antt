@@ -1,5 +1,5 @@
 -- What a push, a pop and a peek of the heap are for the list that it stands for.
--- Cited by `Delayed::add`, `Delayed::peek`, `Delayed::remove_first`.
+-- Cited by `Delayed::add`, `Delayed::peek`, `Delayed::remove_first`, `sequence_manager`.
 use Rattle.std.proofs.Common.{◌≡◌, ℕ, ◌<◌, ◌≤◌, Bool, true, false, cond, List, [], ◌∷◌, length, get_or, drop, map}
 use Rattle.std.proofs.Common.{refl, sym, ap, ◌∙◌, inl, inr, arith, Option, Some, None, Result, Ok, Err, subst}
 use Rattle.std.specs.Prelude.{◌⊎◌, ◌&&◌, ◌||◌, ◌==◌, nat_lt, IsPermutation, slice_get, IfSome, IfNone, All, IsOk, OnOk}
@@ -123,7 +123,8 @@ sort_rising below ranks (x ∷ xs) rises =
     ap (insert_by below x) (sort_rising below ranks xs rises.1)
     ∙ insert_least below x xs (AllByRecursion-map (λ y. below x y ≡ true) (λ y. below y x ≡ false) xs (λ y is. ranks.one_way x y is) rises.0)
 
-ranks_ripening : Ranks ripens_before
+-- of two that ripen at one moment the one posted first goes before
+pub ranks_ripening : Ranks ripens_before
 ranks_ripening = ranks_then_by (λ r. r.ripe) (λ a b. nat_lt a.post b.post) (ranks_by (λ r. r.post))
 
 -- what differs in its post ripens before or behind

@@ -9,48 +9,16 @@ use Rattle.std.proofs.lemmas.List.{length-set, get_or-set_same, get_or-set_other
 use Rattle.std.proofs.lemmas.List.Sorted.{IsPermutation-keeps}
 use Rattle.list_laws.specs.Lists.{Ranks}
 use Rattle.list_laws.specs.Sorts.{insert_by, sort_by}
-use Rattle.list_laws.proofs.Ranks.{ranks-trans}
+use Rattle.list_laws.proofs.Sorts.{insert_by-insert_by}
 
 -- of any two different elements one goes before the other
 pub record Orders {A : Type 0} (below : A → A → Bool) : Type 0 where
   pub ranks : Ranks below
   pub apart : (a b : A) → (a ≡ b) ⊎ ((below a b ≡ true) ⊎ (below b a ≡ true))
 
--- where x stands behind y
-insert-behind : {A : Type 0} (below : A → A → Bool) (x y : A) (ys : List A) → below y x ≡ true → insert_by below x (y ∷ ys) ≡ y ∷ insert_by below x ys
-insert-behind below x y ys is = ap (λ b. cond b (y ∷ insert_by below x ys) (x ∷ y ∷ ys)) is
-
 -- where x stands first
 pub insert-before : {A : Type 0} (below : A → A → Bool) (x y : A) (ys : List A) → below y x ≡ false → insert_by below x (y ∷ ys) ≡ x ∷ y ∷ ys
 insert-before below x y ys is = ap (λ b. cond b (y ∷ insert_by below x ys) (x ∷ y ∷ ys)) is
-
--- two elements put in one after the other, where the first goes before the second
-swapped_before : {A : Type 0} (below : A → A → Bool) → Ranks below → (x y : A) (zs : List A) → below x y ≡ true
-    → insert_by below x (insert_by below y zs) ≡ insert_by below y (insert_by below x zs)
-swapped_before below ranks x y [] is = insert-before below x y [] (ranks.one_way x y is) ∙ sym (insert-behind below y x [] is)
-swapped_before {A = A} below ranks x y (z ∷ zs) is = by_order (below z x) (below z y) refl refl (swapped_before below ranks x y zs is)
-  where
-    by_order : (b c : Bool) → below z x ≡ b → below z y ≡ c → insert_by below x (insert_by below y zs) ≡ insert_by below y (insert_by below x zs)
-        → insert_by below x (insert_by below y (z ∷ zs)) ≡ insert_by below y (insert_by below x (z ∷ zs))
-    by_order true true zx zy rest =
-        ap (insert_by below x) (insert-behind below y z zs zy)
-        ∙ insert-behind below x z (insert_by below y zs) zx
-        ∙ ap (λ l. z ∷ l) rest
-        ∙ sym (insert-behind below y z (insert_by below x zs) zy)
-        ∙ sym (ap (insert_by below y) (insert-behind below x z zs zx))
-    by_order false true zx zy rest =
-        ap (insert_by below x) (insert-behind below y z zs zy)
-        ∙ insert-before below x z (insert_by below y zs) zx
-        ∙ sym (ap (λ l. x ∷ l) (insert-behind below y z zs zy))
-        ∙ sym (insert-behind below y x (z ∷ zs) is)
-        ∙ sym (ap (insert_by below y) (insert-before below x z zs zx))
-    by_order false false zx zy rest =
-        ap (insert_by below x) (insert-before below y z zs zy)
-        ∙ insert-before below x y (z ∷ zs) (ranks.one_way x y is)
-        ∙ sym (ap (λ l. x ∷ l) (insert-before below y z zs zy))
-        ∙ sym (insert-behind below y x (z ∷ zs) is)
-        ∙ sym (ap (insert_by below y) (insert-before below x z zs zx))
-    by_order true false zx zy rest = absurd (true≢false (sym (ranks-trans below ranks z x y zx is) ∙ zy))
 
 -- two elements may be put in in either order
 insert-insert : {A : Type 0} (below : A → A → Bool) → Orders below → (x y : A) (zs : List A)
@@ -59,8 +27,8 @@ insert-insert {A = A} below orders x y zs = by_apart (orders.apart x y)
   where
     by_apart : (x ≡ y) ⊎ ((below x y ≡ true) ⊎ (below y x ≡ true)) → insert_by below x (insert_by below y zs) ≡ insert_by below y (insert_by below x zs)
     by_apart (inl same) = ap (λ w. insert_by below w (insert_by below y zs)) same ∙ sym (ap (λ w. insert_by below y (insert_by below w zs)) same)
-    by_apart (inr (inl before)) = swapped_before below orders.ranks x y zs before
-    by_apart (inr (inr before)) = sym (swapped_before below orders.ranks y x zs before)
+    by_apart (inr (inl before)) = insert_by-insert_by below orders.ranks x y zs before
+    by_apart (inr (inr before)) = sym (insert_by-insert_by below orders.ranks y x zs before)
 
 pub length-insert_by : {A : Type 0} (below : A → A → Bool) (x : A) (ys : List A) → length (insert_by below x ys) ≡ suc (length ys)
 length-insert_by below x [] = refl

@@ -2,12 +2,12 @@
 -- Cited by `entry_behind_place`, `meant`, `Worked`.
 use Rattle.std.proofs.Common.{◌≡◌, ◌≤◌, ◌-◌, ℕ, Bor, List, [], ◌∷◌, length, get_or, take, drop, map, Option, Some, None, IfSome, refl, sym, ap, ◌∙◌, arith}
 use Rattle.std.proofs.lemmas.List.{take_all}
+use Rattle.line_text.specs.Words.{texts}
 use Rattle.task_base.specs.declared.entry.Entry.{Entry}
 use Rattle.log_model.specs.Fits.{Fits}
 use Rattle.log_model.specs.LogText.{shown}
 use Rattle.log_model.proofs.Laws.LogLines.{seat_parts}
 use Rattle.entry_lines.specs.Spelling.{IsMeant, plain_words, entry_behind_place}
-use Rattle.entry_lines.specs.Words.{texts}
 use Rattle.entry_lines.proofs.ReadBack.{seat_reads_back}
 
 -- two words or more are a place, a seat and the rest

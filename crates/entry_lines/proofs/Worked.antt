@@ -1,17 +1,14 @@
 -- Lines that were spelt by hand, and what they are meant to be.
-use Rattle.std.proofs.Common.{◌≡◌, ℕ, refl, arith}
+use Rattle.std.proofs.Common.{◌≡◌, refl, arith}
 use Rattle.std.specs.Prelude.{codes}
 use Rattle.std.specs.Fmt.{digits}
 use Rattle.task_base.specs.declared.entry.Entry.{Entry}
-use Rattle.task_base.specs.declared.entry.Kind.{Kind}
 use Rattle.task_base.specs.declared.entry.Kind.TheVariants as kinds
 use Rattle.numeral_text.specs.Number.{number_of}
+use Rattle.task_base.specs.Entries.{entry_by as by}
 use Rattle.entry_lines.specs.Kinds.{kind_of, kind_with_three}
 use Rattle.entry_lines.specs.Spelling.{IsMeant, without_zeros, entry_behind_place}
 use Rattle.entry_lines.proofs.PlainWords.{no_meaning}
-
-abbrev by : ℕ → Kind → Entry
-by seat kind = record { seat = seat; kind = kind }
 
 seven : without_zeros (codes "007") ≡ codes "7"
 seven = refl

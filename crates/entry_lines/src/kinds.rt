@@ -1,8 +1,8 @@
 ghost use Rattle.std.specs.Prelude.{◌≡◌, [], ◌∷◌, codes, IfSome};
+ghost use Rattle.line_text.specs.Words.{texts};
 ghost use Rattle.log_model.specs.Fits.{KindFits};
 ghost use Rattle.log_model.specs.LogText.{kind_words};
 ghost use Rattle.entry_lines.specs.Kinds.{kind_of, kind_alone, kind_with_one, kind_with_two, kind_with_three, kind_with_four, kind_with_five, joined_of};
-ghost use Rattle.entry_lines.specs.Words.{texts};
 
 use crate::keywords::{ending_of, is_word, next_of};
 use numeral_text::{number_8, number_32, number_64};

@@ -1,8 +1,8 @@
 ghost use Rattle.std.specs.Prelude.{◌≡◌, ◌+◌, ◌≤◌, [], ◌∷◌, ◌++◌, length, map, decimal};
+ghost use Rattle.line_text.specs.Words.{with_words};
 ghost use Rattle.task_base.specs.declared.entry.Kind.TheVariants.{Vote, JobStep, Joined};
 ghost use Rattle.value_words.specs.Words.{reply_word};
 ghost use Rattle.log_model.specs.LogText.{kind_words, line_of, shown, next_part, reply_parts};
-ghost use Rattle.entry_lines.specs.Lines.{with_words};
 
 use line_text::{Line, add_decimal, add_number, add_word};
 use task_base::{Entry, JobId, JobReply, Kind, Place, QueueId};

@@ -1,9 +1,9 @@
 ghost use Rattle.std.specs.Prelude.{◌≡◌, ◌∷◌, ◌<◌, ℕ, List, None, MatchOption, IfSome, length, map};
+ghost use Rattle.line_text.specs.Words.{texts};
 ghost use Rattle.task_base.specs.declared.entry.Entry.{Entry};
 ghost use Rattle.log_model.specs.Fits.{Fits};
 ghost use Rattle.log_model.specs.LogText.{number, parts_of, shown};
 ghost use Rattle.entry_lines.specs.Spelling.{IsMeant, entry_behind_place, has_zero_in_front, is_blank_byte, plain_words, without_zeros};
-ghost use Rattle.entry_lines.specs.Words.{texts};
 
 use crate::kinds::kind_of;
 use arrayvec::ArrayVec;

@@ -4,7 +4,7 @@ use Rattle.env_core.specs.Drawer.{kept_if}
 use Rattle.std.proofs.Math.Bool.{and-false, and-true}
 use Rattle.env_core.specs.Calls.{AreFresh}
 use Rattle.env_core.specs.Drawer.{AreBodies, empties, is_in_drawer, refuses, was_refused}
-use Rattle.hist_model.proofs.Laws.Postings.Counts.{counted, of_task, posted_at_most_once, posted_in_push}
+use Rattle.hist_model.proofs.Laws.Postings.Counts.{counted, of_task, posted_at_most_once, posted_in_push, accepted_of}
 use Rattle.hist_model.specs.Laws.Postings.{kind_posts, posted_in}
 use Rattle.hist_model.specs.Legal.{IsLegal}
 use Rattle.list_laws.proofs.Counts.{count-append}
@@ -110,18 +110,14 @@ drawer_without past e t h = rw (is_taken_push past e t, is_main_taken_push past 
     by_taken false false false false false true k = refl
     by_taken false false false false false false k = absurd cc
 
--- how often a task was accepted, by the pool or by a main queue
-abbrev accepts : ℕ → List Entry → ℕ
-accepts t past = of_task t (posts past) + of_task t (main_posts past)
-
 -- at the start nothing is posted
-nothing_posted : (t : ℕ) → accepts t [] + count (λ (e : Entry). refuses t e.kind) [] ≤ times t (posted_in [])
+nothing_posted : (t : ℕ) → accepted_of t [] + count (λ (e : Entry). refuses t e.kind) [] ≤ times t (posted_in [])
 unfolding posts main_posts fold_past posted_in
 nothing_posted t = omega arith
 
 -- an accepted post of the task and a refused one are two postings of it
-posted_or_refused : (t : ℕ) (past : List Entry) → accepts t past + count (λ e. refuses t e.kind) past ≤ times t (posted_in past)
-posted_or_refused t = push_induction (λ past. accepts t past + count (λ e. refuses t e.kind) past ≤ times t (posted_in past)) (nothing_posted t) next
+posted_or_refused : (t : ℕ) (past : List Entry) → accepted_of t past + count (λ e. refuses t e.kind) past ≤ times t (posted_in past)
+posted_or_refused t = push_induction (λ past. accepted_of t past + count (λ e. refuses t e.kind) past ≤ times t (posted_in past)) (nothing_posted t) next
   where
     accepted : (p : Posted) (task : ℕ) (b : Bool) → length (cond b (p ∷ []) []) + cond (b && false) 1 0 ≤ length (cond b (task ∷ []) [])
     accepted p task true = omega arith
@@ -139,8 +135,8 @@ posted_or_refused t = push_induction (λ past. accepts t past + count (λ e. ref
     by_past past (kinds.Main task queue delay false) = omega (arith, refused task (eqb task t))
     by_past past kind = omega arith
 
-    next : (past : List Entry) (e : Entry) → accepts t past + count (λ x. refuses t x.kind) past ≤ times t (posted_in past)
-        → accepts t (past ++ e ∷ []) + count (λ x. refuses t x.kind) (past ++ e ∷ []) ≤ times t (posted_in (past ++ e ∷ []))
+    next : (past : List Entry) (e : Entry) → accepted_of t past + count (λ x. refuses t x.kind) past ≤ times t (posted_in past)
+        → accepted_of t (past ++ e ∷ []) + count (λ x. refuses t x.kind) (past ++ e ∷ []) ≤ times t (posted_in (past ++ e ∷ []))
     next past e before = rw (
       posts_push past e,
       main_posts_push past e,
@@ -152,7 +148,7 @@ posted_or_refused t = push_induction (λ past. accepts t past + count (λ e. ref
         (omega (arith, before, by_past past e.kind))
 
 -- so an accepted task was not refused
-not_refused : (script : Plan) (past : List Entry) (t : ℕ) → IsPostedOnce script → IsLegal script past → 1 ≤ accepts t past → was_refused past t ≡ false
+not_refused : (script : Plan) (past : List Entry) (t : ℕ) → IsPostedOnce script → IsLegal script past → 1 ≤ accepted_of t past → was_refused past t ≡ false
 unfolding was_refused
 not_refused script past t once legal accepted = none_from_count (λ (e : Entry). refuses t e.kind) past
     (omega (arith, posted_or_refused t past, posted_at_most_once script past t once legal, accepted))

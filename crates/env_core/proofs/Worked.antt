@@ -3,6 +3,7 @@ use Rattle.std.proofs.Common.{◌≡◌, ℕ, Bool, true, false, List, [], ◌�
 use Rattle.std.specs.Prelude.{codes, map, Option, Some, None, Ok, Err}
 use Rattle.task_base.specs.declared.entry.Entry.{Entry}
 use Rattle.task_base.specs.declared.entry.Kind.TheVariants as kinds
+use Rattle.task_base.specs.Entries.{entry_by as by}
 use Rattle.task_model.specs.Past.{fold_past}
 use Rattle.task_model.specs.Time.{now_of, tick_from}
 use Rattle.task_model.specs.Posts.{posts, main_posts, is_taken, is_ended, is_main_taken}
@@ -16,7 +17,7 @@ use Rattle.task_model.specs.Jobs.{job_post_of, is_cancelled, claimed, done, job_
 use Rattle.task_model.specs.Sources.{would_wait, waiting, best_of}
 use Rattle.task_model.specs.Blockers.{block_part, skip_part, blockers_of}
 use Rattle.hist_model.specs.Script.{current}
-use Rattle.hist_model.proofs.Worked.Rows.{read, by}
+use Rattle.hist_model.proofs.Worked.Rows.{read}
 use Rattle.env_core.specs.Waits.{may_go_on}
 
 -- whether the driver may go on behind these entries, for the script that the text is, with all that this takes open

@@ -1,4 +1,4 @@
-ghost use Rattle.std.specs.Prelude.{◌≡◌, ℕ, ◌<◌, ◌≤◌, ◌↔◌, [], ◌∷◌, map, length, not, Bool, true, is_some, unwrap_or, slice_get, slice_set, IsOk, IfOk, IfErr, IfSome, OnOk, OnErr, Some, None};
+ghost use Rattle.std.specs.Prelude.{◌≡◌, ℕ, ◌<◌, ◌≤◌, ◌↔◌, [], ◌∷◌, length, not, Bool, true, is_some, IsOk, IfOk, IfErr, IfSome, OnOk, OnErr, Some};
 ghost use Rattle.std.specs.Option.{option_map};
 ghost use Rattle.script_model.specs.Laws.Sound.{IsSound};
 ghost use Rattle.env_core.specs.Agenda.{counted};

@@ -9,6 +9,7 @@ use Rattle.task_base.specs.declared.entry.Kind.{Kind}
 use Rattle.task_base.specs.declared.entry.Kind.TheVariants as kinds
 use Rattle.task_base.specs.declared.script.Action.{Action}
 use Rattle.task_base.specs.declared.script.Action.TheVariants as actions
+use Rattle.task_base.specs.Entries.{is_acting}
 use Rattle.task_model.specs.Orders.{moment_of}
 use Rattle.task_model.specs.Seats.{is_free}
 use Rattle.hist_model.specs.Moments.{ticks_of}
@@ -17,7 +18,6 @@ use Rattle.task_body.specs.Bodies.{AssignmentView}
 use Rattle.env_core.specs.Views.{Enters}
 use Rattle.env_crew.specs.Desk.{DeskView, Holds, IsLater, as_seen, mine, view_at}
 use Rattle.env_crew.specs.Driving.{HasDone, AreLeft}
-use Rattle.env_crew.specs.Tasks.{is_acting}
 use Rattle.env_crew.proofs.Holds.{later_entered, later_refl, later_trans, mine_entered}
 use Rattle.env_crew.proofs.Rests.{free_stays}
 use Rattle.env_crew.proofs.Moves.{at_more, at_next}

@@ -1,8 +1,8 @@
 -- A task that a seat has taken: while its steps are done, and behind its end.
 -- Cited by `pump`, `do_steps`, `serve_or`, `Pump`.
 use Rattle.task_body.proofs.Progress.{computes_first}
-use Rattle.std.proofs.Common.{◌≡◌, ◌≢◌, ℕ, zero, suc, ◌+◌, ◌<◌, ◌≤◌, Bool, true, false, List, [], ◌∷◌}
-use Rattle.std.proofs.Common.{◌++◌, length, take, drop, refl, sym, ap, ◌∙◌, append-nil, append_assoc, Option, Some, None, arith}
+use Rattle.std.proofs.Common.{◌≡◌, ◌≢◌, ℕ, ◌+◌, ◌<◌, ◌≤◌, Bool, true, false, List, [], ◌∷◌}
+use Rattle.std.proofs.Common.{◌++◌, length, take, refl, sym, ap, ◌∙◌, append-nil, append_assoc, Option, Some, None, arith}
 use Rattle.std.specs.Prelude.{filter, is_none}
 use Rattle.std.specs.List.{AllByRecursion}
 use Rattle.std.proofs.lemmas.Bool.{and_parts}
@@ -17,21 +17,20 @@ use Rattle.task_base.specs.declared.entry.Kind.{Kind}
 use Rattle.task_base.specs.declared.entry.Kind.TheVariants as kinds
 use Rattle.task_base.specs.declared.step.Step.{Step}
 use Rattle.task_base.specs.declared.step.Step.TheVariants as steps
+use Rattle.task_base.specs.Entries.{is_acting}
 use Rattle.task_model.specs.Seats.{Running, running, running_after, holding, is_free, acts_done, acts_after, steps_of}
-use Rattle.task_model.specs.Sources.{best_of}
 use Rattle.task_model.proofs.Growth.{running_push, holding_push}
-use Rattle.hist_model.specs.Script.{is_finished}
 use Rattle.hist_model.specs.Views.{IsSeatsAssignment, own_entries}
 use Rattle.task_body.specs.Bodies.{AssignmentView}
-use Rattle.task_body.specs.Progress.{OnlyComputes, Progress}
+use Rattle.task_body.specs.Progress.{Progress}
 use Rattle.task_body.specs.declared.act.Act.{Act}
 use Rattle.task_body.specs.declared.act.Act.TheVariants as acts
-use Rattle.env_core.specs.Calls.{IsNextAct, CanEnd, CanEndMain, HasTaken, HasTakenMain, HasNothing, IsOver, EntersAct, act_of, entry_of}
+use Rattle.env_core.specs.Calls.{IsNextAct, CanEnd, CanEndMain, HasTaken, HasTakenMain, EntersAct, act_of, entry_of}
 use Rattle.env_core.specs.Views.{Enters}
 use Rattle.env_crew.specs.Desk.{DeskView, IsLater, Holds, as_seen, mine, view_at}
-use Rattle.env_crew.specs.Serving.{IsFree, FoundNothing, FoundEnd}
-use Rattle.env_crew.specs.Tasks.{HasDoneActs, IsUnderWay, Parted, is_acting}
-use Rattle.env_crew.proofs.Holds.{later_refl, later_trans, later_entered, mine_kept, mine_entered, running_entered, acts_entered}
+use Rattle.env_crew.specs.Serving.{IsFree}
+use Rattle.env_crew.specs.Tasks.{HasDoneActs, IsUnderWay, Parted}
+use Rattle.env_crew.proofs.Holds.{later_refl, later_trans, later_entered, mine_entered, running_entered, acts_entered}
 use Rattle.env_crew.proofs.Rests.{KeepsHolding, KeepsRunning, holding_stays, running_stays}
 
 -- Nothing is taken.

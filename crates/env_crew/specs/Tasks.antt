@@ -1,11 +1,10 @@
 -- A task that a seat has taken, while its steps are done.
-use Rattle.std.specs.Prelude.{◌≡◌, ℕ, ◌≤◌, Bool, true, false, List, ◌++◌, filter, length}
+use Rattle.std.specs.Prelude.{◌≡◌, ℕ, ◌≤◌, true, List, ◌++◌, filter, length}
 use Rattle.std.specs.List.{AllByRecursion}
 use Rattle.task_base.specs.Steps.{is_act}
 use Rattle.task_base.specs.declared.entry.Entry.{Entry}
-use Rattle.task_base.specs.declared.entry.Kind.{Kind}
-use Rattle.task_base.specs.declared.entry.Kind.TheVariants as kinds
 use Rattle.task_base.specs.declared.step.Step.{Step}
+use Rattle.task_base.specs.Entries.{is_acting}
 use Rattle.task_model.specs.Seats.{acts_done}
 use Rattle.hist_model.specs.Views.{IsSeatsAssignment}
 use Rattle.task_body.specs.Bodies.{AssignmentView}
@@ -22,14 +21,6 @@ pub record IsUnderWay (d : DeskView) (work : AssignmentView) : Type 0 where
   pub known : d.seat ≤ d.script.workers
   pub seats : IsSeatsAssignment d.script (mine d) d.seat work.task work.home work.found work.whole
   pub entered : Parted work.whole work.rest (acts_done (mine d) d.seat)
-
--- the entry of an act step
-abbrev pub is_acting : Kind → Bool
-is_acting (kinds.Post task runner delay ok) = true
-is_acting (kinds.Main task queue delay ok) = true
-is_acting (kinds.Enter task scope) = true
-is_acting (kinds.Leave task) = true
-is_acting kind = false
 
 -- the same desk, now or later; what the seat entered meanwhile are act steps
 pub record HasDoneActs (old new : DeskView) : Type 0 where

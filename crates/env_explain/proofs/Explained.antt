@@ -11,13 +11,13 @@ use Rattle.std.specs.Prelude.{is_none}
 use Rattle.task_base.specs.Plan.{Plan}
 use Rattle.task_base.specs.declared.entry.Entry.{Entry}
 use Rattle.task_base.specs.declared.entry.Kind.{Kind}
+use Rattle.task_base.specs.Entries.{entry_by}
 use Rattle.task_model.specs.Seats.{is_free}
 use Rattle.hist_model.specs.Allowed.{IsAllowed}
 use Rattle.hist_model.specs.Legal.{IsIllegalAt, IsLegal, first_illegal}
 use Rattle.hist_model.specs.Script.{IsWhole, is_finished, is_whole}
 use Rattle.hist_model.proofs.Laws.Legal.{first_illegal_none, first_illegal_some}
 use Rattle.env_core.specs.Views.{EnvView}
-use Rattle.seat_hand.specs.Entries.{entry_by}
 use Rattle.seat_hand.specs.Hands.{AreInHand, IsInHand, is_empty}
 use Rattle.seat_hand.specs.declared.hand.Hand.{Hand}
 use Rattle.seat_hand.specs.declared.hand.Hand.TheVariants.{Free}

@@ -1,4 +1,4 @@
-ghost use Rattle.std.specs.Prelude.{◌≡◌, ◌<◌, ◌≤◌, ◌+◌, Bool, false, length, replicate, slice_set, IfOk, IfSome, IfNone};
+ghost use Rattle.std.specs.Prelude.{◌≡◌, ◌<◌, ◌≤◌, ◌+◌, false, length, replicate, slice_set, IfOk, IfSome, IfNone};
 ghost use Rattle.env_roster.specs.Wakes.{HasWorkAt, IsHandedOn, IsPick, NobodyHasWork, NobodyRests, NoWakeIsLost, after_wake, has_own, has_to_do, has_work, wakes_well};
 ghost use Rattle.env_roster.specs.declared.note.Note.TheVariants as kinds;
 

@@ -9,12 +9,13 @@ use Rattle.task_traits.specs.declared.phase.Phase.{Phase}
 use Rattle.task_traits.specs.declared.phase.Phase.TheVariants as phases
 use Rattle.task_traits.specs.declared.traits.Behaviour.{Behaviour}
 use Rattle.task_traits.specs.declared.traits.Behaviour.TheVariants as behaviours
+use Rattle.task_base.specs.Entries.{starts_shutdown}
 use Rattle.task_model.specs.Phase.{phase_of, phase_after, started_from}
 use Rattle.task_model.proofs.Growth.{phase_of_push}
 use Rattle.hist_model.specs.Views.{IsPrefix}
 use Rattle.hist_model.proofs.Laws.AtPlaces.{parted_at}
 use Rattle.hist_model.proofs.Laws.Phases.{forbids_on}
-use Rattle.turn_table.specs.Shutdowns.{IsShutdownAt, is_shutdown}
+use Rattle.turn_table.specs.Shutdowns.{IsShutdownAt}
 
 -- once shutdown was started, all but block work is forbidden
 forbids_started : (now : Phase) (b : Behaviour) → b ≢ behaviours.BlockShutdown → forbids (started_from now) b ≡ true
@@ -27,7 +28,7 @@ forbids_started phases.Started behaviours.BlockShutdown ne = absurd (ne refl)
 forbids_started phases.Done b ne = refl
 
 -- so it is behind the entry by which shutdown starts
-forbids_behind : (now : Phase) (kind : Kind) (b : Behaviour) → is_shutdown kind ≡ true → b ≢ behaviours.BlockShutdown → forbids (phase_after now kind) b ≡ true
+forbids_behind : (now : Phase) (kind : Kind) (b : Behaviour) → starts_shutdown kind ≡ true → b ≢ behaviours.BlockShutdown → forbids (phase_after now kind) b ≡ true
 forbids_behind now kinds.Shutdown b is ne = forbids_started now b ne
 forbids_behind now kind b is ne = absurd cc
 

@@ -1,5 +1,5 @@
 -- A seat that leaves its desk.
--- Cited by `env_threads`.
+-- Cited by `env_threads`, `worked_calls`.
 use Rattle.std.proofs.Common.{◌≡◌, true, refl, sym, ◌∙◌}
 use Rattle.turn_table.specs.Seats.{TurnKey, SeatView}
 use Rattle.env_shared.specs.Sits.{Seated}

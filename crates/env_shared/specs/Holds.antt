@@ -2,10 +2,10 @@
 use Rattle.std.specs.Prelude.{◌≡◌, ℕ, ◌+◌, Bool, List}
 use Rattle.task_base.specs.declared.entry.Entry.{Entry}
 use Rattle.task_base.specs.declared.entry.Kind.{Kind}
+use Rattle.task_base.specs.Entries.{starts_shutdown}
 use Rattle.hist_model.specs.Legal.{IsLegal}
 use Rattle.hist_model.specs.Views.{IsPrefix, own_entries}
 use Rattle.turn_table.specs.Seats.{TurnKey, SeatView}
-use Rattle.turn_table.specs.Shutdowns.{is_shutdown}
 use Rattle.env_core.specs.Views.{EnvView, Enters}
 use Rattle.env_shared.specs.Sits.{Sits}
 
@@ -41,4 +41,4 @@ pub record HasEntered (shut : Bool) (h : HoldView) (env : EnvView) : Type 0 wher
   pub enters : Enters before env number kind
   pub found_is : before ≡ found h
   pub number_is : number ≡ h.seat.number
-  pub shut_is : is_shutdown kind ≡ shut
+  pub shut_is : starts_shutdown kind ≡ shut

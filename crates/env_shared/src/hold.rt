@@ -1,5 +1,5 @@
 //! One hold of the turn, by a seat at a desk. Whoever is to be woken by it is woken once the turn is given back.
-ghost use Rattle.std.specs.Prelude.{◌≡◌, ◌+◌, ◌≤◌, true, false, length};
+ghost use Rattle.std.specs.Prelude.{◌≡◌, ◌+◌, true, false, length};
 ghost use Rattle.hist_model.specs.Views.{own_entries};
 ghost use Rattle.env_crew.specs.Desk.{Holds, as_seen};
 ghost use Rattle.env_shared.specs.Holds.{HasEntered, HasTurn, found};

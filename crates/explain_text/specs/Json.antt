@@ -1,9 +1,9 @@
 -- The same as one compact JSON object (this project's own form; RFC 8259).
-use Rattle.std.specs.Prelude.{ℕ, Bool, true, false, if◌then◌else◌, List, [], ◌∷◌, ◌++◌, flat_map, slice_get, codes, decimal, Option, Some, None}
+use Rattle.std.specs.Prelude.{ℕ, if◌then◌else◌, List, [], ◌∷◌, ◌++◌, flat_map, slice_get, codes, Option, Some, None}
 use Rattle.task_base.specs.declared.entry.Entry.{Entry}
 use Rattle.task_base.specs.declared.entry.Kind.{Kind}
+use Rattle.task_base.specs.Entries.{entry_by}
 use Rattle.log_model.specs.LogText.{json_of}
-use Rattle.seat_hand.specs.Entries.{entry_by}
 use Rattle.next_entry.specs.Causes.{named_by}
 use Rattle.next_entry.specs.declared.cause.Bar.{Bar}
 use Rattle.next_entry.specs.declared.cause.Bar.TheVariants as bars

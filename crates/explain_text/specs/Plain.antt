@@ -1,9 +1,9 @@
 -- Why a log is illegal, as a line of plain words (this project's own).
-use Rattle.std.specs.Prelude.{ℕ, ◌-◌, Bool, nat_lt, if◌then◌else◌, List, [], ◌++◌, flat_map, length, slice_get, take, codes, decimal, Option, Some, None}
+use Rattle.std.specs.Prelude.{ℕ, ◌-◌, nat_lt, if◌then◌else◌, List, [], ◌++◌, flat_map, length, slice_get, take, codes, decimal, Option, Some, None}
 use Rattle.task_base.specs.declared.entry.Entry.{Entry}
 use Rattle.task_base.specs.declared.entry.Kind.{Kind}
+use Rattle.task_base.specs.Entries.{entry_by}
 use Rattle.log_model.specs.LogText.{line_of}
-use Rattle.seat_hand.specs.Entries.{entry_by}
 use Rattle.next_entry.specs.Causes.{named_by}
 use Rattle.next_entry.specs.declared.cause.Bar.{Bar}
 use Rattle.next_entry.specs.declared.cause.Bar.TheVariants as bars

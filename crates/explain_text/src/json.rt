@@ -1,4 +1,4 @@
-ghost use Rattle.std.specs.Prelude.{◌≡◌, ◌++◌, [], if◌then◌else◌, codes, decimal, IfOk, OnOk};
+ghost use Rattle.std.specs.Prelude.{◌≡◌, ◌++◌, if◌then◌else◌, codes, decimal, IfOk, OnOk};
 ghost use Rattle.next_entry.specs.Causes.{named_by};
 ghost use Rattle.explain_text.specs.Json.{at_work_object, bad_line_json, bar_key, busy_object, busy_objects, cause_keys, cause_name, cause_object, edge_key, entry_key, named_key, told_json};
 

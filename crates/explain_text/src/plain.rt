@@ -1,6 +1,6 @@
 ghost use Rattle.std.specs.Prelude.{◌≡◌, ◌+◌, ◌≤◌, ◌++◌, [], if◌then◌else◌, codes, decimal, flat_map, length, slice_get};
 ghost use Rattle.next_entry.specs.Causes.{named_by};
-ghost use Rattle.explain_text.specs.Plain.{around, at_work_line, bad_line_text, bar_words, busy_words, cause_line, cause_words, edge_words, more_words, next_line, seat_of, told_text};
+ghost use Rattle.explain_text.specs.Plain.{around, at_work_line, bad_line_text, bar_words, busy_words, cause_line, cause_words, edge_words, more_words, seat_of, told_text};
 
 use itoa::Buffer;
 use line_text::{Line, add, add_decimal};

@@ -1,4 +1,4 @@
-ghost use Rattle.std.specs.Prelude.{◌≡◌, ℕ, ◌≤◌, List, All, length};
+ghost use Rattle.std.specs.Prelude.{◌≡◌, ◌≤◌, List, All, length};
 ghost use Rattle.task_base.specs.Plan.{Plan};
 ghost use Rattle.task_base.specs.declared.entry.Entry.{Entry};
 ghost use Rattle.task_base.specs.declared.limits.TheConstants.{MOST_EVENTS};

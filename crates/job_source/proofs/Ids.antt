@@ -4,12 +4,13 @@ use Rattle.std.proofs.Common.{◌≡◌, ℕ, suc, ◌+◌, ◌≤◌, ◌<◌, 
 use Rattle.std.proofs.Common.{get_or, set, refl, sym, ap, ◌∙◌, Option, Some, None, add-one, arith}
 use Rattle.std.specs.Prelude.{◌||◌, nat_lt, not, find, is_none, is_some, slice_get, unwrap_or, IsSome}
 use Rattle.std.specs.List.{position, position_or_len, range_with_len}
-use Rattle.std.proofs.lemmas.Bool.{and_parts, or_parts, ltb-true, ltb-false, not-true, not-false}
+use Rattle.std.proofs.lemmas.Bool.{and_parts, or_parts, ltb-true, not-true, not-false}
 use Rattle.std.proofs.lemmas.List.{length-set}
 use Rattle.std.proofs.lemmas.List.Quantifiers.{position-Some}
 use Rattle.std.proofs.lemmas.Option.{none-some, same_Some, slice_get_within, unwrap_or-slice_get}
 use Rattle.list_laws.specs.Lists.{count}
 use Rattle.list_laws.proofs.Counts.{count-cons, count-set, count_step}
+use Rattle.list_laws.proofs.Finds.{position_none}
 use Rattle.job_source.specs.Job.{JobView, IsConsistent, held_by, inside, has_unclaimed, concurrency, may_enter, is_free_id, free_id, entered, next_item}
 
 -- where ids from the first one on are free as their places say, the first free id is the first place at which nothing is held
@@ -34,15 +35,6 @@ position_is test xs place found = by_order (nat_lt (position_or_len test xs) (le
     by_order : (b : Bool) → cond b (Some (position_or_len test xs)) None ≡ Some place → position_or_len test xs ≡ place
     by_order true is = same_Some _ _ is
     by_order false is = absurd (none-some place is)
-
--- where no place is found, the test passes at none
-position_none : {A : Type 0} (test : A → Bool) (xs : List A) → position test xs ≡ None → length xs ≤ position_or_len test xs
-position_none test xs none = by_order (nat_lt (position_or_len test xs) (length xs)) refl none
-  where
-    by_order : (b : Bool) → nat_lt (position_or_len test xs) (length xs) ≡ b → cond b (Some (position_or_len test xs)) None ≡ None
-        → length xs ≤ position_or_len test xs
-    by_order true less is = absurd (none-some _ (sym is))
-    by_order false less is = ltb-false _ _ less
 
 -- the first place at which nothing is held is the least free id
 free_id_is : (job : JobView) (id : ℕ) → position is_none job.held ≡ Some id → free_id job ≡ Some id

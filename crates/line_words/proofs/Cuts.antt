@@ -7,9 +7,8 @@ use Rattle.std.specs.List.{slice_split}
 use Rattle.std.proofs.lemmas.List.{take_all, drop-drop, append-nil}
 use Rattle.std.proofs.lemmas.List.Elements.{All-push}
 use Rattle.std.proofs.lemmas.List.Splits.{slice_split_none, slice_split_at}
-use Rattle.script_model.specs.Words.{words_of}
+use Rattle.script_model.specs.Words.{words_of, is_mark}
 use Rattle.line_words.specs.FirstWord.{IsFirstWord}
-use Rattle.line_words.specs.Steps.{is_mark}
 
 -- a text is cut between words, behind words of which none is the mark
 pub record IsCut (text : List ℕ) (from : ℕ) : Type 0 where

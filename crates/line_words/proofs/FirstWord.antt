@@ -10,6 +10,7 @@ use Rattle.std.proofs.lemmas.List.Quantifiers.{position-Some}
 use Rattle.std.proofs.lemmas.List.Sums.{prefix_len-le-length}
 use Rattle.std.proofs.lemmas.Bool.{not-true}
 use Rattle.std.proofs.lemmas.Bool.Decides.{nat_tests}
+use Rattle.list_laws.proofs.Finds.{position_none}
 use Rattle.script_model.specs.Words.{words_of, is_blank}
 use Rattle.line_words.specs.FirstWord.{IsFirstWord}
 
@@ -113,15 +114,6 @@ position_is p xs i e = by_order (ltb (position_or_len p xs) (length xs)) refl e
         → (position_or_len p xs ≡ i) × (i < length xs)
     by_order true h f = let same : position_or_len p xs ≡ i = cc in (same, rw (← same) (ltb-true _ _ h))
     by_order false h f = absurd cc
-
--- and where it finds none
-position_none : {X : Type 0} (p : X → Bool) (xs : List X) → position p xs ≡ None → length xs ≤ position_or_len p xs
-position_none p xs e = by_order (ltb (position_or_len p xs) (length xs)) refl e
-  where
-    by_order : (b : Bool) → ltb (position_or_len p xs) (length xs) ≡ b → ◌≡◌ {A = Option ℕ} (cond b (Some (position_or_len p xs)) None) None
-        → length xs ≤ position_or_len p xs
-    by_order true h f = absurd cc
-    by_order false h f = ltb-false _ _ h
 
 -- a text of blanks has no words
 pub words_of-blanks : (text : List ℕ) → position (λ b. not (is_blank b)) text ≡ None → words_of text ≡ []

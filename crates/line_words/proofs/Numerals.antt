@@ -1,11 +1,13 @@
 -- The number that a word writes: the text of digits, their value, and the range that it must lie in.
--- Cited by `number_from`.
-use Rattle.std.proofs.Common.{◌≡◌, ℕ, ◌<◌, ◌^◌, true, false, cond, ltb, leb, List, Some, None, Err, refl, sym, inl, inr, arith}
+-- Cited by `number_from`, `nested_loop`.
+use Rattle.std.proofs.Common.{◌≡◌, ℕ, ◌<◌, ◌^◌, true, false, cond, ltb, leb, List, Some, None, Err, refl, sym, inl, inr, arith, Bool, ◌&&◌, if◌then◌else◌, Option, Ok}
 use Rattle.std.specs.Str.Parse.{digits_value}
 use Rattle.std.proofs.lemmas.Bool.{cases_lt, lt-ltb, le-ltb, lt-leb}
 use Rattle.std.proofs.Math.Bool.{and-false}
-use Rattle.script_model.specs.Reasons.{bad_number}
-use Rattle.script_model.specs.Places.{number_from}
+use Rattle.std.specs.Result.{result_ok}
+use Rattle.std.specs.Option.{option_and_then}
+use Rattle.script_model.specs.Reasons.{bad_number, out_of_range}
+use Rattle.script_model.specs.Places.{number_from, in_range}
 use Rattle.numeral_text.specs.Numeral.{value_of}
 use Rattle.line_words.specs.Numerals.{has_form, within}
 
@@ -26,3 +28,13 @@ wide low high n fits =
 pub number_from-numeral : (low high : ℕ) (word : List ℕ) → high < 2 ^ 64 → has_form word ≡ true → number_from low high word ≡ within low high (value_of word)
 unfolding number_from
 number_from-numeral low high word fits h = rw h (sym (wide low high (digits_value 10 word) fits))
+
+-- a number of a script, without the reason where it is none
+pub result_ok-in_range : (low high : ℕ) (number : Option ℕ)
+    → result_ok (in_range low high number) ≡ option_and_then (λ n. if leb low n && leb n high then Some n else None) number
+result_ok-in_range low high None = refl
+result_ok-in_range low high (Some n) = by_test (leb low n && leb n high)
+  where
+    by_test : (b : Bool) → result_ok (if b then Ok n else Err out_of_range) ≡ (if b then Some n else None)
+    by_test true = refl
+    by_test false = refl

@@ -6,7 +6,7 @@ use Rattle.std.proofs.lemmas.List.{append-nil}
 use Rattle.task_base.specs.declared.step.Step.{Step}
 use Rattle.script_model.specs.Reasons.{◌>>=◌, ◌&◌}
 use Rattle.script_model.specs.Places.{step_read, all_read, steps_read}
-use Rattle.line_words.specs.Steps.{is_mark}
+use Rattle.script_model.specs.Words.{is_mark}
 
 -- the steps of both, or the least of the reasons
 abbrev pub append_read : Result (List Step) ℕ → Result (List Step) ℕ → Result (List Step) ℕ

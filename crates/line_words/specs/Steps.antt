@@ -1,15 +1,11 @@
 -- The words of a line cut at the word `;`, and the steps that are read one after the other.
-use Rattle.std.specs.Prelude.{ℕ, Bool, List, [], ◌∷◌, ◌++◌, codes, Option, Some, None, Result, Ok}
+use Rattle.std.specs.Prelude.{ℕ, List, [], ◌∷◌, ◌++◌, Option, Some, None, Result, Ok}
 use Rattle.std.specs.List.{slice_split}
 use Rattle.task_base.specs.declared.step.Step.{Step}
 use Rattle.task_base.specs.declared.step.Step.TheVariants.{Unblock}
-use Rattle.script_model.specs.Words.{is_word}
+use Rattle.script_model.specs.Words.{is_mark}
 use Rattle.script_model.specs.Reasons.{◌>>=◌, ◌>>◌, ◌&◌}
 use Rattle.script_model.specs.Places.{ends_at}
-
--- the word that parts steps (this project's own rule)
-abbrev pub is_mark : List ℕ → Bool
-is_mark word = is_word word (codes ";")
 
 -- the words of each step, of the words of some steps or of none
 abbrev pub pieces_of : Option (List (List ℕ)) → List (List (List ℕ))

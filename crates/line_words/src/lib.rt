@@ -10,7 +10,8 @@ mod reason;
 mod steps;
 mod words;
 
+pub use numbers::number_from;
 pub use posting::read_posting;
 pub use reason::{Reason, both};
 pub use steps::read_steps;
-pub use words::Words;
+pub use words::{Words, begins_comment, is_blank, is_mark};

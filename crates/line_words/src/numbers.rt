@@ -5,8 +5,8 @@ ghost use Rattle.line_words.specs.Numerals.{has_form, within};
 use crate::reason::Reason;
 use numeral_text::{is_numeral, value_of};
 
-/// The number that a word writes, if it lies between these two.
-pub(crate) fn number_from(low: u64, high: u64, word: &[u8]) -> Result<u64, Reason>
+/// The number that a word writes, if it lies between these two: one to 20 digits, also with zeros in front.
+pub fn number_from(low: u64, high: u64, word: &[u8]) -> Result<u64, Reason>
     ensures value { result ≡ number_from low high word.now }
     ensures fits { IfOk result (λ number. number ≤ high) }
 {

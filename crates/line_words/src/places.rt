@@ -1,3 +1,5 @@
+//! What stands at a place of a line. Each call takes the next word; its error says that there is none, or that it is no such
+//! value.
 ghost use Rattle.std.specs.Prelude.{◌≡◌, ◌≤◌, drop, IfOk};
 ghost use Rattle.value_words.specs.Words.{priority_named, behaviour_named, policy_named, fence_named, vote_named, scope_named};
 ghost use Rattle.script_model.specs.Places.{said_at, name_at, ends_at, number_at, id_at, time_at, may_block_at, kind_named};
@@ -24,8 +26,7 @@ impl<'a> Words<'a> {
         }
     }
 
-    /// A number of 32 bits, from low to high. An error, here and below: no word stands at the place, or one that is no
-    /// such value.
+    /// A number of 32 bits, from low to high.
     pub fn count(&mut self, low: u32, high: u32) -> Result<u32, Reason>
         ensures value { result ≡ number_at low high self.old 0 }
         ensures rest { self.new ≡ drop 1 self.old }

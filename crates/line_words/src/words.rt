@@ -1,8 +1,8 @@
 ghost use Rattle.std.specs.Prelude.{◌≡◌, ◌↔◌, [], ◌∷◌, drop, slice_get, option_copied, position, IsTrue, MatchOption, not};
 ghost use Rattle.std.specs.List.{position_or_len, slice_split};
-ghost use Rattle.script_model.specs.Words.{words_of, is_blank};
+ghost use Rattle.script_model.specs.Words.{words_of, is_blank, is_mark, begins_comment};
 ghost use Rattle.line_words.specs.FirstWord.{IsFirstWord};
-ghost use Rattle.line_words.specs.Steps.{is_mark, pieces_of};
+ghost use Rattle.line_words.specs.Steps.{pieces_of};
 
 use std::marker::Model;
 
@@ -67,7 +67,7 @@ impl<'a> Words<'a> {
 }
 
 /// Whether a word parts steps.
-fn is_mark(word: &[u8]) -> bool
+pub fn is_mark(word: &[u8]) -> bool
     ensures { result ≡ is_mark word.now }
 {
     word == b";".as_slice()
@@ -103,8 +103,19 @@ fn blank_start(text: &[u8]) -> Option<usize>
     text.iter().position(|byte| is_blank(*byte))
 }
 
-fn is_blank(byte: u8) -> bool
+/// Whether a byte parts words.
+pub fn is_blank(byte: u8) -> bool
     ensures { result ≡ is_blank byte }
 {
     byte == b' ' || byte == b'\t'
+}
+
+/// Whether a word, as the first of its line, makes it a comment.
+pub fn begins_comment(word: &[u8]) -> bool
+    ensures { result ≡ begins_comment word.now }
+{
+    match word {
+        [first, ..] => *first == b'#',
+        [] => false,
+    }
 }

@@ -6,7 +6,7 @@ use Rattle.std.proofs.Common.{◌≡◌, ℕ, zero, suc, ◌<◌, Bool, true, fa
 use Rattle.std.proofs.Common.{append_assoc, get_or, refl, sym, ◌∙◌, Option, Some, None, arith, subst}
 use Rattle.std.specs.Prelude.{filter, slice_get, Contains}
 use Rattle.std.specs.Option.{IfSome}
-use Rattle.std.specs.List.{filter_map, cons_option, AllByRecursion}
+use Rattle.std.specs.List.{filter_map, cons_option, AllByRecursion, flat_map}
 use Rattle.std.proofs.lemmas.List.{append-nil}
 use Rattle.std.proofs.lemmas.List.Elements.{All-from_recursion, recursion_from_All, All-contains_itself, All-contains}
 use Rattle.std.proofs.lemmas.Bool.{true≢false}
@@ -27,6 +27,19 @@ AllByRecursion-both P Q (x ∷ xs) h k = ((h.0, k.0), AllByRecursion-both P Q xs
 pub AllByRecursion-append : {A : Type 0} (P : A → Type 0) (xs ys : List A) → AllByRecursion P xs → AllByRecursion P ys → AllByRecursion P (xs ++ ys)
 AllByRecursion-append P [] ys h k = k
 AllByRecursion-append P (x ∷ xs) ys h k = (h.0, AllByRecursion-append P xs ys h.1 k)
+
+-- of all elements of lists that are made of elements of which something holds
+pub AllByRecursion-flat_map : {A B : Type 0} (P : B → Type 0) (Q : A → Type 0) (f : A → List B) (xs : List A) → ((x : A) → Q x → AllByRecursion P (f x))
+    → AllByRecursion Q xs → AllByRecursion P (flat_map f xs)
+AllByRecursion-flat_map P Q f [] h all = tt
+AllByRecursion-flat_map P Q f (x ∷ xs) h all =
+    AllByRecursion-append P (f x) (flat_map f xs) (h x all.0) (AllByRecursion-flat_map P Q f xs h all.1)
+
+-- and of any elements
+pub AllByRecursion-each_list : {A B : Type 0} (P : B → Type 0) (f : A → List B) (xs : List A) → ((x : A) → AllByRecursion P (f x))
+    → AllByRecursion P (flat_map f xs)
+AllByRecursion-each_list P f xs h =
+    AllByRecursion-flat_map P (λ x. Unit {0}) f xs (λ x t. h x) (AllByRecursion-always (λ x. Unit {0}) xs (λ x. tt))
 
 -- what holds of the elements of a joined list holds of those of either part
 pub AllByRecursion-front : {A : Type 0} (P : A → Type 0) (xs ys : List A) → AllByRecursion P (xs ++ ys) → AllByRecursion P xs

@@ -1,9 +1,10 @@
 -- What is found and counted in a list.
--- Cited by `Made`, `env_core`, `hist_model`, `nested_loop`, `next_entry`, `pool_core`, `run_summary`, `sequence_manager`, `value_words`.
+-- Cited by `Made`, `env_core`, `hist_model`, `job_source`, `line_words`, `nested_loop`, `next_entry`, `pool_core`, `run_summary`,
+-- `sequence_manager`, `value_words`.
 use Rattle.std.proofs.Common.{◌≡◌, ℕ, ◌≤◌, Bool, true, false, cond, List, [], ◌∷◌, length, refl, sym, ap, ◌∙◌, Some, None, arith}
-use Rattle.std.specs.Prelude.{filter, find, is_some, Contains}
-use Rattle.std.specs.List.{AllByRecursion}
-use Rattle.std.proofs.lemmas.Bool.{both_ways, true≢false}
+use Rattle.std.specs.Prelude.{filter, find, is_some, Contains, position, nat_lt}
+use Rattle.std.specs.List.{AllByRecursion, position_or_len}
+use Rattle.std.proofs.lemmas.Bool.{both_ways, true≢false, ltb-false}
 use Rattle.std.proofs.lemmas.List.Elements.{All-from_recursion, All-contains, Contains-append_right}
 use Rattle.std.proofs.lemmas.Option.{none-some, same_Some}
 use Rattle.list_laws.specs.Lists.{count}
@@ -57,3 +58,12 @@ find_contains {A = A} test (y ∷ ys) x is = by_test (test y) is (find_contains 
     by_test : (b : Bool) → cond b (Some y) (find test ys) ≡ Some x → (find test ys ≡ Some x → Contains ys x) → Contains (y ∷ ys) x
     by_test true here rest = (0, omega arith, same_Some y x here)
     by_test false there rest = Contains-append_right (y ∷ []) ys x (rest there)
+
+-- where no place is found, the test passes at none
+pub position_none : {A : Type 0} (test : A → Bool) (xs : List A) → position test xs ≡ None → length xs ≤ position_or_len test xs
+position_none test xs none = by_order (nat_lt (position_or_len test xs) (length xs)) refl none
+  where
+    by_order : (b : Bool) → nat_lt (position_or_len test xs) (length xs) ≡ b → cond b (Some (position_or_len test xs)) None ≡ None
+        → length xs ≤ position_or_len test xs
+    by_order true less is = absurd (none-some _ (sym is))
+    by_order false less is = ltb-false _ _ less

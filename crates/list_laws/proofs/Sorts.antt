@@ -219,3 +219,16 @@ least_is_first {A = A} below p xs ys ranks rises same = by_found (find p ys) ref
     by_found : (o : Option A) → find p ys ≡ o → least below (filter p xs) ≡ find p ys
     by_found None none = fails none ∙ sym none
     by_found (Some y) some = found y some ∙ sym some
+
+-- where a goes before b, it doesn't matter which of them is put in first
+pub insert_by-insert_by : {A : Type 0} (below : A → A → Bool) → Ranks below → (a b : A) (xs : List A) → below a b ≡ true
+    → insert_by below a (insert_by below b xs) ≡ insert_by below b (insert_by below a xs)
+insert_by-insert_by below ranks a b [] less = simp (less, ranks.one_way a b less)
+insert_by-insert_by {A = A} below ranks a b (x ∷ xs) less = by_order (below x a) (below x b) refl refl (insert_by-insert_by below ranks a b xs less)
+  where
+    by_order : (s t : Bool) → below x a ≡ s → below x b ≡ t → insert_by below a (insert_by below b xs) ≡ insert_by below b (insert_by below a xs)
+        → insert_by below a (insert_by below b (x ∷ xs)) ≡ insert_by below b (insert_by below a (x ∷ xs))
+    by_order true true of_a of_b rest = simp (of_a, of_b) (ap (λ l. x ∷ l) rest)
+    by_order true false of_a of_b rest = absurd (true≢false (sym (ranks-trans below ranks x a b of_a less) ∙ of_b))
+    by_order false true of_a of_b rest = simp (of_a, of_b, less)
+    by_order false false of_a of_b rest = simp (of_a, of_b, less, ranks.one_way a b less)

@@ -4,9 +4,9 @@ use Rattle.std.proofs.Common.{◌≡◌, ℕ, Bool, true, false, [], ◌∷◌, 
 use Rattle.std.proofs.lemmas.Bool.{and_parts, false_from_ne_true, true≢false}
 use Rattle.std.specs.Prelude.{nat_le}
 use Rattle.task_base.specs.declared.entry.Kind.{Kind}
+use Rattle.task_base.specs.Entries.{entry_by}
 use Rattle.hist_model.specs.Allowed.{is_allowed, may_come}
 use Rattle.env_core.specs.Views.{EnvView, Enters}
-use Rattle.seat_hand.specs.Entries.{entry_by}
 use Rattle.log_replay.specs.Follows.{Follows}
 
 -- an entry whose kind may not come is refused

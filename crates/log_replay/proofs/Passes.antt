@@ -11,6 +11,7 @@ use Rattle.task_base.specs.declared.entry.Entry.{Entry}
 use Rattle.task_base.specs.declared.entry.Kind.TheVariants as kinds
 use Rattle.task_base.specs.declared.script.Action.{Action}
 use Rattle.task_base.specs.declared.script.Action.TheVariants as actions
+use Rattle.task_base.specs.Entries.{entry_by}
 use Rattle.task_model.specs.Jobs.{claimed, free_id, item_value, may_enter}
 use Rattle.task_model.specs.Seats.{Holding, holding, is_free, running}
 use Rattle.task_model.specs.Sources.{next_item}
@@ -24,7 +25,6 @@ use Rattle.task_body.specs.Passes.{PassView}
 use Rattle.env_core.specs.Calls.{IsWantedNext}
 use Rattle.env_core.specs.Jobs.{CanEndItem, HasGoneOn, HasLeft, IsHeld}
 use Rattle.env_core.specs.Views.{EnvView, Enters}
-use Rattle.seat_hand.specs.Entries.{entry_by}
 use Rattle.seat_hand.specs.Hands.{AreInHand}
 use Rattle.seat_hand.specs.declared.hand.Hand.{Hand}
 use Rattle.seat_hand.specs.declared.hand.Hand.TheVariants.{Item}

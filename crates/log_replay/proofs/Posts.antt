@@ -10,13 +10,13 @@ use Rattle.task_base.specs.declared.entry.Kind.TheVariants as kinds
 use Rattle.task_base.specs.declared.step.Scope.{Scope}
 use Rattle.task_base.specs.declared.script.Action.{Action}
 use Rattle.task_base.specs.declared.script.Action.TheVariants as actions
+use Rattle.task_base.specs.Entries.{entry_by}
 use Rattle.task_model.specs.Refusal.{is_closed, is_refused}
 use Rattle.hist_model.specs.Allowed.{by_script, by_task, is_reply, may_come}
 use Rattle.hist_model.specs.Script.{wants}
 use Rattle.hist_model.specs.Views.{own_entries}
 use Rattle.env_core.specs.Calls.{IsWantedNext}
 use Rattle.env_core.specs.Views.{EnvView, Enters}
-use Rattle.seat_hand.specs.Entries.{entry_by}
 use Rattle.log_replay.specs.Follows.{Follows}
 use Rattle.log_replay.proofs.Judged.{came, in_place}
 use Rattle.log_replay.proofs.Replies.{only_reply}

@@ -6,6 +6,7 @@ use Rattle.std.proofs.Math.Bool.{beq}
 use Rattle.std.specs.Prelude.{not, ◌==◌}
 use Rattle.task_base.specs.declared.entry.Kind.{Kind}
 use Rattle.task_base.specs.declared.entry.Kind.TheVariants as kinds
+use Rattle.task_base.specs.Entries.{entry_by}
 use Rattle.task_model.specs.Refusal.{is_job_forbidden}
 use Rattle.task_model.specs.Seats.{Holding, Running, holding_after, is_free, running_after}
 use Rattle.task_model.specs.Time.{now_of}
@@ -13,7 +14,6 @@ use Rattle.hist_model.specs.Allowed.{by_script}
 use Rattle.hist_model.specs.Moments.{moment_behind}
 use Rattle.env_core.specs.Views.{EnvView, Enters}
 use Rattle.env_core.proofs.Plans.{driver_holds_nothing, driver_runs_nothing}
-use Rattle.seat_hand.specs.Entries.{entry_by}
 use Rattle.seat_hand.specs.Hands.{AreInHand, IsInHand, is_empty}
 use Rattle.seat_hand.specs.declared.hand.Hand.{Hand}
 use Rattle.seat_hand.specs.declared.hand.Hand.TheVariants.{Free, Task, Item}

@@ -14,6 +14,7 @@ use Rattle.task_base.specs.declared.script.Action.{Action}
 use Rattle.task_base.specs.declared.script.Action.TheVariants as actions
 use Rattle.task_base.specs.declared.source.TaskSource.{TaskSource}
 use Rattle.task_base.specs.declared.source.TaskSource.TheVariants.{Sequence, Job}
+use Rattle.task_base.specs.Entries.{entry_by}
 use Rattle.task_model.specs.Cells.{cell_of, main_cell_of}
 use Rattle.task_model.specs.Jobs.{claimed, free_id}
 use Rattle.task_model.specs.Keys.{Ready}
@@ -29,7 +30,7 @@ use Rattle.hist_model.proofs.Laws.Choice.{found}
 use Rattle.hist_model.proofs.Laws.Takes.{IsReadyWorker, by_driver, job_take_is, ready_worker}
 use Rattle.env_core.specs.Calls.{IsWantedNext}
 use Rattle.env_core.specs.Views.{EnvView, Enters}
-use Rattle.seat_hand.specs.Entries.{entry_by, takes_source}
+use Rattle.seat_hand.specs.Entries.{takes_source}
 use Rattle.log_replay.specs.Follows.{Follows, asks_front}
 use Rattle.log_replay.proofs.Judged.{came, in_place}
 use Rattle.log_replay.proofs.Wishes.{next_alike}

@@ -8,13 +8,13 @@ use Rattle.task_base.specs.declared.entry.JobReply.{JobReply}
 use Rattle.task_base.specs.declared.entry.Kind.{Kind}
 use Rattle.task_base.specs.declared.entry.Kind.TheVariants as kinds
 use Rattle.task_base.specs.declared.source.NotYet.{NotYet}
+use Rattle.task_base.specs.Entries.{entry_by}
 use Rattle.task_model.specs.Blockers.{blockers_of}
 use Rattle.task_model.specs.Seats.{Holding, Running, holding_after, running_after}
 use Rattle.hist_model.specs.Allowed.{by_script}
 use Rattle.env_core.specs.Calls.{IsIdle}
 use Rattle.env_core.specs.Jobs.{TriesToCancel, TriesToJoin}
 use Rattle.env_core.specs.Views.{EnvView, Enters}
-use Rattle.seat_hand.specs.Entries.{entry_by}
 use Rattle.seat_hand.specs.Hands.{AreInHand}
 use Rattle.seat_hand.specs.declared.hand.Hand.{Hand}
 use Rattle.log_replay.specs.Follows.{Follows}

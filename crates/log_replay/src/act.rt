@@ -1,9 +1,10 @@
 ghost use Rattle.std.specs.Prelude.{◌≡◌, ◌≤◌, true};
 ghost use Rattle.std.specs.List.{list_any};
+ghost use Rattle.task_base.specs.Entries.{entry_by};
 ghost use Rattle.hist_model.specs.Allowed.{by_task, enters};
 ghost use Rattle.env_core.specs.Views.{Enters};
 ghost use Rattle.seat_hand.specs.Hands.{told_by};
-ghost use Rattle.seat_hand.specs.Entries.{entry_by, with_reply};
+ghost use Rattle.seat_hand.specs.Entries.{with_reply};
 ghost use Rattle.log_replay.specs.Follows.{Follows};
 
 use crate::replay::Replay;

@@ -1,4 +1,4 @@
-ghost use Rattle.seat_hand.specs.Entries.{entry_by};
+ghost use Rattle.task_base.specs.Entries.{entry_by};
 ghost use Rattle.log_replay.specs.Follows.{Follows};
 
 use crate::replay::Replay;

@@ -1,8 +1,8 @@
 ghost use Rattle.std.specs.Prelude.{◌≡◌, ◌↔◌, ◌≤◌, ◌&&◌, ◌==◌, IsTrue};
 ghost use Rattle.list_laws.specs.Lists.{holds_of};
+ghost use Rattle.task_base.specs.Entries.{entry_by};
 ghost use Rattle.task_model.specs.Seats.{holding};
 ghost use Rattle.env_core.specs.Calls.{IsWantedNext};
-ghost use Rattle.seat_hand.specs.Entries.{entry_by};
 ghost use Rattle.log_replay.specs.Follows.{Follows};
 
 use crate::replay::Replay;

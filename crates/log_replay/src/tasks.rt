@@ -1,10 +1,10 @@
 ghost use Rattle.std.specs.Prelude.{◌≡◌, ◌≢◌, ◌≤◌, ◌&&◌, ◌==◌, true, false, []};
 ghost use Rattle.list_laws.specs.Lists.{holds_of};
 ghost use Rattle.task_base.specs.Steps.{after};
+ghost use Rattle.task_base.specs.Entries.{entry_by};
 ghost use Rattle.task_model.specs.Seats.{is_free, running};
 ghost use Rattle.hist_model.specs.Allowed.{has_done};
 ghost use Rattle.env_core.specs.Calls.{IsWantedNext};
-ghost use Rattle.seat_hand.specs.Entries.{entry_by};
 ghost use Rattle.log_replay.specs.Follows.{Follows, TakesBest, TakesFront};
 
 use crate::replay::Replay;

@@ -1,5 +1,5 @@
 ghost use Rattle.std.specs.Prelude.{◌≡◌, ◌↔◌, IsTrue};
-ghost use Rattle.seat_hand.specs.Entries.{entry_by};
+ghost use Rattle.task_base.specs.Entries.{entry_by};
 ghost use Rattle.log_replay.specs.Follows.{Follows};
 
 use crate::replay::Replay;

@@ -1,7 +1,7 @@
 -- The front that the main queues choose is the arrival of the least class of its queue, then of the least order, of those
 -- that have not been taken.
 -- Cited by `Front`, `Kept`.
-use Rattle.std.proofs.Common.{◌≡◌, ℕ, ◌+◌, ◌<◌, ◌≤◌, length, Bool, true, false, cond, eqb, List, [], ◌∷◌}
+use Rattle.std.proofs.Common.{◌≡◌, ℕ, ◌<◌, ◌≤◌, length, Bool, true, false, cond, eqb, List, [], ◌∷◌}
 use Rattle.std.proofs.Common.{◌++◌, refl, sym, ap, ◌∙◌, subst, Option, Some, None, arith, inl, inr}
 use Rattle.std.specs.Prelude.{◌⊎◌, ◌&&◌, not, nat_lt, filter, find, flat_map, Contains}
 use Rattle.std.specs.List.{AllByRecursion, list_all, range_with_len}
@@ -11,7 +11,7 @@ use Rattle.std.proofs.lemmas.Option.{none-some}
 use Rattle.std.proofs.lemmas.List.Elements.{All-contains, Contains-append_left, Contains-append_right}
 use Rattle.list_laws.specs.Lists.{IsLeast, Ranks, holds_of, least, then_by}
 use Rattle.list_laws.specs.Sorts.{Rises, SameMembers}
-use Rattle.list_laws.proofs.Elements.{AllByRecursion-append, AllByRecursion-contains, AllByRecursion-filter, AllByRecursion-unmapped}
+use Rattle.list_laws.proofs.Elements.{AllByRecursion-append, AllByRecursion-contains, AllByRecursion-filter, AllByRecursion-unmapped, AllByRecursion-each_list}
 use Rattle.list_laws.proofs.Finds.{find_contains, find_passes}
 use Rattle.list_laws.proofs.Least.{least_is_least, no_least}
 use Rattle.list_laws.proofs.Made.{contains_cases, contains_filter, contains_range, filter_contains, none_contained}
@@ -55,10 +55,6 @@ some_found {A = A} p xs y among passes = by_found (find p xs) refl
     by_found : (o : Option A) → find p xs ≡ o → (x : A) × (find p xs ≡ Some x)
     by_found None is = absurd (true≢false (sym passes ∙ AllByRecursion-contains (λ x. p x ≡ false) xs y (find-none p xs is) among))
     by_found (Some x) is = (x, is)
-
-all_of_lists : {A B : Type 0} (P : B → Type 0) (f : A → List B) (xs : List A) → ((x : A) → AllByRecursion P (f x)) → AllByRecursion P (flat_map f xs)
-all_of_lists P f [] h = tt
-all_of_lists P f (x ∷ xs) h = AllByRecursion-append P (f x) (flat_map f xs) (h x) (all_of_lists P f xs h)
 
 in_lists : {A B : Type 0} (f : A → List B) (xs : List A) (x : A) (y : B) → Contains xs x → Contains (f x) y → Contains (flat_map f xs) y
 in_lists f [] x y among within = absurd (none_contained x among)
@@ -115,7 +111,7 @@ module _ (script : Plan) (entries : List Entry) (plain : IsPlain script entries)
   unfolding open_fronts
   open_is_arrival f among = AllByRecursion-contains IsArrival (open_fronts script entries) f (AllByRecursion-filter IsArrival (is_open script entries)
       (flat_map (fronts_of script entries) (range_with_len 0 (length script.queues)))
-      (all_of_lists IsArrival (fronts_of script entries) (range_with_len 0 (length script.queues)) (λ q.
+      (AllByRecursion-each_list IsArrival (fronts_of script entries) (range_with_len 0 (length script.queues)) (λ q.
       AllByRecursion-append IsArrival (option_to_list (front_of script entries q Immediate)) (option_to_list (front_of script entries q Delayed))
       (one q Immediate (front_of script entries q Immediate) refl) (one q Delayed (front_of script entries q Delayed) refl)))) among
     where

@@ -1,7 +1,6 @@
 mod Worked
 pub mod Comes
 pub mod WorkedReads
-pub mod Numerals
 pub mod Pieces
 pub mod Posted
 pub mod Ranges

@@ -8,7 +8,7 @@ use Rattle.std.specs.Option.{IfSome}
 use Rattle.std.proofs.lemmas.List.{length-map}
 use Rattle.std.proofs.lemmas.List.Elements.{Contains-append_left, Contains-append_right}
 use Rattle.std.proofs.lemmas.List.Sums.{sum_by-cons}
-use Rattle.list_laws.proofs.Elements.{AllByRecursion-append, AllByRecursion-filter_map, AllByRecursion-map, AllByRecursion-mapped}
+use Rattle.list_laws.proofs.Elements.{AllByRecursion-append, AllByRecursion-filter_map, AllByRecursion-map, AllByRecursion-mapped, AllByRecursion-flat_map}
 use Rattle.list_laws.proofs.Made.{contains_filter_map}
 use Rattle.task_base.specs.declared.limits.TheConstants.{MOST_QUEUES}
 use Rattle.task_base.specs.declared.script.Action.{Action}
@@ -36,11 +36,6 @@ PostsThere nest action = IfSome (posting_of_action action) (λ p. p.queue < leng
 there_in_script : (nest : NestPlan) (q : ℕ) → q < length nest.classes → q < length (map queue_of_class nest.classes)
 there_in_script nest q lt = subst (λ n. q < n) (sym (length-map nest.classes queue_of_class)) lt
 
-all_of_lists : {A B : Type 0} (P : B → Type 0) (Q : A → Type 0) (f : A → List B) (xs : List A) → ((x : A) → Q x → AllByRecursion P (f x)) → AllByRecursion Q xs
-    → AllByRecursion P (flat_map f xs)
-all_of_lists P Q f [] h all = tt
-all_of_lists P Q f (x ∷ xs) h all = AllByRecursion-append P (f x) (flat_map f xs) (h x all.0) (all_of_lists P Q f xs h all.1)
-
 of_action : (nest : NestPlan) (action : NestAction) → IsNestActionSound nest action → AllByRecursion (PostsThere nest) (main_of_action action)
 of_action nest (actions.Post task queue) sound = (there_in_script nest queue sound.1, tt)
 of_action nest (actions.Run bound) sound = tt
@@ -56,7 +51,7 @@ tasks_from : (nest : NestPlan) (i : ℕ) (tasks : List NestTaskPlan)
     → AllByRecursion (PostsThere nest) (flat_map main_of_task tasks)
 tasks_from nest i [] h = tt
 tasks_from nest i (task ∷ tasks) h = AllByRecursion-append (PostsThere nest) (main_of_task task) (flat_map main_of_task tasks)
-    (all_of_lists (PostsThere nest) (IsNestStepSound nest (i + 0)) main_of_step task.steps (of_step nest (i + 0)) (h 0 task refl))
+    (AllByRecursion-flat_map (PostsThere nest) (IsNestStepSound nest (i + 0)) main_of_step task.steps (of_step nest (i + 0)) (h 0 task refl))
     (tasks_from nest (i + 1) tasks
     (λ t other is. subst (λ n. AllByRecursion (IsNestStepSound nest n) other.steps) (omega arith) (h (t + 1) other (rw Rattle.std.proofs.Common.add-one is))))
 
@@ -114,7 +109,7 @@ is_main_script nest sound = record {
       (AllByRecursion-filter_map (λ p. p.queue < length (map queue_of_class nest.classes)) posting_of_action
       (flat_map main_of_action nest.actions ++ flat_map main_of_task nest.tasks)
       (AllByRecursion-append (PostsThere nest) (flat_map main_of_action nest.actions) (flat_map main_of_task nest.tasks)
-      (all_of_lists (PostsThere nest) (IsNestActionSound nest) main_of_action nest.actions (of_action nest) sound.actions_sound)
+      (AllByRecursion-flat_map (PostsThere nest) (IsNestActionSound nest) main_of_action nest.actions (of_action nest) sound.actions_sound)
       (tasks_from nest 0 nest.tasks
       (λ t task is. subst (λ n. AllByRecursion (IsNestStepSound nest n) task.steps) (omega arith) (sound.tasks_sound t task is)))));
 }

@@ -7,9 +7,10 @@ use Rattle.std.specs.Borrow.{Bor}
 use Rattle.std.proofs.lemmas.List.{append-nil, drop_all}
 use Rattle.std.proofs.lemmas.Bool.{eqb-true}
 use Rattle.std.proofs.lemmas.Simd.{map-map}
+use Rattle.line_text.specs.Words.{texts}
+use Rattle.script_model.specs.Words.{is_mark}
 use Rattle.nested_loop.specs.declared.nest.NestStep.{NestStep}
-use Rattle.nested_loop.specs.NestWords.{◌>>=◌, all_said, is_mark, step_said, steps_said}
-use Rattle.nested_loop.specs.Texts.{texts}
+use Rattle.nested_loop.specs.NestWords.{◌>>=◌, all_said, step_said, steps_said}
 
 -- ---- parts of words
 

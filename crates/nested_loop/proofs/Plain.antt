@@ -1,6 +1,6 @@
 -- What a past of plain entries leaves of the main queues: no fence, no closed queue, the classes of the script, no delay.
 -- Cited by `Choice`, `Front`, `Kept`.
-use Rattle.std.proofs.Common.{◌≡◌, ℕ, ◌+◌, length, Bool, true, false, cond, eqb, List, [], ◌∷◌, ◌++◌, map, refl, sym, ap, ◌∙◌, subst, None}
+use Rattle.std.proofs.Common.{◌≡◌, ℕ, length, Bool, true, false, cond, eqb, List, [], ◌∷◌, ◌++◌, map, refl, sym, ap, ◌∙◌, subst, None}
 use Rattle.std.specs.Prelude.{◌||◌, ◌&&◌, nat_lt, slice_get}
 use Rattle.std.specs.List.{AllByRecursion}
 use Rattle.std.specs.Option.{option_map_or}

@@ -4,7 +4,7 @@ use Rattle.std.proofs.Common.{◌≡◌, ℕ, ◌≤◌, Bool, true, false, cond
 use Rattle.std.specs.Prelude.{◌-◌, ◌^◌, ◌&&◌, codes, IfSome}
 use Rattle.std.specs.List.{AllByRecursion, slice_split}
 use Rattle.std.proofs.lemmas.Bool.Decides.{nat_tests}
-use Rattle.script_model.specs.Words.{words_of, is_word, begins_comment, number_of}
+use Rattle.script_model.specs.Words.{words_of, is_word, begins_comment, number_of, is_mark}
 use Rattle.nested_loop.specs.declared.nest.NestStep.{NestStep}
 use Rattle.nested_loop.specs.declared.nest.NestStep.TheVariants as steps
 use Rattle.nested_loop.specs.declared.nest.NestAction.{NestAction}
@@ -12,7 +12,7 @@ use Rattle.nested_loop.specs.declared.nest.NestAction.TheVariants as actions
 use Rattle.nested_loop.specs.declared.line.NestLine.{NestLine}
 use Rattle.nested_loop.specs.declared.line.NestLine.TheVariants.{Nothing, Queue, Task, Act}
 use Rattle.nested_loop.specs.Sound.{IsLoopBound}
-use Rattle.nested_loop.specs.NestWords.{◌>>=◌, within, number_in, id_of, say_said, posting_said, bound_said, step_named, step_said, is_mark, all_said}
+use Rattle.nested_loop.specs.NestWords.{◌>>=◌, within, number_in, id_of, say_said, posting_said, bound_said, step_named, step_said, all_said}
 use Rattle.nested_loop.specs.NestWords.{steps_said, nestable_named, queue_said, task_said, nest_plain_said, command_said, nest_words_said, nest_line_said}
 
 -- ---- what is in its range

@@ -3,6 +3,7 @@ use Rattle.std.proofs.Common.{◌≡◌, ℕ, true, false, List, [], ◌∷◌, 
 use Rattle.std.specs.Prelude.{Option, Some, None, Result, Ok, codes, replicate}
 use Rattle.std.specs.Fmt.{digits}
 use Rattle.std.specs.Result.{result_err}
+use Rattle.script_model.proofs.Worked.Tables.{Row, good, bad}
 use Rattle.nested_loop.specs.declared.event.Event.TheVariants as events
 use Rattle.nested_loop.specs.declared.nest.NestStep.TheVariants as steps
 use Rattle.nested_loop.specs.declared.nest.NestAction.{NestAction}
@@ -20,18 +21,6 @@ unfolding number_in step_named steps_said task_said command_said queue_added tas
 opened bytes = nest_read bytes
 
 -- ---- whole scripts
-
--- a text, and its first bad line with the reason, if there is one
-abbrev Row : Type 0
-Row = List ℕ × Option (ℕ × ℕ)
-
--- the text is no nest: this line is bad, for this reason
-abbrev bad : List ℕ → ℕ → ℕ → Row
-bad text line reason = (text, Some (line, reason))
-
--- the text is a nest
-abbrev good : List ℕ → Row
-good text = (text, None)
 
 -- each text has the fault that its row says, or none
 abbrev AreRight : List Row → Type 0

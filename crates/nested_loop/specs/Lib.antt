@@ -1,6 +1,5 @@
 pub mod Plan
 pub mod Sound
-pub mod Texts
 pub mod NestReasons
 pub mod NestWords
 pub mod NestLines

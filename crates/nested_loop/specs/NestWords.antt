@@ -2,7 +2,7 @@
 use Rattle.std.specs.Prelude.{ℕ, ◌-◌, ◌^◌, Bool, true, false, nat_le, ◌&&◌, if◌then◌else◌, List, [], ◌∷◌, map, codes, Option, Some, None}
 use Rattle.std.specs.List.{slice_split}
 use Rattle.std.specs.Option.{option_and_then}
-use Rattle.script_model.specs.Words.{words_of, is_word, begins_comment, number_of}
+use Rattle.script_model.specs.Words.{words_of, is_word, is_mark, begins_comment, number_of}
 use Rattle.nested_loop.specs.declared.nest.NestStep.{NestStep}
 use Rattle.nested_loop.specs.declared.nest.NestStep.TheVariants as steps
 use Rattle.nested_loop.specs.declared.nest.NestAction.TheVariants as actions
@@ -62,10 +62,6 @@ step_named name words =
 abbrev pub step_said : List (List ℕ) → Option NestStep
 step_said [] = None
 step_said (name ∷ words) = step_named name words
-
--- the word that parts steps
-abbrev pub is_mark : List ℕ → Bool
-is_mark word = is_word word (codes ";")
 
 -- all the values, if each is there
 abbrev pub all_said : {A : Type 0} → List (Option A) → Option (List A)

@@ -19,7 +19,6 @@ mod posts;
 mod read;
 mod reader;
 mod reasons;
-mod refuse;
 mod run;
 mod script;
 mod steps;

@@ -1,12 +1,12 @@
 ghost use Rattle.std.specs.Prelude.{◌≡◌, IfOk};
-ghost use Rattle.script_model.specs.Words.{begins_comment};
+ghost use Rattle.line_text.specs.Words.{texts};
 ghost use Rattle.nested_loop.specs.NestWords.{nestable_named, queue_said, task_said, command_said, nest_plain_said, nest_words_said, nest_line_said};
-ghost use Rattle.nested_loop.specs.Texts.{texts};
 
 use crate::nest::{NestAction, NestTask};
 use crate::numbers::{class_of, id_of};
 use crate::steps::{bound_said, posting_said, steps_said};
 use crate::words::words_of;
+use line_words::begins_comment;
 use std::alloc::{AllocError, Global};
 use task_base::{QueueId, TaskId};
 
@@ -39,16 +39,6 @@ fn words_said(alloc: Global, words: &[&[u8]]) -> Result<Option<NestLine>, AllocE
     match words {
         [name, words @ ..] if !begins_comment(name) => command_said(alloc, name, words),
         _ => Ok(Some(NestLine::Nothing)),
-    }
-}
-
-/// Whether a word, as the first of its line, makes it a comment.
-fn begins_comment(word: &[u8]) -> bool
-    ensures { result ≡ begins_comment word.now }
-{
-    match word {
-        [first, ..] => *first == b'#',
-        [] => false,
     }
 }
 

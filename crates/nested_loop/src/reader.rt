@@ -11,8 +11,7 @@ use crate::line::{NestLine, line_said};
 use crate::nest::{Nest, NestAction, NestStep, NestTask};
 use crate::posts::{action_posts_again, steps_post_again};
 use crate::reasons::{BAD_LINE, LATE, OUT_OF_ORDER, POSTED_TWICE, TOO_MANY, UNDECLARED};
-use crate::refuse::refuse;
-use script_lines::{LineFault, without_return};
+use script_lines::{LineFault, refuse, without_return};
 use std::alloc::Global;
 use task_base::{MOST_QUEUES, QueueId, Rows, TaskId};
 

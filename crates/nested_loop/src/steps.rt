@@ -1,9 +1,10 @@
 ghost use Rattle.std.specs.Prelude.{◌≡◌, IfOk, option_map};
-ghost use Rattle.nested_loop.specs.NestWords.{say_said, posting_said, bound_said, step_named, step_said, is_mark, steps_said};
-ghost use Rattle.nested_loop.specs.Texts.{texts};
+ghost use Rattle.line_text.specs.Words.{texts};
+ghost use Rattle.nested_loop.specs.NestWords.{say_said, posting_said, bound_said, step_named, step_said, steps_said};
 
 use crate::nest::NestStep;
 use crate::numbers::{bound_of, id_of, number_in};
+use line_words::is_mark;
 use std::alloc::{AllocError, Global};
 use task_base::{QueueId, Rows, TaskId};
 
@@ -26,13 +27,6 @@ pub(crate) fn steps_said(
         steps.push_spare(step);
     }
     Ok(Some(steps))
-}
-
-/// Whether a word parts steps.
-fn is_mark(word: &[u8]) -> bool
-    ensures { result ≡ is_mark word.now }
-{
-    word == b";".as_slice()
 }
 
 /// The step that its words say, if they do.

@@ -1,7 +1,8 @@
 ghost use Rattle.std.specs.Prelude.{◌≡◌, IfOk};
-ghost use Rattle.script_model.specs.Words.{words_of, is_blank};
-ghost use Rattle.nested_loop.specs.Texts.{texts};
+ghost use Rattle.line_text.specs.Words.{texts};
+ghost use Rattle.script_model.specs.Words.{words_of};
 
+use line_words::is_blank;
 use std::alloc::{AllocError, Global};
 
 /// The words of a line, first to last. The error is want of memory.
@@ -15,10 +16,4 @@ pub(crate) fn words_of(alloc: Global, line: &[u8]) -> Result<Vec<&[u8]>, AllocEr
         }
     }
     Ok(words)
-}
-
-fn is_blank(byte: u8) -> bool
-    ensures { result ≡ is_blank byte }
-{
-    byte == b' ' || byte == b'\t'
 }

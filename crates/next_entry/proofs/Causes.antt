@@ -5,7 +5,7 @@ use Rattle.hist_model.proofs.Laws.Progress.Driver.{current_waits}
 use Rattle.std.proofs.Common.{◌≡◌, ◌⊎◌, inl, inr, ℕ, zero, suc, ◌≤◌, Bool, true, false, List, [], ◌∷◌}
 use Rattle.std.proofs.Common.{length, refl, sym, ap, subst, ◌∙◌, Option, Some, None, arith}
 use Rattle.std.proofs.lemmas.Option.{none-some, same_Some}
-use Rattle.std.specs.Option.{IfSome, option_map, option_map_or}
+use Rattle.std.specs.Option.{IfSome, option_map}
 use Rattle.std.specs.Prelude.{is_none, not, if◌then◌else◌}
 use Rattle.list_laws.proofs.Values.{eqb-same}
 use Rattle.list_laws.specs.Lists.{holds_of}
@@ -16,19 +16,17 @@ use Rattle.task_base.specs.declared.entry.JobReply.{JobReply}
 use Rattle.task_base.specs.declared.entry.Kind.{Kind}
 use Rattle.task_base.specs.declared.entry.Kind.TheVariants as kinds
 use Rattle.task_base.specs.declared.policy.Policy.{Policy}
-use Rattle.task_base.specs.declared.policy.Policy.TheVariants as policies
 use Rattle.task_base.specs.declared.script.Action.{Action}
 use Rattle.task_base.specs.declared.script.Action.TheVariants as actions
 use Rattle.task_base.specs.declared.script.FenceAt.{FenceAt}
-use Rattle.task_base.specs.declared.script.FenceAt.TheVariants as fences
 use Rattle.task_base.specs.declared.step.Step.{Step}
 use Rattle.task_base.specs.declared.step.Step.TheVariants as steps
 use Rattle.task_traits.specs.declared.traits.Priority.{Priority}
 use Rattle.task_model.specs.Seats.{Running, holding, running}
 use Rattle.pool_laws.proofs.Room.Capacity.{free_parts}
 use Rattle.hist_model.specs.Legal.{IsLegal}
-use Rattle.hist_model.specs.Script.{Current, behind, behind_action, current, current_from, is_finished, is_wanted}
-use Rattle.hist_model.specs.Script.{same_fence, same_policy, wants}
+use Rattle.hist_model.specs.Script.{Current, behind, behind_action, current, is_finished, is_wanted}
+use Rattle.hist_model.specs.Script.{wants}
 use Rattle.hist_model.specs.Views.{IsSeatsAssignment, own_entries}
 use Rattle.hist_model.proofs.Laws.Own.{holding_own, running_own}
 use Rattle.task_body.specs.Bodies.{AssignmentView}

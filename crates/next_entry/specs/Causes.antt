@@ -8,6 +8,7 @@ use Rattle.task_base.specs.declared.entry.Kind.{Kind}
 use Rattle.task_base.specs.declared.entry.Kind.TheVariants as kinds
 use Rattle.task_base.specs.declared.script.Action.{Action}
 use Rattle.task_base.specs.declared.script.Action.TheVariants as actions
+use Rattle.task_base.specs.Entries.{entry_by}
 use Rattle.task_model.specs.Blockers.{blockers_of}
 use Rattle.task_model.specs.Seats.{Holding, Running, holding, inside, is_free, running}
 use Rattle.task_model.specs.Sources.{best_of}
@@ -15,7 +16,7 @@ use Rattle.hist_model.specs.Allowed.{IsAllowed}
 use Rattle.hist_model.specs.Script.{Current, current, is_finished}
 use Rattle.hist_model.specs.Views.{own_entries}
 use Rattle.pool_core.specs.Calls.{running_tasks, is_any_ready}
-use Rattle.seat_hand.specs.Entries.{entry_by, takes_source}
+use Rattle.seat_hand.specs.Entries.{takes_source}
 use Rattle.next_entry.specs.Bars.{bar_of, is_room_for}
 use Rattle.next_entry.specs.Ranks.{edge_of}
 use Rattle.next_entry.specs.declared.cause.Bar.{Bar}

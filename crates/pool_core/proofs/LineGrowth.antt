@@ -12,7 +12,7 @@ use Rattle.pool_core.proofs.Accepted.{head_accepted, others_run_others}
 use Rattle.pool_core.proofs.Lines.{behind_first-map, lines_with, one_arrival, running_there, runs_of_it}
 use Rattle.pool_core.proofs.Lists.{or_none}
 use Rattle.pool_core.proofs.TakenKeys.{HasKey, arrivals_posted, head_key}
-use Rattle.pool_core.specs.Calls.{after_done, after_end, after_shutdown, next}
+use Rattle.pool_core.specs.Calls.{after_done, after_end, after_shutdown}
 use Rattle.pool_core.specs.Lines.{AreLines, line_in, waiting_of}
 use Rattle.pool_core.specs.Pasts.{IsPoolPast}
 use Rattle.pool_laws.proofs.Choice.Least.{ranks_key}
@@ -23,7 +23,7 @@ use Rattle.pool_laws.specs.Keys.{ready_below}
 use Rattle.pool_laws.specs.Seats.{moves_main, runs_pool_task, main_parts, running_parts}
 use Rattle.std.proofs.Common.{Bool, List, None, Some, [], ap, arith, cond, eqb, false, get_or, length}
 use Rattle.std.proofs.Common.{map, refl, subst, sym, true, ℕ, ◌++◌, ◌+◌, ◌<◌, ◌∙◌, ◌∷◌, ◌≡◌, ◌≤◌}
-use Rattle.std.proofs.lemmas.Bool.{and_from, and_left, and_parts, and_right, false_from_ne_true, not-true, not_from_false, or_right, true≢false}
+use Rattle.std.proofs.lemmas.Bool.{and_from, and_left, and_parts, and_right, false_from_ne_true, not-true, not_from_false, or_right}
 use Rattle.std.proofs.lemmas.List.{get_or-map, get_or-replicate, length-map, length-replicate}
 use Rattle.std.specs.List.{AllByRecursion}
 use Rattle.std.specs.Prelude.{Contains, filter, not, replicate, slice_index_or, ◌&&◌, ◌==◌, ◌||◌}
@@ -47,6 +47,7 @@ use Rattle.task_base.specs.declared.entry.Kind.TheVariants as kinds
 use Rattle.task_sequence.specs.Sequences as sequences
 use Rattle.task_traits.specs.declared.phase.Phase.TheVariants as phases
 use Rattle.task_traits.specs.declared.traits.Behaviour.TheVariants as behaviours
+use Rattle.task_base.specs.Entries.{next}
 use Rattle.pool_laws.specs.Moves.{Ends, moves}
 use Rattle.pool_laws.proofs.Moves.{moves_fewer, moves_apart, no_take, same_phase}
 use Rattle.pool_core.specs.Others.{line_parts}

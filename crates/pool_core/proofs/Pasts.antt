@@ -8,7 +8,7 @@ use Rattle.list_laws.proofs.Values.{eqb-same}
 use Rattle.pool_core.proofs.Accepted.{head_accepted, new_is_not_taken, one_post}
 use Rattle.pool_core.proofs.Jobs.Insides.{inside_at_driver, inside_at_start, inside_at_task, inside_kept}
 use Rattle.pool_core.proofs.TakenKeys.{keys_at_post, keys_at_start, keys_at_take, keys_kept}
-use Rattle.pool_core.specs.Calls.{after_end, after_enter, after_leave, after_post, after_tick, next}
+use Rattle.pool_core.specs.Calls.{after_end, after_enter, after_leave, after_post, after_tick}
 use Rattle.pool_core.specs.Holdings.{AreInside}
 use Rattle.pool_core.specs.Others.{past_parts, task_parts}
 use Rattle.pool_core.specs.Pasts.{IsDeclared, IsPoolPast, TakenHaveKeys}
@@ -39,6 +39,7 @@ use Rattle.task_model.specs.Seats.{Running, holding, running, runs_sequence}
 use Rattle.task_model.specs.Sequences.{head_of}
 use Rattle.task_model.specs.Time.{now_after, now_of}
 use Rattle.task_base.specs.declared.entry.Kind.TheVariants as kinds
+use Rattle.task_base.specs.Entries.{next}
 use Rattle.pool_laws.specs.Moves.{Posts, Items, moves}
 use Rattle.pool_laws.proofs.Moves.{moves_fewer, moves_apart, same_moment, no_scope}
 use Rattle.pool_laws.proofs.Room.Capacity.{scope_stays}

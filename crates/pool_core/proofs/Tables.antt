@@ -5,7 +5,7 @@ use Rattle.list_laws.proofs.Places.{slice_get-replicate, slice_get-set_other, sl
 use Rattle.list_laws.specs.Lists.{holds_of, keep}
 use Rattle.pool_core.proofs.Accepted.{one_post}
 use Rattle.pool_core.proofs.Lists.{get_there}
-use Rattle.pool_core.specs.Calls.{after_end, after_post, next}
+use Rattle.pool_core.specs.Calls.{after_end, after_post}
 use Rattle.pool_core.specs.Pasts.{IsPoolPast, pool_running}
 use Rattle.pool_core.specs.Tables.{ArePostings, ArePriorities, AreSeats, posting_of}
 use Rattle.pool_core.specs.declared.posting.Posting.{Posting}
@@ -35,6 +35,7 @@ use Rattle.task_model.specs.Seats.{Running, running, running_after}
 use Rattle.task_traits.specs.declared.traits.Priority.{Priority}
 use Rattle.task_traits.specs.declared.traits.Priority.TheVariants.{BestEffort}
 use Rattle.task_base.specs.declared.entry.Kind.TheVariants as kinds
+use Rattle.task_base.specs.Entries.{next}
 
 -- The postings.
 

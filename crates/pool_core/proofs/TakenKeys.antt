@@ -4,7 +4,7 @@ use Rattle.list_laws.proofs.Finds.{find_contains}
 use Rattle.list_laws.proofs.Elements.{AllByRecursion-contains, AllByRecursion-contains_itself, AllByRecursion-through}
 use Rattle.list_laws.proofs.Values.{some-injective}
 use Rattle.list_laws.specs.Sorts.{SameMembers}
-use Rattle.pool_core.specs.Calls.{after_post, next}
+use Rattle.pool_core.specs.Calls.{after_post}
 use Rattle.pool_core.specs.Pasts.{TakenHaveKeys}
 use Rattle.pool_laws.proofs.Keys.Arrivals.{head_is_first_arrival}
 use Rattle.pool_laws.proofs.Keys.Posts.{posts_same}
@@ -25,6 +25,7 @@ use Rattle.task_model.specs.Keys.{Ready, arrivals, key_of, ready}
 use Rattle.task_model.specs.Posts.{Posted, is_taken, post_behind, post_of, posts, takes}
 use Rattle.task_model.specs.Sequences.{head_of, is_of, may_start}
 use Rattle.task_base.specs.declared.entry.Kind.TheVariants as kinds
+use Rattle.task_base.specs.Entries.{next}
 
 -- it was accepted, and its key is the one that it has in the past
 abbrev pub HasKey : List Entry → Ready → Type 0

@@ -5,7 +5,7 @@ use Rattle.pool_laws.proofs.Seats.Runs.{singly_unended}
 use Rattle.list_laws.proofs.Counts.{count_le}
 use Rattle.list_laws.proofs.Filters.{filter_never}
 use Rattle.pool_core.proofs.Accepted.{head_accepted, new_is_not_taken, one_post, posts_fit}
-use Rattle.pool_core.specs.Calls.{after_done, after_end, after_policy, after_post, after_shutdown, next}
+use Rattle.pool_core.specs.Calls.{after_done, after_end, after_policy, after_post, after_shutdown}
 use Rattle.pool_core.specs.Others.{tracked_parts}
 use Rattle.pool_core.specs.Pasts.{IsPoolPast, IsPoolScript}
 use Rattle.pool_core.specs.Tables.{tracked}
@@ -24,7 +24,6 @@ use Rattle.pool_laws.specs.Room.{share}
 use Rattle.pool_laws.specs.Shutdown.{block_parts, skip_parts}
 use Rattle.shutdown_phase.specs.declared.phase_count.TheConstants.{MAX_BLOCKERS}
 use Rattle.std.proofs.Common.{Bool, List, None, Some, [], ap, arith, false, length, refl, true, ℕ, ◌++◌, ◌+◌, ◌-◌, ◌<◌, ◌∙◌, ◌∷◌, ◌≡◌, ◌≤◌}
-use Rattle.std.proofs.lemmas.Bool.{false≢true}
 use Rattle.std.specs.Prelude.{if◌then◌else◌, not, ◌&&◌}
 use Rattle.task_base.specs.Plan.{Plan}
 use Rattle.task_base.specs.declared.entry.Entry.{Entry}
@@ -46,6 +45,7 @@ use Rattle.task_traits.specs.declared.traits.Behaviour.TheVariants.{BlockShutdow
 use Rattle.task_base.specs.declared.entry.Kind.TheVariants as kinds
 use Rattle.task_base.specs.declared.policy.Policy.TheVariants as policies
 use Rattle.task_traits.specs.declared.phase.Phase.TheVariants as phases
+use Rattle.task_base.specs.Entries.{next}
 use Rattle.pool_laws.specs.Moves.{moves}
 use Rattle.pool_laws.proofs.Moves.{moves_fewer, same_phase, same_policy}
 

@@ -1,5 +1,5 @@
 -- What each call of the pool asks of its caller, and answers.
-use Rattle.std.specs.Prelude.{◌≡◌, ℕ, ◌<◌, ◌≤◌, Bool, false, List, [], ◌∷◌, ◌++◌, length, Option, Some, None, is_some, ◌||◌}
+use Rattle.std.specs.Prelude.{◌≡◌, ℕ, ◌<◌, ◌≤◌, Bool, false, List, length, Option, Some, None, is_some, ◌||◌}
 use Rattle.std.specs.List.{list_any}
 use Rattle.task_base.specs.Plan.{Plan}
 use Rattle.task_base.specs.Runners.{sequence_of, sequence_count}
@@ -12,6 +12,7 @@ use Rattle.task_traits.specs.declared.phase.Phase.{Phase}
 use Rattle.task_traits.specs.declared.traits.Priority.{Priority}
 use Rattle.task_base.specs.declared.limits.TheConstants.{LAST_MOMENT, MOST_MICROSECONDS}
 use Rattle.list_laws.specs.Lists.{count, holds_of}
+use Rattle.task_base.specs.Entries.{next}
 use Rattle.task_model.specs.Phase.{phase_of}
 use Rattle.task_model.specs.Posts.{post_of}
 use Rattle.task_model.specs.Time.{now_of}
@@ -27,10 +28,6 @@ use Rattle.pool_core.specs.StandsFor.{StandsFor}
 use Rattle.pool_core.specs.declared.pool.Pool.{Pool}
 use Rattle.pool_core.specs.declared.pool_take.PoolTake.{PoolTake}
 use Rattle.pool_core.specs.declared.pool_take.PoolTake.TheVariants.{Task, Item, Nothing}
-
--- the past with one more entry
-abbrev pub next : List Entry → ℕ → Kind → List Entry
-next past seat kind = past ++ (record { seat = seat; kind = kind }) ∷ []
 
 -- the past with an entry of each kind of the pool
 abbrev pub after_post : List Entry → ℕ → ℕ → ℕ → ℕ → Bool → List Entry

@@ -5,12 +5,13 @@ use Rattle.task_base.specs.Plan.{Plan}
 use Rattle.task_base.specs.declared.entry.Entry.{Entry}
 use Rattle.task_base.specs.declared.entry.JobReply.{JobReply}
 use Rattle.task_base.specs.declared.entry.Kind.TheVariants as kinds
+use Rattle.task_base.specs.Entries.{next}
 use Rattle.task_model.specs.Seats.{Holding, holding, running}
 use Rattle.task_model.specs.Jobs.{JobPosted, claimed, free_id, is_empty, job_post_of, may_enter, reply_of}
 use Rattle.task_model.specs.Capacity.{priority_of_job}
 use Rattle.task_model.specs.Refusal.{is_job_forbidden}
 use Rattle.task_model.specs.Sources.{best_of, job_candidate, makes_way}
-use Rattle.pool_core.specs.Calls.{CanTake, next}
+use Rattle.pool_core.specs.Calls.{CanTake}
 use Rattle.pool_core.specs.StandsFor.{StandsFor}
 use Rattle.pool_core.specs.declared.pool.Pool.{Pool}
 

@@ -37,6 +37,7 @@ use Rattle.list_laws.proofs.Elements.{AllByRecursion-map, AllByRecursion-append,
 use Rattle.list_laws.proofs.Ranks.{ranks_by}
 use Rattle.list_laws.proofs.Members.{same_members-refl, same_members-trans, same_members-append, same_members-map, same_members-either}
 use Rattle.list_laws.proofs.Sorts.{count-sort_by, length-sort_by, rises-sort_by, rises-append, differ-filter, least_is_first, same_members-sort_by}
+use Rattle.task_base.specs.Entries.{entry_by as by}
 use Rattle.task_model.proofs.Growth.{main_posts_push, main_arrivals_push, draws_push}
 use Rattle.pool_laws.proofs.Keys.Arrivals.{ranks_ripens, main_posts_differ}
 use Rattle.queue_laws.proofs.Orders.{main_places, drawn, order_is, order_of_same, order_tick, order_at_post, unordered}
@@ -358,23 +359,20 @@ front_is_first_arrival script past q lane same =
 
 -- Two short histories, by computing.
 
-did : Kind → Entry
-did kind = record { seat = 0; kind = kind }
-
 rows : List Ordered → List (ℕ × ℕ)
 rows os = map (λ o. (o.posted.task, o.order)) os
 
 -- an immediate task draws at its post, a fence by now draws too; at a tick those draw that ripen, the earliest first, and
 -- those of one moment by their posts
-worked_draws : rows (main_arrivals (did (kinds.Main 7 0 5 true) ∷ did (kinds.Main 8 0 3 true) ∷ did (kinds.Main 9 1 0 true) ∷ did (kinds.Main 10 1 3 true)
-    ∷ did (kinds.Fence 0 Now) ∷ did (kinds.Tick 6) ∷ did (kinds.Main 11 0 0 false) ∷ did (kinds.Main 12 0 0 true) ∷ []))
+worked_draws : rows (main_arrivals (by 0 (kinds.Main 7 0 5 true) ∷ by 0 (kinds.Main 8 0 3 true) ∷ by 0 (kinds.Main 9 1 0 true) ∷ by 0 (kinds.Main 10 1 3 true)
+    ∷ by 0 (kinds.Fence 0 Now) ∷ by 0 (kinds.Tick 6) ∷ by 0 (kinds.Main 11 0 0 false) ∷ by 0 (kinds.Main 12 0 0 true) ∷ []))
     ≡ (9, 2) ∷ (8, 4) ∷ (10, 5) ∷ (7, 6) ∷ (12, 7) ∷ []
-unfolding main_arrivals main_posts fold_past now_of ripening draws is_closed did rows
+unfolding main_arrivals main_posts fold_past now_of ripening draws is_closed rows
 worked_draws = refl
 
 -- a task of a queue that was closed before it ripens draws nothing
-worked_closed : rows (main_arrivals (did (kinds.Main 1 0 2 true) ∷ did (kinds.Main 2 1 2 true) ∷ did (kinds.Close 0) ∷ did (kinds.Tick 2)
-    ∷ did (kinds.Main 3 1 0 true) ∷ []))
+worked_closed : rows (main_arrivals (by 0 (kinds.Main 1 0 2 true) ∷ by 0 (kinds.Main 2 1 2 true) ∷ by 0 (kinds.Close 0) ∷ by 0 (kinds.Tick 2)
+    ∷ by 0 (kinds.Main 3 1 0 true) ∷ []))
     ≡ (2, 2) ∷ (3, 3) ∷ []
-unfolding main_arrivals main_posts fold_past now_of ripening draws is_closed did rows
+unfolding main_arrivals main_posts fold_past now_of ripening draws is_closed rows
 worked_closed = refl

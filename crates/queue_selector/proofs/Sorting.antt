@@ -4,30 +4,15 @@ use Rattle.std.proofs.Common.{◌≡◌, suc, ◌+◌, Bool, true, false, cond, 
 use Rattle.std.proofs.Common.{take, drop, refl, sym, ap, ◌∙◌, inl, inr, arith}
 use Rattle.std.specs.Prelude.{◌⊎◌, filter, find, slice_get}
 use Rattle.std.specs.List.{AllByRecursion, prefix_len}
-use Rattle.std.proofs.lemmas.Bool.{true≢false}
 use Rattle.list_laws.specs.Lists.{least, Ranks}
 use Rattle.list_laws.specs.Sorts.{insert_by, sort_by, Differ}
 use Rattle.list_laws.proofs.Elements.{AllByRecursion-append, AllByRecursion-front, AllByRecursion-back}
 use Rattle.list_laws.proofs.Filters.{filter_always}
-use Rattle.list_laws.proofs.Ranks.{ranks-trans}
-use Rattle.list_laws.proofs.Sorts.{least_is_first, rises-sort_by, same_members-sort_by}
+use Rattle.list_laws.proofs.Sorts.{least_is_first, rises-sort_by, same_members-sort_by, insert_by-insert_by}
 
 -- one of the two goes before the other
 abbrev pub Apart : {A : Type 0} → (A → A → Bool) → A → A → Type 0
 Apart below a b = (below a b ≡ true) ⊎ (below b a ≡ true)
-
--- where a goes before b, it doesn't matter which of them is put in first
-insert_by-insert_by : {A : Type 0} (below : A → A → Bool) → Ranks below → (a b : A) (xs : List A) → below a b ≡ true
-    → insert_by below a (insert_by below b xs) ≡ insert_by below b (insert_by below a xs)
-insert_by-insert_by below ranks a b [] less = simp (less, ranks.one_way a b less)
-insert_by-insert_by {A = A} below ranks a b (x ∷ xs) less = by_order (below x a) (below x b) refl refl (insert_by-insert_by below ranks a b xs less)
-  where
-    by_order : (s t : Bool) → below x a ≡ s → below x b ≡ t → insert_by below a (insert_by below b xs) ≡ insert_by below b (insert_by below a xs)
-        → insert_by below a (insert_by below b (x ∷ xs)) ≡ insert_by below b (insert_by below a (x ∷ xs))
-    by_order true true of_a of_b rest = simp (of_a, of_b) (ap (λ l. x ∷ l) rest)
-    by_order true false of_a of_b rest = absurd (true≢false (sym (ranks-trans below ranks x a b of_a less) ∙ of_b))
-    by_order false true of_a of_b rest = simp (of_a, of_b, less)
-    by_order false false of_a of_b rest = simp (of_a, of_b, less, ranks.one_way a b less)
 
 -- an element in the midst is put into the sort of the others
 pub sort_by-seam : {A : Type 0} (below : A → A → Bool) → Ranks below → (xs : List A) (x : A) (ys : List A) → AllByRecursion (Apart below x) xs

@@ -1,5 +1,5 @@
 -- The text of an entry's JSON row, and of the rows of a log.
--- Cited by `json_text`, `json_row`.
+-- Cited by `json_text`, `json_row`, `trace_json`.
 use Rattle.std.proofs.Common.{◌≡◌, ◌≢◌, ◌<◌, ◌+◌, ℕ, true, false, suc, List, [], ◌∷◌, ◌++◌, length, get_or, take, map}
 use Rattle.std.proofs.Common.{Some, None, refl, sym, ap, ◌∙◌, append_assoc, append-nil, add-zero, zero-add, arith}
 use Rattle.std.specs.List.{join_with_byte}
@@ -35,7 +35,7 @@ items_joined d [] = refl
 items_joined d (e ∷ ds) = rw (items_joined e ds, append_assoc) refl
 
 -- an array is its items in brackets, parted by commas
-array_text : (ds : List Data) → compact_text (array (items_of ds)) ≡ json_array (map compact_text ds)
+pub array_text : (ds : List Data) → compact_text (array (items_of ds)) ≡ json_array (map compact_text ds)
 array_text [] = refl
 array_text (d ∷ ds) = rw (items_joined d ds) refl
 

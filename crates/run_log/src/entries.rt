@@ -1,8 +1,8 @@
 ghost use Rattle.std.specs.Prelude.{◌≡◌, ◌<◌, None, MatchOption, IfSome, length, map};
+ghost use Rattle.line_text.specs.Words.{texts};
 ghost use Rattle.task_base.specs.declared.entry.Entry.{Entry};
 ghost use Rattle.log_model.specs.Fits.{Fits};
 ghost use Rattle.log_model.specs.LogText.{IsLogLine, entry_parts, shown};
-ghost use Rattle.entry_lines.specs.Words.{texts};
 ghost use Rattle.run_log.specs.Entries.{entry_of, spaced_words};
 
 use arrayvec::ArrayVec;

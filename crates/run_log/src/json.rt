@@ -1,4 +1,4 @@
-ghost use Rattle.std.specs.Prelude.{◌≡◌, ◌≤◌, ℕ, [], ◌∷◌, ◌++◌, length, take, IfOk, IfErr, OnOk};
+ghost use Rattle.std.specs.Prelude.{◌≡◌, ◌≤◌, ℕ, [], ◌∷◌, ◌++◌, take, IfOk, IfErr, OnOk};
 ghost use Rattle.env_io.specs.Bytes.{Gains, Rose};
 ghost use Rattle.log_model.specs.LogText.{log_json};
 ghost use Rattle.run_log.specs.Json.{OnSink, OnMemory};

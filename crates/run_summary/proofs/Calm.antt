@@ -3,12 +3,12 @@
 -- Cited by `Items`, `Joins`, `Tasks/Adding`, `Tasks/Comes`, `Tasks/Numbers`, `Tasks/Posted`, `Tasks/Pumped`, `Tasks/Rest`.
 use Rattle.hist_model.proofs.Laws.BySound.{current_is_one}
 use Rattle.std.proofs.Common.{◌≡◌, ℕ, ◌+◌, Bool, true, false, cond, eqb, leb, List, [], ◌∷◌, ◌++◌}
-use Rattle.std.proofs.Common.{length, refl, sym, ap, subst, ◌∙◌, Option, Some, None, ⊎_elim}
+use Rattle.std.proofs.Common.{length, refl, sym, ap, ◌∙◌, Option, Some, None, ⊎_elim}
 use Rattle.std.specs.Prelude.{◌&&◌, ◌||◌, not, filter, slice_get, option_and_then}
 use Rattle.std.specs.List.{AllByRecursion}
 use Rattle.std.specs.Option.{option_map_or, option_map}
 use Rattle.std.proofs.lemmas.Bool.{eqb-true, and_parts, or_cases, true≢false}
-use Rattle.std.proofs.lemmas.Option.{slice_get-map, same_Some}
+use Rattle.std.proofs.lemmas.Option.{slice_get-map}
 use Rattle.task_base.specs.declared.limits.TheConstants.{LAST_MOMENT}
 use Rattle.task_base.specs.Plan.{Plan}
 use Rattle.task_base.specs.Steps.{is_act}
@@ -41,7 +41,7 @@ use Rattle.task_model.specs.MainQueues.{fence_of, fence_after, votes_on, vote_af
 use Rattle.task_model.proofs.Growth.{phase_of_push, policy_of_push, now_of_push, posts_push, main_posts_push, is_closed_push}
 use Rattle.task_model.proofs.Growth.{job_post_of_push, is_cancelled_push, fence_of_push, votes_on_push}
 use Rattle.hist_model.specs.Views.{own_entries}
-use Rattle.hist_model.specs.Script.{behind_action, Current, current_from, current, wants}
+use Rattle.hist_model.specs.Script.{Current, wants}
 use Rattle.hist_model.specs.Allowed.{by_script, by_task, enters, is_reply, may_come}
 use Rattle.hist_model.specs.Legal.{IsLegal}
 use Rattle.hist_model.proofs.Laws.Legal.{entry_induction}

@@ -20,9 +20,9 @@ use Rattle.task_model.specs.Sources.{leaves, next_item}
 use Rattle.task_model.proofs.Growth.{claimed_push, done_push}
 use Rattle.pool_laws.proofs.Seats.Running.{holding_here, holding_other}
 use Rattle.hist_model.specs.Laws.Jobs.{IsJobStep}
-use Rattle.hist_model.specs.Allowed.{may_come, is_allowed, IsAllowed}
+use Rattle.hist_model.specs.Allowed.{may_come, IsAllowed}
 use Rattle.hist_model.specs.Legal.{IsLegal}
-use Rattle.hist_model.proofs.Laws.Legal.{legal_induction, is_legal_push, legal_next}
+use Rattle.hist_model.proofs.Laws.Legal.{legal_induction, legal_next}
 use Rattle.hist_model.proofs.Laws.HoldsApart.{legal_holds_apart}
 use Rattle.hist_model.proofs.Laws.JobEntries.{entering_is, job_step_is}
 use Rattle.hist_model.proofs.Laws.Entries.Jobs.{claimed_within}

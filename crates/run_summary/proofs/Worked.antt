@@ -1,5 +1,5 @@
 -- Logs that were worked out by hand, and what they add up to.
-use Rattle.std.proofs.Common.{◌≡◌, ℕ, true, false, List, [], ◌∷◌, Some, None, refl}
+use Rattle.std.proofs.Common.{◌≡◌, true, false, List, [], ◌∷◌, Some, None, refl}
 use Rattle.task_base.specs.Plan.{Plan}
 use Rattle.task_base.specs.declared.entry.Entry.{Entry}
 use Rattle.task_base.specs.declared.entry.JobReply.TheVariants.{Finished}
@@ -11,14 +11,12 @@ use Rattle.task_base.specs.declared.script.RunnerKind.TheVariants.{Sequenced}
 use Rattle.task_base.specs.declared.step.Step.TheVariants.{Add, Set}
 use Rattle.task_traits.specs.declared.traits.Behaviour.TheVariants.{SkipOnShutdown}
 use Rattle.task_traits.specs.declared.traits.Priority.TheVariants.{UserVisible}
+use Rattle.task_base.specs.Entries.{entry_by as by}
 use Rattle.task_model.specs.Past.{fold_past}
 use Rattle.task_model.specs.Seats.{running}
 use Rattle.task_model.specs.Cells.{cell_of, main_cell_of}
 use Rattle.task_script.specs.Generated.{numbers_behind, generated}
 use Rattle.run_summary.specs.Summary.{summary_of}
-
-abbrev by : ℕ → Kind → Entry
-by seat kind = record { seat = seat; kind = kind }
 
 -- of the generated script of two tasks: the driver runs the main task and does the whole job, and then a worker runs the
 -- task of the pool

@@ -1,9 +1,9 @@
-ghost use Rattle.std.specs.Prelude.{◌≡◌, ◌+◌, ◌%◌, ◌^◌, ◌<◌, [], length, sum_by};
+ghost use Rattle.std.specs.Prelude.{◌≡◌, ◌%◌, ◌^◌, ◌<◌, [], length, sum_by};
 ghost use Rattle.list_laws.specs.Lists.{count};
 ghost use Rattle.script_model.specs.Laws.Sound.{IsSound};
 ghost use Rattle.hist_model.specs.Legal.{IsLegal};
 ghost use Rattle.run_summary.specs.Cells.{AreCells};
-ghost use Rattle.run_summary.specs.Summary.{ends_task, ends_item, value_in, cells_of, summary_of};
+ghost use Rattle.run_summary.specs.Summary.{ends_task, ends_item, value_in, summary_of};
 
 use crate::cells::Cells;
 use crate::totals::Summary;

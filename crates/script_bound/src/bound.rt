@@ -1,4 +1,4 @@
-ghost use Rattle.std.specs.Prelude.{◌≡◌, ◌+◌, ◌<◌, ◌^◌, sum_by, count_by};
+ghost use Rattle.std.specs.Prelude.{◌≡◌, ◌+◌, ◌<◌, ◌^◌, sum_by};
 ghost use Rattle.task_base.specs.Steps.{is_act};
 ghost use Rattle.script_model.specs.Bound.{events_bound_of, events_of_task, events_of_job, events_of_action};
 ghost use Rattle.script_model.specs.Canonical.{IsValid};

@@ -1,4 +1,4 @@
-ghost use Rattle.std.specs.Prelude.{◌≡◌, alloc_error};
+ghost use Rattle.std.specs.Prelude.{◌≡◌, true, false, MatchResult, Err, alloc_error};
 ghost use Rattle.script_lines.specs.declared.fault.LineFault.TheVariants.{Bad, Memory};
 
 use line_words::Reason;
@@ -37,4 +37,14 @@ impl From<Reason> for LineFault {
             reason: reason.number(),
         }
     }
+}
+
+/// The reason, where the test holds.
+pub fn refuse(test: bool, reason: u8) -> Result<(), LineFault>
+    ensures { MatchResult result (λ _. test ≡ false) (λ fault. (test ≡ true) × (fault ≡ Bad reason)) }
+{
+    if test {
+        return Err(LineFault::Bad { reason });
+    }
+    Ok(())
 }

@@ -10,5 +10,5 @@ mod read;
 mod stepped;
 
 pub use command::Command;
-pub use fault::LineFault;
+pub use fault::{LineFault, refuse};
 pub use read::{read_line, without_return};

@@ -1,6 +1,6 @@
 ghost use Rattle.std.specs.Prelude.{◌≡◌};
 ghost use Rattle.std.specs.Str.Lines.{strip_carriage_return};
-ghost use Rattle.script_model.specs.Words.{begins_comment, is_all_ascii};
+ghost use Rattle.script_model.specs.Words.{is_all_ascii};
 ghost use Rattle.script_lines.specs.Said.{line_said, command_said, action_command_said, queue_command_said};
 ghost use Rattle.script_lines.specs.Plain.{plain_said};
 ghost use Rattle.script_lines.specs.Saying.{Says};
@@ -8,7 +8,7 @@ ghost use Rattle.script_lines.specs.Saying.{Says};
 use crate::command::Command;
 use crate::fault::LineFault;
 use crate::{actions, lines, stepped};
-use line_words::{Reason, Words};
+use line_words::{Reason, Words, begins_comment};
 use std::alloc::Global;
 
 /// What one line of a script says by its words alone. The line stands here without its line feed, and without a
@@ -40,16 +40,6 @@ pub fn without_return(line: &[u8]) -> &[u8]
     match line {
         [rest @ .., b'\r'] => rest,
         _ => line,
-    }
-}
-
-/// Whether a word, as the first of its line, makes it a comment.
-fn begins_comment(word: &[u8]) -> bool
-    ensures { result ≡ begins_comment word.now }
-{
-    match word {
-        [first, ..] => *first == b'#',
-        [] => false,
     }
 }
 

@@ -1,5 +1,5 @@
--- How many entries a run of a script may have at most.
-use Rattle.std.specs.Prelude.{ℕ, ◌+◌, ◌*◌, List, sum_by, count_by}
+-- How many steps a script has, and how many entries a run of it may have at most.
+use Rattle.std.specs.Prelude.{ℕ, ◌+◌, ◌*◌, List, length, sum_by, count_by}
 use Rattle.task_base.specs.Plan.{Plan, JobPlan}
 use Rattle.task_base.specs.Steps.{is_act}
 use Rattle.task_base.specs.declared.step.Step.{Step}
@@ -25,3 +25,7 @@ events_of_action action = 1
 -- the entries bound: the sum over all tasks, jobs and actions (this project's own rule)
 abbrev pub events_bound_of : Plan → ℕ
 events_bound_of script = sum_by events_of_task script.tasks + sum_by events_of_job script.jobs + sum_by events_of_action script.actions
+
+-- the steps of all tasks and jobs
+abbrev pub steps_of_plan : Plan → ℕ
+steps_of_plan script = sum_by (λ steps. length steps) script.tasks + sum_by (λ job. length job.steps) script.jobs

@@ -7,7 +7,7 @@ use Rattle.task_base.specs.declared.script.RunnerKind.{RunnerKind}
 use Rattle.task_base.specs.declared.script.RunnerKind.TheVariants.{Parallel, Sequenced, Single}
 use Rattle.task_base.specs.declared.limits.TheConstants.{MOST_WORKERS, MOST_MICROSECONDS}
 use Rattle.value_words.specs.Words.{named, kind_word, scope_named}
-use Rattle.script_model.specs.Words.{is_word, number_of}
+use Rattle.script_model.specs.Words.{is_word, is_mark, number_of}
 use Rattle.script_model.specs.Reasons.{◌>>=◌, ◌>>◌, ◌&◌, refuse, unknown_word, word_count, bad_number, out_of_range}
 
 -- ---- the form of a place
@@ -124,4 +124,4 @@ all_read (r ∷ rest) = do
 -- no step, or steps parted by the word `;` (this project's own form)
 unfoldable pub steps_read : List (List ℕ) → Result (List Step) ℕ
 steps_read [] = Ok []
-steps_read (word ∷ words) = all_read (map step_read (slice_split (λ w. is_word w (codes ";")) (word ∷ words)))
+steps_read (word ∷ words) = all_read (map step_read (slice_split is_mark (word ∷ words)))

@@ -1,5 +1,5 @@
 -- How the bytes of a script are cut into lines, words and numbers.
-use Rattle.std.specs.Prelude.{ℕ, Bool, not, ◌==◌, ◌&&◌, ◌||◌, nat_lt, nat_le, nat_eq, if◌then◌else◌, List, length, map, filter, slice_index, Option, Some, None}
+use Rattle.std.specs.Prelude.{ℕ, Bool, not, ◌==◌, ◌&&◌, ◌||◌, nat_lt, nat_le, nat_eq, if◌then◌else◌, List, length, map, filter, codes, slice_index, Option, Some, None}
 use Rattle.std.specs.List.{slice_split, list_all}
 use Rattle.std.specs.Cmp.Lexicographic.{pointwise}
 use Rattle.std.specs.Str.{all_ascii_digits}
@@ -21,6 +21,10 @@ words_of line = filter (λ word. not (length word == 0)) (slice_split is_blank l
 -- the same bytes
 abbrev pub is_word : List ℕ → List ℕ → Bool
 is_word a b = pointwise nat_eq a b
+
+-- the word `;`, which parts steps (this project's own rule)
+abbrev pub is_mark : List ℕ → Bool
+is_mark word = is_word word (codes ";")
 
 -- a word that begins with `#`: as the first of its line it makes the line a comment (this project's own rule)
 abbrev pub begins_comment : List ℕ → Bool

@@ -6,6 +6,7 @@ use Rattle.std.specs.List.{flat_map, join_with_byte}
 use Rattle.std.proofs.lemmas.List.{take_more, length-take-le}
 use Rattle.std.proofs.lemmas.Bool.{ne_eqb}
 use Rattle.std.proofs.lemmas.List.Concat.{flat_map-append}
+use Rattle.line_text.proofs.Joined.{joins_first, with_words_joins}
 use Rattle.task_base.specs.Plan.{Plan, JobPlan}
 use Rattle.task_base.specs.declared.step.Step.{Step}
 use Rattle.task_base.specs.declared.step.Step.TheVariants.{Add, Mul, Set, Post, Main, Block, Unblock}
@@ -13,22 +14,10 @@ use Rattle.task_base.specs.declared.script.Action.{Action}
 use Rattle.value_words.specs.Words.{scope_word, priority_word, behaviour_word}
 use Rattle.script_model.specs.Canonical.{step_words, steps_words, runner_words, queue_words, task_words, job_words}
 use Rattle.script_model.specs.Canonical.{action_words, config_lines, numbered, canonical}
-use Rattle.script_text.specs.Written.{with_words, with_line, line_text, step_text, runner_text, queue_text, task_text}
+use Rattle.script_text.specs.Written.{with_line, line_text, step_text, runner_text, queue_text, task_text}
 use Rattle.script_text.specs.Written.{job_text, job_head_text, action_text, config_text, texts_from}
 
 -- ---- words
-
--- a first word that is two texts is joined as the two texts
-joins_first : (text word : List ℕ) (words : List (List ℕ)) → join_with_byte 32 ((text ++ word) ∷ words) ≡ text ++ join_with_byte 32 (word ∷ words)
-joins_first text word [] = refl
-joins_first text word (next ∷ words) = append_assoc text word (32 ∷ join_with_byte 32 (next ∷ words))
-
--- words behind a first word are all of them joined by spaces
-with_words_joins : (first : List ℕ) (words : List (List ℕ)) → with_words first words ≡ join_with_byte 32 (first ∷ words)
-with_words_joins first [] = refl
-with_words_joins first (word ∷ []) = refl
-with_words_joins first (word ∷ next ∷ words) =
-    with_words_joins (first ++ 32 ∷ word) (next ∷ words) ∙ joins_first first (32 ∷ word) (next ∷ words)
 
 -- a line's words behind a text
 pub words_joined : (text : List ℕ) (words : List (List ℕ)) → with_line text words ≡ text ++ join_with_byte 32 words

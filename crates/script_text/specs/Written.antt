@@ -1,6 +1,7 @@
 -- The canonical text, piece by piece, and what putting a text to a sink leaves.
 use Rattle.std.specs.Prelude.{◌≡◌, ℕ, ◌+◌, ◌≤◌, ◌==◌, if◌then◌else◌, List, [], ◌∷◌, ◌++◌, take, Option, Result, MatchResult, codes, decimal}
 use Rattle.std.specs.List.{flat_map, join_with_byte}
+use Rattle.line_text.specs.Words.{with_words}
 use Rattle.task_base.specs.Plan.{Plan, JobPlan}
 use Rattle.task_base.specs.declared.step.Step.{Step}
 use Rattle.task_base.specs.declared.script.Runner.{Runner}
@@ -9,11 +10,6 @@ use Rattle.task_base.specs.declared.script.Action.{Action}
 use Rattle.env_io.specs.Bytes.{Gains, Rose}
 use Rattle.value_words.specs.Words.{priority_word, behaviour_word}
 use Rattle.script_model.specs.Canonical.{step_words, runner_words, queue_words, task_words, job_words, action_words, config_lines}
-
--- a line with words behind it, each after a space
-abbrev pub with_words : List ℕ → List (List ℕ) → List ℕ
-with_words line [] = line
-with_words line (word ∷ words) = with_words (line ++ 32 ∷ word) words
 
 -- a text with a line's words behind it, parted by single spaces
 abbrev pub with_line : List ℕ → List (List ℕ) → List ℕ

@@ -1,4 +1,4 @@
-ghost use Rattle.std.specs.Prelude.{◌≡◌, ◌≤◌, ℕ, List, ◌++◌, take, OnOk, OnErr};
+ghost use Rattle.std.specs.Prelude.{◌≡◌, ◌≤◌, ℕ, List, take, OnOk, OnErr};
 ghost use Rattle.env_io.specs.Bytes.{Gains, Rose};
 ghost use Rattle.script_model.specs.Canonical.{canonical};
 ghost use Rattle.script_text.specs.Written.{Puts, texts_from, step_text, runner_text, queue_text, task_text, job_text, action_text};

@@ -1,7 +1,8 @@
-ghost use Rattle.std.specs.Prelude.{◌≡◌, ◌+◌, ◌<◌, ◌≤◌, ◌^◌, [], ◌∷◌, ◌++◌, length, decimal, codes};
+ghost use Rattle.std.specs.Prelude.{◌≡◌, ◌+◌, ◌≤◌, [], ◌∷◌, ◌++◌, length, decimal, codes};
+ghost use Rattle.line_text.specs.Words.{with_words};
 ghost use Rattle.value_words.specs.Words.{vote_word, kind_word};
 ghost use Rattle.script_model.specs.Canonical.{may_block_words, step_words, action_words};
-ghost use Rattle.script_text.specs.Written.{with_words, with_line, before_step, step_text, runner_text, queue_text, job_head_text, action_text, config_text};
+ghost use Rattle.script_text.specs.Written.{with_line, before_step, step_text, runner_text, queue_text, job_head_text, action_text, config_text};
 
 use line_text::{Line, add, add_decimal, add_number, add_word};
 use task_base::{Action, Job, MainQueue, Runner, RunnerKind, Script, Step};

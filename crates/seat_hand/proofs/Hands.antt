@@ -8,12 +8,12 @@ use Rattle.std.specs.Prelude.{◌==◌, slice_get, slice_set}
 use Rattle.list_laws.proofs.Places.{slice_get-set_same, slice_get-set_other}
 use Rattle.list_laws.proofs.Values.{eqb-same}
 use Rattle.task_base.specs.declared.entry.Kind.{Kind}
+use Rattle.task_base.specs.Entries.{entry_by}
 use Rattle.task_model.specs.Seats.{Holding, Running, acts_after, acts_done, holding, holding_after, is_free, running, running_after}
 use Rattle.task_model.proofs.Growth.{acts_done_push, holding_push, running_push}
 use Rattle.hist_model.specs.Views.{own_entries}
 use Rattle.hist_model.proofs.Laws.Own.{own_entries_push}
 use Rattle.env_core.specs.Views.{EnvView, Enters}
-use Rattle.seat_hand.specs.Entries.{entry_by}
 use Rattle.seat_hand.specs.Hands.{AreInHand, IsInHand}
 use Rattle.seat_hand.specs.declared.hand.Hand.{Hand}
 use Rattle.seat_hand.specs.declared.hand.Hand.TheVariants.{Free, Task, Item}

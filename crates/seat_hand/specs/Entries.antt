@@ -1,12 +1,7 @@
 -- Entries of seats.
-use Rattle.std.specs.Prelude.{ℕ, Bool, true, false}
-use Rattle.task_base.specs.declared.entry.Entry.{Entry}
+use Rattle.std.specs.Prelude.{Bool, true, false}
 use Rattle.task_base.specs.declared.entry.Kind.{Kind}
 use Rattle.task_base.specs.declared.entry.Kind.TheVariants as kinds
-
--- the entry of a seat
-abbrev pub entry_by : ℕ → Kind → Entry
-entry_by seat kind = record { seat = seat; kind = kind }
 
 -- the entry with another reply, where it has one
 abbrev pub with_reply : Kind → Bool → Kind

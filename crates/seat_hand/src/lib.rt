@@ -1,5 +1,5 @@
 //! What a seat has in hand while a log is followed: nothing, a task at its next act step, or an item of a job; and
-//! whether an entry says what is given.
+//! whether the kind of an entry is the one that is wanted.
 #![tactic(auto)]
 
 mod entries;

@@ -1,6 +1,6 @@
 -- What the driver's takes and ends of main tasks leave of the queues.
 -- Cited by `Ends`, `TakenLanes`, `Takes`, `Taking`.
-use Rattle.std.proofs.Common.{◌≡◌, ℕ, ◌≤◌, cond, List, [], ◌∷◌, ◌++◌, map, refl, ◌∙◌, Option, Some, None}
+use Rattle.std.proofs.Common.{◌≡◌, ℕ, ◌≤◌, cond, List, [], ◌∷◌, ◌++◌, map, refl, Option, Some, None}
 use Rattle.std.specs.Prelude.{filter}
 use Rattle.std.specs.List.{range_with_len}
 use Rattle.list_laws.proofs.Filters.{map-congr_in}

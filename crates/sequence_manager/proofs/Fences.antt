@@ -19,6 +19,7 @@ use Rattle.task_model.specs.Orders.{main_arrivals, next_draw, drawn_by}
 use Rattle.task_model.specs.Posts.{is_main_taken}
 use Rattle.pool_laws.proofs.Seats.Cells.{main_cell_same}
 use Rattle.list_laws.specs.Lists.{holds_of}
+use Rattle.task_base.specs.Entries.{entry_by}
 use Rattle.sequence_manager.specs.Calls.{CanFence, CanVote, HasQueue, after_fence, after_unfence, after_vote}
 use Rattle.sequence_manager.specs.Queues.{queue_of, unripe}
 use Rattle.sequence_manager.specs.StandsFor.{ArePartsOf, StandsFor}
@@ -114,9 +115,6 @@ stands_set script past e manager q queue now is at there draw few = record {
 another : (p q : ℕ) → (p ≡ q → ⊥) → not (q == p) ≡ true
 another p q other = not_from_false (q == p) (ne_eqb q p (λ is. other (sym is)))
 
-abbrev entry : ℕ → Kind → Entry
-entry seat kind = record { seat = seat; kind = kind }
-
 -- what such an entry leaves alone
 abbrev left_parts : List Part
 left_parts = Takes ∷ Ends ∷ Classes ∷ main_parts ++ due_parts
@@ -196,17 +194,17 @@ votes_only {script = script} {past = past} {q = q} {queue = queue} e votes at th
 
 -- one voter's vote, among the others'
 votes_set : (script : Plan) (past : List Entry) (seat q voter : ℕ) (on : Bool) → voter < voters_of script q
-    → votes_of script (past ++ entry seat (kinds.Vote q voter on) ∷ []) q ≡ slice_set (votes_of script past q) voter on
+    → votes_of script (past ++ entry_by seat (kinds.Vote q voter on) ∷ []) q ≡ slice_set (votes_of script past q) voter on
 votes_set script past seat q voter on has = sym (table_is (votes_on after q) (voters_of script q) (slice_set (votes_of script past q) voter on) true
     (table_set (votes_on past q) (votes_on after q) (voters_of script q) (votes_of script past q) voter on
     (map_is_table (votes_on past q) (voters_of script q)) has (λ v within other. sym (push v ∙ ap (λ b. cond b on (votes_on past q v)) (others v other)))
     (sym (push voter ∙ ap (λ b. cond b on (votes_on past q voter)) here))))
   where
     after : List Entry
-    after = past ++ entry seat (kinds.Vote q voter on) ∷ []
+    after = past ++ entry_by seat (kinds.Vote q voter on) ∷ []
 
     push : (v : ℕ) → votes_on after q v ≡ cond (q == q && voter == v) on (votes_on past q v)
-    push v = votes_on_push past (entry seat (kinds.Vote q voter on)) q v
+    push v = votes_on_push past (entry_by seat (kinds.Vote q voter on)) q v
 
     here : (q == q && voter == voter) ≡ true
     here = rw (eqb-same q, eqb-same voter) refl
@@ -218,24 +216,24 @@ votes_set script past seat q voter on has = sym (table_is (votes_on after q) (vo
 
 -- the order that is drawn next behind a fence, and where the fence stands
 next_at_fence : (past : List Entry) (seat q : ℕ) (at : FenceAt) (manager : Manager) → manager.next_order ≡ next_draw past
-    → (with_order_at manager at ≡ record manager { next_order = next_draw (past ++ entry seat (kinds.Fence q at) ∷ []) })
-    × (next_draw (past ++ entry seat (kinds.Fence q at) ∷ []) ≤ next_draw past + 1)
-    × (fence_of (past ++ entry seat (kinds.Fence q at) ∷ []) q ≡ Some (order_at manager at))
+    → (with_order_at manager at ≡ record manager { next_order = next_draw (past ++ entry_by seat (kinds.Fence q at) ∷ []) })
+    × (next_draw (past ++ entry_by seat (kinds.Fence q at) ∷ []) ≤ next_draw past + 1)
+    × (fence_of (past ++ entry_by seat (kinds.Fence q at) ∷ []) q ≡ Some (order_at manager at))
 next_at_fence past seat q Now manager is =
-    let drawn : next_draw (past ++ entry seat (kinds.Fence q Now) ∷ []) ≡ next_draw past + 1 = omega (
+    let drawn : next_draw (past ++ entry_by seat (kinds.Fence q Now) ∷ []) ≡ next_draw past + 1 = omega (
       arith,
-      draws_push past (entry seat
+      draws_push past (entry_by seat
           (kinds.Fence q Now)),
     ) in (
       ap (λ n. record manager { next_order = n }) (ap (λ n. n + 1) is ∙ sym drawn),
       omega (arith, drawn),
-      fence_of_push past (entry seat (kinds.Fence q Now)) q ∙ ap (λ b. cond b (Some (next_draw past)) (fence_of past q)) (eqb-same q) ∙ ap Some (sym is),
+      fence_of_push past (entry_by seat (kinds.Fence q Now)) q ∙ ap (λ b. cond b (Some (next_draw past)) (fence_of past q)) (eqb-same q) ∙ ap Some (sym is),
     )
 next_at_fence past seat q Start manager is =
-    let drawn : next_draw (past ++ entry seat (kinds.Fence q Start) ∷ []) ≡ next_draw past = draw_kept past (entry seat (kinds.Fence q Start)) refl in (
+    let drawn : next_draw (past ++ entry_by seat (kinds.Fence q Start) ∷ []) ≡ next_draw past = draw_kept past (entry_by seat (kinds.Fence q Start)) refl in (
       ap (λ n. record manager { next_order = n }) (is ∙ sym drawn),
       omega (arith, drawn),
-      fence_of_push past (entry seat (kinds.Fence q Start)) q ∙ ap (λ b. cond b (Some 1) (fence_of past q)) (eqb-same q),
+      fence_of_push past (entry_by seat (kinds.Fence q Start)) q ∙ ap (λ b. cond b (Some 1) (fence_of past q)) (eqb-same q),
     )
 
 -- a fence is put into the queue, behind the draw of its order
@@ -251,7 +249,7 @@ can_fence {script = script} {past = past} {manager = manager} {drawn = drawn} {q
     (can_set script past e manager q queue now (fence_sets past 0 q at) can.at here)) there
   where
     e : Entry
-    e = entry 0 (kinds.Fence q at)
+    e = entry_by 0 (kinds.Fence q at)
 
     now : ℕ
     now = next_draw (past ++ e ∷ [])
@@ -274,7 +272,7 @@ stands_at_fence {script = script} {past = past} {manager = manager} {drawn = dra
     (stands_set script past e manager q queue now (fence_sets past seat q at) can.at here refl next.1)) there)
   where
     e : Entry
-    e = entry seat (kinds.Fence q at)
+    e = entry_by seat (kinds.Fence q at)
 
     now : ℕ
     now = next_draw (past ++ e ∷ [])
@@ -289,16 +287,16 @@ undrawn : {script : Plan} {past : List Entry} {manager : Manager} {q : ℕ} (e :
 undrawn {past = past} {manager = manager} e at none =
     let is : manager.next_order ≡ next_draw past = at.stands.parts.order_is in (is ∙ sym (draw_kept past e none), omega (arith, is))
 
-no_fence : (past : List Entry) (seat q : ℕ) → fence_of (past ++ entry seat (kinds.Unfence q) ∷ []) q ≡ None
-no_fence past seat q = fence_of_push past (entry seat (kinds.Unfence q)) q ∙ ap (λ b. cond b None (fence_of past q)) (eqb-same q)
+no_fence : (past : List Entry) (seat q : ℕ) → fence_of (past ++ entry_by seat (kinds.Unfence q) ∷ []) q ≡ None
+no_fence past seat q = fence_of_push past (entry_by seat (kinds.Unfence q)) q ∙ ap (λ b. cond b None (fence_of past q)) (eqb-same q)
 
 -- the fence of the queue is removed
 pub can_unfence : {script : Plan} {past : List Entry} {manager : Manager} {q : ℕ} {queue : TaskQueue} {fence : Option ℕ} → HasQueue script past manager q
     → slice_get manager.queues q ≡ Some queue → fence ≡ None → CanRefresh (main_arrivals past) (with_queue manager q (fenced queue fence)) q
 can_unfence {script = script} {past = past} {manager = manager} {q = q} {queue = queue} {fence = fence} at there is =
     subst (λ x. CanRefresh (main_arrivals past) (with_queue manager q x) q)
-    (fence_only (entry 0 (kinds.Unfence q)) fence at there (no_fence past 0 q ∙ sym is) (λ v. votes_on_push past (entry 0 (kinds.Unfence q)) q v))
-    (can_set script past (entry 0 (kinds.Unfence q)) manager q queue manager.next_order (unfence_sets past 0 q) at there)
+    (fence_only (entry_by 0 (kinds.Unfence q)) fence at there (no_fence past 0 q ∙ sym is) (λ v. votes_on_push past (entry_by 0 (kinds.Unfence q)) q v))
+    (can_set script past (entry_by 0 (kinds.Unfence q)) manager q queue manager.next_order (unfence_sets past 0 q) at there)
 
 pub stands_at_unfence : {script : Plan} {past : List Entry} {manager after : Manager} {q : ℕ} {queue : TaskQueue} {fence : Option ℕ} (seat : ℕ)
     → HasQueue script past manager q → slice_get manager.queues q ≡ Some queue → fence ≡ None
@@ -310,7 +308,7 @@ stands_at_unfence {script = script} {past = past} {manager = manager} {q = q} {q
     (stands_set script past e manager q queue manager.next_order (unfence_sets past seat q) at there (undrawn e at refl).0 (undrawn e at refl).1))
   where
     e : Entry
-    e = entry seat (kinds.Unfence q)
+    e = entry_by seat (kinds.Unfence q)
 
 -- a voter of the queue votes
 pub has_voter : {script : Plan} {past : List Entry} {manager : Manager} {q voter : ℕ} {queue : TaskQueue} → CanVote script past manager q voter
@@ -322,7 +320,7 @@ has_voter {script = script} {past = past} {q = q} {queue = queue} can there =
 
 votes_behind : {script : Plan} {past : List Entry} {manager : Manager} {q voter : ℕ} {queue : TaskQueue} {votes : List Bool} (seat : ℕ) (on : Bool)
     → CanVote script past manager q voter → slice_get manager.queues q ≡ Some queue → votes ≡ slice_set queue.voters voter on
-    → votes_of script (past ++ entry seat (kinds.Vote q voter on) ∷ []) q ≡ votes
+    → votes_of script (past ++ entry_by seat (kinds.Vote q voter on) ∷ []) q ≡ votes
 votes_behind {script = script} {past = past} {q = q} {voter = voter} seat on can there is =
     votes_set script past seat q voter on can.has ∙ ap (λ v. slice_set v voter on) (sym (votes_there can.at there)) ∙ sym is
 
@@ -331,8 +329,8 @@ pub can_vote : {script : Plan} {past : List Entry} {manager : Manager} {q voter 
     → CanRefresh (main_arrivals past) (with_queue manager q (voted queue votes)) q
 can_vote {script = script} {past = past} {manager = manager} {q = q} {voter = voter} {queue = queue} {votes = votes} on can there is =
     subst (λ x. CanRefresh (main_arrivals past) (with_queue manager q x) q)
-    (votes_only (entry 0 (kinds.Vote q voter on)) votes can.at there (fence_of_push past (entry 0 (kinds.Vote q voter on)) q) (votes_behind 0 on can there is))
-    (can_set script past (entry 0 (kinds.Vote q voter on)) manager q queue manager.next_order (vote_sets past 0 q voter on) can.at there)
+    (votes_only (entry_by 0 (kinds.Vote q voter on)) votes can.at there (fence_of_push past (entry_by 0 (kinds.Vote q voter on)) q) (votes_behind 0 on can there is))
+    (can_set script past (entry_by 0 (kinds.Vote q voter on)) manager q queue manager.next_order (vote_sets past 0 q voter on) can.at there)
 
 pub stands_at_vote : {script : Plan} {past : List Entry} {manager after : Manager} {q voter : ℕ} {queue : TaskQueue} {votes : List Bool} (seat : ℕ) (on : Bool)
     → CanVote script past manager q voter → slice_get manager.queues q ≡ Some queue → votes ≡ slice_set queue.voters voter on
@@ -345,4 +343,4 @@ stands_at_vote {script = script} {past = past} {manager = manager} {q = q} {vote
     (undrawn e can.at refl).1))
   where
     e : Entry
-    e = entry seat (kinds.Vote q voter on)
+    e = entry_by seat (kinds.Vote q voter on)

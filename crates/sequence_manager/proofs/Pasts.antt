@@ -15,12 +15,13 @@ use Rattle.task_base.specs.Plan.{Plan}
 use Rattle.task_base.specs.declared.entry.Entry.{Entry}
 use Rattle.task_base.specs.declared.entry.Kind.TheVariants as kinds
 use Rattle.task_base.specs.declared.limits.TheConstants.{LAST_MOMENT}
+use Rattle.task_base.specs.Entries.{next}
 use Rattle.task_model.proofs.Growth.{is_main_taken_push, main_posts_push, now_of_push}
 use Rattle.task_model.specs.Orders.{Ordered, main_arrivals}
 use Rattle.task_model.specs.Past.{fold_past}
 use Rattle.task_model.specs.Posts.{InOrder, Posted, is_main_taken, main_post_of, main_posted_by, main_posts, main_takes}
 use Rattle.task_model.specs.Time.{now_after, now_of}
-use Rattle.sequence_manager.specs.Calls.{after_end, after_main, after_tick, next}
+use Rattle.sequence_manager.specs.Calls.{after_end, after_main, after_tick}
 use Rattle.sequence_manager.specs.Pasts.{IsDue, IsMainPast, IsPostedTo, WasDue}
 use Rattle.sequence_manager.proofs.Accepted.{arrival_accepted, drawn_is_due, one_post}
 

@@ -3,9 +3,7 @@
 use Rattle.delayed_manager.specs.Delayed.{ripens_before}
 use Rattle.delayed_manager.specs.declared.ripening.Ripening.{Ripening}
 use Rattle.list_laws.proofs.Elements.{AllByRecursion-filter, AllByRecursion-mapped, slice_get_all}
-use Rattle.list_laws.proofs.Ranks.{ranks_by, ranks_then_by}
 use Rattle.list_laws.proofs.Values.{eqb-same, some-injective}
-use Rattle.list_laws.specs.Lists.{Ranks}
 use Rattle.list_laws.specs.Sorts.{Rises}
 use Rattle.sequence_manager.specs.Queues.{IsTable, queue_of, ripening_of}
 use Rattle.sequence_manager.specs.Ripening.{sooner, soonest_from}
@@ -14,18 +12,15 @@ use Rattle.std.proofs.Common.{List, None, Option, Some, [], ap, arith, cond, fal
 use Rattle.std.proofs.lemmas.Bool.{ne_eqb}
 use Rattle.std.proofs.lemmas.Option.{slice_get_within}
 use Rattle.std.specs.Option.{IfSome}
-use Rattle.std.specs.Prelude.{filter, nat_lt, slice_get, ◌==◌}
+use Rattle.std.specs.Prelude.{filter, slice_get, ◌==◌}
 use Rattle.task_base.specs.Plan.{Plan}
 use Rattle.task_base.specs.declared.entry.Entry.{Entry}
+use Rattle.delayed_manager.proofs.Heap.{ranks_ripening}
 use Rattle.task_model.specs.Orders.{Ordered}
 use Rattle.task_model.specs.Posts.{Posted}
 use Rattle.task_model.specs.Posts as posts
 
 -- Of some queues.
-
--- of two that ripen at one moment the one posted first goes before
-ranks_ripening : Ranks ripens_before
-ranks_ripening = ranks_then_by (λ r. r.ripe) (λ a b. nat_lt a.post b.post) (ranks_by (λ r. r.post))
 
 -- the queue's first delayed task
 abbrev first_of : TaskQueue → Option Ripening

@@ -19,13 +19,14 @@ use Rattle.task_base.specs.declared.entry.Entry.{Entry}
 use Rattle.task_base.specs.declared.entry.Kind.TheVariants as kinds
 use Rattle.task_base.specs.declared.script.Lane.{Lane}
 use Rattle.task_base.specs.declared.script.Lane.TheVariants.{Immediate, Delayed}
+use Rattle.task_base.specs.Entries.{next}
 use Rattle.task_model.proofs.Growth.{is_main_taken_push, main_cell_of_push, running_push}
 use Rattle.task_model.specs.Cells.{main_cell_of}
 use Rattle.task_model.specs.MainQueues.{is_in_lane, is_of_lane}
 use Rattle.task_model.specs.Orders.{Ordered, main_arrivals}
 use Rattle.task_model.specs.Posts.{Posted, is_delayed, is_main_taken}
 use Rattle.task_model.specs.Refusal.{is_closed}
-use Rattle.sequence_manager.specs.Calls.{CanTake, next}
+use Rattle.sequence_manager.specs.Calls.{CanTake}
 use Rattle.sequence_manager.specs.Pasts.{main_running}
 use Rattle.sequence_manager.specs.Queues.{held_in, queue_of, queued_of}
 use Rattle.sequence_manager.specs.State.{taken_from}

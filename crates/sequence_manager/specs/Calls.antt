@@ -1,11 +1,12 @@
 -- What each call of the manager asks of its caller, and answers.
-use Rattle.std.specs.Prelude.{◌≡◌, ℕ, ◌<◌, ◌≤◌, ◌^◌, Bool, List, [], ◌∷◌, ◌++◌, length, Option, Some, None}
+use Rattle.std.specs.Prelude.{◌≡◌, ℕ, ◌<◌, ◌≤◌, ◌^◌, Bool, List, length, Option, Some, None}
 use Rattle.task_base.specs.Plan.{Plan}
 use Rattle.task_base.specs.declared.entry.Entry.{Entry}
 use Rattle.task_base.specs.declared.entry.Kind.{Kind}
 use Rattle.task_base.specs.declared.entry.Kind.TheVariants as kinds
 use Rattle.task_base.specs.declared.script.FenceAt.{FenceAt}
 use Rattle.task_base.specs.declared.limits.TheConstants.{LAST_MOMENT, MOST_MICROSECONDS}
+use Rattle.task_base.specs.Entries.{next}
 use Rattle.queue_selector.specs.declared.selector.TheConstants.{LAST_CLASS}
 use Rattle.task_model.specs.Cells.{main_cell_of}
 use Rattle.task_model.specs.MainQueues.{Front, chosen_of, voters_of}
@@ -15,10 +16,6 @@ use Rattle.task_model.specs.Time.{now_of}
 use Rattle.sequence_manager.specs.Pasts.{IsPostedTo, main_running}
 use Rattle.sequence_manager.specs.StandsFor.{StandsFor}
 use Rattle.sequence_manager.specs.declared.manager.Manager.{Manager}
-
--- the past with one more entry
-abbrev pub next : List Entry → ℕ → Kind → List Entry
-next past seat kind = past ++ (record { seat = seat; kind = kind }) ∷ []
 
 -- the past with an entry of each kind of the main queues
 abbrev pub after_main : List Entry → ℕ → ℕ → ℕ → ℕ → Bool → List Entry

@@ -11,7 +11,7 @@ ghost use Rattle.sequence_manager.specs.StandsFor.{StandsFor};
 ghost use Rattle.sequence_manager.specs.State.{CanPush, CanRefresh, order_at, pushed, queue_at, refreshed, with_order_at};
 ghost use Rattle.delayed_manager.specs.declared.ripening.Ripening.{Ripening};
 ghost use Rattle.queue_selector.specs.Rows.{closed_row};
-ghost use Rattle.sequence_manager.specs.Ripening.{CanRipen, IsInTick, ripened};
+ghost use Rattle.sequence_manager.specs.Ripening.{CanRipen, ripened};
 
 use crate::task_queues::TaskQueues;
 use queue_selector::Selector;

@@ -1,4 +1,4 @@
-ghost use Rattle.std.specs.Prelude.{◌≡◌, ◌<◌, ◌^◌, ◌&&◌, ℕ, false, nat_lt, slice_index_or, slice_set, replicate, is_some, true, None, Some, IfOk};
+ghost use Rattle.std.specs.Prelude.{◌≡◌, ◌<◌, ◌^◌, ◌&&◌, ℕ, false, nat_lt, slice_set, replicate, is_some, true, None, Some, IfOk};
 ghost use Rattle.sequence_queue.specs.Heap.{before, CountsUp, IsAbove, IsBelow, IsChild, IsExchanged, IsFirst, IsFirstBelow, IsHeap, IsHeapBut, HasPlaces, IsPlaced, ranks_first, rank_at, rank_of_number, size};
 
 use crate::rank::Rank;

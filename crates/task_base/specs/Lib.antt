@@ -6,3 +6,4 @@ pub mod Policy
 pub mod Keys
 pub mod Runners
 pub mod Groups
+pub mod Entries

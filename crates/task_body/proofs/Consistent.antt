@@ -1,6 +1,6 @@
 -- The value of an assignment is at each moment what the steps that are done leave of the value that was found.
 -- Cited by `Assignment::step`.
-use Rattle.std.proofs.Common.{◌≡◌, List, [], ◌++◌, append_assoc, sym, ap, ◌∙◌}
+use Rattle.std.proofs.Common.{◌≡◌, List, ◌++◌, append_assoc, sym, ap, ◌∙◌}
 use Rattle.std.proofs.lemmas.List.Sums.{fold-append}
 use Rattle.task_base.specs.Steps.{after, apply_step}
 use Rattle.task_base.specs.declared.step.Step.{Step}

@@ -10,13 +10,13 @@ use Rattle.task_base.specs.Plan.{Plan}
 use Rattle.task_base.specs.declared.limits.TheConstants.{MOST_STEPS, MOST_EVENTS}
 use Rattle.list_laws.proofs.Counts.{count-append}
 use Rattle.list_laws.proofs.Places.{count_none}
-use Rattle.script_model.specs.Bound.{events_bound_of}
+use Rattle.script_model.specs.Bound.{events_bound_of, steps_of_plan}
 use Rattle.script_model.specs.Draft.{opens_scope}
 use Rattle.script_model.specs.Postings.{postings}
 use Rattle.task_reply.specs.declared.held.Held.{Held}
 use Rattle.task_reply.specs.declared.reply.Reply.{Reply}
 use Rattle.task_reply.specs.Replies.{reply_undeclared, reply_posted_twice, reply_bad_block, reply_too_many, has_home, is_bad_block, is_declared_reply}
-use Rattle.task_reply.specs.Replies.{is_full, is_posted, reason_against, steps_of_plan, home_takes_block}
+use Rattle.task_reply.specs.Replies.{is_full, is_posted, reason_against, home_takes_block}
 use Rattle.task_reply.specs.Tables.{held_reason, HoldsReplies}
 use Rattle.task_reply.proofs.MarkedTasks.{is_marked}
 use Rattle.task_reply.proofs.StaysSound.{MayStand}

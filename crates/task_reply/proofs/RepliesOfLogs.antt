@@ -15,6 +15,7 @@ use Rattle.task_base.specs.declared.entry.Entry.{Entry}
 use Rattle.task_base.specs.declared.entry.Kind.{Kind}
 use Rattle.task_base.specs.declared.entry.Kind.TheVariants as kinds
 use Rattle.list_laws.proofs.Elements.{push_induction}
+use Rattle.task_base.specs.Entries.{is_acting}
 use Rattle.script_model.specs.Postings.{posts_of_action, posts_of_step, times}
 use Rattle.script_model.specs.Laws.Sound.{IsSound}
 use Rattle.task_model.specs.Posts.{takes, main_takes, ends, main_ends}
@@ -31,7 +32,7 @@ use Rattle.task_reply.specs.declared.reply.Home.{Home}
 use Rattle.task_reply.specs.declared.reply.Home.TheVariants.{Runner, Queue}
 use Rattle.task_reply.specs.declared.reply.Reply.{Reply}
 use Rattle.task_reply.specs.Elaborated.{IsElaborated, reply_posting, posting_to}
-use Rattle.task_reply.specs.Laws.{ArePostedLast, EndAfterReplies, IsByTask, PostsAt, StartAfterPost, enters_act, own_acts, post_by_reply, post_to}
+use Rattle.task_reply.specs.Laws.{ArePostedLast, EndAfterReplies, IsByTask, PostsAt, StartAfterPost, own_acts, post_by_reply, post_to}
 use Rattle.task_reply.proofs.Growing.{posting_posts}
 use Rattle.task_reply.proofs.OnePosting.{no_action_posts, one_posting, placed, posting_at, rank_at, rank_less}
 use Rattle.task_reply.proofs.Runs.{ActStep, Entered, act_step, acts_entered, by_either, posts_once, same_run}
@@ -55,7 +56,7 @@ not_by_script script t seat past kind none posts by =
 -- ---- the entry of a posting
 
 -- an entry that posts is that of an act step
-posts_act : (kind : Kind) (t : ℕ) → kind_posts kind ≡ t ∷ [] → enters_act kind ≡ true
+posts_act : (kind : Kind) (t : ℕ) → kind_posts kind ≡ t ∷ [] → is_acting kind ≡ true
 posts_act (kinds.Post task runner delay ok) t posts = refl
 posts_act (kinds.Main task queue delay ok) t posts = refl
 posts_act kind t posts = absurd cc

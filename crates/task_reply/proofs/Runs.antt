@@ -16,6 +16,7 @@ use Rattle.task_base.specs.declared.entry.Kind.{Kind}
 use Rattle.task_base.specs.declared.entry.Kind.TheVariants as kinds
 use Rattle.list_laws.specs.Lists.{holds_of}
 use Rattle.list_laws.proofs.Places.{slice_get-more, slice_get_seam}
+use Rattle.task_base.specs.Entries.{is_acting}
 use Rattle.script_model.specs.Postings.{IsPostedOnce, times}
 use Rattle.task_model.specs.Seats.{Running, running, running_after, acts_done, acts_after, steps_of, next_act}
 use Rattle.task_model.proofs.Growth.{running_push, acts_done_push}
@@ -36,7 +37,7 @@ use Rattle.hist_model.proofs.Laws.Postings.Counts.{posted_at_most_once}
 use Rattle.hist_model.proofs.Laws.Since.{RunningSince, running_since, taking}
 use Rattle.hist_model.proofs.Laws.Starts.{same_entry, tasks_start_at_most_once}
 use Rattle.hist_model.proofs.Laws.Takes.{by_driver}
-use Rattle.task_reply.specs.Laws.{IsByTask, PostsAt, enters_act}
+use Rattle.task_reply.specs.Laws.{IsByTask, PostsAt}
 use Rattle.task_reply.proofs.OnePosting.{one_place}
 
 -- ---- a task is posted at one place, and taken at one
@@ -155,7 +156,7 @@ act_step script past seat kind h =
     }
 
 -- such an entry is by the script, or by the task that the seat runs
-pub by_either : (script : Plan) (past : List Entry) (seat : ℕ) (kind : Kind) → may_come script past seat kind ≡ true → enters_act kind ≡ true
+pub by_either : (script : Plan) (past : List Entry) (seat : ℕ) (kind : Kind) → may_come script past seat kind ≡ true → is_acting kind ≡ true
     → (by_script script past seat kind ≡ true) ⊎ (by_task script past seat kind ≡ true)
 unfolding may_come
 by_either script past seat (kinds.Post task runner delay ok) may acts = or_cases _ _ (and_parts _ _ may).0
@@ -166,7 +167,7 @@ by_either script past seat kind may acts = absurd cc
 
 -- a pump wants no act step's entry
 pump_wants_none : (own : List Entry) (action : Action) (made : List Entry) (kind : Kind) → is_pump action ≡ true → wants own action made kind ≡ true
-    → enters_act kind ≡ false
+    → is_acting kind ≡ false
 pump_wants_none own (actions.Pump count) made (kinds.Post task runner delay ok) pump h = absurd cc
 pump_wants_none own (actions.Pump count) made (kinds.Main task queue delay ok) pump h = absurd cc
 pump_wants_none own (actions.Pump count) made (kinds.Enter task scope) pump h = absurd cc
@@ -176,7 +177,7 @@ pump_wants_none own action made kind pump h = absurd cc
 
 -- of a seat that runs a task it is by the task
 pub by_running : (script : Plan) (past : List Entry) (seat : ℕ) (kind : Kind) (now : Running) → IsLegal script past → running past seat ≡ Some now
-    → may_come script past seat kind ≡ true → enters_act kind ≡ true → by_task script past seat kind ≡ true
+    → may_come script past seat kind ≡ true → is_acting kind ≡ true → by_task script past seat kind ≡ true
 by_running script past seat kind now legal runs may acts = at (by_either script past seat kind may acts)
   where
     at : (by_script script past seat kind ≡ true) ⊎ (by_task script past seat kind ≡ true) → by_task script past seat kind ≡ true
@@ -216,7 +217,7 @@ AllEntered script past = (seat : ℕ) (w : Running) → running past seat ≡ So
 
 -- one more act step
 one_entered : (script : Plan) (past : List Entry) (seat : ℕ) (kind : Kind) (w : Running) (n : ℕ) → IsLegal script past → running past seat ≡ Some w
-    → may_come script past seat kind ≡ true → enters_act kind ≡ true → (n < acts_done past seat → Entered script past seat w.task n)
+    → may_come script past seat kind ≡ true → is_acting kind ≡ true → (n < acts_done past seat → Entered script past seat w.task n)
     → n < acts_done past seat + 1 → Entered script (past ++ record { seat = seat; kind = kind } ∷ []) seat w.task n
 one_entered script past seat kind w n legal runs may acts before less = elim (cases_lt n (acts_done past seat)) [
   | inl lt ↦ entered_more script past _ seat w.task n (before lt)

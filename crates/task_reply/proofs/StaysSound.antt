@@ -15,7 +15,7 @@ use Rattle.task_base.specs.declared.limits.TheConstants.{MOST_STEPS, MOST_EVENTS
 use Rattle.list_laws.proofs.Counts.{count-cons}
 use Rattle.list_laws.proofs.Elements.{AllByRecursion-map}
 use Rattle.list_laws.proofs.Places.{AllByRecursion-push, slice_get-set_same, slice_get-set_other}
-use Rattle.script_model.specs.Bound.{events_bound_of}
+use Rattle.script_model.specs.Bound.{events_bound_of, steps_of_plan}
 use Rattle.script_model.specs.Draft.{may_block_on, opens_scope}
 use Rattle.script_model.specs.Postings.{postings, times}
 use Rattle.script_model.specs.Laws.Sound.{IsSound, IsActionSound, IsRunnerPost, IsQueuePost, IsStepSound, IsStepWithin, IsTaskSound}
@@ -23,7 +23,7 @@ use Rattle.task_reply.specs.declared.reply.Home.{Home}
 use Rattle.task_reply.specs.declared.reply.Home.TheVariants.{Runner, Queue}
 use Rattle.task_reply.specs.declared.reply.Reply.{Reply}
 use Rattle.task_reply.specs.Elaborated.{reply_posting, posting_to}
-use Rattle.task_reply.specs.Replies.{has_home, is_bad_block, steps_of_plan, home_takes_block}
+use Rattle.task_reply.specs.Replies.{has_home, is_bad_block, home_takes_block}
 use Rattle.task_reply.specs.Tables.{with_task_step}
 use Rattle.task_reply.proofs.Growing.{scopes_stay, scopes_in_turn, steps_grow, events_grow, postings_grow}
 

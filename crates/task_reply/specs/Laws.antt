@@ -1,10 +1,11 @@
 -- What every legal log of an elaborated script gives of replies.
-use Rattle.std.specs.Prelude.{◌≡◌, ℕ, ◌<◌, ◌≤◌, Bool, true, false, ◌||◌, List, [], ◌∷◌, length, take, filter, slice_get, Some, Contains}
+use Rattle.std.specs.Prelude.{◌≡◌, ℕ, ◌<◌, ◌≤◌, Bool, true, ◌||◌, List, [], ◌∷◌, length, take, filter, slice_get, Some, Contains}
 use Rattle.task_base.specs.Plan.{Plan}
 use Rattle.task_base.specs.Steps.{is_act}
 use Rattle.task_base.specs.declared.entry.Entry.{Entry}
 use Rattle.task_base.specs.declared.entry.Kind.{Kind}
 use Rattle.task_base.specs.declared.entry.Kind.TheVariants as kinds
+use Rattle.task_base.specs.Entries.{is_acting}
 use Rattle.task_model.specs.Posts.{takes, main_takes, ends, main_ends}
 use Rattle.task_model.specs.Seats.{Running, running, acts_done, steps_of}
 use Rattle.hist_model.specs.Laws.Places.{IsAt, StandsBefore}
@@ -40,19 +41,11 @@ pub record IsByTask (log : List Entry) (place seat task : ℕ) : Type 0 where
 abbrev pub own_acts : Plan → ℕ → ℕ
 own_acts script task = length (filter is_act (steps_of script task))
 
--- the entry is that of an act step
-abbrev pub enters_act : Kind → Bool
-enters_act (kinds.Post task runner delay ok) = true
-enters_act (kinds.Main task queue delay ok) = true
-enters_act (kinds.Enter task scope) = true
-enters_act (kinds.Leave task) = true
-enters_act kind = false
-
 -- at this place the task enters one of its own act steps: it has entered fewer before than it has of its own
 pub record EntersOwnAct (script : Plan) (log : List Entry) (place seat task : ℕ) : Type 0 where
   pub kind : Kind
   pub is : IsAt log place seat kind
-  pub acts : enters_act kind ≡ true
+  pub acts : is_acting kind ≡ true
   pub by_task : IsByTask log place seat task
   pub is_own : acts_done (take place log) seat < own_acts script task
 

@@ -1,5 +1,5 @@
 -- Which lines say which replies, and which line is the first bad one. (The lines and the reasons are this project's own.)
-use Rattle.std.specs.Prelude.{ℕ, ◌+◌, ◌^◌, ◌==◌, Bool, true, false, not, ◌&&◌, ◌||◌, nat_lt, if◌then◌else◌, List, [], ◌∷◌, ◌++◌, length, codes, Option, Some, None, option_map, option_and_then, sum_by, Result, Ok, Err}
+use Rattle.std.specs.Prelude.{ℕ, ◌+◌, ◌^◌, ◌==◌, Bool, true, false, not, ◌&&◌, ◌||◌, nat_lt, if◌then◌else◌, List, [], ◌∷◌, ◌++◌, length, codes, Option, Some, None, option_map, option_and_then, Result, Ok, Err}
 use Rattle.std.specs.List.{list_any}
 use Rattle.std.specs.Result.{result_err}
 use Rattle.task_base.specs.Plan.{Plan}
@@ -7,7 +7,7 @@ use Rattle.task_base.specs.declared.limits.TheConstants.{MOST_STEPS, MOST_EVENTS
 use Rattle.script_model.specs.Words.{lines_of, words_of, is_word, begins_comment, number_of}
 use Rattle.script_model.specs.Reasons.{◌>>=◌}
 use Rattle.script_model.specs.Grammar.{at_line}
-use Rattle.script_model.specs.Bound.{events_bound_of}
+use Rattle.script_model.specs.Bound.{events_bound_of, steps_of_plan}
 use Rattle.script_model.specs.Draft.{opens_scope, may_block_on}
 use Rattle.script_model.specs.Postings.{postings}
 use Rattle.task_reply.specs.declared.reply.Home.{Home}
@@ -105,10 +105,6 @@ home_takes_block script (Queue queue) = false
 -- the reply opens a scope, and goes where none may block
 abbrev pub is_bad_block : Plan → Reply → Bool
 is_bad_block script reply = opens_scope script.tasks reply.reply && not (home_takes_block script reply.home)
-
--- the steps of all tasks and jobs
-abbrev pub steps_of_plan : Plan → ℕ
-steps_of_plan script = sum_by (λ steps. length steps) script.tasks + sum_by (λ job. length job.steps) script.jobs
 
 -- behind this many replies, each of which is a step and an entry, one more passes a limit
 abbrev pub is_full : Plan → ℕ → Bool

@@ -3,7 +3,7 @@ use Rattle.std.specs.Prelude.{◌≡◌, ℕ, ◌+◌, Bool, true, false, not, �
 use Rattle.task_base.specs.Plan.{Plan}
 use Rattle.task_base.specs.declared.step.Step.{Step}
 use Rattle.task_base.specs.declared.limits.TheConstants.{MOST_STEPS, MOST_EVENTS}
-use Rattle.script_model.specs.Bound.{events_bound_of}
+use Rattle.script_model.specs.Bound.{events_bound_of, steps_of_plan}
 use Rattle.script_model.specs.Draft.{opens_scope}
 use Rattle.script_model.specs.Postings.{postings, times}
 use Rattle.script_model.specs.Laws.Sound.{IsSound}
@@ -14,7 +14,7 @@ use Rattle.task_reply.specs.declared.held.Held.{Held}
 use Rattle.task_reply.specs.declared.fault.ReplyFault.{ReplyFault}
 use Rattle.task_reply.specs.declared.fault.ReplyFault.TheVariants.{Bad as BadReplies, Memory as NoMemory}
 use Rattle.task_reply.specs.Elaborated.{IsElaborated, reply_posting}
-use Rattle.task_reply.specs.Replies.{reply_undeclared, reply_posted_twice, reply_bad_block, reply_too_many, is_declared_reply, is_bad_block, steps_of_plan}
+use Rattle.task_reply.specs.Replies.{reply_undeclared, reply_posted_twice, reply_bad_block, reply_too_many, is_declared_reply, is_bad_block}
 
 -- ---- one line
 

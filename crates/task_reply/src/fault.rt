@@ -1,4 +1,4 @@
-ghost use Rattle.std.specs.Prelude.{◌≡◌, ◌≤◌, alloc_error, length};
+ghost use Rattle.std.specs.Prelude.{◌≡◌, ◌≤◌, length};
 ghost use Rattle.task_reply.specs.Fault.{note_of, reason_name};
 ghost use Rattle.task_reply.specs.declared.fault.ReplyFault.TheVariants.{Memory};
 

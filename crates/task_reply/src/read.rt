@@ -1,11 +1,12 @@
-ghost use Rattle.std.specs.Prelude.{◌≡◌, map};
-ghost use Rattle.script_model.specs.Words.{begins_comment};
+ghost use Rattle.std.specs.Prelude.{◌≡◌};
+ghost use Rattle.line_text.specs.Words.{texts};
 ghost use Rattle.task_reply.specs.Replies.{home_named, id_of, is_skipped, reply_line_said, reply_of, reply_said, reply_words_said};
 ghost use Rattle.task_reply.specs.Tables.{SaysReply};
 
 use crate::reason::BAD_LINE;
 use crate::reply::{Home, Reply};
 use crate::words::words_of;
+use line_words::begins_comment;
 use numeral_text::{is_numeral, value_of};
 use script_lines::LineFault;
 use std::alloc::Global;
@@ -21,7 +22,7 @@ pub(crate) fn read_line(alloc: Global, line: &[u8]) -> Result<Option<Reply>, Lin
 
 /// The reply that words say.
 fn said(words: &[&[u8]]) -> Result<Option<Reply>, LineFault>
-    ensures { SaysReply result (reply_words_said (map (λ word. word.now) words.now)) }
+    ensures { SaysReply result (reply_words_said (texts words.now)) }
 {
     if is_skipped(words) {
         return Ok(None);
@@ -34,7 +35,7 @@ fn said(words: &[&[u8]]) -> Result<Option<Reply>, LineFault>
 
 /// Whether words say nothing: there are none, or they are a comment.
 fn is_skipped(words: &[&[u8]]) -> bool
-    ensures { result ≡ is_skipped (map (λ word. word.now) words.now) }
+    ensures { result ≡ is_skipped (texts words.now) }
 {
     match words {
         [first, ..] => begins_comment(first),
@@ -45,23 +46,13 @@ fn is_skipped(words: &[&[u8]]) -> bool
 /// The reply that words are, if they are one.
 #[tactic(auto, unfolding(crate::specs::Replies::reply_said))]
 fn reply_said(words: &[&[u8]]) -> Option<Reply>
-    ensures { result ≡ reply_said (map (λ word. word.now) words.now) }
+    ensures { result ≡ reply_said (texts words.now) }
 {
     match words {
         [name, task, reply, sort, home] if *name == b"reply".as_slice() => {
             reply_of(task, reply, sort, home)
         }
         _ => None,
-    }
-}
-
-/// Whether a word, as the first of its line, makes it a comment.
-fn begins_comment(word: &[u8]) -> bool
-    ensures { result ≡ begins_comment word.now }
-{
-    match word {
-        [first, ..] => *first == b'#',
-        [] => false,
     }
 }
 

@@ -1,6 +1,6 @@
 ghost use Rattle.std.specs.Prelude.{◌≡◌, ◌<◌, ◌^◌, length, sum_by};
 ghost use Rattle.script_model.specs.Laws.Sound.{IsSound};
-ghost use Rattle.task_reply.specs.Replies.{steps_of_plan};
+ghost use Rattle.script_model.specs.Bound.{steps_of_plan};
 
 use task_base::{Job, Script, Task};
 

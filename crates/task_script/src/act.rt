@@ -8,8 +8,7 @@ ghost use Rattle.task_script.specs.Plain.{is_plain};
 
 use crate::reader::Reader;
 use crate::reasons::{BAD_BLOCK, JOB_USE, POSTED_TWICE, SHUTDOWN_TWICE, TOO_MANY, UNDECLARED};
-use crate::refuse::refuse;
-use script_lines::LineFault;
+use script_lines::{LineFault, refuse};
 use task_base::{Action, JobId, MOST_EVENTS, MOST_TICKS, QueueId, RunnerId, Step};
 
 impl Reader {

@@ -5,8 +5,7 @@ ghost use Rattle.task_script.specs.Added.{workers_added, groups_added, threshold
 use crate::groups::GroupLimits;
 use crate::reader::Reader;
 use crate::reasons::{CONFIG_TWICE, DECLARATION_LATE};
-use crate::refuse::refuse;
-use script_lines::LineFault;
+use script_lines::{LineFault, refuse};
 
 impl Reader {
     ghost use Rattle.task_script.specs.Reader.{draft, Tables, Turns};

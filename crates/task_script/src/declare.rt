@@ -1,16 +1,14 @@
-ghost use Rattle.std.specs.Prelude.{◌≡◌, ◌==◌, ◌+◌, ◌≤◌, ◌<◌, ◌^◌, ◌++◌, ◌∷◌, [], nat_lt, length, Ok};
-ghost use Rattle.std.specs.List.{list_all, list_any};
-ghost use Rattle.script_model.specs.Bound.{events_of_task, events_of_job};
-ghost use Rattle.script_model.specs.Draft.{is_above_workers, is_declared, is_bad_post};
+ghost use Rattle.std.specs.Prelude.{◌≡◌, ◌+◌, ◌≤◌, ◌<◌, ◌^◌, ◌++◌, ◌∷◌, [], length, Ok};
+ghost use Rattle.script_model.specs.Bound.{events_of_job};
+ghost use Rattle.script_model.specs.Draft.{is_above_workers};
 ghost use Rattle.task_script.specs.Added.{runner_added, queue_added, task_added, job_added};
 
 use crate::reader::Reader;
 use crate::reasons::{
     BAD_BLOCK, DECLARATION_LATE, JOB_USE, OUT_OF_ORDER, POSTED_TWICE, TOO_MANY, UNDECLARED,
 };
-use crate::refuse::refuse;
 use crate::steps::{count_act_steps, has_act_step, has_bad_scopes, is_any_posted, opens_scope};
-use script_lines::LineFault;
+use script_lines::{LineFault, refuse};
 use task_base::{
     Job, JobId, MOST_EVENTS, MOST_ITEMS, MOST_JOBS, MOST_QUEUES, MOST_RUNNERS, MOST_STEPS,
     MOST_TASKS, MainQueue, QueueId, Runner, RunnerId, RunnerKind, Step, Task, TaskId,

@@ -15,7 +15,6 @@ mod posts;
 mod read;
 mod reader;
 mod reasons;
-mod refuse;
 mod steps;
 
 pub use fault::ScriptFault;

@@ -1,6 +1,6 @@
 ghost use Rattle.std.specs.Prelude.{◌≡◌, ◌≤◌, ℕ, Some, Err, IfOk, length};
 ghost use Rattle.script_model.specs.Canonical.{IsValid};
-ghost use Rattle.script_model.specs.Grammar.{Reads, first_fault, lines_read};
+ghost use Rattle.script_model.specs.Grammar.{Reads, first_fault};
 ghost use Rattle.script_model.specs.Laws.Sound.{IsSound};
 
 use crate::fault::ScriptFault;

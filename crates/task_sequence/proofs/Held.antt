@@ -7,7 +7,7 @@ use Rattle.std.specs.List.{sum_by, count_by}
 use Rattle.std.proofs.lemmas.List.Sums.{sum_by-cons}
 use Rattle.task_traits.specs.Behaviour.{forbids}
 use Rattle.task_traits.specs.declared.phase.Phase.{Phase}
-use Rattle.task_sequence.specs.Sequences.{Waiting, Sequence, Held, fresh, purged, may_stay, forbidden_in}
+use Rattle.task_sequence.specs.Sequences.{Waiting, Sequence, fresh, purged, may_stay, forbidden_in}
 use Rattle.task_sequence.specs.Links.{tasks_of, IsLinked}
 use Rattle.task_sequence.specs.Lines.{fresh_line, ends_at, sequences_of, IsWhole}
 use Rattle.task_sequence.specs.declared.links.Node.{Node}

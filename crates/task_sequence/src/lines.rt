@@ -1,8 +1,8 @@
-ghost use Rattle.std.specs.Prelude.{◌≡◌, ℕ, ◌+◌, ◌^◌, ◌<◌, ◌≤◌, ◌↔◌, ◌++◌, ◌∷◌, [], drop, take, length, map, filter, slice_index_or, slice_set, IsNone, IsSome, IfNone, IfOk, OnSome, replicate};
+ghost use Rattle.std.specs.Prelude.{◌≡◌, ◌+◌, ◌^◌, ◌<◌, ◌≤◌, ◌++◌, ◌∷◌, [], drop, take, length, map, filter, slice_index_or, slice_set, IsSome, IfNone, IfOk, OnSome, replicate};
 ghost use Rattle.slab.specs.Slab.{slab_len, HasRoomFor};
 ghost use Rattle.task_sequence.specs.Links.{tasks_of, waiting_of, IsLinked, KeepsOthers};
 ghost use Rattle.task_sequence.specs.Lines.{IsWhole, sequences_of, fresh_line};
-ghost use Rattle.task_sequence.specs.Sequences.{Sequence, fresh, given_of, behind_first, may_stay, purged};
+ghost use Rattle.task_sequence.specs.Sequences.{fresh, given_of, behind_first, may_stay, purged};
 
 use crate::links::{Ends, Node, append, take_first};
 use slab::Slab;

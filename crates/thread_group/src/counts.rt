@@ -1,4 +1,4 @@
-ghost use Rattle.std.specs.Prelude.{◌≡◌, ◌≤◌, ◌<◌, ◌^◌, length, [], ◌∷◌};
+ghost use Rattle.std.specs.Prelude.{◌≤◌, ◌<◌, ◌^◌, length, [], ◌∷◌};
 ghost use Rattle.thread_group.specs.Counts.{AreCounts, IsWithin, HaveRoom, AreMoved};
 
 use crate::work::{Work, is_best_effort};

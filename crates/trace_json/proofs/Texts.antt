@@ -12,8 +12,9 @@ use Rattle.serde.specs.Event.{Log, Logs, seq_begins, seq_ends, WritesEach, Write
 use Rattle.serde_json.specs.Data.{Data, string, number, unsigned, array, object, Members, member, no_members}
 use Rattle.serde_json.specs.View.{items_of}
 use Rattle.serde_json.specs.Events.{SendsValue, SendsItems, items_len}
-use Rattle.serde_json.specs.Written.{compact_text, items_text, members_text, has_float}
+use Rattle.serde_json.specs.Written.{compact_text, members_text, has_float}
 use Rattle.log_model.specs.LogText.{json_array}
+use Rattle.run_log.proofs.JsonTexts.{array_text}
 use Rattle.trace_json.specs.declared.event.EventName.{EventName}
 use Rattle.trace_json.specs.declared.event.EventName.TheVariants.{Task, Item}
 use Rattle.trace_json.specs.declared.event.EventPhase.{EventPhase}
@@ -62,17 +63,6 @@ letter_plain Begin = refl
 letter_plain End = refl
 
 -- ---- arrays and objects
-
--- the items of an array behind its first one, with the bracket that closes it
-items_joined : (d : Data) (ds : List Data)
-    → compact_text d ++ items_text true (items_of ds) ≡ join_with_byte 44 (compact_text d ∷ map compact_text ds) ++ 93 ∷ []
-items_joined d [] = refl
-items_joined d (e ∷ ds) = rw (items_joined e ds, append_assoc) refl
-
--- an array is its items in brackets, parted by commas
-array_text : (ds : List Data) → compact_text (array (items_of ds)) ≡ json_array (map compact_text ds)
-array_text [] = refl
-array_text (d ∷ ds) = rw (items_joined d ds) refl
 
 -- the members of an object, by key and value
 members : List (List ℕ × Data) → Members

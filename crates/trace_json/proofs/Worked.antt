@@ -3,13 +3,10 @@ use Rattle.std.proofs.Common.{◌≡◌, ℕ, true, Some, None, List, [], ◌∷
 use Rattle.std.specs.Prelude.{codes}
 use Rattle.std.specs.Fmt.{digits}
 use Rattle.task_base.specs.declared.entry.Entry.{Entry}
-use Rattle.task_base.specs.declared.entry.Kind.{Kind}
 use Rattle.task_base.specs.declared.entry.Kind.TheVariants as kinds
+use Rattle.task_base.specs.Entries.{entry_by as by}
 use Rattle.trace_json.specs.Trace.{trace_of}
 use Rattle.trace_json.specs.Text.{trace_text}
-
-abbrev by : ℕ → Kind → Entry
-by seat kind = record { seat = seat; kind = kind }
 
 -- the text of the trace of a log, with all that this takes open
 unfoldable written : List Entry → List ℕ

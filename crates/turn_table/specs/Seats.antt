@@ -5,7 +5,7 @@ use Rattle.task_base.specs.declared.entry.Entry.{Entry}
 use Rattle.hist_model.specs.Allowed.{IsAllowed}
 use Rattle.hist_model.specs.Views.{IsPrefix, own_entries}
 use Rattle.atomic_table.specs.Seated.{TableId}
-use Rattle.turn_table.specs.Shutdowns.{is_shutdown}
+use Rattle.task_base.specs.Entries.{starts_shutdown}
 
 -- which turnstile: its table, the script that it began with, and whether it stands; one that was closed stands no more
 pub record TurnKey : Type 0 where
@@ -48,7 +48,7 @@ pub record EntersOne (basis : Plan) (number : ℕ) (held later : List Entry) : T
 
 -- the entry that the later history has beyond the held one is a shutdown, or is none
 abbrev pub EntersShutdown : Bool → List Entry → List Entry → Type 0
-EntersShutdown shut held later = (e : Entry) → later ≡ held ++ e ∷ [] → is_shutdown e.kind ≡ shut
+EntersShutdown shut held later = (e : Entry) → later ≡ held ++ e ∷ [] → starts_shutdown e.kind ≡ shut
 
 -- these are the seats of the turnstile with this number and those that follow it, in rising order
 abbrev pub Rising : TurnKey → ℕ → List SeatView → Type 0

@@ -11,9 +11,7 @@ pub struct Holding<V> {
 }
 
 impl<V> Model for Holding<V> {
-    ghost use Rattle.std.specs.Prelude.{◌≡◌, ◌^◌, ◌<◌, true, [], ◌∷◌, None, length};
-    ghost use Rattle.hist_model.specs.Legal.{IsLegal};
-    ghost use Rattle.hist_model.specs.Views.{own_entries};
+    ghost use Rattle.std.specs.Prelude.{◌≡◌, ◌<◌, [], ◌∷◌, None};
     ghost use Rattle.turn_table.specs.Seats.{SeatView};
     ghost use Rattle.turn_table.specs.Views.{seat_view, IsHeld};
 

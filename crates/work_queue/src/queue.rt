@@ -1,4 +1,4 @@
-ghost use Rattle.std.specs.Prelude.{◌≡◌, ℕ, ◌<◌, ◌++◌, ◌↔◌, [], length, drop, slice_get, All, IfOk, IfNone, IsNone};
+ghost use Rattle.std.specs.Prelude.{◌≡◌, ℕ, ◌<◌, ◌++◌, ◌↔◌, [], length, slice_get, All, IfOk, IfNone, IsNone};
 ghost use Rattle.std.specs.VecDeque.{deque_capacity};
 ghost use Rattle.work_queue.specs.Lanes.{IsBelow, all_held, comes_before, emptied, lane_of, popped, pushed};
 ghost use Rattle.list_laws.specs.Sorts.{Rises};

@@ -1,7 +1,7 @@
 -- What is known at a desk, by its own entries.
 -- Cited by `enter`, `leave`, `open_three`, `open_two`, `serve_answers_as_its_take`, `shutdown_is_seen_without_the_turn`,
--- `three_desks_by_turns`, `turnstile_of`, `attend`, `no_turn_is_held_at_the_gate`, `nobody_takes_what_is_not_posted`, `Spare`,
--- `desk_calls.rt`, `threads.rt`.
+-- `three_desks_by_turns`, `turnstile_of`, `attend`, `no_turn_is_held_at_the_gate`, `nobody_takes_what_is_not_posted`, `desk_calls.rt`,
+-- `threads.rt`.
 use Rattle.std.proofs.Common.{◌≡◌, ℕ, ◌+◌, ◌≤◌, Bool, true, false, List, [], ◌∷◌, ◌++◌, length, refl, sym, ap, ◌∙◌, append_assoc, arith, Some}
 use Rattle.std.specs.Prelude.{filter}
 use Rattle.list_laws.proofs.Values.{eqb-same, some-injective}
@@ -24,7 +24,7 @@ use Rattle.env_core.specs.Views.{Enters}
 use Rattle.env_crew.specs.Desk.{DeskView, Holds, IsLater, as_seen, mine, view_at, with_own}
 use Rattle.env_crew.specs.Driving.{IsWanted}
 use Rattle.env_crew.specs.Serving.{IsFree}
-use Rattle.env_shared.specs.Sits.{Seated, desk_of}
+use Rattle.env_shared.specs.Sits.{desk_of}
 use Rattle.worked_calls.specs.Known.{CanAsk, IsAtDesk, IsLast, driver_seat, worker_seat}
 
 -- A hold of the turn.
@@ -192,7 +192,3 @@ can_ask key script n s is basis some known = record {
   known = rw (is, basis) known;
   free = rw is (record { worker = some; known = rw basis known; free = refl });
 }
-
--- the shared environment of a seat that was at a desk is the one with this table and this script
-pub same_environment : (key : TurnKey) (s : SeatView) → s.of.table ≡ key.table → s.of.basis ≡ key.basis → key.stands ≡ true → Seated s → s.of ≡ key
-same_environment key s table script stands seated = rw (← table, ← script, ← (seated.stands ∙ sym stands)) refl

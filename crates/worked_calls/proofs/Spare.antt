@@ -8,7 +8,7 @@ use Rattle.task_model.specs.Seats.{holding, running}
 use Rattle.turn_table.specs.Seats.{TurnKey, SeatView}
 use Rattle.env_crew.specs.Driving.{AllFree, SameDesks}
 use Rattle.env_shared.specs.Sits.{Seated, desk_of}
-use Rattle.worked_calls.proofs.Seated.{same_environment}
+use Rattle.env_shared.proofs.Sits.{same_environment}
 use Rattle.worked_calls.specs.Known.{IsOf, worker_seat}
 
 -- it is free at the start

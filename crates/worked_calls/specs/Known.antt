@@ -39,10 +39,6 @@ pub record IsLastMain (view : EnvView) (task : ℕ) : Type 0 where
   pub runs : running (own_entries 0 view.history) 0 ≡ Some (record { task = task; home = 0; found = 0; is_main = true })
   pub all_entered : acts_done (own_entries 0 view.history) 0 ≡ length (filter is_act (steps_of view.script task))
 
--- an entry of the driver
-abbrev pub driven : Kind → Entry
-driven kind = record { seat = 0; kind = kind }
-
 -- the driver's seat, of which so many were drawn
 abbrev pub driver_seat : TurnKey → ℕ → SeatView
 driver_seat key made = record { of = key; number = 0; seen = []; mine = []; made = made; loads = 0; last = 0; turns = 0; told = false }

@@ -1,7 +1,7 @@
 //! Calls on one environment, with the answers that a test wants.
 ghost use Rattle.std.specs.Prelude.{◌≡◌, ℕ, Bool, true, IfOk, None, Some};
 ghost use Rattle.script_model.specs.Laws.Sound.{IsSound};
-ghost use Rattle.env_core.specs.Calls.{IsFreeWorker, IsNextAct, IsWantedNext};
+ghost use Rattle.env_core.specs.Calls.{IsFreeWorker, IsWantedNext};
 ghost use Rattle.env_core.specs.Jobs.{CanEndItem};
 ghost use Rattle.task_base.specs.Plan.{Plan};
 ghost use Rattle.task_base.specs.declared.entry.Kind.TheVariants as kinds;

@@ -1,7 +1,8 @@
 //! Calls at a desk, with the answers that a test wants.
-ghost use Rattle.std.specs.Prelude.{◌≡◌, ◌≤◌, ℕ, [], IfOk};
+ghost use Rattle.std.specs.Prelude.{◌≡◌, ℕ, IfOk};
 ghost use Rattle.script_model.specs.Laws.Sound.{IsSound};
 ghost use Rattle.task_base.specs.declared.entry.Kind.TheVariants as kinds;
+ghost use Rattle.hist_model.specs.Legal.{IsLegal};
 ghost use Rattle.env_core.specs.Calls.{IsNextAct};
 ghost use Rattle.env_crew.specs.Desk.{IsLater, as_seen, mine, with_own};
 ghost use Rattle.env_crew.specs.Serving.{IsFree};
@@ -88,6 +89,7 @@ pub fn log_of_two(
 ) -> Result<Rows<Entry>, AllocError>
     requires first { IsBack shared 0 2 first }
     requires second { IsOf shared 1 second }
+    ensures legal { IfOk result (λ log. IsLegal shared.basis log.items) }
 {
     let rest = Rows::from_vec(vec![in alloc; second]?);
     let (env, _spent) = shared.close(first, rest);
@@ -105,6 +107,7 @@ pub fn log_of_three(
     requires first { IsBack shared 0 3 first }
     requires one { IsOf shared 1 one }
     requires two { IsOf shared 2 two }
+    ensures legal { IfOk result (λ log. IsLegal shared.basis log.items) }
 {
     let rest = Rows::from_vec(vec![in alloc; one, two]?);
     let (env, _spent) = shared.close(first, rest);

@@ -1,7 +1,8 @@
 //! The shutdown front of a turnstile over an environment.
 ghost use Rattle.std.specs.Prelude.{◌≡◌, ◌∷◌, [], true, IfOk};
 ghost use Rattle.task_base.specs.declared.entry.Kind.TheVariants as kinds;
-ghost use Rattle.worked_calls.specs.Known.{IsBack, IsOf, driven, driver_seat, worker_seat};
+ghost use Rattle.task_base.specs.Entries.{entry_by};
+ghost use Rattle.worked_calls.specs.Known.{IsBack, IsOf, driver_seat, worker_seat};
 ghost use Rattle.worked_calls.specs.Plans.{closing_plan};
 
 use crate::bodies::CountedBody;
@@ -49,7 +50,7 @@ fn post<R: Wait + Abort>(rt: &R, turnstile: &EnvTurnstile, first: EnvSeat) -> En
     requires script { turnstile.now.basis ≡ closing_plan }
     requires first { first ≡ driver_seat turnstile.now 2 }
     ensures back { IsBack turnstile.now 0 2 result }
-    ensures own { result.mine ≡ driven (kinds.Post 0 0 5 true) ∷ [] }
+    ensures own { result.mine ≡ entry_by 0 (kinds.Post 0 0 5 true) ∷ [] }
 {
     let (mut env, holding) = turnstile.turn(rt, first);
     assert!(rt; env.post(0, 0, 0, 5));
@@ -60,7 +61,7 @@ fn post<R: Wait + Abort>(rt: &R, turnstile: &EnvTurnstile, first: EnvSeat) -> En
 fn shut_down<R: Wait>(rt: &R, turnstile: &EnvTurnstile, first: EnvSeat) -> EnvSeat
     requires script { turnstile.now.basis ≡ closing_plan }
     requires back { IsBack turnstile.now 0 2 first }
-    requires own { first.mine ≡ driven (kinds.Post 0 0 5 true) ∷ [] }
+    requires own { first.mine ≡ entry_by 0 (kinds.Post 0 0 5 true) ∷ [] }
     ensures { IsBack turnstile.now 0 2 result }
 {
     let (mut env, holding) = turnstile.turn(rt, first);

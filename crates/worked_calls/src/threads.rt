@@ -67,7 +67,7 @@ impl Promise<EnvSeat<CountedBody>> for GivesBack {
 }
 
 /// A worker takes so often, where there is nothing, and is then served once.
-#[tactic(auto, using(crate::proofs::Seated::waits_first, crate::proofs::Seated::waits_on, crate::proofs::Seated::same_environment))]
+#[tactic(auto, using(crate::proofs::Seated::waits_first, crate::proofs::Seated::waits_on, env_shared::proofs::Sits::same_environment))]
 fn attend<R: Wait + Abort>(
     rt: &R,
     shared: &Shared<CountedBody>,

@@ -1,5 +1,5 @@
 -- The script of the tests, and a history of it (this project's own).
-use Rattle.std.specs.Prelude.{◌≡◌, ℕ, true, false, List, [], ◌∷◌}
+use Rattle.std.specs.Prelude.{◌≡◌, true, false, List, [], ◌∷◌}
 use Rattle.task_base.specs.Plan.{Plan}
 use Rattle.task_base.specs.declared.entry.Entry.{Entry}
 use Rattle.task_base.specs.declared.entry.Kind.{Kind}
@@ -9,11 +9,8 @@ use Rattle.task_base.specs.declared.script.RunnerKind.TheVariants.{Sequenced}
 use Rattle.task_base.specs.declared.step.Step.TheVariants as steps
 use Rattle.task_traits.specs.declared.traits.Behaviour.TheVariants.{SkipOnShutdown}
 use Rattle.task_traits.specs.declared.traits.Priority.TheVariants.{UserVisible}
+use Rattle.task_base.specs.Entries.{entry_by as by}
 use Rattle.turn_table.specs.Seats.{TurnKey, SeatView}
-
--- an entry of a seat
-abbrev by : ℕ → Kind → Entry
-by seat kind = record { seat = seat; kind = kind }
 
 -- a script that posts a task and shuts down
 abbrev pub steps_script : Plan

@@ -1,4 +1,4 @@
-ghost use Rattle.std.specs.Prelude.{◌≡◌, ◌<◌, ℕ, Bool, length, not};
+ghost use Rattle.std.specs.Prelude.{◌≡◌, ◌<◌, Bool, length, not};
 ghost use Rattle.env_core.specs.Calls.{CanEndMain, IsWantedNext, MainTakeGives};
 ghost use Rattle.env_core.specs.Ledger.{MayEnter};
 ghost use Rattle.env_core.specs.Views.{Enters};

@@ -27,7 +27,7 @@ use Rattle.task_model.specs.MainQueues.{front_with, order_below, front_of, front
 use Rattle.task_model.specs.MainQueues.{chosen_fronts, immediate_fronts, is_starved, chosen_of, IsOpen}
 use Rattle.list_laws.proofs.Least.{least_from-is}
 use Rattle.list_laws.proofs.Filters.{filter_passes}
-use Rattle.list_laws.proofs.Elements.{AllByRecursion-filter, AllByRecursion-append, AllByRecursion-both, AllByRecursion-always}
+use Rattle.list_laws.proofs.Elements.{AllByRecursion-filter, AllByRecursion-append, AllByRecursion-both, AllByRecursion-always, AllByRecursion-each_list}
 use Rattle.list_laws.proofs.Elements.{AllByRecursion-contains_itself, AllByRecursion-map}
 use Rattle.hist_model.specs.Laws.Choice.{IsWaitingSource, MayBeTaken, IsFront}
 
@@ -104,10 +104,6 @@ best_is script past seat c is = of_least (MayBeTaken script past seat) goes_befo
     (λ x all. record { waits = all.0.0; not_held = not-true (is_held past x.priority) all.0.1; takeable = all.1 })
     (of_filter _ (is_takeable script past seat) (waiting script past) (each_waits script past))) is
 
-flat_map_all : {A B : Type 0} (P : B → Type 0) (f : A → List B) (xs : List A) → ((x : A) → AllByRecursion P (f x)) → AllByRecursion P (flat_map f xs)
-flat_map_all P f [] h = tt
-flat_map_all P f (x ∷ xs) h = AllByRecursion-append P (f x) (flat_map f xs) (h x) (flat_map_all P f xs h)
-
 -- what is known of a front
 front_is : (script : Plan) (past : List Entry) (q : ℕ) (lane : Lane) (f : Front) → front_of script past q lane ≡ Some f → IsFront past f
 unfolding front_of
@@ -150,7 +146,7 @@ IsOpenFront script past f = IsFront past f × IsOpen script past f
 each_open : (script : Plan) (past : List Entry) → AllByRecursion (IsOpenFront script past) (open_fronts script past)
 unfolding open_fronts
 each_open script past = of_filter (IsFront past) (is_open script past) (flat_map (fronts_of script past) (range_with_len 0 (length script.queues)))
-    (flat_map_all (IsFront past) (fronts_of script past) (range_with_len 0 (length script.queues)) (each_front script past))
+    (AllByRecursion-each_list (IsFront past) (fronts_of script past) (range_with_len 0 (length script.queues)) (each_front script past))
 
 -- what is known of the chosen front
 pub chosen_is : (script : Plan) (past : List Entry) (f : Front) → chosen_of script past ≡ Some f → IsFront past f × IsOpen script past f

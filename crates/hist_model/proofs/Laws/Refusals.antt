@@ -16,6 +16,7 @@ use Rattle.task_traits.specs.declared.phase.Phase.TheVariants as phases
 use Rattle.task_traits.specs.declared.traits.Behaviour.{Behaviour}
 use Rattle.task_traits.specs.declared.traits.Behaviour.TheVariants.{ContinueOnShutdown, SkipOnShutdown, BlockShutdown}
 use Rattle.list_laws.proofs.Elements.{push_induction}
+use Rattle.task_base.specs.Entries.{starts_shutdown}
 use Rattle.task_model.specs.Phase.{phase_of, phase_after, started_from, is_started}
 use Rattle.task_model.specs.Refusal.{effective_at, is_refused, behaviour_of_job, is_job_forbidden, closes, is_closed}
 use Rattle.task_model.specs.Blockers.{blockers_of}
@@ -48,17 +49,12 @@ stands_before test wanted only hits log k = (there, back)
     back : StandsBefore log k wanted → list_any (λ e. test e.kind) (take k log) ≡ true
     back s = passed_by (λ (e : Entry). test e.kind) (take k log) s.at (record { seat = s.seat; kind = wanted }) (in_past log s.at k s.earlier ∙ s.is) hits
 
--- the entry starts shutdown
-abbrev starts : Kind → Bool
-starts kinds.Shutdown = true
-starts kind = false
-
 -- the entry says that shutdown is done
 abbrev finishes : Kind → Bool
 finishes kinds.Done = true
 finishes kind = false
 
-only_shutdown : (kind : Kind) → starts kind ≡ true → kind ≡ kinds.Shutdown
+only_shutdown : (kind : Kind) → starts_shutdown kind ≡ true → kind ≡ kinds.Shutdown
 only_shutdown kinds.Shutdown h = refl
 only_shutdown kind h = absurd cc
 
@@ -105,8 +101,8 @@ done_stands = push_induction (λ past. forbids (phase_of past) BlockShutdown ≡
         (by_phase (phase_of past) (list_any (λ e. finishes e.kind) past) e.kind h)
 
 -- skip work is forbidden exactly where a start of shutdown stands in the past: a done stands only behind one
-shutdown_stands : (script : Plan) (past : List Entry) → IsLegal script past → forbids (phase_of past) SkipOnShutdown ≡ list_any (λ e. starts e.kind) past
-shutdown_stands script = entry_induction script (λ past. forbids (phase_of past) SkipOnShutdown ≡ list_any (λ e. starts e.kind) past) start step
+shutdown_stands : (script : Plan) (past : List Entry) → IsLegal script past → forbids (phase_of past) SkipOnShutdown ≡ list_any (λ e. starts_shutdown e.kind) past
+shutdown_stands script = entry_induction script (λ past. forbids (phase_of past) SkipOnShutdown ≡ list_any (λ e. starts_shutdown e.kind) past) start step
   where
     start : forbids (phase_of []) SkipOnShutdown ≡ false
     start = ap (λ now. forbids now SkipOnShutdown) begins
@@ -123,16 +119,16 @@ shutdown_stands script = entry_induction script (λ past. forbids (phase_of past
 
     by_past : (past : List Entry) (seat : ℕ) (before : Bool) (kind : Kind) → may_come script past seat kind ≡ true
         → forbids (phase_of past) SkipOnShutdown ≡ before
-        → forbids (phase_after (phase_of past) kind) SkipOnShutdown ≡ (before || (starts kind || false))
+        → forbids (phase_after (phase_of past) kind) SkipOnShutdown ≡ (before || (starts_shutdown kind || false))
     by_past past seat before kinds.Shutdown may h = begun (phase_of past) ∙ sym (or-true before)
     by_past past seat before kinds.Done may h = sym (of_started (phase_of past) (done_behind script past seat may)) ∙ h ∙ sym (or-false before)
     by_past past seat before kind may h = h ∙ sym (or-false before)
 
     step : (past : List Entry) (e : Entry) → e.seat ≤ script.workers → may_come script past e.seat e.kind ≡ true
-        → forbids (phase_of past) SkipOnShutdown ≡ list_any (λ e. starts e.kind) past
-        → forbids (phase_of (past ++ e ∷ [])) SkipOnShutdown ≡ list_any (λ e. starts e.kind) (past ++ e ∷ [])
-    step past e known may h = rw (phase_of_push past e, list_any-append (λ (x : Entry). starts x.kind) past (e ∷ []))
-        (by_past past e.seat (list_any (λ e. starts e.kind) past) e.kind may h)
+        → forbids (phase_of past) SkipOnShutdown ≡ list_any (λ e. starts_shutdown e.kind) past
+        → forbids (phase_of (past ++ e ∷ [])) SkipOnShutdown ≡ list_any (λ e. starts_shutdown e.kind) (past ++ e ∷ [])
+    step past e known may h = rw (phase_of_push past e, list_any-append (λ (x : Entry). starts_shutdown x.kind) past (e ∷ []))
+        (by_past past e.seat (list_any (λ e. starts_shutdown e.kind) past) e.kind may h)
 
 -- continue work is forbidden where skip work is
 continue_as_skip : (now : Phase) → forbids now ContinueOnShutdown ≡ forbids now SkipOnShutdown
@@ -154,9 +150,9 @@ from_same is both = (λ h. both.0 (sym is ∙ h), λ p. is ∙ both.1 p)
 pub forbidden_from : (script : Plan) (log : List Entry) (k : ℕ) (b : Behaviour) → IsLegal script (take k log)
     → (forbids (phase_of (take k log)) b ≡ true) ↔ StandsBefore log k (refused_from b)
 forbidden_from script log k SkipOnShutdown legal = from_same (shutdown_stands script (take k log) legal)
-    (stands_before starts kinds.Shutdown only_shutdown refl log k)
+    (stands_before starts_shutdown kinds.Shutdown only_shutdown refl log k)
 forbidden_from script log k ContinueOnShutdown legal = from_same (continue_as_skip (phase_of (take k log)) ∙ shutdown_stands script (take k log) legal)
-    (stands_before starts kinds.Shutdown only_shutdown refl log k)
+    (stands_before starts_shutdown kinds.Shutdown only_shutdown refl log k)
 forbidden_from script log k BlockShutdown legal = from_same (done_stands (take k log)) (stands_before finishes kinds.Done only_done refl log k)
 
 -- a queue is closed at a place exactly where its close stands before

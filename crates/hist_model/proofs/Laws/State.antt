@@ -25,6 +25,7 @@ use Rattle.hist_model.proofs.Laws.Choice.{found}
 use Rattle.hist_model.proofs.Laws.Since.{taking, running_since}
 use Rattle.hist_model.proofs.Laws.Starts.{tasks_start_at_most_once}
 use Rattle.hist_model.proofs.Laws.Takes.{take_is, main_take_is}
+use Rattle.hist_model.specs.Script.{is_main_end}
 
 -- each place of a log has an entry
 entry_at : (log : List Entry) (k : ℕ) → suc k ≤ length log → (e : Entry) × (slice_get log k ≡ Some e)
@@ -130,10 +131,6 @@ no_main_cell queue = refl
 abbrev is_end : Kind → Bool
 is_end (kinds.End task left) = true
 is_end kind = false
-
-abbrev is_main_end : Kind → Bool
-is_main_end (kinds.MainEnd task left) = true
-is_main_end kind = false
 
 -- the task of an end
 abbrev ended_task : Kind → ℕ

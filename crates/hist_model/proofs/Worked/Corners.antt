@@ -6,7 +6,8 @@ use Rattle.task_base.specs.declared.entry.JobReply.TheVariants as replies
 use Rattle.task_base.specs.declared.entry.Kind.TheVariants as kinds
 use Rattle.task_base.specs.declared.script.FenceAt.TheVariants.{Start}
 use Rattle.task_base.specs.declared.step.Scope.TheVariants.{Will}
-use Rattle.hist_model.proofs.Worked.Rows.{judge, read, by}
+use Rattle.task_base.specs.Entries.{entry_by as by}
+use Rattle.hist_model.proofs.Worked.Rows.{judge, read}
 
 -- what is judged of a log, for the script that the text is: whether it is legal, whether it is whole, and its first place
 -- that is not allowed
@@ -18,7 +19,7 @@ judged text log = elim (read text) as (λ _. Option (Bool × Bool × Option ℕ)
 abbrev one_task : List ℕ
 one_task = codes "workers 1\nrunner 0 sequenced user_visible skip\ntask 0 add 5\npost 0 0 0\ntick 1\n"
 
-abbrev posted_and_taken : List Entry
+abbrev pub posted_and_taken : List Entry
 posted_and_taken = by 0 (kinds.Post 0 0 0 true) ∷ by 1 (kinds.Take 0 0 0) ∷ []
 
 -- the script is finished, and the task still runs

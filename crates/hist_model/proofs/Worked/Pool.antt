@@ -10,10 +10,11 @@ use Rattle.task_base.specs.declared.step.Step.TheVariants as steps
 use Rattle.task_traits.specs.declared.traits.Behaviour.TheVariants.{SkipOnShutdown}
 use Rattle.task_traits.specs.declared.traits.Priority.TheVariants.{BestEffort, UserVisible, UserBlocking}
 use Rattle.std.specs.Prelude.{◌++◌, codes, Some, None}
+use Rattle.task_base.specs.Entries.{entry_by as by}
 use Rattle.hist_model.specs.Legal.{first_illegal}
-use Rattle.hist_model.proofs.Worked.Rows.{judge, read, written, Worked, worked, AreRight, runner_of, by, plain}
+use Rattle.hist_model.proofs.Worked.Rows.{judge, read, written, Worked, worked, AreRight, runner_of, plain}
 
-abbrev first_run_script : Plan
+abbrev pub first_run_script : Plan
 first_run_script = record plain {
   runners = runner_of Sequenced UserVisible SkipOnShutdown false ∷ [];
   tasks = (steps.Add 5 ∷ []) ∷ [];

@@ -6,7 +6,8 @@ use Rattle.task_base.specs.declared.entry.Kind.TheVariants as kinds
 use Rattle.task_base.specs.declared.policy.Policy.TheVariants as policies
 use Rattle.task_base.specs.declared.step.Scope.TheVariants.{Will}
 use Rattle.task_traits.specs.declared.traits.Priority.TheVariants.{BestEffort, UserVisible, UserBlocking}
-use Rattle.hist_model.proofs.Worked.Rows.{judge, read, by}
+use Rattle.task_base.specs.Entries.{entry_by as by}
+use Rattle.hist_model.proofs.Worked.Rows.{judge, read}
 use Rattle.hist_model.proofs.Worked.Corners.{judged}
 
 -- a runner that waits is given a higher priority, and goes before the other

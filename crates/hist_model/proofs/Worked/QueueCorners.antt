@@ -3,7 +3,8 @@ use Rattle.std.proofs.Common.{◌≡◌, true, false, [], ◌∷◌, refl}
 use Rattle.std.specs.Prelude.{◌++◌, codes, Some, None}
 use Rattle.task_base.specs.declared.entry.Kind.TheVariants as kinds
 use Rattle.task_base.specs.declared.script.FenceAt.TheVariants.{Now, Start}
-use Rattle.hist_model.proofs.Worked.Rows.{judge, read, by}
+use Rattle.task_base.specs.Entries.{entry_by as by}
+use Rattle.hist_model.proofs.Worked.Rows.{judge, read}
 use Rattle.hist_model.proofs.Worked.Corners.{judged}
 
 fence_of_another_queue : judged (codes "queue 0 0 0\nqueue 1 0 0\ntask 0\nfence 0 now\nmain 0 1 0\npump 1\n")

@@ -7,7 +7,8 @@ use Rattle.task_base.specs.declared.script.Action.TheVariants as actions
 use Rattle.task_base.specs.declared.script.FenceAt.TheVariants.{Now, Start}
 use Rattle.task_base.specs.declared.step.Step.TheVariants as steps
 use Rattle.std.specs.Prelude.{◌++◌, codes}
-use Rattle.hist_model.proofs.Worked.Rows.{judge, read, written, Worked, worked, AreRight, queue_of, by, plain}
+use Rattle.task_base.specs.Entries.{entry_by as by}
+use Rattle.hist_model.proofs.Worked.Rows.{judge, read, written, Worked, worked, AreRight, queue_of, plain}
 
 abbrev fence_now_script : Plan
 fence_now_script = record plain {
@@ -67,7 +68,7 @@ fence_replaced = worked fence_replaced_script fence_replaced_log
     (codes "0 0 main 0 0 0 ok\n1 0 fence 0 start\n2 0 main 1 0 0 ok\n3 0 fence 0 now\n4 0 main 2 0 0 ok\n5 0 maintake 0 0 0\n"
     ++ codes "6 0 mainend 0 1\n7 0 maintake 1 0 1\n8 0 mainend 1 3\n9 0 mainnone\n")
 
-abbrev starvation_bound_script : Plan
+abbrev pub starvation_bound_script : Plan
 starvation_bound_script = record plain {
   workers = 2;
   queues = queue_of 3 0 ∷ [];

@@ -11,17 +11,12 @@ use Rattle.task_base.specs.declared.step.Scope.TheVariants.{May, Will}
 use Rattle.task_base.specs.declared.step.Step.TheVariants as steps
 use Rattle.task_traits.specs.declared.traits.Behaviour.TheVariants.{SkipOnShutdown, BlockShutdown}
 use Rattle.task_traits.specs.declared.traits.Priority.TheVariants.{BestEffort, UserVisible, UserBlocking}
-use Rattle.hist_model.proofs.Worked.Rows.{judge, AreRefused, runner_of, queue_of, job_of, by, at, plain}
+use Rattle.task_base.specs.Entries.{entry_by as by}
+use Rattle.hist_model.proofs.Worked.Rows.{judge, AreRefused, runner_of, queue_of, job_of, at, plain}
+use Rattle.hist_model.proofs.Worked.Queues.{starvation_bound_script}
+use Rattle.hist_model.proofs.Worked.Pool.{first_run_script}
 
--- one sequenced runner, and one task on it
-abbrev one_task : Plan
-one_task = record plain {
-  runners = runner_of Sequenced UserVisible SkipOnShutdown false ∷ [];
-  tasks = (steps.Add 5 ∷ []) ∷ [];
-  actions = actions.Post 0 0 0 ∷ actions.Flush ∷ [];
-}
-
-one_task_refuses : AreRefused one_task (
+first_run_refuses : AreRefused first_run_script (
     -- the task was not posted yet
     at 0 (by 1 (kinds.Take 0 0 0) ∷ []) ∷
     -- the driver posts it, and nobody else
@@ -48,7 +43,7 @@ one_task_refuses : AreRefused one_task (
     at 3 (by 0 (kinds.Post 0 0 0 true) ∷ by 1 (kinds.Take 0 0 0) ∷ by 1 (kinds.End 0 5) ∷ by 1 (kinds.End 0 5) ∷ []) ∷
     [])
 unfolding judge
-one_task_refuses = refl
+first_run_refuses = refl
 
 -- a script that waits for nothing
 abbrev unfinished : Plan
@@ -210,16 +205,7 @@ queued_refuses : AreRefused queued (
 unfolding judge
 queued_refuses = refl
 
--- four delayed main tasks and an immediate one
-abbrev laned : Plan
-laned = record plain {
-  workers = 2;
-  queues = queue_of 3 0 ∷ [];
-  tasks = (steps.Add 1 ∷ []) ∷ (steps.Add 1 ∷ []) ∷ (steps.Add 1 ∷ []) ∷ (steps.Add 1 ∷ []) ∷ (steps.Add 1 ∷ []) ∷ [];
-  actions = actions.Main 0 0 1 ∷ actions.Main 1 0 1 ∷ actions.Main 2 0 1 ∷ actions.Main 3 0 1 ∷ actions.Tick 1 ∷ actions.Main 4 0 0 ∷ actions.Pump 5 ∷ [];
-}
-
-laned_refuses : AreRefused laned (
+starvation_bound_refuses : AreRefused starvation_bound_script (
     -- three delayed tasks went before
     at 12 (by 0 (kinds.Main 0 0 1 true) ∷ by 0 (kinds.Main 1 0 1 true) ∷ by 0 (kinds.Main 2 0 1 true) ∷ by 0 (kinds.Main 3 0 1 true) ∷ by 0 (kinds.Tick 10) ∷
     by 0 (kinds.Main 4 0 0 true) ∷ by 0 (kinds.MainTake 0 0 0) ∷ by 0 (kinds.MainEnd 0 1) ∷ by 0 (kinds.MainTake 1 0 1) ∷ by 0 (kinds.MainEnd 1 2) ∷
@@ -229,7 +215,7 @@ laned_refuses : AreRefused laned (
     by 0 (kinds.Main 4 0 0 true) ∷ by 0 (kinds.MainTake 4 0 0) ∷ []) ∷
     [])
 unfolding judge
-laned_refuses = refl
+starvation_bound_refuses = refl
 
 -- two main queues of different classes
 abbrev ranked : Plan

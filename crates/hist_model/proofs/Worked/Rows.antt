@@ -3,7 +3,6 @@ use Rattle.std.proofs.Common.{◌≡◌, ℕ, Bool, true, List, []}
 use Rattle.std.specs.Prelude.{Option, Some, None, Result, Ok, map}
 use Rattle.task_base.specs.Plan.{Plan, JobPlan}
 use Rattle.task_base.specs.declared.entry.Entry.{Entry}
-use Rattle.task_base.specs.declared.entry.Kind.{Kind}
 use Rattle.task_base.specs.declared.script.MainQueue.{MainQueue}
 use Rattle.task_base.specs.declared.script.Runner.{Runner}
 use Rattle.task_base.specs.declared.script.RunnerKind.{RunnerKind}
@@ -108,9 +107,6 @@ queue_of class voters = record { class = class; voters = voters }
 
 abbrev pub job_of : Priority → Behaviour → ℕ → ℕ → List Step → JobPlan
 job_of priority behaviour items cap steps = record { priority = priority; behaviour = behaviour; items = items; cap = cap; steps = steps }
-
-abbrev pub by : ℕ → Kind → Entry
-by seat kind = record { seat = seat; kind = kind }
 
 -- a history, and the least place in it that is not allowed
 pub record Refused : Type 0 where

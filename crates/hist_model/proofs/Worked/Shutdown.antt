@@ -11,8 +11,9 @@ use Rattle.task_base.specs.declared.step.Step.TheVariants as steps
 use Rattle.task_traits.specs.declared.traits.Behaviour.TheVariants.{SkipOnShutdown, BlockShutdown}
 use Rattle.task_traits.specs.declared.traits.Priority.TheVariants.{UserVisible}
 use Rattle.std.specs.Prelude.{◌++◌, codes, Some}
+use Rattle.task_base.specs.Entries.{entry_by as by}
 use Rattle.hist_model.specs.Legal.{first_illegal}
-use Rattle.hist_model.proofs.Worked.Rows.{judge, read, written, Worked, worked, AreRight, runner_of, by, plain}
+use Rattle.hist_model.proofs.Worked.Rows.{judge, read, written, Worked, worked, AreRight, runner_of, plain}
 
 abbrev shutdown_skips_and_blocks_script : Plan
 shutdown_skips_and_blocks_script = record plain {

@@ -5,7 +5,8 @@ use Rattle.task_base.specs.declared.entry.Entry.{Entry}
 use Rattle.task_base.specs.declared.entry.JobReply.TheVariants as replies
 use Rattle.task_base.specs.declared.entry.Kind.TheVariants as kinds
 use Rattle.task_base.specs.declared.script.FenceAt.TheVariants.{Now}
-use Rattle.hist_model.proofs.Worked.Rows.{judge, read, by}
+use Rattle.task_base.specs.Entries.{entry_by as by}
+use Rattle.hist_model.proofs.Worked.Rows.{judge, read}
 use Rattle.hist_model.proofs.Worked.Corners.{judged}
 
 abbrev done_while_a_task_runs : List Entry

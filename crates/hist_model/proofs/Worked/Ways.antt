@@ -12,6 +12,7 @@ use Rattle.task_base.specs.declared.policy.Policy.TheVariants as policies
 use Rattle.task_base.specs.declared.script.FenceAt.TheVariants.{Now, Start}
 use Rattle.task_base.specs.declared.step.Scope.TheVariants.{May, Will}
 use Rattle.list_laws.specs.Lists.{count}
+use Rattle.task_base.specs.Entries.{entry_by as by}
 use Rattle.task_model.specs.Past.{fold_past}
 use Rattle.task_model.specs.Time.{now_of}
 use Rattle.task_model.specs.Posts.{posts, is_ended}
@@ -19,7 +20,7 @@ use Rattle.task_model.specs.Policies.{policy_of}
 use Rattle.task_model.specs.Refusal.{effective_at}
 use Rattle.task_model.specs.Capacity.{priority_of}
 use Rattle.task_model.specs.Blockers.{is_block}
-use Rattle.hist_model.proofs.Worked.Rows.{judge, read, by}
+use Rattle.hist_model.proofs.Worked.Rows.{judge, read}
 
 -- ---- the ways on from a history
 

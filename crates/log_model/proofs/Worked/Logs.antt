@@ -10,11 +10,9 @@ use Rattle.task_base.specs.declared.entry.JobReply.TheVariants as replies
 use Rattle.task_base.specs.declared.policy.Policy.TheVariants.{All, Foreground, Nothing}
 use Rattle.task_base.specs.declared.script.FenceAt.TheVariants.{Now, Start}
 use Rattle.task_base.specs.declared.step.Scope.TheVariants.{May, Will}
+use Rattle.task_base.specs.Entries.{entry_by}
 use Rattle.log_model.specs.declared.version.Version.TheVariants.{One, Two}
 use Rattle.log_model.specs.LogText.{line_of, log_lines, log_text, version_of, json_of, log_json, IsLogLine}
-
-abbrev entry_of : ℕ → Kind → Entry
-entry_of seat kind = record { seat = seat; kind = kind }
 
 -- a kind, with its line and its JSON where seat 3 makes it at place 12
 record Row : Type 0 where
@@ -70,18 +68,18 @@ rows =
     ∷ row kinds.Done (codes "12 3 done\n") (codes "[12,3,\"done\"]")
     ∷ []
 
-each_line : map (λ r. line_of 12 (entry_of 3 r.kind)) rows ≡ map (λ r. r.line) rows
+each_line : map (λ r. line_of 12 (entry_by 3 r.kind)) rows ≡ map (λ r. r.line) rows
 unfolding digits
 each_line = refl
 
-each_json : map (λ r. json_of 12 (entry_of 3 r.kind)) rows ≡ map (λ r. r.json) rows
+each_json : map (λ r. json_of 12 (entry_by 3 r.kind)) rows ≡ map (λ r. r.json) rows
 unfolding digits
 each_json = refl
 
 -- ---- one task on one runner: posted by seat 0, run by seat 1
 
 abbrev first_run : List Entry
-first_run = entry_of 0 (kinds.Post 0 0 0 true) ∷ entry_of 1 (kinds.Take 0 0 0) ∷ entry_of 1 (kinds.End 0 5) ∷ entry_of 0 kinds.Idle ∷ []
+first_run = entry_by 0 (kinds.Post 0 0 0 true) ∷ entry_by 1 (kinds.Take 0 0 0) ∷ entry_by 1 (kinds.End 0 5) ∷ entry_by 0 kinds.Idle ∷ []
 
 first_run_lines : log_lines first_run ≡ codes "0 0 post 0 0 0 ok\n1 1 take 0 0 0\n2 1 end 0 5\n3 0 idle\n"
 unfolding log_lines digits
@@ -97,7 +95,7 @@ first_run_json = refl
 
 -- ---- the largest numbers of a job's step
 
-last_step : log_lines (entry_of 4294967295 (kinds.JobStep 4294967295 4294967295 4294967295 18446744073709551615 (Some 4294967295)) ∷ [])
+last_step : log_lines (entry_by 4294967295 (kinds.JobStep 4294967295 4294967295 4294967295 18446744073709551615 (Some 4294967295)) ∷ [])
     ≡ codes "0 4294967295 jobstep 4294967295 4294967295 4294967295 18446744073709551615 4294967295\n"
 unfolding log_lines digits
 last_step = refl
@@ -105,7 +103,7 @@ last_step = refl
 -- ---- ten entries: the number of the last line has two digits
 
 abbrev ten_entries : List Entry
-ten_entries = map (λ seat. entry_of seat kinds.Idle) (0 ∷ 1 ∷ 2 ∷ 3 ∷ 4 ∷ 5 ∷ 6 ∷ 7 ∷ 8 ∷ 9 ∷ [])
+ten_entries = map (λ seat. entry_by seat kinds.Idle) (0 ∷ 1 ∷ 2 ∷ 3 ∷ 4 ∷ 5 ∷ 6 ∷ 7 ∷ 8 ∷ 9 ∷ [])
 
 ten_entries_text : log_text ten_entries
     ≡ codes "taskenv log 2\n0 0 idle\n1 1 idle\n2 2 idle\n3 3 idle\n4 4 idle\n5 5 idle\n6 6 idle\n7 7 idle\n8 8 idle\n9 9 idle\ntotal 10\n"
@@ -139,15 +137,15 @@ one_of_others = refl
 
 -- ---- a class of 8 bits is a log line, a larger one is none
 
-small_class : IsLogLine 0 (codes "0 0 rank 0 255\n") (entry_of 0 (kinds.Rank 0 255))
+small_class : IsLogLine 0 (codes "0 0 rank 0 255\n") (entry_by 0 (kinds.Rank 0 255))
 unfolding digits
 small_class = record { same = refl; fits = record { seat = omega arith; kind = (omega arith, omega arith) } }
 
-no_large_class : (line : List ℕ) → IsLogLine 0 line (entry_of 0 (kinds.Rank 0 256)) → ⊥
+no_large_class : (line : List ℕ) → IsLogLine 0 line (entry_by 0 (kinds.Rank 0 256)) → ⊥
 no_large_class line h = omega (arith, h.fits.kind.1)
 
 -- a place has no zeros in front
-zeros_are_no_line : IsLogLine 0 (codes "00 0 idle\n") (entry_of 0 kinds.Idle) → ⊥
+zeros_are_no_line : IsLogLine 0 (codes "00 0 idle\n") (entry_by 0 kinds.Idle) → ⊥
 unfolding digits
 zeros_are_no_line h = differ h.same
   where

@@ -3,7 +3,7 @@
 use Rattle.list_laws.proofs.Rises.{rises_front}
 use Rattle.delayed_manager.specs.Delayed.{Waiting, with_held}
 use Rattle.list_laws.proofs.Elements.{AllByRecursion-append, AllByRecursion-at, AllByRecursion-both, AllByRecursion-contains_itself, AllByRecursion-filter}
-use Rattle.list_laws.proofs.Filters.{filter_all, filter_passes, filter_front}
+use Rattle.list_laws.proofs.Filters.{filter_passes, filter_front}
 use Rattle.list_laws.proofs.Sorts.{AllByRecursion-sort_by}
 use Rattle.list_laws.specs.Sorts.{Rises}
 use Rattle.pool_core.proofs.Accepted.{is_declared, posts_fit}
@@ -25,7 +25,6 @@ use Rattle.std.proofs.Common.{Bool, List, None, Option, Some, [], ap, append_ass
 use Rattle.std.proofs.Common.{map, refl, subst, suc, sym, true, ℕ, ◌++◌, ◌+◌, ◌<◌, ◌^◌, ◌∙◌, ◌∷◌, ◌≡◌, ◌≤◌}
 use Rattle.std.proofs.lemmas.Bool.{and_from, and_right, false_from_ne_true, true≢false}
 use Rattle.std.proofs.lemmas.List.{map-append}
-use Rattle.std.proofs.lemmas.List.Elements.{filter-append}
 use Rattle.std.specs.List.{AllByRecursion}
 use Rattle.std.specs.Option.{option_map}
 use Rattle.std.specs.Prelude.{All, Contains, filter, is_none, is_some, nat_le, not, ◌&&◌}

@@ -14,7 +14,7 @@ use Rattle.pool_core.proofs.Lists.{same_inside}
 use Rattle.pool_core.proofs.Pasts.{past_at_take}
 use Rattle.pool_core.proofs.Tables.{postings_kept, priorities_kept, seats_at_take}
 use Rattle.pool_core.proofs.Tracking.{tracked_at_take}
-use Rattle.pool_core.specs.Calls.{CanTake, IsChosen, next}
+use Rattle.pool_core.specs.Calls.{CanTake, IsChosen}
 use Rattle.pool_core.specs.JobCalls.{IsJobChosen}
 use Rattle.pool_core.specs.Choice.{IsBestOf, IsOffer}
 use Rattle.pool_core.specs.Groups.{work_of}
@@ -50,6 +50,7 @@ use Rattle.task_sequence.specs.Sequences.{Held, behind_first, given_of, sequence
 use Rattle.task_tracker.specs.Tracked.{skip_share}
 use Rattle.task_traits.specs.declared.traits.Priority.{Priority}
 use Rattle.task_base.specs.declared.entry.Kind.TheVariants as kinds
+use Rattle.task_base.specs.Entries.{next}
 
 -- What is chosen.
 

@@ -9,7 +9,6 @@ use Rattle.list_laws.proofs.Tests.{list_all_always, list_any_never, list_any_non
 use Rattle.list_laws.proofs.Values.{eqb-same, some-injective}
 use Rattle.list_laws.specs.Lists.{count}
 use Rattle.job_source.specs.declared.source.TheConstants.{MOST_INSIDE}
-use Rattle.pool_core.specs.Calls.{next}
 use Rattle.pool_core.specs.Holdings.{AreInside, held_in, item_if, item_under}
 use Rattle.pool_laws.proofs.Seats.Running.{holding_here, holding_other, holding_same}
 use Rattle.pool_laws.specs.Seats.{holds_job, moves_holding}
@@ -27,6 +26,7 @@ use Rattle.std.specs.Prelude.{filter, is_some, map, not, replicate, slice_get, s
 use Rattle.task_base.specs.Plan.{Plan}
 use Rattle.task_base.specs.declared.entry.Entry.{Entry}
 use Rattle.task_base.specs.declared.entry.Kind.TheVariants as kinds
+use Rattle.task_base.specs.Entries.{next}
 use Rattle.task_model.specs.Jobs.{holds_id, is_free_id}
 use Rattle.task_model.specs.Seats.{Holding, all_seats, holding, holding_after, inside}
 

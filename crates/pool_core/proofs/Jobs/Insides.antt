@@ -9,12 +9,12 @@ use Rattle.std.proofs.Common.{Bool, List, None, Option, Some, [], ap, arith, eqb
 use Rattle.std.proofs.lemmas.Bool.{eqb-true, false≢true, ne_eqb, true≢false}
 use Rattle.std.proofs.lemmas.Option.{none-some}
 use Rattle.std.specs.Prelude.{not}
-use Rattle.pool_core.specs.Calls.{next}
 use Rattle.job_source.specs.declared.source.TheConstants.{MOST_INSIDE}
 use Rattle.list_laws.proofs.Ranges.{range_all_at}
 use Rattle.task_base.specs.declared.entry.Kind.TheVariants as kinds
 use Rattle.task_base.specs.Plan.{Plan}
 use Rattle.task_base.specs.declared.entry.Entry.{Entry}
+use Rattle.task_base.specs.Entries.{next}
 use Rattle.task_model.proofs.Growth.{job_post_of_push}
 use Rattle.task_model.specs.Jobs.{JobPosted, holds_id, is_free_id, is_job_accepted, job_post_after, job_post_of}
 use Rattle.task_model.specs.Seats.{Holding, holding, holding_after, running, running_after}

@@ -27,7 +27,6 @@ use Rattle.pool_core.proofs.Jobs.JobTables.{holders_kept, jobs_at_post, jobs_at_
 use Rattle.pool_core.proofs.LineGrowth.{lines_kept}
 use Rattle.pool_core.proofs.Pasts.{past_at_job_post, past_at_job_take}
 use Rattle.pool_core.proofs.Tables.{postings_kept, priorities_kept, seats_kept}
-use Rattle.pool_core.specs.Calls.{next}
 use Rattle.pool_core.specs.Groups.{AreGroups, work_of}
 use Rattle.pool_core.specs.Jobs.{AreHolders, AreJobs, job_as}
 use Rattle.pool_core.specs.Pasts.{IsPoolPast}
@@ -55,6 +54,7 @@ use Rattle.std.specs.declared.alloc.Global.{Global}
 use Rattle.task_base.specs.Plan.{Plan}
 use Rattle.task_base.specs.declared.entry.Entry.{Entry}
 use Rattle.task_base.specs.declared.entry.Kind.TheVariants as kinds
+use Rattle.task_base.specs.Entries.{next}
 use Rattle.task_model.specs.Capacity.{priority_of_job}
 use Rattle.task_model.specs.Keys.{arrivals}
 use Rattle.task_model.specs.Refusal.{behaviour_of_job, is_job_forbidden}

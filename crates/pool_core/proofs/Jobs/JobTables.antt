@@ -5,7 +5,6 @@ use Rattle.job_source.specs.Job.{with_done, with_entered}
 use Rattle.list_laws.proofs.Places.{slice_get-replicate, slice_get-set_other, slice_get-set_same}
 use Rattle.list_laws.proofs.Values.{eqb-same}
 use Rattle.pool_core.proofs.Jobs.HeldItems.{held_at_other_step, held_at_other_take, held_at_step, held_at_take, held_kept}
-use Rattle.pool_core.specs.Calls.{next}
 use Rattle.pool_core.specs.Holdings.{AreInside, held_in}
 use Rattle.pool_core.specs.JobCalls.{after_job_cancel, after_job_post, after_step}
 use Rattle.pool_core.specs.Jobs.{AreHolders, AreJobs, holder_as, job_as, view_of}
@@ -26,6 +25,7 @@ use Rattle.std.specs.Prelude.{replicate, slice_get, slice_set, ◌==◌}
 use Rattle.task_base.specs.Plan.{Plan}
 use Rattle.task_base.specs.declared.entry.Entry.{Entry}
 use Rattle.task_base.specs.declared.entry.Kind.TheVariants as kinds
+use Rattle.task_base.specs.Entries.{next}
 use Rattle.task_model.proofs.Growth.{claimed_push, done_push, is_cancelled_push, job_post_of_push, job_sum_push}
 use Rattle.task_model.specs.Jobs.{claimed, done, is_cancelled, job_post_of}
 use Rattle.task_model.specs.Seats.{Holding, holding, holding_after}

@@ -5,7 +5,7 @@ use Rattle.list_laws.proofs.Values.{eqb-same}
 use Rattle.pool_core.proofs.Works.GroupWorks.{group_kept, groups_moved, groups_moved_here, moment_of, no_work}
 use Rattle.pool_core.proofs.Works.GroupWorks.{not_same_task, other_kept, part, runner_holds_nothing}
 use Rattle.pool_core.proofs.Works.GroupWorks.{seat_there, still_kept, task_of_pool, with_seat, work_of_item, work_of_task, works_here}
-use Rattle.pool_core.specs.Calls.{after_end, after_enter, after_leave, after_tick, next}
+use Rattle.pool_core.specs.Calls.{after_end, after_enter, after_leave, after_tick}
 use Rattle.pool_core.specs.Groups.{AreGroups, StandsForGroup, empty_group, empty_groups, group_at, is_background}
 use Rattle.pool_core.specs.Groups.{opened_as, pool_work, ticked, with_group_at, work_of}
 use Rattle.pool_core.specs.Others.{group_parts}
@@ -34,6 +34,7 @@ use Rattle.task_model.specs.Time.{now_of}
 use Rattle.thread_group.specs.Group.{GroupWork, with_scope, with_work}
 use Rattle.thread_group.specs.declared.work.OpenScope as scopes
 use Rattle.task_base.specs.declared.entry.Kind.TheVariants as kinds
+use Rattle.task_base.specs.Entries.{next}
 use Rattle.task_model.specs.Capacity as capacities
 use Rattle.pool_laws.specs.Moves.{Moment, Scopes, Items, moves}
 use Rattle.pool_laws.proofs.Moves.{moves_fewer, same_moment, no_scope}

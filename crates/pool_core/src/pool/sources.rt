@@ -1,12 +1,11 @@
 ghost use Rattle.std.specs.Prelude.{◌≡◌, ◌<◌, ◌+◌, ◌^◌, List, length, Some, None, is_some};
-ghost use Rattle.list_laws.specs.Lists.{keep};
 ghost use Rattle.task_base.specs.Plan.{Plan};
 ghost use Rattle.task_base.specs.declared.entry.Entry.{Entry};
 ghost use Rattle.task_model.specs.Sources.{best_of};
 ghost use Rattle.task_sequence.specs.Sequences.{sequence_at};
 ghost use Rattle.pool_core.specs.Calls.{KnowsSeat, is_any_ready, is_own};
 ghost use Rattle.pool_core.specs.Choice.{HasOffer, IsBestOf, IsOffer, IsOffered, better_of, is_open, is_single};
-ghost use Rattle.pool_core.specs.Refreshes.{HavePlaces, all_refreshed, is_meant, posted_at};
+ghost use Rattle.pool_core.specs.Refreshes.{HavePlaces, all_refreshed, posted_at};
 ghost use Rattle.pool_core.specs.StandsFor.{StandsFor};
 ghost use Rattle.pool_core.specs.State.{HasPlace, given_rank, refreshed, rank_of_head, sequence_by};
 

@@ -27,6 +27,7 @@ use Rattle.list_laws.specs.Lists.{Ranks}
 use Rattle.list_laws.proofs.Ranks.{ranks_by, ranks_then_by, by_same, by_less}
 use Rattle.list_laws.proofs.Members.{same_members-refl, same_members-trans, same_members-append, same_members-map, same_members-either}
 use Rattle.list_laws.proofs.Sorts.{rises-sort_by, rises-append, rises-map, differ-filter, differ-push, least_is_first, same_members-sort_by}
+use Rattle.task_base.specs.Entries.{entry_by as by}
 use Rattle.task_model.proofs.Growth.{posts_push, main_posts_push, arrivals_push}
 use Rattle.pool_laws.proofs.Choice.Least.{ranks_key}
 use Rattle.pool_laws.proofs.Keys.Ready.{ready_same, ready_at_post, ready_at_delayed_post, ready_at_tick, posts_within, main_posts_within}
@@ -259,23 +260,20 @@ head_is_first_arrival script past s same = least_is_first ready_below (λ r. is_
 
 -- Two short histories, by computing.
 
-did : Kind → Entry
-did kind = record { seat = 0; kind = kind }
-
 rows : List Ready → List (ℕ × ℕ × ℕ × ℕ)
 rows rs = map (λ r. (r.posted.task, r.key.place, r.key.ripe, r.key.post)) rs
 
 -- an immediate task arrives at its post, a refused one never; at a tick those arrive that are ripe, the earliest first, and
 -- those of one moment by their posts
-worked_ticks : rows (arrivals (did (kinds.Post 7 0 5 true) ∷ did (kinds.Post 8 0 3 true) ∷ did (kinds.Post 9 0 0 true) ∷ did (kinds.Post 10 1 3 true)
-    ∷ did (kinds.Post 11 0 9 true) ∷ did (kinds.Tick 6) ∷ did (kinds.Post 12 0 0 false) ∷ did (kinds.Tick 9) ∷ []))
+worked_ticks : rows (arrivals (by 0 (kinds.Post 7 0 5 true) ∷ by 0 (kinds.Post 8 0 3 true) ∷ by 0 (kinds.Post 9 0 0 true) ∷ by 0 (kinds.Post 10 1 3 true)
+    ∷ by 0 (kinds.Post 11 0 9 true) ∷ by 0 (kinds.Tick 6) ∷ by 0 (kinds.Post 12 0 0 false) ∷ by 0 (kinds.Tick 9) ∷ []))
     ≡ (9, 2, 0, 2) ∷ (8, 5, 3, 1) ∷ (10, 5, 3, 3) ∷ (7, 5, 5, 0) ∷ (11, 7, 9, 4) ∷ []
-unfolding arrivals posts fold_past now_of tick_from did rows
+unfolding arrivals posts fold_past now_of tick_from rows
 worked_ticks = refl
 
 -- a delay counts from the moment of the post, and a tick that comes again gives no second key
-worked_again : rows (arrivals (did (kinds.Tick 4) ∷ did (kinds.Post 1 0 2 true) ∷ did (kinds.Tick 5) ∷ did (kinds.Post 2 0 1 true)
-    ∷ did (kinds.Tick 6) ∷ did (kinds.Tick 6) ∷ did (kinds.Post 3 0 0 true) ∷ []))
+worked_again : rows (arrivals (by 0 (kinds.Tick 4) ∷ by 0 (kinds.Post 1 0 2 true) ∷ by 0 (kinds.Tick 5) ∷ by 0 (kinds.Post 2 0 1 true)
+    ∷ by 0 (kinds.Tick 6) ∷ by 0 (kinds.Tick 6) ∷ by 0 (kinds.Post 3 0 0 true) ∷ []))
     ≡ (1, 4, 6, 1) ∷ (2, 4, 6, 3) ∷ (3, 6, 0, 6) ∷ []
-unfolding arrivals posts fold_past now_of tick_from did rows
+unfolding arrivals posts fold_past now_of tick_from rows
 worked_again = refl

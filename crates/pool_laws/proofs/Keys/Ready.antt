@@ -46,7 +46,7 @@ unfolding tick_from
 tick_from_stays past rest moment place is = rw (position-append (λ x. is_tick_from moment x.kind) 0 past rest, is) refl
 
 -- the key of a delayed task at a tick
-abbrev ticked : Posted → ℕ → Key
+abbrev pub ticked : Posted → ℕ → Key
 ticked p place = record { place = place; ripe = p.ripe; post = p.place }
 
 pub key_of_push : (past : List Entry) (e : Entry) (p : Posted) → key_of (past ++ e ∷ []) p ≡ option_or (key_of past p) (key_by past p e.kind)

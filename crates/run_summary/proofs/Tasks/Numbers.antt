@@ -25,7 +25,7 @@ use Rattle.list_laws.proofs.Ranges.{range_with}
 use Rattle.list_laws.proofs.Values.{eqb-turned}
 use Rattle.script_model.specs.Postings.{posts_of_step, posts_of_action, postings, times, IsPostedOnce}
 use Rattle.task_model.specs.Seats.{steps_of}
-use Rattle.task_script.specs.Generated.{numbers_behind, number_behind, amount_of, goal_of, posting_of, postings_from, generated}
+use Rattle.task_script.specs.Generated.{numbers_behind, amount_of, goal_of, posting_of, postings_from, generated}
 use Rattle.hist_model.specs.Laws.Consistent.{is_pump}
 use Rattle.hist_model.proofs.Laws.Postings.Driver.{times-append, actions_post}
 use Rattle.run_summary.proofs.Calm.{generated_is_calm}

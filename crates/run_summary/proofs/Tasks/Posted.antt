@@ -29,7 +29,7 @@ use Rattle.pool_laws.specs.Runs.{posts_as, posted_as}
 use Rattle.pool_laws.proofs.Seats.Runs.{posts_as_push}
 use Rattle.hist_model.proofs.Laws.Postings.Driver.{actions_post, one_more}
 use Rattle.hist_model.proofs.Laws.Legal.{is_legal_push, entry_induction, legal_induction}
-use Rattle.hist_model.proofs.Laws.Postings.Counts.{of_task, one_post}
+use Rattle.hist_model.proofs.Laws.Postings.Counts.{of_task, one_post, accepted_of}
 use Rattle.run_summary.proofs.Calm.{is_accepting, calm_logs}
 use Rattle.run_summary.proofs.Tasks.Driver.{IsPlain, ArePlain, plan_of, plan_push, plan_begins, plain_left, next_plan, next_is}
 use Rattle.run_summary.proofs.Tasks.Comes.{post_comes, main_comes, WantedAt, wanted_at, driver_does}
@@ -104,10 +104,6 @@ plain_posts main script size amount a = entry_induction script (λ past. AllByRe
     (plain_posted main script size amount past e.seat e.kind a may)))
 
 -- ---- each task is accepted once no post is left
-
--- how many accepted posts name the task, on the pool and on the main queue
-abbrev pub accepted_of : ℕ → List Entry → ℕ
-accepted_of t past = of_task t (posts past) + of_task t (main_posts past)
 
 -- those that an entry adds
 abbrev accepted_by : ℕ → List Entry → Kind → ℕ

@@ -8,7 +8,7 @@ use Rattle.std.proofs.lemmas.List.Sums.{sum_by_push}
 use Rattle.std.proofs.lemmas.List.{length-append}
 use Rattle.task_traits.specs.declared.traits.Priority.{Priority}
 use Rattle.task_traits.specs.declared.traits.Behaviour.{Behaviour}
-use Rattle.task_base.specs.Plan.{Plan, JobPlan}
+use Rattle.task_base.specs.Plan.{JobPlan}
 use Rattle.task_base.specs.Steps.{is_act}
 use Rattle.task_base.specs.declared.step.Step.{Step}
 use Rattle.task_base.specs.declared.step.Step.TheVariants.{Add, Mul, Set, Post as PostStep, Main as MainStep, Block, Unblock}
@@ -19,7 +19,7 @@ use Rattle.task_base.specs.declared.script.MainQueue.{MainQueue}
 use Rattle.script_model.specs.Reasons.{◌&◌, out_of_order, undeclared, posted_twice, declaration_late, bad_block, job_use, too_many}
 use Rattle.value_words.specs.Words.{priority_named, behaviour_named}
 use Rattle.script_model.specs.Places.{said_at, name_at, ends_at, number_at, id_at, kind_named, may_block_at, steps_read}
-use Rattle.script_model.specs.Bound.{events_of_task, events_of_job, events_bound_of}
+use Rattle.script_model.specs.Bound.{events_of_task, events_of_job, events_bound_of, steps_of_plan}
 use Rattle.script_model.specs.Postings.{posts_of_step, postings}
 use Rattle.script_model.specs.Draft.{Draft, script_of, has_no_actions, is_above_workers, is_declared, posted_in, is_any_posted}
 use Rattle.script_model.specs.Draft.{has_bad_scopes, is_bad_post, items_in, steps_in, events_in, workers_in, opens_scope, may_block_on}
@@ -165,10 +165,6 @@ steps_sound d (step ∷ steps) declared good =
 
 -- ---- tasks and jobs
 
--- the steps of all tasks and jobs
-abbrev steps_of : Plan → ℕ
-steps_of script = sum_by (λ steps. length steps) script.tasks + sum_by (λ job. length job.steps) script.jobs
-
 with_task : (d : Draft) (steps : List Step) → IsTaskSound (script_of d) (length d.tasks) steps → is_any_posted (posted_in d) (posts_of_task steps) ≡ false
     → d.actions ≡ [] → length d.tasks + 1 ≤ MOST_TASKS → steps_in d + length steps ≤ MOST_STEPS → events_in d + events_of_task steps ≤ MOST_EVENTS → Keeps d
     → Keeps (record d { tasks = d.tasks ++ steps ∷ [] })
@@ -178,7 +174,7 @@ with_task d steps made fresh none few few_steps few_events sound =
     let more_steps = sum_by_push (λ s. length s) d.tasks steps in
     let more_events = sum_by_push events_of_task d.tasks steps in
     let few_tasks : length script.tasks ≤ MOST_TASKS = omega (arith, few, length-append d.tasks (steps ∷ [])) in
-    let few_steps : steps_of script ≤ MOST_STEPS = omega (arith, few_steps, more_steps) in
+    let few_steps : steps_of_plan script ≤ MOST_STEPS = omega (arith, few_steps, more_steps) in
     let few_events : events_bound_of script ≤ MOST_EVENTS = omega (arith, few_events, more_events) in
     let posted_once = posted_once_with_task d steps fresh sound.once.posted_once in
     record {
@@ -232,7 +228,7 @@ with_job d job made none few few_items few_steps few_events sound =
     let more_events = sum_by_push events_of_job d.jobs job in
     let few_jobs : length script.jobs ≤ MOST_JOBS = omega (arith, few, length-append d.jobs (job ∷ [])) in
     let few_items : sum_by (λ (j : JobPlan). j.items) script.jobs ≤ MOST_ITEMS = omega (arith, few_items, more_items) in
-    let few_steps : steps_of script ≤ MOST_STEPS = omega (arith, few_steps, more_steps) in
+    let few_steps : steps_of_plan script ≤ MOST_STEPS = omega (arith, few_steps, more_steps) in
     let few_events : events_bound_of script ≤ MOST_EVENTS = omega (arith, few_events, more_events) in
     let stay = same_stays (script_of d) script refl refl refl in
     record {

@@ -13,7 +13,7 @@ use Rattle.task_base.specs.declared.step.Step.{Step}
 use Rattle.task_base.specs.declared.step.Step.TheVariants.{Add, Mul, Set, Post, Main, Block, Unblock}
 use Rattle.task_base.specs.declared.script.RunnerKind.{RunnerKind}
 use Rattle.task_base.specs.declared.script.RunnerKind.TheVariants.{Parallel, Sequenced, Single}
-use Rattle.script_model.specs.Words.{is_word, number_of}
+use Rattle.script_model.specs.Words.{is_word, is_mark, number_of}
 use Rattle.script_model.specs.Reasons.{◌>>=◌, ◌>>◌, ◌&◌, refuse, unknown_word, word_count, out_of_range}
 use Rattle.value_words.specs.Words.{scope_named}
 use Rattle.script_model.specs.Places.{known, single_named, many_named, said_at, name_at, ends_at, in_range, number_from, number_at, id_at, time_at, kind_named}
@@ -173,7 +173,7 @@ pieces_within (piece ∷ pieces) steps e =
 pub steps_read-within : (words : List (List ℕ)) (steps : List Step) → steps_read words ≡ Ok steps → AllByRecursion IsStepWithin steps
 unfolding steps_read
 steps_read-within [] steps e = subst (AllByRecursion IsStepWithin) (ok_same {E = ℕ} [] steps e) tt
-steps_read-within (word ∷ words) steps e = pieces_within (slice_split (λ w. is_word w (codes ";")) (word ∷ words)) steps e
+steps_read-within (word ∷ words) steps e = pieces_within (slice_split is_mark (word ∷ words)) steps e
 
 pub nothing : {A : Type 0} (xs : List A) → eqb (length xs) 0 ≡ true → xs ≡ []
 nothing [] e = refl

@@ -25,7 +25,7 @@ use Rattle.task_base.specs.declared.script.FenceAt.TheVariants.{Now, Start}
 use Rattle.task_base.specs.declared.limits.TheConstants.{MOST_WORKERS, MOST_MICROSECONDS}
 use Rattle.value_words.specs.Words.{priority_word, behaviour_word, policy_word, fence_word, scope_word, vote_word, kind_word}
 use Rattle.value_words.specs.Words.{priority_named, behaviour_named, policy_named, fence_named, scope_named, vote_named}
-use Rattle.script_model.specs.Words.{is_word}
+use Rattle.script_model.specs.Words.{is_word, is_mark}
 use Rattle.script_model.specs.Places.{number_from, kind_named, step_said, step_read, all_read, steps_read}
 use Rattle.script_model.specs.Canonical.{step_words, steps_words, may_block_words}
 use Rattle.script_model.proofs.Laws.Parts.{IsSeatWithin}
@@ -163,10 +163,6 @@ step_plain (PostStep task runner delay) h = rw (plain_id task h.0, plain_id runn
 step_plain (MainStep task queue delay) h = rw (plain_id task h.0, plain_id queue h.1, plain_time delay h.2) refl
 step_plain (Block scope) h = rw (scope_plain scope) refl
 step_plain Unblock h = refl
-
--- the word that parts steps
-abbrev pub is_mark : List ℕ → Bool
-is_mark word = is_word word (codes ";")
 
 unmarked : (n : ℕ) → n ≤ 2 ^ 64 - 1 → is_mark (decimal n) ≡ false
 unmarked n small = decimal_no_mark n (omega (arith, small))

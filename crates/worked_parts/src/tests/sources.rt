@@ -1,5 +1,5 @@
 //! A queue of many sources.
-ghost use Rattle.std.specs.Prelude.{◌≡◌, ◌<◌, length};
+ghost use Rattle.std.specs.Prelude.{◌≡◌, ◌<◌};
 ghost use Rattle.sequence_queue.specs.Ranked.{IsAmong, IsMadeFor};
 
 use sequence_queue::{Rank, SourceQueue};

@@ -39,21 +39,21 @@ slice_bounds-result-start c =
     let within = line_within c.args.bytes.now (length c.loop-line.yielded) c.loop-line.end c.in-Some.line.now here.0 here.1 c.loop-line.invariant.passed in
     search (rules, within)
 
-pub returns-then-is_mark-clause-script : goal.returns-then-is_mark-clause-script
-returns-then-is_mark-clause-script c =
+pub returns-then-is_divider-clause-script : goal.returns-then-is_divider-clause-script
+returns-then-is_divider-clause-script c =
     let here = turn_of _ (text_lines c.args.bytes.now) c.loop-line.yielded _ c.loop-line.yielded_by _ _ c.in-Some.line c.in-Some.is c.next.ensures.steps
     (YieldsList-at c.into_iter-line-iterator.ensures.into_iter_gives (YieldsList-from_lines _ c.args.bytes.now c.split_inclusive-line-items.ensures.rest
     c.split_inclusive-line-items.ensures.closure (λ x b q k. search (rules, tests)))) in
-    script_before c.args.bytes.now (length c.loop-line.yielded) c.loop-line.end c.in-Some.line.now here.0 here.1 (sym c.is_mark.ensures ∙ c.if-is_mark.true)
+    script_before c.args.bytes.now (length c.loop-line.yielded) c.loop-line.end c.in-Some.line.now here.0 here.1 (sym c.is_divider.ensures ∙ c.if-is_divider.true)
     c.loop-line.invariant.passed
 
-pub returns-then-is_mark-clause-behind : goal.returns-then-is_mark-clause-behind
-returns-then-is_mark-clause-behind c =
+pub returns-then-is_divider-clause-behind : goal.returns-then-is_divider-clause-behind
+returns-then-is_divider-clause-behind c =
     let here = turn_of _ (text_lines c.args.bytes.now) c.loop-line.yielded _ c.loop-line.yielded_by _ _ c.in-Some.line c.in-Some.is c.next.ensures.steps
     (YieldsList-at c.into_iter-line-iterator.ensures.into_iter_gives (YieldsList-from_lines _ c.args.bytes.now c.split_inclusive-line-items.ensures.rest
     c.split_inclusive-line-items.ensures.closure (λ x b q k. search (rules, tests)))) in
     take_rest c.args.bytes.now (c.loop-line.end + length c.in-Some.line.now)
-    ∙ rest_behind c.args.bytes.now (length c.loop-line.yielded) c.loop-line.end c.in-Some.line.now here.0 here.1 (sym c.is_mark.ensures ∙ c.if-is_mark.true)
+    ∙ rest_behind c.args.bytes.now (length c.loop-line.yielded) c.loop-line.end c.in-Some.line.now here.0 here.1 (sym c.is_divider.ensures ∙ c.if-is_divider.true)
     c.loop-line.invariant.passed
 
 pub loop-line-preserved : goal.loop-line-preserved
@@ -65,7 +65,7 @@ loop-line-preserved c =
       can = search rules;
       finite = tt;
       passed = rw length-append (one_more c.args.bytes.now (length c.loop-line.yielded) c.loop-line.end c.in-Some.line.now here.0 here.1
-          (sym c.is_mark.ensures ∙ c.if-is_mark.false) c.loop-line.invariant.passed);
+          (sym c.is_divider.ensures ∙ c.if-is_divider.false) c.loop-line.invariant.passed);
     }
 
 pub returns-clause-script : goal.returns-clause-script

@@ -1,6 +1,6 @@
 use Rattle.std.proofs.Common.{ap, ◌∙◌, arith}
+use Rattle.line_text.specs.Words.{texts}
 use Rattle.entry_lines.specs.Spelling.{entry_behind_place}
-use Rattle.entry_lines.specs.Words.{texts}
 use Rattle.entry_lines.proofs.ReadBack.{few_words}
 use Rattle.entry_lines.proofs.PlainWords.{answers_meant, meant_is_read}
 use Rattle.entry_lines.proofs.spelling.meant.Goals as goal

@@ -26,7 +26,7 @@ use Rattle.task_model.specs.Refusal.{is_forbidden}
 use Rattle.task_model.specs.Sequences.{is_of, may_start, eligible, head_of}
 use Rattle.task_model.specs.Sources.{Candidate, best_of}
 use Rattle.pool_laws.specs.Keys.{ready_below, IsHead}
-use Rattle.pool_laws.proofs.Keys.Ready.{posts_within, key_within}
+use Rattle.pool_laws.proofs.Keys.Ready.{posts_within, key_within, ticked}
 use Rattle.pool_laws.proofs.Choice.Least.{head_is_least, keys_total, head_is}
 use Rattle.hist_model.specs.Allowed.{is_head_of, is_ready_worker, may_come}
 use Rattle.hist_model.specs.Legal.{IsLegal}
@@ -40,10 +40,6 @@ use Rattle.hist_model.proofs.Laws.Order.Pasts.{take_take, longer_past, still_tak
 use Rattle.hist_model.proofs.Laws.Order.Pasts.{IsPostedAt, was_posted, posts_early, no_tick_before}
 
 -- ---- keys
-
--- the key of a delayed task at a tick
-abbrev pub ticked : Posted → ℕ → Key
-ticked p place = record { place = place; ripe = p.ripe; post = p.place }
 
 -- the key tells the place of the post
 pub key_post : (past : List Entry) (p : Posted) (key : Key) → key_of past p ≡ Some key → key.post ≡ p.place

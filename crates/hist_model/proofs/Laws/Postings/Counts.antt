@@ -31,6 +31,10 @@ use Rattle.hist_model.proofs.Laws.Postings.Tasks.{is_untaken, tasks_have, tasks_
 abbrev pub of_task : ℕ → List Posted → ℕ
 of_task t ps = count (λ p. eqb p.task t) ps
 
+-- and how often it was accepted, by the pool or by a main queue
+abbrev pub accepted_of : ℕ → List Entry → ℕ
+accepted_of t past = of_task t (posts past) + of_task t (main_posts past)
+
 of_task-append : (t : ℕ) (xs ys : List Posted) → of_task t (xs ++ ys) ≡ of_task t xs + of_task t ys
 of_task-append t xs ys = count-append (λ p. eqb p.task t) xs ys
 

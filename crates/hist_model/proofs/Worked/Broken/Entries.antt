@@ -4,9 +4,10 @@ use Rattle.std.specs.Prelude.{codes, Option, Some, None, Ok, Err}
 use Rattle.task_base.specs.declared.entry.Entry.{Entry}
 use Rattle.task_base.specs.declared.entry.JobReply.TheVariants as replies
 use Rattle.task_base.specs.declared.entry.Kind.TheVariants as kinds
+use Rattle.task_base.specs.Entries.{entry_by as by}
 use Rattle.script_model.specs.Bound.{events_bound_of}
 use Rattle.hist_model.proofs.Worked.Corners.{judged}
-use Rattle.hist_model.proofs.Worked.Rows.{judge, read, by}
+use Rattle.hist_model.proofs.Worked.Rows.{judge, read}
 
 -- the bound of the script that the text is
 abbrev bound : List ℕ → Option ℕ

@@ -3,7 +3,8 @@ use Rattle.std.proofs.Common.{◌≡◌, true, false, [], ◌∷◌, refl}
 use Rattle.std.specs.Prelude.{codes, Some}
 use Rattle.task_base.specs.declared.entry.Kind.TheVariants as kinds
 use Rattle.task_base.specs.declared.script.FenceAt.TheVariants.{Now, Start}
-use Rattle.hist_model.proofs.Worked.Rows.{judge, read, by}
+use Rattle.task_base.specs.Entries.{entry_by as by}
+use Rattle.hist_model.proofs.Worked.Rows.{judge, read}
 use Rattle.hist_model.proofs.Worked.Corners.{judged}
 
 -- the task drew its order behind the fence

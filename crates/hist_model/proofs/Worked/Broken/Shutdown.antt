@@ -3,7 +3,8 @@ use Rattle.std.proofs.Common.{◌≡◌, ℕ, true, false, List, [], ◌∷◌, 
 use Rattle.std.specs.Prelude.{codes, Some}
 use Rattle.task_base.specs.declared.entry.Entry.{Entry}
 use Rattle.task_base.specs.declared.entry.Kind.TheVariants as kinds
-use Rattle.hist_model.proofs.Worked.Rows.{judge, read, by}
+use Rattle.task_base.specs.Entries.{entry_by as by}
+use Rattle.hist_model.proofs.Worked.Rows.{judge, read}
 use Rattle.hist_model.proofs.Worked.Corners.{judged}
 
 -- a task on a runner of this behaviour is posted, and then shutdown

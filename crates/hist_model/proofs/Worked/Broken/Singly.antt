@@ -3,8 +3,9 @@ use Rattle.std.proofs.Common.{◌≡◌, ℕ, true, false, List, [], ◌∷◌, 
 use Rattle.std.specs.Prelude.{codes, Some, None}
 use Rattle.task_base.specs.declared.entry.Entry.{Entry}
 use Rattle.task_base.specs.declared.entry.Kind.TheVariants as kinds
+use Rattle.task_base.specs.Entries.{entry_by as by}
 use Rattle.hist_model.proofs.Worked.Corners.{judged}
-use Rattle.hist_model.proofs.Worked.Rows.{judge, read, by}
+use Rattle.hist_model.proofs.Worked.Rows.{judge, read}
 
 abbrev two_tasks : List ℕ
 two_tasks = codes "task 0 add 5\ntask 1 add 5\npost 0 0 0\npost 1 0 0\nflush\n"

@@ -3,15 +3,13 @@ use Rattle.std.proofs.Common.{◌≡◌, ℕ, true, false, List, [], ◌∷◌, 
 use Rattle.std.specs.Prelude.{codes, Some, None}
 use Rattle.task_base.specs.declared.entry.Entry.{Entry}
 use Rattle.task_base.specs.declared.entry.Kind.TheVariants as kinds
-use Rattle.hist_model.proofs.Worked.Corners.{judged}
-use Rattle.hist_model.proofs.Worked.Rows.{judge, read, by}
+use Rattle.task_base.specs.Entries.{entry_by as by}
+use Rattle.hist_model.proofs.Worked.Corners.{judged, posted_and_taken}
+use Rattle.hist_model.proofs.Worked.Rows.{judge, read}
 
 abbrev pool_and_main : List ℕ
 pool_and_main = codes "workers 2\nrunner 0 parallel user_visible skip\nrunner 1 parallel user_visible skip\nqueue 0 0 0\n"
     ++ codes "task 0 add 5\ntask 1 add 5\npost 0 0 0\nmain 1 0 0\npump 2\n"
-
-abbrev posted_and_taken : List Entry
-posted_and_taken = by 0 (kinds.Post 0 0 0 true) ∷ by 1 (kinds.Take 0 0 0) ∷ []
 
 -- two seats take one task
 taken_twice : judged pool_and_main (posted_and_taken ++ by 2 (kinds.Take 0 0 0) ∷ []) ≡ Some (false, false, Some 2)

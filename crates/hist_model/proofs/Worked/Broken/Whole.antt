@@ -4,8 +4,9 @@ use Rattle.std.proofs.Common.{◌≡◌, ℕ, true, false, List, [], ◌∷◌, 
 use Rattle.std.specs.Prelude.{codes, Some, None}
 use Rattle.task_base.specs.declared.entry.Entry.{Entry}
 use Rattle.task_base.specs.declared.entry.Kind.TheVariants as kinds
+use Rattle.task_base.specs.Entries.{entry_by as by}
 use Rattle.hist_model.proofs.Worked.Corners.{judged}
-use Rattle.hist_model.proofs.Worked.Rows.{judge, read, by}
+use Rattle.hist_model.proofs.Worked.Rows.{judge, read}
 
 abbrev four_tasks : List ℕ
 four_tasks = codes "workers 1\nrunner 0 sequenced user_visible skip\nqueue 0 1 0\ntask 0 add 5\ntask 1\ntask 2\ntask 3\n"

@@ -2,7 +2,7 @@ use Rattle.std.proofs.Common.{length, sym, ◌∙◌, rules, tests}
 use Rattle.std.proofs.lemmas.Iterator.Consumers.{YieldsList-at, YieldsList-turn, YieldsList-end}
 use Rattle.std.proofs.lemmas.Iterator.Splits.{YieldsList-from_slice_split}
 use Rattle.std.proofs.lemmas.List.{length_push}
-use Rattle.nested_loop.specs.NestWords.{is_mark}
+use Rattle.script_model.specs.Words.{is_mark}
 use Rattle.nested_loop.proofs.Pieces.{followed-more, followed-bad, followed-end, steps_said-some, steps_said-none}
 use Rattle.nested_loop.proofs.steps.steps_said.Goals as goal
 

@@ -1,6 +1,6 @@
 use Rattle.std.proofs.Common.{◌≡◌, [], length}
 use Rattle.std.specs.List.{slice_split}
-use Rattle.nested_loop.specs.NestWords.{is_mark}
+use Rattle.script_model.specs.Words.{is_mark}
 use Rattle.nested_loop.proofs.Pieces.{followed, said_from}
 use Rattle.nested_loop.proofs.steps.steps_said.Given as goal
 

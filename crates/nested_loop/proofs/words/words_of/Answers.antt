@@ -2,9 +2,9 @@ use Rattle.std.proofs.Common.{length, sym, ap, ◌∙◌, rules, tests}
 use Rattle.std.specs.Prelude.{filter, not, ◌==◌}
 use Rattle.std.proofs.lemmas.Iterator.Consumers.{YieldsList-at, YieldsList-end}
 use Rattle.std.proofs.lemmas.Iterator.Splits.{YieldsList-from_slice_split}
+use Rattle.line_text.specs.Words.{texts}
 use Rattle.list_laws.proofs.Filters.{filter-map}
 use Rattle.script_model.specs.Words.{is_blank}
-use Rattle.nested_loop.specs.Texts.{texts}
 use Rattle.nested_loop.proofs.words.words_of.Goals as goal
 
 pub returns : goal.returns

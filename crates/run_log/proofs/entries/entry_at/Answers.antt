@@ -1,5 +1,5 @@
 use Rattle.std.proofs.Common.{ap, ◌∙◌, arith}
-use Rattle.entry_lines.specs.Words.{texts}
+use Rattle.line_text.specs.Words.{texts}
 use Rattle.entry_lines.proofs.ReadBack.{few_words}
 use Rattle.run_log.specs.Entries.{entry_of}
 use Rattle.run_log.proofs.LineWords.{spaced_words-front, answers_line, entry_reads_back}

@@ -2,7 +2,7 @@ use Rattle.std.proofs.Common.{◌≡◌, length, sym, ap, ◌∙◌, rules, test
 use Rattle.std.proofs.lemmas.Bool.{eqb-true}
 use Rattle.std.proofs.lemmas.Iterator.Consumers.{YieldsList-at}
 use Rattle.std.proofs.lemmas.Iterator.Splits.{YieldsList-from_slice_split}
-use Rattle.entry_lines.specs.Words.{texts}
+use Rattle.line_text.specs.Words.{texts}
 use Rattle.entry_lines.proofs.Turns.{turn_of, end_of}
 use Rattle.run_log.specs.Entries.{spaced_words}
 use Rattle.run_log.proofs.entries.spaced_words.Goals as goal

@@ -1,8 +1,8 @@
 //! A value whose script posts a task and shuts down, and the visits in which seats enter its history.
 ghost use Rattle.std.specs.Prelude.{◌≡◌, ◌==◌, ◌<◌, ◌^◌, [], IfNone, IfSome, length, slice_get, take};
+ghost use Rattle.task_base.specs.Entries.{starts_shutdown};
 ghost use Rattle.worked_parts.specs.Samples.{steps_script, steps_log};
 ghost use Rattle.turn_table.specs.Seats.{EntersOne, EntersShutdown};
-ghost use Rattle.turn_table.specs.Shutdowns.{is_shutdown};
 
 use std::alloc::Global;
 use std::sync::Wait;
@@ -54,7 +54,7 @@ impl Steps {
 fn entry_at(place: usize) -> Option<Entry>
     ensures entry { result ≡ slice_get steps_log place }
     ensures within { IfSome result (λ _. place < 4) }
-    ensures shuts { IfSome result (λ entry. is_shutdown entry.kind ≡ (place == 3)) }
+    ensures shuts { IfSome result (λ entry. starts_shutdown entry.kind ≡ (place == 3)) }
 {
     let (seat, kind) = match place {
         0 => (

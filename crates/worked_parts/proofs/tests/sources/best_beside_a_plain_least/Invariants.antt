@@ -1,4 +1,4 @@
-use Rattle.std.proofs.Common.{◌≡◌, ℕ, List, Option, length}
+use Rattle.std.proofs.Common.{◌≡◌, List, Option, length}
 use Rattle.sequence_queue.specs.Ranked.{Ranked}
 use Rattle.sequence_queue.specs.declared.rank.Rank.{Rank}
 use Rattle.worked_parts.proofs.tests.sources.best_beside_a_plain_least.Given as goal
