@@ -18,9 +18,12 @@ pub fn check_log(alloc: Global, script: &Script, log: &Rows<Entry>) -> Result<Ve
 {
     let mut replay = Replay::open(alloc, script)?;
     if let Some(place) = follow_all(&mut replay, script, log.as_slice()) {
+        replay.discard();
         return Ok(Verdict::Illegal { place });
     }
-    if replay.is_whole() {
+    let whole = replay.is_whole();
+    replay.discard();
+    if whole {
         return Ok(Verdict::Legal);
     }
     Ok(Verdict::Illegal {
@@ -40,7 +43,9 @@ pub fn check_prefix(
     ensures legal { IfOk result (λ verdict. (verdict ≡ Verdict.Legal) ↔ IsLegal script.now log.now.items) }
 {
     let mut replay = Replay::open(alloc, script)?;
-    match follow_all(&mut replay, script, log.as_slice()) {
+    let illegal = follow_all(&mut replay, script, log.as_slice());
+    replay.discard();
+    match illegal {
         None => Ok(Verdict::Legal),
         Some(place) => Ok(Verdict::Illegal { place }),
     }

@@ -30,8 +30,7 @@ pub fn explain(replay: Replay, script: &Script, past: &[Entry], entry: Entry) ->
 {
     match stray(&replay, script, &entry) {
         Some(cause) => {
-            let (env, hands) = replay.into_parts();
-            discard(env, hands);
+            replay.discard();
             cause
         }
         None => expected(replay, script, past, &entry),

@@ -58,6 +58,12 @@ impl Replay {
         (env, hands)
     }
 
+    /// Drops it, as `discard` does its parts.
+    pub fn discard(self) {
+        let Replay { env, hands } = self;
+        discard(env, hands);
+    }
+
     /// Whether the script is finished, no seat runs a task, and none holds an item.
     pub fn is_whole(&self) -> bool
         ensures { result ≡ is_whole self.now.script self.now.history }

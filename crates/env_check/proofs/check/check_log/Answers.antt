@@ -11,14 +11,14 @@ returns-in-Some-clause-verdict c = verdict_there c.args.script.now c.args.log.no
 pub returns-in-Some-clause-legal : goal.returns-in-Some-clause-legal
 returns-in-Some-clause-legal c = legal_answer c.args.script.now c.args.log.now.items _ (returns-in-Some-clause-verdict c)
 
-pub returns-then-is_whole-clause-verdict : goal.returns-then-is_whole-clause-verdict
-returns-then-is_whole-clause-verdict c =
+pub returns-then-whole-clause-verdict : goal.returns-then-whole-clause-verdict
+returns-then-whole-clause-verdict c =
     let none : first_illegal c.args.script.now c.args.log.now.items ≡ None =
     ap (first_illegal c.args.script.now) (sym c.as_slice.ensures) ∙ sym c.follow_all.ensures.place ∙ c.in_default.is in
     let script_is = c.follow_all.ensures.script c.in_default.is in
     let history_is = c.follow_all.ensures.followed c.in_default.is ∙ c.as_slice.ensures in
     verdict_nowhere c.args.script.now c.args.log.now.items true none
-    (rw (← script_is, ← history_is) (sym c.is_whole.ensures ∙ c.if-is_whole.true))
+    (rw (← script_is, ← history_is) (sym c.is_whole-whole.ensures ∙ c.if-whole.true))
 
 pub overflow_cast-result : goal.overflow_cast-result
 overflow_cast-result c =
@@ -36,4 +36,4 @@ returns-clause-verdict c =
     let script_is = c.follow_all.ensures.script c.in_default.is in
     let history_is = c.follow_all.ensures.followed c.in_default.is ∙ c.as_slice.ensures in
     ap Illegal c.len.ensures.count ∙ verdict_nowhere c.args.script.now c.args.log.now.items false none
-    (rw (← script_is, ← history_is) (sym c.is_whole.ensures ∙ c.if-is_whole.false))
+    (rw (← script_is, ← history_is) (sym c.is_whole-whole.ensures ∙ c.if-whole.false))
