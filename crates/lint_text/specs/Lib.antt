@@ -1,0 +1,3 @@
+pub mod Quote
+pub mod Expected
+pub mod Text

@@ -1,0 +1,11 @@
+//! What is wrong with a line of a script, of replies or of a nest script, and the sentence that says it: what stands at the
+//! place, and what may.
+#![tactic(auto)]
+
+mod complaint;
+mod expected;
+mod quote;
+mod text;
+
+pub use complaint::{Complaint, Limited};
+pub use text::lint_line;

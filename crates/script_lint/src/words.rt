@@ -1,0 +1,83 @@
+//! What is wrong with a line whose words alone are wrong.
+ghost use Rattle.std.specs.Prelude.{◌≡◌, ◌<◌, ◌^◌, drop, length, option_copied, slice_get};
+ghost use Rattle.script_model.specs.Words.{words_of};
+ghost use Rattle.script_lint.specs.Words.{above_foreground, ascii_objection, command_of, foreground_of, word_at, word_objection, unexpected};
+
+use crate::objection::{Objection, at};
+use line_places::{Expected, Language, first_beyond_ascii, first_place, line_length};
+use line_words::Words;
+use lint_text::Complaint;
+
+/// What is wrong with a line of a script, by the least reason of its words: one of 1 to 5.
+pub(crate) fn word_objection(line: &[u8], reason: u8) -> Objection
+    requires { length line.now < 2 ^ 32 }
+    ensures { result ≡ word_objection line.now reason }
+{
+    if reason == 1 {
+        return ascii_objection(line);
+    }
+    match first_place(Language::Script, Some(reason), line) {
+        Some(found) => at(found.place, unexpected(line, found.expected, reason)),
+        None => above_foreground(line, reason),
+    }
+}
+
+/// That a word has a byte above 127.
+fn ascii_objection(line: &[u8]) -> Objection
+    requires { length line.now < 2 ^ 32 }
+    ensures { result ≡ ascii_objection line.now }
+{
+    at(first_beyond_ascii(line).unwrap_or(1), Complaint::NotAscii)
+}
+
+/// That a word can't stand where this is expected.
+fn unexpected(line: &[u8], expected: Expected, reason: u8) -> Complaint
+    ensures { result ≡ unexpected line.now expected reason }
+{
+    Complaint::Unexpected {
+        language: Language::Script,
+        expected,
+        reason,
+        length: line_length(Language::Script, command_of(line)),
+    }
+}
+
+/// That the limit of best-effort work is above that of all foreground work, before it on the line.
+fn above_foreground(line: &[u8], reason: u8) -> Objection
+    ensures { result ≡ above_foreground line.now reason }
+{
+    let high = u64::from(foreground_of(line));
+    at(
+        3,
+        unexpected(line, Expected::Number { low: 1, high }, reason),
+    )
+}
+
+/// The limit of all foreground work that a line says, or 64 where it says none.
+fn foreground_of(line: &[u8]) -> u32
+    ensures { result ≡ foreground_of line.now }
+{
+    let mut words = Words::of(line);
+    words.next();
+    words.count(1, 64).unwrap_or(64)
+}
+
+/// The command of a line.
+fn command_of(line: &[u8]) -> &[u8]
+    ensures { result.now ≡ command_of line.now }
+{
+    word_at(line, 1).unwrap_or(&[])
+}
+
+/// The word at a place of a line, counted from 1, if there is one.
+pub(crate) fn word_at(line: &[u8], place: usize) -> Option<&[u8]>
+    ensures { option_copied result ≡ word_at line.now place }
+{
+    let mut words = Words::of(line);
+    let mut left = place.saturating_sub(1);
+    while left > 0 {
+        words.next();
+        left -= 1;
+    }
+    words.next()
+}
