@@ -1,5 +1,5 @@
 -- What the words of a command line ask for.
-use Rattle.std.specs.Prelude.{ℕ, ◌-◌, ◌^◌, ◌≤◌, ◌&&◌, nat_le, Bool, true, false, if◌then◌else◌, List, [], ◌∷◌, codes, Option, Some, None, option_map}
+use Rattle.std.specs.Prelude.{ℕ, ◌-◌, ◌^◌, ◌≤◌, ◌&&◌, nat_le, not, is_none, Bool, true, false, if◌then◌else◌, List, [], ◌∷◌, codes, Option, Some, None, option_map}
 use Rattle.std.specs.Fmt.{decimal}
 use Rattle.task_base.specs.declared.limits.TheConstants.{MOST_MICROSECONDS}
 use Rattle.script_model.specs.Words.{is_word, number_of}
@@ -9,7 +9,9 @@ use Rattle.clap.specs.Kinds.{Kinds}
 use Rattle.clap.specs.Faults.{fault_of}
 use Rattle.clap.specs.declared.builder.action.ArgAction.TheVariants.{SetTrue}
 use Rattle.command_line.specs.declared.words.Command.{Command}
-use Rattle.command_line.specs.declared.words.Command.TheVariants.{Run, Check, Explain, Reply, Trace, Nest, Generate, Bench}
+use Rattle.command_line.specs.declared.words.Command.TheVariants.{Run, Check, Explain, Reply, Trace, Nest, Lint, Generate, Bench}
+use Rattle.command_line.specs.declared.words.Linted.{Linted}
+use Rattle.command_line.specs.declared.words.Linted.TheVariants as linted
 use Rattle.command_line.specs.declared.words.Mode.{Mode}
 use Rattle.command_line.specs.declared.words.Mode.TheVariants as modes
 use Rattle.command_line.specs.declared.words.TheConstants.{USUAL_SIZE, MOST_SIZE}
@@ -34,11 +36,12 @@ value_argument name = record (new_rule name) { long = Some name }
 abbrev pub flag_argument : List ℕ → Rule
 flag_argument name = record (new_rule name) { long = Some name; action = Some SetTrue }
 
--- `taskenv MODE [--step N] [--json] [--prefix] [--number N] [--size N]` (this project's own)
+-- `taskenv MODE [--step N] [--json] [--prefix] [--number N] [--size N] [--replies] [--nest]` (this project's own)
 abbrev pub taskenv : App
 taskenv =
-    with_rule (with_rule (with_rule (with_rule (with_rule (with_rule (new_app (codes "taskenv")) mode_argument) (value_argument (codes "step")))
-    (flag_argument (codes "json"))) (flag_argument (codes "prefix"))) (value_argument (codes "number"))) (value_argument (codes "size"))
+    with_rule (with_rule (with_rule (with_rule (with_rule (with_rule (with_rule (with_rule (new_app (codes "taskenv")) mode_argument)
+    (value_argument (codes "step"))) (flag_argument (codes "json"))) (flag_argument (codes "prefix"))) (value_argument (codes "number")))
+    (value_argument (codes "size"))) (flag_argument (codes "replies"))) (flag_argument (codes "nest"))
 
 -- ---- the values of its arguments
 
@@ -51,9 +54,10 @@ mode_named word =
     else (if is_word word (codes "reply") then Some modes.Reply
     else (if is_word word (codes "trace") then Some modes.Trace
     else (if is_word word (codes "nest") then Some modes.Nest
+    else (if is_word word (codes "lint") then Some modes.Lint
     else (if is_word word (codes "gen") then Some modes.Generate
     else (if is_word word (codes "bench") then Some modes.Bench
-    else None)))))))
+    else None))))))))
 
 -- the number from low to high that a word writes, in decimal digits without a sign and without zeros in front (this project's
 -- own rule)
@@ -101,14 +105,37 @@ command_with modes.Generate None false false number size = made_with Generate nu
 command_with modes.Bench None false false number size = made_with Bench number size
 command_with mode step json prefix number size = None
 
+-- none of these options is there
+abbrev pub is_bare : Option (List ℕ) → Bool → Bool → Option (List ℕ) → Option (List ℕ) → Bool
+is_bare step json prefix number size = is_none step && not json && not prefix && is_none number && is_none size
+
+-- the input that is to be linted, by the flags of that mode
+abbrev pub linted_by : Bool → Bool → Option Linted
+linted_by false false = Some linted.Script
+linted_by true false = Some linted.Replies
+linted_by false true = Some linted.Nest
+linted_by true true = None
+
+-- the command of the mode `lint`, where there are no options but its own two, and not both of them (this project's own rule)
+abbrev pub lint_with : Bool → Bool → Bool → Option Command
+lint_with bare replies nest = linted_by replies nest >>= λ input. if bare then Some (Lint input) else None
+
+-- the command of a mode with the words of all options: those of `lint` are its own
+abbrev pub command_asked : Mode → Option (List ℕ) → Bool → Bool → Option (List ℕ) → Option (List ℕ) → Bool → Bool → Option Command
+command_asked modes.Lint step json prefix number size replies nest = lint_with (is_bare step json prefix number size) replies nest
+command_asked mode step json prefix number size false false = command_with mode step json prefix number size
+command_asked mode step json prefix number size replies nest = None
+
 -- the command that these values of its arguments make, if each is one
-abbrev pub command_by : Option (List ℕ) → Option (List ℕ) → Option (List ℕ) → Option (List ℕ) → Option (List ℕ) → Option (List ℕ) → Option Command
-command_by mode step json prefix number size = mode >>= mode_named >>= λ m. command_with m step (is_set json) (is_set prefix) number size
+abbrev pub command_by : Option (List ℕ) → Option (List ℕ) → Option (List ℕ) → Option (List ℕ) → Option (List ℕ) → Option (List ℕ) → Option (List ℕ) → Option (List ℕ)
+    → Option Command
+command_by mode step json prefix number size replies nest =
+    mode >>= mode_named >>= λ m. command_asked m step (is_set json) (is_set prefix) number size (is_set replies) (is_set nest)
 
 -- the command that these matches of clap's command make, if their values are right
 abbrev pub command_matched : List Row → Option Command
 command_matched rows = command_by (first_of (codes "MODE") rows) (first_of (codes "step") rows) (first_of (codes "json") rows) (first_of (codes "prefix") rows)
-    (first_of (codes "number") rows) (first_of (codes "size") rows)
+    (first_of (codes "number") rows) (first_of (codes "size") rows) (first_of (codes "replies") rows) (first_of (codes "nest") rows)
 
 -- the same, unless clap finds a fault
 abbrev pub command_unless : Kinds → List Row → Option Command
@@ -127,10 +154,12 @@ IsSized (Explain json) = Unit {0}
 IsSized Reply = Unit {0}
 IsSized Trace = Unit {0}
 IsSized Nest = Unit {0}
+IsSized (Lint input) = Unit {0}
 IsSized (Generate number size) = (1 ≤ size) × (size ≤ MOST_SIZE)
 IsSized (Bench number size) = (1 ≤ size) × (size ≤ MOST_SIZE)
 
--- the command reads the source: a script, behind which `check`, `explain` and `trace` have a log and `reply` has replies, or a nest script
+-- the command reads the source: a script, behind which `check`, `explain` and `trace` have a log and `reply` has replies, or a nest
+-- script; `lint` any of the scripts and replies
 abbrev pub TakesInput : Option Command → Type 0
 TakesInput None = ⊥
 TakesInput (Some (Run step json)) = Unit {0}
@@ -139,6 +168,7 @@ TakesInput (Some (Explain json)) = Unit {0}
 TakesInput (Some Reply) = Unit {0}
 TakesInput (Some Trace) = Unit {0}
 TakesInput (Some Nest) = Unit {0}
+TakesInput (Some (Lint input)) = Unit {0}
 TakesInput (Some (Generate number size)) = ⊥
 TakesInput (Some (Bench number size)) = ⊥
 
@@ -152,6 +182,7 @@ ReadsClock (Some (Explain json)) = ⊥
 ReadsClock (Some Reply) = Unit {0}
 ReadsClock (Some Trace) = ⊥
 ReadsClock (Some Nest) = ⊥
+ReadsClock (Some (Lint input)) = ⊥
 ReadsClock (Some (Generate number size)) = ⊥
 ReadsClock (Some (Bench number size)) = ⊥
 
@@ -165,6 +196,7 @@ WritesJson (Some (Explain json)) = ⊥
 WritesJson (Some Reply) = ⊥
 WritesJson (Some Trace) = ⊥
 WritesJson (Some Nest) = ⊥
+WritesJson (Some (Lint input)) = ⊥
 WritesJson (Some (Generate number size)) = ⊥
 WritesJson (Some (Bench number size)) = ⊥
 
@@ -177,6 +209,7 @@ IsJudge (Some (Explain json)) = Unit {0}
 IsJudge (Some Reply) = ⊥
 IsJudge (Some Trace) = Unit {0}
 IsJudge (Some Nest) = ⊥
+IsJudge (Some (Lint input)) = ⊥
 IsJudge (Some (Generate number size)) = ⊥
 IsJudge (Some (Bench number size)) = ⊥
 
@@ -189,8 +222,14 @@ WritesVerdict (Some (Explain json)) = Unit {0}
 WritesVerdict (Some Reply) = ⊥
 WritesVerdict (Some Trace) = ⊥
 WritesVerdict (Some Nest) = ⊥
+WritesVerdict (Some (Lint input)) = ⊥
 WritesVerdict (Some (Generate number size)) = ⊥
 WritesVerdict (Some (Bench number size)) = ⊥
+
+-- the command says of an input why it is none
+abbrev pub IsLint : Option Command → Type 0
+IsLint (Some (Lint input)) = Unit {0}
+IsLint command = ⊥
 
 -- the command takes a log as legal that ends before the script is done
 abbrev pub takes_prefix : Option Command → Bool

@@ -3,4 +3,4 @@
 
 mod words;
 
-pub use words::{Command, MOST_SIZE, USUAL_SIZE, command_of};
+pub use words::{Command, Linted, MOST_SIZE, USUAL_SIZE, command_of};

@@ -3,7 +3,7 @@ ghost use Rattle.script_model.specs.Words.{is_word};
 ghost use Rattle.clap.specs.Simple.{app_of, with_rule};
 ghost use Rattle.clap.specs.Values.{kind_of};
 ghost use Rattle.clap.specs.Walk.{rule_of};
-ghost use Rattle.command_line.specs.CommandLine.{IsSized, command_by, command_of, command_with, flag_argument, is_set, mode_argument, mode_named, number_named, seed_given, size_given, step_given, taskenv, value_argument};
+ghost use Rattle.command_line.specs.CommandLine.{IsSized, command_by, command_of, command_with, flag_argument, is_bare, is_set, lint_with, mode_argument, mode_named, number_named, seed_given, size_given, step_given, taskenv, value_argument};
 
 use clap::error::ErrorKind;
 use clap::{Arg, ArgAction};
@@ -43,6 +43,11 @@ pub enum Command {
     Trace,
     /// Runs a nest script, and writes its log.
     Nest,
+    /// Says why an input is none.
+    Lint {
+        /// Which input it is to be.
+        input: Linted,
+    },
     /// Writes the script that is made from a number.
     Generate {
         /// The number that it is made from.
@@ -59,6 +64,17 @@ pub enum Command {
     },
 }
 
+/// An input of which is said why it is none (this project's own).
+#[derive(Clone, Copy, Debug, PartialEq, Eq)]
+pub enum Linted {
+    /// A script.
+    Script,
+    /// A script, and replies behind it.
+    Replies,
+    /// A nest script.
+    Nest,
+}
+
 /// The word that says what to do (this project's own).
 #[derive(Clone, Copy)]
 enum Mode {
@@ -68,6 +84,7 @@ enum Mode {
     Reply,
     Trace,
     Nest,
+    Lint,
     Generate,
     Bench,
 }
@@ -88,6 +105,8 @@ pub fn command_of(alloc: Global, words: &[String]) -> Result<Option<Command>, Al
         matches.get_str("prefix"),
         matches.get_str("number"),
         matches.get_str("size"),
+        matches.get_str("replies"),
+        matches.get_str("nest"),
     ))
 }
 
@@ -101,7 +120,7 @@ fn refusal(error: &clap::Error) -> Result<Option<Command>, AllocError>
     }
 }
 
-/// The command `taskenv MODE [--step N] [--json] [--prefix] [--number N] [--size N]`.
+/// The command `taskenv MODE [--step N] [--json] [--prefix] [--number N] [--size N] [--replies] [--nest]`.
 fn taskenv<'a>(alloc: Global) -> Result<clap::Command<'a>, AllocError>
     ensures { IfOk result (λ command. app_of command ≡ taskenv) }
 {
@@ -110,7 +129,9 @@ fn taskenv<'a>(alloc: Global) -> Result<clap::Command<'a>, AllocError>
     let command = with_argument(command, flag_argument(alloc, "json"))?;
     let command = with_argument(command, flag_argument(alloc, "prefix"))?;
     let command = with_argument(command, value_argument(alloc, "number"))?;
-    with_argument(command, value_argument(alloc, "size"))
+    let command = with_argument(command, value_argument(alloc, "size"))?;
+    let command = with_argument(command, flag_argument(alloc, "replies"))?;
+    with_argument(command, flag_argument(alloc, "nest"))
 }
 
 /// The command with one argument more.
@@ -156,19 +177,58 @@ fn command_by(
     prefix: Option<&str>,
     number: Option<&str>,
     size: Option<&str>,
+    replies: Option<&str>,
+    nest: Option<&str>,
 ) -> Option<Command>
     ensures command { result ≡ command_by (option_map (λ s. s.now) mode.entry) (option_map (λ s. s.now) step.entry) (option_map (λ s. s.now) json.entry)
-        (option_map (λ s. s.now) prefix.entry) (option_map (λ s. s.now) number.entry) (option_map (λ s. s.now) size.entry) }
+        (option_map (λ s. s.now) prefix.entry) (option_map (λ s. s.now) number.entry) (option_map (λ s. s.now) size.entry)
+        (option_map (λ s. s.now) replies.entry) (option_map (λ s. s.now) nest.entry) }
     ensures sized { IfSome result IsSized }
 {
-    command_with(
-        mode_named(mode?)?,
-        step,
-        is_set(json),
-        is_set(prefix),
-        number,
-        size,
-    )
+    let mode = mode_named(mode?)?;
+    let lint = (is_set(replies), is_set(nest));
+    match (mode, lint) {
+        (Mode::Lint, (replies, nest)) => lint_with(
+            is_bare(step, is_set(json), is_set(prefix), number, size),
+            replies,
+            nest,
+        ),
+        (_, (false, false)) => {
+            command_with(mode, step, is_set(json), is_set(prefix), number, size)
+        }
+        _ => None,
+    }
+}
+
+/// The command of the mode `lint`, where there are no options but its own.
+fn lint_with(bare: bool, replies: bool, nest: bool) -> Option<Command>
+    ensures command { result ≡ lint_with bare replies nest }
+    ensures sized { IfSome result IsSized }
+{
+    let input = match (replies, nest) {
+        (false, false) => Linted::Script,
+        (true, false) => Linted::Replies,
+        (false, true) => Linted::Nest,
+        (true, true) => return None,
+    };
+    if bare {
+        Some(Command::Lint { input })
+    } else {
+        None
+    }
+}
+
+/// Whether none of these options is there.
+fn is_bare(
+    step: Option<&str>,
+    json: bool,
+    prefix: bool,
+    number: Option<&str>,
+    size: Option<&str>,
+) -> bool
+    ensures { result ≡ is_bare (option_map (λ s. s.now) step.entry) json prefix (option_map (λ s. s.now) number.entry) (option_map (λ s. s.now) size.entry) }
+{
+    step.is_none() && !json && !prefix && number.is_none() && size.is_none()
 }
 
 /// The command of a mode with these options, if it takes each of them.
@@ -215,6 +275,7 @@ fn mode_named(word: &str) -> Option<Mode>
         "reply" => Some(Mode::Reply),
         "trace" => Some(Mode::Trace),
         "nest" => Some(Mode::Nest),
+        "lint" => Some(Mode::Lint),
         "gen" => Some(Mode::Generate),
         "bench" => Some(Mode::Bench),
         _ => None,

@@ -3,7 +3,8 @@ use Rattle.std.proofs.Common.{◌≡◌, ℕ, true, false, List, [], ◌∷◌, 
 use Rattle.std.specs.Fmt.{digits}
 use Rattle.clap.proofs.OnLiterals.{clap_on_literals}
 use Rattle.command_line.specs.declared.words.Command.{Command}
-use Rattle.command_line.specs.declared.words.Command.TheVariants.{Run, Check, Explain, Reply, Trace, Nest, Generate, Bench}
+use Rattle.command_line.specs.declared.words.Command.TheVariants.{Run, Check, Explain, Reply, Trace, Nest, Lint, Generate, Bench}
+use Rattle.command_line.specs.declared.words.Linted.TheVariants as linted
 use Rattle.command_line.specs.CommandLine.{number_named, command_of}
 
 -- the words behind the program's name, and the command that they are, if they are one
@@ -39,6 +40,9 @@ commands =
     ∷ good (codes "reply" ∷ []) Reply
     ∷ good (codes "trace" ∷ []) Trace
     ∷ good (codes "nest" ∷ []) Nest
+    ∷ good (codes "lint" ∷ []) (Lint linted.Script)
+    ∷ good (codes "lint" ∷ codes "--replies" ∷ []) (Lint linted.Replies)
+    ∷ good (codes "--nest" ∷ codes "lint" ∷ []) (Lint linted.Nest)  -- before the mode
     ∷ []
 
 commands_right : AreRight commands
@@ -70,6 +74,9 @@ bad_modes =
     ∷ bad (codes "generate" ∷ [])
     ∷ bad (codes "replies" ∷ [])
     ∷ bad (codes "nest" ∷ codes "trace" ∷ [])
+    ∷ bad (codes "lint" ∷ codes "--replies" ∷ codes "--nest" ∷ [])  -- one input of the two
+    ∷ bad (codes "lint" ∷ codes "--json" ∷ [])
+    ∷ bad (codes "nest" ∷ codes "--nest" ∷ [])
     ∷ bad (codes "help" ∷ [])
     ∷ []
 

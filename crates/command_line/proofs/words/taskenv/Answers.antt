@@ -10,4 +10,6 @@ returns c =
     let third = c.in_ok-command-3.ensures ∙ ap₂ with_rule second c.flag_argument.ensures.rule in
     let fourth = c.in_ok-command-4.ensures ∙ ap₂ with_rule third c.flag_argument-2.ensures.rule in
     let fifth = c.in_ok-command-5.ensures ∙ ap₂ with_rule fourth c.value_argument-2.ensures.rule in
-    IfOk-weaker c.with_argument-6.result _ _ (λ command is. is ∙ ap₂ with_rule fifth c.value_argument-3.ensures.rule) c.with_argument-6.ensures
+    let sixth = c.in_ok-command-6.ensures ∙ ap₂ with_rule fifth c.value_argument-3.ensures.rule in
+    let seventh = c.in_ok-command-7.ensures ∙ ap₂ with_rule sixth c.flag_argument-3.ensures.rule in
+    IfOk-weaker c.with_argument-8.result _ _ (λ command is. is ∙ ap₂ with_rule seventh c.flag_argument-4.ensures.rule) c.with_argument-8.ensures
