@@ -1,6 +1,6 @@
 -- The first place of a line for which a reason holds that its words alone give. Places are counted from 1, the command's;
 -- `;` is a word too, and where a word is missing the place is the one behind the last word, or that of the `;`.
-use Rattle.std.specs.Prelude.{ℕ, suc, ◌==◌, Bool, true, false, not, if◌then◌else◌, List, [], ◌∷◌, drop, slice_get, unwrap_or, Option, Some, None, Result, Ok, Err}
+use Rattle.std.specs.Prelude.{ℕ, suc, ◌==◌, Bool, true, false, not, if◌then◌else◌, List, [], ◌∷◌, drop, slice_get, unwrap_or, Option, Some, None, option_map, Result, Ok, Err}
 use Rattle.std.specs.List.{position_from}
 use Rattle.std.specs.Option.{option_or}
 use Rattle.script_model.specs.Words.{words_of, is_mark, is_all_ascii}
@@ -12,23 +12,19 @@ use Rattle.line_places.specs.declared.expected.Found.{Found}
 use Rattle.line_places.specs.Tables.{places_of, step_places}
 use Rattle.line_places.specs.Faults.{fault_of, is_required, takes_word}
 
--- the fault is the one that is sought: of a certain reason, or any
-abbrev pub is_sought : Option ℕ → Option ℕ → Bool
-is_sought sought None = false
-is_sought None (Some fault) = true
-is_sought (Some reason) (Some fault) = fault == reason
+-- the fault, if it is the one that is sought: of a certain reason, or any
+abbrev pub sought_by : Option ℕ → Option ℕ → Option ℕ
+sought_by None fault = fault
+sought_by (Some reason) None = None
+sought_by (Some reason) (Some fault) = if fault == reason then Some fault else None
 
--- this place, where that is expected
-abbrev pub found : ℕ → Expected → Found
-found place expected = record { place = place; expected = expected }
-
--- the place, if a fault at it is sought
-abbrev pub found_if : Bool → ℕ → Expected → Option Found
-found_if test place expected = if test then Some (found place expected) else None
+-- the place, where that is expected, if there is a fault at it
+abbrev pub found_at : Option ℕ → ℕ → Expected → Option Found
+found_at fault place expected = option_map (λ reason. record { place = place; expected = expected; reason = reason }) fault
 
 -- a word is missing at the place, and that is sought
 abbrev pub missing : Option ℕ → Bool → ℕ → Expected → Option Found
-missing sought is_fault place expected = found_if (is_sought sought (if is_fault then Some word_count else None)) place expected
+missing sought is_fault place expected = found_at (sought_by sought (if is_fault then Some word_count else None)) place expected
 
 -- ---- steps
 
@@ -43,7 +39,10 @@ behind_word language expected rest word = rest
 abbrev pub turn_at_word : Language → Option ℕ → List Expected → List ℕ → ℕ → Result (List Expected) Found
 turn_at_word language sought [] word place = Ok []
 turn_at_word language sought (expected ∷ rest) word place =
-    if is_sought sought (fault_of language expected word) then Err (found place expected) else Ok (behind_word language expected rest word)
+    elim (found_at (sought_by sought (fault_of language expected word)) place expected) as (λ _. Result (List Expected) Found) [
+      | None ↦ Ok (behind_word language expected rest word)
+      | Some at ↦ Err at
+    ]
 
 -- the same where `;` stands
 abbrev pub turn_at_mark : Option ℕ → List Expected → ℕ → Result (List Expected) Found
@@ -77,7 +76,7 @@ first_of_steps language sought expected (word ∷ words) place =
 -- a place that is none of a step's, with the word there, if there is one
 abbrev pub at_place : Language → Option ℕ → Expected → Option (List ℕ) → ℕ → Option Found
 at_place language sought expected None place = missing sought (is_required expected) place expected
-at_place language sought expected (Some word) place = found_if (is_sought sought (fault_of language expected word)) place expected
+at_place language sought expected (Some word) place = found_at (sought_by sought (fault_of language expected word)) place expected
 
 -- what a place takes are the steps of the line
 abbrev pub is_steps : Expected → Bool

@@ -52,11 +52,12 @@ pub enum Expected {
     End,
 }
 
-/// A place of a line, counted from 1, and what it takes.
+/// A place of a line, counted from 1, what it takes, and why what stands there can't: one of the reasons 2 to 5 of a script.
 #[derive(Clone, Copy)]
 pub struct Found {
     pub place: usize,
     pub expected: Expected,
+    pub reason: u8,
 }
 
 /// How many words a line takes, its command among them.

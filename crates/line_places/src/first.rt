@@ -1,7 +1,7 @@
 ghost use Rattle.std.specs.Prelude.{◌≡◌, ◌+◌, ◌<◌, ◌^◌, ◌∷◌, [], length, option_copied, MatchResult, Ok, Err};
 ghost use Rattle.script_model.specs.Words.{is_all_ascii};
 ghost use Rattle.line_places.specs.declared.expected.Expected.TheVariants.{Steps};
-ghost use Rattle.line_places.specs.First.{at_end, at_place, behind_word, first_at, first_beyond_ascii, first_of_steps, first_place, found_if, is_sought, is_steps, missing, turn, turn_at_mark, turn_at_word};
+ghost use Rattle.line_places.specs.First.{at_end, at_place, behind_word, first_at, first_beyond_ascii, first_of_steps, first_place, found_at, is_steps, missing, sought_by, turn, turn_at_mark, turn_at_word};
 
 use crate::expected::{Expected, Found, Language};
 use crate::faults::{fault_of, is_required, takes_word};
@@ -148,8 +148,8 @@ fn turn_at_word(
         (λ found. turn_at_word language sought expected.entry.now word.now place ≡ Err found) }
 {
     match expected {
-        [first, rest @ ..] => match found_if(
-            is_sought(sought, fault_of(language, *first, word)),
+        [first, rest @ ..] => match found_at(
+            sought_by(sought, fault_of(language, *first, word)),
             place,
             *first,
         ) {
@@ -196,8 +196,8 @@ fn at_place(
 {
     match word {
         None => missing(sought, is_required(expected), place, expected),
-        Some(word) => found_if(
-            is_sought(sought, fault_of(language, expected, word)),
+        Some(word) => found_at(
+            sought_by(sought, fault_of(language, expected, word)),
             place,
             expected,
         ),
@@ -213,27 +213,27 @@ fn missing(sought: Option<u8>, is_fault: bool, place: usize, expected: Expected)
     } else {
         None
     };
-    found_if(is_sought(sought, fault), place, expected)
+    found_at(sought_by(sought, fault), place, expected)
 }
 
-/// The place, if the test holds.
-fn found_if(test: bool, place: usize, expected: Expected) -> Option<Found>
-    ensures { result ≡ found_if test place expected }
+/// The place, if there is a fault at it.
+fn found_at(fault: Option<Reason>, place: usize, expected: Expected) -> Option<Found>
+    ensures { result ≡ found_at fault place expected }
 {
-    if test {
-        Some(Found { place, expected })
-    } else {
-        None
-    }
+    let reason = fault?.number();
+    Some(Found {
+        place,
+        expected,
+        reason,
+    })
 }
 
-/// Whether a fault is the one that is sought: of a certain reason, or any.
-fn is_sought(sought: Option<u8>, fault: Option<Reason>) -> bool
-    ensures { result ≡ is_sought sought fault }
+/// The fault, if it is the one that is sought: of a certain reason, or any.
+fn sought_by(sought: Option<u8>, fault: Option<Reason>) -> Option<Reason>
+    ensures { result ≡ sought_by sought fault }
 {
     match (sought, fault) {
-        (_, None) => false,
-        (None, Some(_)) => true,
-        (Some(reason), Some(fault)) => fault.number() == reason,
+        (Some(reason), Some(fault)) if fault.number() != reason => None,
+        _ => fault,
     }
 }

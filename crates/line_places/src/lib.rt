@@ -4,12 +4,16 @@
 //! Which lines are bad, and for which reason, is defined by the grammars; here is only where.
 #![tactic(auto)]
 
+mod bytes;
 mod expected;
 mod faults;
 mod first;
 mod length;
 mod tables;
+mod words;
 
+pub use bytes::{Lines, cut_at};
 pub use expected::{Expected, Found, Language, Length, Thing};
 pub use first::{first_beyond_ascii, first_place};
 pub use length::line_length;
+pub use words::{command_of, word_at};

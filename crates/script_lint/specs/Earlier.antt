@@ -1,15 +1,14 @@
 -- Which earlier line is looked for.
 use Rattle.std.specs.Prelude.{ℕ, ◌==◌, Bool, true, false, List, Option, Result, Ok, Err}
-use Rattle.std.specs.List.{list_any, slice_split, position_from}
-use Rattle.std.specs.Str.Lines.{strip_carriage_return}
+use Rattle.std.specs.List.{list_any, position_from}
 use Rattle.task_base.specs.declared.step.Step.{Step}
 use Rattle.task_base.specs.declared.step.Step.TheVariants as steps
 use Rattle.task_base.specs.declared.script.Action.{Action}
 use Rattle.task_base.specs.declared.script.Action.TheVariants as actions
+use Rattle.script_model.specs.Words.{lines_of}
 use Rattle.script_lines.specs.declared.command.Command.{Command}
 use Rattle.script_lines.specs.declared.command.Command.TheVariants as commands
 use Rattle.script_lines.specs.Said.{line_said}
-use Rattle.script_lint.specs.Bytes.{is_feed}
 use Rattle.script_lint.specs.declared.earlier.Sought.{Sought}
 use Rattle.script_lint.specs.declared.earlier.Sought.TheVariants.{Posts, Starts, ShutsDown, Acts, Declares, Workers, Groups, Threshold}
 
@@ -56,4 +55,4 @@ says sought line = is_sought_said sought (line_said line)
 
 -- the first line of a text, counted from 1, that says what is looked for
 unfoldable pub first_line : Sought → List ℕ → Option ℕ
-first_line sought text = position_from (λ line. says sought (strip_carriage_return line)) 1 (slice_split is_feed text)
+first_line sought text = position_from (says sought) 1 (lines_of text)

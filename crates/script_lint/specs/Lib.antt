@@ -1,4 +1,3 @@
-pub mod Bytes
 pub mod Objections
 pub mod Earlier
 pub mod Steps

@@ -4,12 +4,13 @@ use Rattle.task_base.specs.Plan.{Plan}
 use Rattle.script_model.specs.Grammar.{first_fault, script_read}
 use Rattle.script_lines.specs.declared.command.Command.{Command}
 use Rattle.script_lines.specs.Said.{line_said}
+use Rattle.line_places.specs.Bytes.{front_of, line_at}
+use Rattle.line_places.specs.Words.{word_at}
 use Rattle.lint_text.specs.declared.complaint.Complaint.TheVariants.{Breaks}
 use Rattle.lint_text.specs.Text.{lint_line}
 use Rattle.script_lint.specs.declared.objection.Objection.{Objection}
-use Rattle.script_lint.specs.Bytes.{front_of, line_at}
 use Rattle.script_lint.specs.Objections.{at}
-use Rattle.script_lint.specs.Words.{word_at, word_objection}
+use Rattle.script_lint.specs.Words.{word_objection}
 use Rattle.script_lint.specs.Lines.{line_objection}
 
 -- what is wrong with a command behind the bytes of the lines before it, if these are a script

@@ -1,5 +1,5 @@
 -- What is wrong with a line of a script whose words alone are wrong: the first place for which the reason holds, and what it takes.
-use Rattle.std.specs.Prelude.{ℕ, ◌-◌, ◌==◌, if◌then◌else◌, List, [], drop, slice_get, unwrap_or, Option, Some, None}
+use Rattle.std.specs.Prelude.{ℕ, ◌==◌, if◌then◌else◌, List, drop, unwrap_or, Some, None}
 use Rattle.std.specs.Result.{result_unwrap_or}
 use Rattle.script_model.specs.Words.{words_of}
 use Rattle.script_model.specs.Reasons.{not_ascii}
@@ -9,18 +9,11 @@ use Rattle.line_places.specs.declared.expected.Expected.{Expected}
 use Rattle.line_places.specs.declared.expected.Expected.TheVariants.{Number}
 use Rattle.line_places.specs.First.{first_beyond_ascii, first_place}
 use Rattle.line_places.specs.Lengths.{line_length}
+use Rattle.line_places.specs.Words.{command_of}
 use Rattle.lint_text.specs.declared.complaint.Complaint.{Complaint}
 use Rattle.lint_text.specs.declared.complaint.Complaint.TheVariants.{NotAscii, Unexpected}
 use Rattle.script_lint.specs.declared.objection.Objection.{Objection}
 use Rattle.script_lint.specs.Objections.{at}
-
--- the word at a place of a line, counted from 1, if there is one
-abbrev pub word_at : List ℕ → ℕ → Option (List ℕ)
-word_at line place = slice_get (drop (place - 1) (words_of line)) 0
-
--- the command of a line
-abbrev pub command_of : List ℕ → List ℕ
-command_of line = unwrap_or (word_at line 1) []
 
 -- a word has a byte above 127
 abbrev pub ascii_objection : List ℕ → Objection

@@ -1,11 +1,10 @@
 ghost use Rattle.std.specs.Prelude.{◌≡◌, ◌≤◌, length, IfOk};
 ghost use Rattle.std.specs.List.{list_any};
-ghost use Rattle.std.specs.Str.Lines.{strip_carriage_return};
 ghost use Rattle.script_lines.specs.Said.{line_said};
 ghost use Rattle.script_lint.specs.Earlier.{action_posts, first_line, is_sought, is_sought_action, says, step_posts};
 
-use crate::bytes::cut_line;
-use script_lines::{Command, LineFault, read_line, without_return};
+use line_places::Lines;
+use script_lines::{Command, LineFault, read_line};
 use std::alloc::{AllocError, Global};
 use task_base::{Action, JobId, Step, TaskId};
 
@@ -41,15 +40,13 @@ pub(crate) fn first_line(
     requires { length text.now ≤ 4294967294 }
     ensures { IfOk result (λ line. line ≡ first_line sought text.now) }
 {
-    let mut rest = Some(text);
+    let mut lines = Lines::of(text);
     let mut number = 0;
-    while let Some(lines) = rest {
-        let (line, behind) = cut_line(lines);
+    while let Some(line) = lines.next() {
         number += 1;
-        if says(alloc, sought, without_return(line))? {
+        if says(alloc, sought, line)? {
             return Ok(Some(number));
         }
-        rest = behind;
     }
     Ok(None)
 }

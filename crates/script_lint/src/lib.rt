@@ -2,7 +2,6 @@
 //! there, and what may.
 #![tactic(auto)]
 
-mod bytes;
 mod earlier;
 mod limits;
 mod lines;

@@ -2,10 +2,10 @@ ghost use Rattle.std.specs.Prelude.{◌≡◌, ◌≤◌, length, option_map, If
 ghost use Rattle.script_model.specs.Grammar.{script_read};
 ghost use Rattle.script_lint.specs.Lint.{fault_line, lint_of, objection_behind, objection_of};
 
-use crate::bytes::cut_at;
 use crate::lines::line_objection;
 use crate::objection::{Objection, at};
-use crate::words::{word_at, word_objection};
+use crate::words::word_objection;
+use line_places::{cut_at, word_at};
 use lint_text::{Complaint, lint_line};
 use script_lines::{Command, LineFault, read_line};
 use std::alloc::{AllocError, Global};

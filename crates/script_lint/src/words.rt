@@ -1,10 +1,9 @@
 //! What is wrong with a line whose words alone are wrong.
-ghost use Rattle.std.specs.Prelude.{◌≡◌, ◌<◌, ◌^◌, drop, length, option_copied, slice_get};
-ghost use Rattle.script_model.specs.Words.{words_of};
-ghost use Rattle.script_lint.specs.Words.{above_foreground, ascii_objection, command_of, foreground_of, word_at, word_objection, unexpected};
+ghost use Rattle.std.specs.Prelude.{◌≡◌, ◌<◌, ◌^◌, length};
+ghost use Rattle.script_lint.specs.Words.{above_foreground, ascii_objection, foreground_of, word_objection, unexpected};
 
 use crate::objection::{Objection, at};
-use line_places::{Expected, Language, first_beyond_ascii, first_place, line_length};
+use line_places::{Expected, Language, command_of, first_beyond_ascii, first_place, line_length};
 use line_words::Words;
 use lint_text::Complaint;
 
@@ -60,24 +59,4 @@ fn foreground_of(line: &[u8]) -> u32
     let mut words = Words::of(line);
     words.next();
     words.count(1, 64).unwrap_or(64)
-}
-
-/// The command of a line.
-fn command_of(line: &[u8]) -> &[u8]
-    ensures { result.now ≡ command_of line.now }
-{
-    word_at(line, 1).unwrap_or(&[])
-}
-
-/// The word at a place of a line, counted from 1, if there is one.
-pub(crate) fn word_at(line: &[u8], place: usize) -> Option<&[u8]>
-    ensures { option_copied result ≡ word_at line.now place }
-{
-    let mut words = Words::of(line);
-    let mut left = place.saturating_sub(1);
-    while left > 0 {
-        words.next();
-        left -= 1;
-    }
-    words.next()
 }

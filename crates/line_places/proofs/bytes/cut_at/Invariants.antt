@@ -1,7 +1,7 @@
 use Rattle.std.proofs.Common.{◌≡◌, ◌-◌, ◌≤◌, length}
 use Rattle.std.specs.Prelude.{IfSome, option_copied, Some}
-use Rattle.script_lint.specs.Bytes.{lines_behind, text_from}
-use Rattle.script_lint.proofs.bytes.cut_at.Given as goal
+use Rattle.line_places.specs.Bytes.{lines_behind, text_from}
+use Rattle.line_places.proofs.bytes.cut_at.Given as goal
 
 abbrev pub invariant-loop-rest : goal.invariant-loop-rest
 invariant-loop-rest l = record {

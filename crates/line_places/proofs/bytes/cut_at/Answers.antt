@@ -1,7 +1,7 @@
 use Rattle.std.proofs.Common.{length, sym, ◌∙◌, arith}
 use Rattle.std.specs.Prelude.{option_copied}
-use Rattle.script_lint.proofs.LinesOfText.{shorter_still, text_from-more}
-use Rattle.script_lint.proofs.bytes.cut_at.Goals as goal
+use Rattle.line_places.proofs.LinesOfText.{shorter_still, text_from-more}
+use Rattle.line_places.proofs.bytes.cut_at.Goals as goal
 
 pub overflow_sub-front : goal.overflow_sub-front
 overflow_sub-front c = rw c.in-Some.is at c.loop-rest.invariant.short

@@ -1,5 +1,5 @@
 -- The lines of a text, one after the other.
--- Cited by `cut_line`, `cut_at`, `first_line`.
+-- Cited by `Lines::of`, `cut_line`, `cut_at`.
 use Rattle.std.proofs.Common.{◌≡◌, ℕ, zero, suc, ◌+◌, ◌-◌, ◌≤◌, Bool, true, false, cond, List, [], ◌∷◌, length, take, drop, refl, arith}
 use Rattle.std.specs.Prelude.{nat_lt, position, IfSome, Option, Some, None}
 use Rattle.std.specs.List.{slice_split, position_or_len}
@@ -8,7 +8,7 @@ use Rattle.std.proofs.lemmas.Option.{none-some}
 use Rattle.std.proofs.lemmas.List.Splits.{slice_split-cons_no, slice_split_first, length-slice_split}
 use Rattle.std.proofs.lemmas.List.Sums.{count_by-le-length}
 use Rattle.list_laws.proofs.Finds.{position_none}
-use Rattle.script_lint.specs.Bytes.{behind, is_feed, text_from}
+use Rattle.line_places.specs.Bytes.{behind, is_feed, text_from}
 
 -- a line feed parts the lines before it from those behind it
 pub lines_at_feed : (text : List ℕ) (end : ℕ) → position is_feed text ≡ Some end

@@ -1,7 +1,7 @@
 use Rattle.std.proofs.Common.{◌+◌, ◌-◌, length, drop, sym, ◌∙◌, arith, length-drop}
 use Rattle.std.proofs.lemmas.List.{take_all}
-use Rattle.script_lint.proofs.LinesOfText.{lines_at_feed, lines_without_feed}
-use Rattle.script_lint.proofs.bytes.cut_line.Goals as goal
+use Rattle.line_places.proofs.LinesOfText.{lines_at_feed, lines_without_feed}
+use Rattle.line_places.proofs.bytes.cut_line.Goals as goal
 
 pub returns-in-Some-clause-lines : goal.returns-in-Some-clause-lines
 returns-in-Some-clause-lines c =

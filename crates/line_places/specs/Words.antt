@@ -1,0 +1,11 @@
+-- The words of a line by their places, counted from 1.
+use Rattle.std.specs.Prelude.{ℕ, ◌-◌, List, [], drop, slice_get, unwrap_or, Option}
+use Rattle.script_model.specs.Words.{words_of}
+
+-- the word at a place of a line, if there is one
+abbrev pub word_at : List ℕ → ℕ → Option (List ℕ)
+word_at line place = slice_get (drop (place - 1) (words_of line)) 0
+
+-- the command of a line
+abbrev pub command_of : List ℕ → List ℕ
+command_of line = unwrap_or (word_at line 1) []
