@@ -1,3 +1,4 @@
 pub mod Quote
 pub mod Expected
 pub mod Text
+pub mod Objections

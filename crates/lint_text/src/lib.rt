@@ -4,8 +4,9 @@
 
 mod complaint;
 mod expected;
+mod objection;
 mod quote;
 mod text;
 
 pub use complaint::{Complaint, Limited};
-pub use text::lint_line;
+pub use objection::{Objection, at, by_words, none_of, objection_line, unexpected};

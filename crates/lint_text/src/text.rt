@@ -9,7 +9,7 @@ use std::alloc::{AllocError, Global};
 
 /// The line that says what is wrong: `line 4, word 3: ` and the sentence, with a line feed. `line` and `place` count
 /// from 1; `word` is what stands at the place, and is missing where nothing does. `front` stands before it all.
-pub fn lint_line(
+pub(crate) fn lint_line(
     alloc: Global,
     front: &[u8],
     line: u32,

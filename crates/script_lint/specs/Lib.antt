@@ -1,4 +1,3 @@
-pub mod Objections
 pub mod Earlier
 pub mod Steps
 pub mod Posting

@@ -16,14 +16,14 @@ use Rattle.line_places.specs.declared.expected.Thing.TheVariants.{Runner, Queue,
 use Rattle.lint_text.specs.declared.complaint.Complaint.TheVariants.{OutOfOrder, NoVoter, NoSeat, PostedTwice, Late, StartedBefore, NotStarted, StandsBefore, TooMany}
 use Rattle.script_lint.specs.declared.earlier.Sought.{Sought}
 use Rattle.script_lint.specs.declared.earlier.Sought.TheVariants as sought
-use Rattle.script_lint.specs.declared.objection.Objection.{Objection}
+use Rattle.lint_text.specs.declared.objection.Objection.{Objection}
 use Rattle.script_lint.specs.declared.steps.Question.TheVariants.{Declared, Blocking, Computing}
 use Rattle.script_lint.specs.Earlier.{first_line}
 use Rattle.script_lint.specs.Limits.{limit_passed, most_of}
-use Rattle.script_lint.specs.Objections.{at}
+use Rattle.lint_text.specs.Objections.{at, none_of}
 use Rattle.script_lint.specs.Posting.{posted_again}
 use Rattle.script_lint.specs.Scopes.{block_in}
-use Rattle.script_lint.specs.Steps.{first_step, none_of}
+use Rattle.script_lint.specs.Steps.{first_step}
 
 -- the number of a declaration is not the next one
 abbrev pub order_objection : Plan → Command → Option Objection

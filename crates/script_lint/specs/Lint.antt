@@ -5,11 +5,9 @@ use Rattle.script_model.specs.Grammar.{first_fault, script_read}
 use Rattle.script_lines.specs.declared.command.Command.{Command}
 use Rattle.script_lines.specs.Said.{line_said}
 use Rattle.line_places.specs.Bytes.{front_of, line_at}
-use Rattle.line_places.specs.Words.{word_at}
 use Rattle.lint_text.specs.declared.complaint.Complaint.TheVariants.{Breaks}
-use Rattle.lint_text.specs.Text.{lint_line}
-use Rattle.script_lint.specs.declared.objection.Objection.{Objection}
-use Rattle.script_lint.specs.Objections.{at}
+use Rattle.lint_text.specs.declared.objection.Objection.{Objection}
+use Rattle.lint_text.specs.Objections.{at, objection_line}
 use Rattle.script_lint.specs.Words.{word_objection}
 use Rattle.script_lint.specs.Lines.{line_objection}
 
@@ -27,13 +25,9 @@ objection_by (Ok command) front line reason = unwrap_or (objection_behind (scrip
 abbrev pub objection_of : List ℕ → List ℕ → ℕ → Objection
 objection_of front line reason = objection_by (line_said line) front line reason
 
--- the line of text that says what is wrong with a line of this number, from 1
-abbrev pub said_of : List ℕ → ℕ → Objection → List ℕ
-said_of line number objection = lint_line [] number objection.place objection.complaint (word_at line objection.place)
-
--- the same of the line of this number of the bytes, by its reason
+-- the line of text that says what is wrong with the line of this number of the bytes, by its reason
 abbrev pub fault_line : List ℕ → ℕ → ℕ → List ℕ
-fault_line bytes number reason = said_of (line_at bytes (number - 1)) number (objection_of (front_of bytes (number - 1)) (line_at bytes (number - 1)) reason)
+fault_line bytes number reason = objection_line [] number (line_at bytes (number - 1)) (objection_of (front_of bytes (number - 1)) (line_at bytes (number - 1)) reason)
 
 -- what is said of bytes: of their first fault, if they have one
 abbrev pub lint_of : List ℕ → Option (List ℕ)

@@ -6,8 +6,8 @@ use Rattle.task_base.specs.Plan.{Plan}
 use Rattle.task_base.specs.declared.step.Step.{Step}
 use Rattle.task_base.specs.declared.step.Step.TheVariants.{Block, Unblock}
 use Rattle.lint_text.specs.declared.complaint.Complaint.TheVariants.{OpensSecond, ClosesNone, StaysOpen}
-use Rattle.script_lint.specs.declared.objection.Objection.{Objection}
-use Rattle.script_lint.specs.Objections.{at}
+use Rattle.lint_text.specs.declared.objection.Objection.{Objection}
+use Rattle.lint_text.specs.Objections.{at}
 use Rattle.script_lint.specs.Steps.{moved, must_not_block, words_in}
 
 -- the step opens or closes a scope

@@ -8,12 +8,11 @@ use Rattle.task_base.specs.declared.step.Step.TheVariants.{Post, Main, Unblock}
 use Rattle.script_model.specs.Draft.{may_block_on, opens_scope}
 use Rattle.line_places.specs.declared.expected.Thing.{Thing}
 use Rattle.line_places.specs.declared.expected.Thing.TheVariants.{Runner, Queue, Task}
-use Rattle.lint_text.specs.declared.complaint.Complaint.{Complaint}
-use Rattle.lint_text.specs.declared.complaint.Complaint.TheVariants.{Undeclared, MayNotBlock, NoJobStep}
-use Rattle.script_lint.specs.declared.objection.Objection.{Objection}
+use Rattle.lint_text.specs.declared.complaint.Complaint.TheVariants.{MayNotBlock, NoJobStep}
+use Rattle.lint_text.specs.declared.objection.Objection.{Objection}
 use Rattle.script_lint.specs.declared.steps.Question.{Question}
 use Rattle.script_lint.specs.declared.steps.Question.TheVariants.{Declared, Blocking, Computing}
-use Rattle.script_lint.specs.Objections.{at}
+use Rattle.lint_text.specs.Objections.{at, none_of}
 
 -- how many words a step has, and the `;` behind it
 abbrev pub words_in : Step → ℕ
@@ -26,10 +25,6 @@ words_in step = 3
 abbrev pub moved : ℕ → Option Objection → Option Objection
 moved by None = None
 moved by (Some objection) = Some (at (by + objection.place) objection.complaint)
-
--- only so many are declared
-abbrev pub none_of : Thing → ℕ → Complaint
-none_of of count = Undeclared of count
 
 -- of so many tasks this is none, or of so many of its homes that is none
 abbrev pub undeclared : ℕ → ℕ → Thing → ℕ → ℕ → Option Objection

@@ -6,7 +6,6 @@ mod earlier;
 mod limits;
 mod lines;
 mod lint;
-mod objection;
 mod posting;
 mod scopes;
 mod steps;

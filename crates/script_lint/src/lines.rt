@@ -6,12 +6,11 @@ ghost use Rattle.script_lint.specs.Lines.{bad_block, is_declaration, is_late, is
 
 use crate::earlier::{Sought, first_line};
 use crate::limits::{limit_passed, most_of};
-use crate::objection::{Objection, at};
 use crate::posting::posted_again;
 use crate::scopes::block_in;
-use crate::steps::{Question, first_step, none_of};
+use crate::steps::{Question, first_step};
 use line_places::Thing;
-use lint_text::Complaint;
+use lint_text::{Complaint, Objection, at, none_of};
 use script_lines::Command;
 use std::alloc::{AllocError, Global};
 use task_base::{Action, JobId, QueueId, RunnerKind, Script, Step, TaskId};

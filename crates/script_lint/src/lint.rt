@@ -3,10 +3,9 @@ ghost use Rattle.script_model.specs.Grammar.{script_read};
 ghost use Rattle.script_lint.specs.Lint.{fault_line, lint_of, objection_behind, objection_of};
 
 use crate::lines::line_objection;
-use crate::objection::{Objection, at};
 use crate::words::word_objection;
-use line_places::{cut_at, word_at};
-use lint_text::{Complaint, lint_line};
+use line_places::cut_at;
+use lint_text::{Complaint, Objection, at, objection_line};
 use script_lines::{Command, LineFault, read_line};
 use std::alloc::{AllocError, Global};
 use task_script::{ScriptFault, read_script};
@@ -31,14 +30,7 @@ fn fault_line(alloc: Global, bytes: &[u8], number: u32, reason: u8) -> Result<Ve
 {
     let (front, line) = cut_at(bytes, number);
     let objection = objection_of(alloc, front, line, reason)?;
-    lint_line(
-        alloc,
-        b"",
-        number,
-        objection.place,
-        &objection.complaint,
-        word_at(line, objection.place),
-    )
+    objection_line(alloc, b"", number, line, &objection)
 }
 
 /// What is wrong with a line behind the bytes of the lines before it, by the line's reason. The error is want of memory.

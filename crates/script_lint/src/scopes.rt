@@ -3,9 +3,8 @@ ghost use Rattle.std.specs.Prelude.{◌≡◌, ◌≤◌, false, IfSome};
 ghost use Rattle.std.specs.List.{list_any};
 ghost use Rattle.script_lint.specs.Scopes.{block_in, block_fault, inside_behind, is_scope, opened_fault};
 
-use crate::objection::{Objection, at};
 use crate::steps::{moved, must_not_block, words_in};
-use lint_text::Complaint;
+use lint_text::{Complaint, Objection, at};
 use task_base::{Script, Step};
 
 /// What is wrong with the first of a task's steps, which stand from this place on, that opens or closes a scope wrongly, or posts a

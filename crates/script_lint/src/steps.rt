@@ -1,12 +1,11 @@
 //! Steps, and the places at which they stand in their line.
 ghost use Rattle.std.specs.Prelude.{◌≡◌, ◌≤◌, ◌<◌, ◌^◌, IfSome};
 ghost use Rattle.std.specs.List.{list_any};
-ghost use Rattle.script_lint.specs.Steps.{first_step, moved, must_not_block, no_job_step, none_of, step_objection, undeclared, undeclared_step, words_in};
+ghost use Rattle.script_lint.specs.Steps.{first_step, moved, must_not_block, no_job_step, step_objection, undeclared, undeclared_step, words_in};
 ghost use Rattle.script_model.specs.Draft.{is_block, may_block_on, opens_scope};
 
-use crate::objection::{Objection, at};
 use line_places::Thing;
-use lint_text::Complaint;
+use lint_text::{Complaint, Objection, at, none_of};
 use task_base::{RunnerId, Script, Step, TaskId, is_act};
 
 /// What a step is asked.
@@ -112,16 +111,6 @@ fn undeclared(task: TaskId, tasks: usize, of: Thing, home: u32, homes: usize) ->
         return Some(at(2, none_of(of, homes)));
     }
     None
-}
-
-/// That only so many are declared.
-pub(crate) fn none_of(of: Thing, count: usize) -> Complaint
-    ensures { result ≡ none_of of count }
-{
-    Complaint::Undeclared {
-        of,
-        count: count as u64,
-    }
 }
 
 /// That the step posts a task that opens a blocking scope where it must not block.

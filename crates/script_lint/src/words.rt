@@ -1,11 +1,10 @@
 //! What is wrong with a line whose words alone are wrong.
 ghost use Rattle.std.specs.Prelude.{◌≡◌, ◌<◌, ◌^◌, length};
-ghost use Rattle.script_lint.specs.Words.{above_foreground, ascii_objection, foreground_of, word_objection, unexpected};
+ghost use Rattle.script_lint.specs.Words.{above_foreground, ascii_objection, foreground_of, word_objection};
 
-use crate::objection::{Objection, at};
 use line_places::{Expected, Language, command_of, first_beyond_ascii, first_place, line_length};
 use line_words::Words;
-use lint_text::Complaint;
+use lint_text::{Complaint, Objection, at, unexpected};
 
 /// What is wrong with a line of a script, by the least reason of its words: one of 1 to 5.
 pub(crate) fn word_objection(line: &[u8], reason: u8) -> Objection
@@ -16,7 +15,10 @@ pub(crate) fn word_objection(line: &[u8], reason: u8) -> Objection
         return ascii_objection(line);
     }
     match first_place(Language::Script, Some(reason), line) {
-        Some(found) => at(found.place, unexpected(line, found.expected, reason)),
+        Some(found) => at(
+            found.place,
+            unexpected(Language::Script, line, found.expected, reason),
+        ),
         None => above_foreground(line, reason),
     }
 }
@@ -29,18 +31,6 @@ fn ascii_objection(line: &[u8]) -> Objection
     at(first_beyond_ascii(line).unwrap_or(1), Complaint::NotAscii)
 }
 
-/// That a word can't stand where this is expected.
-fn unexpected(line: &[u8], expected: Expected, reason: u8) -> Complaint
-    ensures { result ≡ unexpected line.now expected reason }
-{
-    Complaint::Unexpected {
-        language: Language::Script,
-        expected,
-        reason,
-        length: line_length(Language::Script, command_of(line)),
-    }
-}
-
 /// That the limit of best-effort work is above that of all foreground work, before it on the line.
 fn above_foreground(line: &[u8], reason: u8) -> Objection
     ensures { result ≡ above_foreground line.now reason }
@@ -48,7 +38,12 @@ fn above_foreground(line: &[u8], reason: u8) -> Objection
     let high = u64::from(foreground_of(line));
     at(
         3,
-        unexpected(line, Expected::Number { low: 1, high }, reason),
+        unexpected(
+            Language::Script,
+            line,
+            Expected::Number { low: 1, high },
+            reason,
+        ),
     )
 }
 
