@@ -1,0 +1,4 @@
+pub mod Said
+pub mod Earlier
+pub mod Objections
+pub mod Lint
