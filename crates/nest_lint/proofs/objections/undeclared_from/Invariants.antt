@@ -1,0 +1,13 @@
+use Rattle.std.proofs.Common.{◌≡◌, ◌+◌, ◌≤◌, ◌^◌, length}
+use Rattle.nest_lint.specs.declared.posts.Part.TheVariants.{Other}
+use Rattle.nest_lint.specs.Objections.{undeclared_from}
+use Rattle.nest_lint.proofs.objections.undeclared_from.Given as goal
+
+abbrev pub invariant-loop-word : goal.invariant-loop-word
+invariant-loop-word l = record {
+  short : l.place + length l.words ≤ 2 ^ 63 + 1;
+  rest : undeclared_from l.nest l.part l.words l.place ≡ undeclared_from l.nest Other l.initial.words 1;
+}
+
+abbrev pub decreases-loop-word : goal.decreases-loop-word
+decreases-loop-word l = length l.words

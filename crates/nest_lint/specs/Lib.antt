@@ -1,0 +1,4 @@
+pub mod Posts
+pub mod Earlier
+pub mod Objections
+pub mod Lint
