@@ -1,0 +1,120 @@
+"""What a call does, from its words to its exit status."""
+from __future__ import annotations
+
+import os
+
+import inputs
+import programs
+import running
+import words
+from programs import CannotBuild, Program
+from running import Ran, say
+
+BAD_WORDS = 2
+BAD_SCRIPT = 3
+WRITE_FAULT = 5
+NOT_BUILT = 125
+
+
+def main(launcher: str, arguments: list[str], home: str) -> int:
+    """Does what the arguments ask for, and returns the exit status."""
+    running.hold_streams()
+    running.take_signals()
+    request = words.read(arguments, launcher, home)
+    if request.answer is not None:
+        return 0 if running.write(1, request.answer.encode()) else WRITE_FAULT
+    try:
+        return _answer(request, launcher, home)
+    except CannotBuild as error:
+        say(str(error))
+        return NOT_BUILT
+    except inputs.BadInput as error:
+        say(str(error))
+        return BAD_WORDS
+    except OSError as error:
+        say(f"nothing was run, since the repository is not whole: {error.filename}: {error.strerror}")
+        return NOT_BUILT
+
+
+def _answer(request: words.Request, launcher: str, home: str) -> int:
+    is_alone = not request.words
+    if request.prove and (is_alone or not request.fault):
+        _building("prove", home)
+        if is_alone:
+            return 0
+    program = programs.find(home, request.unproved)
+    if request.fault and not program:
+        # No one waits for a build whose program refuses its words.
+        running.write(2, b"bad words\n")
+        say(words.bad_words_line(request))
+        return BAD_WORDS
+    given = inputs.Given(None) if request.fault else inputs.gather(request.files, _places(request))
+    program = program or _building("build", home, launcher)
+    ran = _run(program, request, given, home)
+    if request.timed:
+        say("{:.3f} s on the clock, {:.3f} s and {:.3f} s (system) of the processors".format(*ran.times))
+    try:
+        say(*_hints(program, request, given, ran))
+    except Exception as error:
+        # What is said behind a run changes nothing of it.
+        say(f"no more can be said of it: {type(error).__name__}: {error}")
+    return ran.status
+
+
+def _building(what: str, *arguments: str) -> Program | None:
+    """Builds, which few calls do, and says so where that is stopped."""
+    import building
+
+    try:
+        return getattr(building, what)(*arguments)
+    except KeyboardInterrupt:
+        say("stopped: nothing of the build is left, and the next call begins anew")
+        raise
+
+
+def _places(request: words.Request) -> list[str]:
+    """What the mode reads, part by part."""
+    if request.mode == "nest" or "--nest" in request.words:
+        return ["NEST"]
+    return list(words.files_of(request.mode, set(request.words)))
+
+
+def _run(program: Program, request: words.Request, given: inputs.Given, home: str) -> Ran:
+    """Runs the program. Where someone reads along, the log of a run is kept, to tell how it ended."""
+    if not program.is_kept:
+        return _building("run_by_try", home, request.words, given.data)
+    is_watched = request.mode in ("run", "reply") and os.isatty(2)
+    try:
+        ran = running.run([program.file, *request.words], given.data, is_watched)
+    except OSError as error:
+        raise _not_run(program, error.strerror)
+    # The loader answers so, too, where the program was built for another machine.
+    if ran.status in (1, 127) and not running.works(program.file):
+        raise _not_run(program, "it is none for this machine")
+    return ran
+
+
+def _not_run(program: Program, why: str) -> CannotBuild:
+    return CannotBuild(f"{program.file} can't be run ({why}): remove it, and the next call builds one")
+
+
+def _hints(program: Program, request: words.Request, given: inputs.Given, ran: Ran) -> list[str]:
+    """What is said behind a run."""
+    if ran.status == BAD_WORDS:
+        return [words.bad_words_line(request)]
+    data = given.again() if ran.status in (0, BAD_SCRIPT) and program.is_kept else None
+    if data is None:
+        return []
+    if ran.status == BAD_SCRIPT:
+        import faults
+
+        def lint(options: list[str], text: bytes) -> tuple[int, bytes]:
+            return running.ask([program.file, "lint", *options], text, 1)
+
+        note = running.ask([program.file, *request.words], data, 2)[1].decode("ascii", "replace")
+        return faults.lines(note, request.mode, bool(request.files), data, lint)
+    if ran.log is not None:
+        import ends
+
+        return ends.lines(request.words, data, ran.log)
+    return []

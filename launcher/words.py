@@ -1,0 +1,298 @@
+"""The words of the command line: what they ask for, the help, and what is wrong with them."""
+from __future__ import annotations
+
+import os
+from collections import namedtuple
+from collections.abc import Iterable, Iterator
+
+from guesses import nearest, plain_number
+
+VERSION = "taskenv 1.0"
+
+# An option takes a number of a range, or is a flag and has none.
+Option = namedtuple("Option", "range says")
+OPTIONS = {
+    "--step": Option((1, 10 ** 12), "ticks read N, 2N, 3N and so on, in microseconds; without it the system's clock, from 0"),
+    "--json": Option(None, "writes JSON in place of text"),
+    "--prefix": Option(None, "a log is right too where the run isn't over"),
+    "--replies": Option(None, "reads a script and replies"),
+    "--nest": Option(None, "reads a nest script"),
+    "--number": Option((0, 2 ** 64 - 1), "what the script is made from, by default 0"),
+    "--size": Option((1, 8192), "how many tasks it has, by default 16"),
+}
+
+# What the launcher alone takes, before the mode.
+LAUNCHER = {
+    "--prove": "proves all and builds the proved program, some 40 minutes on four processors",
+    "--unproved": "runs the program that is built without a proof, also where the proved one is there",
+    "--time": "writes the time of the mode to standard error",
+}
+HELP = ("-h", "--help")
+ASKS_VERSION = ("-V", "--version")
+
+# The files that a mode may be given, its options, what it does, what its exit statuses say, and an example, in which {it} is the
+# launcher and {at} the folder of the examples.
+Mode = namedtuple("Mode", "files options says statuses example")
+RUNS = "0 the script was run   3 the script is bad"
+MAKES = "0 the script was made"
+JUDGES = "0 the log is legal and whole   1 it is not   3 the script is bad"
+REPLIED = r"runner 0 parallel user_visible skip\ntask 0 add 1\ntask 1 add 2\npost 1 0 0\nflush\n%%%%\nreply 1 0 runner 0\n"
+MODES = {
+    "run": Mode(("SCRIPT",), ("--step", "--json"), "reads a script, runs it, and writes the log of the run",
+                RUNS, "{it} run {at}/first_run.task"),
+    "check": Mode(("SCRIPT", "LOG"), ("--prefix",), "reads a script and a log, and writes whether the rules allow that log",
+                  JUDGES, "{it} check {at}/first_run.task {at}/first_run.log"),
+    "explain": Mode(("SCRIPT", "LOG"), ("--json",), "reads a script and a log, and writes why a wrong log is wrong",
+                    JUDGES, "sed 's/end 0 5/end 0 6/' {at}/first_run.log | {it} explain {at}/first_run.task -"),
+    "trace": Mode(("SCRIPT", "LOG"), (), "reads a script and a log, and writes a right log as trace events",
+                  JUDGES, "{it} trace {at}/first_run.task {at}/first_run.log"),
+    "reply": Mode(("SCRIPT", "REPLIES"), (), "reads a script and replies, runs the script with them, and writes the log",
+                  RUNS, f"printf '{REPLIED}' | {{it}} reply"),
+    "nest": Mode(("SCRIPT",), (), "reads a nest script, runs it, and writes its log",
+                 RUNS, "{it} nest {at}/nested.nest"),
+    "lint": Mode(("SCRIPT",), ("--replies", "--nest"), "reads a script, and writes which word of it is bad, and why",
+                 "0 it is a script   1 it is none", "echo 'worker 2' | {it} lint"),
+    "gen": Mode((), ("--number", "--size"), "makes a script from a number, and writes it",
+                MAKES, "{it} gen --size 2"),
+    "bench": Mode((), ("--number", "--size"), "makes the script that gen makes, runs it, and writes what its log adds up to",
+                  MAKES, "{it} bench --size 2"),
+}
+# Among so many names in a folder a near one is looked for.
+MOST_LOOKED_AT = 1000
+STATUSES = "2 bad words   4 read fault   5 write fault   6 no memory   7 too large   125 not built   130 the build was stopped"
+
+# What the words ask for: a text to answer with, what they ask of the launcher, the mode if one is named, the words that the program
+# gets, the files behind the mode, and what is wrong, if anything is. Then the program gets all words, and refuses them.
+Request = namedtuple("Request", "answer prove unproved timed mode words files fault")
+
+# A part of the command line: its sort, the words that it is, and of an option its name and its value, if it has one.
+Part = namedtuple("Part", "sort words name value")
+
+
+def read(arguments: list[str], launcher_name: str, home: str) -> Request:
+    """What the arguments ask for."""
+    parts = list(_parts_of(arguments))
+    given = {part.name for part in parts if part.sort == "launcher"}
+    mode = next((part.name for part in parts if part.sort == "mode" and part.name in MODES), None)
+    fault = next(_faults_of(parts, mode), None)
+    files = [] if fault else [part.name for part in parts if part.sort == "file"]
+    kept = ("option", "mode", "end", "file" if fault else "")
+    words = [word for part in parts if part.sort in kept for word in part.words]
+    answer = _answer_to(parts, mode, launcher_name, home)
+    return Request(answer, *(name in given for name in LAUNCHER), mode, words, files, fault)
+
+
+def bad_words_line(request: Request) -> str:
+    """What is said behind the program's `bad words`."""
+    return request.fault or "--help shows the words"
+
+
+def files_of(mode: str, options: Iterable[str]) -> tuple[str, ...]:
+    """The files that a mode may be given with these options."""
+    return MODES["reply" if "--replies" in options else mode].files
+
+
+def _parts_of(arguments: list[str]) -> Iterator[Part]:
+    """The arguments, cut as the program cuts them."""
+    words, has_mode, has_ended = list(arguments), False, False
+    while words:
+        word = words.pop(0)
+        if has_ended or not _is_option(word):
+            yield Part("file" if has_mode else "mode", [word], word, None)
+            has_mode = True
+        elif word == "--":
+            yield Part("end", [word], word, None)
+            has_ended = True
+        elif word in LAUNCHER and not has_mode:
+            yield Part("launcher", [word], word, None)
+        else:
+            name, equals, value = word.partition("=")
+            is_apart = not equals and name in OPTIONS and OPTIONS[name].range and words and not _is_option(words[0])
+            rest = [words.pop(0)] if is_apart else []
+            yield Part("option", [word, *rest], name, rest[0] if rest else value if equals else None)
+
+
+def _is_option(word: str) -> bool:
+    """Whether the word is an option: no standard input, and no number below 0."""
+    return word.startswith("-") and word != "-" and not word[1:].isdigit()
+
+
+# ---- help
+
+
+def _answer_to(parts: list[Part], mode: str | None, launcher_name: str, home: str) -> str | None:
+    """The help or the version, where one is asked for."""
+    asked = {part.words[0] for part in parts if part.sort == "option"}
+    first, topic, *_ = *(part.name for part in parts if part.sort in ("mode", "file")), None, None
+    if first == "help" and topic in (None, "help", *MODES):
+        asked, mode = set(HELP), topic if topic in MODES else None
+    if not parts or asked & set(HELP):
+        places = {"it": launcher_name, "at": os.path.relpath(os.path.join(home, "examples"))}
+        return _help_of(mode, places) if mode else _help(places)
+    return _version(home) if asked & set(ASKS_VERSION) else None
+
+
+def _version(home: str) -> str:
+    """The version, with the revision where git knows it."""
+    revision = ""
+    if os.path.exists(os.path.join(home, ".git")):
+        import subprocess
+
+        try:
+            revision = subprocess.run(["git", "-C", home, "rev-parse", "--short", "HEAD"], capture_output=True, text=True).stdout.strip()
+        except OSError:
+            pass
+    return VERSION + (f" (revision {revision})\n" if revision else "\n")
+
+
+def _with_value(option: str) -> str:
+    return f"{option} N" if OPTIONS[option].range else option
+
+
+def _range(option: str) -> str:
+    return "{:,} to {:,}".format(*OPTIONS[option].range)
+
+
+def _usage(name: str) -> str:
+    """`run [--step N] [--json] [SCRIPT]`"""
+    return " ".join([name, *(f"[{it}]" for it in (*map(_with_value, MODES[name].options), " ".join(MODES[name].files)) if it)])
+
+
+def _table(rows: Iterable[tuple[str, str]]) -> str:
+    """Lines with two columns."""
+    rows = list(rows)
+    width = max(len(left) for left, _ in rows)
+    return "".join(f"  {left:{width}}   {right}\n" for left, right in rows)
+
+
+def _help_of(name: str, places: dict[str, str]) -> str:
+    """The help of a mode."""
+    mode = MODES[name]
+    text = f"usage: {places['it']} {_usage(name)}\n\n{name} {mode.says}.\n"
+    if mode.files:
+        text += f"Without {' and '.join(mode.files)} it reads standard input"
+        text += f", with a line %% between them, and with SCRIPT alone {mode.files[1]} is standard input" if mode.files[1:] else ""
+        text += ". The word - is standard input too.\n"
+    if mode.options:
+        ranges = {option: f"; N is {_range(option)}" if OPTIONS[option].range else "" for option in mode.options}
+        text += "\nOptions\n" + _table((_with_value(option), OPTIONS[option].says + ranges[option]) for option in mode.options)
+    return text + f"\nExit statuses\n  {mode.statuses}\n  {STATUSES}\n\nExample\n  {mode.example.format(**places)}\n"
+
+
+def _help(places: dict[str, str]) -> str:
+    """The help of the launcher."""
+    others = {"--version": "shows the version", "--help": "shows this; behind a mode, what the mode does, with an example"}
+    examples = "".join(f"  {MODES[name].example.format(**places)}\n" for name in ("run", "check", "explain"))
+    return f"""usage: {places['it']} {' '.join(f'[{it}]' for it in LAUNCHER)} MODE [OPTION..] [FILE..]
+
+Modes
+{_table((_usage(name), mode.says) for name, mode in MODES.items())}
+Words of the launcher, before the mode
+{_table({**LAUNCHER, **others}.items())}
+Exit statuses
+  0 done   1 check, explain, trace: the log is wrong; lint: the script is bad   3 the script is bad
+  {STATUSES}
+
+Examples
+{examples}
+docs/formats.md has the script, the log and the rest.
+"""
+
+
+# ---- what is wrong
+
+
+def _faults_of(parts: list[Part], mode: str | None) -> Iterator[str]:
+    """What is wrong with the words, the first thing first."""
+    named = [part.name for part in parts if part.sort in ("mode", "file")]
+    named = named[1:] if named[:1] == ["help"] else named
+    if named and not mode:
+        yield _fault_of_mode(named[0])
+    seen: set[str] = set()
+    for part in parts:
+        if part.sort == "option":
+            yield from _faults_of_option(part, mode, seen)
+            seen.add(part.name)
+    if not mode:
+        yield f"a mode is missing: {_any_of(MODES)}"
+    elif {"--replies", "--nest"} <= seen:
+        yield "--replies and --nest do not go together"
+    else:
+        yield from _faults_of_files(named[1:], mode, files_of(mode, seen))
+
+
+def _any_of(names: Iterable[str]) -> str:
+    """`a, b or c`"""
+    *firsts, last = names
+    return f"{', '.join(firsts)} or {last}"
+
+
+def _fault_of_mode(word: str) -> str:
+    if os.path.isfile(word):
+        return f"{word} is a file: a mode stands before it, {_any_of(MODES)}"
+    near = nearest(word, [*MODES, *LAUNCHER, HELP[-1], ASKS_VERSION[-1]])
+    return f'"{word}" is no mode: ' + (f"did you mean {near}?" if near else _any_of(MODES))
+
+
+def _taken_by(mode: str) -> str:
+    """What options the mode takes."""
+    return f"{mode} takes {' and '.join(map(_with_value, MODES[mode].options)) or 'no options'}"
+
+
+def _faults_of_option(part: Part, mode: str | None, seen: set[str]) -> Iterator[str]:
+    name, value, taken = part.name, part.value, MODES[mode].options if mode else OPTIONS
+    if name in LAUNCHER and value is None:
+        yield f"{name} stands before the mode: {name} {mode}"
+    elif name not in (*OPTIONS, *LAUNCHER, *HELP, *ASKS_VERSION):
+        near = nearest(name, [*taken, *LAUNCHER, HELP[-1], ASKS_VERSION[-1]])
+        yield f"{name} is no option: " + (f"did you mean {near}?" if near else _taken_by(mode) if mode else "--help shows them")
+    elif name in OPTIONS and name not in taken:
+        yield f"{_taken_by(mode)}, and {'' if taken else 'so '}no {name}"
+    elif name in seen:
+        yield f"{name} stands twice"
+    elif name in OPTIONS and OPTIONS[name].range:
+        yield from _faults_of_number(name, value)
+    elif value is not None:
+        yield f"{name} takes no value"
+
+
+def _faults_of_number(name: str, value: str | None) -> Iterator[str]:
+    low, high = OPTIONS[name].range
+    number = plain_number(value or "", is_time=name == "--step")
+    if not value:
+        yield f"{name} needs a number: {_range(name)}"
+    elif number is None or not low <= number <= high:
+        yield f"{name} {value}: the number is {_range(name)}" + ("" if value.isdigit() else ", in digits alone")
+    elif value != str(number):
+        yield f"{name} {value}: write {number}, in {'microseconds and ' if name == '--step' else ''}digits alone"
+
+
+def _faults_of_files(files: list[str], mode: str, places: tuple[str, ...]) -> Iterator[str]:
+    for file in files:
+        if file != "-" and not os.path.isfile(file):
+            yield from _faults_of_no_file(file, mode, places)
+    if files and not places:
+        yield f"{_taken_by(mode)}, and no file: {files[0]}"
+    elif len(files) > len(places):
+        yield f"{mode} takes {' and '.join(places)}: {files[len(places)]} is one file too many"
+    elif files.count("-") > 1:
+        yield "- stands twice: standard input is read once"
+
+
+def _faults_of_no_file(file: str, mode: str, places: tuple[str, ...]) -> Iterator[str]:
+    """What a word behind the mode was meant to be that is no plain file; a pipe or a device may be one, too."""
+    option = "--" + file.lower().partition("=")[0]
+    if os.path.isdir(file):
+        yield f"{file} is a folder, and no file"
+    elif os.path.exists(file):
+        return
+    elif _is_option(file):
+        yield f"behind -- there are no options: {file}"
+    elif option in MODES[mode].options:
+        yield f"{file} is no file: did you mean {option}?"
+    elif file in MODES:
+        yield f"one mode at a time: {file} stands behind {mode}"
+    elif places:
+        folder, name = os.path.split(file)
+        near = nearest(name, os.listdir(folder or ".")[:MOST_LOOKED_AT]) if os.path.isdir(folder or ".") else None
+        yield f"no such file: {file}" + (f"; did you mean {os.path.join(folder, near)}?" if near else "")
