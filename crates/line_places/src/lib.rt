@@ -16,4 +16,4 @@ pub use bytes::{Lines, cut_at};
 pub use expected::{Expected, Found, Language, Length, Thing};
 pub use first::{first_beyond_ascii, first_place};
 pub use length::line_length;
-pub use words::{command_of, word_at};
+pub use words::{command_of, id_of, word_at};

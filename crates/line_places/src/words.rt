@@ -1,7 +1,7 @@
 ghost use Rattle.std.specs.Prelude.{◌≡◌, option_copied};
-ghost use Rattle.line_places.specs.Words.{command_of, word_at};
+ghost use Rattle.line_places.specs.Words.{command_of, id_of, word_at};
 
-use line_words::Words;
+use line_words::{Words, number_from};
 
 /// The word at a place of a line, counted from 1, if there is one.
 pub fn word_at(line: &[u8], place: usize) -> Option<&[u8]>
@@ -21,4 +21,12 @@ pub fn command_of(line: &[u8]) -> &[u8]
     ensures { result.now ≡ command_of line.now }
 {
     word_at(line, 1).unwrap_or(&[])
+}
+
+/// The number of 32 bits that a word writes, if it writes one.
+pub fn id_of(word: &[u8]) -> Option<u32>
+    ensures { result ≡ id_of word.now }
+{
+    let number = number_from(0, u64::from(u32::MAX), word).ok()?;
+    Some(number as u32)
 }

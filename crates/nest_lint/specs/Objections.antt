@@ -4,7 +4,7 @@ use Rattle.task_base.specs.declared.limits.TheConstants.{MOST_QUEUES}
 use Rattle.script_model.specs.Words.{words_of, is_word}
 use Rattle.line_places.specs.declared.expected.Thing.{Thing}
 use Rattle.line_places.specs.declared.expected.Thing.TheVariants as things
-use Rattle.line_places.specs.Words.{command_of}
+use Rattle.line_places.specs.Words.{command_of, id_of}
 use Rattle.lint_text.specs.declared.complaint.Complaint.{Complaint}
 use Rattle.lint_text.specs.declared.complaint.Complaint.TheVariants.{OutOfOrder, PostedTwice, Late, TooMany}
 use Rattle.lint_text.specs.declared.complaint.Limited.{Limited}
@@ -18,7 +18,7 @@ use Rattle.nest_lint.specs.declared.earlier.Sought.TheVariants.{Posts, Acts}
 use Rattle.nest_lint.specs.declared.posts.Part.{Part}
 use Rattle.nest_lint.specs.declared.posts.Part.TheVariants.{Task, Queue, Other}
 use Rattle.nest_lint.specs.Earlier.{first_line}
-use Rattle.nest_lint.specs.Posts.{id_of, part_behind, posting_place}
+use Rattle.nest_lint.specs.Posts.{part_behind, posting_place}
 
 -- ---- declarations
 

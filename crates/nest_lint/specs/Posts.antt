@@ -1,8 +1,7 @@
 -- The tasks that a line posts, where its words are right.
-use Rattle.std.specs.Prelude.{ℕ, suc, ◌-◌, ◌^◌, ◌==◌, Bool, false, if◌then◌else◌, List, [], ◌∷◌, codes, Option, Some, None}
-use Rattle.std.specs.Result.{result_ok}
+use Rattle.std.specs.Prelude.{ℕ, suc, ◌==◌, Bool, false, if◌then◌else◌, List, [], ◌∷◌, codes, Option, Some, None}
 use Rattle.script_model.specs.Words.{words_of, is_word}
-use Rattle.script_model.specs.Places.{number_from}
+use Rattle.line_places.specs.Words.{id_of}
 use Rattle.nest_lint.specs.declared.posts.Part.{Part}
 use Rattle.nest_lint.specs.declared.posts.Part.TheVariants.{Task, Queue, Other}
 
@@ -14,10 +13,6 @@ part_after part = Other
 -- what the next word is behind one that is this
 abbrev pub part_behind : Part → List ℕ → Part
 part_behind part word = if is_word word (codes "post") then Task else part_after part
-
--- the number of 32 bits that a word writes, if it is one
-abbrev pub id_of : List ℕ → Option ℕ
-id_of word = result_ok (number_from 0 (2 ^ 32 - 1) word)
 
 -- the number is there, and this one
 abbrev pub is_id : ℕ → Option ℕ → Bool

@@ -5,8 +5,8 @@ ghost use Rattle.nest_lint.specs.declared.posts.Part.TheVariants.{Other};
 ghost use Rattle.nest_lint.specs.Objections.{declared, is_before, limit_passed, nest_objection, not_among, order_objection, posted_again, posted_from, posted_in, posted_word, too_many, undeclared_from, undeclared_in, undeclared_word};
 
 use crate::earlier::{Sought, first_line};
-use crate::posts::{Part, id_of, part_behind, posting_place};
-use line_places::{Thing, command_of};
+use crate::posts::{Part, part_behind, posting_place};
+use line_places::{Thing, command_of, id_of};
 use line_words::Words;
 use lint_text::{Complaint, Limited, Objection, at, none_of};
 use nested_loop::{MOST_NEST_ACTIONS, MOST_NEST_STEPS, MOST_NEST_TASKS, Nest};

@@ -3,9 +3,10 @@
 ghost use Rattle.std.specs.Prelude.{◌≡◌, ◌≤◌, ◌^◌, length};
 ghost use Rattle.script_model.specs.Words.{words_of};
 ghost use Rattle.nest_lint.specs.declared.posts.Part.TheVariants.{Other};
-ghost use Rattle.nest_lint.specs.Posts.{id_of, is_task, part_behind, place_of, posting_place};
+ghost use Rattle.nest_lint.specs.Posts.{is_task, part_behind, place_of, posting_place};
 
-use line_words::{Words, number_from};
+use line_places::id_of;
+use line_words::Words;
 use task_base::TaskId;
 
 /// What a word of a line is in what it posts.
@@ -30,14 +31,6 @@ pub(crate) fn part_behind(part: Part, word: &[u8]) -> Part
         Part::Task => Part::Queue,
         _ => Part::Other,
     }
-}
-
-/// The number of 32 bits that a word writes, if it is one.
-pub(crate) fn id_of(word: &[u8]) -> Option<u32>
-    ensures { result ≡ id_of word.now }
-{
-    let number = number_from(0, u64::from(u32::MAX), word).ok()?;
-    Some(number as u32)
 }
 
 /// Whether a word is this task, and posted.

@@ -1,9 +1,7 @@
 -- What a line says whose words are right.
-use Rattle.std.specs.Prelude.{ℕ, ◌-◌, ◌^◌, Bool, if◌then◌else◌, List, codes, Option, option_map, option_and_then}
-use Rattle.std.specs.Result.{result_ok}
+use Rattle.std.specs.Prelude.{ℕ, Bool, if◌then◌else◌, List, codes, Option, option_map, option_and_then}
 use Rattle.script_model.specs.Words.{is_word}
-use Rattle.script_model.specs.Places.{number_from}
-use Rattle.line_places.specs.Words.{command_of, word_at}
+use Rattle.line_places.specs.Words.{command_of, id_of, word_at}
 use Rattle.task_reply.specs.declared.reply.Home.{Home}
 use Rattle.task_reply.specs.declared.reply.Home.TheVariants.{Runner, Queue}
 use Rattle.task_reply.specs.declared.reply.Reply.{Reply}
@@ -14,7 +12,7 @@ is_reply line = is_word (command_of line) (codes "reply")
 
 -- the number of 32 bits at a place, if there is one
 abbrev pub id_at : List ℕ → ℕ → Option ℕ
-id_at line place = option_and_then (λ word. result_ok (number_from 0 (2 ^ 32 - 1) word)) (word_at line place)
+id_at line place = option_and_then id_of (word_at line place)
 
 -- where a reply is posted to
 abbrev pub home_at : List ℕ → Option Home

@@ -2,8 +2,7 @@
 ghost use Rattle.std.specs.Prelude.{◌≡◌};
 ghost use Rattle.reply_lint.specs.Said.{home_at, id_at, is_reply, reply_in};
 
-use line_places::{command_of, word_at};
-use line_words::number_from;
+use line_places::{command_of, id_of, word_at};
 use task_reply::{Home, Reply};
 
 /// Whether the line has the command of a reply.
@@ -17,8 +16,7 @@ pub(crate) fn is_reply(line: &[u8]) -> bool
 pub(crate) fn id_at(line: &[u8], place: usize) -> Option<u32>
     ensures { result ≡ id_at line.now place }
 {
-    let number = number_from(0, u64::from(u32::MAX), word_at(line, place)?).ok()?;
-    Some(number as u32)
+    id_of(word_at(line, place)?)
 }
 
 /// Where a reply is posted to.
