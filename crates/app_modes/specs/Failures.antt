@@ -6,11 +6,12 @@ use Rattle.task_reply.specs.Fault.{bad_replies_note}
 use Rattle.nested_loop.specs.NestReasons.{nest_note_of}
 use Rattle.nested_loop.specs.declared.fault.NestFault.TheVariants.{Bad}
 use Rattle.app_modes.specs.declared.failure.Failure.{Failure}
-use Rattle.app_modes.specs.declared.failure.Failure.TheVariants.{Common, NotTraced, BadReplies, BadNest}
+use Rattle.app_modes.specs.declared.failure.Failure.TheVariants.{Common, Linted, NotTraced, BadReplies, BadNest}
 
 -- the status that a failure ends a command with (this project's own rule)
 abbrev pub failure_status : Failure → ℕ
 failure_status (Common fault) = status_of fault
+failure_status Linted = 1
 failure_status (NotTraced line) = 1
 failure_status (BadReplies line reason) = 3
 failure_status (BadNest line reason) = 3
@@ -18,16 +19,19 @@ failure_status (BadNest line reason) = 3
 -- what is told of a failure, without a line feed (this project's own rule)
 abbrev pub failure_note : Failure → List ℕ
 failure_note (Common fault) = note_of fault
+failure_note Linted = []
 failure_note (NotTraced line) = note_of (NotLegal line)
 failure_note (BadReplies line reason) = bad_replies_note line reason
 failure_note (BadNest line reason) = nest_note_of (Bad line reason)
 
--- the note of a failure, with its line feed. A log that `check` finds not legal has none: the verdict is written to the sink
+-- the note of a failure, with its line feed. A verdict has none, since it is written to the sink
 abbrev pub note_line : Failure → List ℕ
 note_line (Common (NotLegal line)) = []
+note_line Linted = []
 note_line failure = failure_note failure ++ codes "\n"
 
--- it is that a log is not legal, which is written as the verdict
+-- it is a verdict, which is written: a log is not legal, or an input is none
 abbrev pub is_verdict : Failure → Bool
 is_verdict (Common (NotLegal line)) = true
+is_verdict Linted = true
 is_verdict failure = false

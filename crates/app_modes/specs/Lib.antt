@@ -1,5 +1,6 @@
 pub mod Failures
 pub mod Judged
 pub mod Explained
+pub mod Linted
 pub mod Totals
 pub mod Outcome

@@ -22,16 +22,17 @@ use Rattle.nested_loop.specs.NestText.{nest_text}
 use Rattle.nested_loop.specs.Nest.{IsLegalNest}
 use Rattle.nested_loop.specs.declared.event.Event.{Event}
 use Rattle.command_line.specs.declared.words.Command.{Command}
-use Rattle.command_line.specs.declared.words.Command.TheVariants.{Run, Check, Explain, Reply, Trace, Nest, Generate, Bench}
+use Rattle.command_line.specs.declared.words.Command.TheVariants.{Run, Check, Explain, Reply, Trace, Nest, Lint, Generate, Bench}
 use Rattle.app_streams.specs.Parts.{script_part, part_behind}
 use Rattle.app_streams.specs.Ends.{Ends, Failed}
 use Rattle.app_streams.specs.Taken.{IsReadToEnd, OfBytes, OfTaken}
 use Rattle.app_streams.specs.Written.{WroteAll, WroteFront, output_of}
 use Rattle.app_modes.specs.declared.failure.Failure.{Failure}
-use Rattle.app_modes.specs.declared.failure.Failure.TheVariants.{Common, NotTraced, BadReplies, BadNest}
-use Rattle.command_line.specs.CommandLine.{TakesInput, WritesVerdict}
+use Rattle.app_modes.specs.declared.failure.Failure.TheVariants.{Common, Linted, NotTraced, BadReplies, BadNest}
+use Rattle.command_line.specs.CommandLine.{IsLint, TakesInput, WritesVerdict}
 use Rattle.app_modes.specs.Judged.{HasChecked, HasTraced, IsFoundIn}
 use Rattle.app_modes.specs.Explained.{HasExplained}
+use Rattle.app_modes.specs.Linted.{IsSaid, lint_said}
 use Rattle.app_modes.specs.Totals.{summary_text}
 use Rattle.run_summary.specs.Summary.{generated_totals}
 use Rattle.task_script.specs.Generated.{generated}
@@ -106,6 +107,7 @@ refusal_of (Some (Explain json)) bytes = script_refusal (script_part bytes)
 refusal_of (Some Reply) bytes = reply_refusal (script_read (script_part bytes)) (part_behind bytes)
 refusal_of (Some Trace) bytes = script_refusal (script_part bytes)
 refusal_of (Some Nest) bytes = option_map (λ at. BadNest at.0 at.1) (nest_fault bytes)
+refusal_of (Some (Lint input)) bytes = None
 refusal_of (Some (Generate number size)) bytes = None
 refusal_of (Some (Bench number size)) bytes = None
 
@@ -119,6 +121,7 @@ Does (Some (Explain json)) told source Holds = OfTaken source (λ bytes. HasExpl
 Does (Some Reply) told source Holds = OfTaken source (λ bytes. HasReplied bytes told (Holds 0))
 Does (Some Trace) told source Holds = OfTaken source (λ bytes. HasTraced bytes Holds)
 Does (Some Nest) told source Holds = OfTaken source (λ bytes. HasNested bytes (Holds 0))
+Does (Some (Lint input)) told source Holds = OfTaken source (λ bytes. IsSaid (lint_said input bytes) Holds)
 Does (Some (Generate number size)) told source Holds = Holds 0 (canonical (generated number size))
 Does (Some (Bench number size)) told source Holds = Holds 0 (summary_text (generated_totals number size))
 
@@ -164,6 +167,7 @@ in_common (Err fault) = Err (Common fault)
 abbrev pub EndsIn : Option Command → (ℕ → Option ℕ) → Ends → Ends → Result (Unit {0}) Failure → Type 0
 EndsIn command told source sink (Ok done) = RunsTo command told source sink (Ok done)
 EndsIn command told source sink (Err (Common fault)) = RunsTo command told source sink (Err fault)
+EndsIn command told source sink (Err Linted) = IsLint command × IsReadToEnd source × Does command told source (IsWritten sink 1)
 EndsIn command told source sink (Err (NotTraced line)) =
     (command ≡ Some Trace) × IsReadToEnd source × Does command told source (IsWritten sink 1) × OfTaken source (λ bytes. IsFoundIn false bytes (Some line))
 EndsIn command told source sink (Err (BadReplies line reason)) = (command ≡ Some Reply) × IsRefused command source (BadReplies line reason)

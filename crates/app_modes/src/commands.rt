@@ -11,6 +11,7 @@ use crate::check::judge;
 use crate::explain::explain;
 use crate::failure::Failure;
 use crate::generate::write_generated;
+use crate::lint::lint;
 use crate::nests::run_nest_script;
 use crate::replies::run_replies;
 use crate::runs::run_script;
@@ -70,6 +71,7 @@ pub fn execute<R: Threads + Wait + Sync, S: Source, K: Sink, C: Clock, G: Gate>(
         Command::Reply => run_replies(rt, alloc, source, sink, clock, gate),
         Command::Trace => trace(alloc, source, sink),
         Command::Nest => run_nest_script(alloc, source, sink),
+        Command::Lint { input } => lint(alloc, input, source, sink),
         Command::Generate { number, size } => common(write_generated(alloc, number, size, sink)),
         Command::Bench { number, size } => {
             common(run_generated(rt, alloc, number, size, sink, gate))

@@ -12,6 +12,8 @@ use task_reply::ReplyFault;
 pub enum Failure {
     /// What may end a command of any mode.
     Common(Fault),
+    /// In `lint`: the input is none, which is said by then.
+    Linted,
     /// In `trace`: the log is not that of a whole run of the script; `line` counts from 1.
     NotTraced { line: u32 },
     /// In `reply`: a reply line breaks a rule. `line` counts from 1, behind the line `%%`.
@@ -36,16 +38,19 @@ impl Failure {
     {
         match self {
             Failure::Common(fault) => fault.status(),
-            Failure::NotTraced { .. } => 1,
+            Failure::Linted | Failure::NotTraced { .. } => 1,
             Failure::BadReplies { .. } | Failure::BadNest { .. } => 3,
         }
     }
 
-    /// Whether it is that a log is not legal, which is written as the verdict.
+    /// Whether it is a verdict, which is written: that a log is not legal, or that an input is none.
     pub fn is_verdict(&self) -> bool
         ensures { result ≡ is_verdict self.now }
     {
-        matches!(self, Failure::Common(Fault::NotLegal { .. }))
+        matches!(
+            self,
+            Failure::Common(Fault::NotLegal { .. }) | Failure::Linted
+        )
     }
 
     /// What is told of the failure, without a line feed. It takes no memory.
@@ -55,6 +60,7 @@ impl Failure {
     {
         match *self {
             Failure::Common(ref fault) => fault.note(),
+            Failure::Linted => Line::new(),
             Failure::NotTraced { line } => Fault::NotLegal { line }.note(),
             Failure::BadReplies { line, reason } => ReplyFault::Bad { line, reason }.note(),
             Failure::BadNest { line, reason } => NestFault::Bad { line, reason }.note(),

@@ -14,6 +14,7 @@ mod explain;
 mod failure;
 mod generate;
 mod judged;
+mod lint;
 mod nests;
 mod replies;
 mod runs;

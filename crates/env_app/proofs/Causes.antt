@@ -1,13 +1,13 @@
 -- The status of a failure that ends a command has its cause.
 -- Cited by `run_words`.
-use Rattle.std.proofs.Common.{rules, tests, ◌≡◌, ◌≢◌, ℕ, List, refl, sym, subst, inr, Option, Some, None}
+use Rattle.std.proofs.Common.{rules, tests, ◌≡◌, ◌≢◌, ℕ, List, refl, sym, subst, inl, inr, Option, Some, None}
 use Rattle.std.specs.Prelude.{Result, Err}
 use Rattle.task_base.specs.declared.fault.Fault.TheVariants.{NotLegal, BadWords, BadScript, ReadFault, WriteFault, NoMemory, TooLarge}
 use Rattle.app_modes.specs.declared.failure.Failure.{Failure}
-use Rattle.app_modes.specs.declared.failure.Failure.TheVariants.{Common, NotTraced, BadReplies, BadNest}
+use Rattle.app_modes.specs.declared.failure.Failure.TheVariants.{Common, Linted, NotTraced, BadReplies, BadNest}
 use Rattle.command_line.specs.declared.words.Command.{Command}
-use Rattle.command_line.specs.declared.words.Command.TheVariants.{Run, Check, Explain, Reply, Trace, Nest}
-use Rattle.command_line.specs.CommandLine.{IsJudge, TakesInput, WritesVerdict, takes_prefix}
+use Rattle.command_line.specs.declared.words.Command.TheVariants.{Run, Check, Explain, Reply, Trace, Nest, Lint}
+use Rattle.command_line.specs.CommandLine.{IsJudge, IsLint, TakesInput, WritesVerdict, takes_prefix}
 use Rattle.app_modes.specs.Failures.{failure_status}
 use Rattle.app_streams.specs.Ends.{Ends, IsSteady}
 use Rattle.app_streams.specs.Taken.{IsWithin, OfBytes, OfTaken, TookAll, TookMore, TookWithin}
@@ -17,7 +17,7 @@ use Rattle.env_app.proofs.LegalLogs.{SaysLegal, check_says, explain_says, trace_
 
 -- ---- what a command does
 
--- what is known of a command that judges a log
+-- what is known of a command that judges a log, or an input
 record IsOfJudge (command : Option Command) : Type 0 where
   -- 1 says that it did its work
   pub done : IsDone command 1
@@ -28,6 +28,10 @@ of_judge (Some (Check prefix)) judges = record { done = inr refl; takes = tt }
 of_judge (Some (Explain json)) judges = record { done = inr refl; takes = tt }
 of_judge (Some Trace) judges = record { done = inr refl; takes = tt }
 of_judge command judges = absurd judges
+
+of_lint : (command : Option Command) → IsLint command → IsOfJudge command
+of_lint (Some (Lint input)) lints = record { done = inr refl; takes = tt }
+of_lint command lints = absurd lints
 
 verdict_judges : (command : Option Command) → WritesVerdict command → IsJudge command
 verdict_judges (Some (Check prefix)) writes = tt
@@ -53,6 +57,7 @@ taken Holds (Some Reply) told source takes does =
     of_told (Some Reply) source does.bytes does.took (rw (does.holds.reads, does.holds.elaborates.said) refl)
 taken Holds (Some Trace) told source takes does = of_told (Some Trace) source does.bytes does.took (rw does.holds.found.reads refl)
 taken Holds (Some Nest) told source takes does = of_told (Some Nest) source does.bytes does.took (rw does.holds.reads refl)
+taken Holds (Some (Lint input)) told source takes does = of_told (Some (Lint input)) source does.bytes does.took refl
 taken Holds command told source takes does = absurd takes
 
 -- ---- the causes
@@ -67,6 +72,8 @@ pub cause_of_failure : (command : Option Command) (told : ℕ → Option ℕ) (s
 cause_of_failure command told source sink (NotTraced line) runs source_steady sink_steady more within =
     let judges = subst IsJudge (sym runs.0) tt in let of = of_judge command judges in
     let bytes = taken _ command told source of.takes runs.2 in search (rules, tests)
+cause_of_failure command told source sink Linted runs source_steady sink_steady more within =
+    let of = of_lint command runs.0 in let bytes = taken _ command told source of.takes runs.2 in search (rules, tests)
 cause_of_failure command told source sink (Common (NotLegal line)) runs source_steady sink_steady more within =
     let judges = verdict_judges command runs.0 in let of = of_judge command judges in
     let bytes = taken _ command told source of.takes runs.2 in search (rules, tests)

@@ -1,11 +1,11 @@
 -- What the failure that ended a command says of its status, and of its note.
 -- Cited by `tell`, `run_words`.
-use Rattle.std.proofs.Common.{◌≡◌, ℕ, false, ◌++◌, codes, Option, refl}
+use Rattle.std.proofs.Common.{◌≡◌, ℕ, false, inl, inr, ◌++◌, codes, Option, refl}
 use Rattle.std.specs.Prelude.{Err}
 use Rattle.task_base.specs.declared.fault.Fault.TheVariants.{NotLegal, BadScript}
 use Rattle.command_line.specs.declared.words.Command.{Command}
 use Rattle.app_modes.specs.declared.failure.Failure.{Failure}
-use Rattle.app_modes.specs.declared.failure.Failure.TheVariants.{Common, NotTraced, BadReplies, BadNest}
+use Rattle.app_modes.specs.declared.failure.Failure.TheVariants.{Common, Linted, NotTraced, BadReplies, BadNest}
 use Rattle.app_modes.specs.Failures.{is_verdict, failure_note, failure_status, note_line}
 use Rattle.app_streams.specs.Ends.{Ends}
 use Rattle.app_modes.specs.Outcome.{EndsIn}
@@ -14,12 +14,14 @@ use Rattle.env_app.specs.Statuses.{IsEnd, IsFailureOf, IsOfBytes, IsVerdictOf}
 -- the note of a failure that is no verdict has its line feed
 pub note_line-other : (failure : Failure) → is_verdict failure ≡ false → failure_note failure ++ codes "\n" ≡ note_line failure
 note_line-other (Common (NotLegal line)) other = absurd cc
+note_line-other Linted other = absurd cc
 note_line-other failure other = refl
 
--- a verdict is one of `check`
+-- a verdict is one of `check`, `explain` or `lint`
 pub no_verdict : (command : Option Command) (told : ℕ → Option ℕ) (source sink : Ends) (failure : Failure) → EndsIn command told source sink (Err failure)
     → (IsVerdictOf command (failure_status failure) → ⊥) → is_verdict failure ≡ false
-no_verdict command told source sink (Common (NotLegal line)) runs none = absurd (none (refl, runs.0))
+no_verdict command told source sink (Common (NotLegal line)) runs none = absurd (none (refl, inl runs.0))
+no_verdict command told source sink Linted runs none = absurd (none (refl, inr runs.0))
 no_verdict command told source sink failure runs none = refl
 
 -- the failure of a command is the end that its note tells of
@@ -31,6 +33,7 @@ is_end command told source sink failure status runs is = let of = is_of failure 
     is_of : (failure : Failure) → EndsIn command told source sink (Err failure) → IsFailureOf command failure × IsOfBytes command source failure
     is_of (Common (NotLegal line)) runs = (runs.0, tt)
     is_of (Common (BadScript line reason)) runs = (runs.1, runs.2)
+    is_of Linted runs = (runs.0, tt)
     is_of (NotTraced line) runs = (runs.0, runs.3)
     is_of (BadReplies line reason) runs = runs
     is_of (BadNest line reason) runs = runs

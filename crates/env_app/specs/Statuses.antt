@@ -3,17 +3,17 @@ use Rattle.std.specs.Prelude.{◌≡◌, ◌≢◌, ◌⊎◌, ◌<◌, ◌≤�
 use Rattle.task_base.specs.declared.limits.TheConstants.{MOST_BYTES}
 use Rattle.task_base.specs.declared.fault.Fault.TheVariants.{NotLegal, BadScript}
 use Rattle.command_line.specs.declared.words.Command.{Command}
-use Rattle.command_line.specs.declared.words.Command.TheVariants.{Run, Check, Explain, Reply, Trace, Nest, Generate, Bench}
+use Rattle.command_line.specs.declared.words.Command.TheVariants.{Run, Check, Explain, Reply, Trace, Nest, Lint, Generate, Bench}
 use Rattle.app_streams.specs.Ends.{Ends, Failed, IsSteady}
 use Rattle.app_streams.specs.Taken.{IsReadToEnd, OfBytes, IsWithin, TookMore, TookWithin, OfTaken}
 use Rattle.app_modes.specs.declared.failure.Failure.{Failure}
-use Rattle.app_modes.specs.declared.failure.Failure.TheVariants.{Common, NotTraced, BadReplies, BadNest}
+use Rattle.app_modes.specs.declared.failure.Failure.TheVariants.{Common, Linted, NotTraced, BadReplies, BadNest}
 use Rattle.app_modes.specs.Failures.{failure_status}
-use Rattle.command_line.specs.CommandLine.{IsJudge, TakesInput, WritesVerdict}
+use Rattle.command_line.specs.CommandLine.{IsJudge, IsLint, TakesInput, WritesVerdict}
 use Rattle.app_modes.specs.Judged.{IsFoundIn}
 use Rattle.app_modes.specs.Outcome.{Does, IsRefused, IsWritten, IsCutOff, refusal_of}
 
--- the status says that the command did its work: 0, and 1 too where a log is judged
+-- the status says that the command did its work: 0, and 1 too where a log is judged, or an input
 abbrev pub IsDone : Option Command → ℕ → Type 0
 IsDone None status = status ≡ 0
 IsDone (Some (Run step json)) status = status ≡ 0
@@ -22,19 +22,20 @@ IsDone (Some (Explain json)) status = (status ≡ 0) ⊎ (status ≡ 1)
 IsDone (Some Reply) status = status ≡ 0
 IsDone (Some Trace) status = (status ≡ 0) ⊎ (status ≡ 1)
 IsDone (Some Nest) status = status ≡ 0
+IsDone (Some (Lint input)) status = (status ≡ 0) ⊎ (status ≡ 1)
 IsDone (Some (Generate number size)) status = status ≡ 0
 IsDone (Some (Bench number size)) status = status ≡ 0
 
--- the status is a verdict that is written of a log that is not legal
+-- the status is a verdict that is written: of a log that is not legal, or of an input that is none
 abbrev pub IsVerdictOf : Option Command → ℕ → Type 0
-IsVerdictOf command status = (status ≡ 1) × WritesVerdict command
+IsVerdictOf command status = (status ≡ 1) × (WritesVerdict command ⊎ IsLint command)
 
 -- each status has its cause
 pub record HasCause (command : Option Command) (told : ℕ → Option ℕ) (source sink : Ends) (status : ℕ) : Type 0 where
   -- nothing above 7 is answered
   pub known : status ≤ 7
-  -- 1 comes only where a log is judged
-  pub judged : status ≡ 1 → IsJudge command
+  -- 1 comes only where a log is judged, or an input
+  pub judged : status ≡ 1 → IsJudge command ⊎ IsLint command
   -- 2 comes only where the words are no command
   pub bad_words : status ≡ 2 → command ≡ None
   -- and where they are none, nothing but 2 and want of memory comes
@@ -74,6 +75,7 @@ abbrev pub IsFailureOf : Option Command → Failure → Type 0
 IsFailureOf command (Common (NotLegal line)) = WritesVerdict command
 IsFailureOf command (Common (BadScript line reason)) = command ≢ Some Nest
 IsFailureOf command (Common fault) = Unit {0}
+IsFailureOf command Linted = IsLint command
 IsFailureOf command (NotTraced line) = command ≡ Some Trace
 IsFailureOf command (BadReplies line reason) = command ≡ Some Reply
 IsFailureOf command (BadNest line reason) = command ≡ Some Nest
@@ -83,6 +85,7 @@ IsFailureOf command (BadNest line reason) = command ≡ Some Nest
 abbrev pub IsOfBytes : Option Command → Ends → Failure → Type 0
 IsOfBytes command source (Common (BadScript line reason)) = IsRefused command source (Common (BadScript line reason))
 IsOfBytes command source (Common fault) = Unit {0}
+IsOfBytes command source Linted = Unit {0}
 IsOfBytes command source (NotTraced line) = OfTaken source (λ bytes. IsFoundIn false bytes (Some line))
 IsOfBytes command source (BadReplies line reason) = IsRefused command source (BadReplies line reason)
 IsOfBytes command source (BadNest line reason) = IsRefused command source (BadNest line reason)

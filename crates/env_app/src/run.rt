@@ -1,17 +1,22 @@
-ghost use Rattle.std.specs.Prelude.{◌≡◌, ◌≢◌, ◌⊎◌, ℕ, List, Option, Bool, map, string_bytes, Some, Err};
+ghost use Rattle.std.specs.Prelude.{◌≡◌, ◌≢◌, ◌⊎◌, ℕ, List, Option, Bool, map, string_bytes, Some, None, Err};
 ghost use Rattle.task_base.specs.Plan.{Plan};
 ghost use Rattle.task_base.specs.declared.entry.Entry.{Entry};
 ghost use Rattle.script_model.specs.Canonical.{canonical};
 ghost use Rattle.task_script.specs.Generated.{generated};
 ghost use Rattle.run_summary.specs.Summary.{generated_totals};
 ghost use Rattle.env_io.specs.Bytes.{Gains, Rose};
-ghost use Rattle.command_line.specs.declared.words.Command.TheVariants.{Run, Check, Explain, Reply, Trace, Nest, Generate, Bench};
+ghost use Rattle.command_line.specs.declared.words.Command.TheVariants.{Run, Check, Explain, Reply, Trace, Nest, Lint, Generate, Bench};
+ghost use Rattle.command_line.specs.declared.words.Linted.{Linted};
+ghost use Rattle.command_line.specs.declared.words.Linted.TheVariants as linted;
 ghost use Rattle.command_line.specs.CommandLine.{IsJudge, ReadsClock, TakesInput, WritesJson, command_of, takes_prefix};
 ghost use Rattle.app_modes.specs.declared.failure.Failure.{Failure};
 ghost use Rattle.app_modes.specs.Failures.{note_line};
 ghost use Rattle.app_modes.specs.Judged.{HasChecked, HasLegalLog, HasTraced, IsLegalLog};
 ghost use Rattle.app_modes.specs.Explained.{HasExplained};
+ghost use Rattle.app_modes.specs.Linted.{IsSaid, lint_said};
 ghost use Rattle.app_modes.specs.Totals.{summary_text};
+ghost use Rattle.script_lint.specs.Lint.{fault_line};
+ghost use Rattle.script_model.specs.Grammar.{first_fault};
 ghost use Rattle.app_streams.specs.Ends.{ends};
 ghost use Rattle.app_streams.specs.Taken.{OfTaken};
 ghost use Rattle.app_streams.specs.Written.{WroteAll, WroteFront};
@@ -27,7 +32,8 @@ use std::thread::Threads;
 
 /// Does what the words ask for, and answers the exit status (this project's own rule).
 ///
-/// The command is `taskenv MODE [--step N] [--json] [--prefix] [--number N] [--size N]`, the program's name first. The modes are:
+/// The command is `taskenv MODE [--step N] [--json] [--prefix] [--number N] [--size N] [--replies] [--nest]`, the program's name first.
+/// The modes are:
 ///
 /// - `run` reads a script from the source, to its end, runs it, and writes the run's log to the sink, as text or with
 ///   `--json` as JSON.
@@ -40,10 +46,12 @@ use std::thread::Threads;
 /// - `trace` reads what `check` reads, and writes the log as trace events, which is status 0, where it is that of a whole
 ///   run of the script, and else nothing, which is status 1.
 /// - `nest` reads a nest script from the source, to its end, runs it, and writes its log.
+/// - `lint` reads a script from the source, to its end, or with `--replies` what `reply` reads, or with `--nest` what `nest` reads, and
+///   writes why it is none, in one line, where it is none, which is status 1.
 /// - `gen` writes the script that is made from `--number`, of `--size` tasks, and reads nothing.
 /// - `bench` runs that script, and writes what the log of the run adds up to. It reads nothing.
 ///
-/// A status above 0 is that of a `Failure`, whose note goes to the notes, but for the verdict of `check` and `explain`. Want of
+/// A status above 0 is that of a `Failure`, whose note goes to the notes, but for the verdict of `check`, `explain` and `lint`. Want of
 /// memory comes before the first entry of a run, or with `--json` and in `trace` before the first byte is written. The gate
 /// is called between each take of a task of the pool and the task's first step, while no turn is held. The clock is read by
 /// `run` and `reply` alone, once for each tick, or with `--step` not at all: its readings are then N, 2N, 3N and so on, in
@@ -91,6 +99,18 @@ pub fn run_words<R: Threads + Wait + Sync, S: Source, K: Sink, N: Sink, C: Clock
         → OfTaken (ends (S.left source.old) (S.left source.new) (S.faults source.old) (S.faults source.new))
         (λ bytes. (script : Plan) (log : List Entry) → ¬ IsLegalLog (takes_prefix (command_of (map string_bytes words.now))) bytes script log) }
 
+    // `lint` answers 0 and writes nothing, or 1 and writes one line, by what is said of its input. Of a script that is 1 exactly where the
+    // grammar gives none; the line and the reason are those of the fault, and the word is at the first place of that line for which
+    // the reason holds.
+    ensures linted { (input : Linted) → command_of (map string_bytes words.now) ≡ Some (Lint input) → (result ≡ 0) ⊎ (result ≡ 1)
+        → OfTaken (ends (S.left source.old) (S.left source.new) (S.faults source.old) (S.faults source.new))
+        (λ bytes. IsSaid (lint_said input bytes) (λ status text. (result ≡ status) × WroteAll (K.holds sink.old) (K.holds sink.new) text)) }
+    ensures lint_finds_none { command_of (map string_bytes words.now) ≡ Some (Lint linted.Script) → result ≡ 0
+        → OfTaken (ends (S.left source.old) (S.left source.new) (S.faults source.old) (S.faults source.new)) (λ bytes. first_fault bytes ≡ None) }
+    ensures lint_finds_fault { command_of (map string_bytes words.now) ≡ Some (Lint linted.Script) → result ≡ 1
+        → OfTaken (ends (S.left source.old) (S.left source.new) (S.faults source.old) (S.faults source.new))
+        (λ bytes. (fault : ℕ × ℕ) × (first_fault bytes ≡ Some fault) × WroteAll (K.holds sink.old) (K.holds sink.new) (fault_line bytes fault.0 fault.1)) }
+
     // `reply` does what `run` does of the script whose tasks post their replies, and `nest` writes the log of a nest script.
     ensures replied { command_of (map string_bytes words.now) ≡ Some Reply → result ≡ 0
         → OfTaken (ends (S.left source.old) (S.left source.new) (S.faults source.old) (S.faults source.new))
@@ -122,7 +142,7 @@ pub fn run_words<R: Threads + Wait + Sync, S: Source, K: Sink, N: Sink, C: Clock
 
     // The notes get the note of the failure that ends the command with this status, where they do not fail, and else a front of
     // it. Under 3 that is what is wrong with the input, and under 1 in `trace` the line at which the log is found wrong; under 1
-    // in `check` there is none, and so under 0.
+    // in `check`, `explain` and `lint` there is none, and so under 0.
     ensures quiet { (result ≡ 0) ⊎ IsVerdictOf (command_of (map string_bytes words.now)) result → notes.new ≡ notes.old }
     ensures note { result ≢ 0 → (failure : Failure) × IsEnd (command_of (map string_bytes words.now))
         (ends (S.left source.old) (S.left source.new) (S.faults source.old) (S.faults source.new)) result failure

@@ -1,5 +1,5 @@
 -- The lines of a text, one after the other.
--- Cited by `Lines::of`, `cut_line`, `cut_at`.
+-- Cited by `Lines::of`, `cut_at`, `cut_line`, `lint_laws`.
 use Rattle.std.proofs.Common.{◌≡◌, ℕ, zero, suc, ◌+◌, ◌-◌, ◌≤◌, Bool, true, false, cond, List, [], ◌∷◌, length, take, drop, refl, arith}
 use Rattle.std.specs.Prelude.{nat_lt, position, IfSome, Option, Some, None}
 use Rattle.std.specs.List.{slice_split, position_or_len}

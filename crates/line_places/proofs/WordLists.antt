@@ -1,5 +1,5 @@
 -- The words of a line, as a list: how many they are, and the first of them.
--- Cited by `first_at`, `first_beyond_ascii`, `first_place`.
+-- Cited by `first_beyond_ascii`, `first_place`, `nest_lint`.
 use Rattle.std.proofs.Common.{ℕ, ◌+◌, ◌≤◌, List, length, arith}
 use Rattle.std.specs.Prelude.{not, ◌==◌}
 use Rattle.std.specs.List.{slice_split}

@@ -70,10 +70,10 @@ abbrev pub order_words : List ℕ → Thing → ℕ → List ℕ
 order_words text of next = text ++ codes " is not the next " ++ id_noun of ++ codes ": " ++ decimal next
 
 abbrev pub undeclared_words : List ℕ → Thing → ℕ → List ℕ
-undeclared_words text of count = text ++ codes " is no " ++ thing_name of ++ codes " that is declared: " ++ decimal count ++ codes " are"
+undeclared_words text of count = text ++ codes " is no " ++ thing_name of ++ codes " that is declared: so far " ++ decimal count
 
 abbrev pub seat_words : List ℕ → ℕ → List ℕ
-seat_words text workers = text ++ codes " names no worker seat: there are " ++ decimal workers
+seat_words text workers = text ++ codes " names no worker seat: the script has " ++ decimal workers
 
 abbrev pub voter_words : List ℕ → ℕ → List ℕ
 voter_words text voters = text ++ codes " is no voter of the queue: it has " ++ decimal voters

@@ -235,9 +235,8 @@ fn add_undeclared(
 {
     add_behind(text, word, b" is no ")?;
     text.extend_from_slice(thing_name(of))?;
-    text.extend_from_slice(b" that is declared: ")?;
-    add_number(text, count)?;
-    text.extend_from_slice(b" are")
+    text.extend_from_slice(b" that is declared: so far ")?;
+    add_number(text, count)
 }
 
 fn add_before(text: &mut Vec<u8>, word: Option<&[u8]>, task: u32) -> Result<(), AllocError>
@@ -257,7 +256,7 @@ fn add_voters(text: &mut Vec<u8>, word: Option<&[u8]>, voters: u64) -> Result<()
 fn add_seats(text: &mut Vec<u8>, word: Option<&[u8]>, workers: u64) -> Result<(), AllocError>
     ensures { OnOk result (text.new.items ≡ seat_words (with_word text.old.items (option_copied word.entry)) workers) }
 {
-    add_behind(text, word, b" names no worker seat: there are ")?;
+    add_behind(text, word, b" names no worker seat: the script has ")?;
     add_number(text, workers)
 }
 

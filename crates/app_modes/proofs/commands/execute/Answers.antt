@@ -1,5 +1,5 @@
 use Rattle.std.proofs.Common.{Some, ap, sym, ◌∙◌}
-use Rattle.command_line.specs.declared.words.Command.TheVariants.{Check, Explain, Trace, Nest, Generate, Bench}
+use Rattle.command_line.specs.declared.words.Command.TheVariants.{Check, Explain, Trace, Nest, Lint, Generate, Bench}
 use Rattle.app_modes.proofs.Outcomes.{ends_asked, ends_in_common}
 use Rattle.app_modes.proofs.commands.execute.Goals as goal
 
@@ -22,6 +22,11 @@ pub returns-in-Nest-clause-outcome : goal.returns-in-Nest-clause-outcome
 returns-in-Nest-clause-outcome g c =
     ends_asked _ Nest _ _ _ _
     (sym c.in-Ok-Some.ensures.command ∙ c.in-Ok-Some.field-0-is ∙ ap Some c.in-Nest.is) c.run_nest_script.ensures.outcome
+
+pub returns-in-Lint-clause-outcome : goal.returns-in-Lint-clause-outcome
+returns-in-Lint-clause-outcome g c =
+    ends_asked _ (Lint c.in-Lint.input) _ _ _ _
+    (sym c.in-Ok-Some.ensures.command ∙ c.in-Ok-Some.field-0-is ∙ ap Some c.in-Lint.is) c.lint.ensures.outcome
 
 pub returns-in-Generate-clause-outcome : goal.returns-in-Generate-clause-outcome
 returns-in-Generate-clause-outcome g c =

@@ -1,0 +1,10 @@
+pub mod GivenPlaces
+pub mod WordedSteps
+pub mod WordedLines
+pub mod EachLine
+pub mod RightPlaces
+pub mod FaultLines
+pub mod CutLines
+pub mod ToldSteps
+pub mod PostedAgain
+pub mod RefusedLines
