@@ -1,7 +1,8 @@
 """Builds the program: with its proof, by `rt`, or without it, of a copy of its sources, to be kept.
 
 `rt try` writes the whole program as one LLVM module, of which the kit's compiler and linker make the program. Where another kit
-leaves no such file, an empty file is kept in its place, and `rt try` builds and runs the program at each call."""
+leaves no such file, or lacks one of these tools, an empty file is kept in its place, and `rt try` builds and runs the program at each
+call."""
 from __future__ import annotations
 
 import os
@@ -52,35 +53,33 @@ def _make(work: Work, rt: str, sources: dict[str, bytes]) -> str:
         with open(work.path(path), "wb") as it:
             it.write(text)
     module, code, made = map(work.path, ("module.bc", "module.o", "taskenv"))
-    tried = work.call([rt, "try", "--seconds", "1", "--", "run"], work.path("crates/taskenv"), lambda: _takes_module(work, module))
-    if tried is not None and not work.said(rb"^run=ended status=0 "):
+    seen: list[str] = []
+    tried = work.call([rt, "try", "--seconds", "1", "--", "run"], work.path("crates/taskenv"), lambda: _takes_module(work, module, seen))
+    # A module that came and went, while this machine did not get to look, says nothing of the kit either.
+    if tried is not None and (seen or not work.said(rb"^run=ended status=0 ")):
         raise work.failure()
     kit = os.path.dirname(os.path.dirname(os.path.realpath(rt)))
-    compiling = [f"{kit}/toolchain/bin/clang", "-O2", "-c", "-x", "ir", module, "-o", code]
-    linking = [f"{kit}/bin/rattle-link", "--target", TARGET, "--toolchain", f"{kit}/toolchain", "-o", made]
+    compiler, linker = f"{kit}/toolchain/bin/clang", f"{kit}/bin/rattle-link"
+    compiling = [compiler, "-O2", "-c", "-x", "ir", module, "-o", code]
+    linking = [linker, "--target", TARGET, "--toolchain", f"{kit}/toolchain", "-o", made]
     linking += [code, f"{kit}/c/libos_c.a", f"{kit}/c/liblibc_c.a"]
-    if tried is not None or not _does(work, compiling) or not _does(work, linking):
+    if tried is not None or not all(os.access(tool, os.X_OK) for tool in (compiler, linker)):
         os.close(os.open(made, os.O_CREAT | os.O_TRUNC | os.O_WRONLY, 0o777))
-    elif not works(made):
+    elif work.call(compiling) != 0 or work.call(linking) != 0 or not works(made):
+        # That may pass, as a lack of memory does, so it says nothing of the kit.
         raise work.failure()
     return made
 
 
-def _takes_module(work: Work, module: str) -> bool:
-    """Takes the module, once it is whole: that is when the object file beside it has been begun."""
+def _takes_module(work: Work, module: str, seen: list[str]) -> bool:
+    """Takes the module, once it is whole: that is when the object file beside it has been begun. Notes where it was seen."""
     for folder, _, names in os.walk(work.path("tmp")):
+        if "module.bc" in names:
+            seen.append(folder)
         if "module.bc" in names and any(re.match(r"module-.*\.o", name) for name in names):
             shutil.copyfile(os.path.join(folder, "module.bc"), module)
             return True
     return False
-
-
-def _does(work: Work, command: list[str]) -> bool:
-    """Whether the kit has this command, and it does its work. One that is killed, or has no room, says nothing of the kit."""
-    status = work.call(command) if os.access(command[0], os.X_OK) else 1
-    if status < 0 or status and work.is_full():
-        raise work.failure()
-    return status == 0
 
 
 def _forget_old(folder: str) -> None:

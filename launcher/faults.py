@@ -38,10 +38,10 @@ PLACED = STEPS | {"parallel", "sequenced", "best_effort", "user_visible", "user_
 WIDTH = 96
 BEFORE = 48
 BLANKS = " \t"
-# The ends of ranges, as `lint` writes them: of ids, of times in microseconds, and of values.
-MOST_ID = "4294967295"
-MOST_MICROSECONDS = "1000000000000"
-MOST_VALUE = "18446744073709551615"
+# The ends of the ranges in what `lint` says: of ids, of times in microseconds, and of values.
+MOST_ID = 4294967295
+MOST_MICROSECONDS = 1000000000000
+MOST_VALUE = 18446744073709551615
 
 
 def lines(note: str, mode: str, parts_known: bool, data: bytes, lint: Callable[[list[str], bytes], tuple[int, bytes]]) -> list[str]:
@@ -99,6 +99,12 @@ class Fault:
         """The bad word, or nothing where one is missing."""
         return self.words[self.index] if self.index is not None and self.index < len(self.words) else ""
 
+    @property
+    def range(self) -> tuple[int, int] | None:
+        """The least and the greatest number that may stand for the word, where that is none."""
+        said, _, taken = self.text.rpartition("number: ")
+        return tuple(map(int, taken.split(" to "))) if " is no " in said else None
+
     def quoted(self, meant: str | None) -> list[str]:
         """The line, cut where it is long, and below it a mark under the word, with what was meant."""
         if not self.line.strip(BLANKS):
@@ -116,15 +122,16 @@ class Fault:
 
     def meant(self) -> str | None:
         """What stands for the word, where that is likely: one of those that its place takes, or a number in digits alone."""
-        taken = self.text.rpartition(": ")[2]
-        if " is no number: " in self.text:
-            low, _, high = taken.partition(" to ")
+        if self.range:
+            low, high = self.range
             number = plain_number(self.word.encode("latin-1").decode("utf-8", "replace"), is_time=high == MOST_MICROSECONDS)
-            return str(number) if number is not None and int(low) <= number <= int(high) else None
-        if " is no " not in self.text:
+            return str(number) if number is not None and low <= number <= high else None
+        # A word that is right at another place is no slip of the pen.
+        if " is no " not in self.text or self.word in PLACED:
             return None
-        names = taken.replace("only mayblock may stand behind the behaviour", "mayblock").replace(" or ", ", ").split(", ")
-        return nearest(self.word, [name for name in names if " " not in name])
+        # Names have no blank, as `where W is 1 to 64` has, or `so far 1`.
+        taken = self.text.rpartition(": ")[2].replace(" or ", ", ").split(", ")
+        return nearest(self.word, [name for name in taken if " " not in name])
 
     def form(self) -> str | None:
         """The form of the step that the word is of, or of the line."""
@@ -234,9 +241,9 @@ def _glued(fault: Fault) -> str | None:
 
 
 def _number(fault: Fault) -> str | None:
-    if " is no number: " not in fault.text:
+    if not fault.range:
         return None
-    high = fault.text.rpartition(" to ")[2]
+    high = fault.range[1]
     if fault.word.startswith("-") and fault.word[1:].isdigit():
         if high == MOST_VALUE:
             return f"values count modulo 2^64, where {fault.word} is {int(fault.word) % 2 ** 64}"
@@ -270,7 +277,7 @@ def _form(fault: Fault) -> str | None:
     """The form of the line or the step, where a word is missing, one is too many, or stands at a wrong place."""
     if " is no command: " in fault.text:
         return f"{fault.word} is a step, and stands in the line of a task" if fault.word in STEPS else None
-    is_count = " missing: " in fault.text or " one word too many: " in fault.text or fault.reason == "WordCount"
+    is_count = " missing: " in fault.text or " one word too many" in fault.text or fault.reason == "WordCount"
     is_placed = " is no " in fault.text and " is no step" not in fault.text and (fault.word in PLACED or fault.word.isdigit())
     form = fault.form() if is_count or is_placed else None
     return f"the form is {form}" if form else None

@@ -10,6 +10,7 @@ from running import say
 MOST = 33_554_433
 # What fills the place of a file.
 WHAT = {"SCRIPT": "a script", "NEST": "a nest script", "LOG": "a log", "REPLIES": "replies"}
+MISSING = {"LOG": "a log is missing", "REPLIES": "replies are missing"}
 # Of what the words in a log are made that are no numbers.
 LETTERS = set("abcdefghijklmnopqrstuvwxyz_-")
 
@@ -48,7 +49,7 @@ def gather(files: list[str], places: list[str]) -> Given:
     if len(parts) == 1:
         parts = [*parts, b"" if os.isatty(0) else _standard_input(places[1:])]
         if not parts[1]:
-            raise BadInput(f"{names[0]} has no line %%, and {WHAT[places[1]]} is missing: name a second file, or - for standard input")
+            raise BadInput(f"{names[0]} has no line %%, and {MISSING[places[1]]}: name a second file, or - for standard input")
     script, behind = (_standard_input([place]) if part is None else part for part, place in zip(parts, places))
     if _is_cut(script):
         raise BadInput(f"{names[0]} has a line %% itself: give the script alone, or this file alone")

@@ -84,14 +84,16 @@ def name_of(found: dict[str, bytes]) -> str:
 
 def crates(home: str) -> dict[str, str]:
     """The crates that the program is made of, lowest first, each with its line in `crates.txt`."""
-    needed, found = {"taskenv"}, {}
-    with open(os.path.join(home, "crates.txt"), encoding="utf-8") as it:
+    needed, found, file = {"taskenv"}, {}, os.path.join(home, "crates.txt")
+    with open(file, encoding="utf-8") as it:
         lines = it.readlines()
     for line in reversed(lines):
         name, _, below = line.partition(":")
         if name in needed:
             needed.update(below.split())
             found[name] = line
+    if not found:
+        raise CannotBuild(f"nothing was run, since the repository is not whole: {file} has no crate taskenv")
     return dict(reversed(list(found.items())))
 
 

@@ -195,6 +195,33 @@ def case_other_kit(room: str, home: str, program: str) -> bool:
     return is_said and is_right and failed.status == 125 and "build.log" in failed.lines[-1] and len(clone.calls()) == 5
 
 
+def case_tools(room: str, home: str, program: str) -> bool:
+    """where the kit's compiler or linker fails it is status 125, nothing is kept, and the next call builds"""
+    for tool in "toolchain/bin/clang", "bin/rattle-link":
+        clone = Clone(room, home, program)
+        file = os.path.join(clone.kit, tool)
+        os.rename(file, f"{file} aside")
+        clone.write(file, "#!/bin/sh\nexit 1\n")
+        os.chmod(file, 0o755)
+        failed = clone.call("check")
+        is_named = failed.status == 125 and not failed.output and "build.log" in failed.lines[-1]
+        is_kept = bool(clone.kept())
+        os.replace(f"{file} aside", file)
+        if not is_named or is_kept or clone.call("run").output != EMPTY:
+            return False
+    return True
+
+
+def case_not_whole(room: str, home: str, program: str) -> bool:
+    """a list of crates that is empty, or has no taskenv, is status 125, and nothing is built"""
+    clone = Clone(room, home, program)
+    for text in "", "low:\n":
+        clone.write("crates.txt", text)
+        if not all(clone.call(word).is_refused("crates.txt has no crate taskenv") for word in ("run", "--prove")):
+            return False
+    return not clone.calls()
+
+
 def case_not_run(room: str, home: str, program: str) -> bool:
     """a program that can't be run is status 125, also where it is the loader that says so, by a status of its own"""
     clone = Clone(room, home, program)
