@@ -138,6 +138,9 @@ class DamagedScript(Case):
         note = f"bad script: line {place + offset + 1}: reason {reason} {REASONS[reason - 1]}\n".encode()
         if told.status != 3 or told.notes != note:
             raise Wrong(f"{self.damage.__name__}: {parts}: not {note}", f"status {told.status}, {told.notes}")
+        said = self.program.run(["lint"], text_of(lines))
+        if said.status != 1 or not said.output.startswith(f"line {place + offset + 1}, word ".encode()):
+            raise Wrong(f"{self.damage.__name__}: {parts}: another line of lint", f"status {said.status}, {said.output[:200]}")
 
 
 class AnyBytes(Case):
