@@ -162,7 +162,7 @@ def _encoding(fault: Fault) -> str | None:
 
 def _parting_line(fault: Fault) -> str | None:
     if fault.line == "%%":
-        return "a script alone has no line %%: check, explain, trace and reply read what stands behind it"
+        return "a script alone has no line %%: check, explain, trace and reply read what stands after it"
     if "%" in fault.line and not fault.line.strip("%" + BLANKS):
         return "the line between the parts is exactly %%, without a blank"
     return f"line {fault.number} ran into %%: the script needs a line feed at its end" if fault.line.endswith("%%") else None
@@ -181,7 +181,7 @@ def _other_part(fault: Fault) -> str | None:
         return None
     said = f"line {fault.number} looks like a {sort}: "
     if fault.mode not in modes:
-        return said + f"{readers} such lines, behind a script"
+        return said + f"{readers} such lines, after a script"
     if fault.parts_known:
         return said + f"the first file is the script, and the second the {part}"
     if fault.number == 1:

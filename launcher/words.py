@@ -181,7 +181,7 @@ def _help_of(name: str, places: dict[str, str]) -> str:
 
 def _help(places: dict[str, str]) -> str:
     """The help of the launcher."""
-    others = {"--version": "shows the version", "--help": "shows this; behind a mode, what the mode does, with an example"}
+    others = {"--version": "shows the version", "--help": "shows this; after a mode, what the mode does, with an example"}
     examples = "".join(f"  {MODES[name].example.format(**places)}\n" for name in ("run", "check", "explain"))
     return f"""usage: {places['it']} {' '.join(f'[{it}]' for it in LAUNCHER)} MODE [OPTION..] [FILE..]
 
@@ -287,11 +287,11 @@ def _faults_of_no_file(file: str, mode: str, places: tuple[str, ...]) -> Iterato
     elif os.path.exists(file):
         return
     elif _is_option(file):
-        yield f"behind -- there are no options: {file}"
+        yield f"after -- there are no options: {file}"
     elif option in MODES[mode].options:
         yield f"{file} is no file: did you mean {option}?"
     elif file in MODES:
-        yield f"one mode at a time: {file} stands behind {mode}"
+        yield f"one mode at a time: {file} stands after {mode}"
     elif places:
         folder, name = os.path.split(file)
         near = nearest(name, os.listdir(folder or ".")[:MOST_LOOKED_AT]) if os.path.isdir(folder or ".") else None
