@@ -29,3 +29,6 @@ pub mod State
 pub mod Fitting
 pub mod Order
 pub mod Progress
+pub mod Ways
+pub mod Told
+pub mod Due

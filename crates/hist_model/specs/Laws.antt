@@ -17,3 +17,4 @@ pub mod LegalPast
 pub mod State
 pub mod Order
 pub mod Progress
+pub mod Ways

@@ -23,6 +23,7 @@ mod shutdown;
 mod singly;
 mod starts;
 mod state;
+mod ways;
 mod whole;
 
 pub use chronicle::Chronicle;
@@ -46,4 +47,8 @@ pub use shutdown::{shutdown_waits_and_forbids, shutdown_waits_and_forbids_over_t
 pub use singly::sequences_run_singly;
 pub use starts::tasks_start_at_most_once;
 pub use state::state_moves_along;
+pub use ways::{
+    each_seat_has_one_way_on, entries_are_judged_by_what_is_made,
+    logs_are_told_by_seats_and_moments, the_way_on_is_allowed_when_due,
+};
 pub use whole::whole_logs_lose_nothing;
