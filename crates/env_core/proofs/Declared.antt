@@ -33,7 +33,7 @@ use Rattle.task_base.specs.declared.script.MainQueue.{MainQueue}
 use Rattle.task_base.specs.declared.step.Step.{Step}
 use Rattle.task_model.specs.Phase.{phase_of}
 use Rattle.task_model.specs.MainQueues.{voters_of}
-use Rattle.task_model.specs.Posts.{main_post_of, post_of}
+use Rattle.pool_laws.specs.Posts.{main_post_of, post_of}
 use Rattle.task_model.specs.Seats.{Running, acts_done, steps_of}
 use Rattle.task_base.specs.declared.entry.Kind.TheVariants as kinds
 use Rattle.task_base.specs.declared.script.Action.TheVariants as actions

@@ -2,7 +2,8 @@ ghost use Rattle.std.specs.Prelude.{◌≡◌, ℕ, true, false, List, [], ◌�
 ghost use Rattle.task_base.specs.Plan.{Plan};
 ghost use Rattle.task_base.specs.declared.entry.Entry.{Entry};
 ghost use Rattle.task_base.specs.declared.entry.Kind.TheVariants as kinds;
-ghost use Rattle.task_model.specs.Posts.{is_taken, is_ended, is_main_taken, is_main_ended};
+ghost use Rattle.task_model.specs.Posts.{is_taken, is_ended, is_main_taken};
+ghost use Rattle.pool_laws.specs.Posts.{is_main_ended};
 ghost use Rattle.task_model.specs.Seats.{running, holding, acts_done};
 ghost use Rattle.hist_model.specs.Views.{own_entries};
 ghost use Rattle.hist_model.specs.Allowed.{may_come};

@@ -25,11 +25,10 @@ use Rattle.task_base.specs.declared.script.Lane.{Lane}
 use Rattle.task_base.specs.declared.script.Lane.TheVariants.{Immediate, Delayed}
 use Rattle.task_model.specs.MainQueues.{Front, choice_among, chosen_of, class_below, front_of, fronts_of, is_in_lane, is_of_lane, is_open}
 use Rattle.task_model.specs.MainQueues.{fence_of, least_class, of_least_class, open_fronts, order_below, voters_of, votes_on}
-use Rattle.task_model.specs.Orders.{Ordered, main_arrivals, ordered}
+use Rattle.queue_laws.specs.Orders.{Ordered, main_arrivals, ordered, ordered_below}
 use Rattle.task_model.specs.Posts.{is_delayed, is_main_taken, main_posts}
 use Rattle.task_model.specs.Refusal.{is_closed}
 use Rattle.queue_laws.specs.Fronts.{front_for}
-use Rattle.queue_laws.specs.Orders.{ordered_below}
 use Rattle.queue_laws.proofs.Arrivals.{front_is_first_arrival, main_arrivals_rise}
 use Rattle.nested_loop.proofs.Plain.{IsPlain, first_class}
 

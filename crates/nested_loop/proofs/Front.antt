@@ -17,9 +17,8 @@ use Rattle.list_laws.proofs.Rises.{rises-filter}
 use Rattle.list_laws.proofs.Sorts.{rises-append}
 use Rattle.task_base.specs.declared.entry.Entry.{Entry}
 use Rattle.task_model.specs.MainQueues.{chosen_of, voters_of}
-use Rattle.task_model.specs.Orders.{Ordered, main_arrivals, ordered}
+use Rattle.queue_laws.specs.Orders.{Ordered, main_arrivals, ordered, ordered_below}
 use Rattle.task_model.specs.Posts.{is_main_taken, main_posts}
-use Rattle.queue_laws.specs.Orders.{ordered_below}
 use Rattle.queue_laws.proofs.Arrivals.{main_arrivals_rise}
 use Rattle.sequence_manager.specs.Postings.{MainPosting}
 use Rattle.nested_loop.specs.Plan.{NestPlan}

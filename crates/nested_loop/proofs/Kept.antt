@@ -14,7 +14,8 @@ use Rattle.list_laws.proofs.Filters.{filter-map}
 use Rattle.list_laws.proofs.Finds.{none_found}
 use Rattle.task_base.specs.declared.entry.Entry.{Entry}
 use Rattle.task_base.specs.declared.entry.Kind.TheVariants as kinds
-use Rattle.task_model.specs.Posts.{Posted, is_main_taken, main_post_of, main_posted_by, main_posts}
+use Rattle.task_model.specs.Posts.{Posted, is_main_taken, main_posted_by, main_posts}
+use Rattle.pool_laws.specs.Posts.{main_post_of}
 use Rattle.task_model.specs.Refusal.{is_closed}
 use Rattle.task_model.specs.Seats.{Running, running}
 use Rattle.task_model.proofs.Growth.{is_main_taken_push, main_posts_push, running_push}

@@ -13,11 +13,12 @@ use Rattle.task_base.specs.declared.entry.Entry.{Entry}
 use Rattle.task_base.specs.declared.entry.Kind.{Kind}
 use Rattle.task_base.specs.declared.entry.Kind.TheVariants as kinds
 use Rattle.task_model.specs.MainQueues.{class_of, class_after, fence_of, fence_after, immediate_fronts, is_delayed_task, streak_of, streak_after}
-use Rattle.task_model.specs.Orders.{main_arrivals, drawing_by}
+use Rattle.queue_laws.specs.Orders.{main_arrivals, drawing_by}
 use Rattle.task_model.specs.Past.{fold_past}
 use Rattle.task_model.specs.Posts.{is_delayed, main_posted_by, main_posts}
 use Rattle.task_model.specs.Refusal.{is_closed, closes}
-use Rattle.task_model.proofs.Growth.{class_of_push, fence_of_push, is_closed_push, main_arrivals_push, main_posts_push, streak_of_push}
+use Rattle.task_model.proofs.Growth.{class_of_push, fence_of_push, is_closed_push, main_posts_push, streak_of_push}
+use Rattle.queue_laws.proofs.Arrivals.{main_arrivals_push}
 use Rattle.nested_loop.specs.Waiting.{is_plain}
 
 -- the class of a queue in a script

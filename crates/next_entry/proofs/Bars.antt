@@ -25,7 +25,8 @@ use Rattle.task_model.specs.Jobs.{JobPosted, claimed, has_unclaimed, is_cancelle
 use Rattle.task_model.specs.Keys.{Ready, key_of}
 use Rattle.task_model.specs.Past.{fold_past}
 use Rattle.task_model.specs.Policies.{is_held}
-use Rattle.task_model.specs.Posts.{InOrder, Posted, is_taken, post_of, posted_by, posts}
+use Rattle.task_model.specs.Posts.{Posted, is_taken, posted_by, posts}
+use Rattle.pool_laws.specs.Posts.{InOrder, post_of}
 use Rattle.task_model.specs.Refusal.{is_forbidden, is_job_forbidden}
 use Rattle.task_model.specs.Seats.{runs_sequence}
 use Rattle.task_model.specs.Sequences.{eligible, head_of}

@@ -10,7 +10,8 @@ use Rattle.task_model.specs.Capacity.{has_room, priority_of, priority_of_job}
 use Rattle.task_model.specs.Jobs.{concurrency, has_unclaimed, is_cancelled, is_job_accepted}
 use Rattle.task_model.specs.Keys.{key_of}
 use Rattle.task_model.specs.Policies.{is_held}
-use Rattle.task_model.specs.Posts.{Posted, is_taken, post_of}
+use Rattle.task_model.specs.Posts.{Posted, is_taken}
+use Rattle.pool_laws.specs.Posts.{post_of}
 use Rattle.task_model.specs.Refusal.{is_forbidden, is_job_forbidden}
 use Rattle.task_model.specs.Seats.{inside, runs_sequence}
 use Rattle.past_lookup.specs.Runners.{is_others}

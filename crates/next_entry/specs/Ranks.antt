@@ -13,7 +13,8 @@ use Rattle.task_base.specs.declared.source.Key.{Key}
 use Rattle.task_model.specs.Capacity.{priority_of, priority_of_job}
 use Rattle.task_model.specs.Jobs.{JobPosted, job_post_of}
 use Rattle.task_model.specs.Keys.{key_at, key_of}
-use Rattle.task_model.specs.Posts.{Posted, post_of}
+use Rattle.task_model.specs.Posts.{Posted}
+use Rattle.pool_laws.specs.Posts.{post_of}
 use Rattle.task_model.specs.Seats.{inside}
 use Rattle.seat_hand.specs.declared.hand.Hand.{Hand}
 use Rattle.seat_hand.specs.declared.hand.Hand.TheVariants as hands

@@ -1,7 +1,8 @@
 ghost use Rattle.std.specs.Prelude.{◌≡◌, ◌<◌, ◌^◌, ◌==◌, List, find, length};
 ghost use Rattle.std.specs.Option.{option_map, option_or};
 ghost use Rattle.task_base.specs.declared.entry.Entry.{Entry as AnyEntry};
-ghost use Rattle.task_model.specs.Posts.{is_taken, post_of, posted_by};
+ghost use Rattle.task_model.specs.Posts.{is_taken, posted_by};
+ghost use Rattle.pool_laws.specs.Posts.{post_of};
 ghost use Rattle.task_model.specs.Time.{now_after, now_of};
 ghost use Rattle.past_lookup.specs.Posts.{posted};
 

@@ -22,7 +22,8 @@ use Rattle.task_base.specs.Runners.{sequence_of}
 use Rattle.task_base.specs.declared.entry.Entry.{Entry}
 use Rattle.task_model.proofs.Growth.{posts_push}
 use Rattle.task_model.specs.Keys.{Ready}
-use Rattle.task_model.specs.Posts.{InOrder, Posted, is_ended, is_taken, post_of, posted_by, posts}
+use Rattle.task_model.specs.Posts.{Posted, is_ended, is_taken, posted_by, posts}
+use Rattle.pool_laws.specs.Posts.{InOrder, post_of}
 use Rattle.task_model.specs.Refusal.{is_forbidden}
 use Rattle.task_model.specs.Seats.{Running, running, runs_of}
 use Rattle.task_model.specs.Sequences.{head_of}

@@ -13,7 +13,7 @@ use Rattle.pool_core.specs.Tables.{is_unripe, ripening_of, unripe}
 use Rattle.pool_laws.proofs.Keys.Arrivals.{one_ripens_first, posts_differ, ranks_ripens}
 use Rattle.pool_laws.proofs.Keys.Posts.{posts_same}
 use Rattle.pool_laws.proofs.Keys.Ready.{posts_within, tick_from_push}
-use Rattle.pool_laws.specs.Keys.{NoTickAhead, moves_ready, tick_by, ready_parts}
+use Rattle.pool_laws.specs.Keys.{NoTickAhead, moves_ready, tick_by, ready_parts, becomes_ripe}
 use Rattle.std.proofs.Common.{Bool, List, None, Option, Some, [], ap, arith, cond, false, length}
 use Rattle.std.proofs.Common.{map, refl, sym, true, ℕ, ◌++◌, ◌+◌, ◌<◌, ◌∙◌, ◌∷◌, ◌≡◌, ◌≢◌, ◌≤◌}
 use Rattle.std.proofs.lemmas.Bool.{ltb-true}
@@ -24,7 +24,6 @@ use Rattle.std.specs.Option.{option_or}
 use Rattle.std.specs.Prelude.{All, filter, is_none, nat_le, nat_lt, not, ◌&&◌, ◌⊎◌}
 use Rattle.task_base.specs.declared.entry.Entry.{Entry}
 use Rattle.task_model.proofs.Growth.{posts_push}
-use Rattle.task_model.specs.Keys.{becomes_ripe}
 use Rattle.task_model.specs.Posts.{Posted, is_delayed, post_behind, posts, ripens_before}
 use Rattle.task_model.specs.Time.{now_of, tick_from}
 use Rattle.delayed_manager.specs.Delayed as ripenings

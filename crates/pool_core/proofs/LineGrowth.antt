@@ -19,7 +19,7 @@ use Rattle.pool_laws.proofs.Choice.Least.{ranks_key}
 use Rattle.pool_laws.proofs.Keys.Arrivals.{arrivals_rise, arrivals_same, head_is_first_arrival}
 use Rattle.pool_laws.proofs.Seats.Cells.{cell_at_end, cell_same}
 use Rattle.pool_laws.proofs.Seats.Running.{runs_at_end, runs_at_main, runs_at_other_end, runs_at_take, runs_same}
-use Rattle.pool_laws.specs.Keys.{ready_below}
+use Rattle.pool_laws.specs.Keys.{ready_below, arrivals}
 use Rattle.pool_laws.specs.Seats.{moves_main, runs_pool_task, main_parts, running_parts}
 use Rattle.std.proofs.Common.{Bool, List, None, Some, [], ap, arith, cond, eqb, false, get_or, length}
 use Rattle.std.proofs.Common.{map, refl, subst, sym, true, ℕ, ◌++◌, ◌+◌, ◌<◌, ◌∙◌, ◌∷◌, ◌≡◌, ◌≤◌}
@@ -33,7 +33,7 @@ use Rattle.task_base.specs.declared.entry.Entry.{Entry}
 use Rattle.task_model.proofs.Growth.{is_taken_push, phase_of_push}
 use Rattle.task_model.specs.Blockers.{block_part, blockers_of, is_block, is_open_block}
 use Rattle.task_model.specs.Cells.{cell_of}
-use Rattle.task_model.specs.Keys.{Ready, arrivals}
+use Rattle.task_model.specs.Keys.{Ready}
 use Rattle.task_model.specs.Past.{fold_past}
 use Rattle.task_model.specs.Phase.{phase_after, phase_of, started_from}
 use Rattle.task_model.specs.Posts.{Posted, is_ended, is_taken, posts, takes}

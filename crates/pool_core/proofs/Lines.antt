@@ -13,7 +13,7 @@ use Rattle.pool_core.specs.Pasts.{IsPoolPast}
 use Rattle.pool_core.specs.State.{pushed}
 use Rattle.pool_laws.proofs.Keys.Arrivals.{head_is_first_arrival}
 use Rattle.pool_laws.proofs.Seats.Running.{seat_runs}
-use Rattle.pool_laws.specs.Keys.{ready_below}
+use Rattle.pool_laws.specs.Keys.{ready_below, arrivals}
 use Rattle.std.proofs.Common.{Bool, List, None, Some, [], ap, arith, cond, drop, eqb, false, length, map}
 use Rattle.std.proofs.Common.{refl, subst, sym, true, ℕ, ◌++◌, ◌+◌, ◌-◌, ◌<◌, ◌∙◌, ◌∷◌, ◌≡◌, ◌≤◌}
 use Rattle.std.proofs.lemmas.Bool.{and_from, and_right, eqb-false, eqb-true}
@@ -27,8 +27,9 @@ use Rattle.task_base.specs.Plan.{Plan}
 use Rattle.task_base.specs.Runners.{is_parallel, sequence_count, sequence_of}
 use Rattle.task_base.specs.declared.entry.Entry.{Entry}
 use Rattle.task_model.specs.Cells.{cell_of}
-use Rattle.task_model.specs.Keys.{Ready, arrivals, key_of}
-use Rattle.task_model.specs.Posts.{Posted, post_of, posts}
+use Rattle.task_model.specs.Keys.{Ready, key_of}
+use Rattle.task_model.specs.Posts.{Posted, posts}
+use Rattle.pool_laws.specs.Posts.{post_of}
 use Rattle.task_model.specs.Seats.{Running, running, runs_of, runs_sequence}
 use Rattle.task_model.specs.Sequences.{head_of, is_of, may_start}
 use Rattle.task_sequence.specs.Sequences.{Held, behind_first, first_of, fresh, given_of, sequence_at, with_sequence}

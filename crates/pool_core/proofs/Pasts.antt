@@ -34,7 +34,8 @@ use Rattle.task_model.proofs.Growth.{is_taken_push, now_of_push, open_scope_push
 use Rattle.task_model.specs.Capacity.{open_scope, scope_after}
 use Rattle.task_model.specs.Keys.{Ready}
 use Rattle.task_model.specs.Past.{fold_past}
-use Rattle.task_model.specs.Posts.{InOrder, Posted, is_taken, post_of, posted_by, posts, takes}
+use Rattle.task_model.specs.Posts.{Posted, is_taken, posted_by, posts, takes}
+use Rattle.pool_laws.specs.Posts.{InOrder, post_of}
 use Rattle.task_model.specs.Seats.{Running, holding, running, runs_sequence}
 use Rattle.task_model.specs.Sequences.{head_of}
 use Rattle.task_model.specs.Time.{now_after, now_of}

@@ -29,7 +29,8 @@ use Rattle.task_base.specs.declared.script.Runner.{Runner}
 use Rattle.task_model.proofs.Growth.{posts_push}
 use Rattle.task_model.specs.Capacity.{priority_of}
 use Rattle.task_model.specs.Past.{fold_past}
-use Rattle.task_model.specs.Posts.{Posted, post_behind, post_of, posts}
+use Rattle.task_model.specs.Posts.{Posted, post_behind, posts}
+use Rattle.pool_laws.specs.Posts.{post_of}
 use Rattle.task_model.specs.Refusal.{effective_at}
 use Rattle.task_model.specs.Seats.{Running, running, running_after}
 use Rattle.task_traits.specs.declared.traits.Priority.{Priority}

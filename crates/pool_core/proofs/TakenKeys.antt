@@ -9,7 +9,7 @@ use Rattle.pool_core.specs.Pasts.{TakenHaveKeys}
 use Rattle.pool_laws.proofs.Keys.Arrivals.{head_is_first_arrival}
 use Rattle.pool_laws.proofs.Keys.Posts.{posts_same}
 use Rattle.pool_laws.proofs.Keys.Ready.{AllByRecursion-filter_map, key_of_stays}
-use Rattle.pool_laws.specs.Keys.{moves_posts}
+use Rattle.pool_laws.specs.Keys.{moves_posts, arrivals}
 use Rattle.std.proofs.Common.{List, None, Option, Some, [], ap, false, inl, inr, refl, subst, sym, true, true≢false, ℕ, ◌++◌, ◌∙◌, ◌∷◌, ◌≡◌}
 use Rattle.std.proofs.lemmas.Bool.{eqb-true, or_cases}
 use Rattle.std.proofs.lemmas.List.Elements.{Contains-push_cases}
@@ -21,8 +21,9 @@ use Rattle.task_base.specs.Plan.{Plan}
 use Rattle.task_base.specs.declared.entry.Entry.{Entry}
 use Rattle.task_base.specs.declared.source.Key.{Key}
 use Rattle.task_model.proofs.Growth.{is_taken_push, posts_push}
-use Rattle.task_model.specs.Keys.{Ready, arrivals, key_of, ready}
-use Rattle.task_model.specs.Posts.{Posted, is_taken, post_behind, post_of, posts, takes}
+use Rattle.task_model.specs.Keys.{Ready, key_of, ready}
+use Rattle.task_model.specs.Posts.{Posted, is_taken, post_behind, posts, takes}
+use Rattle.pool_laws.specs.Posts.{post_of}
 use Rattle.task_model.specs.Sequences.{head_of, is_of, may_start}
 use Rattle.task_base.specs.declared.entry.Kind.TheVariants as kinds
 use Rattle.task_base.specs.Entries.{next}

@@ -34,7 +34,8 @@ use Rattle.task_model.specs.Keys.{Ready}
 use Rattle.task_model.specs.Past.{fold_past}
 use Rattle.task_model.specs.Phase.{phase_of}
 use Rattle.task_model.specs.Policies.{policy_of}
-use Rattle.task_model.specs.Posts.{Posted, is_ended, is_taken, post_of, posts}
+use Rattle.task_model.specs.Posts.{Posted, is_ended, is_taken, posts}
+use Rattle.pool_laws.specs.Posts.{post_of}
 use Rattle.task_model.specs.Refusal.{behaviour_of_job, effective_at}
 use Rattle.task_model.specs.Seats.{Holding, Running, all_seats, holding, running}
 use Rattle.task_model.specs.Sequences.{head_of}

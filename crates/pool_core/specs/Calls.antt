@@ -14,7 +14,7 @@ use Rattle.task_base.specs.declared.limits.TheConstants.{LAST_MOMENT, MOST_MICRO
 use Rattle.list_laws.specs.Lists.{count, holds_of}
 use Rattle.task_base.specs.Entries.{next}
 use Rattle.task_model.specs.Phase.{phase_of}
-use Rattle.task_model.specs.Posts.{post_of}
+use Rattle.pool_laws.specs.Posts.{post_of}
 use Rattle.task_model.specs.Time.{now_of}
 use Rattle.task_model.specs.Keys.{Ready}
 use Rattle.task_model.specs.Sequences.{head_of}

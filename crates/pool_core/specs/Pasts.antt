@@ -7,12 +7,13 @@ use Rattle.task_base.specs.declared.entry.Entry.{Entry}
 use Rattle.task_base.specs.declared.limits.TheConstants.{MOST_WORKERS, MOST_RUNNERS, MOST_TASKS, MOST_JOBS, LAST_MOMENT}
 use Rattle.list_laws.specs.Lists.{keep}
 use Rattle.list_laws.specs.Sorts.{SameMembers}
-use Rattle.task_model.specs.Posts.{Posted, posts, post_of, is_taken, InOrder}
+use Rattle.task_model.specs.Posts.{Posted, posts, is_taken}
+use Rattle.pool_laws.specs.Posts.{post_of, InOrder}
 use Rattle.task_model.specs.Time.{now_of}
-use Rattle.task_model.specs.Keys.{key_of, ready, arrivals}
+use Rattle.task_model.specs.Keys.{key_of, ready}
+use Rattle.pool_laws.specs.Keys.{arrivals, NoTickAhead}
 use Rattle.task_model.specs.Seats.{Running, running}
 use Rattle.task_model.specs.Capacity.{open_scope}
-use Rattle.pool_laws.specs.Keys.{NoTickAhead}
 use Rattle.pool_laws.specs.Runs.{RunsSingly}
 use Rattle.pool_core.specs.Holdings.{AreInside}
 

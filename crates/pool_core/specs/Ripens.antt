@@ -4,7 +4,7 @@ use Rattle.std.specs.List.{AllByRecursion}
 use Rattle.task_base.specs.Plan.{Plan}
 use Rattle.task_base.specs.declared.entry.Entry.{Entry}
 use Rattle.task_model.specs.Posts.{Posted, posts}
-use Rattle.task_model.specs.Keys.{arrivals, ripe_behind}
+use Rattle.pool_laws.specs.Keys.{arrivals, ripe_behind}
 use Rattle.task_model.specs.Seats.{worker_seats}
 use Rattle.task_runners.specs.Table.{table_of}
 use Rattle.pool_core.specs.Calls.{CanTick, after_tick}

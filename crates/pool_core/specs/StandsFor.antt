@@ -4,7 +4,7 @@ use Rattle.task_base.specs.Plan.{Plan}
 use Rattle.task_base.specs.declared.entry.Entry.{Entry}
 use Rattle.task_model.specs.Time.{now_of}
 use Rattle.task_model.specs.Posts.{posts}
-use Rattle.task_model.specs.Keys.{arrivals}
+use Rattle.pool_laws.specs.Keys.{arrivals}
 use Rattle.task_model.specs.Seats.{worker_seats}
 use Rattle.task_runners.specs.Table.{table_of}
 use Rattle.pool_core.specs.Pasts.{IsPoolScript, IsPoolPast}

@@ -4,7 +4,8 @@ use Rattle.std.specs.Option.{option_map}
 use Rattle.task_base.specs.Plan.{Plan}
 use Rattle.task_base.specs.declared.entry.Entry.{Entry}
 use Rattle.list_laws.specs.Sorts.{sort_by}
-use Rattle.task_model.specs.Posts.{Posted, posts, post_of, is_delayed, ripens_before}
+use Rattle.task_model.specs.Posts.{Posted, posts, is_delayed, ripens_before}
+use Rattle.pool_laws.specs.Posts.{post_of}
 use Rattle.task_model.specs.Time.{tick_from}
 use Rattle.task_model.specs.Phase.{phase_of}
 use Rattle.task_model.specs.Policies.{policy_of}

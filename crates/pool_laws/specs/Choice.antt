@@ -1,5 +1,5 @@
 -- Words of the laws on what waits, and what a worker takes next.
-use Rattle.std.specs.Prelude.{◌≡◌, ℕ, false, List, [], ◌∷◌, ◌++◌, Option, Some, None, slice_get, take, option_and_then, Bool, true, All, nat_lt, if◌then◌else◌, length, Contains}
+use Rattle.std.specs.Prelude.{◌≡◌, IsTrue, ℕ, false, List, [], ◌∷◌, ◌++◌, Option, Some, None, slice_get, take, option_and_then, Bool, true, All, nat_lt, if◌then◌else◌, length, Contains}
 use Rattle.task_base.specs.Plan.{Plan}
 use Rattle.task_base.specs.declared.entry.Entry.{Entry}
 use Rattle.task_base.specs.declared.entry.Kind.{Kind}
@@ -7,13 +7,21 @@ use Rattle.task_base.specs.declared.entry.Kind.TheVariants as kinds
 use Rattle.task_base.specs.declared.source.TaskSource.{TaskSource}
 use Rattle.task_base.specs.declared.source.TaskSource.TheVariants.{Sequence, Job}
 use Rattle.task_base.specs.Runners.{sequence_of, sequence_count}
-use Rattle.task_model.specs.Sources.{Candidate, sequence_waiting, would_wait, waiting, IsTakeable, is_takeable, goes_before, job_waiting}
+use Rattle.task_model.specs.Sources.{Candidate, sequence_waiting, would_wait, waiting, is_takeable, goes_before, job_waiting}
 use Rattle.task_model.specs.Posts.{Posted, post_behind}
 use Rattle.task_model.specs.Policies.{is_held}
 use Rattle.pool_laws.specs.Keys.{sequence_parts}
 use Rattle.pool_laws.specs.Jobs.{job_parts}
 use Rattle.pool_laws.specs.Moves.{Part, Phases, Policies, Priorities, moves}
 use Rattle.pool_laws.specs.Seats.{running_parts}
+
+-- the source waits
+abbrev pub IsWaiting : Plan → List Entry → Candidate → Type 0
+IsWaiting script past c = Contains (waiting script past) c
+
+-- the source waits, and the seat may take it
+abbrev pub IsTakeable : Plan → List Entry → ℕ → Candidate → Type 0
+IsTakeable script past seat c = IsWaiting script past c × IsTrue (is_takeable script past seat c)
 
 -- the source that the entry is a post to
 abbrev pub posted_source : Plan → Kind → Option TaskSource

@@ -1,5 +1,5 @@
 -- Words of the laws on jobs.
-use Rattle.std.specs.Prelude.{◌≡◌, ℕ, ◌==◌, Bool, false, List, [], ◌∷◌}
+use Rattle.std.specs.Prelude.{◌≡◌, ℕ, ◌==◌, Bool, IsTrue, false, List, [], ◌∷◌}
 use Rattle.task_base.specs.Plan.{Plan}
 use Rattle.task_base.specs.declared.entry.Entry.{Entry}
 use Rattle.task_base.specs.declared.entry.Kind.{Kind}
@@ -7,7 +7,7 @@ use Rattle.task_base.specs.declared.entry.Kind.TheVariants as kinds
 use Rattle.task_model.specs.Phase.{phase_of}
 use Rattle.task_model.specs.Seats.{inside}
 use Rattle.pool_laws.specs.Moves.{Part, Cancels, Items, JobPosts, Phases, moves}
-use Rattle.task_model.specs.Jobs.{job_post_of, is_cancelled, claimed, done, job_sum}
+use Rattle.task_model.specs.Jobs.{job_post_of, is_cancelled, claimed, done, job_sum, may_enter}
 
 -- the kinds that may change what is known of a job
 abbrev pub job_parts : List Part
@@ -30,3 +30,7 @@ pub record JobKept (script : Plan) (past later : List Entry) (j : ℕ) : Type 0 
   pub done_same : done later j ≡ done past j
   pub sum_same : job_sum later j ≡ job_sum past j
   pub inside_now : inside script later j ≡ inside script past j
+
+-- the fact of it
+abbrev pub MayEnter : Plan → List Entry → ℕ → Type 0
+MayEnter script past j = IsTrue (may_enter script past j)

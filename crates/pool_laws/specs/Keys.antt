@@ -1,14 +1,16 @@
 -- Words of the laws on posts, keys, and the tasks of sequences.
-use Rattle.std.specs.Prelude.{◌≡◌, ℕ, ◌<◌, Bool, true, if◌then◌else◌, List, [], ◌∷◌, length, Option, Some, None, is_none, Contains}
+use Rattle.std.specs.Prelude.{◌≡◌, ℕ, ◌<◌, Bool, true, ◌&&◌, nat_lt, nat_le, if◌then◌else◌, List, [], ◌∷◌, ◌++◌, length, map, filter, Option, Some, None, is_none, Contains}
 use Rattle.std.specs.Option.{option_map, option_or}
 use Rattle.std.specs.List.{filter_map}
 use Rattle.task_base.specs.declared.entry.Entry.{Entry}
 use Rattle.task_base.specs.declared.entry.Kind.{Kind}
-use Rattle.task_base.specs.declared.entry.Kind.TheVariants.{Tick}
+use Rattle.task_base.specs.declared.entry.Kind.TheVariants.{Post, Tick}
 use Rattle.task_base.specs.declared.source.Key.{Key}
 use Rattle.task_model.specs.Time.{now_of, is_tick_from, tick_from}
-use Rattle.task_model.specs.Posts.{Posted, is_delayed, posts}
-use Rattle.task_model.specs.Keys.{Ready, key_of}
+use Rattle.list_laws.specs.Sorts.{sort_by}
+use Rattle.task_model.specs.Past.{fold_past}
+use Rattle.task_model.specs.Posts.{Posted, is_delayed, post_behind, posts, ripens_before}
+use Rattle.task_model.specs.Keys.{Ready, key_at, key_of}
 use Rattle.task_base.specs.Keys.{key_below}
 use Rattle.task_base.specs.Plan.{Plan}
 use Rattle.task_model.specs.Sequences.{is_of, may_start}
@@ -70,3 +72,27 @@ pub record IsHead (script : Plan) (past : List Entry) (s : ℕ) (head : Ready) :
   pub keyed : key_of past head.posted ≡ Some head.key
   pub of_sequence : is_of script s head.posted ≡ true
   pub free : may_start script past head.posted ≡ true
+
+-- an immediate task behind a past, with its key
+abbrev pub ready_behind : List Entry → ℕ → ℕ → ℕ → Ready
+ready_behind before task runner delay = record { posted = post_behind before task runner delay; key = key_at (length before) }
+
+-- the delayed task gets its key at a tick of this moment behind a past: it is ripe by then, and no tick before was at or
+-- past its ripe moment
+abbrev pub becomes_ripe : List Entry → ℕ → Posted → Bool
+becomes_ripe before moment p = is_delayed p && nat_le p.ripe moment && is_none (tick_from before p.ripe)
+
+-- a delayed task with the key that it gets at a tick behind a past
+abbrev pub ripe_behind : List Entry → Posted → Ready
+ripe_behind before p = record { posted = p; key = record { place = length before; ripe = p.ripe; post = p.place } }
+
+-- the tasks that get their keys at an entry behind a past, in the order of the keys: an accepted immediate one at its
+-- post, and those that become ripe at a tick by ripe moment, then by place of post
+abbrev pub arriving_by : List Entry → Kind → List Ready
+arriving_by before (Post task runner delay true) = if nat_lt 0 delay then [] else ready_behind before task runner delay ∷ []
+arriving_by before (Tick moment) = map (ripe_behind before) (sort_by ripens_before (filter (becomes_ripe before moment) (posts before)))
+arriving_by before kind = []
+
+-- the accepted tasks of the pool in the order in which they get their keys
+unfoldable pub arrivals : List Entry → List Ready
+arrivals past = fold_past (λ before known e. known ++ arriving_by before e.kind) [] past

@@ -1,4 +1,5 @@
 pub mod Moves
+pub mod Posts
 pub mod Keys
 pub mod Seats
 pub mod Runs

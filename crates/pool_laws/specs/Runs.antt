@@ -5,7 +5,8 @@ use Rattle.task_base.specs.Runners.{sequence_of}
 use Rattle.task_base.specs.declared.entry.Entry.{Entry}
 use Rattle.task_base.specs.declared.entry.Kind.{Kind}
 use Rattle.task_model.specs.Posts.{Posted, posts, posted_by, main_posts, main_posted_by, is_taken, takes, is_main_taken, main_takes}
-use Rattle.task_model.specs.Posts.{is_ended, ends, is_main_ended, main_ends}
+use Rattle.task_model.specs.Posts.{is_ended, ends}
+use Rattle.pool_laws.specs.Posts.{is_main_ended, main_ends}
 use Rattle.task_model.specs.Seats.{Running, running}
 use Rattle.pool_laws.specs.Moves.{Part, Takes, Ends, moves}
 use Rattle.pool_laws.specs.Seats.{main_parts}

@@ -22,11 +22,11 @@ use Rattle.task_model.specs.Past.{fold_past}
 use Rattle.task_model.specs.Time.{now_of, tick_from}
 use Rattle.task_model.specs.Posts.{Posted, is_delayed, ripens_before, post_behind, main_posted_by, main_posts}
 use Rattle.task_model.specs.Refusal.{is_closed}
-use Rattle.task_model.specs.Orders.{Ordered, ordered, numbered_from, drawing_by, main_arrivals, ripens}
+use Rattle.task_model.specs.Orders.{ripens}
+use Rattle.queue_laws.specs.Orders.{Ordered, ordered, numbered_from, drawing_by, main_arrivals, moves_orders, order_at_tick_of, ordered_below, order_parts}
 use Rattle.task_model.specs.Orders.{ripening, next_draw, draws, drawn_by, drawn_at, order_of}
 use Rattle.task_model.specs.MainQueues.{class_of, front_with, is_in_lane, order_below, front_of}
 use Rattle.pool_laws.specs.Keys.{NoTickAhead}
-use Rattle.queue_laws.specs.Orders.{moves_orders, order_at_tick_of, ordered_below, order_parts}
 use Rattle.queue_laws.specs.Fronts.{front_for}
 use Rattle.list_laws.proofs.Values.{some-injective}
 use Rattle.list_laws.proofs.Counts.{count-cons}
@@ -38,11 +38,15 @@ use Rattle.list_laws.proofs.Ranks.{ranks_by}
 use Rattle.list_laws.proofs.Members.{same_members-refl, same_members-trans, same_members-append, same_members-map, same_members-either}
 use Rattle.list_laws.proofs.Sorts.{count-sort_by, length-sort_by, rises-sort_by, rises-append, differ-filter, least_is_first, same_members-sort_by}
 use Rattle.task_base.specs.Entries.{entry_by as by}
-use Rattle.task_model.proofs.Growth.{main_posts_push, main_arrivals_push, draws_push}
+use Rattle.task_model.proofs.Growth.{fold_past-push, main_posts_push, draws_push}
 use Rattle.pool_laws.proofs.Keys.Arrivals.{ranks_ripens, main_posts_differ}
 use Rattle.queue_laws.proofs.Orders.{main_places, drawn, order_is, order_of_same, order_tick, order_at_post, unordered}
 use Rattle.queue_laws.proofs.Fronts.{front_is_least}
 use Rattle.pool_laws.specs.Moves.{moves}
+
+pub main_arrivals_push : (past : List Entry) (e : Entry) → main_arrivals (past ++ e ∷ []) ≡ main_arrivals past ++ drawing_by past e.kind
+unfolding main_arrivals
+main_arrivals_push past e = fold_past-push (λ before known x. known ++ drawing_by before x.kind) [] past e
 
 -- What one more entry does to the main arrivals.
 

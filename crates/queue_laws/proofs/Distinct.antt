@@ -15,8 +15,8 @@ use Rattle.queue_laws.proofs.Orders.{order_at_tick}
 use Rattle.std.proofs.lemmas.Option.{same_Some}
 use Rattle.list_laws.specs.Sorts.{Differ, SameMembers}
 use Rattle.task_model.specs.Posts.{Posted, is_delayed, ripens_before, main_posts}
-use Rattle.task_model.specs.Orders.{ripens, ripening, Ordered, ordered, main_arrivals, next_draw, order_of}
-use Rattle.queue_laws.specs.Orders.{OrdersBelow, Distinct, OrdersDistinct, ordered_below}
+use Rattle.task_model.specs.Orders.{ripens, ripening, next_draw, order_of}
+use Rattle.queue_laws.specs.Orders.{Ordered, ordered, main_arrivals, OrdersBelow, Distinct, OrdersDistinct, ordered_below}
 use Rattle.list_laws.proofs.Elements.{AllByRecursion-map, AllByRecursion-both, AllByRecursion-through, AllByRecursion-contains_itself, AllByRecursion-made}
 use Rattle.list_laws.specs.Lists.{Ranks, count}
 use Rattle.list_laws.proofs.Ranks.{ranks_by}

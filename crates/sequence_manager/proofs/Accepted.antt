@@ -13,8 +13,10 @@ use Rattle.list_laws.proofs.Values.{some-injective}
 use Rattle.pool_laws.specs.Keys.{NoTickAhead}
 use Rattle.queue_laws.proofs.Orders.{order_is}
 use Rattle.task_base.specs.declared.entry.Entry.{Entry}
-use Rattle.task_model.specs.Orders.{Ordered, main_arrivals, order_of, ordered}
-use Rattle.task_model.specs.Posts.{InOrder, Posted, main_post_of, main_posts}
+use Rattle.task_model.specs.Orders.{order_of}
+use Rattle.queue_laws.specs.Orders.{Ordered, main_arrivals, ordered}
+use Rattle.task_model.specs.Posts.{Posted, main_posts}
+use Rattle.pool_laws.specs.Posts.{InOrder, main_post_of}
 use Rattle.task_model.specs.Time.{now_of}
 use Rattle.sequence_manager.specs.Pasts.{IsDue}
 

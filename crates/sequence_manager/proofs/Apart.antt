@@ -11,7 +11,7 @@ use Rattle.list_laws.specs.Sorts.{Rises}
 use Rattle.list_laws.proofs.Elements.{AllByRecursion-append}
 use Rattle.list_laws.proofs.Sorts.{rises_apart}
 use Rattle.list_laws.proofs.Values.{some-injective}
-use Rattle.queue_laws.specs.Orders.{ordered_below}
+use Rattle.queue_laws.specs.Orders.{ordered_below, Ordered}
 use Rattle.queue_selector.specs.Rows.{closed_row, fronts_from, order_in, open_front, with_order}
 use Rattle.queue_selector.specs.Selecting.{Selecting, open_fronts, with_front}
 use Rattle.queue_selector.specs.declared.front.Front.{Front}
@@ -19,7 +19,6 @@ use Rattle.queue_selector.specs.declared.row.Row.{Row}
 use Rattle.task_base.specs.declared.script.Lane.{Lane}
 use Rattle.task_base.specs.declared.script.Lane.TheVariants.{Immediate, Delayed}
 use Rattle.task_model.specs.MainQueues.{is_of_lane}
-use Rattle.task_model.specs.Orders.{Ordered}
 use Rattle.task_model.specs.Posts.{Posted}
 use Rattle.sequence_manager.specs.State.{CanRefresh, HasDrawn, open_in, queue_at, refreshed}
 use Rattle.sequence_manager.specs.declared.task_queue.TaskQueue.{TaskQueue}

@@ -22,7 +22,7 @@ use Rattle.task_base.specs.declared.entry.Entry.{Entry}
 use Rattle.task_base.specs.declared.script.Lane.{Lane}
 use Rattle.task_base.specs.declared.script.Lane.TheVariants.{Delayed, Immediate}
 use Rattle.task_model.specs.MainQueues.{is_in_lane, is_of_lane}
-use Rattle.task_model.specs.Orders.{Ordered}
+use Rattle.queue_laws.specs.Orders.{Ordered}
 use Rattle.task_model.specs.Posts.{Posted, is_main_taken}
 use Rattle.task_model.specs.Refusal.{is_closed}
 use Rattle.work_queue.specs.Lanes.{IsBelow, all_held}

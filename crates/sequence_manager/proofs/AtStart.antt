@@ -21,7 +21,8 @@ use Rattle.task_base.specs.Plan.{Plan}
 use Rattle.task_base.specs.declared.script.MainQueue.{MainQueue}
 use Rattle.task_model.specs.Cells.{main_cell_of}
 use Rattle.task_model.specs.MainQueues.{class_of, fence_of, streak_of, votes_on}
-use Rattle.task_model.specs.Orders.{draws, main_arrivals}
+use Rattle.task_model.specs.Orders.{draws}
+use Rattle.queue_laws.specs.Orders.{main_arrivals}
 use Rattle.task_model.specs.Past.{fold_past}
 use Rattle.task_model.specs.Posts.{main_posts}
 use Rattle.task_model.specs.Refusal.{is_closed}

@@ -25,7 +25,7 @@ use Rattle.task_base.specs.declared.script.Lane.TheVariants.{Immediate, Delayed}
 use Rattle.task_model.specs.MainQueues.{Front, chosen_of, choice_among, class_below, fence_of, front_of, fronts_of, immediate_fronts}
 use Rattle.task_model.specs.MainQueues.{immediate_of_least_class, is_enabled, is_immediate, is_in_lane, is_open, is_starved}
 use Rattle.task_model.specs.MainQueues.{least_class, of_least_class, open_fronts, order_below, streak_of}
-use Rattle.task_model.specs.Orders.{Ordered, main_arrivals, ordered}
+use Rattle.queue_laws.specs.Orders.{Ordered, main_arrivals, ordered}
 use Rattle.task_model.specs.Posts.{Posted}
 use Rattle.task_model.specs.Refusal.{is_closed}
 use Rattle.sequence_manager.specs.Queues.{IsTable, row_of}

@@ -16,7 +16,8 @@ use Rattle.task_base.specs.Plan.{Plan}
 use Rattle.task_base.specs.declared.entry.Entry.{Entry}
 use Rattle.task_base.specs.declared.entry.Kind.TheVariants as kinds
 use Rattle.task_model.proofs.Growth.{draws_push, fence_of_push, is_closed_push, is_main_taken_push, streak_of_push, votes_on_push}
-use Rattle.task_model.specs.Orders.{Ordered, main_arrivals, next_draw}
+use Rattle.task_model.specs.Orders.{next_draw}
+use Rattle.queue_laws.specs.Orders.{Ordered, main_arrivals}
 use Rattle.task_model.specs.Posts.{Posted, is_delayed, is_main_taken, main_posts, ripens_before}
 use Rattle.task_model.specs.Refusal.{is_closed}
 use Rattle.task_model.specs.Time.{now_of}

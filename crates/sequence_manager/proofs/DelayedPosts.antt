@@ -22,7 +22,8 @@ use Rattle.task_base.specs.Plan.{Plan}
 use Rattle.task_base.specs.declared.entry.Entry.{Entry}
 use Rattle.task_model.proofs.Growth.{draws_push, streak_of_push}
 use Rattle.task_model.specs.MainQueues.{class_of}
-use Rattle.task_model.specs.Orders.{Ordered, drawn_by, main_arrivals, next_draw}
+use Rattle.task_model.specs.Orders.{drawn_by, next_draw}
+use Rattle.queue_laws.specs.Orders.{Ordered, main_arrivals}
 use Rattle.task_model.specs.Posts.{Posted, main_posts, post_behind, ripens_before}
 use Rattle.task_model.specs.Refusal.{is_closed}
 use Rattle.task_model.specs.Time.{now_of}

@@ -18,7 +18,8 @@ use Rattle.task_base.specs.declared.script.Lane.{Lane}
 use Rattle.task_base.specs.declared.script.Lane.TheVariants.{Immediate, Delayed}
 use Rattle.task_model.specs.Cells.{main_cell_of}
 use Rattle.task_model.specs.MainQueues.{class_of, fence_of, is_in_lane, votes_on, voters_of}
-use Rattle.task_model.specs.Orders.{Ordered, main_arrivals, next_draw}
+use Rattle.task_model.specs.Orders.{next_draw}
+use Rattle.queue_laws.specs.Orders.{Ordered, main_arrivals}
 use Rattle.task_model.specs.Posts.{Posted, main_posts}
 use Rattle.task_model.specs.Refusal.{is_closed}
 use Rattle.task_model.specs.Time.{now_of}

@@ -16,7 +16,8 @@ use Rattle.task_base.specs.declared.script.Lane.TheVariants.{Immediate, Delayed}
 use Rattle.task_model.proofs.Growth.{is_main_taken_push, main_cell_of_push, running_push, streak_of_push}
 use Rattle.task_model.specs.Cells.{main_cell_of}
 use Rattle.task_model.specs.MainQueues.{class_of, is_in_lane, is_of_lane}
-use Rattle.task_model.specs.Orders.{Ordered, main_arrivals, next_draw}
+use Rattle.task_model.specs.Orders.{next_draw}
+use Rattle.queue_laws.specs.Orders.{Ordered, main_arrivals}
 use Rattle.task_model.specs.Posts.{Posted}
 use Rattle.task_model.specs.Seats.{Running, running}
 use Rattle.sequence_manager.specs.Calls.{RunsMain, after_end}

@@ -15,7 +15,8 @@ use Rattle.task_base.specs.declared.script.FenceAt.{FenceAt}
 use Rattle.task_base.specs.declared.script.FenceAt.TheVariants.{Now, Start}
 use Rattle.task_model.proofs.Growth.{draws_push, fence_of_push, votes_on_push}
 use Rattle.task_model.specs.MainQueues.{class_of, fence_of, streak_of, voters_of, votes_on}
-use Rattle.task_model.specs.Orders.{main_arrivals, next_draw, drawn_by}
+use Rattle.task_model.specs.Orders.{next_draw, drawn_by}
+use Rattle.queue_laws.specs.Orders.{main_arrivals, order_parts}
 use Rattle.task_model.specs.Posts.{is_main_taken}
 use Rattle.pool_laws.proofs.Seats.Cells.{main_cell_same}
 use Rattle.list_laws.specs.Lists.{holds_of}
@@ -37,7 +38,6 @@ use Rattle.pool_laws.specs.Moves.{Part, Takes, Ends, Classes, MainTakes, MainEnd
 use Rattle.pool_laws.specs.Seats.{main_parts, running_parts}
 use Rattle.pool_laws.proofs.Moves.{moves_fewer}
 use Rattle.queue_laws.proofs.Fronts.{streak_of_same}
-use Rattle.queue_laws.specs.Orders.{order_parts}
 
 -- an entry that sets a queue's fence, or one of its votes, and changes nothing else
 pub record Sets (q : ℕ) (past : List Entry) (e : Entry) : Type 0 where

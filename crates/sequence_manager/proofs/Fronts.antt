@@ -23,7 +23,7 @@ use Rattle.task_base.specs.declared.entry.Entry.{Entry}
 use Rattle.task_base.specs.declared.script.Lane.{Lane}
 use Rattle.task_base.specs.declared.script.Lane.TheVariants.{Immediate, Delayed}
 use Rattle.task_model.specs.MainQueues.{Front, class_of, fence_of, front_of, fronts_of, is_enabled, is_in_lane, is_open, open_fronts, votes_on, voters_of}
-use Rattle.task_model.specs.Orders.{Ordered, main_arrivals, ordered}
+use Rattle.queue_laws.specs.Orders.{Ordered, main_arrivals, ordered}
 use Rattle.task_model.specs.Posts.{Posted}
 use Rattle.task_model.specs.Refusal.{is_closed}
 use Rattle.sequence_manager.specs.Queues.{IsTable, queue_of, queued_of, row_of}

@@ -22,7 +22,8 @@ use Rattle.task_base.specs.declared.script.Lane.TheVariants.{Immediate, Delayed}
 use Rattle.task_model.proofs.Growth.{class_of_push, fence_of_push, is_closed_push, is_main_taken_push, votes_on_push}
 use Rattle.task_model.specs.Cells.{main_cell_of}
 use Rattle.task_model.specs.MainQueues.{class_after, class_of, fence_after, fence_of, is_in_lane, is_of_lane, vote_after, voters_of, votes_on}
-use Rattle.task_model.specs.Orders.{Ordered, next_draw}
+use Rattle.task_model.specs.Orders.{next_draw}
+use Rattle.queue_laws.specs.Orders.{Ordered}
 use Rattle.task_model.specs.Posts.{Posted, is_main_taken, main_takes}
 use Rattle.task_model.specs.Refusal.{closes, is_closed}
 use Rattle.sequence_manager.specs.Pasts.{main_running}

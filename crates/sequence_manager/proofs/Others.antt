@@ -10,7 +10,8 @@ use Rattle.pool_laws.specs.Seats.{main_parts, running_parts}
 use Rattle.queue_laws.proofs.Fronts.{streak_of_same}
 use Rattle.task_base.specs.Plan.{Plan}
 use Rattle.task_base.specs.declared.entry.Entry.{Entry}
-use Rattle.task_model.specs.Orders.{main_arrivals, next_draw}
+use Rattle.task_model.specs.Orders.{next_draw}
+use Rattle.queue_laws.specs.Orders.{main_arrivals, order_parts}
 use Rattle.sequence_manager.specs.Others.{is_still, queue_parts}
 use Rattle.sequence_manager.specs.Queues.{unripe}
 use Rattle.sequence_manager.specs.StandsFor.{ArePartsOf, StandsFor}
@@ -20,7 +21,6 @@ use Rattle.sequence_manager.proofs.Parts.{parts_kept}
 use Rattle.sequence_manager.proofs.Quiet.{draw_kept, quiet_arrivals, quiet_now, past_kept, quiet_posts, quiet_unripe, due_parts, draw_parts, no_draw}
 use Rattle.pool_laws.specs.Moves.{Classes, MainTakes, moves}
 use Rattle.pool_laws.proofs.Moves.{moves_fewer, moves_apart}
-use Rattle.queue_laws.specs.Orders.{order_parts}
 
 pub longer : (past : List Entry) (e : Entry) → length past < length (past ++ e ∷ [])
 longer past e = omega (arith, length_at_push past e)

@@ -4,14 +4,13 @@ use Rattle.std.proofs.Common.{◌≡◌, ℕ, ◌+◌, ◌<◌, ◌≤◌, List,
 use Rattle.std.specs.Prelude.{◌⊎◌, ◌==◌, Contains, slice_set}
 use Rattle.std.proofs.lemmas.List.{length-set}
 use Rattle.list_laws.specs.Sorts.{Rises}
-use Rattle.queue_laws.specs.Orders.{ordered_below}
+use Rattle.queue_laws.specs.Orders.{ordered_below, Ordered}
 use Rattle.std.proofs.lemmas.Bool.{cases_eq}
 use Rattle.list_laws.specs.Lists.{count}
 use Rattle.list_laws.proofs.Places.{slice_get-set_same}
 use Rattle.task_base.specs.Plan.{Plan}
 use Rattle.task_base.specs.declared.entry.Entry.{Entry}
 use Rattle.task_model.specs.MainQueues.{class_of, streak_of}
-use Rattle.task_model.specs.Orders.{Ordered}
 use Rattle.task_model.specs.Posts.{Posted, main_posts}
 use Rattle.work_queue.specs.Lanes.{all_held}
 use Rattle.sequence_manager.specs.Queues.{IsTable, queue_of, row_of}

@@ -17,9 +17,10 @@ use Rattle.task_base.specs.declared.entry.Kind.TheVariants as kinds
 use Rattle.task_base.specs.declared.limits.TheConstants.{LAST_MOMENT}
 use Rattle.task_base.specs.Entries.{next}
 use Rattle.task_model.proofs.Growth.{is_main_taken_push, main_posts_push, now_of_push}
-use Rattle.task_model.specs.Orders.{Ordered, main_arrivals}
+use Rattle.queue_laws.specs.Orders.{Ordered, main_arrivals}
 use Rattle.task_model.specs.Past.{fold_past}
-use Rattle.task_model.specs.Posts.{InOrder, Posted, is_main_taken, main_post_of, main_posted_by, main_posts, main_takes}
+use Rattle.task_model.specs.Posts.{Posted, is_main_taken, main_posted_by, main_posts, main_takes}
+use Rattle.pool_laws.specs.Posts.{InOrder, main_post_of}
 use Rattle.task_model.specs.Time.{now_after, now_of}
 use Rattle.sequence_manager.specs.Calls.{after_end, after_main, after_tick}
 use Rattle.sequence_manager.specs.Pasts.{IsDue, IsMainPast, IsPostedTo, WasDue}

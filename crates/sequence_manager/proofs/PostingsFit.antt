@@ -17,7 +17,8 @@ use Rattle.std.specs.List.{list_any}
 use Rattle.std.specs.Prelude.{filter, ◌&&◌, ◌==◌}
 use Rattle.task_base.specs.Plan.{Plan}
 use Rattle.task_base.specs.declared.entry.Entry.{Entry}
-use Rattle.task_model.specs.Posts.{InOrder, Posted, main_posts}
+use Rattle.task_model.specs.Posts.{Posted, main_posts}
+use Rattle.pool_laws.specs.Posts.{InOrder}
 
 -- of the posts of a queue at most one is of a task
 of_queue_counts : (q t : ℕ) (ps : List Posted) → InOrder ps → count (λ p. p.task == t) (filter (λ p. p.home == q) ps) ≤ 1

@@ -9,13 +9,13 @@ use Rattle.list_laws.specs.Sorts.{Rises, sort_by}
 use Rattle.list_laws.proofs.Elements.{AllByRecursion-contains}
 use Rattle.list_laws.proofs.Values.{eqb-same}
 use Rattle.queue_laws.proofs.Arrivals.{main_arrivals_at_post, main_arrivals_below, main_arrivals_rise}
-use Rattle.queue_laws.specs.Orders.{ordered_below}
+use Rattle.queue_laws.specs.Orders.{ordered_below, Ordered, main_arrivals}
 use Rattle.task_base.specs.Plan.{Plan}
 use Rattle.task_base.specs.declared.entry.Entry.{Entry}
 use Rattle.task_base.specs.declared.entry.Kind.TheVariants as kinds
 use Rattle.task_base.specs.declared.script.Lane.TheVariants.{Immediate}
 use Rattle.task_model.proofs.Growth.{draws_push, streak_of_push}
-use Rattle.task_model.specs.Orders.{Ordered, drawn_by, main_arrivals, next_draw}
+use Rattle.task_model.specs.Orders.{drawn_by, next_draw}
 use Rattle.task_model.specs.Posts.{Posted, is_main_taken, main_posts, post_behind, ripens_before}
 use Rattle.task_model.specs.Refusal.{is_closed}
 use Rattle.sequence_manager.specs.Calls.{CanPost, HasQueue, after_main}

@@ -8,14 +8,14 @@ use Rattle.list_laws.proofs.Filters.{filter_congr}
 use Rattle.list_laws.specs.Sorts.{sort_by}
 use Rattle.pool_laws.proofs.Keys.Posts.{main_posts_same}
 use Rattle.queue_laws.proofs.Arrivals.{main_arrivals_same}
-use Rattle.queue_laws.specs.Orders.{moves_orders, order_parts}
+use Rattle.queue_laws.specs.Orders.{moves_orders, order_parts, main_arrivals}
 use Rattle.task_base.specs.Plan.{Plan}
 use Rattle.task_base.specs.declared.entry.Entry.{Entry}
 use Rattle.task_base.specs.declared.entry.Kind.{Kind}
 use Rattle.task_base.specs.declared.entry.Kind.TheVariants as kinds
 use Rattle.task_base.specs.declared.script.FenceAt.TheVariants.{Now}
 use Rattle.task_model.proofs.Growth.{draws_push, is_closed_push, is_main_taken_push, now_of_push}
-use Rattle.task_model.specs.Orders.{draws, drawn_by, main_arrivals, next_draw}
+use Rattle.task_model.specs.Orders.{draws, drawn_by, next_draw}
 use Rattle.task_model.specs.Posts.{is_delayed, is_main_taken, main_posts, main_takes, ripens_before}
 use Rattle.task_model.specs.Refusal.{closes, is_closed}
 use Rattle.task_model.specs.Time.{now_after, now_of}

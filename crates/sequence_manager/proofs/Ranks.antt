@@ -13,7 +13,8 @@ use Rattle.task_base.specs.declared.entry.Entry.{Entry}
 use Rattle.task_base.specs.declared.entry.Kind.TheVariants as kinds
 use Rattle.task_model.proofs.Growth.{class_of_push, is_main_taken_push, streak_of_push}
 use Rattle.task_model.specs.MainQueues.{class_of}
-use Rattle.task_model.specs.Orders.{main_arrivals, next_draw}
+use Rattle.task_model.specs.Orders.{next_draw}
+use Rattle.queue_laws.specs.Orders.{main_arrivals}
 use Rattle.task_model.specs.Posts.{is_main_taken}
 use Rattle.sequence_manager.specs.Calls.{CanRank, after_rank}
 use Rattle.sequence_manager.specs.Queues.{IsTable, queue_of, row_of, unripe}

@@ -11,7 +11,7 @@ use Rattle.list_laws.specs.Lists.{keep}
 use Rattle.list_laws.specs.Sorts.{Rises}
 use Rattle.list_laws.proofs.Made.{filter_contains}
 use Rattle.list_laws.proofs.Values.{some-injective}
-use Rattle.queue_laws.specs.Orders.{ordered_below}
+use Rattle.queue_laws.specs.Orders.{ordered_below, Ordered}
 use Rattle.queue_selector.specs.Rows.{closed_row, order_in, with_order}
 use Rattle.queue_selector.specs.Selecting.{Selecting, row_at}
 use Rattle.queue_selector.specs.declared.row.Row.{Row}
@@ -20,7 +20,6 @@ use Rattle.task_base.specs.declared.entry.Entry.{Entry}
 use Rattle.task_base.specs.declared.script.Lane.{Lane}
 use Rattle.task_base.specs.declared.script.Lane.TheVariants.{Immediate, Delayed}
 use Rattle.task_model.specs.MainQueues.{class_of, is_in_lane, is_of_lane}
-use Rattle.task_model.specs.Orders.{Ordered}
 use Rattle.task_model.specs.Posts.{Posted, is_main_taken}
 use Rattle.task_model.specs.Refusal.{is_closed}
 use Rattle.work_queue.specs.Lanes.{lane_of}

@@ -7,7 +7,7 @@ use Rattle.list_laws.proofs.Rises.{rises_front, rises_last}
 use Rattle.list_laws.proofs.Values.{eqb-same}
 use Rattle.list_laws.specs.Sorts.{Rises}
 use Rattle.queue_laws.proofs.Arrivals.{main_arrivals_at_tick, main_arrivals_rise}
-use Rattle.queue_laws.specs.Orders.{ordered_below}
+use Rattle.queue_laws.specs.Orders.{ordered_below, Ordered, main_arrivals, numbered_from}
 use Rattle.sequence_manager.proofs.Arriving.{all_below, arrived, behind_first, other_arrived, other_waiting, room_left, load_same}
 use Rattle.sequence_manager.proofs.Parts.{load, posted_to, room_by_past}
 use Rattle.sequence_manager.proofs.PostingsFit.{posts_fit}
@@ -34,7 +34,7 @@ use Rattle.task_base.specs.Plan.{Plan}
 use Rattle.task_base.specs.declared.entry.Entry.{Entry}
 use Rattle.task_base.specs.declared.script.Lane.TheVariants.{Delayed}
 use Rattle.task_model.specs.MainQueues.{class_of}
-use Rattle.task_model.specs.Orders.{Ordered, main_arrivals, next_draw, numbered_from}
+use Rattle.task_model.specs.Orders.{next_draw}
 use Rattle.task_model.specs.Posts.{Posted, main_posts}
 use Rattle.work_queue.specs.Lanes.{IsBelow, all_held}
 use Rattle.task_base.specs.declared.entry.Kind.TheVariants as kinds

@@ -16,7 +16,7 @@ use Rattle.std.specs.Prelude.{filter, slice_get, ◌==◌}
 use Rattle.task_base.specs.Plan.{Plan}
 use Rattle.task_base.specs.declared.entry.Entry.{Entry}
 use Rattle.delayed_manager.proofs.Heap.{ranks_ripening}
-use Rattle.task_model.specs.Orders.{Ordered}
+use Rattle.queue_laws.specs.Orders.{Ordered}
 use Rattle.task_model.specs.Posts.{Posted}
 use Rattle.task_model.specs.Posts as posts
 

@@ -16,7 +16,8 @@ use Rattle.task_base.specs.declared.script.Lane.TheVariants.{Immediate, Delayed}
 use Rattle.task_base.specs.Entries.{next}
 use Rattle.task_model.proofs.Growth.{streak_of_push}
 use Rattle.task_model.specs.MainQueues.{immediate_fronts, is_delayed_task, is_of_lane, streak_of}
-use Rattle.task_model.specs.Posts.{InOrder, Posted, is_delayed, main_post_of, main_posts}
+use Rattle.task_model.specs.Posts.{Posted, is_delayed, main_posts}
+use Rattle.pool_laws.specs.Posts.{InOrder, main_post_of}
 use Rattle.sequence_manager.proofs.Accepted.{one_post}
 use Rattle.sequence_manager.proofs.Choice.{Knows, immediate_is_open_seen}
 use Rattle.sequence_manager.proofs.Lists.{any_contains}

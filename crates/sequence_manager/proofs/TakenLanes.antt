@@ -13,7 +13,7 @@ use Rattle.list_laws.proofs.Ranks.{ranks_by}
 use Rattle.list_laws.proofs.Rises.{found_dropped}
 use Rattle.list_laws.proofs.Values.{eqb-same}
 use Rattle.queue_laws.proofs.Arrivals.{main_arrivals_rise}
-use Rattle.queue_laws.specs.Orders.{ordered_below}
+use Rattle.queue_laws.specs.Orders.{ordered_below, Ordered, main_arrivals}
 use Rattle.task_base.specs.Plan.{Plan}
 use Rattle.task_base.specs.declared.entry.Entry.{Entry}
 use Rattle.task_base.specs.declared.entry.Kind.TheVariants as kinds
@@ -23,7 +23,6 @@ use Rattle.task_base.specs.Entries.{next}
 use Rattle.task_model.proofs.Growth.{is_main_taken_push, main_cell_of_push, running_push}
 use Rattle.task_model.specs.Cells.{main_cell_of}
 use Rattle.task_model.specs.MainQueues.{is_in_lane, is_of_lane}
-use Rattle.task_model.specs.Orders.{Ordered, main_arrivals}
 use Rattle.task_model.specs.Posts.{Posted, is_delayed, is_main_taken}
 use Rattle.task_model.specs.Refusal.{is_closed}
 use Rattle.sequence_manager.specs.Calls.{CanTake}

@@ -12,7 +12,8 @@ use Rattle.task_base.specs.declared.entry.Kind.TheVariants as kinds
 use Rattle.task_base.specs.declared.script.Lane.{Lane}
 use Rattle.task_base.specs.declared.script.Lane.TheVariants.{Immediate, Delayed}
 use Rattle.task_model.specs.MainQueues.{class_of}
-use Rattle.task_model.specs.Orders.{Ordered, main_arrivals, next_draw}
+use Rattle.task_model.specs.Orders.{next_draw}
+use Rattle.queue_laws.specs.Orders.{Ordered, main_arrivals}
 use Rattle.work_queue.specs.Lanes.{Lanes, all_held, popped}
 use Rattle.sequence_manager.specs.Queues.{IsTable, queue_of, unripe}
 use Rattle.sequence_manager.specs.StandsFor.{ArePartsOf, StandsFor}

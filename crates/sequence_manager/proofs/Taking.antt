@@ -11,7 +11,7 @@ use Rattle.task_base.specs.declared.entry.Entry.{Entry}
 use Rattle.task_base.specs.declared.script.Lane.{Lane}
 use Rattle.task_model.specs.Cells.{main_cell_of}
 use Rattle.task_model.specs.MainQueues.{Front, chosen_of, is_in_lane}
-use Rattle.task_model.specs.Orders.{Ordered, main_arrivals}
+use Rattle.queue_laws.specs.Orders.{Ordered, main_arrivals}
 use Rattle.task_model.specs.Posts.{Posted}
 use Rattle.task_model.specs.Refusal.{is_closed}
 use Rattle.work_queue.specs.Lanes.{lane_of}

@@ -37,7 +37,8 @@ use Rattle.std.specs.Prelude.{filter, nat_le, nat_lt, slice_get, ◌⊎◌}
 use Rattle.task_base.specs.Plan.{Plan}
 use Rattle.task_base.specs.declared.entry.Entry.{Entry}
 use Rattle.task_model.proofs.Growth.{draws_push, now_of_push, streak_of_push}
-use Rattle.task_model.specs.Orders.{Ordered, main_arrivals, next_draw, numbered_from, ripening}
+use Rattle.task_model.specs.Orders.{next_draw, ripening}
+use Rattle.queue_laws.specs.Orders.{Ordered, main_arrivals, numbered_from}
 use Rattle.task_model.specs.Posts.{Posted, ripens_before}
 use Rattle.task_base.specs.declared.entry.Kind.TheVariants as kinds
 

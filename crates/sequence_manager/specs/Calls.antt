@@ -10,7 +10,7 @@ use Rattle.task_base.specs.Entries.{next}
 use Rattle.queue_selector.specs.declared.selector.TheConstants.{LAST_CLASS}
 use Rattle.task_model.specs.Cells.{main_cell_of}
 use Rattle.task_model.specs.MainQueues.{Front, chosen_of, voters_of}
-use Rattle.task_model.specs.Posts.{main_post_of}
+use Rattle.pool_laws.specs.Posts.{main_post_of}
 use Rattle.task_model.specs.Seats.{Running}
 use Rattle.task_model.specs.Time.{now_of}
 use Rattle.sequence_manager.specs.Pasts.{IsPostedTo, main_running}

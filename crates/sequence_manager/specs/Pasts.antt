@@ -9,9 +9,10 @@ use Rattle.list_laws.specs.Lists.{keep}
 use Rattle.list_laws.specs.Sorts.{SameMembers}
 use Rattle.queue_fence.specs.declared.voters.TheConstants.{MOST_VOTERS}
 use Rattle.queue_selector.specs.declared.selector.TheConstants.{LAST_CLASS}
-use Rattle.task_model.specs.Posts.{Posted, IsDelayed, main_posts, main_post_of, is_main_taken, InOrder}
+use Rattle.task_model.specs.Posts.{Posted, main_posts, is_main_taken}
+use Rattle.pool_laws.specs.Posts.{IsDelayed, main_post_of, InOrder}
 use Rattle.task_model.specs.Time.{now_of}
-use Rattle.task_model.specs.Orders.{main_arrivals, ordered}
+use Rattle.queue_laws.specs.Orders.{main_arrivals, ordered}
 use Rattle.task_model.specs.Seats.{Running, running}
 use Rattle.pool_laws.specs.Keys.{NoTickAhead}
 use Rattle.sequence_manager.specs.Postings.{main_postings}

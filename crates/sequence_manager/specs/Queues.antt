@@ -10,7 +10,7 @@ use Rattle.list_laws.specs.Sorts.{sort_by}
 use Rattle.delayed_manager.specs.declared.ripening.Ripening.{Ripening}
 use Rattle.task_model.specs.Cells.{main_cell_of}
 use Rattle.task_model.specs.MainQueues.{class_of, fence_of, is_in_lane, votes_on, voters_of}
-use Rattle.task_model.specs.Orders.{Ordered}
+use Rattle.queue_laws.specs.Orders.{Ordered}
 use Rattle.task_model.specs.Posts.{Posted, is_delayed, main_posts, ripens_before}
 use Rattle.task_model.specs.Refusal.{is_closed}
 use Rattle.task_model.specs.Time.{now_of}

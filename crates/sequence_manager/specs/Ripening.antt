@@ -8,7 +8,8 @@ use Rattle.task_base.specs.declared.script.Lane.TheVariants.{Delayed}
 use Rattle.list_laws.specs.Lists.{keep}
 use Rattle.delayed_manager.specs.Delayed.{is_ripe, ripens_before, with_held}
 use Rattle.delayed_manager.specs.declared.ripening.Ripening.{Ripening}
-use Rattle.task_model.specs.Orders.{Ordered, main_arrivals, next_draw, numbered_from}
+use Rattle.task_model.specs.Orders.{next_draw}
+use Rattle.queue_laws.specs.Orders.{Ordered, main_arrivals, numbered_from}
 use Rattle.task_model.specs.Posts.{Posted}
 use Rattle.sequence_manager.specs.Calls.{CanTick}
 use Rattle.sequence_manager.specs.Queues.{unripe}

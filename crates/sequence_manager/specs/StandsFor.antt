@@ -4,7 +4,8 @@ use Rattle.task_base.specs.Plan.{Plan}
 use Rattle.task_base.specs.declared.entry.Entry.{Entry}
 use Rattle.list_laws.specs.Lists.{count}
 use Rattle.task_model.specs.MainQueues.{streak_of}
-use Rattle.task_model.specs.Orders.{Ordered, main_arrivals, next_draw}
+use Rattle.task_model.specs.Orders.{next_draw}
+use Rattle.queue_laws.specs.Orders.{Ordered, main_arrivals}
 use Rattle.task_model.specs.Posts.{Posted, main_posts}
 use Rattle.task_model.specs.Time.{now_of}
 use Rattle.work_queue.specs.Lanes.{all_held}

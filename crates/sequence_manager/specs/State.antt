@@ -15,9 +15,8 @@ use Rattle.queue_fence.specs.Voters.{all_on}
 use Rattle.queue_selector.specs.declared.row.Row.{Row}
 use Rattle.queue_selector.specs.Rows.{order_in}
 use Rattle.queue_selector.specs.Selecting.{row_at, with_front}
-use Rattle.task_model.specs.Orders.{Ordered}
+use Rattle.queue_laws.specs.Orders.{Ordered, ordered_below}
 use Rattle.task_model.specs.MainQueues.{is_of_lane}
-use Rattle.queue_laws.specs.Orders.{ordered_below}
 use Rattle.work_queue.specs.Lanes.{IsBelow, all_held, emptied, popped}
 use Rattle.work_queue.specs.Lanes as lanes
 use Rattle.sequence_manager.specs.Postings.{room_of}

@@ -1,7 +1,7 @@
 ghost use Rattle.std.specs.Prelude.{◌≡◌, ℕ, ◌+◌, ◌<◌, ◌^◌, not, List, [], length, map, replicate, slice_get, Some, IfOk};
 ghost use Rattle.task_base.specs.Plan.{Plan};
 ghost use Rattle.task_base.specs.declared.entry.Entry.{Entry};
-ghost use Rattle.task_model.specs.Orders.{Ordered};
+ghost use Rattle.queue_laws.specs.Orders.{Ordered};
 ghost use Rattle.task_model.specs.Refusal.{is_closed};
 ghost use Rattle.task_model.specs.Seats.{Running};
 ghost use Rattle.sequence_manager.specs.Calls.{CanPost, CanTick, CanFence, CanVote, CanRank, HasQueue, CanTake, RunsMain, TakeAnswers, after_main, after_tick, after_fence, after_unfence, after_vote, after_rank, after_close, after_take, after_end};

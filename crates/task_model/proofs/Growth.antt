@@ -19,8 +19,7 @@ use Rattle.list_laws.specs.Lists.{count}
 use Rattle.task_model.specs.Past.{fold_past, fold_past_from}
 use Rattle.task_model.specs.Time.{now_of, now_after}
 use Rattle.task_model.specs.Posts.{posts, posted_by, main_posts, main_posted_by, is_taken, takes, is_ended}
-use Rattle.task_model.specs.Posts.{ends, is_main_taken, main_takes, is_main_ended, main_ends}
-use Rattle.task_model.specs.Keys.{arrivals, arriving_by}
+use Rattle.task_model.specs.Posts.{ends, is_main_taken, main_takes}
 use Rattle.task_model.specs.Phase.{phase_of, phase_after}
 use Rattle.task_model.specs.Policies.{policy_of, policy_after}
 use Rattle.task_model.specs.Refusal.{is_closed, closes}
@@ -28,7 +27,7 @@ use Rattle.task_model.specs.Seats.{running, running_after, holding, holding_afte
 use Rattle.task_model.specs.Cells.{cell_of, cell_after, main_cell_of, main_cell_after}
 use Rattle.task_model.specs.Capacity.{declared_priority, priority_of, priority_after, taken_with, taken_after, open_scope, scope_after}
 use Rattle.task_model.specs.Jobs.{job_post_of, job_post_after, is_cancelled, cancels, claimed, claims, done, value_by, job_sum}
-use Rattle.task_model.specs.Orders.{draws, drawn_by, main_arrivals, drawing_by}
+use Rattle.task_model.specs.Orders.{draws, drawn_by}
 use Rattle.task_model.specs.MainQueues.{fence_of, fence_after, votes_on, vote_after, class_of, class_after, streak_of, streak_after}
 
 fold_past_from-push : {A : Type 0} (step : List Entry → A → Entry → A) (before : List Entry) (value : A) (rest : List Entry) (e : Entry)
@@ -44,7 +43,7 @@ unfolding fold_past
 fold_past-push step start past e = fold_past_from-push step [] start past e
 
 -- a test that some entry passes
-any-push : (test : Kind → Bool) (past : List Entry) (e : Entry)
+pub any-push : (test : Kind → Bool) (past : List Entry) (e : Entry)
     → list_any (λ x. test x.kind) (past ++ e ∷ []) ≡ (list_any (λ x. test x.kind) past || test e.kind)
 any-push test past e = list_any-append (λ x. test x.kind) past (e ∷ []) ∙ ap (λ b. list_any (λ x. test x.kind) past || b) (or-false (test e.kind))
 
@@ -70,14 +69,6 @@ pub main_posts_push : (past : List Entry) (e : Entry) → main_posts (past ++ e 
 unfolding main_posts
 main_posts_push past e = fold_past-push (λ before known x. known ++ main_posted_by before x.kind) [] past e
 
-pub arrivals_push : (past : List Entry) (e : Entry) → arrivals (past ++ e ∷ []) ≡ arrivals past ++ arriving_by past e.kind
-unfolding arrivals
-arrivals_push past e = fold_past-push (λ before known x. known ++ arriving_by before x.kind) [] past e
-
-pub main_arrivals_push : (past : List Entry) (e : Entry) → main_arrivals (past ++ e ∷ []) ≡ main_arrivals past ++ drawing_by past e.kind
-unfolding main_arrivals
-main_arrivals_push past e = fold_past-push (λ before known x. known ++ drawing_by before x.kind) [] past e
-
 pub is_taken_push : (past : List Entry) (e : Entry) (t : ℕ) → is_taken (past ++ e ∷ []) t ≡ (is_taken past t || takes t e.kind)
 unfolding is_taken
 is_taken_push past e t = any-push (takes t) past e
@@ -89,10 +80,6 @@ is_ended_push past e t = any-push (ends t) past e
 pub is_main_taken_push : (past : List Entry) (e : Entry) (t : ℕ) → is_main_taken (past ++ e ∷ []) t ≡ (is_main_taken past t || main_takes t e.kind)
 unfolding is_main_taken
 is_main_taken_push past e t = any-push (main_takes t) past e
-
-pub is_main_ended_push : (past : List Entry) (e : Entry) (t : ℕ) → is_main_ended (past ++ e ∷ []) t ≡ (is_main_ended past t || main_ends t e.kind)
-unfolding is_main_ended
-is_main_ended_push past e t = any-push (main_ends t) past e
 
 pub phase_of_push : (past : List Entry) (e : Entry) → phase_of (past ++ e ∷ []) ≡ phase_after (phase_of past) e.kind
 unfolding phase_of

@@ -1,5 +1,5 @@
 -- How much work may run at once.
-use Rattle.std.specs.Prelude.{ℕ, ◌+◌, ◌==◌, Bool, not, ◌&&◌, ◌||◌, nat_lt, if◌then◌else◌, List, slice_get, Option, Some, None, IsTrue, fold, is_some}
+use Rattle.std.specs.Prelude.{ℕ, ◌+◌, ◌==◌, Bool, not, ◌&&◌, ◌||◌, nat_lt, if◌then◌else◌, List, slice_get, Option, Some, None, fold, is_some}
 use Rattle.std.specs.Option.{option_map_or}
 use Rattle.task_base.specs.Plan.{Plan}
 use Rattle.task_base.specs.declared.entry.Entry.{Entry}
@@ -96,10 +96,6 @@ open_scope past t = fold_past (λ before now e. scope_after t before now e.kind)
 abbrev pub scope_counts : Plan → List Entry → OpenScope → Bool
 scope_counts script past opened = has_come opened.scope (opened.since + script.threshold) (now_of past)
 
--- the fact of it
-abbrev pub ScopeCounts : Plan → List Entry → OpenScope → Type 0
-ScopeCounts script past opened = IsTrue (scope_counts script past opened)
-
 -- the seat runs a pool task of a priority that passes the test, and its open scope counts
 abbrev pub is_blocked : Plan → List Entry → (Priority → Bool) → ℕ → Bool
 is_blocked script past test seat =
@@ -135,7 +131,3 @@ has_room_in script past group priority =
 -- best-effort work than it may (this project's own rule)
 unfoldable pub has_room : Plan → List Entry → Priority → Bool
 has_room script past priority = has_room_in script past (group_of script priority) priority
-
--- the fact of it
-abbrev pub HasRoom : Plan → List Entry → Priority → Type 0
-HasRoom script past priority = IsTrue (has_room script past priority)

@@ -1,6 +1,6 @@
 -- The items of jobs: claimed, done, and what they add up to (the notion of a job is that of `post_job.h`, the rules
 -- are this project's own).
-use Rattle.std.specs.Prelude.{ℕ, ◌+◌, ◌-◌, ◌%◌, ◌^◌, ◌==◌, Bool, false, not, ◌&&◌, ◌||◌, nat_lt, min, if◌then◌else◌, List, [], length, fold, slice_get, Option, Some, None, is_some, IsTrue}
+use Rattle.std.specs.Prelude.{ℕ, ◌+◌, ◌-◌, ◌%◌, ◌^◌, ◌==◌, Bool, false, not, ◌&&◌, ◌||◌, nat_lt, min, if◌then◌else◌, List, [], length, fold, slice_get, Option, Some, None, is_some}
 use Rattle.std.specs.Option.{option_map_or}
 use Rattle.std.specs.List.{list_any, list_all, find, range_with_len}
 use Rattle.task_base.specs.Plan.{Plan}
@@ -95,10 +95,6 @@ unfoldable pub may_enter : Plan → List Entry → ℕ → Bool
 may_enter script past j =
     is_job_accepted past j && not (is_cancelled past j) && not (is_job_forbidden script past j)
     && has_unclaimed script past j && nat_lt (length (inside script past j)) (concurrency script past j)
-
--- the fact of it
-abbrev pub MayEnter : Plan → List Entry → ℕ → Type 0
-MayEnter script past j = IsTrue (may_enter script past j)
 
 -- the seat holds an item of the job under this number
 abbrev pub holds_id : ℕ → ℕ → Option Holding → Bool

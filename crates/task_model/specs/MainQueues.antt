@@ -1,6 +1,6 @@
 -- Which main task the driver takes next (`sequence_manager.h` and `task_queue.h` for fences, voters and priorities; the
 -- exact rules are this project's own).
-use Rattle.std.specs.Prelude.{ℕ, ◌+◌, ◌==◌, Bool, true, false, not, ◌&&◌, nat_lt, nat_le, if◌then◌else◌, List, ◌++◌, length, filter, fold, Option, Some, None, slice_get, IsTrue}
+use Rattle.std.specs.Prelude.{ℕ, ◌+◌, ◌==◌, Bool, true, false, not, ◌&&◌, nat_lt, nat_le, if◌then◌else◌, List, ◌++◌, length, filter, fold, Option, Some, None, slice_get}
 use Rattle.std.specs.List.{list_any, list_all, filter_map, flat_map, range_with_len}
 use Rattle.std.specs.Option.{option_map_or, option_map, option_to_list}
 use Rattle.task_base.specs.Plan.{Plan}
@@ -93,10 +93,6 @@ abbrev pub is_open : Plan → List Entry → Front → Bool
 is_open script past f =
     not (is_closed past f.queue) && is_enabled script past f.queue && option_map_or (nat_lt f.order) (fence_of past f.queue) true
 
--- the fact of it
-abbrev pub IsOpen : Plan → List Entry → Front → Type 0
-IsOpen script past f = IsTrue (is_open script past f)
-
 -- the fronts of both lanes of a queue
 abbrev pub fronts_of : Plan → List Entry → ℕ → List Front
 fronts_of script past q = option_to_list (front_of script past q Immediate) ++ option_to_list (front_of script past q Delayed)
@@ -120,14 +116,6 @@ of_least_class fronts = filter (λ f. holds_of (λ class. f.class == class) (lea
 -- the immediate ones among those of the least class
 abbrev pub immediate_of_least_class : List Front → List Front
 immediate_of_least_class fronts = filter (λ f. is_immediate f.lane) (of_least_class fronts)
-
--- the chosen class: the least one with an open front
-abbrev pub chosen_class : Plan → List Entry → Option ℕ
-chosen_class script past = least_class (open_fronts script past)
-
--- the open fronts of the chosen class
-abbrev pub chosen_fronts : Plan → List Entry → List Front
-chosen_fronts script past = of_least_class (open_fronts script past)
 
 -- the immediate ones among the open fronts of the chosen class
 abbrev pub immediate_fronts : Plan → List Entry → List Front

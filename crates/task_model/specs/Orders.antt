@@ -1,17 +1,14 @@
 -- The numbers that main tasks and fences draw, which decide what a queue runs first (this project's own numbering;
 -- `task_queue.h` has the notion).
-use Rattle.std.specs.Prelude.{ℕ, ◌+◌, Bool, true, not, ◌&&◌, nat_lt, nat_le, if◌then◌else◌, List, [], ◌∷◌, ◌++◌, length, filter, take, Option, Some, None, slice_get, option_and_then}
-use Rattle.std.specs.List.{filter_map}
-use Rattle.std.specs.Option.{option_map}
+use Rattle.std.specs.Prelude.{ℕ, ◌+◌, Bool, true, not, ◌&&◌, nat_lt, nat_le, if◌then◌else◌, List, length, filter, take, Option, Some, None, slice_get, option_and_then}
 use Rattle.task_base.specs.declared.entry.Entry.{Entry}
 use Rattle.task_base.specs.declared.entry.Kind.{Kind}
 use Rattle.task_base.specs.declared.entry.Kind.TheVariants.{Main, Fence, Tick}
 use Rattle.task_base.specs.declared.script.FenceAt.TheVariants.{Now}
 use Rattle.list_laws.specs.Lists.{count}
-use Rattle.list_laws.specs.Sorts.{sort_by}
 use Rattle.task_model.specs.Past.{fold_past}
 use Rattle.task_model.specs.Time.{now_of, tick_from}
-use Rattle.task_model.specs.Posts.{Posted, is_delayed, ripens_before, post_behind, main_posts}
+use Rattle.task_model.specs.Posts.{Posted, is_delayed, ripens_before, main_posts}
 use Rattle.task_model.specs.Refusal.{is_closed}
 
 -- the delayed main task ripens at a tick of this moment, and its queue is not closed
@@ -58,28 +55,3 @@ order_of past p =
     if is_delayed p
     then option_and_then (λ place. option_and_then (λ moment. drawn_at (take place past) moment p) (moment_at past place)) (tick_from past p.ripe)
     else Some (next_draw (take p.place past))
-
--- an accepted main task with its order
-pub record Ordered : Type 0 where
-  pub posted : Posted
-  pub order : ℕ
-
--- the accepted main tasks that have orders
-unfoldable pub ordered : List Entry → List Ordered
-ordered past = filter_map (λ p. option_map (λ order. record { posted = p; order = order }) (order_of past p)) (main_posts past)
-
--- each of the tasks draws one number, from n upward
-abbrev pub numbered_from : ℕ → List Posted → List Ordered
-numbered_from n [] = []
-numbered_from n (p ∷ ps) = record { posted = p; order = n } ∷ numbered_from (n + 1) ps
-
--- the main tasks that draw at an entry behind a past, in the order in which they draw: an accepted immediate one at its
--- post, and those that ripen at a tick by ripe moment, then by place of post
-abbrev pub drawing_by : List Entry → Kind → List Ordered
-drawing_by before (Main task queue delay true) = if nat_lt 0 delay then [] else numbered_from (next_draw before) (post_behind before task queue delay ∷ [])
-drawing_by before (Tick moment) = numbered_from (next_draw before) (sort_by ripens_before (ripening before moment))
-drawing_by before kind = []
-
--- the accepted main tasks in the order in which they draw
-unfoldable pub main_arrivals : List Entry → List Ordered
-main_arrivals past = fold_past (λ before known e. known ++ drawing_by before e.kind) [] past

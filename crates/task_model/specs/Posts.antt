@@ -1,10 +1,9 @@
 -- Which tasks were posted, and where.
-use Rattle.std.specs.Prelude.{◌≢◌, ℕ, ◌+◌, ◌<◌, Bool, true, false, ◌==◌, ◌&&◌, ◌||◌, nat_lt, List, [], ◌∷◌, ◌++◌, length, Option, IsTrue, IsSome}
-use Rattle.std.specs.List.{list_any, find, AllByRecursion}
-use Rattle.std.specs.Option.{option_map}
+use Rattle.std.specs.Prelude.{ℕ, ◌+◌, Bool, true, false, ◌==◌, ◌&&◌, ◌||◌, nat_lt, List, [], ◌∷◌, ◌++◌, length}
+use Rattle.std.specs.List.{list_any}
 use Rattle.task_base.specs.declared.entry.Entry.{Entry}
 use Rattle.task_base.specs.declared.entry.Kind.{Kind}
-use Rattle.task_base.specs.declared.entry.Kind.TheVariants.{Post, Main, Take, End, MainTake, MainEnd}
+use Rattle.task_base.specs.declared.entry.Kind.TheVariants.{Post, Main, Take, End, MainTake}
 use Rattle.task_model.specs.Past.{fold_past}
 use Rattle.task_model.specs.Time.{now_of}
 
@@ -20,10 +19,6 @@ pub record Posted : Type 0 where
 -- its delay is above 0
 abbrev pub is_delayed : Posted → Bool
 is_delayed p = nat_lt 0 p.delay
-
--- the fact of it
-abbrev pub IsDelayed : Posted → Type 0
-IsDelayed p = IsTrue (is_delayed p)
 
 -- the first ripens before the second: by the ripe moment, then by the place of the post
 abbrev pub ripens_before : Posted → Posted → Bool
@@ -43,30 +38,6 @@ posted_by before kind = []
 unfoldable pub posts : List Entry → List Posted
 posts past = fold_past (λ before known e. known ++ posted_by before e.kind) [] past
 
--- the accepted post of a task of the pool, if it has one
-abbrev pub post_of : List Entry → ℕ → Option Posted
-post_of past t = find (λ p. p.task == t) (posts past)
-
--- where the task was posted
-abbrev pub post_place : List Entry → ℕ → Option ℕ
-post_place past t = option_map (λ p. p.place) (post_of past t)
-
--- the runner that the task was posted to
-abbrev pub home_of : List Entry → ℕ → Option ℕ
-home_of past t = option_map (λ p. p.home) (post_of past t)
-
--- the delay that the task was posted with
-abbrev pub delay_of : List Entry → ℕ → Option ℕ
-delay_of past t = option_map (λ p. p.delay) (post_of past t)
-
--- the ripe moment of the task
-abbrev pub ripe_of : List Entry → ℕ → Option ℕ
-ripe_of past t = option_map (λ p. p.ripe) (post_of past t)
-
--- the task of the pool was accepted
-abbrev pub IsAccepted : List Entry → ℕ → Type 0
-IsAccepted past t = IsSome (post_of past t)
-
 -- what an entry behind a past adds to the accepted main tasks
 abbrev pub main_posted_by : List Entry → Kind → List Posted
 main_posted_by before (Main task queue delay true) = post_behind before task queue delay ∷ []
@@ -75,14 +46,6 @@ main_posted_by before kind = []
 -- the accepted main tasks, in the order of their posts (`sequence_manager.h`)
 unfoldable pub main_posts : List Entry → List Posted
 main_posts past = fold_past (λ before known e. known ++ main_posted_by before e.kind) [] past
-
--- the accepted post of a main task, if it has one
-abbrev pub main_post_of : List Entry → ℕ → Option Posted
-main_post_of past t = find (λ p. p.task == t) (main_posts past)
-
--- the main task was accepted
-abbrev pub IsMainAccepted : List Entry → ℕ → Type 0
-IsMainAccepted past t = IsSome (main_post_of past t)
 
 -- the entry takes this task of the pool
 abbrev pub takes : ℕ → Kind → Bool
@@ -110,22 +73,3 @@ main_takes t kind = false
 -- the main task has been taken
 unfoldable pub is_main_taken : List Entry → ℕ → Bool
 is_main_taken past t = list_any (λ e. main_takes t e.kind) past
-
--- the entry ends this main task
-abbrev pub main_ends : ℕ → Kind → Bool
-main_ends t (MainEnd task left) = task == t
-main_ends t kind = false
-
--- the main task has ended
-unfoldable pub is_main_ended : List Entry → ℕ → Bool
-is_main_ended past t = list_any (λ e. main_ends t e.kind) past
-
--- the first was posted before the second, and is another task
-pub record Before (p q : Posted) : Type 0 where
-  pub earlier : p.place < q.place
-  pub another : p.task ≢ q.task
-
--- each was posted before all that follow, and is another task
-abbrev pub InOrder : List Posted → Type 0
-InOrder [] = Unit {0}
-InOrder (p ∷ ps) = AllByRecursion (Before p) ps × InOrder ps

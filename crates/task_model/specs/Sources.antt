@@ -1,5 +1,5 @@
 -- What a worker takes next.
-use Rattle.std.specs.Prelude.{ℕ, ◌==◌, Bool, true, not, ◌&&◌, ◌||◌, nat_lt, nat_le, if◌then◌else◌, List, ◌++◌, length, filter, Option, Some, None, is_none, IsTrue, Contains}
+use Rattle.std.specs.Prelude.{ℕ, ◌==◌, Bool, true, not, ◌&&◌, ◌||◌, nat_lt, nat_le, if◌then◌else◌, List, ◌++◌, length, filter, Option, Some, None, is_none}
 use Rattle.std.specs.List.{list_any, filter_map, range_with_len}
 use Rattle.std.specs.Option.{option_map_or, option_map}
 use Rattle.task_base.specs.Plan.{Plan}
@@ -68,17 +68,9 @@ would_wait script past =
 unfoldable pub waiting : Plan → List Entry → List Candidate
 waiting script past = filter (λ c. not (is_held past c.priority)) (would_wait script past)
 
--- the source waits
-abbrev pub IsWaiting : Plan → List Entry → Candidate → Type 0
-IsWaiting script past c = Contains (waiting script past) c
-
 -- the seat may take the source: there is room for its priority, and it is the stated seat where there is one
 abbrev pub is_takeable : Plan → List Entry → ℕ → Candidate → Bool
 is_takeable script past seat c = has_room script past c.priority && option_map_or (λ only. only == seat) c.seat true
-
--- the source waits, and the seat may take it
-abbrev pub IsTakeable : Plan → List Entry → ℕ → Candidate → Type 0
-IsTakeable script past seat c = IsWaiting script past c × IsTrue (is_takeable script past seat c)
 
 -- the first goes before the second: it is of higher priority (`task_traits.h`), then of fewer inside, then of lesser key
 -- (this project's own rule on ties)
@@ -109,10 +101,6 @@ unfoldable pub leaves : Plan → List Entry → ℕ → ℕ → Bool
 leaves script past seat j =
     not (has_unclaimed script past j) || is_cancelled past j || is_job_forbidden script past j
     || (nat_lt 0 seat && makes_way script past (priority_of_job script j))
-
--- the fact of it
-abbrev pub Leaves : Plan → List Entry → ℕ → ℕ → Type 0
-Leaves script past seat j = IsTrue (leaves script past seat j)
 
 -- the next item: none where the seat leaves the job, else the least unclaimed one
 abbrev pub next_item : Plan → List Entry → ℕ → ℕ → Option ℕ

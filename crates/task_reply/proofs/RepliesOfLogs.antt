@@ -18,7 +18,8 @@ use Rattle.list_laws.proofs.Elements.{push_induction}
 use Rattle.task_base.specs.Entries.{is_acting}
 use Rattle.script_model.specs.Postings.{posts_of_action, posts_of_step, times}
 use Rattle.script_model.specs.Laws.Sound.{IsSound}
-use Rattle.task_model.specs.Posts.{takes, main_takes, ends, main_ends}
+use Rattle.task_model.specs.Posts.{takes, main_takes, ends}
+use Rattle.pool_laws.specs.Posts.{main_ends}
 use Rattle.task_model.specs.Seats.{Running, running, acts_done, steps_of}
 use Rattle.hist_model.specs.Allowed.{by_script, by_task, enters, has_done, may_come}
 use Rattle.hist_model.specs.Legal.{IsLegal}

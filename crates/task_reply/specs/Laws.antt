@@ -6,7 +6,8 @@ use Rattle.task_base.specs.declared.entry.Entry.{Entry}
 use Rattle.task_base.specs.declared.entry.Kind.{Kind}
 use Rattle.task_base.specs.declared.entry.Kind.TheVariants as kinds
 use Rattle.task_base.specs.Entries.{is_acting}
-use Rattle.task_model.specs.Posts.{takes, main_takes, ends, main_ends}
+use Rattle.task_model.specs.Posts.{takes, main_takes, ends}
+use Rattle.pool_laws.specs.Posts.{main_ends}
 use Rattle.task_model.specs.Seats.{Running, running, acts_done, steps_of}
 use Rattle.hist_model.specs.Laws.Places.{IsAt, StandsBefore}
 use Rattle.hist_model.specs.Laws.Postings.{kind_posts}

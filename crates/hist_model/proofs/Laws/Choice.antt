@@ -23,8 +23,9 @@ use Rattle.task_base.specs.declared.script.Lane.{Lane}
 use Rattle.task_base.specs.declared.script.Lane.TheVariants.{Immediate, Delayed}
 use Rattle.task_model.specs.Orders.{order_of}
 use Rattle.task_model.specs.MainQueues.{choice_among, of_least_class, streak_of, Front, is_of_lane, is_immediate, is_in_lane}
-use Rattle.task_model.specs.MainQueues.{front_with, order_below, front_of, fronts_of, is_open, open_fronts, class_of, chosen_class}
-use Rattle.task_model.specs.MainQueues.{chosen_fronts, immediate_fronts, is_starved, chosen_of, IsOpen}
+use Rattle.task_model.specs.MainQueues.{front_with, order_below, front_of, fronts_of, is_open, open_fronts, class_of}
+use Rattle.queue_laws.specs.Fronts.{chosen_class, chosen_fronts, IsOpen}
+use Rattle.task_model.specs.MainQueues.{immediate_fronts, is_starved, chosen_of}
 use Rattle.list_laws.proofs.Least.{least_from-is}
 use Rattle.list_laws.proofs.Filters.{filter_passes}
 use Rattle.list_laws.proofs.Elements.{AllByRecursion-filter, AllByRecursion-append, AllByRecursion-both, AllByRecursion-always, AllByRecursion-each_list}

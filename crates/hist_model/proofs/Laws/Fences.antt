@@ -18,7 +18,8 @@ use Rattle.task_model.specs.Posts.{Posted, ripens_before, is_delayed}
 use Rattle.task_model.specs.Refusal.{is_closed}
 use Rattle.task_model.specs.Orders.{ripens, ripening, draws, next_draw, drawn_at, moment_at, order_of}
 use Rattle.task_model.specs.Time.{tick_from}
-use Rattle.task_model.specs.MainQueues.{Front, IsOpen, fence_of, fence_after, votes_on, vote_after, voters_of, is_enabled}
+use Rattle.task_model.specs.MainQueues.{Front, fence_of, fence_after, votes_on, vote_after, voters_of, is_enabled}
+use Rattle.queue_laws.specs.Fronts.{IsOpen}
 use Rattle.task_model.proofs.Growth.{fence_of_push, votes_on_push}
 use Rattle.queue_laws.proofs.Orders.{drawn, order_is}
 use Rattle.hist_model.specs.Legal.{IsLegal}

@@ -15,7 +15,8 @@ use Rattle.task_base.specs.declared.source.TaskSource.{TaskSource}
 use Rattle.task_base.specs.declared.source.TaskSource.TheVariants.{Sequence, Job}
 use Rattle.list_laws.specs.Lists.{holds_of}
 use Rattle.task_model.specs.Seats.{Holding, holding, inside}
-use Rattle.task_model.specs.Jobs.{claimed, item_value, MayEnter, free_id, is_empty, reply_of}
+use Rattle.task_model.specs.Jobs.{claimed, item_value, free_id, is_empty, reply_of}
+use Rattle.pool_laws.specs.Jobs.{MayEnter}
 use Rattle.task_model.specs.Sources.{best_of, next_item}
 use Rattle.hist_model.specs.Views.{own_entries}
 use Rattle.hist_model.specs.Script.{wants}

@@ -8,7 +8,8 @@ use Rattle.task_base.specs.Plan.{Plan}
 use Rattle.task_base.specs.declared.entry.Entry.{Entry}
 use Rattle.task_base.specs.declared.entry.Kind.{Kind}
 use Rattle.task_base.specs.declared.entry.Kind.TheVariants as kinds
-use Rattle.task_model.specs.Posts.{is_taken, is_ended, is_main_taken, is_main_ended}
+use Rattle.task_model.specs.Posts.{is_taken, is_ended, is_main_taken}
+use Rattle.pool_laws.specs.Posts.{is_main_ended}
 use Rattle.task_model.specs.Seats.{Running, running, running_after, holding}
 use Rattle.pool_laws.proofs.Seats.Running.{running_here, running_other}
 use Rattle.hist_model.specs.Allowed.{may_come}

@@ -13,12 +13,11 @@ use Rattle.task_base.specs.declared.step.Scope.{Scope}
 use Rattle.list_laws.specs.Lists.{holds_of}
 use Rattle.list_laws.specs.Sorts.{SameMembers}
 use Rattle.task_model.specs.Past.{fold_past}
-use Rattle.task_model.specs.Orders.{ordered, main_arrivals}
+use Rattle.queue_laws.specs.Orders.{ordered, main_arrivals, OrdersDistinct}
 use Rattle.task_model.specs.Time.{now_of, now_after}
 use Rattle.task_model.specs.Posts.{is_taken, takes, is_main_taken, main_takes}
 use Rattle.task_model.specs.Seats.{Running, running, next_act}
 use Rattle.task_model.specs.Capacity.{open_scope, scope_after}
-use Rattle.queue_laws.specs.Orders.{OrdersDistinct}
 use Rattle.task_model.proofs.Growth.{is_taken_push, is_main_taken_push, open_scope_push}
 use Rattle.pool_laws.proofs.Keys.Ready.{no_tick_ahead_at_start, no_tick_ahead_grows}
 use Rattle.pool_laws.proofs.Keys.Arrivals.{arrivals_are_ready_at_start, arrivals_are_ready_grows}

@@ -9,7 +9,8 @@ use Rattle.task_base.specs.Runners.{sequence_of}
 use Rattle.task_base.specs.declared.entry.Entry.{Entry}
 use Rattle.task_base.specs.declared.entry.Kind.{Kind}
 use Rattle.task_base.specs.declared.entry.Kind.TheVariants as kinds
-use Rattle.task_model.specs.Posts.{is_taken, takes, is_ended, is_main_taken, main_takes, is_main_ended}
+use Rattle.task_model.specs.Posts.{is_taken, takes, is_ended, is_main_taken, main_takes}
+use Rattle.pool_laws.specs.Posts.{is_main_ended}
 use Rattle.task_model.specs.Seats.{running, runs_sequence}
 use Rattle.pool_laws.proofs.Seats.Running.{seat_runs}
 use Rattle.hist_model.specs.Legal.{IsLegal}

@@ -20,7 +20,8 @@ use Rattle.task_base.specs.Runners.{sequence_of}
 use Rattle.task_model.specs.Sequences.{head_of}
 use Rattle.task_model.specs.Seats.{Running, running, runs_sequence, is_free}
 use Rattle.task_model.specs.Cells.{cell_of, main_cell_of}
-use Rattle.task_model.specs.Jobs.{claimed, may_enter, MayEnter}
+use Rattle.task_model.specs.Jobs.{claimed, may_enter}
+use Rattle.pool_laws.specs.Jobs.{MayEnter}
 use Rattle.task_model.specs.Sources.{Candidate, best_of}
 use Rattle.task_model.specs.MainQueues.{chosen_of}
 use Rattle.hist_model.specs.Views.{own_entries}

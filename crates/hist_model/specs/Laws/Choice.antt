@@ -12,11 +12,12 @@ use Rattle.task_base.specs.Runners.{sequence_of}
 use Rattle.task_model.specs.Sequences.{head_of}
 use Rattle.task_model.specs.Seats.{runs_sequence, is_free}
 use Rattle.task_model.specs.Cells.{cell_of, main_cell_of}
-use Rattle.task_model.specs.Jobs.{MayEnter}
+use Rattle.pool_laws.specs.Jobs.{MayEnter}
 use Rattle.task_model.specs.Sources.{Candidate, is_takeable}
 use Rattle.task_model.specs.Orders.{order_of}
 use Rattle.pool_laws.specs.Keys.{IsHead}
-use Rattle.task_model.specs.MainQueues.{Front, IsOpen}
+use Rattle.task_model.specs.MainQueues.{Front}
+use Rattle.queue_laws.specs.Fronts.{IsOpen}
 
 -- a sequence that does not run and has a head, or a job that may be entered
 abbrev pub IsWaitingSource : Plan → List Entry → TaskSource → Type 0

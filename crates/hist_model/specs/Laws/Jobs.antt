@@ -4,7 +4,8 @@ use Rattle.task_base.specs.Plan.{Plan}
 use Rattle.task_base.specs.declared.entry.Entry.{Entry}
 use Rattle.task_base.specs.declared.entry.JobReply.{JobReply}
 use Rattle.task_model.specs.Seats.{holding, inside}
-use Rattle.task_model.specs.Jobs.{claimed, item_value, MayEnter, free_id, reply_of}
+use Rattle.task_model.specs.Jobs.{claimed, item_value, free_id, reply_of}
+use Rattle.pool_laws.specs.Jobs.{MayEnter}
 use Rattle.task_model.specs.Sources.{next_item}
 
 -- a seat that holds nothing enters a job that may be entered, under the least number that nobody inside has, at the least

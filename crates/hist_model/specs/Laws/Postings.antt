@@ -4,7 +4,8 @@ use Rattle.task_base.specs.declared.entry.Entry.{Entry}
 use Rattle.task_base.specs.declared.entry.Kind.{Kind}
 use Rattle.task_base.specs.declared.entry.Kind.TheVariants as kinds
 use Rattle.script_model.specs.Postings.{times}
-use Rattle.task_model.specs.Posts.{posts, post_of, IsAccepted, main_posts, main_post_of, IsMainAccepted, is_taken, is_ended, is_main_taken, InOrder}
+use Rattle.task_model.specs.Posts.{posts, main_posts, is_taken, is_ended, is_main_taken}
+use Rattle.pool_laws.specs.Posts.{post_of, IsAccepted, main_post_of, IsMainAccepted, InOrder}
 
 -- the task that an entry posts, accepted or refused
 abbrev pub kind_posts : Kind → List ℕ

@@ -3,11 +3,10 @@ use Rattle.std.specs.Prelude.{◌≡◌, ℕ, false, List, None}
 use Rattle.task_base.specs.declared.entry.Entry.{Entry}
 use Rattle.list_laws.specs.Sorts.{SameMembers}
 use Rattle.task_model.specs.Posts.{is_taken, is_main_taken}
-use Rattle.task_model.specs.Keys.{ready, arrivals}
-use Rattle.task_model.specs.Orders.{ordered, main_arrivals}
+use Rattle.task_model.specs.Keys.{ready}
+use Rattle.pool_laws.specs.Keys.{arrivals, NoTickAhead}
+use Rattle.queue_laws.specs.Orders.{ordered, main_arrivals, OrdersBelow}
 use Rattle.task_model.specs.Capacity.{open_scope}
-use Rattle.pool_laws.specs.Keys.{NoTickAhead}
-use Rattle.queue_laws.specs.Orders.{OrdersBelow}
 
 -- moments never fall, so that no tick has come to a moment ahead; the tasks that have keys are those that arrived, and the
 -- main tasks that have orders likewise; each order that was drawn is below the next draw; and only a task that was taken

@@ -10,17 +10,18 @@ use Rattle.task_base.specs.declared.entry.Kind.TheVariants as kinds
 use Rattle.task_base.specs.declared.script.Lane.{Lane}
 use Rattle.task_base.specs.declared.source.Key.{Key}
 use Rattle.task_model.specs.Time.{tick_from}
-use Rattle.task_model.specs.Posts.{Posted, IsDelayed, posts, main_posts, is_taken, is_ended, is_main_taken, is_main_ended}
+use Rattle.task_model.specs.Posts.{Posted, posts, main_posts, is_taken, is_ended, is_main_taken}
+use Rattle.pool_laws.specs.Posts.{IsDelayed, is_main_ended}
 use Rattle.task_model.specs.Policies.{is_held}
 use Rattle.task_model.specs.Refusal.{is_forbidden, is_closed}
 use Rattle.task_model.specs.Keys.{Ready, key_of}
 use Rattle.task_model.specs.Sequences.{eligible, head_of}
 use Rattle.task_model.specs.Seats.{running, holding, runs_sequence}
 use Rattle.task_model.specs.Jobs.{claimed, done}
-use Rattle.task_model.specs.Sources.{Candidate, sequence_candidate, sequence_waiting, IsWaiting}
+use Rattle.task_model.specs.Sources.{Candidate, sequence_candidate, sequence_waiting}
+use Rattle.pool_laws.specs.Choice.{IsWaiting, WouldWait}
 use Rattle.task_model.specs.Orders.{order_of}
 use Rattle.task_model.specs.MainQueues.{Front, is_in_lane, front_of}
-use Rattle.pool_laws.specs.Choice.{WouldWait}
 
 -- the entry is the step of this item of the job
 abbrev pub steps_item : ℕ → ℕ → Kind → Bool

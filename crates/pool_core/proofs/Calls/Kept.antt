@@ -15,13 +15,12 @@ use Rattle.pool_core.specs.declared.pool.Pool.{Pool}
 use Rattle.pool_laws.proofs.Keys.Arrivals.{arrivals_same}
 use Rattle.pool_laws.proofs.Keys.Posts.{posts_same}
 use Rattle.pool_laws.specs.Choice.{moves_sources, source_waiting, source_parts}
-use Rattle.pool_laws.specs.Keys.{moves_ready, ready_parts, moves_posts}
+use Rattle.pool_laws.specs.Keys.{moves_ready, ready_parts, moves_posts, arrivals}
 use Rattle.pool_laws.specs.Seats.{main_parts, running_parts}
 use Rattle.std.proofs.Common.{List, [], false, refl, sym, ◌++◌, ◌∙◌, ◌∷◌, ◌≡◌}
 use Rattle.task_base.specs.Plan.{Plan}
 use Rattle.task_base.specs.declared.entry.Entry.{Entry}
 use Rattle.task_model.proofs.Growth.{now_of_push}
-use Rattle.task_model.specs.Keys.{arrivals}
 use Rattle.task_model.specs.Time.{now_of}
 use Rattle.task_tracker.specs.Tracked.{Tracked}
 use Rattle.pool_core.proofs.Jobs.JobTables.{holders_kept, jobs_kept}

@@ -21,7 +21,7 @@ use Rattle.std.proofs.lemmas.Bool.{not-true}
 use Rattle.std.specs.Prelude.{not}
 use Rattle.task_base.specs.Plan.{Plan}
 use Rattle.task_base.specs.declared.entry.Entry.{Entry}
-use Rattle.task_model.specs.Keys.{arrivals}
+use Rattle.pool_laws.specs.Keys.{arrivals}
 use Rattle.pool_laws.specs.Moves.{Moment, Scopes, moves}
 use Rattle.pool_laws.proofs.Moves.{moves_fewer, moves_apart}
 

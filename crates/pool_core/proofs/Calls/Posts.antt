@@ -27,7 +27,7 @@ use Rattle.pool_core.specs.State.{CanArrive, arrived, pushed, runner_of, standin
 use Rattle.pool_core.specs.declared.pool.Pool.{Pool}
 use Rattle.pool_core.specs.declared.posting.Posting.{Posting}
 use Rattle.pool_laws.proofs.Keys.Arrivals.{arrivals_at_delayed_post, arrivals_at_post, arrivals_rise}
-use Rattle.pool_laws.specs.Keys.{ready_below}
+use Rattle.pool_laws.specs.Keys.{ready_below, arrivals, ready_behind}
 use Rattle.std.proofs.Common.{List, None, Option, Some, [], arith, false, length, length-append, refl, subst, sym, true, ℕ, ◌++◌, ◌+◌, ◌<◌, ◌∙◌, ◌∷◌, ◌≡◌}
 use Rattle.std.proofs.lemmas.Option.{none-some}
 use Rattle.std.specs.Option.{option_map, option_map_or}
@@ -39,7 +39,7 @@ use Rattle.task_base.specs.Runners.{sequence_count, sequence_of}
 use Rattle.task_base.specs.declared.entry.Entry.{Entry}
 use Rattle.task_base.specs.declared.script.Runner.{Runner}
 use Rattle.task_model.proofs.Growth.{is_taken_push, now_of_push, phase_of_push, posts_push}
-use Rattle.task_model.specs.Keys.{Ready, arrivals, key_at, ready_behind}
+use Rattle.task_model.specs.Keys.{Ready, key_at}
 use Rattle.task_model.specs.Posts.{posted_by, posts}
 use Rattle.task_model.specs.Refusal.{effective_at, is_refused}
 use Rattle.task_model.specs.Sequences.{may_start}

@@ -36,7 +36,8 @@ use Rattle.task_base.specs.declared.entry.Entry.{Entry}
 use Rattle.task_base.specs.declared.source.TaskSource.{TaskSource}
 use Rattle.task_base.specs.declared.source.TaskSource.TheVariants.{Job, Sequence}
 use Rattle.task_model.proofs.Growth.{now_of_push, priority_of_push}
-use Rattle.task_model.specs.Keys.{Ready, arrivals}
+use Rattle.task_model.specs.Keys.{Ready}
+use Rattle.pool_laws.specs.Keys.{arrivals}
 use Rattle.task_model.specs.Sequences.{head_of}
 use Rattle.task_model.specs.Sources.{Candidate}
 use Rattle.task_sequence.specs.Sequences.{sequence_at}

@@ -20,7 +20,7 @@ use Rattle.pool_core.specs.Tables.{is_unripe, posting_of, ripening_of, unripe}
 use Rattle.pool_core.specs.declared.lanes.Lane.{Lane}
 use Rattle.pool_core.specs.declared.pool.Pool.{Pool}
 use Rattle.pool_laws.proofs.Keys.Arrivals.{arrivals_at_tick, arrivals_rise}
-use Rattle.pool_laws.specs.Keys.{ready_below}
+use Rattle.pool_laws.specs.Keys.{ready_below, arrivals, ripe_behind}
 use Rattle.std.proofs.Common.{Bool, List, None, Option, Some, [], ap, append_assoc, arith, cond, drop, false, length, length-drop}
 use Rattle.std.proofs.Common.{map, refl, subst, suc, sym, true, ℕ, ◌++◌, ◌+◌, ◌<◌, ◌^◌, ◌∙◌, ◌∷◌, ◌≡◌, ◌≤◌}
 use Rattle.std.proofs.lemmas.Bool.{and_from, and_right, false_from_ne_true, true≢false}
@@ -33,7 +33,7 @@ use Rattle.task_base.specs.Plan.{Plan}
 use Rattle.task_base.specs.Runners.{sequence_count, sequence_of}
 use Rattle.task_base.specs.declared.entry.Entry.{Entry}
 use Rattle.task_base.specs.declared.source.TaskSource.TheVariants.{Sequence}
-use Rattle.task_model.specs.Keys.{Ready, arrivals, key_at, ripe_behind}
+use Rattle.task_model.specs.Keys.{Ready, key_at}
 use Rattle.task_model.specs.Posts.{Posted, is_delayed, is_taken, posts, ripens_before}
 use Rattle.task_model.specs.Refusal.{effective_at, is_forbidden}
 use Rattle.task_model.specs.Sequences.{may_start}

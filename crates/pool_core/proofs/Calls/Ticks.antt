@@ -37,7 +37,7 @@ use Rattle.std.specs.Prelude.{All, filter, nat_le, nat_lt, slice_get}
 use Rattle.task_base.specs.Plan.{Plan}
 use Rattle.task_base.specs.declared.entry.Entry.{Entry}
 use Rattle.task_model.proofs.Growth.{now_of_push}
-use Rattle.task_model.specs.Keys.{arrivals}
+use Rattle.pool_laws.specs.Keys.{arrivals}
 use Rattle.task_model.specs.Posts.{Posted}
 use Rattle.task_base.specs.declared.entry.Kind.TheVariants as kinds
 

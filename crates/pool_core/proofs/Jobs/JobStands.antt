@@ -41,7 +41,7 @@ use Rattle.pool_laws.proofs.Keys.Arrivals.{arrivals_same}
 use Rattle.pool_laws.proofs.Keys.Posts.{posts_same}
 use Rattle.pool_laws.specs.Choice.{moves_sequence_waiting, sequence_waiting_parts}
 use Rattle.pool_laws.specs.Jobs.{JobKept}
-use Rattle.pool_laws.specs.Keys.{moves_posts, moves_ready, ready_parts}
+use Rattle.pool_laws.specs.Keys.{moves_posts, moves_ready, ready_parts, arrivals}
 use Rattle.pool_laws.specs.Seats.{main_parts, running_parts}
 use Rattle.std.proofs.Common.{Bool, List, None, Option, Some, [], ap, arith, cond, false, length, refl, subst, sym, true, ℕ, ◌++◌, ◌+◌, ◌-◌, ◌<◌, ◌∙◌, ◌∷◌, ◌≡◌}
 use Rattle.std.proofs.lemmas.List.{get_or-set_same}
@@ -56,7 +56,6 @@ use Rattle.task_base.specs.declared.entry.Entry.{Entry}
 use Rattle.task_base.specs.declared.entry.Kind.TheVariants as kinds
 use Rattle.task_base.specs.Entries.{next}
 use Rattle.task_model.specs.Capacity.{priority_of_job}
-use Rattle.task_model.specs.Keys.{arrivals}
 use Rattle.task_model.specs.Refusal.{behaviour_of_job, is_job_forbidden}
 use Rattle.task_model.specs.Seats.{inside, running}
 use Rattle.task_model.specs.Sources.{job_waiting}

@@ -21,7 +21,7 @@ use Rattle.pool_core.specs.declared.pool.Pool.{Pool}
 use Rattle.pool_laws.proofs.Choice.Best.{only_best}
 use Rattle.pool_laws.proofs.Choice.Candidates.{candidate_names, free_is_waiting, job_within, sequence_within, waiting_is_free, waiting_job, waiting_sequence}
 use Rattle.pool_laws.proofs.Choice.Least.{best_is_best, no_best}
-use Rattle.pool_laws.specs.Choice.{IsBest, IsFree, source_waiting}
+use Rattle.pool_laws.specs.Choice.{IsBest, IsFree, source_waiting, IsTakeable}
 use Rattle.sequence_queue.specs.Ranked.{IsMadeFor, rank_below}
 use Rattle.sequence_queue.specs.declared.rank.Rank.{Rank}
 use Rattle.std.proofs.Common.{Bool, List, None, Option, Some, ap, arith, cond, false, inl, inr, length, refl, subst, sym, true, ℕ, ◌+◌, ◌<◌, ◌∙◌, ◌≡◌, ◌≤◌}
@@ -45,7 +45,7 @@ use Rattle.task_model.specs.Phase.{phase_of}
 use Rattle.task_model.specs.Policies.{is_held, policy_of}
 use Rattle.task_model.specs.Seats.{runs_sequence}
 use Rattle.task_model.specs.Sequences.{head_of}
-use Rattle.task_model.specs.Sources.{Candidate, IsTakeable, best_of, goes_before, is_takeable, job_candidate, sequence_candidate, waiting}
+use Rattle.task_model.specs.Sources.{Candidate, best_of, goes_before, is_takeable, job_candidate, sequence_candidate, waiting}
 use Rattle.task_traits.specs.Behaviour.{forbids}
 use Rattle.task_traits.specs.declared.phase.Phase.{Phase}
 use Rattle.task_traits.specs.declared.traits.Behaviour.{Behaviour}

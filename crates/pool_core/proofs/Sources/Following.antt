@@ -41,8 +41,9 @@ use Rattle.task_base.specs.declared.source.TaskSource.{TaskSource}
 use Rattle.task_base.specs.declared.source.TaskSource.TheVariants.{Job, Sequence}
 use Rattle.task_model.specs.Capacity.{priority_of}
 use Rattle.task_model.specs.Cells.{cell_of}
-use Rattle.task_model.specs.Keys.{Ready, arrivals}
-use Rattle.task_model.specs.Posts.{post_of}
+use Rattle.task_model.specs.Keys.{Ready}
+use Rattle.pool_laws.specs.Keys.{arrivals}
+use Rattle.pool_laws.specs.Posts.{post_of}
 use Rattle.task_model.specs.Seats.{runs_sequence}
 use Rattle.task_model.specs.Sequences.{head_of}
 use Rattle.task_model.specs.Sources.{sequence_candidate, sequence_waiting}

@@ -16,7 +16,7 @@ use Rattle.pool_core.specs.declared.pool.Pool.{Pool}
 use Rattle.pool_laws.proofs.Choice.Candidates.{job_within, sequence_within, waiting_is_free, waiting_job, waiting_sequence}
 use Rattle.pool_laws.proofs.Choice.Least.{best_is_best}
 use Rattle.pool_laws.proofs.Seats.Running.{taken_where_runs}
-use Rattle.pool_laws.specs.Choice.{source_waiting}
+use Rattle.pool_laws.specs.Choice.{source_waiting, IsTakeable, IsWaiting}
 use Rattle.std.proofs.Common.{Bool, List, None, Option, Some, [], ◌∷◌, ap, arith, cond, eqb, false, get_or}
 use Rattle.std.proofs.Common.{inl, length, refl, subst, suc, sym, true, zero, ℕ, ◌+◌, ◌<◌, ◌∙◌, ◌≡◌, ◌≤◌}
 use Rattle.std.proofs.Math.Dec.{eqb-suc-zero}
@@ -35,7 +35,7 @@ use Rattle.task_base.specs.declared.source.TaskSource.{TaskSource}
 use Rattle.task_base.specs.declared.source.TaskSource.TheVariants.{Job, Sequence}
 use Rattle.task_model.specs.Capacity.{has_room, is_in, priority_of_holding, priority_of_job, taken_with, work_at}
 use Rattle.task_model.specs.Seats.{Holding, Running, holding, running, worker_seats}
-use Rattle.task_model.specs.Sources.{Candidate, IsTakeable, IsWaiting, best_of}
+use Rattle.task_model.specs.Sources.{Candidate, best_of}
 use Rattle.task_traits.specs.declared.traits.Priority.{Priority}
 use Rattle.thread_group.specs.Group.{load}
 

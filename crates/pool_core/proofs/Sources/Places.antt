@@ -35,7 +35,8 @@ use Rattle.task_base.specs.declared.entry.Entry.{Entry}
 use Rattle.task_base.specs.declared.source.Key.{Key}
 use Rattle.task_base.specs.declared.source.TaskSource.{TaskSource}
 use Rattle.task_base.specs.declared.source.TaskSource.TheVariants.{Sequence}
-use Rattle.task_model.specs.Posts.{Posted, post_of, posts}
+use Rattle.task_model.specs.Posts.{Posted, posts}
+use Rattle.pool_laws.specs.Posts.{post_of}
 use Rattle.task_model.specs.Keys.{Ready}
 use Rattle.task_model.specs.Sequences.{head_of}
 use Rattle.task_model.specs.Sources.{Candidate}

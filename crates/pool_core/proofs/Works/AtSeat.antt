@@ -21,8 +21,9 @@ use Rattle.task_base.specs.declared.entry.Entry.{Entry}
 use Rattle.task_base.specs.declared.limits.TheConstants.{MOST_WORKERS}
 use Rattle.task_model.specs.Capacity.{OpenScope, open_scope}
 use Rattle.task_traits.specs.declared.traits.Priority.{Priority}
-use Rattle.task_model.specs.Keys.{arrivals}
-use Rattle.task_model.specs.Posts.{Posted, post_of}
+use Rattle.pool_laws.specs.Keys.{arrivals}
+use Rattle.task_model.specs.Posts.{Posted}
+use Rattle.pool_laws.specs.Posts.{post_of}
 use Rattle.task_model.specs.Seats.{Running, running}
 use Rattle.task_sequence.specs.Sequences.{sequence_at}
 use Rattle.task_tracker.specs.Tracked.{block_share, skip_share}

@@ -21,11 +21,11 @@ use Rattle.task_model.specs.Keys.{Ready}
 use Rattle.task_model.specs.Policies.{is_held}
 use Rattle.task_model.specs.Sequences.{head_of}
 use Rattle.task_model.specs.Seats.{runs_sequence}
-use Rattle.task_model.specs.Jobs.{JobPosted, job_post_of, may_enter, MayEnter}
-use Rattle.task_model.specs.Sources.{Candidate, sequence_candidate, sequence_waiting, job_candidate, job_waiting, would_wait, waiting, IsWaiting}
+use Rattle.task_model.specs.Jobs.{JobPosted, job_post_of, may_enter}
+use Rattle.pool_laws.specs.Jobs.{MayEnter, job_parts}
+use Rattle.task_model.specs.Sources.{Candidate, sequence_candidate, sequence_waiting, job_candidate, job_waiting, would_wait, waiting}
+use Rattle.pool_laws.specs.Choice.{IsWaiting, source_waiting, WouldWait, IsFree, moves_sources, moves_waiting, sequence_waiting_parts, source_parts, waiting_parts, held_parts}
 use Rattle.pool_laws.specs.Seats.{moves_main, runs_pool_task}
-use Rattle.pool_laws.specs.Jobs.{job_parts}
-use Rattle.pool_laws.specs.Choice.{source_waiting, WouldWait, IsFree, moves_sources, moves_waiting, sequence_waiting_parts, source_parts, waiting_parts, held_parts}
 use Rattle.list_laws.proofs.Filters.{filter_congr, filter_map_congr_in}
 use Rattle.list_laws.proofs.Made.{filter_contains, contains_filter, filter_map_contains, contains_filter_map, contains_range, range_contains}
 use Rattle.list_laws.proofs.Ranges.{AllByRecursion-range}

@@ -18,8 +18,8 @@ use Rattle.task_model.specs.Keys.{Ready}
 use Rattle.task_base.specs.Runners.{sequence_of}
 use Rattle.task_model.specs.Sequences.{is_of, head_of}
 use Rattle.task_model.specs.Jobs.{JobPosted, job_post_of, job_post_after}
-use Rattle.task_model.specs.Sources.{Candidate, IsWaiting}
-use Rattle.pool_laws.specs.Choice.{source_waiting, posted_source, source_at, WouldWait, post_by, post_at}
+use Rattle.task_model.specs.Sources.{Candidate}
+use Rattle.pool_laws.specs.Choice.{IsWaiting, source_waiting, posted_source, source_at, WouldWait, post_by, post_at}
 use Rattle.list_laws.proofs.Elements.{slice_get-end, push_induction}
 use Rattle.list_laws.proofs.Places.{slice_get-more}
 use Rattle.list_laws.proofs.Values.{some-injective}

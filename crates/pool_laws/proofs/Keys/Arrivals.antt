@@ -18,9 +18,9 @@ use Rattle.list_laws.specs.Sorts.{sort_by, Rises, Differ, SameMembers}
 use Rattle.task_model.specs.Past.{fold_past}
 use Rattle.task_model.specs.Time.{now_of, tick_from}
 use Rattle.task_model.specs.Posts.{Posted, is_delayed, ripens_before, post_behind, posted_by, posts, main_posted_by, main_posts}
-use Rattle.task_model.specs.Keys.{Ready, key_at, key_of, ready, ready_behind, becomes_ripe, ripe_behind, arriving_by, arrivals}
+use Rattle.task_model.specs.Keys.{Ready, key_at, key_of, ready}
+use Rattle.pool_laws.specs.Keys.{ready_behind, becomes_ripe, ripe_behind, arriving_by, arrivals, key_by, moves_ready, ready_at_tick_of, ripe_at_tick_of, ready_below, NoTickAhead}
 use Rattle.task_model.specs.Sequences.{is_of, may_start, eligible, head_of}
-use Rattle.pool_laws.specs.Keys.{key_by, moves_ready, ready_at_tick_of, ripe_at_tick_of, ready_below, NoTickAhead}
 use Rattle.list_laws.proofs.Filters.{filter_map_congr, filter_map-passing}
 use Rattle.list_laws.proofs.Elements.{AllByRecursion-map, AllByRecursion-append, AllByRecursion-mapped, AllByRecursion-always, push_induction}
 use Rattle.list_laws.specs.Lists.{Ranks}
@@ -28,9 +28,13 @@ use Rattle.list_laws.proofs.Ranks.{ranks_by, ranks_then_by, by_same, by_less}
 use Rattle.list_laws.proofs.Members.{same_members-refl, same_members-trans, same_members-append, same_members-map, same_members-either}
 use Rattle.list_laws.proofs.Sorts.{rises-sort_by, rises-append, rises-map, differ-filter, differ-push, least_is_first, same_members-sort_by}
 use Rattle.task_base.specs.Entries.{entry_by as by}
-use Rattle.task_model.proofs.Growth.{posts_push, main_posts_push, arrivals_push}
+use Rattle.task_model.proofs.Growth.{fold_past-push, posts_push, main_posts_push}
 use Rattle.pool_laws.proofs.Choice.Least.{ranks_key}
 use Rattle.pool_laws.proofs.Keys.Ready.{ready_same, ready_at_post, ready_at_delayed_post, ready_at_tick, posts_within, main_posts_within}
+
+pub arrivals_push : (past : List Entry) (e : Entry) → arrivals (past ++ e ∷ []) ≡ arrivals past ++ arriving_by past e.kind
+unfolding arrivals
+arrivals_push past e = fold_past-push (λ before known x. known ++ arriving_by before x.kind) [] past e
 
 -- The order in which tasks become ripe.
 

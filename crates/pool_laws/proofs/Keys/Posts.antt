@@ -6,7 +6,7 @@ use Rattle.list_laws.proofs.Values.{eqb-same}
 use Rattle.list_laws.proofs.Filters.{filter_none}
 use Rattle.list_laws.proofs.Counts.{count_step}
 use Rattle.std.proofs.Common.{◌≡◌, ℕ, Bool, true, false, cond, eqb, List, [], ◌∷◌, ◌++◌, length, refl, sym, Some, None, ap, arith, ◌∙◌, ◌≤◌}
-use Rattle.std.specs.Prelude.{find, nat_lt, ◌==◌}
+use Rattle.std.specs.Prelude.{find, nat_lt, ◌==◌, ◌||◌}
 use Rattle.std.specs.Option.{option_or}
 use Rattle.std.specs.List.{AllByRecursion}
 use Rattle.std.proofs.lemmas.Bool.{true≢false, ltb-true, eqb-false, ne_eqb, eqb-true}
@@ -16,13 +16,18 @@ use Rattle.std.proofs.lemmas.List.Folds.{find-append}
 use Rattle.task_base.specs.declared.entry.Entry.{Entry}
 use Rattle.task_base.specs.declared.entry.Kind.{Kind}
 use Rattle.task_base.specs.declared.entry.Kind.TheVariants.{Post, Main}
-use Rattle.task_model.specs.Posts.{Posted, Before, InOrder, post_behind, posted_by, posts, main_posted_by, main_posts, post_of, main_post_of}
+use Rattle.task_model.specs.Posts.{Posted, post_behind, posted_by, posts, main_posted_by, main_posts}
+use Rattle.pool_laws.specs.Posts.{Before, InOrder, is_main_ended, main_ends, main_post_of, post_of}
 use Rattle.pool_laws.specs.Keys.{moves_posts, moves_main_posts}
-use Rattle.task_model.proofs.Growth.{posts_push, main_posts_push}
+use Rattle.task_model.proofs.Growth.{any-push, posts_push, main_posts_push}
 use Rattle.list_laws.proofs.Elements.{AllByRecursion-map, AllByRecursion-both}
 use Rattle.pool_laws.proofs.Keys.Ready.{posts_within, main_posts_within}
 use Rattle.pool_laws.specs.Moves.{Posts}
 use Rattle.pool_laws.proofs.Moves.{no_posted}
+
+pub is_main_ended_push : (past : List Entry) (e : Entry) (t : ℕ) → is_main_ended (past ++ e ∷ []) t ≡ (is_main_ended past t || main_ends t e.kind)
+unfolding is_main_ended
+is_main_ended_push past e t = any-push (main_ends t) past e
 
 pub posts_same : (past : List Entry) (e : Entry) → moves_posts e.kind ≡ false → posts (past ++ e ∷ []) ≡ posts past
 posts_same past e quiet = rw (posts_push past e, no_posted (Posts ∷ []) past e.kind refl quiet) (append-nil _)

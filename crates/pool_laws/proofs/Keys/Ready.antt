@@ -27,8 +27,8 @@ use Rattle.task_base.specs.declared.source.Key.{Key}
 use Rattle.task_model.specs.Time.{now_of, now_after, is_tick_from, tick_from}
 use Rattle.task_model.specs.Past.{fold_past, fold_past_from}
 use Rattle.task_model.specs.Posts.{Posted, is_delayed, posted_by, posts, main_posted_by, main_posts}
-use Rattle.task_model.specs.Keys.{Ready, key_at, key_of, ready, ready_behind}
-use Rattle.pool_laws.specs.Keys.{tick_by, key_by, moves_ready, NoTickAhead, ready_at_tick_of, ready_parts}
+use Rattle.task_model.specs.Keys.{Ready, key_at, key_of, ready}
+use Rattle.pool_laws.specs.Keys.{ready_behind, tick_by, key_by, moves_ready, NoTickAhead, ready_at_tick_of, ready_parts}
 use Rattle.task_model.proofs.Growth.{now_of_push, posts_push}
 use Rattle.list_laws.proofs.Options.{option_or-none, option_map-or, position-append, position-within}
 use Rattle.list_laws.proofs.Values.{some-injective}

@@ -10,8 +10,10 @@ use Rattle.task_base.specs.Runners.{sequence_of}
 use Rattle.task_base.specs.declared.entry.Entry.{Entry}
 use Rattle.task_base.specs.declared.entry.Kind.{Kind}
 use Rattle.task_base.specs.declared.entry.Kind.TheVariants.{End, MainEnd, Take, MainTake}
-use Rattle.task_model.proofs.Growth.{posts_push, main_posts_push, is_taken_push, is_ended_push, is_main_taken_push, is_main_ended_push}
-use Rattle.task_model.specs.Posts.{is_ended, is_main_ended}
+use Rattle.task_model.proofs.Growth.{posts_push, main_posts_push, is_taken_push, is_ended_push, is_main_taken_push}
+use Rattle.pool_laws.proofs.Keys.Posts.{is_main_ended_push}
+use Rattle.task_model.specs.Posts.{is_ended}
+use Rattle.pool_laws.specs.Posts.{is_main_ended}
 use Rattle.task_model.specs.Seats.{Running, running, running_after, runs_sequence}
 use Rattle.pool_laws.specs.Runs.{posts_as, posted_as, taken_as, takes_as, ended_as, ends_as, moves_runs, CanRun, RunsAs, RunsSingly}
 use Rattle.pool_laws.proofs.Seats.Running.{seat_runs}

@@ -7,7 +7,8 @@ use Rattle.std.specs.Prelude.{not, ◌&&◌}
 use Rattle.task_base.specs.Plan.{Plan}
 use Rattle.task_base.specs.declared.entry.Entry.{Entry}
 use Rattle.task_base.specs.declared.entry.Kind.TheVariants.{Post, Take, End, JobPost, JobTake, JobStep, JobCancel}
-use Rattle.task_model.specs.Posts.{Posted, InOrder, posts, is_taken, is_ended, post_of}
+use Rattle.task_model.specs.Posts.{Posted, posts, is_taken, is_ended}
+use Rattle.pool_laws.specs.Posts.{InOrder, post_of}
 use Rattle.task_model.specs.Refusal.{effective_at, behaviour_of_job}
 use Rattle.task_model.specs.Seats.{holding}
 use Rattle.task_model.specs.Jobs.{job_post_of, is_job_accepted, is_empty, is_over}

@@ -16,7 +16,8 @@ use Rattle.task_base.specs.declared.entry.Kind.TheVariants.{Post, Take, End}
 use Rattle.task_traits.specs.declared.traits.Behaviour.{Behaviour}
 use Rattle.task_traits.specs.declared.traits.Behaviour.TheVariants.{ContinueOnShutdown, SkipOnShutdown, BlockShutdown}
 use Rattle.list_laws.specs.Lists.{count}
-use Rattle.task_model.specs.Posts.{Posted, Before, InOrder, post_behind, posted_by, posts, is_taken, takes, is_ended, ends, post_of}
+use Rattle.task_model.specs.Posts.{Posted, post_behind, posted_by, posts, is_taken, takes, is_ended, ends}
+use Rattle.pool_laws.specs.Posts.{Before, InOrder, post_of}
 use Rattle.task_model.specs.Refusal.{effective_at}
 use Rattle.task_model.specs.Blockers.{open_blocks, running_skips, is_block, is_skip, is_open_block, is_running_skip}
 use Rattle.pool_laws.specs.Room.{share}

@@ -11,7 +11,8 @@ use Rattle.task_base.specs.declared.entry.Entry.{Entry}
 use Rattle.task_base.specs.declared.entry.Kind.{Kind}
 use Rattle.task_base.specs.declared.entry.Kind.TheVariants as kinds
 use Rattle.list_laws.proofs.Elements.{AllByRecursion-contains}
-use Rattle.task_model.specs.Posts.{is_ended, is_main_ended}
+use Rattle.task_model.specs.Posts.{is_ended}
+use Rattle.pool_laws.specs.Posts.{is_main_ended}
 use Rattle.task_model.specs.Seats.{Running, running}
 use Rattle.hist_model.specs.Allowed.{may_come}
 use Rattle.hist_model.specs.Legal.{IsLegal}

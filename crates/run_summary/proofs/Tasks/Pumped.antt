@@ -24,7 +24,8 @@ use Rattle.list_laws.proofs.Least.{no_least}
 use Rattle.list_laws.proofs.Made.{contains_filter, contains_filter_map, contains_not_empty}
 use Rattle.list_laws.proofs.Tests.{list_all-from_recursion}
 use Rattle.script_model.specs.Postings.{times}
-use Rattle.task_model.specs.Posts.{Posted, is_delayed, posts, main_posts, is_main_taken, is_main_ended, main_takes}
+use Rattle.task_model.specs.Posts.{Posted, is_delayed, posts, main_posts, is_main_taken, main_takes}
+use Rattle.pool_laws.specs.Posts.{is_main_ended}
 use Rattle.task_model.specs.Orders.{next_draw, order_of}
 use Rattle.task_model.specs.MainQueues.{Front, class_of, voters_of, votes_on, is_enabled, is_in_lane, front_with}
 use Rattle.task_model.specs.MainQueues.{order_below, front_of, is_open, fronts_of, open_fronts}

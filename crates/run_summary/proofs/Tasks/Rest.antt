@@ -31,7 +31,8 @@ use Rattle.task_model.specs.Policies.{is_held}
 use Rattle.task_model.specs.Refusal.{effective_at}
 use Rattle.task_model.specs.Seats.{worker_seats, is_quiet, steps_of}
 use Rattle.task_model.specs.Capacity.{work_at, is_in, is_best_in, load_of, load, capacity, best_load, best_capacity, limit, best_limit, has_room_in, has_room}
-use Rattle.task_model.specs.Sources.{Candidate, sequence_candidate, IsWaiting, waiting, is_takeable, goes_before, best_of}
+use Rattle.task_model.specs.Sources.{Candidate, sequence_candidate, waiting, is_takeable, goes_before, best_of}
+use Rattle.pool_laws.specs.Choice.{IsWaiting}
 use Rattle.pool_laws.proofs.Choice.Candidates.{sequence_in, candidate_would_wait, not_held_is_waiting, waiting_same}
 use Rattle.pool_laws.proofs.Room.Capacity.{free_parts}
 use Rattle.pool_laws.proofs.Seats.Running.{quiet_is_free, is_quiet_same}

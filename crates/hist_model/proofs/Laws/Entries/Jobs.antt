@@ -9,7 +9,8 @@ use Rattle.task_base.specs.declared.entry.Entry.{Entry}
 use Rattle.task_base.specs.declared.entry.Kind.{Kind}
 use Rattle.task_base.specs.declared.entry.Kind.TheVariants as kinds
 use Rattle.script_model.specs.Bound.{events_of_job}
-use Rattle.task_model.specs.Jobs.{claimed, claims, done, items_of, may_enter, MayEnter, has_unclaimed}
+use Rattle.task_model.specs.Jobs.{claimed, claims, done, items_of, may_enter, has_unclaimed}
+use Rattle.pool_laws.specs.Jobs.{MayEnter}
 use Rattle.task_model.specs.Sources.{leaves}
 use Rattle.task_model.proofs.Growth.{claimed_push, done_push}
 use Rattle.hist_model.specs.Allowed.{may_come}

@@ -22,9 +22,9 @@ use Rattle.task_base.specs.declared.script.Lane.{Lane}
 use Rattle.task_base.specs.declared.script.Lane.TheVariants.{Immediate, Delayed}
 use Rattle.task_model.specs.Cells.{main_cell_of}
 use Rattle.task_model.specs.MainQueues.{streak_of, Front, is_of_lane, is_immediate, is_in_lane, front_with, order_below, front_of, fronts_of, is_open}
-use Rattle.task_model.specs.MainQueues.{open_fronts, class_of, chosen_class, chosen_fronts, immediate_fronts, is_starved, chosen_of, choice_among}
+use Rattle.task_model.specs.MainQueues.{open_fronts, class_of, immediate_fronts, is_starved, chosen_of, choice_among}
+use Rattle.queue_laws.specs.Fronts.{chosen_class, chosen_fronts, lane_of}
 use Rattle.task_model.specs.MainQueues.{of_least_class}
-use Rattle.queue_laws.specs.Fronts.{lane_of}
 use Rattle.queue_laws.proofs.Fronts.{front_is_first}
 use Rattle.task_model.proofs.Growth.{draws_push}
 use Rattle.task_model.specs.Orders.{ripens, ripening, draws, next_draw, drawn_at, moment_at, order_of}

@@ -8,7 +8,8 @@ use Rattle.task_base.specs.declared.entry.Entry.{Entry}
 use Rattle.task_base.specs.declared.entry.Kind.{Kind}
 use Rattle.task_base.specs.declared.entry.Kind.TheVariants as kinds
 use Rattle.task_model.specs.Past.{fold_past}
-use Rattle.task_model.specs.Posts.{Posted, post_behind, posts, main_posts, is_taken, is_main_taken, Before, InOrder}
+use Rattle.task_model.specs.Posts.{Posted, post_behind, posts, main_posts, is_taken, is_main_taken}
+use Rattle.pool_laws.specs.Posts.{Before, InOrder}
 use Rattle.list_laws.proofs.Elements.{AllByRecursion-append, AllByRecursion-map, AllByRecursion-both}
 use Rattle.hist_model.specs.Allowed.{IsAllowed}
 use Rattle.hist_model.specs.Legal.{IsLegal}

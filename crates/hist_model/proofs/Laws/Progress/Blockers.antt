@@ -31,7 +31,8 @@ use Rattle.task_model.specs.Keys.{Ready, key_at, key_of, ready}
 use Rattle.task_model.specs.Sequences.{is_of, may_start, eligible, head_of}
 use Rattle.task_model.specs.Seats.{all_seats}
 use Rattle.task_model.specs.Jobs.{is_job_accepted, is_cancelled, is_empty, is_finished_job, is_over}
-use Rattle.task_model.specs.Sources.{Candidate, sequence_candidate, IsWaiting}
+use Rattle.task_model.specs.Sources.{Candidate, sequence_candidate}
+use Rattle.pool_laws.specs.Choice.{IsWaiting}
 use Rattle.task_model.specs.Blockers.{is_block, is_skip, is_open_block, is_running_skip, is_open_job, is_in_skip_job, block_part, skip_part, blockers_of}
 use Rattle.pool_laws.specs.Keys.{ready_below}
 use Rattle.pool_laws.proofs.Choice.Candidates.{not_held_is_waiting}

@@ -22,8 +22,10 @@ use Rattle.task_model.specs.Policies.{is_held}
 use Rattle.task_model.specs.Refusal.{is_job_forbidden}
 use Rattle.task_model.specs.Seats.{holding, inside}
 use Rattle.task_model.specs.Jobs.{JobPosted, job_post_of, is_job_accepted, is_cancelled, claimed, items_of, cap_of}
-use Rattle.task_model.specs.Jobs.{job_sum, concurrency, may_enter, MayEnter, free_id, is_finished_job, reply_of}
-use Rattle.task_model.specs.Sources.{Candidate, job_candidate, job_waiting, IsWaiting, best_of}
+use Rattle.task_model.specs.Jobs.{job_sum, concurrency, may_enter, free_id, is_finished_job, reply_of}
+use Rattle.pool_laws.specs.Jobs.{MayEnter}
+use Rattle.task_model.specs.Sources.{Candidate, job_candidate, job_waiting, best_of}
+use Rattle.pool_laws.specs.Choice.{IsWaiting}
 use Rattle.pool_laws.proofs.Jobs.Numbers.{free_id_is_first}
 use Rattle.pool_laws.proofs.Choice.Candidates.{job_in, candidate_would_wait, not_held_is_waiting}
 use Rattle.hist_model.specs.Views.{own_entries}

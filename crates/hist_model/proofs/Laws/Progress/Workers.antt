@@ -19,7 +19,8 @@ use Rattle.list_laws.proofs.Elements.{slice_get_all}
 use Rattle.script_model.specs.Laws.Sound.{IsSeatThere, IsSound}
 use Rattle.task_model.specs.Cells.{cell_of}
 use Rattle.task_model.specs.Jobs.{claimed}
-use Rattle.task_model.specs.Sources.{Candidate, waiting, IsWaiting, is_takeable, best_of}
+use Rattle.task_model.specs.Sources.{Candidate, waiting, is_takeable, best_of}
+use Rattle.pool_laws.specs.Choice.{IsWaiting}
 use Rattle.pool_laws.proofs.Jobs.Numbers.{free_id_is_first}
 use Rattle.pool_laws.proofs.Choice.Least.{no_best, head_is as is_head}
 use Rattle.hist_model.specs.Script.{is_finished}

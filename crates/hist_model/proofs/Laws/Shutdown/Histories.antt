@@ -16,7 +16,8 @@ use Rattle.task_model.specs.Phase.{phase_of, is_started}
 use Rattle.task_model.specs.Posts.{posts}
 use Rattle.task_model.specs.Refusal.{is_refused, is_closed, is_job_forbidden}
 use Rattle.task_model.specs.Seats.{all_seats}
-use Rattle.task_model.specs.Jobs.{may_enter, MayEnter, has_unclaimed}
+use Rattle.task_model.specs.Jobs.{may_enter, has_unclaimed}
+use Rattle.pool_laws.specs.Jobs.{MayEnter}
 use Rattle.task_model.specs.Sources.{best_of}
 use Rattle.task_model.specs.Blockers.{open_blocks, open_jobs, running_skips, seats_in_skip_jobs, block_part, skip_part}
 use Rattle.task_model.specs.Blockers.{is_open_block, is_running_skip, is_open_job, is_in_skip_job, blockers_of}

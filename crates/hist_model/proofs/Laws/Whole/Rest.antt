@@ -9,7 +9,8 @@ use Rattle.std.proofs.lemmas.Option.{none-some}
 use Rattle.task_base.specs.Plan.{Plan}
 use Rattle.task_base.specs.declared.entry.Entry.{Entry}
 use Rattle.list_laws.specs.Lists.{holds_of}
-use Rattle.task_model.specs.Posts.{is_taken, is_ended, is_main_taken, is_main_ended}
+use Rattle.task_model.specs.Posts.{is_taken, is_ended, is_main_taken}
+use Rattle.pool_laws.specs.Posts.{is_main_ended}
 use Rattle.task_model.specs.Seats.{running, holding, inside, all_seats, is_quiet}
 use Rattle.task_model.specs.Jobs.{claimed, done}
 use Rattle.list_laws.proofs.Filters.{filter_never}

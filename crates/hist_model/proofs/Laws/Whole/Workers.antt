@@ -21,9 +21,9 @@ use Rattle.script_model.specs.Laws.Sound.{IsRunnerPost, IsStepSound, IsActionSou
 use Rattle.task_model.specs.Past.{fold_past}
 use Rattle.task_model.specs.Posts.{Posted, posts, posted_by}
 use Rattle.task_model.specs.Policies.{is_held}
-use Rattle.task_model.specs.Sources.{Candidate, sequence_candidate, IsWaiting}
+use Rattle.task_model.specs.Sources.{Candidate, sequence_candidate}
+use Rattle.pool_laws.specs.Choice.{IsWaiting, WouldWait}
 use Rattle.task_model.proofs.Growth.{posts_push}
-use Rattle.pool_laws.specs.Choice.{WouldWait}
 use Rattle.pool_laws.proofs.Choice.Candidates.{sequence_in, candidate_would_wait, not_held_is_waiting}
 use Rattle.hist_model.specs.Views.{own_entries}
 use Rattle.hist_model.specs.Script.{wants}

@@ -1,6 +1,6 @@
 use Rattle.std.proofs.Common.{◌≡◌, Some, ap, sym, ◌∙◌}
 use Rattle.std.specs.Option.{option_map}
-use Rattle.task_model.specs.Posts.{post_of}
+use Rattle.pool_laws.specs.Posts.{post_of}
 use Rattle.past_lookup.specs.Posts.{posted}
 use Rattle.next_entry.proofs.Bars.{post_is_declared}
 use Rattle.next_entry.proofs.bar.task_bar.Goals as goal

@@ -5,7 +5,8 @@ use Rattle.std.specs.Option.{option_or}
 use Rattle.std.specs.Prelude.{find}
 use Rattle.task_base.specs.declared.entry.Entry.{Entry}
 use Rattle.task_model.specs.Past.{fold_past}
-use Rattle.task_model.specs.Posts.{Posted, post_of, posted_by, posts}
+use Rattle.task_model.specs.Posts.{Posted, posted_by, posts}
+use Rattle.pool_laws.specs.Posts.{post_of}
 use Rattle.task_model.specs.Time.{now_after, now_of}
 use Rattle.task_model.proofs.Growth.{now_of_push, posts_push}
 use Rattle.past_lookup.proofs.posts.post_of.Goals as goal

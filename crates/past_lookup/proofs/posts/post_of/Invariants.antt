@@ -1,6 +1,6 @@
 use Rattle.std.proofs.Common.{◌≡◌, take}
 use Rattle.std.specs.Option.{option_map}
-use Rattle.task_model.specs.Posts.{post_of}
+use Rattle.pool_laws.specs.Posts.{post_of}
 use Rattle.task_model.specs.Time.{now_of}
 use Rattle.past_lookup.specs.Posts.{posted}
 use Rattle.past_lookup.proofs.posts.post_of.Given as goal

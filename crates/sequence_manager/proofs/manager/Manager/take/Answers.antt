@@ -1,5 +1,5 @@
 use Rattle.std.proofs.Common.{arith, refl}
-use Rattle.task_model.specs.Orders.{main_arrivals}
+use Rattle.queue_laws.specs.Orders.{main_arrivals}
 use Rattle.sequence_manager.proofs.Apart.{queue_there}
 use Rattle.sequence_manager.proofs.Takes.{stands_at_take, told_at_take}
 use Rattle.sequence_manager.proofs.Taking.{cell_there, chosen_from, front_there, nothing_chosen, take_is, taken_is, task_out}
