@@ -1,5 +1,5 @@
 -- What a command did, by what it read and what it wrote.
-use Rattle.std.specs.Prelude.{◌≡◌, ◌≢◌, ◌<◌, ℕ, Bool, false, List, All, length, Option, Some, None, IsSome, option_map, Result, Ok, Err}
+use Rattle.std.specs.Prelude.{◌≡◌, ◌≢◌, ◌<◌, ℕ, Bool, false, List, length, Option, Some, None, IsSome, option_map, Result, Ok, Err}
 use Rattle.task_base.specs.Plan.{Plan}
 use Rattle.task_base.specs.declared.limits.TheConstants.{MOST_BYTES}
 use Rattle.task_base.specs.declared.entry.Entry.{Entry}
@@ -9,7 +9,6 @@ use Rattle.env_io.specs.Readings.{no_step, step_readings}
 use Rattle.script_model.specs.Canonical.{canonical}
 use Rattle.script_model.specs.Laws.Sound.{IsSound}
 use Rattle.script_model.specs.Grammar.{Reads, first_fault, script_read}
-use Rattle.log_model.specs.Fits.{Fits}
 use Rattle.log_model.specs.LogText.{log_text}
 use Rattle.hist_model.specs.Legal.{IsLegal}
 use Rattle.hist_model.specs.Script.{IsWhole}
@@ -42,20 +41,19 @@ abbrev pub readings_of : Option ℕ → (ℕ → Option ℕ) → ℕ → Option 
 readings_of None told = told
 readings_of (Some step) told = step_readings (no_step step)
 
--- the bytes are a script, and this holds of what a run writes of one legal, whole history of it, whose numbers fit and whose
--- ticks are the moments of these readings
+-- the bytes are a script, and this holds of what a run writes of one legal, whole history of it, whose ticks are the moments of
+-- these readings
 pub record HasRun (bytes : List ℕ) (json : Bool) (told : ℕ → Option ℕ) (Written : List ℕ → Type 0) : Type 0 where
   pub script : Plan
   pub log : List Entry
   pub reads : Reads bytes script
   pub legal : IsLegal script log
   pub whole : IsWhole script log
-  pub fits : All Fits log
   pub moments : HasMomentsOf told log
   pub written : Written (output_of json log)
 
 -- the bytes are a script and replies to its tasks, and this holds of what is written of one legal, whole history of the script
--- with the replies, whose numbers fit and whose ticks are the moments of these readings
+-- with the replies, whose ticks are the moments of these readings
 pub record HasReplied (bytes : List ℕ) (told : ℕ → Option ℕ) (Written : List ℕ → Type 0) : Type 0 where
   pub script : Plan
   pub elaborated : Plan
@@ -65,7 +63,6 @@ pub record HasReplied (bytes : List ℕ) (told : ℕ → Option ℕ) (Written : 
   pub sound : IsSound elaborated
   pub legal : IsLegal elaborated log
   pub whole : IsWhole elaborated log
-  pub fits : All Fits log
   pub moments : HasMomentsOf told log
   pub written : Written (log_text log)
 

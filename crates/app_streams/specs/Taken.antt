@@ -1,5 +1,5 @@
 -- What was taken from a source, and why it gave no input or no script.
-use Rattle.std.specs.Prelude.{◌≡◌, ◌<◌, ◌≤◌, ℕ, List, [], length, Some, IfSome}
+use Rattle.std.specs.Prelude.{◌≡◌, ◌<◌, ◌≤◌, ◌+◌, ℕ, List, [], length, Some, IfSome}
 use Rattle.task_base.specs.declared.limits.TheConstants.{MOST_BYTES}
 use Rattle.task_base.specs.declared.fault.Fault.{Fault}
 use Rattle.task_base.specs.declared.fault.Fault.TheVariants.{NotLegal, BadWords, BadScript, ReadFault, WriteFault, NoMemory, TooLarge}
@@ -19,9 +19,9 @@ OfBytes source P = (bytes : List ℕ) → source.before ≡ Some bytes → P byt
 abbrev pub IsWithin : List ℕ → Type 0
 IsWithin bytes = length bytes ≤ MOST_BYTES
 
--- more bytes were taken than the limit
+-- more bytes were taken than the limit, and no more than a piece of 4,096 bytes above it
 abbrev pub TookMore : Ends → Type 0
-TookMore source = (taken : List ℕ) × Gives source.before taken source.after × (MOST_BYTES < length taken)
+TookMore source = (taken : List ℕ) × Gives source.before taken source.after × (MOST_BYTES < length taken) × (length taken ≤ MOST_BYTES + 4096)
 
 -- no more bytes were taken than the limit
 abbrev pub TookWithin : Ends → Type 0

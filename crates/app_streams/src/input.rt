@@ -1,4 +1,4 @@
-ghost use Rattle.std.specs.Prelude.{◌≡◌, ◌≢◌, ◌<◌, ◌≤◌, ℕ, List, [], length, IfOk, IfSome, OnOk, Err};
+ghost use Rattle.std.specs.Prelude.{◌≡◌, ◌≢◌, ◌<◌, ◌≤◌, ◌+◌, ℕ, List, [], length, IfOk, IfSome, OnOk, Err};
 ghost use Rattle.env_io.specs.Bytes.{Gives, Rose};
 
 use env_io::Source;
@@ -26,7 +26,7 @@ pub fn read_input<S: Source>(alloc: Global, source: &mut S) -> Result<Vec<u8>, I
     ensures within { IfOk result (λ bytes. length bytes.items ≤ MOST_BYTES) }
     ensures failed { result ≡ Err InputFault.Read → Rose (S.faults source.old) (S.faults source.new) }
     ensures steady { result ≢ Err InputFault.Read → S.faults source.new ≡ S.faults source.old }
-    ensures large { result ≡ Err InputFault.TooLarge → (taken : List ℕ) × Gives (S.left source.old) taken (S.left source.new) × (MOST_BYTES < length taken) }
+    ensures large { result ≡ Err InputFault.TooLarge → (taken : List ℕ) × Gives (S.left source.old) taken (S.left source.new) × (MOST_BYTES < length taken) × (length taken ≤ MOST_BYTES + 4096) }
     ensures few { result ≢ Err InputFault.TooLarge → (taken : List ℕ) × Gives (S.left source.old) taken (S.left source.new) × (length taken ≤ MOST_BYTES) }
     ensures faults { S.faults source.old ≤ S.faults source.new }
 {

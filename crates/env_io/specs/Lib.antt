@@ -4,3 +4,4 @@ pub mod Failing
 pub mod Memory
 pub mod Readings
 pub mod Told
+pub mod Gates

@@ -1,4 +1,7 @@
+ghost use Rattle.std.specs.Prelude.{◌≡◌};
+
 use std::hint;
+use std::marker::Model;
 use std::sync::atomic::{AtomicBool, Ordering};
 
 /// A place that a worker passes between its take of a task and the task's first step, without holding the turn there.
@@ -21,6 +24,9 @@ impl Gate for OpenGate {
 /// at once does it go on in time.
 ///
 /// It looks for the other task a given number of times and then lets the worker pass, so it never holds for ever.
+///
+/// Contracts see the two tasks and the number of looks. Of what it has seen no clause speaks: a plain atomic word tells
+/// contracts nothing.
 #[derive(Drop)]
 pub struct HoldGate {
     held: u32,
@@ -30,9 +36,19 @@ pub struct HoldGate {
     failed: AtomicBool,
 }
 
+impl Model for HoldGate {
+    ghost use Rattle.env_io.specs.Gates.{HoldView};
+
+    ghost Value = { HoldView };
+
+    ghost view = { λ g. record { held = g.held; until = g.until; turns = g.turns } };
+}
+
 impl HoldGate {
     /// Holds task `held` up until task `until` passes, and looks for it at most `turns` times.
-    pub fn new(held: u32, until: u32, turns: u64) -> HoldGate {
+    pub fn new(held: u32, until: u32, turns: u64) -> HoldGate
+        ensures { result ≡ record { held = held; until = until; turns = turns } }
+    {
         HoldGate {
             held,
             until,

@@ -27,7 +27,6 @@ returns-in_err-write-clause-outcome g c =
         sound = c.in_ok-script-2.ensures.sound;
         legal = run.legal;
         whole = run.whole;
-        fits = run.fits;
         moments = run.moments;
         written = holds;
       };

@@ -21,7 +21,6 @@ returns-clause-outcome g c =
         reads = rw c.deref.ensures.value at c.in_ok-script.ensures.read;
         legal = run.legal;
         whole = run.whole;
-        fits = run.fits;
         moments = run.moments;
         written = holds;
       };
