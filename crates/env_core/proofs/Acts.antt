@@ -1,7 +1,8 @@
 -- What is known of a seat whose task does its next act step, and of one whose task has done all of them: the pool may hear of it.
 -- Cited by 5 functions of `Env`.
 use Rattle.env_core.proofs.Driver.{driver_ends, task_waits}
-use Rattle.env_core.proofs.Plans.{act_is, next_is_of, runs_as}
+use Rattle.env_core.proofs.Plans.{act_is, runs_as}
+use Rattle.hist_model.proofs.Laws.Wants.{next_is_of}
 use Rattle.env_core.proofs.Queues.{accepted_right, is_scope, no_scope_steps}
 use Rattle.env_core.proofs.Scopes.{closed_at_block, closed_at_end, open_at_unblock}
 use Rattle.env_core.proofs.Wanted.{act_allowed, main_end_allowed}

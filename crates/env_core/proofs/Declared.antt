@@ -1,8 +1,9 @@
 -- What the script wants next names what is declared, a post of it is new, and the phase is right where shutdown is started or done.
 -- Cited by `Env::rank`, `Env::start_shutdown`, `Env::try_done`, `Env::vote`, `Entries`, `next_entry`.
 use Rattle.hist_model.proofs.Laws.BySound.{current_is_one}
-use Rattle.env_core.proofs.Plans.{act_is, entered_by, enters_main, enters_post}
-use Rattle.env_core.proofs.Plans.{steps_are, wants_main, wants_post}
+use Rattle.env_core.proofs.Plans.{act_is}
+use Rattle.hist_model.proofs.Laws.Wants.{entered_by, enters_main, enters_post, wants_main, wants_post}
+use Rattle.env_core.proofs.Plans.{steps_are}
 use Rattle.env_core.proofs.Queues.{action_posts, step_posts}
 use Rattle.env_core.proofs.Shutdown.{at_done, at_start}
 use Rattle.env_core.specs.Calls.{IsWantedNext}

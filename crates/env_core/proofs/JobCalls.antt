@@ -2,7 +2,7 @@
 -- Cited by 6 functions of `Env`.
 use Rattle.env_core.proofs.Driver.{driver_goes_in, holder_waits}
 use Rattle.env_core.proofs.JobEntries.{IsOpenJob, holds_item, job_declared, job_step_allowed, job_take_allowed, named_job}
-use Rattle.env_core.proofs.Plans.{driver_holds_nothing}
+use Rattle.hist_model.proofs.Laws.Wants.{driver_holds_nothing}
 use Rattle.env_core.proofs.Starts.{job_is_new}
 use Rattle.env_core.proofs.Wanted.{wanted_by_script}
 use Rattle.env_core.specs.Calls.{IsWantedNext}

@@ -2,7 +2,8 @@
 -- Cited by `Acts`.
 use Rattle.script_model.specs.Laws.Sound.{IsSound}
 use Rattle.env_core.specs.Scopes.{is_open_after}
-use Rattle.env_core.proofs.Plans.{EntersStep, entered_by, next_is_of, runs_as}
+use Rattle.env_core.proofs.Plans.{runs_as}
+use Rattle.hist_model.proofs.Laws.Wants.{EntersStep, entered_by, next_is_of}
 use Rattle.hist_model.specs.Allowed.{IsAllowed, by_script, by_task, enters, is_reply, may_come, same_scope}
 use Rattle.hist_model.specs.Legal.{IsLegal}
 use Rattle.hist_model.proofs.Laws.AtPlaces.{take_at}

@@ -1,6 +1,6 @@
 -- How far shutdown has come, by the driver's place in a script, which starts shutdown at most once.
 -- Cited by `Declared`.
-use Rattle.env_core.proofs.Plans.{entered_by}
+use Rattle.hist_model.proofs.Laws.Wants.{entered_by}
 use Rattle.script_model.specs.Laws.Sound.{IsSound}
 use Rattle.hist_model.proofs.Laws.Agenda.{agenda_push, current_is_first}
 use Rattle.hist_model.proofs.Laws.Choice.{Found}

@@ -3,7 +3,7 @@
 use Rattle.env_core.proofs.Bodies.{accepted_in_drawer, body_there, main_accepted_in_drawer}
 use Rattle.env_core.proofs.Driver.{driver_passes, driver_takes}
 use Rattle.env_core.proofs.Own.{pass_is_own}
-use Rattle.env_core.proofs.Plans.{driver_runs_nothing}
+use Rattle.hist_model.proofs.Laws.Wants.{driver_runs_nothing}
 use Rattle.env_core.proofs.Queues.{accepted_right}
 use Rattle.env_core.proofs.Wanted.{main_none_allowed, main_take_allowed, wanted_by_script, wants_take}
 use Rattle.env_core.specs.Calls.{IsFreeWorker, IsWantedNext}

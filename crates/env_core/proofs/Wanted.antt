@@ -1,7 +1,7 @@
 -- An entry that the script wants next, or that is the next act step of a task, may come where its machine's rule holds.
 -- Cited by 8 functions of `Env`, `Acts`, `Declared`, `Entries`, `JobCalls`, `JobEntries`, `Taking`, `log_replay`.
 use Rattle.hist_model.proofs.Laws.Progress.Pump.{none_open}
-use Rattle.env_core.proofs.Plans.{by_next, driver_holds_nothing, driver_runs_nothing}
+use Rattle.hist_model.proofs.Laws.Wants.{by_next, driver_holds_nothing, driver_runs_nothing}
 use Rattle.env_core.proofs.Plans.{free_where_none_runs, runs_as}
 use Rattle.env_core.specs.Calls.{CanEnd, CanEndMain, IsFreeWorker, IsIdle, IsNextAct, IsWantedNext, act_of, entry_of, lets_in}
 use Rattle.env_core.specs.Views.{EnvView}

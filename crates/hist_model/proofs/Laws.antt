@@ -29,6 +29,7 @@ pub mod State
 pub mod Fitting
 pub mod Order
 pub mod Progress
+pub mod Wants
 pub mod Ways
 pub mod Told
 pub mod Due

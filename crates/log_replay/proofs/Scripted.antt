@@ -13,7 +13,7 @@ use Rattle.task_model.specs.Time.{now_of}
 use Rattle.hist_model.specs.Allowed.{by_script}
 use Rattle.hist_model.specs.Moments.{moment_behind}
 use Rattle.env_core.specs.Views.{EnvView, Enters}
-use Rattle.env_core.proofs.Plans.{driver_holds_nothing, driver_runs_nothing}
+use Rattle.hist_model.proofs.Laws.Wants.{driver_holds_nothing, driver_runs_nothing}
 use Rattle.seat_hand.specs.Hands.{AreInHand, IsInHand, is_empty}
 use Rattle.seat_hand.specs.declared.hand.Hand.{Hand}
 use Rattle.seat_hand.specs.declared.hand.Hand.TheVariants.{Free, Task, Item}

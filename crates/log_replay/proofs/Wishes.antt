@@ -22,7 +22,7 @@ use Rattle.hist_model.proofs.Laws.Own.{holding_own, running_own}
 use Rattle.env_core.specs.Agenda.{counted}
 use Rattle.env_core.specs.Calls.{IsWantedNext}
 use Rattle.env_core.specs.Views.{EnvView}
-use Rattle.env_core.proofs.Plans.{driver_holds_nothing, driver_runs_nothing}
+use Rattle.hist_model.proofs.Laws.Wants.{driver_holds_nothing, driver_runs_nothing}
 
 -- What is wanted.
 

@@ -1,8 +1,8 @@
 -- Each seat has at most one way on.
 -- Cited by `Laws/Told`, `ways.rt`.
-use Rattle.std.proofs.Common.{◌≡◌, ℕ, ◌≤◌, ◌<◌, Bool, true, false, cond, eqb, List, [], ◌∷◌, length, refl, sym, ap, subst, ◌∙◌, Option, Some, None, ⊎_elim, arith}
-use Rattle.std.specs.Prelude.{◌&&◌, ◌||◌, not, nat_lt, is_none, filter, slice_get}
-use Rattle.std.proofs.lemmas.Bool.{and_parts, eqb-true, or_cases, not-true, ne_eqb, true≢false, ltb-true, false_from_ne_true}
+use Rattle.std.proofs.Common.{◌≡◌, ℕ, ◌≤◌, ◌<◌, Bool, true, false, cond, eqb, List, [], ◌∷◌, length, refl, sym, ap, ◌∙◌, Option, Some, None, ⊎_elim, arith}
+use Rattle.std.specs.Prelude.{◌&&◌, ◌||◌, not, nat_lt, is_none, filter}
+use Rattle.std.proofs.lemmas.Bool.{and_parts, eqb-true, or_cases, not-true, ne_eqb, ltb-true, false_from_ne_true}
 use Rattle.std.proofs.lemmas.Option.{none-some, same_Some, slice_get_past}
 use Rattle.task_base.specs.Plan.{Plan}
 use Rattle.task_base.specs.Groups.{importance}
@@ -29,23 +29,23 @@ use Rattle.list_laws.specs.Lists.{holds_of, least}
 use Rattle.task_model.specs.Refusal.{is_refused, is_job_forbidden, is_closed}
 use Rattle.task_model.specs.Sequences.{head_of}
 use Rattle.task_model.specs.Keys.{Ready}
-use Rattle.task_model.specs.Seats.{Running, running, Holding, holding, next_act, steps_of, acts_done, inside}
+use Rattle.task_model.specs.Seats.{Running, running, Holding, holding, steps_of, acts_done, inside}
 use Rattle.task_model.specs.Cells.{cell_of, main_cell_of}
 use Rattle.task_model.specs.Jobs.{JobPosted, job_post_of, claimed, done, may_enter, free_id, reply_of, is_cancelled, is_job_accepted, has_unclaimed, concurrency, items_of, is_empty}
 use Rattle.task_model.specs.Sources.{Candidate, best_of}
 use Rattle.task_model.specs.MainQueues.{Front, choice_among, chosen_of, immediate_of_least_class, is_starved, of_least_class, open_fronts, order_below, streak_of}
 use Rattle.hist_model.specs.Views.{own_entries}
-use Rattle.hist_model.specs.Script.{Current, current, wants, same_policy, same_fence}
+use Rattle.hist_model.specs.Script.{wants, same_policy, same_fence}
 use Rattle.hist_model.specs.Allowed.{by_script, by_task, enters, has_done, is_front, is_head_of, is_job, is_ready_worker, is_reply, may_come, same_scope}
 use Rattle.hist_model.specs.Legal.{IsLegal}
-use Rattle.hist_model.specs.Laws.Consistent.{is_pump, is_join}
+use Rattle.hist_model.specs.Laws.Consistent.{is_pump}
 use Rattle.hist_model.specs.Laws.Progress.{end_of, step_of}
 use Rattle.hist_model.specs.Laws.Ways.{but_moment, way_into, way_to_take, way_to_front, way_of_action, way_of_step, way_of_task, way_of_free, way_on}
-use Rattle.hist_model.proofs.Laws.Choice.{Found, found}
+use Rattle.hist_model.proofs.Laws.Choice.{found}
 use Rattle.hist_model.proofs.Laws.Claims.{claimed_is}
 use Rattle.hist_model.proofs.Laws.JobEntries.{entering_is, job_step_is, join_is}
 use Rattle.hist_model.proofs.Laws.OneThing.{legal_does_one_thing, wanted_by}
-use Rattle.hist_model.proofs.Laws.Own.{holding_own, running_own}
+use Rattle.hist_model.proofs.Laws.Wants.{driver_holds_nothing, driver_runs_nothing, entered_by, enters_main, enters_post, wants_main, wants_post}
 use Rattle.hist_model.proofs.Laws.Takes.{IsReadyWorker, by_driver, job_take_is, ready_worker}
 
 -- ---- what is the same by a test
@@ -102,53 +102,7 @@ way_at_nothing script past seat runs holds = rw (runs, holds) refl
 
 -- ---- by the script
 
--- what a pump wants, it wants while the driver runs nothing
-pump_wants : (own : List Entry) (action : Action) (made : List Entry) (kind : Kind) → is_pump action ≡ true → wants own action made kind ≡ true
-    → is_none (running own 0) ≡ true
-pump_wants own (actions.Pump n) made (kinds.MainTake task queue value) pump h = h
-pump_wants own (actions.Pump n) made kinds.MainNone pump h = h
-pump_wants own (actions.Pump n) made kind pump h = absurd cc
-pump_wants own action made kind pump h = absurd cc
-
--- what a join wants, it wants while the driver holds nothing
-join_wants : (own : List Entry) (action : Action) (made : List Entry) (kind : Kind) → is_join action ≡ true → wants own action made kind ≡ true
-    → is_none (holding own 0) ≡ true
-join_wants own (actions.Join j) made (kinds.JobTake job id item) join h = (and_parts (eqb job j) (is_none (holding own 0)) h).1
-join_wants own (actions.Join j) made (kinds.Joined job reply) join h = (and_parts (eqb job j) (is_none (holding own 0)) h).1
-join_wants own (actions.Join j) made kind join h = absurd cc
-join_wants own action made kind join h = absurd cc
-
 module _ (script : Plan) (past : List Entry) (legal : IsLegal script past) where
-  -- where the script wants an entry of the driver, the driver runs nothing
-  runs_nothing : (seat : ℕ) (kind : Kind) → by_script script past seat kind ≡ true → running past 0 ≡ None
-  runs_nothing seat kind wanted = at (running past 0) refl
-    where
-      c : Found Current (λ c. wants (own_entries 0 past) c.action c.made kind) (current script (own_entries 0 past))
-      c = wanted_by script past seat kind wanted
-
-      at : (o : Option Running) → running past 0 ≡ o → o ≡ None
-      at None is = refl
-      at (Some w) is =
-          let (d, now, pump) = (legal_does_one_thing script past legal).pumps w is in
-          let same : d ≡ c.value = same_Some d c.value (sym now ∙ c.is) in
-          absurd (true≢false (sym (pump_wants (own_entries 0 past) c.value.action c.value.made kind (subst (λ (x : Current). is_pump x.action ≡ true) same pump) c.passes)
-          ∙ ap is_none (running_own past 0 ∙ is)))
-
-  -- nor does it hold anything
-  holds_nothing : (seat : ℕ) (kind : Kind) → by_script script past seat kind ≡ true → holding past 0 ≡ None
-  holds_nothing seat kind wanted = at (holding past 0) refl
-    where
-      c : Found Current (λ c. wants (own_entries 0 past) c.action c.made kind) (current script (own_entries 0 past))
-      c = wanted_by script past seat kind wanted
-
-      at : (o : Option Holding) → holding past 0 ≡ o → o ≡ None
-      at None is = refl
-      at (Some h) is =
-          let (d, now, join) = (legal_does_one_thing script past legal).joins h is in
-          let same : d ≡ c.value = same_Some d c.value (sym now ∙ c.is) in
-          absurd (true≢false (sym (join_wants (own_entries 0 past) c.value.action c.value.made kind (subst (λ (x : Current). is_join x.action ≡ true) same join) c.passes)
-          ∙ ap is_none (holding_own past 0 ∙ is)))
-
   -- what the script wants is the way of the action that the driver is at
   scripted : (seat : ℕ) (kind way : Kind) → by_script script past seat kind ≡ true
       → ((action : Action) (made : List Entry) → wants (own_entries 0 past) action made kind ≡ true → way_of_action script past action made ≡ Some way)
@@ -156,7 +110,7 @@ module _ (script : Plan) (past : List Entry) (legal : IsLegal script past) where
   scripted seat kind way by told =
       let driver = by_driver script past seat kind by in
       let c = wanted_by script past seat kind by in
-      ap (way_on script past) driver ∙ way_at_nothing script past 0 (runs_nothing seat kind by) (holds_nothing seat kind by)
+      ap (way_on script past) driver ∙ way_at_nothing script past 0 (driver_runs_nothing script past seat kind legal by) (driver_holds_nothing script past seat kind legal by)
       ∙ rw c.is (told c.value.action c.value.made c.passes)
 
   -- ---- by a task
@@ -164,18 +118,9 @@ module _ (script : Plan) (past : List Entry) (legal : IsLegal script past) where
   -- what a task enters is the way of its next act step
   tasked : (seat : ℕ) (kind way : Kind) → by_task script past seat kind ≡ true
       → ((t : ℕ) (step : Step) → enters t step kind ≡ true → way_of_step script past t step ≡ Some way) → way_on script past seat ≡ Some way
-  unfolding by_task
   tasked seat kind way by told =
-      let w = found (λ (w : Running). holds_of (λ step. enters w.task step kind) (next_act script past seat)) (running past seat) by in
-      let s = found (λ step. enters w.value.task step kind) (next_act script past seat) w.passes in
-      way_at_task script past seat w.value w.is ∙ rw (next w.value s.value w.is s.is) (told w.value.task s.value s.passes)
-    where
-      next : (w : Running) (step : Step) → running past seat ≡ Some w → next_act script past seat ≡ Some step
-          → slice_get (filter is_act (steps_of script w.task)) (acts_done past seat) ≡ Some step
-      next w step runs is = sym here ∙ is
-        where
-          here : next_act script past seat ≡ slice_get (filter is_act (steps_of script w.task)) (acts_done past seat)
-          here = rw runs refl
+      let step = entered_by script past seat kind by in
+      way_at_task script past seat step.now step.runs ∙ rw step.is_next (told step.now.task step.step step.enters)
 
   -- the way of a task whose act steps are all entered is its end
   ended : (seat left : ℕ) (w : Running) → running past seat ≡ Some w → has_done script past seat left w ≡ true
@@ -192,37 +137,25 @@ module _ (script : Plan) (past : List Entry) (legal : IsLegal script past) where
 
   post_step : (task runner delay : ℕ) (ok : Bool) → is_reply (is_refused script past runner delay) ok ≡ true → (t : ℕ) (step : Step)
       → enters t step (kinds.Post task runner delay ok) ≡ true → way_of_step script past t step ≡ Some (kinds.Post task runner delay ok)
-  post_step task runner delay ok reply t (steps.Post u r d) h =
-      let outer = and_parts (eqb task u && eqb runner r) (eqb delay d) h in
-      let inner = and_parts (eqb task u) (eqb runner r) outer.0 in
-      rw (only_reply (is_refused script past runner delay) ok reply, eqb-true task u inner.0, eqb-true runner r inner.1, eqb-true delay d outer.1) refl
-  post_step task runner delay ok reply t step h = absurd cc
+  post_step task runner delay ok reply t step h =
+      rw (enters_post t step task runner delay ok h, only_reply (is_refused script past runner delay) ok reply) refl
 
   post_action : (task runner delay : ℕ) (ok : Bool) → is_reply (is_refused script past runner delay) ok ≡ true → (own : List Entry) (action : Action)
       (made : List Entry) → wants own action made (kinds.Post task runner delay ok) ≡ true
       → way_of_action script past action made ≡ Some (kinds.Post task runner delay ok)
-  post_action task runner delay ok reply own (actions.Post t r d) made h =
-      let outer = and_parts (eqb task t && eqb runner r) (eqb delay d) h in
-      let inner = and_parts (eqb task t) (eqb runner r) outer.0 in
-      rw (only_reply (is_refused script past runner delay) ok reply, eqb-true task t inner.0, eqb-true runner r inner.1, eqb-true delay d outer.1) refl
-  post_action task runner delay ok reply own action made h = absurd cc
+  post_action task runner delay ok reply own action made h =
+      rw (wants_post own action made task runner delay ok h, only_reply (is_refused script past runner delay) ok reply) refl
 
   main_step : (task queue delay : ℕ) (ok : Bool) → is_reply (is_closed past queue) ok ≡ true → (t : ℕ) (step : Step)
       → enters t step (kinds.Main task queue delay ok) ≡ true → way_of_step script past t step ≡ Some (kinds.Main task queue delay ok)
-  main_step task queue delay ok reply t (steps.Main u q d) h =
-      let outer = and_parts (eqb task u && eqb queue q) (eqb delay d) h in
-      let inner = and_parts (eqb task u) (eqb queue q) outer.0 in
-      rw (only_reply (is_closed past queue) ok reply, eqb-true task u inner.0, eqb-true queue q inner.1, eqb-true delay d outer.1) refl
-  main_step task queue delay ok reply t step h = absurd cc
+  main_step task queue delay ok reply t step h =
+      rw (enters_main t step task queue delay ok h, only_reply (is_closed past queue) ok reply) refl
 
   main_action : (task queue delay : ℕ) (ok : Bool) → is_reply (is_closed past queue) ok ≡ true → (own : List Entry) (action : Action)
       (made : List Entry) → wants own action made (kinds.Main task queue delay ok) ≡ true
       → way_of_action script past action made ≡ Some (kinds.Main task queue delay ok)
-  main_action task queue delay ok reply own (actions.Main t q d) made h =
-      let outer = and_parts (eqb task t && eqb queue q) (eqb delay d) h in
-      let inner = and_parts (eqb task t) (eqb queue q) outer.0 in
-      rw (only_reply (is_closed past queue) ok reply, eqb-true task t inner.0, eqb-true queue q inner.1, eqb-true delay d outer.1) refl
-  main_action task queue delay ok reply own action made h = absurd cc
+  main_action task queue delay ok reply own action made h =
+      rw (wants_main own action made task queue delay ok h, only_reply (is_closed past queue) ok reply) refl
 
   -- ---- scopes
 
