@@ -13,7 +13,7 @@ use Rattle.list_laws.proofs.Finds.{contained_counts}
 use Rattle.list_laws.proofs.Places.{count-push, none_from_count}
 use Rattle.list_laws.proofs.Values.{eqb-same, some-injective}
 use Rattle.list_laws.specs.Lists.{count}
-use Rattle.script_model.specs.Postings.{IsPostedOnce, times}
+use Rattle.script_model.specs.Laws.Postings.{IsPostedOnce, times}
 use Rattle.std.proofs.Common.{Bool, List, None, Option, Some, [], ap, arith, cond, eqb, false, length, map, refl, suc, sym, true, zero, ℕ, ◌++◌, ◌+◌}
 use Rattle.std.proofs.Common.{◌<◌, ◌∙◌, ◌∷◌, ◌≡◌, ◌≤◌}
 use Rattle.std.proofs.Math.Bool.{or-false}

@@ -1,5 +1,5 @@
 -- What a script gives in a legal history: what its actions and steps are, and who runs and holds what.
--- Cited by `Acts`, `Declared`, `JobCalls`, `Scopes`, `Shutdown`, `Taking`, `Wanted`, `log_replay`, `seat_hand`.
+-- Cited by `Acts`, `Declared`, `Scopes`, `Wanted`, `log_replay`, `seat_hand`.
 use Rattle.hist_model.proofs.Laws.Choice.{Found, found}
 use Rattle.hist_model.proofs.Laws.Consistent.{legal_is_consistent}
 use Rattle.hist_model.proofs.Laws.OneThing.{legal_does_one_thing, wanted_by}

@@ -4,7 +4,7 @@ ghost use Rattle.task_base.specs.declared.entry.Entry.{Entry};
 ghost use Rattle.hist_model.specs.Allowed.{IsAllowed};
 ghost use Rattle.hist_model.specs.Legal.{IsLegal};
 ghost use Rattle.hist_model.specs.Laws.Postings.{AreAcceptedOnce, IsNew, kind_posts, posted_in};
-ghost use Rattle.script_model.specs.Postings.{IsPostedOnce, is_posted_once, times};
+ghost use Rattle.script_model.specs.Laws.Postings.{IsPostedOnce, is_posted_once, times};
 
 /// In each legal history of a script in which no two postings name one task, each task is posted at most once, accepted
 /// or refused. So the accepted tasks differ, none is on the pool and on a main queue, and a task that is posted was

@@ -12,7 +12,7 @@ use Rattle.task_base.specs.declared.step.Step.{Step}
 use Rattle.task_base.specs.declared.step.Step.TheVariants.{Add, Mul, Set, Post, Main, Block, Unblock}
 use Rattle.task_base.specs.declared.script.Action.{Action}
 use Rattle.task_base.specs.declared.script.Action.TheVariants as actions
-use Rattle.script_model.specs.Postings.{posts_of_step, posts_of_action}
+use Rattle.script_model.specs.Laws.Postings.{posts_of_step, posts_of_action}
 use Rattle.script_model.specs.Draft.{Draft, script_of, posted_in, is_any_posted}
 use Rattle.script_lint.specs.Earlier.{action_posts, step_posts}
 use Rattle.script_lint.specs.Posting.{is_posted, task_again, posted_again}

@@ -18,7 +18,7 @@ use Rattle.task_base.specs.declared.limits.TheConstants.{MOST_RUNNERS, MOST_QUEU
 use Rattle.script_model.specs.Reasons.{◌>>◌, refuse, out_of_order, undeclared, posted_twice, declaration_late, bad_block, job_use}
 use Rattle.script_model.specs.Reasons.{shutdown_twice, config_twice, too_many}
 use Rattle.script_model.specs.Bound.{events_of_task, events_of_job, events_of_action}
-use Rattle.script_model.specs.Postings.{posts_of_step}
+use Rattle.script_model.specs.Laws.Postings.{posts_of_step}
 use Rattle.script_model.specs.Draft.{Draft, script_of, has_no_actions, is_bare, is_above_workers, is_declared, has_runner, has_queue}
 use Rattle.script_model.specs.Draft.{has_voter, has_job, posted_in, is_any_posted, has_bad_scopes, is_bad_post, is_started, has_shutdown}
 use Rattle.script_model.specs.Draft.{ticks_of, items_in, steps_in, ticks_in, events_in}

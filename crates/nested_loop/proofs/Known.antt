@@ -11,7 +11,7 @@ use Rattle.std.proofs.lemmas.List.Sums.{sum_by-cons, sum_by_push}
 use Rattle.list_laws.specs.Lists.{count}
 use Rattle.list_laws.proofs.Counts.{count-append, count_step}
 use Rattle.list_laws.proofs.Elements.{AllByRecursion-append, push_induction, slice_get_all}
-use Rattle.script_model.specs.Postings.{times}
+use Rattle.script_model.specs.Laws.Postings.{times}
 use Rattle.nested_loop.specs.Plan.{NestPlan, NestTaskPlan}
 use Rattle.nested_loop.specs.Nest.{IsNestPast, Nesting, NestPosted, is_started, nesting_of, next_event, posted_by, posted_tasks, steps_of, was_deferred}
 use Rattle.nested_loop.specs.NestLaws.{was_posted}

@@ -14,7 +14,7 @@ use Rattle.script_model.specs.Words.{lines_of}
 use Rattle.script_model.specs.Reasons.{◌>>=◌}
 use Rattle.script_model.specs.Grammar.{at_line}
 use Rattle.script_model.specs.Draft.{is_any_posted}
-use Rattle.script_model.specs.Postings.{times}
+use Rattle.script_model.specs.Laws.Postings.{times}
 use Rattle.script_model.proofs.Laws.Faults.{ok_same}
 use Rattle.script_model.proofs.Laws.Parts.{behind_ok, nothing}
 use Rattle.script_model.proofs.Laws.Postings.{times_fresh, times_push}

@@ -3,7 +3,7 @@
 use Rattle.std.specs.Prelude.{◌≡◌, ℕ, ◌-◌, ◌^◌, ◌<◌, ◌≤◌, List, [], ◌∷◌, ◌++◌, flat_map, length, slice_get, Some, sum_by}
 use Rattle.std.specs.List.{AllByRecursion}
 use Rattle.task_base.specs.declared.limits.TheConstants.{MOST_QUEUES}
-use Rattle.script_model.specs.Postings.{times}
+use Rattle.script_model.specs.Laws.Postings.{times}
 use Rattle.nested_loop.specs.Plan.{NestPlan, NestTaskPlan}
 use Rattle.nested_loop.specs.declared.limits.TheConstants.{MOST_NEST_TASKS, MOST_NEST_STEPS, MOST_NEST_ACTIONS, MOST_LOOP_TASKS}
 use Rattle.nested_loop.specs.declared.nest.NestStep.{NestStep}

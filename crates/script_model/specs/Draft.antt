@@ -11,7 +11,7 @@ use Rattle.task_base.specs.declared.script.MainQueue.{MainQueue}
 use Rattle.task_base.specs.declared.script.Action.{Action}
 use Rattle.task_base.specs.declared.script.Action.TheVariants.{Tick, StartJob, Shutdown}
 use Rattle.script_model.specs.Bound.{events_bound_of}
-use Rattle.script_model.specs.Postings.{posts_of_step, posts_of_action}
+use Rattle.script_model.specs.Laws.Postings.{posts_of_step, posts_of_action}
 
 -- how many tasks run at once: of the foreground, of best effort in the foreground, and of the background
 pub record Groups : Type 0 where

@@ -1,3 +1,4 @@
+pub mod Postings
 -- Words of the laws on scripts.
 pub mod Fault
 pub mod Sound

@@ -2,7 +2,6 @@ pub mod Words
 pub mod Reasons
 pub mod Places
 pub mod Bound
-pub mod Postings
 pub mod Draft
 pub mod Lines
 pub mod Grammar

@@ -13,11 +13,12 @@ use Rattle.task_model.specs.Phase.{phase_of}
 use Rattle.task_model.specs.Posts.{Posted}
 
 -- the behaviour in effect of a task that is posted to a runner with a delay: the runner's, but a delayed block
--- task is a skip task (`task_traits.h`; the rule on delays is this project's own)
+-- task is a skip task (`task_traits.h`)
 abbrev pub effective_at : Plan → ℕ → ℕ → Behaviour
 effective_at script runner delay = effective_of (option_map_or (λ r. r.traits.behaviour) (slice_get script.runners runner) ContinueOnShutdown) (nat_lt 0 delay)
 
--- a pool post is refused exactly where the phase forbids the task's effective behaviour (`task_traits.h`)
+-- a pool post is refused exactly where the phase forbids the task's effective behaviour (`task_traits.h` has the notion, and
+-- refuses more in some versions; the rule is this project's own)
 abbrev pub is_refused : Plan → List Entry → ℕ → ℕ → Bool
 is_refused script past runner delay = forbids (phase_of past) (effective_at script runner delay)
 

@@ -16,7 +16,7 @@ use Rattle.task_base.specs.declared.step.Step.TheVariants as steps
 use Rattle.list_laws.proofs.Counts.{count-append}
 use Rattle.script_model.specs.Bound.{events_of_task, events_bound_of, steps_of_plan}
 use Rattle.script_model.specs.Draft.{is_block, opens_scope, has_bad_scopes}
-use Rattle.script_model.specs.Postings.{posts_of_step, postings, times}
+use Rattle.script_model.specs.Laws.Postings.{posts_of_step, postings, times}
 use Rattle.script_model.proofs.Laws.Postings.{posted_parts, posts_of_task}
 use Rattle.task_reply.specs.declared.reply.Home.{Home}
 use Rattle.task_reply.specs.declared.reply.Home.TheVariants.{Runner, Queue}

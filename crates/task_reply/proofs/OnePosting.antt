@@ -17,7 +17,7 @@ use Rattle.task_base.specs.declared.step.Step.{Step}
 use Rattle.task_base.specs.declared.step.Step.TheVariants as steps
 use Rattle.list_laws.proofs.Counts.{count-append}
 use Rattle.list_laws.proofs.Elements.{AllByRecursion-contains, AllByRecursion-from_index}
-use Rattle.script_model.specs.Postings.{IsPostedOnce, posts_of_action, posts_of_step, times}
+use Rattle.script_model.specs.Laws.Postings.{IsPostedOnce, posts_of_action, posts_of_step, times}
 use Rattle.script_model.proofs.Laws.Postings.{posted_parts, posts_of_task}
 use Rattle.task_model.specs.Seats.{steps_of}
 use Rattle.task_reply.specs.declared.reply.Reply.{Reply}

@@ -12,7 +12,7 @@ use Rattle.list_laws.proofs.Counts.{count-append}
 use Rattle.list_laws.proofs.Places.{count_none}
 use Rattle.script_model.specs.Bound.{events_bound_of, steps_of_plan}
 use Rattle.script_model.specs.Draft.{opens_scope}
-use Rattle.script_model.specs.Postings.{postings}
+use Rattle.script_model.specs.Laws.Postings.{postings}
 use Rattle.task_reply.specs.declared.held.Held.{Held}
 use Rattle.task_reply.specs.declared.reply.Reply.{Reply}
 use Rattle.task_reply.specs.Replies.{reply_undeclared, reply_posted_twice, reply_bad_block, reply_too_many, has_home, is_bad_block, is_declared_reply}

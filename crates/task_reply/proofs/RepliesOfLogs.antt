@@ -16,7 +16,7 @@ use Rattle.task_base.specs.declared.entry.Kind.{Kind}
 use Rattle.task_base.specs.declared.entry.Kind.TheVariants as kinds
 use Rattle.list_laws.proofs.Elements.{push_induction}
 use Rattle.task_base.specs.Entries.{is_acting}
-use Rattle.script_model.specs.Postings.{posts_of_action, posts_of_step, times}
+use Rattle.script_model.specs.Laws.Postings.{posts_of_action, posts_of_step, times}
 use Rattle.script_model.specs.Laws.Sound.{IsSound}
 use Rattle.task_model.specs.Posts.{takes, main_takes, ends}
 use Rattle.pool_laws.specs.Posts.{main_ends}

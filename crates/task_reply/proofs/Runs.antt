@@ -17,7 +17,7 @@ use Rattle.task_base.specs.declared.entry.Kind.TheVariants as kinds
 use Rattle.list_laws.specs.Lists.{holds_of}
 use Rattle.list_laws.proofs.Places.{slice_get-more, slice_get_seam}
 use Rattle.task_base.specs.Entries.{is_acting}
-use Rattle.script_model.specs.Postings.{IsPostedOnce, times}
+use Rattle.script_model.specs.Laws.Postings.{IsPostedOnce, times}
 use Rattle.task_model.specs.Seats.{Running, running, running_after, acts_done, acts_after, steps_of, next_act}
 use Rattle.task_model.proofs.Growth.{running_push, acts_done_push}
 use Rattle.pool_laws.specs.Seats.{moves_running}

@@ -12,7 +12,7 @@ use Rattle.task_base.specs.Plan.{Plan}
 use Rattle.task_base.specs.declared.step.Step.{Step}
 use Rattle.list_laws.proofs.Counts.{count-append}
 use Rattle.list_laws.proofs.Places.{AllByRecursion-push, slice_get-set_same, slice_get-set_other}
-use Rattle.script_model.specs.Postings.{postings}
+use Rattle.script_model.specs.Laws.Postings.{postings}
 use Rattle.script_lines.specs.declared.fault.LineFault.{LineFault}
 use Rattle.script_lines.specs.declared.fault.LineFault.TheVariants.{Bad, Memory}
 use Rattle.task_reply.specs.declared.held.Held.{Held}

@@ -17,7 +17,7 @@ use Rattle.list_laws.proofs.Elements.{AllByRecursion-map}
 use Rattle.list_laws.proofs.Places.{AllByRecursion-push, slice_get-set_same, slice_get-set_other}
 use Rattle.script_model.specs.Bound.{events_bound_of, steps_of_plan}
 use Rattle.script_model.specs.Draft.{may_block_on, opens_scope}
-use Rattle.script_model.specs.Postings.{postings, times}
+use Rattle.script_model.specs.Laws.Postings.{postings, times}
 use Rattle.script_model.specs.Laws.Sound.{IsSound, IsActionSound, IsRunnerPost, IsQueuePost, IsStepSound, IsStepWithin, IsTaskSound}
 use Rattle.task_reply.specs.declared.reply.Home.{Home}
 use Rattle.task_reply.specs.declared.reply.Home.TheVariants.{Runner, Queue}

@@ -11,7 +11,7 @@ use Rattle.task_base.specs.declared.script.RunnerKind.TheVariants.{Parallel, Seq
 use Rattle.task_base.specs.declared.step.Scope.TheVariants.{May}
 use Rattle.task_base.specs.declared.step.Step.{Step}
 use Rattle.task_base.specs.declared.step.Step.TheVariants as steps
-use Rattle.script_model.specs.Postings.{postings}
+use Rattle.script_model.specs.Laws.Postings.{postings}
 use Rattle.task_reply.specs.declared.reply.Home.TheVariants.{Runner, Queue}
 use Rattle.task_reply.specs.declared.reply.Reply.{Reply}
 use Rattle.task_reply.specs.Elaborated.{IsElaborated, reply_posting, replies_to}

@@ -9,7 +9,7 @@ use Rattle.script_model.specs.Reasons.{◌>>=◌}
 use Rattle.script_model.specs.Grammar.{at_line}
 use Rattle.script_model.specs.Bound.{events_bound_of, steps_of_plan}
 use Rattle.script_model.specs.Draft.{opens_scope, may_block_on}
-use Rattle.script_model.specs.Postings.{postings}
+use Rattle.script_model.specs.Laws.Postings.{postings}
 use Rattle.task_reply.specs.declared.reply.Home.{Home}
 use Rattle.task_reply.specs.declared.reply.Home.TheVariants.{Runner, Queue}
 use Rattle.task_reply.specs.declared.reply.Reply.{Reply}

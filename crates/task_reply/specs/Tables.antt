@@ -5,7 +5,7 @@ use Rattle.task_base.specs.declared.step.Step.{Step}
 use Rattle.task_base.specs.declared.limits.TheConstants.{MOST_STEPS, MOST_EVENTS}
 use Rattle.script_model.specs.Bound.{events_bound_of, steps_of_plan}
 use Rattle.script_model.specs.Draft.{opens_scope}
-use Rattle.script_model.specs.Postings.{postings, times}
+use Rattle.script_model.specs.Laws.Postings.{postings, times}
 use Rattle.script_model.specs.Laws.Sound.{IsSound}
 use Rattle.script_lines.specs.declared.fault.LineFault.{LineFault}
 use Rattle.script_lines.specs.declared.fault.LineFault.TheVariants.{Bad, Memory}

@@ -1,5 +1,5 @@
 ghost use Rattle.std.specs.Prelude.{◌≡◌, IfOk, false, flat_map, length, replicate, slice_set, true};
-ghost use Rattle.script_model.specs.Postings.{posts_of_action, posts_of_step, postings};
+ghost use Rattle.script_model.specs.Laws.Postings.{posts_of_action, posts_of_step, postings};
 ghost use Rattle.task_reply.specs.Tables.{marked};
 
 use std::alloc::{AllocError, Global};
@@ -15,7 +15,7 @@ pub(crate) fn posted_marks(alloc: Global, script: &Script) -> Result<Vec<bool>, 
 }
 
 /// Gives the tasks that the script posts their marks.
-#[tactic(auto, unfolding(script_model::specs::Postings::postings))]
+#[tactic(auto, unfolding(script_model::specs::Laws::Postings::postings))]
 fn mark_postings(marks: &mut [bool], script: &Script)
     ensures { marks.new ≡ marked marks.old (postings script.now) }
 {

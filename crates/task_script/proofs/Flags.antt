@@ -16,7 +16,7 @@ use Rattle.task_base.specs.declared.step.Step.{Step}
 use Rattle.task_base.specs.declared.step.Step.TheVariants.{Add, Mul, Set, Post as PostStep, Main as MainStep, Block, Unblock}
 use Rattle.script_model.specs.Bound.{events_of_job}
 use Rattle.script_model.specs.Draft.{Draft, is_declared, posted_in, is_any_posted}
-use Rattle.script_model.specs.Postings.{posts_of_step}
+use Rattle.script_model.specs.Laws.Postings.{posts_of_step}
 use Rattle.task_script.specs.Marks.{marked, is_any_marked, AreMarks}
 use Rattle.task_script.specs.Reader.{AreFlags, AreTotals}
 use Rattle.task_script.specs.declared.reader.Totals.{Totals}

@@ -21,7 +21,7 @@ use Rattle.list_laws.proofs.Counts.{count-cons}
 use Rattle.list_laws.proofs.Places.{count_none}
 use Rattle.list_laws.proofs.Tests.{list_any_none}
 use Rattle.script_model.specs.Bound.{events_of_task, events_of_action}
-use Rattle.script_model.specs.Postings.{posts_of_action, times, IsPostedOnce}
+use Rattle.script_model.specs.Laws.Postings.{posts_of_action, times, IsPostedOnce}
 use Rattle.script_model.specs.Draft.{opens_scope, is_start_of, is_shutdown, ticks_of}
 use Rattle.script_model.specs.Laws.Sound.{IsSound, IsConfigSound, IsWithinLimits, AreDeclarationsSound, AreActionsSound}
 use Rattle.script_model.specs.Laws.Sound.{IsDoneOnce, IsTaskSound, IsActionSound, IsInOrder}

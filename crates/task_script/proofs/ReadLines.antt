@@ -1,5 +1,5 @@
 -- What a line gives behind a draft is what its command adds to that draft.
--- Cited by `Reader::read_text`.
+-- Cited by `Reader::read_text`, `lint_laws`.
 use Rattle.std.proofs.Common.{◌≡◌, ℕ, Bool, true, false, cond, List, [], ◌∷◌, refl, sym, ◌∙◌, Result, Ok, Err}
 use Rattle.std.specs.Prelude.{not, nat_lt, codes, drop, length}
 use Rattle.task_base.specs.declared.script.Action.TheVariants.{Post, Main, Tick, Policy, Reprio, Fence, Unfence, Vote, Rank}

@@ -13,7 +13,7 @@ use Rattle.task_base.specs.declared.script.Action.TheVariants.{Post, Main, Tick,
 use Rattle.task_base.specs.declared.limits.TheConstants.{MOST_RUNNERS, MOST_QUEUES, MOST_TASKS, MOST_JOBS, MOST_ITEMS, MOST_STEPS, MOST_EVENTS}
 use Rattle.script_model.specs.Reasons.{◌>>◌, refuse, out_of_order, undeclared, posted_twice, declaration_late, bad_block, job_use, shutdown_twice, config_twice, too_many}
 use Rattle.script_model.specs.Bound.{events_of_task, events_of_job}
-use Rattle.script_model.specs.Postings.{posts_of_step}
+use Rattle.script_model.specs.Laws.Postings.{posts_of_step}
 use Rattle.script_model.specs.Draft.{Draft, Groups, has_no_actions, is_bare, is_above_workers, is_declared, has_runner, has_queue, has_voter, has_job, posted_in, is_any_posted, has_bad_scopes, is_bad_post, is_started, has_shutdown, items_in, steps_in, events_in}
 use Rattle.script_model.specs.Lines.{acted, posted}
 use Rattle.script_lines.specs.declared.command.Command.{Command}

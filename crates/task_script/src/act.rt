@@ -2,7 +2,7 @@ ghost use Rattle.std.specs.Prelude.{◌≡◌, ◌≤◌, ◌++◌, ◌∷◌, [
 ghost use Rattle.script_model.specs.Bound.{events_of_action};
 ghost use Rattle.script_model.specs.Draft.{has_runner, has_queue, has_voter, has_job, is_started, ticks_of};
 ghost use Rattle.script_model.specs.Lines.{acted, posted};
-ghost use Rattle.script_model.specs.Postings.{posts_of_step, posts_of_action};
+ghost use Rattle.script_model.specs.Laws.Postings.{posts_of_step, posts_of_action};
 ghost use Rattle.task_script.specs.Added.{action_added, on_runner, on_queue, on_voter, on_job, job_start, shutdown_start};
 ghost use Rattle.task_script.specs.Plain.{is_plain};
 

@@ -1,7 +1,7 @@
 ghost use Rattle.std.specs.Prelude.{◌≡◌, ◌++◌, true, false, flat_map, map};
 ghost use Rattle.std.specs.List.{list_all, list_any};
 ghost use Rattle.script_model.specs.Draft.{is_declared, posted_in, is_any_posted, is_bad_post, is_block, has_block, takes_block};
-ghost use Rattle.script_model.specs.Postings.{posts_of_step};
+ghost use Rattle.script_model.specs.Laws.Postings.{posts_of_step};
 
 use crate::reader::Reader;
 use crate::steps::is_any_posted;

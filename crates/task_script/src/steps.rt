@@ -2,7 +2,7 @@ ghost use Rattle.std.specs.Prelude.{◌≡◌, false, count_by, flat_map, slice_
 ghost use Rattle.std.specs.List.{list_any};
 ghost use Rattle.task_base.specs.Steps.{is_act};
 ghost use Rattle.script_model.specs.Draft.{has_bad_scopes, is_block};
-ghost use Rattle.script_model.specs.Postings.{posts_of_step};
+ghost use Rattle.script_model.specs.Laws.Postings.{posts_of_step};
 ghost use Rattle.task_script.specs.Marks.{marked, is_any_marked};
 ghost use Rattle.task_script.specs.Scopes.{next_inside};
 

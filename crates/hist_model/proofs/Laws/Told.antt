@@ -1,5 +1,5 @@
 -- A legal log is told by the order of its seats and the moments of its ticks.
--- Cited by `ways.rt`.
+-- Cited by `Laws/Due`, `ways.rt`.
 use Rattle.std.proofs.Common.{◌≡◌, ℕ, Bool, true, false, leb, List, [], ◌∷◌, ◌++◌, refl, sym, ap, subst, ◌∙◌, Option, Some, None}
 use Rattle.std.specs.Prelude.{is_some}
 use Rattle.std.specs.List.{cons_option}

@@ -2,7 +2,7 @@
 use Rattle.std.specs.Prelude.{◌≡◌, ℕ, ◌+◌, List, length}
 use Rattle.task_base.specs.Plan.{Plan}
 use Rattle.task_base.specs.declared.entry.Entry.{Entry}
-use Rattle.script_model.specs.Postings.{IsPostedOnce}
+use Rattle.script_model.specs.Laws.Postings.{IsPostedOnce}
 use Rattle.task_model.specs.Seats.{inside}
 use Rattle.task_model.specs.Jobs.{claimed, done}
 use Rattle.queue_laws.specs.Orders.{OrdersDistinct}

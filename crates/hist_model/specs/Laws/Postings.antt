@@ -3,7 +3,7 @@ use Rattle.std.specs.Prelude.{◌≡◌, ℕ, false, List, [], ◌∷◌, flat_m
 use Rattle.task_base.specs.declared.entry.Entry.{Entry}
 use Rattle.task_base.specs.declared.entry.Kind.{Kind}
 use Rattle.task_base.specs.declared.entry.Kind.TheVariants as kinds
-use Rattle.script_model.specs.Postings.{times}
+use Rattle.script_model.specs.Laws.Postings.{times}
 use Rattle.task_model.specs.Posts.{posts, main_posts, is_taken, is_ended, is_main_taken}
 use Rattle.pool_laws.specs.Posts.{post_of, IsAccepted, main_post_of, IsMainAccepted, InOrder}
 

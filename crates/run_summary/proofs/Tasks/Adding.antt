@@ -7,7 +7,7 @@ use Rattle.task_base.specs.Plan.{Plan}
 use Rattle.task_base.specs.Steps.{after}
 use Rattle.task_base.specs.Runners.{seat_of}
 use Rattle.task_model.specs.Seats.{steps_of}
-use Rattle.script_model.specs.Postings.{IsPostedOnce}
+use Rattle.script_model.specs.Laws.Postings.{IsPostedOnce}
 use Rattle.hist_model.specs.Laws.Consistent.{is_pump}
 use Rattle.hist_model.proofs.Laws.Postings.Driver.{actions_post}
 use Rattle.run_summary.proofs.Calm.{IsCalmScript}

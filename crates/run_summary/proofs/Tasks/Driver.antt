@@ -14,7 +14,7 @@ use Rattle.task_base.specs.declared.script.Action.TheVariants as actions
 use Rattle.list_laws.specs.Lists.{count}
 use Rattle.list_laws.proofs.Counts.{count-append}
 use Rattle.list_laws.proofs.Elements.{push_induction}
-use Rattle.script_model.specs.Postings.{posts_of_action}
+use Rattle.script_model.specs.Laws.Postings.{posts_of_action}
 use Rattle.hist_model.specs.Views.{own_entries}
 use Rattle.hist_model.specs.Script.{behind_action, is_main_none, is_main_end}
 use Rattle.hist_model.specs.Laws.Agenda.{Agenda, agenda_from, agenda, completes, next_agenda, agenda_after}

@@ -23,7 +23,7 @@ use Rattle.list_laws.proofs.Counts.{filter_length_congr}
 use Rattle.list_laws.proofs.Pigeons.{count_one}
 use Rattle.list_laws.proofs.Ranges.{range_with}
 use Rattle.list_laws.proofs.Values.{eqb-turned}
-use Rattle.script_model.specs.Postings.{posts_of_step, posts_of_action, postings, times, IsPostedOnce}
+use Rattle.script_model.specs.Laws.Postings.{posts_of_step, posts_of_action, postings, times, IsPostedOnce}
 use Rattle.task_model.specs.Seats.{steps_of}
 use Rattle.task_script.specs.Generated.{numbers_behind, amount_of, goal_of, posting_of, postings_from, generated}
 use Rattle.hist_model.specs.Laws.Consistent.{is_pump}

@@ -15,7 +15,7 @@ use Rattle.list_laws.specs.Lists.{count}
 use Rattle.list_laws.proofs.Counts.{count-append}
 use Rattle.list_laws.proofs.Made.{filter_contains}
 use Rattle.list_laws.proofs.Elements.{AllByRecursion-append, AllByRecursion-back}
-use Rattle.script_model.specs.Postings.{posts_of_action, times}
+use Rattle.script_model.specs.Laws.Postings.{posts_of_action, times}
 use Rattle.task_model.specs.Past.{fold_past}
 use Rattle.task_model.specs.Posts.{Posted, post_behind, posts, posted_by, main_posts, main_posted_by}
 use Rattle.task_model.proofs.Growth.{posts_push, main_posts_push}

@@ -23,7 +23,7 @@ use Rattle.list_laws.proofs.Finds.{contained_counts}
 use Rattle.list_laws.proofs.Least.{no_least}
 use Rattle.list_laws.proofs.Made.{contains_filter, contains_filter_map, contains_not_empty}
 use Rattle.list_laws.proofs.Tests.{list_all-from_recursion}
-use Rattle.script_model.specs.Postings.{times}
+use Rattle.script_model.specs.Laws.Postings.{times}
 use Rattle.task_model.specs.Posts.{Posted, is_delayed, posts, main_posts, is_main_taken, main_takes}
 use Rattle.pool_laws.specs.Posts.{is_main_ended}
 use Rattle.task_model.specs.Orders.{next_draw, order_of}

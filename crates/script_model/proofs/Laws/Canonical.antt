@@ -8,7 +8,7 @@ use Rattle.task_base.specs.declared.script.Action.{Action}
 use Rattle.task_base.specs.declared.script.Action.TheVariants.{Post, Main, Tick, Policy as PolicyAction, Reprio, Fence, Unfence, Vote}
 use Rattle.task_base.specs.declared.script.Action.TheVariants.{Rank, Close, Pump, Flush, StartJob, Join, Cancel, Shutdown}
 use Rattle.script_model.specs.Bound.{events_of_action}
-use Rattle.script_model.specs.Postings.{posts_of_action, IsPostedOnce}
+use Rattle.script_model.specs.Laws.Postings.{posts_of_action, IsPostedOnce}
 use Rattle.script_model.specs.Draft.{Draft, empty_draft, posted_in, is_any_posted, ticks_of, ticks_in, events_in, opens_scope, may_block_on}
 use Rattle.task_base.specs.declared.limits.TheConstants.{MOST_TICKS, MOST_EVENTS}
 use Rattle.script_model.specs.Lines.{post_line, main_line, tick_line, policy_line, reprio_line, fence_line, unfence_line, vote_line}

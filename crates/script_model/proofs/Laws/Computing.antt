@@ -8,7 +8,7 @@ use Rattle.std.proofs.lemmas.List.Concat.{flat_map-cons}
 use Rattle.task_base.specs.Steps.{is_act}
 use Rattle.task_base.specs.declared.step.Step.{Step}
 use Rattle.task_base.specs.declared.step.Step.TheVariants.{Add, Mul, Set, Post as PostStep, Main as MainStep, Block, Unblock}
-use Rattle.script_model.specs.Postings.{posts_of_step}
+use Rattle.script_model.specs.Laws.Postings.{posts_of_step}
 use Rattle.script_model.specs.Draft.{Draft, is_declared, is_bad_post}
 
 -- steps that compute have what each such step has

@@ -12,7 +12,7 @@ use Rattle.task_base.specs.declared.script.Runner.{Runner}
 use Rattle.task_base.specs.declared.script.MainQueue.{MainQueue}
 use Rattle.script_model.specs.Reasons.{◌&◌, out_of_range, declaration_late, config_twice}
 use Rattle.script_model.specs.Places.{ends_at, number_at, time_at}
-use Rattle.script_model.specs.Postings.{postings}
+use Rattle.script_model.specs.Laws.Postings.{postings}
 use Rattle.std.proofs.Math.ListN.{get_or-append}
 use Rattle.script_model.specs.Draft.{Draft, Groups, script_of, has_no_actions, is_bare}
 use Rattle.script_model.specs.Draft.{opens_scope, may_block_on}

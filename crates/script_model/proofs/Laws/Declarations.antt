@@ -20,7 +20,7 @@ use Rattle.script_model.specs.Reasons.{◌&◌, out_of_order, undeclared, posted
 use Rattle.value_words.specs.Words.{priority_named, behaviour_named}
 use Rattle.script_model.specs.Places.{said_at, name_at, ends_at, number_at, id_at, kind_named, may_block_at, steps_read}
 use Rattle.script_model.specs.Bound.{events_of_task, events_of_job, events_bound_of, steps_of_plan}
-use Rattle.script_model.specs.Postings.{posts_of_step, postings}
+use Rattle.script_model.specs.Laws.Postings.{posts_of_step, postings}
 use Rattle.script_model.specs.Draft.{Draft, script_of, has_no_actions, is_above_workers, is_declared, posted_in, is_any_posted}
 use Rattle.script_model.specs.Draft.{has_bad_scopes, is_bad_post, items_in, steps_in, events_in, workers_in, opens_scope, may_block_on}
 use Rattle.task_base.specs.declared.limits.TheConstants.{MOST_RUNNERS, MOST_QUEUES, MOST_TASKS, MOST_JOBS}

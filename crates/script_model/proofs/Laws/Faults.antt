@@ -1,5 +1,5 @@
 -- The first fault is that of the first bad line, behind the draft that the lines before it give.
--- Cited by `first_bad_line_is_the_fault`, `Laws/Parts`, `Laws/Sound`, `nested_loop`, `task_reply`.
+-- Cited by `first_bad_line_is_the_fault`, `Laws/Parts`, `Laws/Sound`, `lint_laws`, `nested_loop`, `task_reply`.
 use Rattle.std.proofs.Common.{◌≡◌, ℕ, zero, suc, ◌+◌, List, [], ◌∷◌, take, refl, ap, ◌∙◌, Option, Some, None, Result, Ok, Err, arith}
 use Rattle.std.specs.Prelude.{slice_get}
 use Rattle.std.specs.Result.{result_err}

@@ -1,5 +1,6 @@
 -- What a line that is read says of its places, and which refusals it passed.
--- Cited by `Laws/Canonical`, `Laws/Configuration`, `Laws/Declarations`, `Laws/Lines`, `Laws/Sound`, `Laws/Words`, `nested_loop`.
+-- Cited by `Laws/Canonical`, `Laws/Configuration`, `Laws/Declarations`, `Laws/Lines`, `Laws/Sound`, `Laws/Words`, `lint_laws`,
+-- `nested_loop`.
 use Rattle.std.proofs.Common.{◌≡◌, ℕ, ◌≤◌, Bool, true, false, cond, eqb, ltb, leb, List, [], ◌∷◌, length}
 use Rattle.std.proofs.Common.{drop, map, refl, ap, subst, Option, Some, None, Result, Ok, Err, arith}
 use Rattle.std.specs.Prelude.{◌-◌, ◌^◌, take, ◌&&◌, codes, slice_get}

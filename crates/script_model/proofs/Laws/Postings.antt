@@ -13,7 +13,7 @@ use Rattle.task_base.specs.declared.script.Action.{Action}
 use Rattle.list_laws.proofs.Values.{eqb-same}
 use Rattle.list_laws.proofs.Counts.{count-append, count-cons}
 use Rattle.list_laws.proofs.Places.{count_none, none_from_count}
-use Rattle.script_model.specs.Postings.{posts_of_step, posts_of_action, postings, times, IsPostedOnce}
+use Rattle.script_model.specs.Laws.Postings.{posts_of_step, posts_of_action, postings, times, IsPostedOnce}
 use Rattle.script_model.specs.Draft.{Draft, script_of, posted_in, is_any_posted}
 
 -- the tasks that steps of tasks post

@@ -22,7 +22,7 @@ use Rattle.script_model.specs.Reasons.{bad_block, job_use, shutdown_twice, too_m
 use Rattle.value_words.specs.Words.{priority_named, policy_named, fence_named, vote_named}
 use Rattle.script_model.specs.Places.{name_at, ends_at, number_at, id_at, time_at}
 use Rattle.script_model.specs.Bound.{events_of_action}
-use Rattle.script_model.specs.Postings.{posts_of_step, posts_of_action, postings}
+use Rattle.script_model.specs.Laws.Postings.{posts_of_step, posts_of_action, postings}
 use Rattle.std.proofs.lemmas.Option.{slice_get_within}
 use Rattle.script_model.specs.Draft.{Draft, empty_draft, script_of, is_declared, has_runner, has_queue, has_voter, has_job, posted_in, is_any_posted}
 use Rattle.script_model.specs.Draft.{is_bad_post, is_start_of, is_started, is_shutdown, has_shutdown, ticks_of, ticks_in, events_in}

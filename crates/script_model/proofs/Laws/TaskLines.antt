@@ -11,7 +11,7 @@ use Rattle.task_base.specs.Steps.{is_act}
 use Rattle.task_base.specs.declared.step.Step.{Step}
 use Rattle.task_base.specs.declared.step.Step.TheVariants.{Add, Mul, Set, Post as PostStep, Main as MainStep, Block, Unblock}
 use Rattle.script_model.specs.Bound.{events_of_task, events_of_job}
-use Rattle.script_model.specs.Postings.{IsPostedOnce}
+use Rattle.script_model.specs.Laws.Postings.{IsPostedOnce}
 use Rattle.script_model.specs.Draft.{is_declared, posted_in, is_any_posted}
 use Rattle.script_model.specs.Draft.{is_bad_post, is_block, items_in, steps_in, events_in, opens_scope, may_block_on}
 use Rattle.task_base.specs.declared.limits.TheConstants.{MOST_TASKS, MOST_JOBS, MOST_ITEMS, MOST_STEPS, MOST_EVENTS}

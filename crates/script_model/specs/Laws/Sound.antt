@@ -13,7 +13,7 @@ use Rattle.task_base.specs.declared.script.Action.{Action}
 use Rattle.task_base.specs.declared.script.Action.TheVariants.{Post, Main, Tick, Policy, Reprio, Fence, Unfence, Vote, Rank, Close, Pump, Flush, StartJob, Join, Cancel, Shutdown}
 use Rattle.list_laws.specs.Lists.{count}
 use Rattle.script_model.specs.Bound.{events_bound_of}
-use Rattle.script_model.specs.Postings.{IsPostedOnce}
+use Rattle.script_model.specs.Laws.Postings.{IsPostedOnce}
 use Rattle.script_model.specs.Draft.{opens_scope, may_block_on, is_voter, has_bad_scopes, is_start_of, is_shutdown, ticks_of}
 use Rattle.task_base.specs.declared.limits.TheConstants.{MOST_WORKERS, MOST_RUNNERS, MOST_QUEUES, MOST_TASKS, MOST_JOBS, MOST_ITEMS, MOST_STEPS, MOST_TICKS, MOST_EVENTS, MOST_MICROSECONDS}
 

@@ -20,7 +20,7 @@ use Rattle.list_laws.proofs.Elements.{AllByRecursion-map, AllByRecursion-from_in
 use Rattle.list_laws.proofs.Finds.{contained_counts}
 use Rattle.script_model.specs.Bound.{events_bound_of}
 use Rattle.script_model.specs.Laws.Sound.{IsSound, IsActionSound, IsStepSound}
-use Rattle.script_model.specs.Postings.{posts_of_step, posts_of_action, postings, times, IsPostedOnce}
+use Rattle.script_model.specs.Laws.Postings.{posts_of_step, posts_of_action, postings, times, IsPostedOnce}
 use Rattle.task_model.specs.Phase.{phase_of, is_started}
 use Rattle.task_model.specs.Time.{now_of}
 use Rattle.task_model.specs.Posts.{posts, main_posts, is_taken, takes, is_main_taken, main_takes}

@@ -18,7 +18,7 @@ use Rattle.hist_model.specs.Allowed.{by_script, by_task, may_come}
 use Rattle.hist_model.specs.Legal.{IsLegal}
 use Rattle.list_laws.proofs.Finds.{contained_counts}
 use Rattle.hist_model.specs.Laws.Postings.{kind_posts, posted_in}
-use Rattle.script_model.specs.Postings.{posts_of_step, posts_of_action, postings, times, IsPostedOnce}
+use Rattle.script_model.specs.Laws.Postings.{posts_of_step, posts_of_action, postings, times, IsPostedOnce}
 use Rattle.hist_model.proofs.Laws.Legal.{entry_induction}
 use Rattle.hist_model.proofs.Laws.Takes.{take_is, main_take_is}
 use Rattle.pool_laws.specs.Runs.{taken_as, takes_as, posts_as, posted_as}

@@ -6,7 +6,7 @@ use Rattle.std.proofs.lemmas.Bool.{eqb-true, and_parts, eq-eqb}
 use Rattle.task_base.specs.Plan.{Plan}
 use Rattle.task_base.specs.declared.script.Action.TheVariants as actions
 use Rattle.task_base.specs.declared.step.Step.TheVariants as steps
-use Rattle.script_model.specs.Postings.{times, differ, postings, IsPostedOnce, is_posted_once}
+use Rattle.script_model.specs.Laws.Postings.{times, differ, postings, IsPostedOnce, is_posted_once}
 
 differ_once : (us : List ℕ) → differ us ≡ true → (t : ℕ) → times t us ≤ 1
 differ_once [] h t = omega arith

@@ -19,7 +19,7 @@ use Rattle.hist_model.specs.Script.{behind_action, wants, is_wanted}
 use Rattle.hist_model.specs.Laws.Agenda.{agenda_from, agenda, first_of, completes, next_agenda}
 use Rattle.hist_model.specs.Allowed.{by_script}
 use Rattle.hist_model.specs.Laws.Postings.{kind_posts}
-use Rattle.script_model.specs.Postings.{posts_of_action, times}
+use Rattle.script_model.specs.Laws.Postings.{posts_of_action, times}
 use Rattle.hist_model.proofs.Laws.Agenda.{current_is_first, agenda_push}
 
 pub times-append : (t : ℕ) (xs ys : List ℕ) → times t (xs ++ ys) ≡ times t xs + times t ys

@@ -15,7 +15,7 @@ use Rattle.hist_model.specs.Allowed.{IsAllowed}
 use Rattle.hist_model.specs.Legal.{IsLegal}
 use Rattle.list_laws.proofs.Finds.{none_counted, none_found, found_counts}
 use Rattle.hist_model.specs.Laws.Postings.{kind_posts, posted_in, AreAcceptedOnce, IsNew}
-use Rattle.script_model.specs.Postings.{times, IsPostedOnce}
+use Rattle.script_model.specs.Laws.Postings.{times, IsPostedOnce}
 use Rattle.hist_model.proofs.Laws.Legal.{is_legal_push, legal_induction}
 use Rattle.pool_laws.specs.Runs.{posts_as, posted_as}
 use Rattle.pool_laws.proofs.Seats.Runs.{posts_as_push, singly_unended}

@@ -19,7 +19,7 @@ use Rattle.task_model.specs.Seats.{Running, running, running_after, acts_done, a
 use Rattle.task_model.proofs.Growth.{running_push, acts_done_push, is_taken_push, is_main_taken_push}
 use Rattle.hist_model.specs.Allowed.{enters, by_task}
 use Rattle.hist_model.specs.Laws.Postings.{kind_posts}
-use Rattle.script_model.specs.Postings.{posts_of_step, times}
+use Rattle.script_model.specs.Laws.Postings.{posts_of_step, times}
 use Rattle.hist_model.proofs.Laws.Postings.Driver.{times-append}
 
 -- how often the steps behind the first n post a task

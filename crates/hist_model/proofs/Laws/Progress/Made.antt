@@ -1,5 +1,5 @@
 -- When a seat may make an entry: by the script, and by the task that it runs.
--- Cited by `Laws/Progress/Actions`, `Laws/Progress/Jobs`, `Laws/Progress/Pump`, `Laws/Progress/Tasks`, `Laws/Progress/Ways`,
+-- Cited by `Laws/Due`, `Laws/Progress/Actions`, `Laws/Progress/Jobs`, `Laws/Progress/Pump`, `Laws/Progress/Tasks`, `Laws/Progress/Ways`,
 -- `Laws/Progress/Workers`.
 use Rattle.std.proofs.Common.{◌≡◌, ℕ, ◌≤◌, Bool, true, false, List, refl, ap, ◌∙◌, Some, arith}
 use Rattle.std.specs.Prelude.{not}

@@ -1,6 +1,6 @@
 use Rattle.std.proofs.Common.{◌≡◌, take}
 use Rattle.std.specs.Prelude.{flat_map}
-use Rattle.script_model.specs.Postings.{posts_of_action}
+use Rattle.script_model.specs.Laws.Postings.{posts_of_action}
 use Rattle.task_reply.specs.Tables.{marked}
 use Rattle.task_reply.proofs.marks.mark_actions.Given as goal
 

@@ -1,5 +1,5 @@
 use Rattle.std.proofs.Common.{◌≡◌, drop, flat_map}
-use Rattle.script_model.specs.Postings.{posts_of_step}
+use Rattle.script_model.specs.Laws.Postings.{posts_of_step}
 use Rattle.task_script.specs.Marks.{marked, is_any_marked}
 use Rattle.task_script.proofs.steps.is_any_posted.Given as goal
 

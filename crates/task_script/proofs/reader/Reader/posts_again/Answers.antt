@@ -2,7 +2,7 @@ use Rattle.std.proofs.Common.{◌≡◌, flat_map, ◌∙◌, arith}
 use Rattle.std.proofs.lemmas.Grind.{common_steps}
 use Rattle.std.proofs.lemmas.List.{with_items_is}
 use Rattle.std.specs.Vec.{with_items}
-use Rattle.script_model.specs.Postings.{posts_of_step}
+use Rattle.script_model.specs.Laws.Postings.{posts_of_step}
 use Rattle.task_script.specs.Marks.{marked}
 use Rattle.task_script.specs.Reader.{draft}
 use Rattle.task_script.proofs.Flags.{flags-found, flags-marked}
