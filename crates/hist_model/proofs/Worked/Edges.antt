@@ -14,7 +14,7 @@ use Rattle.task_base.specs.declared.step.Step.TheVariants as steps
 use Rattle.task_traits.specs.declared.traits.Behaviour.TheVariants.{SkipOnShutdown, BlockShutdown}
 use Rattle.task_traits.specs.declared.traits.Priority.TheVariants.{BestEffort, UserVisible, UserBlocking}
 use Rattle.task_base.specs.Entries.{entry_by as by}
-use Rattle.hist_model.proofs.Worked.Rows.{judge, read, written, Worked, worked, AreRight, runner_of, queue_of, job_of, plain}
+use Rattle.hist_model.proofs.Worked.Rows.{judge, read, ways_of, written, Worked, worked, AreRight, runner_of, queue_of, job_of, plain}
 
 abbrev refused_before_done_script : Plan
 refused_before_done_script = record plain {
@@ -367,5 +367,5 @@ held_work_makes_no_way = worked held_work_makes_no_way_script held_work_makes_no
 edges_are_right : AreRight (refused_before_done ∷ inside_after_the_script ∷ best_effort_yields_by_the_group ∷ driver_does_not_make_way ∷
     threshold_from_the_opening ∷ forbidden_task_is_passed_over ∷ delayed_block_refused_after_shutdown ∷ ripened_before_posted ∷ fence_holds_the_delayed_lane ∷
     streak_ended_by_another_class ∷ done_then_cancelled ∷ held_work_makes_no_way ∷ [])
-unfolding judge read written
+unfolding judge read written ways_of
 edges_are_right = refl

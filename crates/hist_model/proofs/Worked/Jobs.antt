@@ -14,7 +14,7 @@ use Rattle.task_traits.specs.declared.traits.Priority.TheVariants.{BestEffort, U
 use Rattle.std.specs.Prelude.{◌++◌, codes, Some, None}
 use Rattle.task_base.specs.Entries.{entry_by as by}
 use Rattle.hist_model.specs.Legal.{first_illegal}
-use Rattle.hist_model.proofs.Worked.Rows.{judge, read, written, Worked, worked, AreRight, runner_of, queue_of, job_of, plain}
+use Rattle.hist_model.proofs.Worked.Rows.{judge, read, ways_of, written, Worked, worked, AreRight, runner_of, queue_of, job_of, plain}
 
 abbrev job_joined_alone_script : Plan
 job_joined_alone_script = record plain {
@@ -285,5 +285,5 @@ page_load = worked page_load_script page_load_log
 
 -- each of them is right
 jobs_are_right : AreRight (job_joined_alone ∷ cancel_and_refused_job ∷ job_yields ∷ cancel_with_worker_inside ∷ page_load ∷ [])
-unfolding judge read written
+unfolding judge read written ways_of
 jobs_are_right = refl

@@ -12,7 +12,7 @@ use Rattle.task_traits.specs.declared.traits.Priority.TheVariants.{BestEffort, U
 use Rattle.std.specs.Prelude.{◌++◌, codes, Some, None}
 use Rattle.task_base.specs.Entries.{entry_by as by}
 use Rattle.hist_model.specs.Legal.{first_illegal}
-use Rattle.hist_model.proofs.Worked.Rows.{judge, read, written, Worked, worked, AreRight, runner_of, plain}
+use Rattle.hist_model.proofs.Worked.Rows.{judge, read, ways_of, written, Worked, worked, AreRight, runner_of, plain}
 
 abbrev pub first_run_script : Plan
 first_run_script = record plain {
@@ -256,5 +256,5 @@ ripening_order = worked ripening_order_script ripening_order_log
 
 -- each of them is right
 pool_are_right : AreRight (first_run ∷ state_moves_along ∷ priority_before_posting_order ∷ foreground_holds_best_effort ∷ ties_by_post_place ∷ ripening_order ∷ [])
-unfolding judge read written
+unfolding judge read written ways_of
 pool_are_right = refl

@@ -8,7 +8,7 @@ use Rattle.task_base.specs.declared.script.FenceAt.TheVariants.{Now, Start}
 use Rattle.task_base.specs.declared.step.Step.TheVariants as steps
 use Rattle.std.specs.Prelude.{◌++◌, codes}
 use Rattle.task_base.specs.Entries.{entry_by as by}
-use Rattle.hist_model.proofs.Worked.Rows.{judge, read, written, Worked, worked, AreRight, queue_of, plain}
+use Rattle.hist_model.proofs.Worked.Rows.{judge, read, ways_of, written, Worked, worked, AreRight, queue_of, plain}
 
 abbrev fence_now_script : Plan
 fence_now_script = record plain {
@@ -163,5 +163,5 @@ classes = worked classes_script classes_log
 
 -- each of them is right
 queues_are_right : AreRight (fence_now ∷ fence_replaced ∷ starvation_bound ∷ voters_and_closing ∷ classes ∷ [])
-unfolding judge read written
+unfolding judge read written ways_of
 queues_are_right = refl

@@ -1,8 +1,9 @@
 -- How worked histories are checked: by computing, with all definitions open.
-use Rattle.std.proofs.Common.{◌≡◌, ℕ, Bool, true, List, []}
-use Rattle.std.specs.Prelude.{Option, Some, None, Result, Ok, map}
+use Rattle.std.proofs.Common.{◌≡◌, ℕ, Bool, true, List, [], ◌∷◌, ◌++◌}
+use Rattle.std.specs.Prelude.{if◌then◌else◌, Option, Some, None, Result, Ok, map}
 use Rattle.task_base.specs.Plan.{Plan, JobPlan}
 use Rattle.task_base.specs.declared.entry.Entry.{Entry}
+use Rattle.task_base.specs.declared.entry.Kind.{Kind}
 use Rattle.task_base.specs.declared.script.MainQueue.{MainQueue}
 use Rattle.task_base.specs.declared.script.Runner.{Runner}
 use Rattle.task_base.specs.declared.script.RunnerKind.{RunnerKind}
@@ -28,6 +29,7 @@ use Rattle.task_model.specs.MainQueues.{fence_of, votes_on, class_of, front_of, 
 use Rattle.hist_model.specs.Script.{current, is_wanted, is_finished, is_whole}
 use Rattle.hist_model.specs.Allowed.{by_script, by_task, may_come}
 use Rattle.hist_model.specs.Legal.{is_legal, first_illegal}
+use Rattle.hist_model.specs.Laws.Ways.{but_moment, is_due, way_on}
 use Rattle.script_model.specs.Places.{number_from, kind_named, step_said, steps_read}
 use Rattle.script_model.specs.Lines.{workers_line, groups_line, threshold_line, runner_line, queue_line, task_line, job_line, post_line, main_line, tick_line}
 use Rattle.script_model.specs.Lines.{policy_line, reprio_line, fence_line, unfence_line, vote_line, rank_line, close_line, pump_line, flush_line}
@@ -46,6 +48,22 @@ unfolding fold_past now_of tick_from posts main_posts is_taken is_ended is_main_
     job_sum may_enter would_wait waiting best_of leaves block_part skip_part blockers_of ripening draws order_of fence_of votes_on class_of front_of open_fronts
     of_least_class streak_of choice_among current is_wanted is_finished by_script by_task may_come is_legal first_illegal
 judge script log = (is_legal script log, is_whole script log, first_illegal script log)
+
+-- what the seat of each entry does next after those before it, but for the moment of a tick, where that is due
+abbrev ways_from : Plan → List Entry → List Entry → List (Option Kind)
+ways_from script past [] = []
+ways_from script past (e ∷ rest) =
+    (if is_due script past e.kind then way_on script past e.seat else None) ∷ ways_from script (past ++ e ∷ []) rest
+
+-- the same from the empty past, with all that this takes open
+unfoldable pub ways_of : Plan → List Entry → List (Option Kind)
+unfolding fold_past now_of tick_from posts main_posts is_taken is_ended is_main_taken phase_of policy_of is_closed ready eligible head_of running holding
+    is_quiet runs_sequence inside acts_done cell_of main_cell_of priority_of taken_with open_scope load capacity best_load best_capacity has_room
+    job_post_of is_cancelled
+    claimed done
+    job_sum may_enter would_wait waiting best_of leaves block_part skip_part blockers_of ripening draws order_of fence_of votes_on class_of front_of open_fronts
+    of_least_class streak_of choice_among current is_wanted is_finished by_script by_task may_come way_on
+ways_of script log = ways_from script [] log
 
 -- the script that the bytes are, with all that this takes open
 unfoldable pub read : List ℕ → Result Plan (ℕ × ℕ)
@@ -70,17 +88,18 @@ pub record Worked : Type 0 where
 abbrev pub worked : Plan → List Entry → List ℕ → List ℕ → Worked
 worked script log text lines = record { script = script; log = log; text = text; lines = lines }
 
--- what its texts and its entries are found to be: the script of the text, the lines of the entries, and the judgement
+-- what its texts and its entries are found to be: the script of the text, the lines of the entries, the judgement, and the ways on
 abbrev Findings : Type 0
-Findings = Result Plan (ℕ × ℕ) × List ℕ × (Bool × Bool × Option ℕ)
+Findings = Result Plan (ℕ × ℕ) × List ℕ × (Bool × Bool × Option ℕ) × List (Option Kind)
 
 abbrev found : Worked → Findings
-found w = (read w.text, written w.log, judge w.script w.log)
+found w = (read w.text, written w.log, judge w.script w.log, ways_of w.script w.log)
 
 abbrev wanted : Worked → Findings
-wanted w = (Ok w.script, w.lines, (true, true, None))
+wanted w = (Ok w.script, w.lines, (true, true, None), map (λ e. Some (but_moment e.kind)) w.log)
 
--- the text of each is its script, the lines are those of its log, and the log is legal and whole for the script
+-- the text of each is its script, the lines are those of its log, the log is legal and whole for the script, and each entry is its
+-- seat's way on
 abbrev pub AreRight : List Worked → Type 0
 AreRight rows = map found rows ≡ map wanted rows
 

@@ -13,7 +13,7 @@ use Rattle.task_traits.specs.declared.traits.Priority.TheVariants.{UserVisible}
 use Rattle.std.specs.Prelude.{◌++◌, codes, Some}
 use Rattle.task_base.specs.Entries.{entry_by as by}
 use Rattle.hist_model.specs.Legal.{first_illegal}
-use Rattle.hist_model.proofs.Worked.Rows.{judge, read, written, Worked, worked, AreRight, runner_of, plain}
+use Rattle.hist_model.proofs.Worked.Rows.{judge, read, ways_of, written, Worked, worked, AreRight, runner_of, plain}
 
 abbrev shutdown_skips_and_blocks_script : Plan
 shutdown_skips_and_blocks_script = record plain {
@@ -192,5 +192,5 @@ no_room_before_the_threshold = refl
 
 -- each of them is right
 shutdown_are_right : AreRight (shutdown_skips_and_blocks ∷ block_task_posts_during_shutdown ∷ delayed_work_does_not_block ∷ will_block ∷ may_block ∷ [])
-unfolding judge read written
+unfolding judge read written ways_of
 shutdown_are_right = refl

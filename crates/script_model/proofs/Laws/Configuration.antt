@@ -1,6 +1,6 @@
 -- What a configuration line adds to a sound script keeps it sound, and what a script declares stays declared with one more declaration.
 -- Cited by `Laws/Declarations`, `Laws/Sound`.
-use Rattle.std.proofs.Common.{◌≡◌, ℕ, ◌+◌, ◌<◌, true, eqb, List, [], ◌∷◌, ◌++◌, length}
+use Rattle.std.proofs.Common.{◌≡◌, ℕ, ◌<◌, true, eqb, List, [], ◌∷◌, ◌++◌, length}
 use Rattle.std.proofs.Common.{refl, sym, subst, ◌∙◌, Option, Some, Ok, arith}
 use Rattle.std.specs.Prelude.{not, ◌&&◌, nat_lt, slice_get, is_some}
 use Rattle.std.specs.List.{AllByRecursion}
