@@ -1,6 +1,7 @@
 -- What is known of a desk behind one hold of the turn.
--- Cited by `drive`, `perform`, `tick`, `finish_cancel`, `finish_shutdown`, `flush`, `Done`, `Joins`, `Pump`, `Spares`, `Tasks`, `Visits`.
-use Rattle.std.proofs.Common.{◌≡◌, ◌+◌, List, [], ◌∷◌, ◌++◌, length, refl, sym, ap, ◌∙◌, append-nil, append_assoc, arith}
+-- Cited by `drive`, `perform`, `tick`, `finish_cancel`, `finish_shutdown`, `flush`, `work`, `Done`, `Joins`, `Pump`, `Spares`, `Tasks`,
+-- `Visits`.
+use Rattle.std.proofs.Common.{◌≡◌, ◌+◌, false, List, [], ◌∷◌, ◌++◌, length, refl, sym, ap, ◌∙◌, append-nil, append_assoc, arith}
 use Rattle.std.proofs.lemmas.List.{length-append}
 use Rattle.list_laws.proofs.Values.{eqb-same}
 use Rattle.task_base.specs.declared.entry.Entry.{Entry}
@@ -38,6 +39,19 @@ later_trans a b c first second = record {
   loads_is = second.loads_is ∙ first.loads_is;
   last_is = second.last_is ∙ first.last_is;
   told_on = λ told. second.told_on (first.told_on told);
+}
+
+-- a desk that has slept is later
+pub later_asleep : (old new : DeskView) → IsLater old new → IsLater old (record new { rests = false })
+later_asleep old new later = record {
+  script_is = later.script_is;
+  seat_is = later.seat_is;
+  origin_is = later.origin_is;
+  grows = later.grows;
+  turned = later.turned;
+  loads_is = later.loads_is;
+  last_is = later.last_is;
+  told_on = later.told_on;
 }
 
 module _ {old new : DeskView} {past : List Entry} (holds : Holds old past new) where

@@ -1,5 +1,5 @@
 -- What each call of a desk answers: from the environment at the hold to the one that the call left.
-use Rattle.std.specs.Prelude.{◌≡◌, ◌≢◌, ℕ, Bool, not, Option, Some, None, Result, Ok, Err}
+use Rattle.std.specs.Prelude.{◌≡◌, ◌≢◌, ℕ, Bool, true, false, not, Option, Some, None, Result, Ok, Err}
 use Rattle.task_base.specs.declared.entry.Kind.{Kind}
 use Rattle.task_base.specs.declared.entry.Kind.TheVariants as kinds
 use Rattle.task_base.specs.declared.entry.JobReply.{JobReply}
@@ -56,6 +56,11 @@ Gives work seat (taken.Task got) before after = HasTaken before after seat (work
 Gives work seat (taken.Item pass) before after = HasTakenItem before after seat pass
 Gives work seat taken.Nothing before after = HasNothing before after seat
 Gives work seat taken.Over before after = IsOver before after
+
+-- whether a take gave nothing, for now
+abbrev pub is_nothing : {W : Type 0} → Taken W → Bool
+is_nothing taken.Nothing = true
+is_nothing other = false
 
 -- what a take from the main queues gives the driver
 abbrev pub GivesMain : {W : Type 0} → (W → AssignmentView) → ℕ → Option W → EnvView → EnvView → Type 0

@@ -1,5 +1,5 @@
 -- What contracts see of a desk, and what one hold of the turn does to it (this project's own rules).
-use Rattle.std.specs.Prelude.{◌≡◌, ℕ, ◌+◌, ◌≤◌, Bool, true, List, [], ◌∷◌, ◌++◌}
+use Rattle.std.specs.Prelude.{◌≡◌, ℕ, ◌+◌, ◌≤◌, Bool, true, false, List, [], ◌∷◌, ◌++◌}
 use Rattle.atomic_table.specs.Seated.{TableId}
 use Rattle.task_base.specs.Plan.{Plan}
 use Rattle.task_base.specs.declared.entry.Entry.{Entry}
@@ -15,7 +15,7 @@ pub record Origin : Type 0 where
 
 -- a desk: the script of the run, the seat's number, where it comes from, the beginning of the history that it has seen,
 -- how many times it took the turn; how many loads it made without the turn, which word the last of them read, and whether it is
--- told of a shutdown
+-- told of a shutdown; and whether the seat was noted as one that rests by the last call, and has not slept since
 pub record DeskView : Type 0 where
   pub script : Plan
   pub seat : ℕ
@@ -25,6 +25,7 @@ pub record DeskView : Type 0 where
   pub loads : ℕ
   pub last : ℕ
   pub told : Bool
+  pub rests : Bool
 
 -- the seat's own entries in what it has seen
 abbrev pub mine : DeskView → List Entry
@@ -67,8 +68,14 @@ pub record Holds (old : DeskView) (past : List Entry) (new : DeskView) : Type 0 
   pub own : own_entries old.seat past ≡ mine old
   pub legal : IsLegal old.script past
 
--- one hold of the turn, from whose past the environment answers so; what it left is seen
-pub record Answers (old new : DeskView) (answer : EnvView → EnvView → Type 0) : Type 0 where
+-- one hold of the turn, from whose past the environment answers so; what it left is seen, and this says whether the seat was
+-- noted in it as one that rests
+pub record AnswersWith (rests : Bool) (old new : DeskView) (answer : EnvView → EnvView → Type 0) : Type 0 where
   pub past : List Entry
   pub holds : Holds old past new
   pub answered : answer (view_at old past) (as_seen new)
+  pub rests_is : new.rests ≡ rests
+
+-- one hold of the turn, from whose past the environment answers so; the seat is not noted as one that rests
+abbrev pub Answers : DeskView → DeskView → (EnvView → EnvView → Type 0) → Type 0
+Answers = AnswersWith false

@@ -1,5 +1,5 @@
 -- What the driver does at its desk, and what becomes of the desks that it serves while it waits.
-use Rattle.std.specs.Prelude.{◌≡◌, ℕ, ◌+◌, true, List, [], ◌∷◌, length, slice_get, Option, Some}
+use Rattle.std.specs.Prelude.{◌≡◌, ℕ, ◌+◌, ◌<◌, true, List, [], ◌∷◌, length, slice_get, Option, Some}
 use Rattle.task_base.specs.declared.script.Action.{Action}
 use Rattle.task_base.specs.declared.entry.Entry.{Entry}
 use Rattle.task_base.specs.declared.entry.Kind.{Kind}
@@ -45,3 +45,7 @@ AllFree {D} desk desks = (i : ℕ) (d : D) → slice_get desks i ≡ Some d → 
 pub record SameDesks {D : Type 0} (desk : D → DeskView) (old new : List D) : Type 0 where
   pub as_many : length new ≡ length old
   pub each : (i : ℕ) (a b : D) → slice_get old i ≡ Some a → slice_get new i ≡ Some b → IsLater (desk a) (desk b)
+
+-- each of the desks has taken the turn since, once at least
+abbrev pub AllServed : {D : Type 0} → (D → DeskView) → List D → List D → Type 0
+AllServed {D} desk old new = (i : ℕ) (a b : D) → slice_get old i ≡ Some a → slice_get new i ≡ Some b → (desk a).turns < (desk b).turns

@@ -1,5 +1,5 @@
 -- A task that a seat has taken, while its steps are done.
-use Rattle.std.specs.Prelude.{◌≡◌, ℕ, ◌≤◌, true, List, ◌++◌, filter, length}
+use Rattle.std.specs.Prelude.{◌≡◌, ℕ, ◌≤◌, true, List, [], ◌++◌, filter, length}
 use Rattle.std.specs.List.{AllByRecursion}
 use Rattle.task_base.specs.Steps.{is_act}
 use Rattle.task_base.specs.declared.entry.Entry.{Entry}
@@ -28,3 +28,10 @@ pub record HasDoneActs (old new : DeskView) : Type 0 where
   pub made : List Entry
   pub grows : mine new ≡ mine old ++ made
   pub acts : AllByRecursion (λ e. is_acting e.kind ≡ true) made
+
+-- the seat runs this task, of which no step is left; since then, when it was this one, the seat entered its act steps alone
+pub record HasDoneSteps (old new : DeskView) (begun work : AssignmentView) : Type 0 where
+  pub under_way : IsUnderWay new work
+  pub none_left : work.rest ≡ []
+  pub same : work ≡ record begun { value = work.value; rest = [] }
+  pub acts : HasDoneActs old new

@@ -1,12 +1,12 @@
-ghost use Rattle.std.specs.Prelude.{◌≡◌, ◌<◌, ℕ, Bool, true, length};
+ghost use Rattle.std.specs.Prelude.{◌≡◌, ◌<◌, ℕ, Bool, true, false, length};
 ghost use Rattle.task_base.specs.declared.entry.JobReply.{JobReply};
 ghost use Rattle.task_model.specs.Jobs.{item_value};
 ghost use Rattle.task_base.specs.declared.entry.Kind.TheVariants as kinds;
 ghost use Rattle.env_core.specs.Calls.{IsNextAct, CanEnd, CanEndMain};
 ghost use Rattle.env_core.specs.Jobs.{CanEndItem};
-ghost use Rattle.env_crew.specs.Calls.{Gives, GivesItem, GivesMain, HasActed, HasEnded, HasEndedMain, HasLooked, HasStepped};
+ghost use Rattle.env_crew.specs.Calls.{Gives, GivesItem, GivesMain, HasActed, HasEnded, HasEndedMain, HasLooked, HasStepped, is_nothing};
 ghost use Rattle.env_crew.specs.Calls.{HasEntered, HasPosted, HasPostedJob, HasPostedMain, HasTicked, TriesCancelled, TriesDone, TriesIdle, TriesJoined};
-ghost use Rattle.env_crew.specs.Desk.{DeskView, Answers, as_seen};
+ghost use Rattle.env_crew.specs.Desk.{DeskView, Answers, AnswersWith, as_seen};
 ghost use Rattle.env_crew.specs.Driving.{IsWanted};
 ghost use Rattle.env_crew.specs.Serving.{IsFree};
 
@@ -21,9 +21,9 @@ use task_body::{Act, JobPass, Taken};
 /// One seat of an environment that many threads share (this project's own rule; a worker of Chromium's pool reaches the
 /// shared pool through the delegate of `base/task/thread_pool/worker_thread.h`).
 ///
-/// Each call but `number` and `job_value` takes the turn once, and so may wait for it. Between two calls other seats may make entries,
-/// never this one. Seat 0 is the driver's, which performs the script. A condition is one on the seat's own entries, so
-/// that no other seat can break it.
+/// Each call but `number`, `job_value` and `sleep` takes the turn once, and so may wait for it. Between two calls other seats
+/// may make entries, never this one. Seat 0 is the driver's, which performs the script. A condition is one on the seat's own
+/// entries, or on its last call, so that no other seat can break it.
 pub trait Desk {
     /// The assignment that `take` and `main_take` give.
     type Work: Assigned;
@@ -107,17 +107,18 @@ pub trait Desk {
     /// it may take wakes it, and it may `sleep` until then.
     fn take_or_rest<R: Wait>(&mut self, rt: &R) -> Taken<Self::Work>
         requires { IsFree (desk self.old) }
-        ensures { Answers (desk self.old) (desk self.new) (Gives Self.Work.work (desk self.old).seat result) };
+        ensures { AnswersWith (is_nothing result) (desk self.old) (desk self.new) (Gives Self.Work.work (desk self.old).seat result) };
 
     /// The driver, which waits, has its seat noted as one that rests: whoever brings about what it waits for wakes it, and it
     /// may `sleep` until then. Where that has come already, it is woken at once.
     fn rest<R: Wait>(&mut self, rt: &R)
-        ensures { Answers (desk self.old) (desk self.new) HasLooked };
+        ensures { AnswersWith true (desk self.old) (desk self.new) HasLooked };
 
-    /// The seat's thread sleeps until the seat is woken, and not at all where it was woken since it was noted, or was not
-    /// noted by its last `take_or_rest` or `rest`. It takes no turn.
+    /// The seat's thread, whose last call noted the seat as one that rests, sleeps until the seat is woken, and not at all where
+    /// it was woken since it was noted. Once for each note. It takes no turn.
     fn sleep<R: Wait>(&mut self, rt: &R)
-        ensures { desk self.new ≡ desk self.old };
+        requires { (desk self.old).rests ≡ true }
+        ensures { desk self.new ≡ record (desk self.old) { rests = false } };
 
     /// The seat's task does its next act step. False where that is a post that is refused.
     fn act<R: Wait>(&mut self, rt: &R, act: Act) -> bool

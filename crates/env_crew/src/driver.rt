@@ -8,7 +8,7 @@ ghost use Rattle.env_crew.specs.Desk.{IsLater, mine};
 ghost use Rattle.env_crew.specs.Driving.{AllFree, HasDone, AreLeft, KeepsTime, SameDesks};
 
 use crate::desk::Desk;
-use crate::steps::do_steps;
+use crate::steps::do_main_task;
 use crate::waits::{finish_cancel, finish_shutdown, flush, join};
 use env_io::{Clock, Gate};
 use std::sync::Wait;
@@ -37,7 +37,7 @@ fn pump<D: Desk, R: Wait>(rt: &R, desk: &mut D, count: u32)
     for _ in 0..count {
         match desk.main_take(rt) {
             Some(work) => {
-                let work = do_steps(rt, desk, work);
+                let work = do_main_task(rt, desk, work);
                 desk.main_end(rt, work);
             }
             None => return,

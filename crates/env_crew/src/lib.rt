@@ -1,5 +1,5 @@
-//! Workers and the driver, as functions over a desk: one seat of an environment that many threads share. Each call of a
-//! desk takes the turn, makes at most one entry, and gives the turn back. What is proved here holds of every kind of desk.
+//! Workers and the driver, as functions over a desk: one seat of an environment that many threads share. A call of a desk
+//! that takes the turn makes at most one entry, and gives the turn back. What is proved here holds of every kind of desk.
 #![tactic(auto)]
 
 mod assigned;

@@ -4,7 +4,7 @@ ghost use Rattle.task_base.specs.declared.script.Action.{Action};
 ghost use Rattle.task_base.specs.declared.script.Action.TheVariants as actions;
 ghost use Rattle.task_model.specs.Seats.{is_free};
 ghost use Rattle.env_crew.specs.Desk.{IsLater, mine, with_own};
-ghost use Rattle.env_crew.specs.Driving.{AllFree, HasDone, AreLeft, IsWanted, SameDesks};
+ghost use Rattle.env_crew.specs.Driving.{AllFree, AllServed, HasDone, AreLeft, IsWanted, SameDesks};
 
 use crate::desk::Desk;
 use crate::items::do_items;
@@ -19,6 +19,7 @@ fn serve_each<D: Desk, G: Gate, R: Wait>(rt: &R, spare: &mut Rows<D>, gate: &G)
     requires free { AllFree D.desk spare.old.items }
     ensures free { AllFree D.desk spare.new.items }
     ensures same { SameDesks D.desk spare.old.items spare.new.items }
+    ensures served { AllServed D.desk spare.old.items spare.new.items }
 {
     for place in 0..spare.len() {
         if let Some(desk) = spare.at_mut(place) {
@@ -41,6 +42,7 @@ fn pause<D: Desk, G: Gate, R: Wait>(
     ensures entered { mine (D.desk desk.new) ≡ mine (D.desk desk.old) }
     ensures free { AllFree D.desk spare.new.items }
     ensures same { SameDesks D.desk spare.old.items spare.new.items }
+    ensures served { AllServed D.desk spare.old.items spare.new.items }
 {
     if patience.is_over() && spare.is_empty() {
         desk.rest(rt);

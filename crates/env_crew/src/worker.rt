@@ -1,13 +1,13 @@
-ghost use Rattle.std.specs.Prelude.{◌≡◌, ◌<◌, true};
+ghost use Rattle.std.specs.Prelude.{◌≡◌, ◌<◌, ◌&&◌, true};
 ghost use Rattle.hist_model.specs.Script.{is_finished};
-ghost use Rattle.env_crew.specs.Calls.{Gives};
-ghost use Rattle.env_crew.specs.Desk.{Answers, IsLater};
+ghost use Rattle.env_crew.specs.Calls.{Gives, is_nothing};
+ghost use Rattle.env_crew.specs.Desk.{AnswersWith, IsLater};
 ghost use Rattle.env_crew.specs.Serving.{HasServed, IsFree};
 
 use crate::assigned::Assigned;
 use crate::desk::Desk;
 use crate::items::do_items;
-use crate::steps::do_steps;
+use crate::steps::{do_pool_task, pass_gate};
 use env_io::Gate;
 use std::sync::Wait;
 use task_body::Taken;
@@ -42,11 +42,12 @@ fn serve_or<D: Desk, G: Gate, R: Wait>(rt: &R, desk: &mut D, gate: &G, may_rest:
     ensures later { IsLater (D.desk desk.old) (D.desk desk.new) }
     ensures turned { (D.desk desk.old).turns < (D.desk desk.new).turns }
     ensures served { HasServed (D.desk desk.old) (D.desk desk.new) result }
+    ensures noted { result ≡ Served.Nothing → (D.desk desk.new).rests ≡ may_rest }
 {
     match ask(rt, desk, may_rest) {
         Taken::Task(work) => {
-            gate.before(desk.number(), work.task());
-            let work = do_steps(rt, desk, work);
+            let passed = pass_gate(gate, desk.number(), work.task());
+            let work = do_pool_task(rt, desk, passed, work);
             desk.end(rt, work);
         }
         Taken::Item(pass) => do_items(rt, desk, pass),
@@ -56,10 +57,10 @@ fn serve_or<D: Desk, G: Gate, R: Wait>(rt: &R, desk: &mut D, gate: &G, may_rest:
     Served::Worked
 }
 
-// Asks for work.
+// Asks for work. Where the worker may rest, and there is nothing, its seat is noted as one that rests.
 fn ask<D: Desk, R: Wait>(rt: &R, desk: &mut D, may_rest: bool) -> Taken<D::Work>
     requires { IsFree (D.desk desk.old) }
-    ensures { Answers (D.desk desk.old) (D.desk desk.new) (Gives D.Work.work (D.desk desk.old).seat result) }
+    ensures { AnswersWith (may_rest && is_nothing result) (D.desk desk.old) (D.desk desk.new) (Gives D.Work.work (D.desk desk.old).seat result) }
 {
     if may_rest {
         desk.take_or_rest(rt)

@@ -21,18 +21,18 @@ main_take-requires g c =
     (was.at c.requires.at.0 c.requires.at.1) (pump_waits was c.loop-test.true)
     (and_parts (is_none (running (mine f) 0)) (is_none (holding (mine f) 0)) was.rests).0
 
-pub do_steps-work-requires : goal.do_steps-work-requires
-do_steps-work-requires g c =
+pub do_main_task-work-requires-clause-taken : goal.do_main_task-work-requires-clause-taken
+do_main_task-work-requires-clause-taken g c =
     under_way_behind_main_take _ _ c.in-Some.ensures.past _ (c.loop.invariant.later.seat_is ∙ c.requires.driver) c.in-Some.ensures.holds
     c.in-Some.ensures.answered
 
 pub main_end-requires : goal.main_end-requires
 main_end-requires g c =
     let took = c.in-Some.ensures in
-    let did = c.do_steps-work.ensures in
-    may_end_main (g.D.Desk.desk c.do_steps-work.new.desk) (g.D.Work.Assigned.work c.do_steps-work.result) did.under_way
-    (still_main (g.D.Desk.desk c.loop.desk) (g.D.Desk.desk c.main_take.new.self) (g.D.Desk.desk c.do_steps-work.new.desk) took.past
-    (g.D.Work.Assigned.work c.in-Some.work) (g.D.Work.Assigned.work c.do_steps-work.result) took.holds took.answered did.acts did.under_way) did.none_left
+    let did = c.do_main_task-work.ensures in
+    may_end_main (g.D.Desk.desk c.do_main_task-work.new.desk) (g.D.Work.Assigned.work c.do_main_task-work.result) did.under_way
+    (still_main (g.D.Desk.desk c.loop.desk) (g.D.Desk.desk c.main_take.new.self) (g.D.Desk.desk c.do_main_task-work.new.desk) took.past
+    (g.D.Work.Assigned.work c.in-Some.work) (g.D.Work.Assigned.work c.do_main_task-work.result) took.holds took.answered did.acts did.under_way) did.none_left
 
 pub loop-preserved : goal.loop-preserved
 loop-preserved g c =
@@ -40,11 +40,11 @@ loop-preserved g c =
     let took = c.in-Some.ensures in
     let ended = c.main_end.ensures in
     let begun = g.D.Work.Assigned.work c.in-Some.work in
-    let last = g.D.Work.Assigned.work c.do_steps-work.result in
+    let last = g.D.Work.Assigned.work c.do_main_task-work.result in
     pump_goes_on begun last was c.loop-test.true (was.later.seat_is ∙ c.requires.driver) (has_worked (g.D.Desk.desk c.loop.desk)
-    (g.D.Desk.desk c.main_take.new.self) (g.D.Desk.desk c.do_steps-work.new.desk) (g.D.Desk.desk c.main_end.new.self) took.past ended.past
+    (g.D.Desk.desk c.main_take.new.self) (g.D.Desk.desk c.do_main_task-work.new.desk) (g.D.Desk.desk c.main_end.new.self) took.past ended.past
     (kinds.MainTake begun.task begun.home begun.found) (kinds.MainEnd last.task last.value) took.holds took.answered.enters
-    c.do_steps-work.ensures.acts ended.holds ended.answered)
+    c.do_main_task-work.ensures.acts ended.holds ended.answered)
 
 pub returns-in-None : goal.returns-in-None
 returns-in-None g c clock =

@@ -5,17 +5,17 @@ use Rattle.env_crew.proofs.worker.serve_or.Goals as goal
 
 -- A task.
 
-pub do_steps-work-requires : goal.do_steps-work-requires
-do_steps-work-requires g c =
+pub do_pool_task-work-requires-clause-taken : goal.do_pool_task-work-requires-clause-taken
+do_pool_task-work-requires-clause-taken g c =
     under_way_behind_take _ _ c.in-Task.ensures.past _ c.requires.free c.in-Task.ensures.holds c.in-Task.ensures.answered
 
 pub end-requires : goal.end-requires
 end-requires g c =
     let took = c.in-Task.ensures in
-    let did = c.do_steps-work.ensures in
-    may_end (g.D.Desk.desk c.do_steps-work.new.desk) (g.D.Work.Assigned.work c.do_steps-work.result) did.under_way
-    (still_pool (g.D.Desk.desk c.args.desk.now) (g.D.Desk.desk c.ask.new.desk) (g.D.Desk.desk c.do_steps-work.new.desk) took.past
-    (g.D.Work.Assigned.work c.in-Task.work) (g.D.Work.Assigned.work c.do_steps-work.result) took.holds took.answered did.acts did.under_way) did.none_left
+    let did = c.do_pool_task-work.ensures in
+    may_end (g.D.Desk.desk c.do_pool_task-work.new.desk) (g.D.Work.Assigned.work c.do_pool_task-work.result) did.under_way
+    (still_pool (g.D.Desk.desk c.args.desk.now) (g.D.Desk.desk c.ask.new.desk) (g.D.Desk.desk c.do_pool_task-work.new.desk) took.past
+    (g.D.Work.Assigned.work c.in-Task.work) (g.D.Work.Assigned.work c.do_pool_task-work.result) took.holds took.answered did.acts did.under_way) did.none_left
 
 pub returns-in-Task : goal.returns-in-Task
 returns-in-Task g c =
@@ -23,14 +23,15 @@ returns-in-Task g c =
     let new = g.D.Desk.desk c.end.new.self in
     let took = c.in-Task.ensures in
     let ended = c.end.ensures in
-    let worked = has_worked old (g.D.Desk.desk c.ask.new.desk) (g.D.Desk.desk c.do_steps-work.new.desk) new took.past ended.past _ _ took.holds
-    took.answered.enters c.do_steps-work.ensures.acts ended.holds ended.answered in
+    let worked = has_worked old (g.D.Desk.desk c.ask.new.desk) (g.D.Desk.desk c.do_pool_task-work.new.desk) new took.past ended.past _ _ took.holds
+    took.answered.enters c.do_pool_task-work.ensures.acts ended.holds ended.answered in
     record {
       free = still_free old new c.requires.free worked.later.script_is worked.later.seat_is
           (rests_behind_work worked (λ held. refl) (λ held. refl) (λ before. refl) c.requires.free.free);
       later = worked.later;
       turned = worked.turned;
       served = longer_behind_work worked;
+      noted = λ nothing. cc;
     }
 
 -- Items of a job.
@@ -62,4 +63,5 @@ returns-in-Item g c =
       later = visit.later;
       turned = visit.turned;
       served = longer_behind_visit visit;
+      noted = λ nothing. cc;
     }
