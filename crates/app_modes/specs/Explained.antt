@@ -9,7 +9,7 @@ use Rattle.entry_lines.specs.Spelling.{IsMeant}
 use Rattle.run_log.specs.TextLines.{IsBadLine, text_lines}
 use Rattle.next_entry.specs.declared.cause.Explanation.{Explanation}
 use Rattle.next_entry.specs.declared.cause.Explanation.TheVariants.{Legal, Barred, Unfinished, AtWork}
-use Rattle.env_explain.specs.Explained.{IsExplained, NamesAllowed, verdict_told}
+use Rattle.env_explain.specs.Explained.{IsExplained, NamesAllowed, RulesOut, verdict_told}
 use Rattle.env_check.specs.Verdicts.{verdict_of}
 use Rattle.explain_text.specs.Json.{bad_line_json, told_json}
 use Rattle.explain_text.specs.Plain.{bad_line_text, told_text}
@@ -40,11 +40,13 @@ abbrev pub said_of_bad : Bool → Version → ℕ → Option Entry → List ℕ
 said_of_bad false version line meant = bad_line_text line (line - 1 - lines_before version) meant
 said_of_bad true version line meant = bad_line_json line (line - 1 - lines_before version) meant
 
--- an explanation of the verdict on a log: the cause that it gives holds, and the entry that it names is allowed
+-- an explanation of the verdict on a log: the cause that it gives holds, the entry that it names is allowed, and what it rules out
+-- is not
 pub record IsExplanation (script : Plan) (log : List Entry) (told : Explanation) : Type 0 where
   pub verdict : verdict_told told ≡ verdict_of script log
   pub holds : IsExplained script log told
   pub named : NamesAllowed script log told
+  pub ruled_out : RulesOut script log told
 
 -- the text is that of a log, at this line the log is found to be no legal, whole one, or nowhere, and an explanation of that is
 -- said

@@ -1,5 +1,5 @@
 -- Why a log is not legal and whole.
-use Rattle.std.specs.Prelude.{◌≡◌, ◌⊎◌, ℕ, ◌≤◌, true, false, List, length, slice_get, take, Option, Some, None, option_and_then}
+use Rattle.std.specs.Prelude.{◌≡◌, ◌⊎◌, ℕ, ◌≤◌, true, false, List, [], ◌∷◌, length, map, slice_get, take, Option, Some, None, option_and_then}
 use Rattle.std.specs.List.{filter_map, range_with_len}
 use Rattle.std.specs.Option.{option_map, option_or}
 use Rattle.task_base.specs.Plan.{Plan}
@@ -12,7 +12,7 @@ use Rattle.hist_model.specs.Script.{is_finished}
 use Rattle.seat_hand.specs.Hands.{is_empty}
 use Rattle.seat_hand.specs.declared.hand.Hand.{Hand}
 use Rattle.seat_hand.specs.declared.hand.Hand.TheVariants.{Free, Task, Item}
-use Rattle.next_entry.specs.Causes.{Explains, named_by}
+use Rattle.next_entry.specs.Causes.{Explains, named_by, rules_out}
 use Rattle.next_entry.specs.declared.cause.Busy.{Busy}
 use Rattle.next_entry.specs.declared.cause.Explanation.{Explanation}
 use Rattle.next_entry.specs.declared.cause.Explanation.TheVariants as explanations
@@ -41,14 +41,18 @@ work_of past seat = option_or (option_map (λ (w : Running). works.Task w.task) 
 abbrev pub at_work : Plan → List Entry → List Busy
 at_work script past = filter_map (λ seat. option_map (λ work. record { seat = seat; work = work }) (work_of past seat)) (all_seats script)
 
--- what is said of the log holds: the cause that bars an entry of it, or what a seat has left to do at its end,
--- or that the script is finished, and which seats still run or hold something
+-- where the script is finished, this seat alone runs or holds something
+abbrev pub IsOnlyOne : Plan → List Entry → ℕ → Type 0
+IsOnlyOne script past seat = is_finished script past ≡ true → map (λ (b : Busy). b.seat) (at_work script past) ≡ seat ∷ []
+
+-- what is said of the log holds: the cause that bars an entry of it, or what a seat has left to do at its end, which is the only
+-- such seat where the script is finished, or that the script is finished, and which seats still run or hold something
 abbrev pub IsExplained : Plan → List Entry → Explanation → Type 0
 IsExplained script log explanations.Legal = Unit {0}
 IsExplained script log (explanations.Barred place cause) =
     (e : Entry) × (slice_get log place ≡ Some e) × Explains cause script (take place log) e.seat (Some e.kind)
 IsExplained script log (explanations.Unfinished place seat cause) =
-    (place ≡ length log) × (seat ≤ script.workers) × HasMore script log seat × Explains cause script log seat None
+    (place ≡ length log) × (seat ≤ script.workers) × HasMore script log seat × Explains cause script log seat None × IsOnlyOne script log seat
 IsExplained script log (explanations.AtWork place busy) =
     (place ≡ length log) × (is_finished script log ≡ true) × (busy.items ≡ at_work script log) × (2 ≤ length busy.items)
 
@@ -60,6 +64,15 @@ NamesAllowed script log (explanations.Barred place cause) = (e : Entry) (next : 
 NamesAllowed script log (explanations.Unfinished place seat cause) = (next : Kind) → named_by cause ≡ Some next
     → IsAllowed script log (entry_by seat next)
 NamesAllowed script log (explanations.AtWork place busy) = Unit {0}
+
+-- no entry that the cause rules out is allowed at the place at which the log is illegal
+abbrev pub RulesOut : Plan → List Entry → Explanation → Type 0
+RulesOut script log explanations.Legal = Unit {0}
+RulesOut script log (explanations.Barred place cause) = (e : Entry) (kind : Kind) → slice_get log place ≡ Some e → rules_out cause kind ≡ true
+    → ¬ IsAllowed script (take place log) (entry_by e.seat kind)
+RulesOut script log (explanations.Unfinished place seat cause) = (kind : Kind) → rules_out cause kind ≡ true
+    → ¬ IsAllowed script log (entry_by seat kind)
+RulesOut script log (explanations.AtWork place busy) = Unit {0}
 
 -- the seat has something in hand
 abbrev pub HasInHand : List Hand → ℕ → Type 0

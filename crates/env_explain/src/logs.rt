@@ -3,7 +3,7 @@ ghost use Rattle.script_model.specs.Laws.Sound.{IsSound};
 ghost use Rattle.hist_model.specs.Legal.{IsLegal};
 ghost use Rattle.hist_model.specs.Script.{IsWhole};
 ghost use Rattle.env_check.specs.Verdicts.{verdict_of};
-ghost use Rattle.env_explain.specs.Explained.{IsExplained, NamesAllowed, verdict_told};
+ghost use Rattle.env_explain.specs.Explained.{IsExplained, NamesAllowed, RulesOut, verdict_told};
 
 use crate::explain::{explain, explain_end};
 use env_check::{Verdict, check_log, follow_all};
@@ -24,6 +24,7 @@ pub fn explain_log(
     ensures legal { IfOk result (λ told. (told ≡ Explanation.Legal) ↔ (IsLegal script.now log.now.items × IsWhole script.now log.now.items)) }
     ensures cause { IfOk result (λ told. IsExplained script.now log.now.items told) }
     ensures named { IfOk result (λ told. NamesAllowed script.now log.now.items told) }
+    ensures ruled_out { IfOk result (λ told. RulesOut script.now log.now.items told) }
 {
     let verdict = check_log(alloc, script, log)?;
     match verdict {

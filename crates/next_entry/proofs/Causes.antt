@@ -1,5 +1,5 @@
 -- Why an entry may not come: what the driver's action wants, and what a task does next.
--- Cited by `acted`, `next_of_item`, `next_of_task`, 7 functions of `wanted`.
+-- Cited by `acted`, `next_of_item`, `next_of_task`, 7 functions of `wanted`, `Waits`.
 use Rattle.hist_model.proofs.Laws.Progress.Actions.{same_policy_now, same_fence_now}
 use Rattle.hist_model.proofs.Laws.Progress.Driver.{current_waits}
 use Rattle.std.proofs.Common.{◌≡◌, ◌⊎◌, inl, inr, ℕ, zero, suc, ◌≤◌, Bool, true, false, List, [], ◌∷◌}
@@ -154,7 +154,7 @@ one_made n (e ∷ []) is some open_yet = refl
 one_made n (e ∷ f ∷ more) is some open_yet = absurd cc
 
 -- an action of two entries has made so many
-two_made : (script : Plan) (own made : List Entry) (action : Action) (n : ℕ) → ((entries : List Entry) → behind_action action entries ≡ behind 2 entries)
+pub two_made : (script : Plan) (own made : List Entry) (action : Action) (n : ℕ) → ((entries : List Entry) → behind_action action entries ≡ behind 2 entries)
     → ((entries : List Entry) → counted (action ∷ []) entries ≡ length entries) → current script own ≡ Some (record { action = action; made = made })
     → IfSome (current script own) (λ c. n ≡ counted (c.action ∷ []) c.made) → (n ≡ length made) × (1 ≤ n → length made ≡ 1)
 unfolding current

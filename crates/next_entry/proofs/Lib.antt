@@ -1,3 +1,4 @@
 pub mod Bars
 pub mod Causes
 pub mod Ranks
+pub mod Waits

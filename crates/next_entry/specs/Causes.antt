@@ -16,6 +16,7 @@ use Rattle.hist_model.specs.Allowed.{IsAllowed}
 use Rattle.hist_model.specs.Script.{Current, current, is_finished}
 use Rattle.hist_model.specs.Views.{own_entries}
 use Rattle.pool_core.specs.Calls.{running_tasks, is_any_ready}
+use Rattle.env_core.specs.Waits.{may_go_on}
 use Rattle.seat_hand.specs.Entries.{takes_source}
 use Rattle.next_entry.specs.Bars.{bar_of, is_room_for}
 use Rattle.next_entry.specs.Ranks.{edge_of}
@@ -60,6 +61,11 @@ pub record IsAtAction (script : Plan) (past : List Entry) (seat : ℕ) (action :
   pub free : is_free past 0 ≡ true
   pub action_is : option_map (λ (c : Current). c.action) (current script (own_entries 0 past)) ≡ Some action
 
+-- the driver waits at this action: what the action waits for has not come
+pub record WaitsAt (script : Plan) (past : List Entry) (seat : ℕ) (action : Action) : Type 0 where
+  pub at : IsAtAction script past seat action
+  pub waits : may_go_on script past ≡ false
+
 -- this is against the take of the source that the entry takes; where it is the limits, they leave no room for it
 pub record IsBarred (script : Plan) (past : List Entry) (seat : ℕ) (kind : Option Kind) (bar : Bar) : Type 0 where
   pub first : option_map (bar_of script past seat) kind ≡ Some bar
@@ -80,13 +86,13 @@ Explains (causes.NoSource bar) script past seat kind =
     IsFreeWorkers past seat × (is_finished script past ≡ false) × (best_of script past seat ≡ None) × IsBarred script past seat kind bar
 Explains causes.Finished script past seat kind = (is_free past seat ≡ true) × (is_finished script past ≡ true)
 Explains (causes.NotIdle running ready) script past seat kind =
-    IsAtAction script past seat actions.Flush × (running ≡ running_tasks script past) × (ready ≡ is_any_ready script past)
+    WaitsAt script past seat actions.Flush × (running ≡ running_tasks script past) × (ready ≡ is_any_ready script past)
     × ((1 ≤ running) ⊎ (ready ≡ true))
 Explains (causes.Inside job seats) script past seat kind =
-    (IsAtAction script past seat (actions.Cancel job) ⊎ IsAtAction script past seat (actions.Join job))
+    (WaitsAt script past seat (actions.Cancel job) ⊎ WaitsAt script past seat (actions.Join job))
     × (seats ≡ length (inside script past job)) × (1 ≤ seats)
 Explains (causes.Blocked count) script past seat kind =
-    IsAtAction script past seat actions.Shutdown × (count ≡ blockers_of script past) × (1 ≤ count)
+    WaitsAt script past seat actions.Shutdown × (count ≡ blockers_of script past) × (1 ≤ count)
 
 -- the entry that a cause names
 abbrev pub named_by : Cause → Option Kind
@@ -95,3 +101,16 @@ named_by (causes.Holds job next) = Some next
 named_by (causes.Wants next) = Some next
 named_by (causes.Best next edge) = Some next
 named_by cause = None
+
+-- the cause rules out that the seat makes an entry of this kind: all kinds, where there is no such seat, where nothing is left for
+-- it, and where it waits; those that the driver alone makes, or that a task or an item makes, where the cause says that; and none
+-- where the cause names an entry
+abbrev pub rules_out : Cause → Kind → Bool
+rules_out causes.NoSeat kind = true
+rules_out causes.OnlyDriver kind = is_drivers kind
+rules_out causes.RunsNothing kind = is_of_work kind
+rules_out (causes.Runs task next) kind = false
+rules_out (causes.Holds job next) kind = false
+rules_out (causes.Wants next) kind = false
+rules_out (causes.Best next edge) kind = false
+rules_out cause kind = true

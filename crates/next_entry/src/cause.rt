@@ -27,7 +27,7 @@ pub enum Cause {
     NotIdle { running: u32, ready: bool },
     /// The driver waits for a job that it has cancelled, or joins, and may not go in itself: so many seats are inside.
     Inside { job: JobId, seats: u32 },
-    /// The driver waits until shutdown is done: so much work blocks it.
+    /// The driver has started shutdown, and waits until it is done: so much work blocks it.
     Blocked { count: u32 },
 }
 
@@ -101,7 +101,8 @@ pub enum Explanation {
         place: u32,
         cause: Cause,
     },
-    /// Each entry may come, but at the log's end, which is this place, a seat has something left to do.
+    /// Each entry may come, but at the log's end, which is this place, a seat has something left to do; where the script is
+    /// finished, this one alone.
     Unfinished {
         place: u32,
         seat: SeatNo,

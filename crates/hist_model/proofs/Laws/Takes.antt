@@ -1,8 +1,8 @@
 -- What is known of an allowed take.
 -- Cited by `Laws/Consistent`, `Laws/Due`, `Laws/Entries/Bound`, `Laws/Fences`, `Laws/Fitting/Entries`, `Laws/JobEntries`, `Laws/OneSeat`,
 -- `Laws/OneThing`, `Laws/Postings/Counts`, `Laws/Progress/Coming`, `Laws/Progress/Driver`, `Laws/Progress/Ends`, `Laws/Progress/Tasks`,
--- `Laws/Shutdown/Histories`, `Laws/Singly`, `Laws/Starts`, `Laws/State`, `Laws/Ways`, `seats.rt`, `env_core`, `log_replay`, `run_summary`,
--- `task_reply`, `trace_json`.
+-- `Laws/Shutdown/Histories`, `Laws/Singly`, `Laws/Starts`, `Laws/State`, `Laws/Ways`, `seats.rt`, `env_core`, `env_explain`, `log_replay`,
+-- `run_summary`, `task_reply`, `trace_json`.
 use Rattle.std.proofs.Common.{◌≡◌, ℕ, ◌≤◌, true, false, eqb, leb, List, sym, ap, subst, ◌∙◌, Some, ◌⊎◌, inl, inr, ⊎_elim}
 use Rattle.std.specs.Prelude.{not, ◌&&◌}
 use Rattle.std.proofs.lemmas.Bool.{or_cases, eqb-true, leb-true, and_parts, not-true}

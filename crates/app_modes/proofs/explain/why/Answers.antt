@@ -25,7 +25,12 @@ returns c =
       log = c.in-Ok.log.items;
       of = record { fits = c.in-Ok.ensures.fits; version = version_of c.args.text.now; same = c.in-Ok.ensures.text };
       told = told;
-      is = record { verdict = c.in_ok-told.ensures.verdict; holds = c.in_ok-told.ensures.cause; named = c.in_ok-told.ensures.named };
+      is = record {
+        verdict = c.in_ok-told.ensures.verdict;
+        holds = c.in_ok-told.ensures.cause;
+        named = c.in_ok-told.ensures.named;
+        ruled_out = c.in_ok-told.ensures.ruled_out;
+      };
       line_is = rw (verdict, c.lines_before.ensures, c.version_of.ensures) refl;
       said_is = rw c.as_slice.ensures at c.in_ok-text.ensures;
     })

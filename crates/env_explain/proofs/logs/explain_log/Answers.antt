@@ -1,6 +1,7 @@
 use Rattle.std.proofs.Common.{sym, ◌∙◌}
 use Rattle.next_entry.specs.declared.cause.Explanation.TheVariants as explanations
 use Rattle.env_explain.proofs.Explained.{legal_told, names_allowed}
+use Rattle.env_explain.proofs.RuledOut.{rules_out_all}
 use Rattle.env_explain.proofs.logs.explain_log.Goals as goal
 
 pub returns-in-Legal-clause-verdict : goal.returns-in-Legal-clause-verdict
@@ -17,6 +18,9 @@ returns-in_ok-told-in-Illegal-clause-legal c = legal_told c.args.script.now c.ar
 
 pub returns-in_ok-told-in-Illegal-clause-named : goal.returns-in_ok-told-in-Illegal-clause-named
 returns-in_ok-told-in-Illegal-clause-named c = names_allowed c.args.script.now c.args.log.now.items _ c.in_ok-told-in-Illegal.ensures.cause
+
+pub returns-in_ok-told-in-Illegal-clause-ruled_out : goal.returns-in_ok-told-in-Illegal-clause-ruled_out
+returns-in_ok-told-in-Illegal-clause-ruled_out c = rules_out_all c.args.script.now c.args.log.now.items _ c.in_ok-told-in-Illegal.ensures.cause
 
 pub explain_at-requires : goal.explain_at-requires
 explain_at-requires c = record { plan = c.requires; illegal = sym c.in_ok-verdict.ensures.verdict ∙ c.in-Illegal.is }

@@ -1,6 +1,7 @@
 use Rattle.std.proofs.Common.{◌∙◌, arith, inl, refl, sym}
 use Rattle.std.proofs.lemmas.Bool.{eq-eqb, false≢true}
 use Rattle.next_entry.proofs.Causes.{some_are, wants_cancel, wants_cancelled}
+use Rattle.next_entry.proofs.Waits.{waits_for_seats}
 use Rattle.next_entry.proofs.wanted.next_of_cancel.Goals as goal
 
 pub job_cancel-requires : goal.job_cancel-requires
@@ -17,5 +18,8 @@ returns-in-Ok c kind = (refl, c.requires.at.free, c.in-Ok.ensures.enters.allowed
 
 pub returns-in-Err : goal.returns-in-Err
 returns-in-Err c kind =
-    let waits = c.in-Err.ensures in
-    (inl c.requires.at, waits.running, some_are _ (λ none. false≢true (sym waits.busy ∙ eq-eqb _ _ (sym waits.running ∙ none))))
+    let waits = c.in-Err.ensures in (
+      inl (waits_for_seats c.args.made c.requires.counts (omega arith) c.args.job c.requires.at waits.busy),
+      waits.running,
+      some_are _ (λ none. false≢true (sym waits.busy ∙ eq-eqb _ _ (sym waits.running ∙ none))),
+    )

@@ -5,6 +5,7 @@ use Rattle.task_model.specs.Jobs.{may_enter}
 use Rattle.env_core.specs.Views.{EnvView}
 use Rattle.next_entry.specs.Causes.{MayFollow}
 use Rattle.next_entry.proofs.Causes.{some_are, wants_item, wants_joined}
+use Rattle.next_entry.proofs.Waits.{waits_for_job}
 use Rattle.next_entry.proofs.wanted.next_of_join.Goals as goal
 
 pub try_joined-requires : goal.try_joined-requires
@@ -20,8 +21,11 @@ pub returns-in-None : goal.returns-in-None
 returns-in-None c kind =
     let waits = c.in-Err.ensures in
     let barred : may_enter c.args.env.now.script c.args.env.now.history c.args.job ≡ false =
-    subst (λ (v : EnvView). may_enter v.script v.history c.args.job ≡ false) waits.kept c.in-None.ensures.barred in
-    (inr c.requires, waits.running, some_are _ (λ none. false≢true (sym barred ∙ sym waits.ready ∙ waits.some none)))
+    subst (λ (v : EnvView). may_enter v.script v.history c.args.job ≡ false) waits.kept c.in-None.ensures.barred in (
+      inr (waits_for_job c.args.job c.requires barred waits.unanswered),
+      waits.running,
+      some_are _ (λ none. false≢true (sym barred ∙ sym waits.ready ∙ waits.some none)),
+    )
 
 pub returns-in-Some : goal.returns-in-Some
 returns-in-Some c kind =

@@ -1,6 +1,8 @@
-use Rattle.std.proofs.Common.{◌∙◌, arith, refl, sym}
+use Rattle.std.proofs.Common.{◌≡◌, ◌∙◌, arith, refl, sym}
 use Rattle.std.proofs.lemmas.Bool.{false≢true}
+use Rattle.task_model.specs.Blockers.{blockers_of}
 use Rattle.next_entry.proofs.Causes.{some_are, wants_done, wants_shutdown}
+use Rattle.next_entry.proofs.Waits.{waits_for_blockers}
 use Rattle.next_entry.proofs.wanted.next_of_shutdown.Goals as goal
 
 pub start_shutdown-requires : goal.start_shutdown-requires
@@ -17,4 +19,8 @@ returns-in-Ok c kind = (refl, c.requires.at.free, c.in-Ok.ensures.enters.allowed
 
 pub returns-in-Err : goal.returns-in-Err
 returns-in-Err c kind =
-    (c.requires.at, c.in-Err.ensures.blocked, some_are _ (λ none. false≢true (c.in-Err.ensures.ok.1 (sym c.in-Err.ensures.blocked ∙ none))))
+    let blocked : blockers_of c.args.env.now.script c.args.env.now.history ≡ 0 → ⊥ = λ none. false≢true (c.in-Err.ensures.ok.1 none) in (
+      waits_for_blockers c.args.made c.requires.counts (omega arith) c.requires.at blocked,
+      c.in-Err.ensures.blocked,
+      some_are _ (λ none. blocked (sym c.in-Err.ensures.blocked ∙ none)),
+    )
