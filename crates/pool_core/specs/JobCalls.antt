@@ -1,5 +1,5 @@
 -- What each call of the pool on a job asks of its caller, and answers.
-use Rattle.std.specs.Prelude.{◌≡◌, ℕ, ◌<◌, ◌≤◌, Bool, true, nat_lt, ◌&&◌, ◌||◌, if◌then◌else◌, List, length, Option, Some, None}
+use Rattle.std.specs.Prelude.{◌≡◌, ℕ, ◌<◌, ◌≤◌, Bool, true, nat_lt, ◌&&◌, ◌||◌, if◌then◌else◌, List, length, Option, Some, None, is_some}
 use Rattle.std.specs.Option.{option_map}
 use Rattle.task_base.specs.Plan.{Plan}
 use Rattle.task_base.specs.declared.entry.Entry.{Entry}
@@ -7,7 +7,7 @@ use Rattle.task_base.specs.declared.entry.JobReply.{JobReply}
 use Rattle.task_base.specs.declared.entry.Kind.TheVariants as kinds
 use Rattle.task_base.specs.Entries.{next}
 use Rattle.task_model.specs.Seats.{Holding, holding, running}
-use Rattle.task_model.specs.Jobs.{JobPosted, claimed, free_id, is_empty, job_post_of, may_enter, reply_of}
+use Rattle.task_model.specs.Jobs.{JobPosted, cap_of, claimed, free_id, is_empty, job_post_of, may_enter, reply_of}
 use Rattle.task_model.specs.Capacity.{priority_of_job}
 use Rattle.task_model.specs.Refusal.{is_job_forbidden}
 use Rattle.task_model.specs.Sources.{best_of, job_candidate, makes_way}
@@ -69,6 +69,10 @@ has_to_leave script past seat job = is_job_forbidden script past job || (nat_lt 
 -- what a join of a job is told: its reply, where nobody is inside and there is one
 abbrev pub joined_of : Plan → List Entry → ℕ → Option JobReply
 joined_of script past job = if is_empty script past job then reply_of script past job else None
+
+-- the job was posted, and by its own word somebody may be inside
+abbrev pub lets_in : Plan → List Entry → ℕ → Bool
+lets_in script past job = is_some (job_post_of past job) && nat_lt 0 (cap_of script job)
 
 -- the seat's best source is this job, which is declared
 pub record IsJobChosen (script : Plan) (past : List Entry) (pool : Pool) (seat job : ℕ) : Type 0 where

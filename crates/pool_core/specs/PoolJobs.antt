@@ -1,5 +1,5 @@
 -- One job as the pool keeps it: its items, and how it was posted.
-use Rattle.std.specs.Prelude.{ℕ, Bool, false, not, ◌&&◌, if◌then◌else◌, Option, Some, None, replicate}
+use Rattle.std.specs.Prelude.{ℕ, Bool, false, not, ◌&&◌, nat_lt, if◌then◌else◌, Option, Some, None, is_some, replicate}
 use Rattle.std.specs.Option.{option_map}
 use Rattle.task_base.specs.Plan.{JobPlan}
 use Rattle.task_base.specs.declared.entry.JobReply.{JobReply}
@@ -36,6 +36,10 @@ is_accepted job = holds_of (λ p. p.ok) job.post
 -- its post was refused
 abbrev pub is_refused : PoolJob → Bool
 is_refused job = holds_of (λ p. not p.ok) job.post
+
+-- it was posted, and by its own word somebody may be inside
+abbrev pub lets_in : PoolJob → Bool
+lets_in job = is_some job.post && nat_lt 0 job.source.cap
 
 -- it was accepted, and is not over
 abbrev pub is_open : PoolJob → Bool

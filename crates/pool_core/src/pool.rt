@@ -44,8 +44,8 @@ use task_traits::{effective, forbids};
 ///
 /// A call stands for the entry of its kind in the history. All memory is taken by `new`. A post, a take, an end, a scope, a
 /// policy and each call on a job take time logarithmic in the number of runners, tasks and jobs at most; a tick besides for
-/// each task that ripens; `is_any_ready` and `idle` look at each seat that a runner states, `reprio` at each task, and
-/// `start_shutdown` at each runner, task and job.
+/// each task that ripens; `is_any_ready` and `idle` look at each seat that a runner states, `reprio` of a parallel runner at
+/// each task, and `start_shutdown` at each runner, task and job.
 #[derive(Drop)]
 pub struct Pool {
     runners: RunnerTable,
@@ -202,9 +202,10 @@ impl Pool {
     }
 
     /// The driver gives a runner another priority: those of its sequences that wait go by it from now on; what runs counts as
-    /// it was taken. Constant time where the runner has this priority. Else it looks at each task, and twice where one of the
-    /// two priorities is best-effort: the sequence of each task of the runner is given its place anew, in logarithmic time at
-    /// most, and in constant time where the heap has these sequences alone, in the order of their posts.
+    /// it was taken. Constant time where the runner has this priority. Else a sequenced or a single-thread runner has its one
+    /// sequence given its place anew, in logarithmic time at most. Of a parallel runner it looks at each task, and twice where
+    /// one of the two priorities is best-effort: the sequence of each task of the runner is given its place anew, in
+    /// logarithmic time at most, and in constant time where the heap has these sequences alone, in the order of their posts.
     pub fn reprio(&mut self, runner: RunnerId, priority: Priority)
         requires { (script : Plan) × (past : List Entry) × KnowsRunner script past self.old runner }
         ensures { (script : Plan) (past : List Entry) (seat : ℕ) → KnowsRunner script past self.old runner
@@ -215,7 +216,11 @@ impl Pool {
             return;
         }
         self.priorities[runner as usize] = priority;
-        self.place_anew(runner, before, priority);
+        if self.runners.seq_of(runner, 0) == runner {
+            self.refresh(runner, runner);
+        } else {
+            self.place_anew(runner, before, priority);
+        }
     }
 
     /// Whether no worker runs a task or is inside a job, and none may take a source. The error says how many do, and

@@ -1,7 +1,7 @@
-ghost use Rattle.std.specs.Prelude.{◌≡◌, ◌<◌, IfOk, IfSome, IsSome, map};
-ghost use Rattle.job_source.specs.Job.{held_by, inside, next_item, with_done};
+ghost use Rattle.std.specs.Prelude.{◌≡◌, ◌<◌, IfOk, IfSome, IsSome, None, map, true};
+ghost use Rattle.job_source.specs.Job.{held_by, inside, is_empty, next_item, with_done};
 ghost use Rattle.job_source.specs.declared.source.TheConstants.{MOST_INSIDE};
-ghost use Rattle.pool_core.specs.PoolJobs.{entered_in, fresh_job, is_accepted, is_open, is_refused, joined_in, may_enter_in, rank_in, with_entered_in};
+ghost use Rattle.pool_core.specs.PoolJobs.{entered_in, fresh_job, is_accepted, is_open, is_refused, joined_in, lets_in, may_enter_in, rank_in, with_entered_in};
 
 use job_source::JobSource;
 use sequence_queue::Rank;
@@ -104,7 +104,8 @@ impl PoolJob {
 
     /// What a join of it is told in this phase, where nobody is inside and it has a reply.
     pub fn joined(&self, phase: Phase) -> Option<JobReply>
-        ensures { result ≡ joined_in phase self.now }
+        ensures told { result ≡ joined_in phase self.now }
+        ensures waits { result ≡ None → lets_in self.now ≡ true → is_empty self.now.source ≡ true → may_enter_in phase self.now ≡ true }
     {
         if self.source.inside() > 0 {
             None

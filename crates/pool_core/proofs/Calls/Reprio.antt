@@ -3,7 +3,7 @@
 use Rattle.list_laws.proofs.Places.{slice_get-set_other, slice_get-set_same}
 use Rattle.list_laws.proofs.Values.{eqb-same, some-injective}
 use Rattle.pool_core.proofs.Delays.{unripe_kept}
-use Rattle.pool_core.proofs.Sources.Following.{Tells, hold_from, hold_standing, home_is, no_first, none_behind}
+use Rattle.pool_core.proofs.Sources.Following.{Tells, hold_from, hold_standing, home_is, lane_fits, no_first, none_behind, room_for, sequence_given}
 use Rattle.pool_core.proofs.Works.GroupGrowth.{groups_kept}
 use Rattle.pool_core.proofs.Jobs.JobQueues.{jobs_wait}
 use Rattle.pool_core.proofs.Jobs.JobTables.{holders_kept, jobs_kept}
@@ -31,6 +31,18 @@ use Rattle.std.specs.Vec.{with_item}
 use Rattle.std.specs.declared.alloc.Global.{Global}
 use Rattle.std.specs.declared.vec.Vec.{Vec}
 use Rattle.task_base.specs.Plan.{Plan}
+use Rattle.task_base.specs.Runners.{sequence_of, is_parallel}
+use Rattle.list_laws.specs.Lists.{holds_of}
+use Rattle.std.specs.Prelude.{slice_get}
+use Rattle.std.proofs.Common.{Bool, cond, arith, subst, ◌+◌, false, lt-ltb}
+use Rattle.task_sequence.specs.Sequences.{first_of}
+use Rattle.sequence_queue.specs.Ranked.{IsMadeFor}
+use Rattle.pool_core.specs.Queues.{queue_of, sequence_room}
+use Rattle.pool_core.specs.State.{HasPlace, lane_by, refreshed}
+use Rattle.pool_core.proofs.Sources.Queues.{hold_given}
+use Rattle.pool_core.proofs.Lines.{first_is_head}
+use Rattle.pool_core.proofs.Accepted.{head_accepted}
+use Rattle.task_base.specs.declared.source.Key.{Key}
 use Rattle.task_base.specs.Runners.{sequence_count}
 use Rattle.task_base.specs.declared.entry.Entry.{Entry}
 use Rattle.task_base.specs.declared.source.TaskSource.{TaskSource}
@@ -57,12 +69,12 @@ priorities_given script past seat runner priority priorities are declared = reco
   ]);
 }
 
--- a sequence waits as before where its runner is another one, or no task of its runner was posted to it
-sequence_stays : (script : Plan) (past : List Entry) (pool : Pool) (runner : ℕ) (priority : Priority) (s : ℕ) → StandsFor script past pool
-    → s < sequence_count script → IsUnposted script (Some runner) pool.postings.items (Sequence s) (length pool.postings.items)
+-- a sequence waits as before where its runner is another one, or it has no first task
+sequence_stays : (script : Plan) (pool : Pool) (runner : ℕ) (priority : Priority) (s : ℕ)
+    → (runner_of script pool.postings.items s ≡ Some runner → first_of (sequence_at pool.sequences s).tasks ≡ None)
     → sequence_standing script (slice_set pool.priorities.items runner priority) pool.postings.items pool.sequences s
     ≡ sequence_standing script pool.priorities.items pool.postings.items pool.sequences s
-sequence_stays script past pool runner priority s stands there none = by_runner (runner_of script pool.postings.items s) refl
+sequence_stays script pool runner priority s empty = by_runner (runner_of script pool.postings.items s) refl
   where
     later : List Priority
     later = slice_set pool.priorities.items runner priority
@@ -70,15 +82,9 @@ sequence_stays script past pool runner priority s stands there none = by_runner 
     waits : List Priority → Option ℕ → Option Candidate
     waits priorities o = option_and_then (λ r. option_map (candidate_by script s r) (rank_by priorities r (sequence_at pool.sequences s))) o
 
-    meant : runner_of script pool.postings.items s ≡ Some runner → (head : Ready) → head_of script past s ≡ Some head → (runner == head.posted.home) ≡ true
-    meant own head is =
-        let home = home_is script past pool.postings.items s head stands.past_fits stands.postings is in
-        rw (some-injective (sym home ∙ own)) (eqb-same runner)
-
     unranked_by : (priorities : List Priority) → runner_of script pool.postings.items s ≡ Some runner
         → rank_by priorities runner (sequence_at pool.sequences s) ≡ None
-    unranked_by priorities own = no_first (present_priority priorities runner) (sequence_at pool.sequences s)
-        (unposted_is_empty script past pool (Some runner) s stands there (meant own) none)
+    unranked_by priorities own = no_first (present_priority priorities runner) (sequence_at pool.sequences s) (empty own)
 
     by_runner : (o : Option ℕ) → runner_of script pool.postings.items s ≡ o → waits later o ≡ waits pool.priorities.items o
     by_runner None is = refl
@@ -88,13 +94,26 @@ sequence_stays script past pool runner priority s stands there none = by_runner 
           (get_or-set_other pool.priorities.items runner r priority BestEffort other)
     ]
 
+-- so it does where no task of its runner was posted to it
+unposted_stays : (script : Plan) (past : List Entry) (pool : Pool) (runner : ℕ) (priority : Priority) (s : ℕ) → StandsFor script past pool
+    → s < sequence_count script → IsUnposted script (Some runner) pool.postings.items (Sequence s) (length pool.postings.items)
+    → sequence_standing script (slice_set pool.priorities.items runner priority) pool.postings.items pool.sequences s
+    ≡ sequence_standing script pool.priorities.items pool.postings.items pool.sequences s
+unposted_stays script past pool runner priority s stands there none = sequence_stays script pool runner priority s
+    (λ own. unposted_is_empty script past pool (Some runner) s stands there (meant own) none)
+  where
+    meant : runner_of script pool.postings.items s ≡ Some runner → (head : Ready) → head_of script past s ≡ Some head → (runner == head.posted.home) ≡ true
+    meant own head is =
+        let home = home_is script past pool.postings.items s head stands.past_fits stands.postings is in
+        rw (some-injective (sym home ∙ own)) (eqb-same runner)
+
 source_stays : (script : Plan) (past : List Entry) (pool : Pool) (runner : ℕ) (priority : Priority) (source : TaskSource) → StandsFor script past pool
     → IsUnposted script (Some runner) pool.postings.items source (length pool.postings.items)
     → standing script past (slice_set pool.priorities.items runner priority) pool.postings.items pool.sequences source
     ≡ standing script past pool.priorities.items pool.postings.items pool.sequences source
 source_stays script past pool runner priority (Job j) stands none = refl
 source_stays script past pool runner priority (Sequence s) stands none = elim (cases_lt s (sequence_count script)) [
-  | inl there ↦ sequence_stays script past pool runner priority s stands there none
+  | inl there ↦ unposted_stays script past pool runner priority s stands there none
   | inr behind ↦ rw (none_behind script pool.postings.items s stands.postings.all behind) refl
 ]
 
@@ -152,6 +171,75 @@ stands_at_reprio script past pool seat runner priority knows = stands_given scri
 
     later : List Priority
     later = slice_set pool.priorities.items runner priority
+
+-- a runner all of whose tasks are of its own sequence
+runs_singly : (script : Plan) (runner task : ℕ) → runner < length script.runners → sequence_of script runner 0 ≡ runner → sequence_of script runner task ≡ runner
+runs_singly script runner task declared own = by_parallel (holds_of (λ r. is_parallel r.kind) (slice_get script.runners runner)) own
+  where
+    by_parallel : (b : Bool) → cond b (length script.runners + 0) runner ≡ runner → cond b (length script.runners + task) runner ≡ runner
+    by_parallel true own = absurd (omega (arith, own, declared))
+    by_parallel false own = refl
+
+-- the queues of its lane are made for that
+single_made : (script : Plan) (past : List Entry) (pool : Pool) (runner : ℕ) → KnowsRunner script past pool runner → sequence_of script runner 0 ≡ runner
+    → (best : Bool) → IsMadeFor (queue_of pool.lanes (lane_by script runner) best) (Sequence runner)
+single_made script past pool runner knows own best =
+    let stands = knows.stands in
+    let there : sequence_of script runner 0 < sequence_count script = rw own (omega (arith, knows.declared)) in
+    rw (stands.queues.roomy.sequences (lane_by script runner) best (lane_fits script runner stands.script_fits))
+    (subst (λ n. n < sequence_room script (lane_by script runner)) own (room_for script runner 0 knows.declared there))
+
+-- so it has a place
+pub single_place : (script : Plan) (past : List Entry) (pool : Pool) (runner : ℕ) (priorities : Vec Priority Global) → KnowsRunner script past pool runner
+    → sequence_of pool.runners runner 0 ≡ runner → length priorities.items ≡ length pool.priorities.items
+    → HasPlace (record pool { priorities = priorities }) runner runner
+single_place script past pool runner priorities knows own as_many = let stands = knows.stands in rw stands.runners record {
+  declared = knows.declared;
+  ranked = omega (arith, knows.declared, as_many, stands.priorities.all);
+  there = omega (arith, knows.declared, stands.lines.all);
+  lane_there = omega (arith, lane_fits script runner stands.script_fits, stands.queues.roomy.all);
+  made = single_made script past pool runner knows (rw stands.runners at own);
+}
+
+-- its sequence alone is given its place
+pub stands_at_single : (script : Plan) (past : List Entry) (pool : Pool) (seat runner : ℕ) (priority : Priority) → KnowsRunner script past pool runner
+    → sequence_of pool.runners runner 0 ≡ runner
+    → StandsFor script (after_reprio past seat runner priority)
+    (refreshed (record pool { priorities = with_item pool.priorities runner priority }) runner runner)
+stands_at_single script past pool seat runner priority knows own = stands_given script past pool seat runner priority (with_item pool.priorities runner priority) _
+    knows refl (rw stands.runners (hold_given script (standing script past pool.priorities.items pool.postings.items pool.sequences)
+    (standing script past later pool.postings.items pool.sequences) pool.lanes (lane_by script runner) (Sequence runner)
+    (rank_by later runner (sequence_at pool.sequences runner))
+    (sequence_given script pool.priorities.items later pool.postings.items pool.sequences pool.sequences pool.lanes runner runner stands.script_fits
+    (rw (lt-ltb runner (length script.runners) knows.declared) refl)
+    (single_made script past pool runner knows (its_own 0))) others (hold_standing script past pool stands)))
+  where
+    stands : StandsFor script past pool
+    stands = knows.stands
+
+    later : List Priority
+    later = slice_set pool.priorities.items runner priority
+
+    its_own : (task : ℕ) → sequence_of script runner task ≡ runner
+    its_own task = runs_singly script runner task knows.declared (rw stands.runners at own)
+
+    no_head : (s : ℕ) → runner_of script pool.postings.items s ≡ Some runner → (Sequence s ≡ Sequence runner → ⊥) → (o : Option Ready)
+        → head_of script past s ≡ o → option_map {U = ℕ × Key} (λ r. (r.posted.task, r.key)) o ≡ None
+    no_head s of_runner another None is = refl
+    no_head s of_runner another (Some head) is =
+        let home : head.posted.home ≡ runner = some-injective (sym (home_is script past pool.postings.items s head stands.past_fits stands.postings is)
+        ∙ of_runner) in
+        absurd (another (ap Sequence (sym (head_accepted script past s head is).1 ∙ ap (λ r. sequence_of script r head.posted.task) home
+        ∙ its_own head.posted.task)))
+
+    others : (other : TaskSource) → (other ≡ Sequence runner → ⊥) → standing script past later pool.postings.items pool.sequences other
+        ≡ standing script past pool.priorities.items pool.postings.items pool.sequences other
+    others (Job j) another = refl
+    others (Sequence s) another = elim (cases_lt s (sequence_count script)) [
+      | inl there ↦ sequence_stays script pool runner priority s
+          (λ of_runner. first_is_head script past pool.sequences s stands.past_fits stands.lines there ∙ no_head s of_runner another (head_of script past s) refl)
+      | inr behind ↦ rw (none_behind script pool.postings.items s stands.postings.all behind) refl
+    ]
 
 -- where the runner has the priority, all stays
 pub stands_at_same : (script : Plan) (past : List Entry) (pool : Pool) (seat runner : ℕ) (priority : Priority) → KnowsRunner script past pool runner

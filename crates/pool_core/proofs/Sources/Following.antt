@@ -91,7 +91,7 @@ lane_fits script runner limits = by_runner (slice_get script.runners runner) (sl
     by_runner (Some r) fits = of_kind r.kind fits
 
 -- it is made for each sequence of the runner
-room_for : (script : Plan) (runner task : ℕ) → runner < length script.runners
+pub room_for : (script : Plan) (runner task : ℕ) → runner < length script.runners
     → sequence_of script runner task < sequence_count script → sequence_of script runner task < sequence_room script (lane_by script runner)
 room_for script runner task declared there = by_runner (slice_get script.runners runner) refl there
   where

@@ -17,7 +17,7 @@ ghost use Rattle.thread_group.specs.Group.{has_room, work_at};
 ghost use Rattle.pool_core.specs.Groups.{group_at, group_in, in_background};
 ghost use Rattle.pool_core.specs.declared.pool_job.Holder.{Holder};
 ghost use Rattle.pool_core.specs.Calls.{TakeAnswers, after_take};
-ghost use Rattle.pool_core.specs.JobCalls.{CanEnter, CanJoin, CanPostJob, CanStep, IsJobChosen, KnowsJob, after_entering, after_job_cancel, after_job_post, after_step, entering, has_to_leave, joined_of};
+ghost use Rattle.pool_core.specs.JobCalls.{CanEnter, CanJoin, CanPostJob, CanStep, IsJobChosen, KnowsJob, after_entering, after_job_cancel, after_job_post, after_step, entering, has_to_leave, joined_of, lets_in};
 ghost use Rattle.pool_core.specs.JobState.{HaveJobPlaces, HasJobPlace, is_better, job_left, job_of, job_refreshed, jobs_refreshed_below, settled, settled_share, with_item_ended, with_item_started};
 ghost use Rattle.pool_core.specs.StandsFor.{StandsFor};
 
@@ -90,7 +90,7 @@ impl Pool {
     }
 
     /// The reply to a join, where nobody is inside and there is one. The error says how many are inside, and whether the
-    /// driver may enter.
+    /// driver may enter: not both are nothing, where the job was posted and by its own word somebody may be inside.
     pub fn joined(&self, job: JobId) -> Result<JobReply, NotYet>
         requires { (script : Plan) × (past : List Entry) × KnowsJob script past self.now job }
         ensures ok { (script : Plan) (past : List Entry) → KnowsJob script past self.now job
@@ -98,6 +98,8 @@ impl Pool {
         ensures not_yet { (script : Plan) (past : List Entry) → KnowsJob script past self.now job
             → IfErr result (λ not_yet. (joined_of script past job ≡ None) × (not_yet.running ≡ length (inside script past job))
             × (not_yet.ready ≡ may_enter script past job)) }
+        ensures somebody { (script : Plan) (past : List Entry) → KnowsJob script past self.now job → lets_in script past job ≡ true
+            → IfErr result (λ not_yet. not_yet.running ≡ 0 → not_yet.ready ≡ true) }
     {
         let phase = self.tracker.phase();
         let held = &self.jobs[job as usize];

@@ -1,5 +1,5 @@
 use Rattle.pool_core.proofs.Sources.Places.{have_places}
-use Rattle.pool_core.proofs.Calls.Reprio.{stands_at_reprio, stands_at_same}
+use Rattle.pool_core.proofs.Calls.Reprio.{single_place, stands_at_reprio, stands_at_same, stands_at_single}
 use Rattle.std.proofs.Common.{arith, refl, rules, sym, ◌∙◌}
 use Rattle.std.proofs.lemmas.List.{get_or_read, length-set}
 use Rattle.std.specs.Vec.{with_item}
@@ -21,6 +21,17 @@ returns-then-eq c script past seat knows =
     (sym (get_or_read pool.priorities.items c.args.runner c.index.result.now (omega (arith, knows.declared, knows.stands.priorities.all)) c.index.ensures
     BestEffort) ∙ same_true the_type (search rules) _ _ (sym c.if-eq.ensures))
 
-pub returns : goal.returns
-returns c script past seat knows = rw c.place_anew.ensures
+pub refresh-requires : goal.refresh-requires
+refresh-requires c = single_place c.requires.0 c.requires.1 c.args.self.now c.args.runner
+    (with_item c.args.self.now.priorities c.args.runner c.args.priority) c.requires.2
+    (sym c.seq_of.ensures ∙ c.if-seq_of-runner.true)
+    (length-set c.args.self.now.priorities.items c.args.runner c.args.priority)
+
+pub returns-then-seq_of-runner : goal.returns-then-seq_of-runner
+returns-then-seq_of-runner c script past seat knows = rw c.refresh.ensures
+    (stands_at_single script past c.args.self.now seat c.args.runner c.args.priority knows
+    (sym c.seq_of.ensures ∙ c.if-seq_of-runner.true))
+
+pub returns-else-seq_of-runner : goal.returns-else-seq_of-runner
+returns-else-seq_of-runner c script past seat knows = rw c.place_anew.ensures
     (stands_at_reprio script past c.args.self.now seat c.args.runner c.args.priority knows)
