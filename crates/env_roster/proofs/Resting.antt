@@ -75,25 +75,33 @@ own_is_to_do script past (suc seat) own =
     let worker : (suc seat == 0) ≡ false = grind (arith, nat_tests) in
     rw worker (own_is_some (best_of script past (suc seat)) (rw worker at own))
 
--- where no worker may take a source, the driver alone has anything to do
-driver_alone : (script : Plan) (past : List Entry) (notes : List Note) → is_any_ready script past ≡ false → length notes ≡ script.workers + 1
-    → (HasWorkAt (has_to_do script past) notes notes_of.Resting 0 → ⊥) → NobodyHasWork (has_to_do script past) notes notes_of.Resting
-driver_alone script past notes none all driver zero at = driver at
-driver_alone script past notes none all driver (suc seat) at =
-    let within : suc seat < length notes = slice_get_within notes (suc seat) notes_of.Resting at.noted in
+-- where no worker may take a source, no worker has anything to do
+no_worker : (script : Plan) (past : List Entry) (notes : List Note) (note : Note) (seat : ℕ) → is_any_ready script past ≡ false
+    → length notes ≡ script.workers + 1 → HasWorkAt (has_to_do script past) notes note (suc seat) → ⊥
+no_worker script past notes note seat none all at =
+    let within : suc seat < length notes = slice_get_within notes (suc seat) note at.noted in
     let worker : (suc seat == 0) ≡ false = grind (arith, nat_tests) in
     let ready : is_some (best_of script past (suc seat)) ≡ true = rw worker at at.has in
     false≢true (sym (none_ready script past (suc seat) none (omega arith) (omega (arith, within, all))) ∙ ready)
 
+-- so the driver alone has
+driver_alone : (script : Plan) (past : List Entry) (notes : List Note) → is_any_ready script past ≡ false → length notes ≡ script.workers + 1
+    → (HasWorkAt (has_to_do script past) notes notes_of.Resting 0 → ⊥) → NobodyHasWork (has_to_do script past) notes notes_of.Resting
+driver_alone script past notes none all driver zero at = driver at
+driver_alone script past notes none all driver (suc seat) at = no_worker script past notes notes_of.Resting seat none all at
+
 -- and nobody has work of its own
-pub none_own : (script : Plan) (past : List Entry) (notes : List Note) → is_any_ready script past ≡ false → length notes ≡ script.workers + 1
+none_own : (script : Plan) (past : List Entry) (notes : List Note) → is_any_ready script past ≡ false → length notes ≡ script.workers + 1
     → NobodyHasWork (has_own script past) notes notes_of.Resting
 none_own script past notes none all zero at = false≢true at.has
 none_own script past notes none all (suc seat) at =
-    let within : suc seat < length notes = slice_get_within notes (suc seat) notes_of.Resting at.noted in
-    let worker : (suc seat == 0) ≡ false = grind (arith, nat_tests) in
-    let ready : is_some (best_of script past (suc seat)) ≡ true = own_is_some (best_of script past (suc seat)) (rw worker at at.has) in
-    false≢true (sym (none_ready script past (suc seat) none (omega arith) (omega (arith, within, all))) ∙ ready)
+    no_worker script past notes notes_of.Resting seat none all (record { noted = at.noted; has = own_is_to_do script past (suc seat) at.has })
+
+-- so where the driver rests, nobody that was woken has anything to do
+none_woken : (script : Plan) (past : List Entry) (notes : List Note) → is_any_ready script past ≡ false → length notes ≡ script.workers + 1
+    → slice_get notes 0 ≡ Some notes_of.Resting → NobodyHasWork (has_to_do script past) notes notes_of.Woken
+none_woken script past notes none all rests zero at = let same = some-injective (sym rests ∙ at.noted) in absurd cc
+none_woken script past notes none all rests (suc seat) at = no_worker script past notes notes_of.Woken seat none all at
 
 -- work is handed on where nobody who rests has any
 handed_where_none : (work : ℕ → Bool) (notes : List Note) → NobodyHasWork work notes notes_of.Resting → IsHandedOn work notes
@@ -131,25 +139,46 @@ pub pick_own : (script : Plan) (past : List Entry) (notes : List Note) (seat : �
 pick_own script past notes seat own =
     let at : HasWorkAt (has_to_do script past) notes notes_of.Resting seat = record { noted = own.noted; has = own_is_to_do script past seat own.has } in
     record {
-      at = at;
+      needed = record { at = at; alone = λ other. absurd (false≢true (sym other ∙ own.has)) };
       all_work = woken_has (has_to_do script past) notes notes_of.Resting seat at;
       own_work = woken_has (has_own script past) notes notes_of.Resting seat own;
     }
 
--- and, where nobody does, whoever rests and has something to do
+-- and, where nobody does and nobody that was woken has anything to do, whoever rests and has something to do
 pick_any : (script : Plan) (past : List Entry) (notes : List Note) (seat : ℕ) → NobodyHasWork (has_own script past) notes notes_of.Resting
-    → HasWorkAt (has_to_do script past) notes notes_of.Resting seat → IsPick script past notes seat
-pick_any script past notes seat none at = record {
-  at = at;
+    → NobodyHasWork (has_to_do script past) notes notes_of.Woken → HasWorkAt (has_to_do script past) notes notes_of.Resting seat
+    → IsPick script past notes seat
+pick_any script past notes seat none woken at = record {
+  needed = record { at = at; alone = λ _. woken };
   all_work = woken_has (has_to_do script past) notes notes_of.Resting seat at;
   own_work = none_after (has_own script past) notes seat none;
 }
 
+-- where nobody was found, nobody has such work
+pub not_found : {P : Type 0} (found : Option ℕ) → is_some found ≡ false → IfNone found P → P
+not_found None none such = such
+not_found (Some seat) none such = absurd cc
+
 -- so too where one was found
 pub pick_found : (script : Plan) (past : List Entry) (notes : List Note) (found : Option ℕ) → NobodyHasWork (has_own script past) notes notes_of.Resting
-    → IfSome found (HasWorkAt (has_to_do script past) notes notes_of.Resting) → IfSome found (IsPick script past notes)
-pick_found script past notes None none at = at
-pick_found script past notes (Some seat) none at = pick_any script past notes seat none at
+    → NobodyHasWork (has_to_do script past) notes notes_of.Woken → IfSome found (HasWorkAt (has_to_do script past) notes notes_of.Resting)
+    → IfSome found (IsPick script past notes)
+pick_found script past notes None none woken at = at
+pick_found script past notes (Some seat) none woken at = pick_any script past notes seat none woken at
+
+-- where no worker may take a source, the driver may be woken
+pick_driver : (script : Plan) (past : List Entry) (notes : List Note) (seat : ℕ) → is_any_ready script past ≡ false → length notes ≡ script.workers + 1
+    → HasWorkAt (has_to_do script past) notes notes_of.Resting seat → IsPick script past notes seat
+pick_driver script past notes zero none all at =
+    pick_any script past notes 0 (none_own script past notes none all) (none_woken script past notes none all at.noted) at
+pick_driver script past notes (suc seat) none all at = absurd (no_worker script past notes notes_of.Resting seat none all at)
+
+-- so too where it was found
+pub driver_found : (script : Plan) (past : List Entry) (notes : List Note) (found : Option ℕ) → is_any_ready script past ≡ false
+    → length notes ≡ script.workers + 1 → IfSome found (HasWorkAt (has_to_do script past) notes notes_of.Resting)
+    → IfSome found (IsPick script past notes)
+driver_found script past notes None none all at = at
+driver_found script past notes (Some seat) none all at = pick_driver script past notes seat none all at
 
 -- where no worker may take a source and the driver was not found, all work is handed on
 pub none_found : (script : Plan) (past : List Entry) (notes : List Note) (found : Option ℕ) → is_any_ready script past ≡ false

@@ -58,9 +58,14 @@ pub record NoWakeIsLost (script : Plan) (past : List Entry) (notes : List Note) 
   pub own_work : IsHandedOn (has_own script past) notes
   pub all_woken : is_finished script past ≡ true → NobodyRests notes
 
--- the seat rests and has something to do, and where it is woken all is handed on
-pub record IsPick (script : Plan) (past : List Entry) (notes : List Note) (seat : ℕ) : Type 0 where
+-- who is to be woken rests and has something to do; and where that is no work of its own, nobody that was woken before has anything to do
+pub record IsNeeded (script : Plan) (past : List Entry) (notes : List Note) (seat : ℕ) : Type 0 where
   pub at : HasWorkAt (has_to_do script past) notes notes_of.Resting seat
+  pub alone : has_own script past seat ≡ false → NobodyHasWork (has_to_do script past) notes notes_of.Woken
+
+-- to wake the seat is needed, and where it is woken all is handed on
+pub record IsPick (script : Plan) (past : List Entry) (notes : List Note) (seat : ℕ) : Type 0 where
+  pub needed : IsNeeded script past notes seat
   pub all_work : IsHandedOn (has_to_do script past) (slice_set notes seat notes_of.Woken)
   pub own_work : IsHandedOn (has_own script past) (slice_set notes seat notes_of.Woken)
 
@@ -70,10 +75,10 @@ after_wake wakes.Nobody notes = notes
 after_wake (wakes.One seat) notes = slice_set notes seat notes_of.Woken
 after_wake wakes.Everyone notes = replicate (length notes) notes_of.Woken
 
--- one is woken only where it rests and has something to do, and everyone only where the script is finished
+-- one is woken only where that is needed, and everyone only where the script is finished
 abbrev pub wakes_well : Plan → List Entry → List Note → Wake → Type 0
 wakes_well script past notes wakes.Nobody = Unit {0}
-wakes_well script past notes (wakes.One seat) = HasWorkAt (has_to_do script past) notes notes_of.Resting seat
+wakes_well script past notes (wakes.One seat) = IsNeeded script past notes seat
 wakes_well script past notes wakes.Everyone = is_finished script past ≡ true
 
 -- whoever is named is a seat of so many workers, or the driver

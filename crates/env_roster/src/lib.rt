@@ -7,6 +7,6 @@ mod note;
 mod notes;
 mod roster;
 
-pub use note::{Note, Rest, Wake};
+pub use note::{Note, Rest, Wake, Woken};
 pub use notes::Notes;
 pub use roster::{Roster, no_wake_is_lost};

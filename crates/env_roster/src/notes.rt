@@ -2,7 +2,7 @@ ghost use Rattle.std.specs.Prelude.{◌≡◌, ◌<◌, ◌≤◌, ◌+◌, fals
 ghost use Rattle.env_roster.specs.Wakes.{HasWorkAt, IsHandedOn, IsPick, NobodyHasWork, NobodyRests, NoWakeIsLost, after_wake, has_own, has_to_do, has_work, wakes_well};
 ghost use Rattle.env_roster.specs.declared.note.Note.TheVariants as kinds;
 
-use crate::note::{Note, Rest, Wake};
+use crate::note::{Note, Rest, Wake, Woken};
 use env_core::Env;
 use std::alloc::{AllocError, Global};
 use std::marker::Model;
@@ -58,11 +58,12 @@ impl Notes {
     /// The seat found nothing to do, and rests from now on. Who has the answer may sleep once it has given the turn back.
     pub fn rest(&mut self, seat: SeatNo) -> Rest
         requires { seat < length self.old }
-        ensures { self.new ≡ slice_set self.old seat kinds.Resting }
+        ensures noted { self.new ≡ slice_set self.old seat kinds.Resting }
+        ensures own { result ≡ seat }
     {
         self.notes[seat as usize] = Note::Resting;
         self.some_rest = true;
-        Rest::new()
+        Rest::new(seat)
     }
 
     /// Sees whom to wake, and notes it: everyone where the script is finished; else a seat that rests and has work of its own,
@@ -86,7 +87,7 @@ impl Notes {
         };
         self.notes[seat as usize] = Note::Woken;
         self.some_rest = self.has_resting();
-        Wake::One(seat)
+        Wake::One(Woken::new(seat))
     }
 
     // Whom to wake while the script goes on.

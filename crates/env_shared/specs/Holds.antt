@@ -1,5 +1,5 @@
 -- One hold of the turn, by a seat at a desk.
-use Rattle.std.specs.Prelude.{◌≡◌, ℕ, ◌+◌, Bool, List}
+use Rattle.std.specs.Prelude.{◌≡◌, ℕ, ◌+◌, Bool, List, Option, Some, None, slice_get}
 use Rattle.task_base.specs.declared.entry.Entry.{Entry}
 use Rattle.task_base.specs.declared.entry.Kind.{Kind}
 use Rattle.task_base.specs.Entries.{starts_shutdown}
@@ -7,13 +7,17 @@ use Rattle.hist_model.specs.Legal.{IsLegal}
 use Rattle.hist_model.specs.Views.{IsPrefix, own_entries}
 use Rattle.turn_table.specs.Seats.{TurnKey, SeatView}
 use Rattle.env_core.specs.Views.{EnvView, Enters}
-use Rattle.env_shared.specs.Sits.{Sits}
+use Rattle.env_roster.specs.declared.note.Note.{Note}
+use Rattle.env_roster.specs.declared.note.Note.TheVariants as notes_of
+use Rattle.env_shared.specs.Sits.{Sits, SitterView}
 
--- a hold: the shared environment, the seat that took the turn, as it was before, and the history that it found
+-- a hold: the shared environment, the seat at its desk that took the turn, as it was before, the history that it found, and whether the
+-- seat is noted as one that will rest
 pub record HoldView : Type 0 where
   pub of : TurnKey
-  pub seat : SeatView
+  pub sitter : SitterView
   pub past : List Entry
+  pub rests : Bool
 
 -- the environment as it was found
 abbrev pub found : HoldView → EnvView
@@ -40,5 +44,10 @@ pub record HasEntered (shut : Bool) (h : HoldView) (env : EnvView) : Type 0 wher
   pub kind : Kind
   pub enters : Enters before env number kind
   pub found_is : before ≡ found h
-  pub number_is : number ≡ h.seat.number
+  pub number_is : number ≡ h.sitter.seat.number
   pub shut_is : starts_shutdown kind ≡ shut
+
+-- the seat's note: where a seat was noted as one that rests it was this seat, and it does; else it is awake
+abbrev pub IsNoted : ℕ → List Note → Option ℕ → Type 0
+IsNoted number notes (Some noted) = (noted ≡ number) × (slice_get notes number ≡ Some notes_of.Resting)
+IsNoted number notes None = slice_get notes number ≡ Some notes_of.Awake

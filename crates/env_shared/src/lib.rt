@@ -2,9 +2,11 @@
 //! one hold of the turn, in which it makes one call on the environment; nothing of a task's body runs meanwhile.
 #![tactic(auto)]
 
+mod bed;
 mod desk;
 mod hold;
 mod shared;
+mod sitter;
 mod workers;
 
 pub use desk::SharedDesk;

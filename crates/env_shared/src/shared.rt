@@ -6,9 +6,11 @@ ghost use Rattle.hist_model.specs.Legal.{IsLegal};
 ghost use Rattle.task_model.specs.Jobs.{item_value};
 ghost use Rattle.turn_table.specs.Seats.{Rising, Tells, closed};
 ghost use Rattle.env_roster.specs.Wakes.{names_seats};
+ghost use Rattle.env_shared.specs.Beds.{AreInPlace};
 ghost use Rattle.env_shared.specs.Sits.{Seated};
 ghost use Rattle.env_shared.specs.Splits.{AreWorkers, IsDriver};
 
+use crate::bed::Bed;
 use crate::desk::SharedDesk;
 use crate::workers::workers_of;
 use env_core::Env;
@@ -17,7 +19,6 @@ use job_source::{JobWorker, StepsWorker};
 use std::alloc::{AllocError, Global};
 use std::marker::Model;
 use std::sync::Wait;
-use std::thread::Parker;
 use task_base::{JobId, Rows, Script, SeatNo};
 use task_body::TaskBody;
 use turn_table::{Seat, Turnstile};
@@ -35,13 +36,14 @@ pub struct Shared<B: TaskBody> {
     /// The work of each job, which no call of the environment touches.
     workers: Rows<StepsWorker>,
     /// What the thread of each seat sleeps on.
-    beds: Rows<Parker>,
+    beds: Rows<Bed>,
 }
 
 impl<B: TaskBody> Model for Shared<B> {
     ghost use Rattle.std.specs.Prelude.{◌≡◌, ◌+◌, true, length};
     ghost use Rattle.script_model.specs.Laws.Sound.{IsSound};
     ghost use Rattle.turn_table.specs.Seats.{TurnKey};
+    ghost use Rattle.env_shared.specs.Beds.{AreInPlace};
     ghost use Rattle.env_shared.specs.Workers.{steps_of_jobs};
 
     ghost Value = { TurnKey };
@@ -49,7 +51,7 @@ impl<B: TaskBody> Model for Shared<B> {
     ghost view = { λ s. s.turnstile };
 
     ghost invariant = { λ s. IsSound s.turnstile.basis × (s.turnstile.stands ≡ true) × (s.workers.items ≡ steps_of_jobs s.turnstile.basis)
-        × (length s.beds.items ≡ s.turnstile.basis.workers + 1) };
+        × (length s.beds.items ≡ s.turnstile.basis.workers + 1) × AreInPlace s.beds.items };
 }
 
 impl<B: TaskBody> Shared<B> {
@@ -122,8 +124,9 @@ impl<B: TaskBody> Shared<B> {
     pub fn desk(&self, seat: EnvSeat<B>) -> SharedDesk<'_, B>
         requires of { seat.of ≡ self.now }
         requires known { seat.number ≤ self.now.basis.workers }
-        ensures seat { result ≡ seat }
-        ensures seated { Seated result }
+        ensures seat { result.seat ≡ seat }
+        ensures awake { result.rests ≡ false }
+        ensures seated { Seated result.seat }
     {
         SharedDesk::new(self, seat)
     }
@@ -156,10 +159,11 @@ impl<B: TaskBody> Shared<B> {
     }
 
     /// Has the thread of a seat that was noted sleep until the seat is woken, or not at all where it was woken since.
-    pub(crate) fn sleep<R: Wait>(&self, rt: &R, seat: SeatNo, _noted: Rest)
-        requires { seat ≤ self.now.basis.workers }
+    pub(crate) fn sleep<R: Wait>(&self, rt: &R, seat: SeatNo, rest: Rest)
+        requires known { seat ≤ self.now.basis.workers }
+        requires own { rest ≡ seat }
     {
-        self.bed(seat).park(rt);
+        self.bed(seat).park(rt, rest);
     }
 
     /// Wakes who is named, once the turn was given back.
@@ -168,32 +172,34 @@ impl<B: TaskBody> Shared<B> {
     {
         match wake {
             Wake::Nobody => {}
-            Wake::One(seat) => self.bed(seat).unpark(),
+            Wake::One(woken) => self.bed(woken.seat()).unpark(woken),
             Wake::Everyone => {
                 for bed in self.beds.as_slice() {
-                    bed.unpark();
+                    bed.unpark_with_all();
                 }
             }
         }
     }
 
     // What the thread of a seat sleeps on.
-    fn bed(&self, seat: SeatNo) -> &Parker
+    fn bed(&self, seat: SeatNo) -> &Bed
         requires { seat ≤ self.now.basis.workers }
+        ensures { result.now ≡ seat }
     {
         let _turnstile = &self.turnstile;
         self.beds.at(seat as usize).unwrap()
     }
 }
 
-// What the threads of the driver and so many workers sleep on. The error is want of memory.
-fn beds(alloc: Global, workers: SeatNo) -> Result<Rows<Parker>, AllocError>
+// What the threads of the driver and so many workers sleep on. The error is out of memory.
+fn beds(alloc: Global, workers: SeatNo) -> Result<Rows<Bed>, AllocError>
     requires { workers < 2 ^ 31 }
-    ensures { IfOk result (λ beds. length beds.items ≡ workers + 1) }
+    ensures all { IfOk result (λ beds. length beds.items ≡ workers + 1) }
+    ensures numbered { IfOk result (λ beds. AreInPlace beds.items) }
 {
     let mut beds = Vec::with_capacity(alloc, workers as usize + 1)?;
-    for _ in 0..workers + 1 {
-        beds.push(Parker::new())?;
+    for seat in 0..workers + 1 {
+        beds.push(Bed::new(seat))?;
     }
     Ok(Rows::from_vec(beds))
 }

@@ -27,7 +27,7 @@ use Rattle.hist_model.proofs.Laws.Own.{holding_own, own_entries_push, running_ow
 use Rattle.turn_table.specs.Seats.{TurnKey, SeatView, Rising, Tells}
 use Rattle.env_crew.specs.Driving.{AllFree, HasMomentsOf, SameDesks}
 use Rattle.env_crew.specs.Serving.{IsFree}
-use Rattle.env_shared.specs.Sits.{Seated, desk_of}
+use Rattle.env_shared.specs.Sits.{Seated, SitterView, desk_of}
 use Rattle.env_shared.specs.Splits.{IsWorker, AreWorkers}
 use Rattle.env_shared.proofs.Sits.{same_environment}
 use Rattle.env_threads.specs.Crew.{refused, ArePromised, IsSpare, AreSpare, AreBack}
@@ -72,7 +72,7 @@ its_own key n s w = subst (λ k. IsWorker key k s) (sym w.number_is) w
 -- A worker's desk.
 
 -- the desk of a worker may serve as a spare one
-pub sits_spare : (key : TurnKey) (n : ℕ) (d : SeatView) → IsWorker key n d → Seated d → 0 < n → n ≤ key.basis.workers → IsSpare key d
+pub sits_spare : (key : TurnKey) (n : ℕ) (d : SitterView) → IsWorker key n d.seat → Seated d.seat → 0 < n → n ≤ key.basis.workers → IsSpare key d
 sits_spare key n d w seated some known = record {
   table_is = ap (λ k. k.table) w.of_is;
   script_is = ap (λ k. k.basis) w.of_is;
@@ -85,8 +85,7 @@ sits_spare key n d w seated some known = record {
 
 -- and the seat that leaves a free desk is the worker's
 pub leaves_free : (key : TurnKey) (n : ℕ) (s : SeatView) → s.of.table ≡ key.table → s.of.basis ≡ key.basis → key.stands ≡ true → s.number ≡ n
-    → IsFree (desk_of s)
-    → Seated s → IsWorker key n s
+    → IsFree (desk_of (record { seat = s; rests = false })) → Seated s → IsWorker key n s
 leaves_free key n s table script stands number free seated = record {
   of_is = same_environment key s table script stands seated;
   number_is = number;
@@ -115,10 +114,10 @@ promised_front given key n starts o was i k k_is = was i k (slice_get-more start
 
 -- Spare desks.
 
-pub spare_push : (key : TurnKey) (numbers : List ℕ) (desks : List SeatView) (d : SeatView) → AreSpare key numbers desks → IsSpare key d
-    → AreSpare key (numbers ++ d.number ∷ []) (desks ++ d ∷ [])
+pub spare_push : (key : TurnKey) (numbers : List ℕ) (desks : List SitterView) (d : SitterView) → AreSpare key numbers desks → IsSpare key d
+    → AreSpare key (numbers ++ d.seat.number ∷ []) (desks ++ d ∷ [])
 spare_push key numbers desks d was one = record {
-  numbers_are = map-append (λ x. x.number) desks (d ∷ []) ∙ ap (λ l. l ++ d.number ∷ []) was.numbers_are;
+  numbers_are = map-append (λ x. x.seat.number) desks (d ∷ []) ∙ ap (λ l. l ++ d.seat.number ∷ []) was.numbers_are;
   each = λ i x x_is. elim (slice_get_push desks d i x x_is) [
     | inl p ↦ was.each i x p.1
     | inr p ↦ subst (IsSpare key) p.1 one
@@ -137,26 +136,26 @@ same_last (a ∷ xs) (b ∷ ys) x y h =
     let both = same_last xs ys x y tail in (rw (head, both.0) refl, both.1)
 
 -- the last of the desks has the last of the numbers
-pub spare_pop : (key : TurnKey) (numbers : List ℕ) (n : ℕ) (desks : List SeatView) (d : SeatView) → AreSpare key (numbers ++ n ∷ []) (desks ++ d ∷ [])
-    → AreSpare key numbers desks × (d.number ≡ n) × IsSpare key d
+pub spare_pop : (key : TurnKey) (numbers : List ℕ) (n : ℕ) (desks : List SitterView) (d : SitterView) → AreSpare key (numbers ++ n ∷ []) (desks ++ d ∷ [])
+    → AreSpare key numbers desks × (d.seat.number ≡ n) × IsSpare key d
 spare_pop key numbers n desks d was =
-    let both = same_last (map (λ x. x.number) desks) numbers d.number n (sym (map-append (λ x. x.number) desks (d ∷ [])) ∙ was.numbers_are) in (
+    let both = same_last (map (λ x. x.seat.number) desks) numbers d.seat.number n (sym (map-append (λ x. x.seat.number) desks (d ∷ [])) ∙ was.numbers_are) in (
       record { numbers_are = both.0; each = λ i x x_is. was.each i x (slice_get-more desks (d ∷ []) i x x_is) },
       both.1,
       was.each (length desks) d (slice_get-end desks d),
     )
 
 -- where a number is left, so is a desk
-pub spare_there : (key : TurnKey) (numbers : List ℕ) (n : ℕ) (desks : List SeatView) → desks ≡ [] → AreSpare key (numbers ++ n ∷ []) desks → ⊥
+pub spare_there : (key : TurnKey) (numbers : List ℕ) (n : ℕ) (desks : List SitterView) → desks ≡ [] → AreSpare key (numbers ++ n ∷ []) desks → ⊥
 spare_there key numbers n desks none was = omega (
   arith,
   length-append numbers (n ∷ []),
   ap length was.numbers_are,
-  ap (λ l. length (map (λ d. d.number) l)) none,
+  ap (λ l. length (map (λ d. d.seat.number) l)) none,
 )
 
 -- the same desks, later on
-pub spare_later : (key : TurnKey) (numbers : List ℕ) (xs ys : List SeatView) → AreSpare key numbers xs → AllFree desk_of ys → SameDesks desk_of xs ys
+pub spare_later : (key : TurnKey) (numbers : List ℕ) (xs ys : List SitterView) → AreSpare key numbers xs → AllFree desk_of ys → SameDesks desk_of xs ys
     → AreSpare key numbers ys
 spare_later key numbers xs ys was free same = record {
   numbers_are = same_numbers xs ys same ∙ was.numbers_are;
@@ -170,7 +169,7 @@ spare_later key numbers xs ys was free same = record {
       };
 }
   where
-    same_numbers : (xs ys : List SeatView) → SameDesks desk_of xs ys → map (λ d. d.number) ys ≡ map (λ d. d.number) xs
+    same_numbers : (xs ys : List SitterView) → SameDesks desk_of xs ys → map (λ d. d.seat.number) ys ≡ map (λ d. d.seat.number) xs
     same_numbers [] [] p = refl
     same_numbers [] (y ∷ ys) p = absurd (omega (arith, p.as_many))
     same_numbers (x ∷ xs) [] p = absurd (omega (arith, p.as_many))
@@ -190,7 +189,8 @@ finished_none script past done = by_current (current script (own_entries 0 past)
     by_current (Some c) h = absurd cc
 
 -- so it is with the driver's seat that leaves its desk
-pub driver_finished : (key : TurnKey) (d s : SeatView) → s ≡ d → s.of.basis ≡ key.basis → s.number ≡ 0 → Seated s → is_finished d.of.basis d.seen ≡ true
+pub driver_finished : (key : TurnKey) (d : SitterView) (s : SeatView) → s ≡ d.seat → s.of.basis ≡ key.basis → s.number ≡ 0 → Seated s
+    → is_finished d.seat.of.basis d.seat.seen ≡ true
     → current key.basis s.mine ≡ None
 driver_finished key d s out script number seated done =
     ap (λ p. current p s.mine) (sym script)
@@ -198,7 +198,7 @@ driver_finished key d s out script number seated done =
     ∙ finished_none s.of.basis s.seen (subst (λ x. is_finished x.of.basis x.seen ≡ true) (sym out) done)
 
 -- and it is free
-pub driver_free : (d s : SeatView) → s ≡ d → Seated s → is_free (own_entries d.number d.seen) 0 ≡ true → is_free s.mine 0 ≡ true
+pub driver_free : (d : SitterView) (s : SeatView) → s ≡ d.seat → Seated s → is_free (own_entries d.seat.number d.seat.seen) 0 ≡ true → is_free s.mine 0 ≡ true
 driver_free d s out seated free = ap (λ own. is_free own 0) (sym seated.own) ∙ subst (λ x. is_free (own_entries x.number x.seen) 0 ≡ true) (sym out) free
 
 -- a seat is free by its own entries

@@ -5,7 +5,7 @@ use Rattle.task_model.specs.Seats.{is_free}
 use Rattle.hist_model.specs.Script.{current}
 use Rattle.turn_table.specs.Seats.{TurnKey, SeatView}
 use Rattle.env_crew.specs.Serving.{IsFree}
-use Rattle.env_shared.specs.Sits.{desk_of}
+use Rattle.env_shared.specs.Sits.{SitterView, desk_of}
 use Rattle.env_shared.specs.Splits.{AreWorkers}
 
 -- the numbers of the starts that were refused, where the first start was that of this worker and the others fall from there
@@ -20,20 +20,20 @@ ArePromised {H} given key number starts = (i : ℕ) (handle : H) → slice_get s
     → ((given handle).of ≡ key) × ((given handle).number ≡ number - i)
 
 -- a desk at the shared environment, of a worker that runs nothing
-pub record IsSpare (key : TurnKey) (desk : SeatView) : Type 0 where
-  pub table_is : desk.of.table ≡ key.table
-  pub script_is : desk.of.basis ≡ key.basis
+pub record IsSpare (key : TurnKey) (desk : SitterView) : Type 0 where
+  pub table_is : desk.seat.of.table ≡ key.table
+  pub script_is : desk.seat.of.basis ≡ key.basis
   pub free : IsFree (desk_of desk)
 
 -- the desks are such, and are those of these workers
-pub record AreSpare (key : TurnKey) (numbers : List ℕ) (desks : List SeatView) : Type 0 where
-  pub numbers_are : map (λ d. d.number) desks ≡ numbers
-  pub each : (i : ℕ) (desk : SeatView) → slice_get desks i ≡ Some desk → IsSpare key desk
+pub record AreSpare (key : TurnKey) (numbers : List ℕ) (desks : List SitterView) : Type 0 where
+  pub numbers_are : map (λ d. d.seat.number) desks ≡ numbers
+  pub each : (i : ℕ) (desk : SitterView) → slice_get desks i ≡ Some desk → IsSpare key desk
 
 -- of so many workers the seats of the first ones are left, with room for their starts and desks, and each other one was started
 -- or has a spare desk
 pub record AreStarted {H : Type 0} (given : H → SeatView) (key : TurnKey) (workers : ℕ) (seats : List SeatView) (starts : Listed (Option H))
-    (spare : Listed SeatView) : Type 0 where
+    (spare : Listed SitterView) : Type 0 where
   pub left : AreWorkers key 1 seats
   pub all : length seats + length starts.items ≡ workers
   pub promised : ArePromised given key workers starts.items

@@ -2,7 +2,7 @@
 -- Cited by `enter`, `leave`, `open_three`, `open_two`, `serve_answers_as_its_take`, `shutdown_is_seen_without_the_turn`,
 -- `three_desks_by_turns`, `turnstile_of`, `attend`, `no_turn_is_held_at_the_gate`, `nobody_takes_what_is_not_posted`, `desk_calls.rt`,
 -- `threads.rt`.
-use Rattle.std.proofs.Common.{◌≡◌, ℕ, ◌+◌, ◌≤◌, Bool, true, false, List, [], ◌∷◌, ◌++◌, length, refl, sym, ap, ◌∙◌, append_assoc, arith, Some}
+use Rattle.std.proofs.Common.{◌≡◌, ℕ, ◌+◌, ◌≤◌, Bool, true, false, List, [], ◌∷◌, ◌++◌, length, refl, sym, ap, subst, ◌∙◌, append_assoc, arith, Some}
 use Rattle.std.specs.Prelude.{filter}
 use Rattle.list_laws.proofs.Values.{eqb-same, some-injective}
 use Rattle.task_base.specs.Plan.{Plan}
@@ -24,7 +24,7 @@ use Rattle.env_core.specs.Views.{Enters}
 use Rattle.env_crew.specs.Desk.{DeskView, Holds, IsLater, as_seen, mine, view_at, with_own}
 use Rattle.env_crew.specs.Driving.{IsWanted}
 use Rattle.env_crew.specs.Serving.{IsFree}
-use Rattle.env_shared.specs.Sits.{desk_of}
+use Rattle.env_shared.specs.Sits.{SitterView, desk_of}
 use Rattle.worked_calls.specs.Known.{CanAsk, IsAtDesk, IsLast, driver_seat, worker_seat}
 
 -- A hold of the turn.
@@ -80,11 +80,20 @@ acted_own {old} {new} {past} kind told holds acted =
 
 -- A desk whose entries are known.
 
-pub at_first : (key : TurnKey) (script : Plan) (n : ℕ) (s : SeatView) → s ≡ worker_seat key n → key.basis ≡ script → IsAtDesk script n [] (desk_of s)
-at_first key script n s is basis = rw is (record { script_is = basis; seat_is = refl; own_is = refl })
+pub at_first : (key : TurnKey) (script : Plan) (n : ℕ) (s : SitterView) → s.seat ≡ worker_seat key n → key.basis ≡ script → IsAtDesk script n [] (desk_of s)
+at_first key script n s is basis = record {
+  script_is = ap (λ (x : SeatView). x.of.basis) is ∙ basis;
+  seat_is = ap (λ (x : SeatView). x.number) is;
+  own_is = ap (λ (x : SeatView). own_entries x.number x.seen) is;
+}
 
-pub driver_first : (key : TurnKey) (script : Plan) (made : ℕ) (s : SeatView) → s ≡ driver_seat key made → key.basis ≡ script → IsAtDesk script 0 [] (desk_of s)
-driver_first key script made s is basis = rw is (record { script_is = basis; seat_is = refl; own_is = refl })
+pub driver_first : (key : TurnKey) (script : Plan) (made : ℕ) (s : SitterView) → s.seat ≡ driver_seat key made → key.basis ≡ script
+    → IsAtDesk script 0 [] (desk_of s)
+driver_first key script made s is basis = record {
+  script_is = ap (λ (x : SeatView). x.of.basis) is ∙ basis;
+  seat_is = ap (λ (x : SeatView). x.number) is;
+  own_is = ap (λ (x : SeatView). own_entries x.number x.seen) is;
+}
 
 -- it goes on by an entry
 pub at_later : {script : Plan} {seat : ℕ} {own : List Entry} {old new : DeskView} → IsAtDesk script seat own old → (kind : Kind) → IsLater old new
@@ -158,21 +167,27 @@ splits_second key n first second first_is second_is = second_is ∙ ap (λ (s : 
 -- Workers that find nothing.
 
 -- the same seat at a desk, which is free
-pub record Waits (start now : SeatView) : Type 0 where
-  pub table_is : now.of.table ≡ start.of.table
-  pub script_is : now.of.basis ≡ start.of.basis
-  pub number_is : now.number ≡ start.number
+pub record Waits (start : SeatView) (now : SitterView) : Type 0 where
+  pub table_is : now.seat.of.table ≡ start.of.table
+  pub script_is : now.seat.of.basis ≡ start.of.basis
+  pub number_is : now.seat.number ≡ start.number
   pub free : IsFree (desk_of now)
 
 -- so it is at the start
-pub waits_first : (key : TurnKey) (s d : SeatView) → d ≡ s → CanAsk key s → Waits s d
-waits_first key s d same can = rw same (record { table_is = refl; script_is = refl; number_is = refl; free = can.free })
+pub waits_first : (key : TurnKey) (s : SeatView) (d : SitterView) → d.seat ≡ s → CanAsk key s → Waits s d
+waits_first key s d same can = record {
+  table_is = ap (λ (x : SeatView). x.of.table) same;
+  script_is = ap (λ (x : SeatView). x.of.basis) same;
+  number_is = ap (λ (x : SeatView). x.number) same;
+  free = subst (λ (x : SeatView). IsFree (desk_of (record { seat = x; rests = false }))) (sym same) can.free;
+}
 
 -- it waits on where nothing was entered
-pub waits_on : (start old new : SeatView) (past : List Entry) → Waits start old → Holds (desk_of old) past (desk_of new)
+pub waits_on : (start : SeatView) (old new : SitterView) (past : List Entry) → Waits start old → Holds (desk_of old) past (desk_of new)
     → as_seen (desk_of new) ≡ view_at (desk_of old) past → Waits start new
 waits_on start old new past waits holds kept =
-    let same : own_entries new.number new.seen ≡ own_entries old.number old.seen = rw (holds.seat_is, ap (λ v. v.history) kept) holds.own in
+    let same : own_entries new.seat.number new.seat.seen ≡ own_entries old.seat.number old.seat.seen
+    = rw (holds.seat_is, ap (λ v. v.history) kept) holds.own in
     let was = waits.free in record {
       table_is = ap (λ o. o.table) holds.origin_is ∙ waits.table_is;
       script_is = holds.script_is ∙ waits.script_is;

@@ -62,7 +62,7 @@ pub record IsOf (key : TurnKey) (number : ℕ) (seat : SeatView) : Type 0 where
 pub record CanAsk (key : TurnKey) (seat : SeatView) : Type 0 where
   pub of_is : seat.of ≡ key
   pub known : seat.number ≤ key.basis.workers
-  pub free : IsFree (desk_of seat)
+  pub free : IsFree (desk_of (record { seat = seat; rests = false }))
 
 -- the desk has this script and number, and these entries of its own
 pub record IsAtDesk (script : Plan) (seat : ℕ) (own : List Entry) (d : DeskView) : Type 0 where

@@ -124,7 +124,7 @@ pub fn take<R: Wait + Abort>(
     requires { IsFree (desk_of desk.old) }
     ensures later { IsLater (desk_of desk.old) (desk_of desk.new) }
     ensures own { mine (desk_of desk.new) ≡ with_own (desk_of desk.old) (kinds.Take task 0 0) }
-    ensures work { IsWork desk.old.of.basis task result }
+    ensures work { IsWork desk.old.seat.of.basis task result }
 {
     match desk.take(rt) {
         Taken::Task(work) => {
@@ -139,7 +139,7 @@ pub fn take<R: Wait + Abort>(
 
 /// A task opens a scope.
 pub fn enter<R: Wait + Abort>(rt: &R, desk: &mut SharedDesk<'_, CountedBody>, scope: Scope)
-    requires { IsNextAct (as_seen (desk_of desk.old)) desk.old.number (Act.Enter scope) }
+    requires { IsNextAct (as_seen (desk_of desk.old)) desk.old.seat.number (Act.Enter scope) }
     ensures later { IsLater (desk_of desk.old) (desk_of desk.new) }
     ensures own { (t : ℕ) × (mine (desk_of desk.new) ≡ with_own (desk_of desk.old) (kinds.Enter t scope)) }
 {
@@ -148,7 +148,7 @@ pub fn enter<R: Wait + Abort>(rt: &R, desk: &mut SharedDesk<'_, CountedBody>, sc
 
 /// A task closes its scope.
 pub fn leave<R: Wait + Abort>(rt: &R, desk: &mut SharedDesk<'_, CountedBody>)
-    requires { IsNextAct (as_seen (desk_of desk.old)) desk.old.number Act.Leave }
+    requires { IsNextAct (as_seen (desk_of desk.old)) desk.old.seat.number Act.Leave }
     ensures later { IsLater (desk_of desk.old) (desk_of desk.new) }
     ensures own { (t : ℕ) × (mine (desk_of desk.new) ≡ with_own (desk_of desk.old) (kinds.Leave t)) }
 {
@@ -163,8 +163,8 @@ pub fn end<R: Wait + Abort>(
     mut work: Assignment<CountedBody>,
     left: u64,
 )
-    requires work { IsWork desk.old.of.basis task work }
-    requires last { IsLast (as_seen (desk_of desk.old)) desk.old.number task }
+    requires work { IsWork desk.old.seat.of.basis task work }
+    requires last { IsLast (as_seen (desk_of desk.old)) desk.old.seat.number task }
     ensures later { IsLater (desk_of desk.old) (desk_of desk.new) }
 {
     let Act::Finished = work.step() else {
@@ -189,8 +189,8 @@ pub fn assert_served<R: Wait + Abort>(
 
 /// A worker sees, without the turn, from which place on skip work is refused, or that it is not.
 pub fn assert_shut(rt: &impl Abort, worker: &mut SharedDesk<'_, CountedBody>, wanted: Option<u64>)
-    ensures of { worker.new.of ≡ worker.old.of }
-    ensures number { worker.new.number ≡ worker.old.number }
+    ensures of { worker.new.seat.of ≡ worker.old.seat.of }
+    ensures number { worker.new.seat.number ≡ worker.old.seat.number }
 {
     assert_eq!(rt; worker.shut_to(Behaviour::SkipOnShutdown), wanted);
 }

@@ -49,8 +49,8 @@ loop-seat-preserved g c =
     let last = last_left _ _ _ _ c.in-Some.seat starts c.in-Some.ensures.items was.left was.all in
     let items = c.push_spare-in-Err.ensures.items in
     let longer : length c.push_spare-in-Err.new.self.items ≡ length starts + 1 = ap length items ∙ length-append starts (None ∷ []) in
-    let worker : IsWorker key c.in-Some.seat.number desk = rw c.desk.ensures.seat c.in-Err.ensures.refused in
-    let number : desk.number ≡ n - length starts = worker.number_is ∙ last.1.number_is in
+    let worker : IsWorker key c.in-Some.seat.number desk.seat = rw c.desk.ensures.seat c.in-Err.ensures.refused in
+    let number : desk.seat.number ≡ n - length starts = worker.number_is ∙ last.1.number_is in
     let one = sits_spare key c.in-Some.seat.number desk worker c.desk.ensures.seated (omega (arith, last.1.number_is, last.2, was.all))
     (omega (arith, last.1.number_is, last.2, was.all, c.requires.known)) in
     record {

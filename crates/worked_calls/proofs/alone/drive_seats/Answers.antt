@@ -9,6 +9,6 @@ drive-requires-clause-free g c κs within i d here =
 
 pub returns-clause-second : goal.returns-clause-second
 returns-clause-second g c =
-    back_alone c.args.shared.now c.desk-worker.result c.into_seat-second.result c.from_vec-spare.result.items c.drive.new.spare.items c.pop.new.self.items
+    rw c.into_seat-second.ensures.seat (back_alone c.args.shared.now c.desk-worker.result c.in-Some.desk c.from_vec-spare.result.items c.drive.new.spare.items c.pop.new.self.items
     (c.desk-worker.ensures.seat ∙ c.requires.second) c.desk-worker.ensures.seated (c.from_vec-spare.ensures.items ∙ c.in_ok-vec.ensures.items)
-    c.drive.ensures.same (rw c.into_seat-second.ensures.seat c.in-Some.ensures.items) c.into_seat-second.ensures.seated
+    c.drive.ensures.same c.in-Some.ensures.items (rw (← c.into_seat-second.ensures.seat) c.into_seat-second.ensures.seated))

@@ -6,6 +6,6 @@ use Rattle.worked_calls.proofs.desk_calls.end.Goals as goal
 
 pub end-requires : goal.end-requires
 end-requires g c =
-    can_end (as_seen (desk_of c.args.desk.now)) c.args.desk.now.number c.args.task c.step.new.self
-    (still c.args.desk.now.of.basis c.args.task c.args.work c.step.new.self c.requires.work c.in-Finished.ensures.unchanged)
+    can_end (as_seen (desk_of c.args.desk.now)) c.args.desk.now.seat.number c.args.task c.step.new.self
+    (still c.args.desk.now.seat.of.basis c.args.task c.args.work c.step.new.self c.requires.work c.in-Finished.ensures.unchanged)
     (c.in-Finished.ensures.finished refl) c.requires.last
