@@ -1,4 +1,5 @@
 pub mod Lists
+pub mod Listed
 pub mod Accepted
 pub mod Jobs
 pub mod TakenKeys

@@ -3,6 +3,8 @@ pub mod Pasts
 pub mod Lines
 pub mod Queues
 pub mod Groups
+pub mod TaskLists
+pub mod Listings
 pub mod Tables
 pub mod PoolJobs
 pub mod Jobs
@@ -15,3 +17,4 @@ pub mod JobState
 pub mod Others
 pub mod Ripens
 pub mod Refreshes
+pub mod Moving

@@ -1,12 +1,11 @@
 -- The queues once the sequence of each task that was posted has been given its place.
-use Rattle.std.specs.Prelude.{◌≡◌, ◌⊎◌, ℕ, zero, suc, ◌+◌, ◌^◌, ◌<◌, ◌==◌, Bool, List, length, Option, Some, None, unwrap_or, slice_get, slice_index_or}
+use Rattle.std.specs.Prelude.{◌≡◌, ◌⊎◌, ℕ, zero, suc, ◌+◌, ◌^◌, ◌<◌, List, length, Option, Some, None, slice_get, slice_index_or}
 use Rattle.task_base.specs.Plan.{Plan}
 use Rattle.task_base.specs.Runners.{sequence_of}
 use Rattle.task_base.specs.declared.source.TaskSource.{TaskSource}
 use Rattle.task_base.specs.declared.source.TaskSource.TheVariants.{Sequence}
 use Rattle.task_traits.specs.declared.traits.Priority.{Priority}
 use Rattle.task_model.specs.Sources.{Candidate}
-use Rattle.list_laws.specs.Lists.{keep}
 use Rattle.task_sequence.specs.Sequences.{Held, sequence_at}
 use Rattle.pool_core.specs.Queues.{AreRoomy, IsPlaced, with_source}
 use Rattle.pool_core.specs.State.{HasPlace, lane_by, rank_by, sequence_by}
@@ -21,45 +20,41 @@ with_place table priorities held lanes task (Some posting) =
     with_source lanes (lane_by table posting.runner) (Sequence (sequence_of table posting.runner task))
     (rank_by priorities posting.runner (sequence_at held (sequence_of table posting.runner task)))
 
--- a task that was posted in this way is meant where no runner is named, or its own
-abbrev pub is_meant : Option ℕ → Posting → Bool
-is_meant only posting = unwrap_or only posting.runner == posting.runner
+-- how a task was posted, where it was
+abbrev pub posted_at : List (Option Posting) → ℕ → Option Posting
+posted_at postings task = slice_index_or postings task None
 
--- how a task that is meant was posted, where it was
-abbrev pub posted_at : Option ℕ → List (Option Posting) → ℕ → Option Posting
-posted_at only postings task = keep (is_meant only) (slice_index_or postings task None)
+-- the lanes with the sequences of so many tasks in their places
+abbrev pub placed : Plan → List Priority → List (Option Posting) → Held → List Lane → ℕ → List Lane
+placed table priorities postings held lanes zero = lanes
+placed table priorities postings held lanes (suc n) =
+    with_place table priorities held (placed table priorities postings held lanes n) n (posted_at postings n)
 
--- the lanes with the sequences of those of so many tasks that are meant in their places
-abbrev pub placed : Plan → List Priority → Option ℕ → List (Option Posting) → Held → List Lane → ℕ → List Lane
-placed table priorities only postings held lanes zero = lanes
-placed table priorities only postings held lanes (suc n) =
-    with_place table priorities held (placed table priorities only postings held lanes n) n (posted_at only postings n)
+-- the pool with the sequences of so many tasks in their places
+abbrev pub refreshed_below : Pool → ℕ → Pool
+refreshed_below pool n =
+    record pool { lanes = placed pool.runners pool.priorities.items pool.postings.items pool.sequences pool.lanes n }
 
--- the pool with the sequences of those of so many tasks that are meant in their places
-abbrev pub refreshed_below : Pool → Option ℕ → ℕ → Pool
-refreshed_below pool only n =
-    record pool { lanes = placed pool.runners pool.priorities.items only pool.postings.items pool.sequences pool.lanes n }
-
--- with those of all tasks that are meant
-abbrev pub all_refreshed : Pool → Option ℕ → Pool
-all_refreshed pool only = refreshed_below pool only (length pool.postings.items)
+-- with those of all tasks
+abbrev pub all_refreshed : Pool → Pool
+all_refreshed pool = refreshed_below pool (length pool.postings.items)
 
 -- the queues have room for the sequence of each task that was posted
 abbrev pub HavePlaces : Pool → Type 0
 HavePlaces pool = (task : ℕ) (posting : Posting) → slice_get pool.postings.items task ≡ Some (Some posting)
     → (length pool.runners.runners + task < 2 ^ 32) × HasPlace pool (sequence_by pool task posting) posting.runner
 
--- none of so many tasks that are meant was posted to the source
-abbrev pub IsUnposted : Plan → Option ℕ → List (Option Posting) → TaskSource → ℕ → Type 0
-IsUnposted script only postings source n = (t : ℕ) (posting : Posting) → t < n → posted_at only postings t ≡ Some posting
+-- none of so many tasks was posted to the source
+abbrev pub IsUnposted : Plan → List (Option Posting) → TaskSource → ℕ → Type 0
+IsUnposted script postings source n = (t : ℕ) (posting : Posting) → t < n → posted_at postings t ≡ Some posting
     → Sequence (sequence_of script posting.runner t) ≡ source → ⊥
 
--- each source is in its place as it is now, or as it was where none of so many tasks that are meant was posted to it
-pub record ArePlaced (script : Plan) (only : Option ℕ) (postings : List (Option Posting)) (before now : TaskSource → Option Candidate) (lanes : List Lane)
+-- each source is in its place as it is now, or as it was where none of so many tasks was posted to it
+pub record ArePlaced (script : Plan) (postings : List (Option Posting)) (before now : TaskSource → Option Candidate) (lanes : List Lane)
     (n : ℕ) : Type 0 where
   pub roomy : AreRoomy script lanes
   pub places : (source : TaskSource)
-      → IsPlaced lanes source (now source) ⊎ (IsPlaced lanes source (before source) × IsUnposted script only postings source n)
+      → IsPlaced lanes source (now source) ⊎ (IsPlaced lanes source (before source) × IsUnposted script postings source n)
 
 -- the runner and the task of each posting are declared
 abbrev pub AllDeclared : Plan → List (Option Posting) → Type 0

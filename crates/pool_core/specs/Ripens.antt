@@ -10,6 +10,7 @@ use Rattle.task_runners.specs.Table.{table_of}
 use Rattle.pool_core.specs.Calls.{CanTick, after_tick}
 use Rattle.pool_core.specs.Groups.{AreGroups, ticked}
 use Rattle.pool_core.specs.Lines.{AreLines}
+use Rattle.pool_core.specs.Listings.{AreListed}
 use Rattle.pool_core.specs.Jobs.{AreJobs, AreHolders}
 use Rattle.pool_core.specs.Queues.{HoldBy, is_representative}
 use Rattle.pool_core.specs.State.{standing}
@@ -30,6 +31,7 @@ pub record Ripens (script : Plan) (past : List Entry) (moment : ℕ) (front rest
   pub runners : pool.runners ≡ table_of script.runners script.background
   pub lines : AreLines script past (arrivals past ++ map (ripe_behind past) front) pool.sequences
   pub queues : HoldBy script (standing script past pool.priorities.items pool.postings.items pool.sequences) pool.lanes
+  pub listed : AreListed script pool.postings.items pool.sequences pool.lists
   pub representatives : pool.representatives.items ≡ filter (is_representative script) (worker_seats script)
   pub groups : (seat : ℕ) → AreGroups script (after_tick past seat moment) pool.groups
   pub delayed : pool.delayed ≡ record { held = map ripening_of rest; room = length script.tasks }

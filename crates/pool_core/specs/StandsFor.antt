@@ -11,6 +11,7 @@ use Rattle.pool_core.specs.Pasts.{IsPoolScript, IsPoolPast}
 use Rattle.pool_core.specs.Lines.{AreLines}
 use Rattle.pool_core.specs.Queues.{HoldWaiting, is_representative}
 use Rattle.pool_core.specs.Groups.{AreGroups}
+use Rattle.pool_core.specs.Listings.{AreListed}
 use Rattle.pool_core.specs.Jobs.{AreJobs, AreHolders}
 use Rattle.pool_core.specs.Tables.{unripe, ripening_of, tracked, ArePostings, ArePriorities, AreSeats}
 use Rattle.pool_core.specs.declared.pool.Pool.{Pool}
@@ -27,6 +28,8 @@ pub record StandsFor (script : Plan) (past : List Entry) (pool : Pool) : Type 0 
   pub lines : AreLines script past (arrivals past) pool.sequences
   -- the sources that would wait under the policy `all`, with their ranks
   pub queues : HoldWaiting script past pool.lanes
+  -- the tasks of parallel runners that wait, in a list for each runner
+  pub listed : AreListed script pool.postings.items pool.sequences pool.lists
   -- the workers that answer for all where it is asked whether one may take a source
   pub representatives : pool.representatives.items ≡ filter (is_representative script) (worker_seats script)
   -- what each worker does of the groups' work: a task with its scope, or an item of a job

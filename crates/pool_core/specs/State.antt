@@ -1,6 +1,6 @@
 -- How the parts of the pool follow one another: each sequence is in the queue of its runner's lane and present priority, with the
 -- rank that its list and its cell give.
-use Rattle.std.specs.Prelude.{◌≡◌, ℕ, ◌+◌, ◌-◌, ◌^◌, ◌<◌, Bool, true, false, nat_lt, if◌then◌else◌, List, ◌∷◌, ◌++◌, [], length, Option, Some, None, All, is_some, unwrap_or, slice_get, slice_index_or, option_and_then}
+use Rattle.std.specs.Prelude.{◌≡◌, ℕ, ◌+◌, ◌-◌, ◌^◌, ◌<◌, ◌==◌, Bool, true, false, nat_lt, if◌then◌else◌, List, ◌∷◌, ◌++◌, [], length, Option, Some, None, All, is_some, unwrap_or, slice_get, slice_index_or, option_and_then}
 use Rattle.std.specs.Option.{option_map}
 use Rattle.task_base.specs.Plan.{Plan}
 use Rattle.task_base.specs.Keys.{key_below}
@@ -19,6 +19,7 @@ use Rattle.task_sequence.specs.Sequences as sequences
 use Rattle.task_sequence.specs.Sequences.{Waiting, Held, sequence_at, with_sequence, first_of}
 use Rattle.sequence_queue.specs.Ranked.{IsMadeFor}
 use Rattle.sequence_queue.specs.declared.rank.Rank.{Rank}
+use Rattle.pool_core.specs.TaskLists.{Lists, with_task}
 use Rattle.pool_core.specs.Queues.{lane_of, queue_of, with_source}
 use Rattle.pool_core.specs.declared.posting.Posting.{Posting}
 use Rattle.pool_core.specs.declared.pool.Pool.{Pool}
@@ -90,17 +91,24 @@ pushed held s waiting = record held {
 abbrev pub sequence_by : Pool → ℕ → Posting → ℕ
 sequence_by pool task posting = sequence_of pool.runners posting.runner task
 
+-- the lists with a task that has come to its sequence, unless that is its runner's own
+abbrev pub listed_with : Pool → ℕ → Posting → Lists
+listed_with pool task posting =
+    if sequence_by pool task posting == posting.runner then pool.lists else with_task pool.lists posting.runner task
+
 -- the task may go to the end of its sequence with this key
 pub record CanArrive (pool : Pool) (task : ℕ) (posting : Posting) (key : Key) : Type 0 where
   pub fits : length pool.runners.runners + task < 2 ^ 32
   pub place : HasPlace pool (sequence_by pool task posting) posting.runner
   pub room : 0 < pool.sequences.room
+  pub line : posting.runner < length pool.lists.lines
+  pub known : task < length pool.lists.after
   pub above : All (λ w. key_below w.key key ≡ true) (sequence_at pool.sequences (sequence_by pool task posting)).tasks
 
 -- the pool with the task at the end of its sequence
 abbrev pub arrived : Pool → ℕ → Posting → Key → Pool
 arrived pool task posting key = refreshed
-    (record pool { sequences = pushed pool.sequences (sequence_by pool task posting) (record { task = task; key = key; effective = posting.effective }) })
+    (record pool { sequences = pushed pool.sequences (sequence_by pool task posting) (record { task = task; key = key; effective = posting.effective }); lists = listed_with pool task posting })
     (sequence_by pool task posting) posting.runner
 
 -- the phase forbids the task to start

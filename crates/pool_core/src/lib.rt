@@ -9,6 +9,7 @@ mod pool;
 mod pool_job;
 mod pool_take;
 mod posting;
+mod task_lists;
 
 pub use laws::other_entries_keep_the_pool;
 pub use pool::Pool;

@@ -1,4 +1,4 @@
-ghost use Rattle.std.specs.Prelude.{◌≡◌, ℕ, ◌+◌, ◌<◌, ◌≤◌, ◌↔◌, not, List, [], slice_get, Some, None, IsOk, IfOk, IfErr, OnErr, OnOk, false};
+ghost use Rattle.std.specs.Prelude.{◌≡◌, ◌==◌, if◌then◌else◌, length, ℕ, ◌+◌, ◌<◌, ◌≤◌, ◌↔◌, not, List, [], slice_get, Some, None, IsOk, IfOk, IfErr, OnErr, OnOk, false};
 ghost use Rattle.task_base.specs.Plan.{Plan};
 ghost use Rattle.task_base.specs.declared.entry.Entry.{Entry};
 ghost use Rattle.task_model.specs.Blockers.{blockers_of};
@@ -12,6 +12,7 @@ ghost use Rattle.std.specs.Option.{option_map};
 ghost use Rattle.task_model.specs.Time.{now_of};
 ghost use Rattle.pool_core.specs.Ripens.{IsInTick};
 ghost use Rattle.pool_core.specs.StandsFor.{StandsFor};
+ghost use Rattle.pool_core.specs.TaskLists.{with_task};
 ghost use Rattle.pool_core.specs.State.{CanArrive, CanRipen, arrived, ripened};
 ghost use Rattle.pool_core.specs.declared.posting.Posting.{Posting};
 
@@ -25,6 +26,7 @@ use crate::pool::parts::{empty_places, first_priorities, fresh_parts};
 use crate::pool_job::{Holder, PoolJob, fresh_jobs};
 use crate::pool_take::PoolTake;
 use crate::posting::Posting;
+use crate::task_lists::TaskLists;
 use delayed_manager::{Delayed, Ripening};
 use sequence_queue::Rank;
 use shutdown_phase::StillBlocked;
@@ -44,8 +46,8 @@ use task_traits::{effective, forbids};
 ///
 /// A call stands for the entry of its kind in the history. All memory is taken by `new`. A post, a take, an end, a scope, a
 /// policy and each call on a job take time logarithmic in the number of runners, tasks and jobs at most; a tick besides for
-/// each task that ripens; `is_any_ready` and `idle` look at each seat that a runner states, `reprio` of a parallel runner at
-/// each task, and `start_shutdown` at each runner, task and job.
+/// each task that ripens, and `reprio` for each task of the runner that waits, or has waited since its last change;
+/// `is_any_ready` and `idle` look at each seat that a runner states, and `start_shutdown` at each runner, task and job.
 #[derive(Drop)]
 pub struct Pool {
     runners: RunnerTable,
@@ -53,6 +55,8 @@ pub struct Pool {
     priorities: Vec<Priority>,
     sequences: Sequences,
     lanes: Lanes,
+    /// The tasks of each parallel runner that wait, and maybe some that have waited; the last list is a spare one.
+    lists: TaskLists,
     /// The workers that answer for all where it is asked whether one may take a source.
     representatives: Vec<SeatNo>,
     groups: Groups,
@@ -80,6 +84,7 @@ impl Pool {
         let (runners, sequences, lanes, delayed) = fresh_parts(alloc, script, tasks)?;
         let priorities = first_priorities(alloc, script)?;
         let representatives = representatives(alloc, script)?;
+        let lists = TaskLists::new(alloc, script.runners.len() + 1, tasks as usize)?;
         let jobs = fresh_jobs(alloc, script)?;
         let (postings, seats, holders) = empty_places(
             alloc,
@@ -91,6 +96,7 @@ impl Pool {
             priorities,
             sequences,
             lanes,
+            lists,
             representatives,
             groups: Groups::new(script),
             delayed,
@@ -203,24 +209,20 @@ impl Pool {
 
     /// The driver gives a runner another priority: those of its sequences that wait go by it from now on; what runs counts as
     /// it was taken. Constant time where the runner has this priority. Else a sequenced or a single-thread runner has its one
-    /// sequence given its place anew, in logarithmic time at most. Of a parallel runner it looks at each task, and twice where
-    /// one of the two priorities is best-effort: the sequence of each task of the runner is given its place anew, in
-    /// logarithmic time at most, and in constant time where the heap has these sequences alone, in the order of their posts.
+    /// sequence given its place anew, in logarithmic time at most. Of a parallel runner it looks at each task that waits, and
+    /// once at each that has stopped waiting since its last change: the sequence of one that waits is given its place anew, in
+    /// logarithmic time at most, and in constant time where the heap has these sequences alone, in the order of their posts;
+    /// for one that no longer waits it takes constant time.
     pub fn reprio(&mut self, runner: RunnerId, priority: Priority)
         requires { (script : Plan) × (past : List Entry) × KnowsRunner script past self.old runner }
         ensures { (script : Plan) (past : List Entry) (seat : ℕ) → KnowsRunner script past self.old runner
             → StandsFor script (after_reprio past seat runner priority) self.new }
     {
-        let before = self.priorities[runner as usize];
-        if before == priority {
+        if self.priorities[runner as usize] == priority {
             return;
         }
         self.priorities[runner as usize] = priority;
-        if self.runners.seq_of(runner, 0) == runner {
-            self.refresh(runner, runner);
-        } else {
-            self.place_anew(runner, before, priority);
-        }
+        self.place_anew(runner);
     }
 
     /// Whether no worker runs a task or is inside a job, and none may take a source. The error says how many do, and
@@ -272,7 +274,7 @@ impl Pool {
     {
         self.tracker.start_shutdown();
         self.sequences.purge(Phase::Started);
-        self.refresh_all(None);
+        self.refresh_all();
         self.refresh_jobs();
     }
 
@@ -354,7 +356,19 @@ impl Pool {
     {
         let seq = self.runners.seq_of(posting.runner, task);
         self.sequences.push(seq, task, key, posting.effective);
+        self.list(seq, task, posting.runner);
         self.refresh(seq, posting.runner);
+    }
+
+    // Puts a task into the list of its runner, unless its sequence is the runner's own.
+    fn list(&mut self, seq: SeqId, task: TaskId, runner: RunnerId)
+        requires there { runner < length self.old.lists.lines }
+        requires known { task < length self.old.lists.after }
+        ensures { self.new ≡ record self.old { lists = if seq == runner then self.old.lists else with_task self.old.lists runner task } }
+    {
+        if seq != runner {
+            self.lists.push(runner as usize, task);
+        }
     }
 
     // The task that a seat runs.

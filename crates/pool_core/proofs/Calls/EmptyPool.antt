@@ -1,5 +1,9 @@
 -- The pool of a history that has not begun.
 -- Cited by `Pool::new`.
+use Rattle.pool_core.proofs.Listed.{apart_empty}
+use Rattle.pool_core.specs.Listings.{AreListed}
+use Rattle.pool_core.specs.TaskLists.{IsAmong, Lists, chain, list_of, no_line}
+use Rattle.pool_core.specs.declared.task_lists.TaskLine.{TaskLine}
 use Rattle.pool_core.specs.PoolJobs.{fresh_job}
 use Rattle.pool_core.proofs.Jobs.JobTables.{holders_at_start}
 use Rattle.pool_core.specs.Jobs.{AreJobs, job_as}
@@ -141,10 +145,27 @@ hold_at_start script held fresh_all limits = hold_from script [] [] priorities p
         → option_map rank_as (keep (belongs lane best) (standing script [] priorities postings held source)) ≡ None
     no_rank lane best source = ap (λ o. option_map rank_as (keep (belongs lane best) o)) (no_candidate source)
 
+-- no task is in a list
+listed_at_start : (script : Plan) (held : Held) (lists : Lists) (postings : List (Option Posting)) → held.sequences ≡ replicate (sequence_count script) fresh
+    → lists ≡ record { lines = replicate (length script.runners + 1) no_line; after = replicate (length script.tasks) None }
+    → AreListed script postings held lists
+listed_at_start script held lists postings fresh_all is = record {
+  apart = apart_empty lists empty (λ t. ap (λ s. slice_index_or s.after t None) is ∙ replicated (length script.tasks) t None);
+  lines = ap (λ s. length s.lines) is ∙ length-replicate (length script.runners + 1) no_line;
+  tasks = ap (λ s. length s.after) is ∙ length-replicate (length script.tasks) None;
+  owned = λ l t among. absurd (subst (IsAmong t) (empty l) among);
+  covered = λ s. inl (ap (λ q. q.tasks) (ap (λ ss. slice_index_or ss s fresh) fresh_all ∙ replicated (sequence_count script) s fresh));
+}
+  where
+    empty : (l : ℕ) → list_of lists l ≡ []
+    empty l = ap (λ s. list_of s l) is ∙ ap (λ (q : TaskLine). chain q.count (replicate (length script.tasks) None) q.first)
+        (replicated (length script.runners + 1) l no_line)
+
 -- a pool made of new parts stands for a history that has not begun
 pub stands_at_start : (script : Plan) (pool : Pool) → IsPoolScript script → pool.runners ≡ table_of script.runners script.background
     → pool.priorities.items ≡ map (λ r. r.traits.priority) script.runners
     → pool.sequences.sequences ≡ replicate (sequence_count script) fresh → pool.sequences.room ≡ length script.tasks → pool.lanes ≡ empty_lanes script
+    → pool.lists ≡ record { lines = replicate (length script.runners + 1) no_line; after = replicate (length script.tasks) None }
     → pool.representatives.items ≡ filter (is_representative script) (worker_seats script)
     → pool.groups ≡ empty_groups script → pool.delayed ≡ record { held = []; room = length script.tasks }
     → pool.tracker ≡ record { phase = phases.Running; policy = policies.All; block_items = 0; skip_items = 0 }
@@ -152,13 +173,14 @@ pub stands_at_start : (script : Plan) (pool : Pool) → IsPoolScript script → 
     → pool.jobs.items ≡ map fresh_job script.jobs → pool.holders.items ≡ replicate (script.workers + 1) None → pool.moment ≡ 0
     → StandsFor script [] pool
 unfolding posts now_of fold_past
-stands_at_start script pool fits runners priorities sequences room lanes representatives groups delayed tracker postings seats jobs holders moment = record {
+stands_at_start script pool fits runners priorities sequences room lanes lists representatives groups delayed tracker postings seats jobs holders moment = record {
   script_fits = fits;
   past_fits = past_at_start script;
   runners = runners;
   priorities = rw priorities (priorities_at_start script);
   lines = lines_at_start script pool.sequences sequences;
   queues = rw lanes (hold_at_start script pool.sequences sequences fits);
+  listed = listed_at_start script pool.sequences pool.lists pool.postings.items sequences lists;
   representatives = representatives;
   groups = rw groups (groups_at_start script);
   delayed = delayed;

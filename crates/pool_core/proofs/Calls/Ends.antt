@@ -4,6 +4,7 @@ use Rattle.pool_core.proofs.Jobs.JobTables.{holders_kept, jobs_kept}
 use Rattle.pool_core.proofs.Works.AtSeat.{IsAtSeat}
 use Rattle.pool_core.proofs.Delays.{unripe_kept}
 use Rattle.pool_core.proofs.Sources.Following.{Tells, hold_refreshed, hold_standing, other_sequence, runner_is, sequence_made}
+use Rattle.pool_core.proofs.Sources.Listing.{listed_shrunk, shrinks_at}
 use Rattle.pool_core.proofs.Works.GroupGrowth.{groups_at_end}
 use Rattle.pool_core.proofs.LineGrowth.{lines_at_end}
 use Rattle.pool_core.proofs.Pasts.{past_at_end}
@@ -54,6 +55,8 @@ stands_at_end {script = script} {past = past} {pool = pool} {seat = seat} {w = w
       stands.script_fits tells refl runs
       (sequence_made script pool.lanes w.home w.task stands.script_fits stands.queues.roomy at.runner_declared at.task_declared)
       (λ other another. other_sequence pool.sequences s other _ another) (hold_standing script past pool stands);
+  listed = listed_shrunk script pool.postings.items pool.sequences (brought_home pool.sequences s left) pool.lists stands.listed
+      (shrinks_at pool.sequences s (sequence_at pool.sequences s).tasks (Some left) (λ none. none));
   representatives = stands.representatives;
   groups = groups_at_end script past pool.groups seat left w stands.script_fits stands.past_fits stands.groups at.runs at.is_pool;
   delayed = rw (unripe_kept past e refl) stands.delayed;

@@ -43,6 +43,7 @@ stands_with script past pool e groups tracker stands leaves fits lines hold are 
   priorities = priorities_kept script past e pool.priorities.items (moves_fewer (Priorities ∷ []) table_parts e.kind refl leaves) stands.priorities;
   lines = rw (arrivals_same past e ready) lines;
   queues = hold;
+  listed = stands.listed;
   representatives = stands.representatives;
   groups = are;
   delayed = rw (unripe_kept past e ready) stands.delayed;

@@ -1,5 +1,6 @@
 -- A post keeps what the pool stands for.
 -- Cited by `Pool::post`.
+use Rattle.pool_core.proofs.Sources.Listing.{listed_arrived, listed_posted}
 use Rattle.pool_core.proofs.Jobs.JobTables.{holders_kept, jobs_kept}
 use Rattle.pool_core.proofs.Jobs.JobQueues.{jobs_wait}
 use Rattle.list_laws.proofs.Places.{slice_get-set_same}
@@ -97,6 +98,8 @@ can_arrive script past pool place task runner delay tracker can now =
       fits = omega (arith, s.script_fits.runners_fit, s.script_fits.tasks_fit, can.task_declared);
       place = has_place script _ runner task s.script_fits refl s.priorities.all s.lines.all s.queues.roomy can.runner_declared can.task_declared;
       room = omega (arith, few, s.room);
+      line = omega (arith, can.runner_declared, s.listed.lines);
+      known = omega (arith, can.task_declared, s.listed.tasks);
       above = below;
     })
 
@@ -152,6 +155,8 @@ stands_at_delayed_post script past pool seat place task runner delay can later =
       lines = tells.lines;
       queues = hold_from script past (past ++ e ∷ []) pool.priorities.items (slice_set pool.postings.items task (Some (posted_as script runner delay)))
           pool.sequences pool.lanes tells (λ j. jobs_wait script past e j refl) (hold_posted delay can);
+      listed = listed_posted script pool.postings.items pool.sequences pool.lists task (posted_as script runner delay)
+          (s.postings.unknown task can.task_declared can.is_new) s.listed;
       representatives = s.representatives;
       groups = groups_kept script past e pool.groups refl s.groups;
       delayed = rw (unripe_at_delayed_post past seat task runner delay later s.past_fits.no_tick_ahead, s.delayed, s.moment, can.place_is) refl;
@@ -187,6 +192,10 @@ stands_at_post script past pool seat place task runner delay can now allowed =
       queues = hold_refreshed script past e pool.priorities.items table pool.sequences held pool.lanes home runner s.script_fits tells refl runs
           (sequence_made script pool.lanes runner task s.script_fits s.queues.roomy can.runner_declared can.task_declared)
           (λ other another. other_sequence pool.sequences home other _ another) (hold_posted delay can);
+      listed = listed_arrived script table pool.sequences held pool.lists task (posted_as script runner delay) posted can.runner_declared can.task_declared
+          (λ other another. other_sequence pool.sequences home other _ (λ same. another (sym same)))
+          (listed_posted script pool.postings.items pool.sequences pool.lists task (posted_as script runner delay)
+          (s.postings.unknown task can.task_declared can.is_new) s.listed);
       representatives = s.representatives;
       groups = groups_kept script past e pool.groups refl s.groups;
       delayed = rw (unripe_at_post past seat task runner delay now) s.delayed;
@@ -226,9 +235,11 @@ stands_at_post script past pool seat place task runner delay can now allowed =
     there : home < sequence_count script
     there = sequence_there script runner task can.runner_declared can.task_declared
 
+    posted : slice_get table task ≡ Some (Some (posted_as script runner delay))
+    posted = slice_get-set_same pool.postings.items task (Some (posted_as script runner delay)) (rw s.postings.all can.task_declared)
+
     runs : runner_of script table home ≡ Some runner
-    runs = runner_is script table task (posted_as script runner delay) can.runner_declared
-        (slice_get-set_same pool.postings.items task (Some (posted_as script runner delay)) (rw s.postings.all can.task_declared))
+    runs = runner_is script table task (posted_as script runner delay) can.runner_declared posted
 
     may : may_start script (past ++ e ∷ []) r.posted ≡ true
     may = rw (is_taken_push past e task, phase_of_push past e, (new_is_not_taken script past task s.past_fits can.is_new).0, allowed) refl

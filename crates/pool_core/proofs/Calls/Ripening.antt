@@ -6,6 +6,10 @@ use Rattle.list_laws.proofs.Elements.{AllByRecursion-append, AllByRecursion-at, 
 use Rattle.list_laws.proofs.Filters.{filter_passes, filter_front}
 use Rattle.list_laws.proofs.Sorts.{AllByRecursion-sort_by}
 use Rattle.list_laws.specs.Sorts.{Rises}
+use Rattle.pool_core.proofs.Sources.Listing.{listed_arrived}
+use Rattle.pool_core.specs.Listings.{AreListed}
+use Rattle.pool_core.specs.State.{listed_with}
+use Rattle.pool_core.specs.TaskLists.{Lists}
 use Rattle.pool_core.proofs.Accepted.{is_declared, posts_fit}
 use Rattle.pool_core.proofs.Delays.{ripe_at_tick}
 use Rattle.pool_core.proofs.Sources.Following.{all_refreshed, has_place, other_sequence, runner_is, sequence_made}
@@ -157,6 +161,8 @@ can_ripen script past moment place front p rest entry pool delayed tick ripens i
           (has_place script _ p.home p.task tick.can.stands.script_fits ripens.runners ripens.priorities.all ripens.lines.all ripens.queues.roomy
           next.declared.0 next.declared.1);
       room = some_room;
+      line = omega (arith, next.declared.0, ripens.listed.lines);
+      known = omega (arith, next.declared.1, ripens.listed.tasks);
       above = subst (λ t. All (λ w. key_below w.key (ripe_behind past p).key ≡ true) (sequence_at pool.sequences (sequence_of t p.home p.task)).tasks)
           (sym ripens.runners) above;
     }
@@ -174,17 +180,18 @@ ripe_push moment front p ripe is = AllByRecursion-append (λ q. nat_le q.ripe mo
 
 -- the next one no longer waits for its moment, and the lists and the queues are such as they are with its key
 ripens_with : (script : Plan) (past : List Entry) (moment : ℕ) (front : List Posted) (p : Posted) (rest : List Posted) (pool : Pool) (held : Held)
-    (lanes : List Lane) → Ripens script past moment front (p ∷ rest) pool → nat_le p.ripe moment ≡ true
+    (lanes : List Lane) (lists : Lists) → Ripens script past moment front (p ∷ rest) pool → nat_le p.ripe moment ≡ true
     → AreLines script past (known past front ++ ripe_behind past p ∷ []) held
-    → HoldBy script (standing script past pool.priorities.items pool.postings.items held) lanes → pool.sequences.room ≤ held.room + 1
+    → HoldBy script (standing script past pool.priorities.items pool.postings.items held) lanes → AreListed script pool.postings.items held lists → pool.sequences.room ≤ held.room + 1
     → Ripens script past moment (front ++ p ∷ []) rest
-    (record pool { sequences = held; lanes = lanes; delayed = with_held pool.delayed (drop 1 pool.delayed.held) })
-ripens_with script past moment front p rest pool held lanes ripens is lines queues enough = record {
+    (record pool { sequences = held; lanes = lanes; lists = lists; delayed = with_held pool.delayed (drop 1 pool.delayed.held) })
+ripens_with script past moment front p rest pool held lanes lists ripens is lines queues listed enough = record {
   parts = ripens.parts ∙ sym (append_assoc front (p ∷ []) rest);
   ripe = ripe_push moment front p ripens.ripe is;
   runners = ripens.runners;
   lines = subst (λ rs. AreLines script past rs held) (sym (known-push past front p)) lines;
   queues = queues;
+  listed = listed;
   representatives = ripens.representatives;
   groups = ripens.groups;
   delayed = dropped pool p rest (length script.tasks) ripens.delayed;
@@ -206,10 +213,10 @@ barred_step : (script : Plan) (past : List Entry) (moment : ℕ) (front : List P
     → Ripens script past moment front (p ∷ rest) pool → nat_le p.ripe moment ≡ true → is_forbidden script past p ≡ true
     → Ripens script past moment (front ++ p ∷ []) rest (record pool { delayed = with_held pool.delayed (drop 1 pool.delayed.held) })
 barred_step script past moment front p rest pool ripens is forbidden =
-    ripens_with script past moment front p rest pool pool.sequences pool.lanes ripens is
+    ripens_with script past moment front p rest pool pool.sequences pool.lanes pool.lists ripens is
     (lines_at_barred script past (known past front) pool.sequences (ripe_behind past p) ripens.lines
     (and_right (not (is_taken past p.task)) (not (is_forbidden script past p)) (ap not forbidden)))
-    ripens.queues (omega arith)
+    ripens.queues ripens.listed (omega arith)
 
 -- the pool with the task at the end of its sequence, by a table of the runners
 abbrev placed : Plan → List Entry → Pool → Posted → Waiting → Plan → Pool
@@ -218,6 +225,7 @@ placed script past pool p delayed table = record pool {
   lanes = with_source pool.lanes (lane_by table p.home) (Sequence (sequence_of table p.home p.task))
       (rank_by pool.priorities.items p.home (sequence_at (pushed pool.sequences (sequence_of table p.home p.task) (waiting_of script (ripe_behind past p)))
       (sequence_of table p.home p.task)));
+  lists = listed_with (record pool { runners = table }) p.task (posting_of script p);
   delayed = delayed;
 }
 
@@ -227,11 +235,13 @@ arrived_step : (script : Plan) (past : List Entry) (moment : ℕ) (front : List 
     → Ripens script past moment (front ++ p ∷ []) rest
     (placed script past pool p (with_held pool.delayed (drop 1 pool.delayed.held)) (table_of script.runners script.background))
 arrived_step script past moment front p rest pool limits ripens is next allowed =
-    ripens_with script past moment front p rest pool held _ ripens is
+    ripens_with script past moment front p rest pool held _ _ ripens is
     (lines_at_arrival script past (known past front) pool.sequences (ripe_behind past p) ripens.lines there may)
     (all_refreshed script past pool.priorities.items pool.postings.items pool.sequences held pool.lanes s p.home limits runs
     (sequence_made script pool.lanes p.home p.task limits ripens.queues.roomy next.declared.0 next.declared.1)
-    (λ other another. other_sequence pool.sequences s other _ another) ripens.queues) (omega arith)
+    (λ other another. other_sequence pool.sequences s other _ another) ripens.queues)
+    (listed_arrived script pool.postings.items pool.sequences held pool.lists p.task (posting_of script p) (ripens.postings.known p next.among)
+    next.declared.0 next.declared.1 (λ other another. other_sequence pool.sequences s other _ (λ same. another (sym same))) ripens.listed) (omega arith)
   where
     s : ℕ
     s = sequence_of script p.home p.task

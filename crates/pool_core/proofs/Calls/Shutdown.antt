@@ -4,8 +4,9 @@ use Rattle.std.proofs.lemmas.Bool.{cases_lt, false≢true, le-ltb, true≢false}
 use Rattle.task_base.specs.declared.source.TaskSource.{TaskSource}
 use Rattle.task_base.specs.declared.source.TaskSource.TheVariants.{Job, Sequence}
 use Rattle.std.specs.List.{range_with_len}
+use Rattle.pool_core.proofs.Sources.Listing.{listed_shrunk}
 use Rattle.pool_core.specs.Pasts.{IsPoolPast}
-use Rattle.pool_core.proofs.Sources.Following.{hold_from, hold_standing, sequence_waits}
+use Rattle.pool_core.proofs.Sources.Following.{hold_from, hold_standing, nothing_first, sequence_waits}
 use Rattle.pool_core.proofs.Jobs.JobQueues.{hold_all_jobs}
 use Rattle.pool_core.proofs.Jobs.JobTables.{holders_kept, jobs_kept}
 use Rattle.pool_core.proofs.Jobs.JobViews.{enters_parts, rank_is}
@@ -16,7 +17,6 @@ use Rattle.pool_core.specs.Queues.{HoldWaiting, rank_as}
 use Rattle.pool_laws.proofs.Choice.Candidates.{job_in}
 use Rattle.pool_laws.proofs.Choice.Entering.{job_waiting_at_done}
 use Rattle.list_laws.proofs.Places.{none_from_count}
-use Rattle.list_laws.proofs.Values.{eqb-same}
 use Rattle.list_laws.proofs.Ranges.{range_any_at}
 use Rattle.task_model.specs.Blockers.{block_part, blockers_of, is_block, is_open_job}
 use Rattle.task_model.specs.Jobs.{job_post_of, may_enter}
@@ -43,7 +43,7 @@ use Rattle.pool_laws.proofs.Keys.Arrivals.{arrivals_same}
 use Rattle.pool_laws.proofs.Keys.Posts.{posts_same}
 use Rattle.std.proofs.Common.{Bool, List, None, [], ap, arith, cond, false, inl, inr, length, map, refl, sym, true, ℕ, ◌++◌, ◌+◌, ◌<◌, ◌∙◌, ◌∷◌, ◌≡◌, ◌≤◌}
 use Rattle.std.proofs.lemmas.List.{get_or-map, get_or_past, length-map}
-use Rattle.std.proofs.lemmas.Option.{get_or_from_slice_get, none-some}
+use Rattle.std.proofs.lemmas.Option.{get_or_from_slice_get}
 use Rattle.std.specs.Option.{option_map}
 use Rattle.std.specs.Prelude.{filter, option_and_then, ◌⊎◌}
 use Rattle.task_base.specs.Plan.{Plan}
@@ -60,10 +60,6 @@ use Rattle.task_traits.specs.declared.phase.Phase.TheVariants as phases
 
 -- The start.
 
-nothing_first : (tasks : List Waiting) → first_of tasks ≡ None → tasks ≡ []
-nothing_first [] none = refl
-nothing_first (w ∷ ws) none = absurd (none-some _ (sym none))
-
 -- a purge leaves a sequence without tasks as it is
 purged_empty : (sequence : sequences.Sequence) → sequence.tasks ≡ [] → purged phases.Started sequence ≡ sequence
 purged_empty sequence none = ap (λ tasks. record sequence { tasks = filter (may_stay phases.Started) tasks }) none
@@ -71,12 +67,12 @@ purged_empty sequence none = ap (λ tasks. record sequence { tasks = filter (may
 
 -- the queues hold what waits once shutdown has started, when each task's sequence, and then each job, has been given its place again
 hold_at_shutdown : (script : Plan) (past : List Entry) (pool : Pool) (seat room : ℕ) → StandsFor script past pool → phase_of past ≡ phases.Running
-    → HoldWaiting script (after_shutdown past seat) (jobs_placed phases.Started pool.jobs.items (placed script pool.priorities.items None pool.postings.items
+    → HoldWaiting script (after_shutdown past seat) (jobs_placed phases.Started pool.jobs.items (placed script pool.priorities.items pool.postings.items
     (record pool.sequences { sequences = map (purged phases.Started) pool.sequences.sequences; room = room }) pool.lanes (length pool.postings.items))
     (length pool.jobs.items))
 hold_at_shutdown script past pool seat room stands phase_is =
     rw stands.jobs.all (hold_all_jobs script past later phases.Started pool.jobs.items _ (standing script past pool.priorities.items pool.postings.items left)
-    (hold_placed script past pool.priorities.items pool.priorities.items None pool.postings.items pool.sequences left pool.lanes stands.script_fits
+    (hold_placed script past pool.priorities.items pool.priorities.items pool.postings.items pool.sequences left pool.lanes stands.script_fits
     (all_declared script past pool.postings.items stands.past_fits stands.postings) same (hold_standing script past pool stands))
     (λ s. sym (sequence_waits script later pool.priorities.items pool.postings.items left s (record {
       fits = fits;
@@ -106,36 +102,46 @@ hold_at_shutdown script past pool seat room stands phase_is =
         ((jobs_kept script past e pool.jobs.items refl stands.jobs).each j declared))
         ∙ ap (λ phase. rank_in phase (job_as script later j)) (sym now_started) ∙ rank_is script later j fits.inside
 
-    unchanged : (s : ℕ) → IsUnposted script None pool.postings.items (Sequence s) (length pool.postings.items)
+    unchanged : (s : ℕ) → IsUnposted script pool.postings.items (Sequence s) (length pool.postings.items)
         → (s < sequence_count script) ⊎ (sequence_count script ≤ s) → sequence_at left s ≡ sequence_at pool.sequences s
     unchanged s none (inl there) = get_or-map (purged phases.Started) pool.sequences.sequences s fresh fresh (omega (arith, there, stands.lines.all))
         ∙ purged_empty (sequence_at pool.sequences s) (nothing_first (sequence_at pool.sequences s).tasks
-        (unposted_is_empty script past pool None s stands there (λ head is. eqb-same head.posted.home) none))
+        (unposted_is_empty script past pool s stands there none))
     unchanged s none (inr behind) =
         get_or_past left.sequences s fresh (omega (arith, behind, stands.lines.all, length-map pool.sequences.sequences (purged phases.Started)))
         ∙ sym (get_or_past pool.sequences.sequences s fresh (omega (arith, behind, stands.lines.all)))
 
-    same : (source : TaskSource) → IsUnposted script None pool.postings.items source (length pool.postings.items)
+    same : (source : TaskSource) → IsUnposted script pool.postings.items source (length pool.postings.items)
         → standing script past pool.priorities.items pool.postings.items left source
         ≡ standing script past pool.priorities.items pool.postings.items pool.sequences source
     same (Job j) none = refl
     same (Sequence s) none = ap (λ q. option_and_then (λ r. option_map (candidate_by script s r) (rank_by pool.priorities.items r q))
         (runner_of script pool.postings.items s)) (unchanged s none (cases_lt s (sequence_count script)))
 
+-- a sequence without tasks has none after a purge
+purged_shrinks : (held : Held) (room s : ℕ) → (sequence_at held s).tasks ≡ []
+    → (sequence_at (record held { sequences = map (purged phases.Started) held.sequences; room = room }) s).tasks ≡ []
+purged_shrinks held room s none = elim (cases_lt s (length held.sequences)) [
+  | inl there ↦ ap (λ q. q.tasks) (get_or-map (purged phases.Started) held.sequences s fresh fresh there) ∙ ap (filter (may_stay phases.Started)) none
+  | inr past ↦ ap (λ q. q.tasks) (get_or_past (map (purged phases.Started) held.sequences) s fresh
+      (omega (arith, past, length-map held.sequences (purged phases.Started))))
+]
+
 -- the pool at the start of shutdown
 pub stands_at_shutdown : (script : Plan) (past : List Entry) (pool : Pool) (seat removed : ℕ) → IsInPhase script past pool phases.Running
     → StandsFor script (after_shutdown past seat) (jobs_refreshed_below (refreshed_below (record pool {
       tracker = record pool.tracker { phase = phases.Started };
       sequences = record pool.sequences { sequences = map (purged phases.Started) pool.sequences.sequences; room = pool.sequences.room + removed };
-    }) None (length pool.postings.items)) (length pool.jobs.items))
+    }) (length pool.postings.items)) (length pool.jobs.items))
 stands_at_shutdown script past pool seat removed in_phase = let stands = in_phase.stands in let phase_is = in_phase.phase_is in record {
   script_fits = stands.script_fits;
   past_fits = past_kept script past _ refl stands.past_fits;
   runners = stands.runners;
   priorities = priorities_kept script past _ pool.priorities.items refl stands.priorities;
   lines = lines_at_shutdown script past pool.sequences seat (pool.sequences.room + removed) stands.lines phase_is;
-  queues = rw stands.runners (rw (placed_by_table script pool.priorities.items None pool.postings.items _ pool.lanes (length pool.postings.items))
+  queues = rw stands.runners (rw (placed_by_table script pool.priorities.items pool.postings.items _ pool.lanes (length pool.postings.items))
       (hold_at_shutdown script past pool seat (pool.sequences.room + removed) stands phase_is));
+  listed = listed_shrunk script pool.postings.items pool.sequences _ pool.lists stands.listed (purged_shrinks pool.sequences (pool.sequences.room + removed));
   representatives = stands.representatives;
   groups = groups_kept script past _ pool.groups refl stands.groups;
   delayed = rw (unripe_kept past (record { seat = seat; kind = kinds.Shutdown }) refl) stands.delayed;

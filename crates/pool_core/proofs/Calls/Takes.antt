@@ -1,5 +1,7 @@
 -- A take keeps what the pool stands for.
 -- Cited by `Pool::start`, `Pool::take`.
+use Rattle.pool_core.proofs.Sources.Listing.{listed_shrunk, shrinks_at}
+use Rattle.task_sequence.specs.Sequences.{Held, Waiting, behind_first, given_of, sequence_at, with_sequence}
 use Rattle.pool_core.proofs.Jobs.JobTables.{holders_kept, jobs_kept}
 use Rattle.list_laws.proofs.Values.{some-injective}
 use Rattle.pool_core.proofs.Accepted.{head_accepted, is_declared}
@@ -46,7 +48,6 @@ use Rattle.task_model.specs.Cells.{cell_of}
 use Rattle.task_model.specs.Posts.{posts}
 use Rattle.task_model.specs.Refusal.{effective_at}
 use Rattle.task_model.specs.Sources.{Candidate, best_of}
-use Rattle.task_sequence.specs.Sequences.{Held, behind_first, given_of, sequence_at, with_sequence}
 use Rattle.task_tracker.specs.Tracked.{skip_share}
 use Rattle.task_traits.specs.declared.traits.Priority.{Priority}
 use Rattle.task_base.specs.declared.entry.Kind.TheVariants as kinds
@@ -133,6 +134,10 @@ taken_out held s = record held {
   room = held.room + 1;
 }
 
+-- behind no task there is none
+nothing_behind : (tasks : List Waiting) → tasks ≡ [] → behind_first tasks ≡ []
+nothing_behind tasks none = ap behind_first none
+
 -- the groups with work of a priority that a seat has started on
 abbrev pub working : Plan → Groups → ℕ → Priority → Groups
 working script groups seat priority = with_seat script groups seat priority (Some (work_of None priority))
@@ -201,6 +206,8 @@ stands_at_take script past pool seat s chosen = rw stands.runners (record {
   lines = tells.lines;
   queues = hold_refreshed script past e pool.priorities.items pool.postings.items pool.sequences (taken_out pool.sequences s) pool.lanes s runner
       stands.script_fits tells refl runs made (λ other another. other_sequence pool.sequences s other _ another) (hold_standing script past pool stands);
+  listed = listed_shrunk script pool.postings.items pool.sequences (taken_out pool.sequences s) pool.lists stands.listed
+      (shrinks_at pool.sequences s (behind_first (sequence_at pool.sequences s).tasks) None (nothing_behind (sequence_at pool.sequences s).tasks));
   representatives = stands.representatives;
   groups = groups_at_take script past pool.groups seat task runner found stands.script_fits stands.groups can.worker can.known can.free
       can.holds_nothing (stands.past_fits.scopes_of_taken task (head_accepted script past s chosen.head chosen.is_head).2);

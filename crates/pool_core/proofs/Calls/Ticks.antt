@@ -49,6 +49,7 @@ ripens_at_start script past pool place moment tick = subst (Ripens script past m
   runners = stands.runners;
   lines = subst (λ rs. AreLines script past rs tick.before.sequences) (sym (append-nil (arrivals past))) stands.lines;
   queues = hold_standing script past tick.before stands;
+  listed = stands.listed;
   representatives = stands.representatives;
   groups = λ seat. groups_at_tick script past tick.before.groups seat moment stands.groups;
   delayed = stands.delayed;
@@ -180,6 +181,7 @@ stands_at_tick script past seat moment place front rest entry pool tick ripens n
   lines = tells.lines;
   queues = hold_from script past later pool.priorities.items pool.postings.items pool.sequences pool.lanes tells (λ j. jobs_wait script past e j refl)
       ripens.queues;
+  listed = ripens.listed;
   representatives = ripens.representatives;
   groups = ripens.groups seat;
   delayed = ripens.delayed

@@ -3,8 +3,7 @@
 use Rattle.pool_core.proofs.Works.GroupGrowth.{groups_at_driver, groups_at_item, groups_kept}
 use Rattle.pool_core.proofs.Jobs.Insides.{inside_at_take}
 use Rattle.pool_core.proofs.Jobs.JobViews.{enters_parts, inside_is, over_is, rank_is}
-use Rattle.pool_core.proofs.Tracking.{tracked_at_job_post}
-use Rattle.pool_core.proofs.Tracking.{tracked_at_job_refusal, tracked_at_job_take}
+use Rattle.pool_core.proofs.Tracking.{tracked_at_job_post, tracked_at_job_refusal, tracked_at_job_take}
 use Rattle.pool_core.specs.Holdings.{AreInside}
 use Rattle.pool_core.specs.JobCalls.{CanEnter, CanPostJob, KnowsJob, after_job_post}
 use Rattle.pool_core.specs.JobState.{job_at, job_of, job_refreshed, no_job, settled, settled_share, with_item_started}
@@ -22,8 +21,7 @@ use Rattle.list_laws.proofs.Values.{some-injective}
 use Rattle.pool_core.proofs.Delays.{unripe_kept}
 use Rattle.pool_core.proofs.Works.GroupWorks.{with_seat}
 use Rattle.pool_core.proofs.Jobs.JobQueues.{hold_at_job, others_wait}
-use Rattle.pool_core.proofs.Jobs.JobTables.{as_at_post, as_at_take, holders_at_take}
-use Rattle.pool_core.proofs.Jobs.JobTables.{holders_kept, jobs_at_post, jobs_at_take}
+use Rattle.pool_core.proofs.Jobs.JobTables.{as_at_post, as_at_take, holders_at_take, holders_kept, jobs_at_post, jobs_at_take}
 use Rattle.pool_core.proofs.LineGrowth.{lines_kept}
 use Rattle.pool_core.proofs.Pasts.{past_at_job_post, past_at_job_take}
 use Rattle.pool_core.proofs.Tables.{postings_kept, priorities_kept, seats_kept}
@@ -111,6 +109,7 @@ stands_with_job script past pool e job new groups tracker holders stands declare
       (moves_fewer (main_parts ++ line_parts) sequence_waiting_parts e.kind refl still) stands.lines);
   queues = hold_at_job script past (past ++ e ∷ []) pool.lanes job (job_at (slice_set pool.jobs.items job new) job) tracker.phase stands.queues declared
       (others_wait script past e job still others) rank;
+  listed = stands.listed;
   representatives = stands.representatives;
   groups = are;
   delayed = rw (unripe_kept past e ready) stands.delayed;

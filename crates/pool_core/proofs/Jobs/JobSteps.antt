@@ -4,8 +4,7 @@ use Rattle.list_laws.specs.Lists.{holds_of}
 use Rattle.pool_core.proofs.Works.GroupGrowth.{groups_at_driver, groups_at_goes_on, groups_at_item_left, groups_kept}
 use Rattle.pool_core.proofs.Jobs.Insides.{accepted_grows, inside_at_step}
 use Rattle.pool_core.proofs.Jobs.JobViews.{open_is}
-use Rattle.pool_core.proofs.Tracking.{cancel_share, left_share, tracked_at_cancel, tracked_at_goes_on}
-use Rattle.pool_core.proofs.Tracking.{tracked_at_left}
+use Rattle.pool_core.proofs.Tracking.{cancel_share, left_share, tracked_at_cancel, tracked_at_goes_on, tracked_at_left}
 use Rattle.pool_core.specs.Holdings.{HoldsItem}
 use Rattle.pool_core.specs.JobCalls.{CanStep, KnowsJob, after_job_cancel, after_step}
 use Rattle.pool_core.specs.JobState.{job_left, job_of, job_refreshed, no_job, settled_share, with_item_ended}
@@ -21,15 +20,14 @@ use Rattle.task_tracker.specs.Tracked.{block_share, skip_share}
 use Rattle.task_traits.specs.declared.traits.Behaviour.{Behaviour}
 use Rattle.job_source.specs.Job.{with_done}
 use Rattle.list_laws.proofs.Values.{eqb-same}
-use Rattle.pool_core.proofs.Jobs.JobTables.{as_at_cancel, as_at_step, holders_at_goes_on, holders_at_left}
-use Rattle.pool_core.proofs.Jobs.JobTables.{holders_kept, jobs_at_cancel, jobs_at_step}
+use Rattle.pool_core.proofs.Jobs.JobTables.{as_at_cancel, as_at_step, holders_at_goes_on, holders_at_left, holders_kept, jobs_at_cancel, jobs_at_step}
 use Rattle.pool_core.proofs.Pasts.{past_at_job_cancel, past_at_step}
 use Rattle.pool_core.specs.Groups.{AreGroups, group_at, with_group_at}
 use Rattle.pool_core.specs.Jobs.{job_as}
 use Rattle.pool_core.specs.StandsFor.{StandsFor}
 use Rattle.pool_core.specs.declared.pool.Pool.{Pool}
 use Rattle.pool_core.specs.declared.pool_job.PoolJob.{PoolJob}
-use Rattle.std.proofs.Common.{Bool, List, None, Option, Some, [], ap, arith, cond, false, length, refl, subst, sym, true, ℕ, ◌++◌, ◌+◌, ◌-◌, ◌<◌, ◌∙◌, ◌∷◌, ◌≡◌}
+use Rattle.std.proofs.Common.{Bool, List, None, Option, Some, [], ap, arith, cond, false, length, refl, subst, sym, true, ℕ, ◌++◌, ◌-◌, ◌<◌, ◌∙◌, ◌∷◌, ◌≡◌}
 use Rattle.std.proofs.lemmas.List.{get_or-set_same}
 use Rattle.std.proofs.lemmas.Bool.{ltb-false, ltb-true}
 use Rattle.std.specs.Vec.{with_item}
@@ -37,7 +35,7 @@ use Rattle.task_base.specs.Plan.{Plan}
 use Rattle.task_base.specs.declared.entry.Entry.{Entry}
 use Rattle.task_base.specs.declared.entry.Kind.TheVariants as kinds
 use Rattle.task_model.specs.Refusal.{behaviour_of_job}
-use Rattle.task_model.specs.Seats.{Holding, inside}
+use Rattle.task_model.specs.Seats.{Holding}
 use Rattle.pool_core.proofs.Jobs.JobStands.{job_is, stands_with_job}
 
 -- the job behind the end of an item

@@ -8,7 +8,6 @@ use Rattle.pool_core.specs.Queues.{queue_of, rank_as}
 use Rattle.pool_core.specs.StandsFor.{StandsFor}
 use Rattle.pool_core.specs.declared.pool.Pool.{Pool}
 use Rattle.pool_laws.proofs.Choice.Least.{ranks_goes_before}
-use Rattle.pool_laws.specs.Choice.{IsBest}
 use Rattle.sequence_queue.specs.Ranked.{rank_below}
 use Rattle.sequence_queue.specs.declared.rank.Rank.{Rank}
 use Rattle.std.proofs.Common.{Bool, List, None, Option, Some, ap, arith, cond, false, inl, inr, length, refl, subst, sym, true, ℕ, ◌+◌, ◌∙◌, ◌≡◌, ◌≤◌}

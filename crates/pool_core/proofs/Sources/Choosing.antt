@@ -52,7 +52,6 @@ use Rattle.task_traits.specs.declared.traits.Behaviour.{Behaviour}
 use Rattle.task_traits.specs.declared.traits.Behaviour.TheVariants.{BlockShutdown}
 use Rattle.task_traits.specs.declared.traits.Priority.{Priority}
 use Rattle.task_traits.specs.declared.traits.Priority.TheVariants.{BestEffort, UserBlocking, UserVisible}
-use Rattle.sequence_queue.specs.Ranked as queues
 use Rattle.task_base.specs.declared.policy.Policy.TheVariants as policies
 use Rattle.task_traits.specs.declared.phase.Phase.TheVariants as phases
 

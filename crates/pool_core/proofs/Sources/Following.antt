@@ -1,6 +1,6 @@
 -- The queues hold what waits by the rules where they hold what the lists and the cells of the sequences say.
 -- Cited by `Pool::end`, `Calls/EmptyPool`, `Calls/Ends`, `Calls/Posts`, `Calls/Reprio`, `Calls/Ripening`, `Calls/Shutdown`, `Calls/Takes`,
--- `Calls/Ticks`, `Sources/Choosing`, `Sources/Places`.
+-- `Calls/Ticks`, `Sources/Choosing`, `Sources/Moves`, `Sources/Places`.
 use Rattle.pool_laws.proofs.Seats.Running.{both}
 use Rattle.list_laws.proofs.Elements.{slice_get_all}
 use Rattle.list_laws.proofs.Values.{eqb-same}
@@ -91,7 +91,7 @@ lane_fits script runner limits = by_runner (slice_get script.runners runner) (sl
     by_runner (Some r) fits = of_kind r.kind fits
 
 -- it is made for each sequence of the runner
-pub room_for : (script : Plan) (runner task : ℕ) → runner < length script.runners
+room_for : (script : Plan) (runner task : ℕ) → runner < length script.runners
     → sequence_of script runner task < sequence_count script → sequence_of script runner task < sequence_room script (lane_by script runner)
 room_for script runner task declared there = by_runner (slice_get script.runners runner) refl there
   where
@@ -114,6 +114,27 @@ room_for script runner task declared there = by_runner (slice_get script.runners
         < sequence_room script (lane_of (option_and_then (λ r. seat_of_kind r.kind) o))
     by_runner None is fits = fits
     by_runner (Some r) is fits = of_kind r is r.kind refl fits
+
+-- and for its own
+pub own_room : (script : Plan) (runner : ℕ) → runner < length script.runners → runner < sequence_room script (lane_by script runner)
+own_room script runner declared = by_runner (slice_get script.runners runner) refl
+  where
+    either : (b : Bool) → runner < cond b (sequence_count script) (length script.runners)
+    either true = omega (arith, declared)
+    either false = declared
+
+    of_kind : (r : Runner) → slice_get script.runners runner ≡ Some r → (kind : RunnerKind) → r.kind ≡ kind
+        → runner < sequence_room script (lane_of (seat_of_kind kind))
+    of_kind r is Parallel kind = omega (arith, declared)
+    of_kind r is Sequenced kind = omega (arith, declared)
+    of_kind r is (Single seat) kind =
+        rw (any_passes_from_place (λ q. holds_of (λ only. only == seat) (seat_of_kind q.kind)) script.runners runner r is (rw kind (eqb-same seat)))
+        (either (seat == 0))
+
+    by_runner : (o : Option Runner) → slice_get script.runners runner ≡ o
+        → runner < sequence_room script (lane_of (option_and_then (λ r. seat_of_kind r.kind) o))
+    by_runner None is = omega (arith, declared)
+    by_runner (Some r) is = of_kind r is r.kind refl
 
 -- the queues of a runner's lane are made for each sequence of its tasks
 pub sequence_made : (script : Plan) (lanes : List Lane) (runner task : ℕ) → IsPoolScript script → AreRoomy script lanes → runner < length script.runners
@@ -148,6 +169,11 @@ home_is script past postings s head fits known is =
     subst (λ n. runner_of script postings n ≡ Some head.posted.home) accepted.1
     (runner_is script postings head.posted.task (posting_of script head.posted) declared.0 (known.known head.posted accepted.0))
 
+-- a sequence without a first task has none
+pub nothing_first : (tasks : List sequences.Waiting) → first_of tasks ≡ None → tasks ≡ []
+nothing_first [] none = refl
+nothing_first (w ∷ ws) none = absurd (none-some _ (sym none))
+
 -- a sequence without a first task has no rank
 pub no_first : (priority : Priority) (sequence : sequences.Sequence) → first_of sequence.tasks ≡ None → rank_of_head priority sequence ≡ None
 no_first priority sequence none = rw none (both (is_some sequence.cell) None)
@@ -162,7 +188,7 @@ unranked script priorities postings held s none = by_runner (runner_of script po
     by_runner (Some r) = ap (option_map (candidate_by script s r)) (none r)
 
 -- nor is one behind those of the script
-pub none_behind : (script : Plan) (postings : List (Option Posting)) (s : ℕ) → length postings ≡ length script.tasks → sequence_count script ≤ s
+none_behind : (script : Plan) (postings : List (Option Posting)) (s : ℕ) → length postings ≡ length script.tasks → sequence_count script ≤ s
     → runner_of script postings s ≡ None
 none_behind script postings s all behind = rw (le-ltb s (length script.runners) (omega (arith, behind)))
     (ap (option_map (λ p. p.runner)) (unwrap_or-slice_get postings (s - length script.runners) None

@@ -1,7 +1,6 @@
 -- The queues while the sequence of each task that was posted is given its place.
--- Cited by `Pool::refresh_all`, `Pool::reprio`, `Pool::start_shutdown`, `Calls/Reprio`, `Calls/Shutdown`, `Sources/Leaving`.
+-- Cited by `Pool::refresh_all`, `Pool::start_shutdown`, `Calls/Reprio`, `Calls/Shutdown`.
 use Rattle.list_laws.proofs.Values.{some-injective}
-use Rattle.list_laws.specs.Lists.{keep}
 use Rattle.pool_core.proofs.Accepted.{head_accepted, is_declared, post_in}
 use Rattle.pool_core.proofs.Sources.Following.{has_place, lane_fits, runner_is, sequence_given, sequence_made}
 use Rattle.pool_core.proofs.Jobs.JobQueues.{job_made}
@@ -11,7 +10,7 @@ use Rattle.pool_core.proofs.Sources.Queues.{place_beside, place_given, roomy_kep
 use Rattle.pool_core.specs.JobState.{HasJobPlace, HaveJobPlaces}
 use Rattle.pool_core.specs.Pasts.{IsPoolPast, IsPoolScript}
 use Rattle.pool_core.specs.Queues.{HoldBy, IsPlaced, queue_of, with_source}
-use Rattle.pool_core.specs.Refreshes.{AllDeclared, ArePlaced, HavePlaces, IsUnposted, is_meant, placed, posted_at, refreshed_below, with_place}
+use Rattle.pool_core.specs.Refreshes.{AllDeclared, ArePlaced, HavePlaces, IsUnposted, placed, posted_at, refreshed_below, with_place}
 use Rattle.pool_core.specs.StandsFor.{StandsFor}
 use Rattle.pool_core.specs.State.{HasPlace, lane_by, rank_by, runner_of, sequence_by, standing}
 use Rattle.pool_core.specs.Tables.{ArePostings, posting_of}
@@ -20,15 +19,15 @@ use Rattle.pool_core.specs.declared.pool.Pool.{Pool}
 use Rattle.pool_core.specs.declared.posting.Posting.{Posting}
 use Rattle.sequence_queue.specs.Ranked.{IsMadeFor}
 use Rattle.sequence_queue.specs.declared.rank.Rank.{Rank}
-use Rattle.std.proofs.Common.{Bool, List, None, Option, Some, ap, arith, cond, false, inl, inr, length}
+use Rattle.std.proofs.Common.{Bool, List, None, Option, Some, ap, arith, inl, inr, length}
 use Rattle.std.proofs.Common.{refl, subst, suc, sym, true, zero, ℕ, ◌+◌, ◌<◌, ◌^◌, ◌∙◌, ◌≡◌}
 use Rattle.std.proofs.lemmas.Bool.{cases_eq}
-use Rattle.std.proofs.lemmas.List.{length-set}
+use Rattle.std.proofs.lemmas.List.{get_or_read, length-set}
 use Rattle.std.proofs.lemmas.Option.{get_or_from_slice_get, none-some, slice_get_within, unwrap_or-slice_get}
 use Rattle.std.specs.Option.{option_map}
 use Rattle.std.specs.declared.alloc.Global.{Global}
 use Rattle.std.specs.declared.vec.Vec.{Vec}
-use Rattle.std.specs.Prelude.{Contains, slice_get, unwrap_or}
+use Rattle.std.specs.Prelude.{Contains, slice_get, slice_index_or, unwrap_or}
 use Rattle.task_base.specs.Plan.{Plan}
 use Rattle.task_base.specs.Runners.{sequence_count, sequence_of}
 use Rattle.task_base.specs.declared.entry.Entry.{Entry}
@@ -47,41 +46,34 @@ use Rattle.task_tracker.specs.Tracked.{Tracked}
 
 -- The sequences of the tasks, one by one.
 
--- a task that is meant was posted in its way, to a runner that is meant
-pub posted_is : (only : Option ℕ) (postings : List (Option Posting)) (t : ℕ) (posting : Posting) → posted_at only postings t ≡ Some posting
-    → (slice_get postings t ≡ Some (Some posting)) × (is_meant only posting ≡ true)
-posted_is only postings t posting is = by_posting (slice_get postings t) (ap (keep (is_meant only)) (unwrap_or-slice_get postings t None) ∙ is)
+-- a task that was posted is one of those
+posted_is : (postings : List (Option Posting)) (t : ℕ) (posting : Posting) → posted_at postings t ≡ Some posting → slice_get postings t ≡ Some (Some posting)
+posted_is postings t posting is = by_posting (slice_get postings t) (unwrap_or-slice_get postings t None ∙ is)
   where
-    passed : (b : Bool) (p : Posting) → is_meant only p ≡ b → cond b (Some p) None ≡ Some posting → (p ≡ posting) × (is_meant only posting ≡ true)
-    passed true p meant some = let same = some-injective some in (same, subst (λ q. is_meant only q ≡ true) same meant)
-    passed false p meant none = absurd (none-some posting none)
-
-    by_posting : (o : Option (Option Posting)) → keep (is_meant only) (unwrap_or o None) ≡ Some posting
-        → (o ≡ Some (Some posting)) × (is_meant only posting ≡ true)
+    by_posting : (o : Option (Option Posting)) → unwrap_or o None ≡ Some posting → o ≡ Some (Some posting)
     by_posting None none = absurd (none-some posting none)
-    by_posting (Some None) none = absurd (none-some posting none)
-    by_posting (Some (Some p)) some = let it = passed (is_meant only p) p refl some in (ap (λ q. Some (Some q)) it.0, it.1)
+    by_posting (Some q) some = ap Some some
 
 -- one more task: its sequence has its place, if it was posted, and each other source stays
-step : (script : Plan) (past : List Entry) (old priorities : List Priority) (only : Option ℕ) (postings : List (Option Posting)) (before held : Held)
-    (lanes : List Lane) (n : ℕ) (o : Option Posting) → IsPoolScript script → AllDeclared script postings → posted_at only postings n ≡ o
-    → ArePlaced script only postings (standing script past old postings before) (standing script past priorities postings held) lanes n
-    → ArePlaced script only postings (standing script past old postings before) (standing script past priorities postings held)
+step : (script : Plan) (past : List Entry) (old priorities : List Priority) (postings : List (Option Posting)) (before held : Held)
+    (lanes : List Lane) (n : ℕ) (o : Option Posting) → IsPoolScript script → AllDeclared script postings → posted_at postings n ≡ o
+    → ArePlaced script postings (standing script past old postings before) (standing script past priorities postings held) lanes n
+    → ArePlaced script postings (standing script past old postings before) (standing script past priorities postings held)
     (with_place script priorities held lanes n o) (suc n)
-step script past old priorities only postings before held lanes n None limits declared is below = record {
+step script past old priorities postings before held lanes n None limits declared is below = record {
   roomy = below.roomy;
   places = λ source. elim (below.places source) [
     | inl now ↦ inl now
     | inr kept ↦ inr (
       kept.0,
       (λ t posting less known of. elim (cases_eq t n) [
-        | inl same_task ↦ none-some posting (sym is ∙ ap (posted_at only postings) (sym same_task) ∙ known)
+        | inl same_task ↦ none-some posting (sym is ∙ ap (posted_at postings) (sym same_task) ∙ known)
         | inr other ↦ kept.1 t posting (omega (arith, less, other)) known of
       ]),
     )
   ];
 }
-step script past old priorities only postings before held lanes n (Some posting) limits declared is below = record {
+step script past old priorities postings before held lanes n (Some posting) limits declared is below = record {
   roomy = roomy_kept script lanes lane (Sequence own) rank below.roomy;
   places = λ source. elim (same_source source (Sequence own)) [
     | inl its_own ↦ inl (rw its_own here)
@@ -91,7 +83,7 @@ step script past old priorities only postings before held lanes n (Some posting)
         stays source another _ kept.0,
         (λ t other less known of. elim (cases_eq t n) [
           | inl same_task ↦ another (sym of ∙ ap (λ k. Sequence (sequence_of script other.runner k)) same_task
-              ∙ ap (λ p. Sequence (sequence_of script p.runner n)) (some-injective (sym known ∙ ap (posted_at only postings) same_task ∙ is)))
+              ∙ ap (λ p. Sequence (sequence_of script p.runner n)) (some-injective (sym known ∙ ap (posted_at postings) same_task ∙ is)))
           | inr other_task ↦ kept.1 t other (omega (arith, less, other_task)) known of
         ]),
       )
@@ -109,7 +101,7 @@ step script past old priorities only postings before held lanes n (Some posting)
     rank = rank_by priorities posting.runner (sequence_at held own)
 
     stated : slice_get postings n ≡ Some (Some posting)
-    stated = (posted_is only postings n posting is).0
+    stated = posted_is postings n posting is
 
     runs : runner_of script postings own ≡ Some posting.runner
     runs = runner_is script postings n posting (declared n posting stated).0 stated
@@ -131,35 +123,35 @@ step script past old priorities only postings before held lanes n (Some posting)
         below.roomy another placed
 
 -- so many tasks, from none on
-all_placed : (script : Plan) (past : List Entry) (old priorities : List Priority) (only : Option ℕ) (postings : List (Option Posting))
+all_placed : (script : Plan) (past : List Entry) (old priorities : List Priority) (postings : List (Option Posting))
     (before held : Held) (lanes : List Lane) (n : ℕ) → IsPoolScript script → AllDeclared script postings
     → HoldBy script (standing script past old postings before) lanes
-    → ArePlaced script only postings (standing script past old postings before) (standing script past priorities postings held)
-    (placed script priorities only postings held lanes n) n
-all_placed script past old priorities only postings before held lanes zero limits declared hold =
+    → ArePlaced script postings (standing script past old postings before) (standing script past priorities postings held)
+    (placed script priorities postings held lanes n) n
+all_placed script past old priorities postings before held lanes zero limits declared hold =
     record { roomy = hold.roomy; places = λ source. inr (hold.places source, (λ t posting less. absurd (omega (arith, less)))) }
-all_placed script past old priorities only postings before held lanes (suc n) limits declared hold =
-    step script past old priorities only postings before held (placed script priorities only postings held lanes n) n (posted_at only postings n) limits
-    declared refl (all_placed script past old priorities only postings before held lanes n limits declared hold)
+all_placed script past old priorities postings before held lanes (suc n) limits declared hold =
+    step script past old priorities postings before held (placed script priorities postings held lanes n) n (posted_at postings n) limits
+    declared refl (all_placed script past old priorities postings before held lanes n limits declared hold)
 
--- where a source to which no task that is meant was posted stays as it was, all are in their places
-pub hold_placed : (script : Plan) (past : List Entry) (old priorities : List Priority) (only : Option ℕ) (postings : List (Option Posting))
+-- where a source to which no task was posted stays as it was, all are in their places
+pub hold_placed : (script : Plan) (past : List Entry) (old priorities : List Priority) (postings : List (Option Posting))
     (before held : Held) (lanes : List Lane) → IsPoolScript script → AllDeclared script postings
-    → ((source : TaskSource) → IsUnposted script only postings source (length postings)
+    → ((source : TaskSource) → IsUnposted script postings source (length postings)
     → standing script past priorities postings held source ≡ standing script past old postings before source)
     → HoldBy script (standing script past old postings before) lanes
-    → HoldBy script (standing script past priorities postings held) (placed script priorities only postings held lanes (length postings))
-hold_placed script past old priorities only postings before held lanes limits declared same hold =
-    let all = all_placed script past old priorities only postings before held lanes (length postings) limits declared hold in record {
+    → HoldBy script (standing script past priorities postings held) (placed script priorities postings held lanes (length postings))
+hold_placed script past old priorities postings before held lanes limits declared same hold =
+    let all = all_placed script past old priorities postings before held lanes (length postings) limits declared hold in record {
       roomy = all.roomy;
       places = λ source. elim (all.places source) [ inl now ↦ now | inr kept ↦ rw (same source kept.1) kept.0 ];
     }
 
--- a sequence to which no task that is meant was posted has no first one, if its head would be meant
-pub unposted_is_empty : (script : Plan) (past : List Entry) (pool : Pool) (only : Option ℕ) (s : ℕ) → StandsFor script past pool
-    → s < sequence_count script → ((head : Ready) → head_of script past s ≡ Some head → is_meant only (posting_of script head.posted) ≡ true)
-    → IsUnposted script only pool.postings.items (Sequence s) (length pool.postings.items) → first_of (sequence_at pool.sequences s).tasks ≡ None
-unposted_is_empty script past pool only s stands there meant none =
+-- a sequence to which no task was posted has no first one
+pub unposted_is_empty : (script : Plan) (past : List Entry) (pool : Pool) (s : ℕ) → StandsFor script past pool
+    → s < sequence_count script
+    → IsUnposted script pool.postings.items (Sequence s) (length pool.postings.items) → first_of (sequence_at pool.sequences s).tasks ≡ None
+unposted_is_empty script past pool s stands there none =
     first_is_head script past pool.sequences s stands.past_fits stands.lines there ∙ by_head (head_of script past s) refl
   where
     by_head : (o : Option Ready) → head_of script past s ≡ o → option_map {U = ℕ × Key} (λ r. (r.posted.task, r.key)) o ≡ None
@@ -169,17 +161,17 @@ unposted_is_empty script past pool only s stands there meant none =
         let posting = posting_of script head.posted in
         let known = stands.postings.known head.posted accepted.0 in
         absurd (none head.posted.task posting (slice_get_within pool.postings.items head.posted.task _ known)
-        (rw (get_or_from_slice_get pool.postings.items head.posted.task (Some posting) None known, meant head is) refl) (ap Sequence accepted.1))
+        (get_or_from_slice_get pool.postings.items head.posted.task (Some posting) None known) (ap Sequence accepted.1))
 
 -- what reads only the runners reads the same of the script
-pub placed_by_table : (script : Plan) (priorities : List Priority) (only : Option ℕ) (postings : List (Option Posting)) (held : Held) (lanes : List Lane)
-    (n : ℕ) → placed (table_of script.runners script.background) priorities only postings held lanes n ≡ placed script priorities only postings held lanes n
-placed_by_table script priorities only postings held lanes zero = refl
-placed_by_table script priorities only postings held lanes (suc n) =
-    rw (placed_by_table script priorities only postings held lanes n) (by_posted_at (posted_at only postings n))
+pub placed_by_table : (script : Plan) (priorities : List Priority) (postings : List (Option Posting)) (held : Held) (lanes : List Lane)
+    (n : ℕ) → placed (table_of script.runners script.background) priorities postings held lanes n ≡ placed script priorities postings held lanes n
+placed_by_table script priorities postings held lanes zero = refl
+placed_by_table script priorities postings held lanes (suc n) =
+    rw (placed_by_table script priorities postings held lanes n) (by_posted_at (posted_at postings n))
   where
     by_posted_at : (o : Option Posting) → with_place (table_of script.runners script.background) priorities held
-        (placed script priorities only postings held lanes n) n o ≡ with_place script priorities held (placed script priorities only postings held lanes n) n o
+        (placed script priorities postings held lanes n) n o ≡ with_place script priorities held (placed script priorities postings held lanes n) n o
     by_posted_at None = refl
     by_posted_at (Some posting) = refl
 
@@ -210,13 +202,13 @@ abbrev SameShape : List Lane → List Lane → ℕ → Bool → Type 0
 SameShape now before lane best = (length now ≡ length before) × ((queue_of now lane best).sequences ≡ (queue_of before lane best).sequences)
     × ((queue_of now lane best).jobs ≡ (queue_of before lane best).jobs)
 
-placed_shape : (pool : Pool) (only : Option ℕ) (n lane : ℕ) (best : Bool)
-    → SameShape (placed pool.runners pool.priorities.items only pool.postings.items pool.sequences pool.lanes n) pool.lanes lane best
-placed_shape pool only zero lane best = (refl, refl, refl)
-placed_shape pool only (suc n) lane best = by_posted_at (posted_at only pool.postings.items n) (placed_shape pool only n lane best)
+placed_shape : (pool : Pool) (n lane : ℕ) (best : Bool)
+    → SameShape (placed pool.runners pool.priorities.items pool.postings.items pool.sequences pool.lanes n) pool.lanes lane best
+placed_shape pool zero lane best = (refl, refl, refl)
+placed_shape pool (suc n) lane best = by_posted_at (posted_at pool.postings.items n) (placed_shape pool n lane best)
   where
     below : List Lane
-    below = placed pool.runners pool.priorities.items only pool.postings.items pool.sequences pool.lanes n
+    below = placed pool.runners pool.priorities.items pool.postings.items pool.sequences pool.lanes n
 
     by_posted_at : (o : Option Posting) → SameShape below pool.lanes lane best
         → SameShape (with_place pool.runners pool.priorities.items pool.sequences below n o) pool.lanes lane best
@@ -228,9 +220,9 @@ placed_shape pool only (suc n) lane best = by_posted_at (posted_at only pool.pos
         (length-set below (lane_by pool.runners posting.runner) _ ∙ same.0, kept.0 ∙ same.1, kept.1 ∙ same.2)
 
 -- so what had a place has one still
-place_kept : (pool : Pool) (only : Option ℕ) (n s runner : ℕ) → HasPlace pool s runner → HasPlace (refreshed_below pool only n) s runner
-place_kept pool only n s runner place =
-    let shape = placed_shape pool only n (lane_by pool.runners runner) in
+place_kept : (pool : Pool) (n s runner : ℕ) → HasPlace pool s runner → HasPlace (refreshed_below pool n) s runner
+place_kept pool n s runner place =
+    let shape = placed_shape pool n (lane_by pool.runners runner) in
     record {
       declared = place.declared;
       ranked = place.ranked;
@@ -239,22 +231,27 @@ place_kept pool only n s runner place =
       made = λ best. subst (λ k. s < k) (sym (shape best).1) (place.made best);
     }
 
--- the place of the sequence of a task that is meant
-pub place_at : (pool self : Pool) (only : Option ℕ) (n : ℕ) (posting : Posting) → HavePlaces pool → self ≡ refreshed_below pool only n
-    → posted_at only self.postings.items n ≡ Some posting
+-- how a task was posted, as it is read
+pub read_at : (pool self : Pool) (n : ℕ) (read : Option Posting) → self ≡ refreshed_below pool n → n < length pool.postings.items
+    → read ≡ slice_index_or self.postings.items n read → read ≡ posted_at self.postings.items n
+read_at pool self n read same less is = get_or_read self.postings.items n read (rw same less) is None
+
+-- the place of the sequence of a task that was posted
+pub place_at : (pool self : Pool) (n : ℕ) (posting : Posting) → HavePlaces pool → self ≡ refreshed_below pool n
+    → posted_at self.postings.items n ≡ Some posting
     → (length self.runners.runners + n < 2 ^ 32) × HasPlace self (sequence_by self n posting) posting.runner
-place_at pool self only n posting places same is =
-    let place = places n posting (posted_is only pool.postings.items n posting (ap (λ p. posted_at only p.postings.items n) (sym same) ∙ is)).0 in
-    rw same (place.0, place_kept pool only n (sequence_by pool n posting) posting.runner place.1)
+place_at pool self n posting places same is =
+    let place = places n posting (posted_is pool.postings.items n posting (ap (λ p. posted_at p.postings.items n) (sym same) ∙ is)) in
+    rw same (place.0, place_kept pool n (sequence_by pool n posting) posting.runner place.1)
 
 -- one more task
-pub next_refreshed : (pool self later : Pool) (only : Option ℕ) (n : ℕ) (o : Option Posting) → self ≡ refreshed_below pool only n
-    → o ≡ posted_at only self.postings.items n
+pub next_refreshed : (pool self later : Pool) (n : ℕ) (o : Option Posting) → self ≡ refreshed_below pool n
+    → o ≡ posted_at self.postings.items n
     → later ≡ record self { lanes = with_place self.runners self.priorities.items self.sequences self.lanes n o }
-    → later ≡ refreshed_below pool only (n + 1)
-next_refreshed pool self later only n o same known is =
+    → later ≡ refreshed_below pool (n + 1)
+next_refreshed pool self later n o same known is =
     let next : suc n ≡ n + 1 = omega arith in
-    is ∙ ap changed same ∙ ap reached (known ∙ ap (λ p. posted_at only p.postings.items n) same) ∙ ap (refreshed_below pool only) next
+    is ∙ ap changed same ∙ ap reached (known ∙ ap (λ p. posted_at p.postings.items n) same) ∙ ap (refreshed_below pool) next
   where
     changed : Pool → Pool
     changed p = record p { lanes = with_place p.runners p.priorities.items p.sequences p.lanes n o }
@@ -262,7 +259,7 @@ next_refreshed pool self later only n o same known is =
     reached : Option Posting → Pool
     reached q = record pool {
       lanes = with_place pool.runners pool.priorities.items pool.sequences
-          (placed pool.runners pool.priorities.items only pool.postings.items pool.sequences pool.lanes n) n q;
+          (placed pool.runners pool.priorities.items pool.postings.items pool.sequences pool.lanes n) n q;
     }
 
 -- each task that was posted has a place before
@@ -277,9 +274,9 @@ have_places script past pool priorities tracker held stands as_many same_length 
     )
 
 -- and so does each job
-pub job_place_kept : (pool : Pool) (only : Option ℕ) (n j : ℕ) → HasJobPlace pool j → HasJobPlace (refreshed_below pool only n) j
-job_place_kept pool only n j place =
-    let shape = placed_shape pool only n 0 in
+pub job_place_kept : (pool : Pool) (n j : ℕ) → HasJobPlace pool j → HasJobPlace (refreshed_below pool n) j
+job_place_kept pool n j place =
+    let shape = placed_shape pool n 0 in
     record { there = place.there; lane_there = rw (shape true).0 place.lane_there; made = λ best. rw (shape best).2 (place.made best) }
 
 pub have_job_places : (script : Plan) (past : List Entry) (pool : Pool) (tracker : Tracked) (held : Held) → StandsFor script past pool

@@ -1,5 +1,6 @@
 -- The queues where one source is given its place: what stays, and what they hold.
--- Cited by `Calls/Kept`, `Calls/Others`, `Calls/Posts`, `Jobs/JobQueues`, `Sources/Following`, `Sources/Leaving`, `Sources/Places`.
+-- Cited by `Calls/Kept`, `Calls/Others`, `Calls/Posts`, `Calls/Reprio`, `Jobs/JobQueues`, `Sources/Following`, `Sources/Moves`,
+-- `Sources/Places`.
 use Rattle.list_laws.specs.Lists.{keep}
 use Rattle.pool_core.specs.Queues.{AreRoomy, HoldBy, IsPlaced, belongs, fits, lane_of, no_lane, queue_in, queue_of, rank_as, with_source}
 use Rattle.pool_core.specs.declared.lanes.Lane.{Lane}

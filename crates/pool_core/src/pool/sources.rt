@@ -1,12 +1,15 @@
-ghost use Rattle.std.specs.Prelude.{◌≡◌, ◌<◌, ◌+◌, ◌^◌, List, length, Some, None, is_some};
+ghost use Rattle.std.specs.Prelude.{◌≡◌, ◌<◌, ◌+◌, ◌^◌, List, [], length, Some, None, is_some};
 ghost use Rattle.task_base.specs.Plan.{Plan};
 ghost use Rattle.task_base.specs.declared.entry.Entry.{Entry};
 ghost use Rattle.task_model.specs.Sources.{best_of};
 ghost use Rattle.task_sequence.specs.Sequences.{sequence_at};
 ghost use Rattle.pool_core.specs.Calls.{KnowsSeat, is_any_ready, is_own};
 ghost use Rattle.pool_core.specs.Choice.{HasOffer, IsBestOf, IsOffer, IsOffered, better_of, is_open, is_single};
-ghost use Rattle.pool_core.specs.Refreshes.{HavePlaces, all_refreshed, posted_at};
+ghost use Rattle.pool_core.specs.Refreshes.{HavePlaces, all_refreshed};
+ghost use Rattle.pool_core.specs.Moving.{AnyList, IsMoved, IsMoving, IsRanked, IsSpare, NoList, set_aside};
 ghost use Rattle.pool_core.specs.StandsFor.{StandsFor};
+ghost use Rattle.pool_core.specs.TaskLists.{list_of};
+ghost use Rattle.pool_core.specs.declared.pool.Pool.{Pool};
 ghost use Rattle.pool_core.specs.State.{HasPlace, given_rank, refreshed, rank_of_head, sequence_by};
 
 use crate::pool::Pool;
@@ -138,74 +141,70 @@ impl Pool {
         self.lanes.let_go(lane, TaskSource::Sequence(seq));
     }
 
-    // Gives the sequences of a runner whose priority has changed their places anew: where they stay in their heaps, in the
-    // order in which none passes another, and else after all were let go.
-    pub(super) fn place_anew(&mut self, runner: RunnerId, before: Priority, now: Priority)
-        requires { HavePlaces self.old }
-        ensures { self.new ≡ all_refreshed self.old (Some runner) }
+    // Gives what waits of a runner whose priority has changed its place anew: the runner's own sequence, or the sequences of
+    // its tasks.
+    pub(super) fn place_anew(&mut self, runner: RunnerId)
+        requires { (script : Plan) × (past : List Entry) × (before : Pool) × IsRanked script past before self.old runner }
+        ensures { (script : Plan) (past : List Entry) (before : Pool) → IsRanked script past before self.old runner
+            → IsMoved script past self.old self.new runner }
     {
-        if (before == Priority::BestEffort) != (now == Priority::BestEffort) {
-            self.let_go(runner);
-            self.refresh_all(Some(runner));
-        } else if before < now {
-            self.refresh_all(Some(runner));
-        } else {
-            self.refresh_back(runner);
-        }
+        self.refresh(runner, runner);
+        self.let_go(runner);
+        self.place_listed(runner);
     }
 
-    // Takes the sequence of each task of a runner from among the sources that wait, before they are given their places
-    // anew: the last one first, since that of a heap in order leaves without a move.
+    // Takes the sequences of a runner's tasks from among the sources that wait, before they are given their places anew: the
+    // last one first, since that of a heap in order leaves without a move. What no longer waits leaves the list.
     fn let_go(&mut self, runner: RunnerId)
-        requires { HavePlaces self.old }
-        ensures places { HavePlaces self.new }
-        ensures refreshed { all_refreshed self.new (Some runner) ≡ all_refreshed self.old (Some runner) }
+        requires { (script : Plan) × (past : List Entry) × IsMoving script past self.old runner AnyList }
+        ensures moves { (script : Plan) (past : List Entry) → IsMoving script past self.old runner AnyList
+            → IsMoving script past self.new runner (IsSpare script) }
+        ensures others { self.new ≡ record self.old { lanes = self.new.lanes; lists = self.new.lists } }
     {
-        let mut task = self.postings.len();
-        while task > 0 {
-            task -= 1;
-            if let Some(posting) = self.posted(task, Some(runner)) {
-                let seq = self.seq_at(task, posting);
-                self.remove(seq, posting.runner);
-            }
+        while let Some(task) = self.lists.pop(runner as usize) {
+            let seq = self.runners.seq_of(runner, task);
+            self.remove(seq, runner);
+            self.set_aside(seq, task);
         }
     }
 
-    // Gives the sequence of each task that was posted its place among the sources that wait; where a runner is named,
-    // those of its tasks alone.
-    pub(super) fn refresh_all(&mut self, only: Option<RunnerId>)
+    // Puts a task into the spare list, where it waits.
+    fn set_aside(&mut self, seq: SeqId, task: TaskId)
+        requires seq { seq < length self.old.sequences.sequences }
+        requires there { length self.old.priorities.items < length self.old.lists.lines }
+        requires known { task < length self.old.lists.after }
+        ensures { self.new ≡ record self.old { lists = set_aside self.old seq task } }
+    {
+        if self.sequences.head(seq).is_some() {
+            self.lists.push(self.priorities.len(), task);
+        }
+    }
+
+    // Gives the sequences of a runner's tasks their places among the sources that wait, the first one first.
+    fn place_listed(&mut self, runner: RunnerId)
+        requires { (script : Plan) × (past : List Entry) × IsMoving script past self.old runner (IsSpare script) }
+        ensures moves { (script : Plan) (past : List Entry) → IsMoving script past self.old runner (IsSpare script)
+            → IsMoving script past self.new runner NoList × (list_of self.new.lists (length script.runners) ≡ []) }
+        ensures others { self.new ≡ record self.old { lanes = self.new.lanes; lists = self.new.lists } }
+    {
+        while let Some(task) = self.lists.pop(self.priorities.len()) {
+            let seq = self.runners.seq_of(runner, task);
+            self.refresh(seq, runner);
+            self.lists.push(runner as usize, task);
+        }
+    }
+
+    // Gives the sequence of each task that was posted its place among the sources that wait.
+    pub(super) fn refresh_all(&mut self)
         requires { HavePlaces self.old }
-        ensures { self.new ≡ all_refreshed self.old only }
+        ensures { self.new ≡ all_refreshed self.old }
     {
         for task in 0..self.postings.len() {
-            if let Some(posting) = self.posted(task, only) {
+            if let Some(posting) = self.postings[task] {
                 let seq = self.seq_at(task, posting);
                 self.refresh(seq, posting.runner);
             }
         }
-    }
-
-    // Gives the sequence of each task of a runner its place among the sources that wait, last to first.
-    fn refresh_back(&mut self, runner: RunnerId)
-        requires { HavePlaces self.old }
-        ensures { self.new ≡ all_refreshed self.old (Some runner) }
-    {
-        let mut task = self.postings.len();
-        while task > 0 {
-            task -= 1;
-            if let Some(posting) = self.posted(task, Some(runner)) {
-                let seq = self.seq_at(task, posting);
-                self.refresh(seq, posting.runner);
-            }
-        }
-    }
-
-    // How a task was posted, if it was, and if it was to the runner that is named where one is.
-    fn posted(&self, task: usize, only: Option<RunnerId>) -> Option<Posting>
-        requires { task < length self.now.postings.items }
-        ensures { result ≡ posted_at only self.now.postings.items task }
-    {
-        self.postings[task].filter(|posting| only.unwrap_or(posting.runner) == posting.runner)
     }
 
     // The sequence of a task that was posted so.

@@ -3,4 +3,4 @@ use Rattle.std.specs.Prelude.{◌≡◌}
 use Rattle.pool_core.proofs.pool.Pool.refresh_all.Given as goal
 
 abbrev pub invariant-loop-task : goal.invariant-loop-task
-invariant-loop-task l = l.self ≡ refreshed_below l.initial.self l.only l.task
+invariant-loop-task l = l.self ≡ refreshed_below l.initial.self l.task

@@ -1,6 +1,6 @@
 use Rattle.pool_core.proofs.Sources.Places.{have_job_places, have_places, job_place_kept}
 use Rattle.pool_core.proofs.Calls.Shutdown.{stands_at_shutdown}
-use Rattle.std.proofs.Common.{None, ap, length, refl, ◌∙◌}
+use Rattle.std.proofs.Common.{ap, length, refl, ◌∙◌}
 use Rattle.std.proofs.lemmas.List.{length-map}
 use Rattle.pool_core.proofs.pool.Pool.start_shutdown.Goals as goal
 
@@ -9,7 +9,7 @@ refresh_all-requires c = have_places c.requires.0 c.requires.1 c.args.self.now c
     c.requires.2.stands refl (ap (λ held. length held.sequences) c.purge.ensures.left ∙ length-map c.args.self.now.sequences.sequences _)
 
 pub refresh_jobs-requires-clause-places : goal.refresh_jobs-requires-clause-places
-refresh_jobs-requires-clause-places c j there = rw c.refresh_all.ensures (job_place_kept _ None _ j
+refresh_jobs-requires-clause-places c j there = rw c.refresh_all.ensures (job_place_kept _ _ j
     (have_job_places c.requires.0 c.requires.1 c.args.self.now _ _ c.requires.2.stands j (rw c.refresh_all.ensures at there)))
 
 pub returns : goal.returns
