@@ -1,7 +1,6 @@
 -- What is known at a desk, by its own entries.
--- Cited by `enter`, `leave`, `open_three`, `open_two`, `serve_answers_as_its_take`, `shutdown_is_seen_without_the_turn`,
--- `three_desks_by_turns`, `turnstile_of`, `attend`, `no_turn_is_held_at_the_gate`, `nobody_takes_what_is_not_posted`, `desk_calls.rt`,
--- `threads.rt`.
+-- Cited by `enter`, `leave`, `open_three`, `open_two`, 5 functions of `desks`, `turnstile_of`, `attend`, `no_turn_is_held_at_the_gate`,
+-- `nobody_takes_what_is_not_posted`, `Rests`, `desk_calls.rt`, `threads.rt`.
 use Rattle.std.proofs.Common.{◌≡◌, ℕ, ◌+◌, ◌≤◌, Bool, true, false, List, [], ◌∷◌, ◌++◌, length, refl, sym, ap, subst, ◌∙◌, append_assoc, arith, Some}
 use Rattle.std.specs.Prelude.{filter}
 use Rattle.list_laws.proofs.Values.{eqb-same, some-injective}

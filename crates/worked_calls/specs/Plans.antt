@@ -50,6 +50,14 @@ task_plan runner by to_do = record (idle_plan 1 to_do) { runners = runner ∷ []
 abbrev pub first_plan : Plan
 first_plan = task_plan (runner_of kinds.Sequenced priorities.UserVisible behaviours.SkipOnShutdown false) 5 (actions.Post 0 0 0 ∷ actions.Flush ∷ [])
 
+-- the driver posts a task and waits for it, and then two more
+abbrev pub flush_plan : Plan
+flush_plan = record
+    (idle_plan 1 (actions.Post 0 0 0 ∷ actions.Flush ∷ actions.Post 1 0 0 ∷ actions.Post 2 0 0 ∷ actions.Flush ∷ [])) {
+      runners = runner_of kinds.Sequenced priorities.UserVisible behaviours.SkipOnShutdown false ∷ [];
+      tasks = (steps.Add 5 ∷ []) ∷ (steps.Add 5 ∷ []) ∷ (steps.Add 5 ∷ []) ∷ [];
+    }
+
 -- the driver posts a task of block work with a delay, and shuts down
 abbrev pub closing_plan : Plan
 closing_plan =

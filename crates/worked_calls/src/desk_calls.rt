@@ -1,10 +1,11 @@
 //! Calls at a desk, with the answers that a test wants.
-ghost use Rattle.std.specs.Prelude.{◌≡◌, ℕ, IfOk};
+ghost use Rattle.std.specs.Prelude.{◌≡◌, ℕ, true, IfOk};
 ghost use Rattle.script_model.specs.Laws.Sound.{IsSound};
 ghost use Rattle.task_base.specs.declared.entry.Kind.TheVariants as kinds;
 ghost use Rattle.hist_model.specs.Legal.{IsLegal};
 ghost use Rattle.env_core.specs.Calls.{IsNextAct};
 ghost use Rattle.env_crew.specs.Desk.{IsLater, as_seen, mine, with_own};
+ghost use Rattle.env_crew.specs.Driving.{IsWanted};
 ghost use Rattle.env_crew.specs.Serving.{IsFree};
 ghost use Rattle.env_shared.specs.Sits.{desk_of};
 ghost use Rattle.worked_calls.specs.Known.{IsBack, IsLast, IsOf, IsWork, driver_seat, worker_seat};
@@ -185,6 +186,57 @@ pub fn assert_served<R: Wait + Abort>(
     ensures later { IsLater (desk_of worker.old) (desk_of worker.new) }
 {
     assert_eq!(rt; serve(rt, worker, &OpenGate), wanted);
+}
+
+/// A worker finds nothing, and rests.
+#[tactic(auto, using(crate::proofs::Rests::nothing_free, crate::proofs::Rests::nothing_later))]
+pub fn find_nothing<R: Wait + Abort>(rt: &R, worker: &mut SharedDesk<'_, CountedBody>)
+    requires { IsFree (desk_of worker.old) }
+    ensures rests { worker.new.rests ≡ true }
+    ensures free { IsFree (desk_of worker.new) }
+    ensures later { IsLater (desk_of worker.old) (desk_of worker.new) }
+{
+    match worker.take_or_rest(rt) {
+        Taken::Nothing => {}
+        Taken::Item(_) | Taken::Over => panic!(rt; "the worker gets an item, or it is over"),
+        Taken::Task(_work) => panic!(rt; "the worker gets a task"),
+    }
+}
+
+/// A worker that rests has been woken, so that its sleep ends at once, and does a task.
+#[tactic(auto, using(crate::proofs::Rests::slept_free, crate::proofs::Rests::slept_later))]
+pub fn serve_woken<R: Wait + Abort>(rt: &R, worker: &mut SharedDesk<'_, CountedBody>)
+    requires rests { worker.old.rests ≡ true }
+    requires free { IsFree (desk_of worker.old) }
+    ensures free { IsFree (desk_of worker.new) }
+    ensures later { IsLater (desk_of worker.old) (desk_of worker.new) }
+{
+    worker.sleep(rt);
+    assert_served(rt, worker, Served::Worked);
+}
+
+/// The driver sees that the pool is idle.
+#[tactic(auto, using(crate::proofs::Rests::idled_later, crate::proofs::Rests::idled_own))]
+pub fn idle<R: Wait + Abort>(rt: &R, driver: &mut SharedDesk<'_, CountedBody>)
+    requires { IsWanted (desk_of driver.old) kinds.Idle }
+    ensures later { IsLater (desk_of driver.old) (desk_of driver.new) }
+    ensures own { mine (desk_of driver.new) ≡ with_own (desk_of driver.old) kinds.Idle }
+{
+    let Ok(()) = driver.try_idle(rt) else {
+        panic!(rt; "the pool is not idle")
+    };
+}
+
+/// The driver rests while the pool is idle, so that its sleep ends at once, and sees that.
+#[tactic(auto, using(crate::proofs::Rests::rested_later, crate::proofs::Rests::rested_own, crate::proofs::Rests::rested_wanted))]
+pub fn idle_at_once<R: Wait + Abort>(rt: &R, driver: &mut SharedDesk<'_, CountedBody>)
+    requires { IsWanted (desk_of driver.old) kinds.Idle }
+    ensures later { IsLater (desk_of driver.old) (desk_of driver.new) }
+    ensures own { mine (desk_of driver.new) ≡ with_own (desk_of driver.old) kinds.Idle }
+{
+    driver.rest(rt);
+    driver.sleep(rt);
+    idle(rt, driver);
 }
 
 /// A worker sees, without the turn, from which place on skip work is refused, or that it is not.

@@ -1,10 +1,10 @@
 //! Desks of one shared environment, of which one thread goes from one to another.
 use crate::calls::step;
 use crate::desk_calls::{
-    assert_block_untold, assert_served, assert_shut, end, enter, leave, log_of_three, log_of_two,
-    open_three, open_two, take,
+    assert_block_untold, assert_served, assert_shut, end, enter, find_nothing, idle, idle_at_once,
+    leave, log_of_three, log_of_two, open_three, open_two, serve_woken, take,
 };
-use crate::scripts::{closing, first, will};
+use crate::scripts::{closing, first, flushing, will};
 use crate::texts::assert_log;
 use env_crew::{Desk, Served};
 use std::test::Fail;
@@ -81,4 +81,52 @@ fn shutdown_is_seen_without_the_turn(rt: HostRuntime) -> Result<(), Fail> {
     let second = worker.into_seat();
     let log = log_of_two(rt.alloc(), shared, first, second)?;
     assert_log(rt.alloc(), &log, "0 0 post 0 0 5 ok\n1 0 shutdown\n")
+}
+
+// Where nobody wakes whom it should, these two don't end.
+
+#[test]
+fn post_wakes_the_worker_that_rests(rt: HostRuntime) -> Result<(), Fail> {
+    let script = first(rt.alloc())?;
+    let (shared, first, second) = open_two(rt.alloc(), script)?;
+    let mut driver = shared.desk(first);
+    let mut worker = shared.desk(second);
+    find_nothing(&rt, &mut worker);
+    driver.post(&rt, 0, 0, 0);
+    serve_woken(&rt, &mut worker);
+    idle_at_once(&rt, &mut driver);
+    let first = driver.into_seat();
+    let second = worker.into_seat();
+    let log = log_of_two(rt.alloc(), shared, first, second)?;
+    assert_log(
+        rt.alloc(),
+        &log,
+        "0 0 post 0 0 0 ok\n1 1 take 0 0 0\n2 1 end 0 5\n3 0 idle\n",
+    )
+}
+
+#[test]
+fn each_seat_is_woken_while_the_other_rests(rt: HostRuntime) -> Result<(), Fail> {
+    let script = flushing(rt.alloc())?;
+    let (shared, first, second) = open_two(rt.alloc(), script)?;
+    let mut driver = shared.desk(first);
+    let mut worker = shared.desk(second);
+    driver.post(&rt, 0, 0, 0);
+    assert_served(&rt, &mut worker, Served::Worked);
+    find_nothing(&rt, &mut worker);
+    idle_at_once(&rt, &mut driver);
+    driver.post(&rt, 1, 0, 0);
+    serve_woken(&rt, &mut worker);
+    driver.post(&rt, 2, 0, 0);
+    assert_served(&rt, &mut worker, Served::Worked);
+    idle(&rt, &mut driver);
+    let first = driver.into_seat();
+    let second = worker.into_seat();
+    let log = log_of_two(rt.alloc(), shared, first, second)?;
+    assert_log(
+        rt.alloc(),
+        &log,
+        "0 0 post 0 0 0 ok\n1 1 take 0 0 0\n2 1 end 0 5\n3 0 idle\n4 0 post 1 0 0 ok\n5 1 take 1 0 5\n\
+        6 1 end 1 10\n7 0 post 2 0 0 ok\n8 1 take 2 0 10\n9 1 end 2 15\n10 0 idle\n",
+    )
 }

@@ -1,7 +1,7 @@
 //! The scripts of the tests, by their texts.
 ghost use Rattle.std.specs.Prelude.{◌≡◌, IfOk};
 ghost use Rattle.script_model.specs.Laws.Sound.{IsSound};
-ghost use Rattle.worked_calls.specs.Plans.{cancel_plan, closing_plan, first_plan, late_plan, may_plan, quiet_plan, will_plan, yield_plan};
+ghost use Rattle.worked_calls.specs.Plans.{cancel_plan, closing_plan, first_plan, flush_plan, late_plan, may_plan, quiet_plan, will_plan, yield_plan};
 
 use crate::texts::script_of;
 use std::alloc::Global;
@@ -25,6 +25,19 @@ pub fn first(alloc: Global) -> Result<Script, Fail>
         alloc,
         "workers 1\ngroups 1 1 0\nthreshold 5\n\
         runner 0 sequenced user_visible skip\ntask 0 add 5\npost 0 0 0\nflush\n",
+    )
+}
+
+/// The driver posts a task and waits for it, and then two more.
+pub fn flushing(alloc: Global) -> Result<Script, Fail>
+    ensures sound { IfOk result IsSound }
+    ensures plan { IfOk result (λ script. script ≡ flush_plan) }
+{
+    script_of(
+        alloc,
+        "workers 1\ngroups 1 1 0\nthreshold 5\n\
+        runner 0 sequenced user_visible skip\ntask 0 add 5\ntask 1 add 5\ntask 2 add 5\n\
+        post 0 0 0\nflush\npost 1 0 0\npost 2 0 0\nflush\n",
     )
 }
 
