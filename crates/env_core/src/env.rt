@@ -44,7 +44,6 @@ use task_body::{Act, Assignment, JobPass, Taken, TaskBody};
 ///
 /// Each call is one event: it adds one entry to the history, or none. All memory is taken by `open`. A seat is 0 for
 /// the driver, which performs the script, and 1 and above for the workers.
-#[derive(Drop)]
 pub struct Env<B: TaskBody> {
     /// The script, the history, and how far the driver has come.
     ledger: Ledger,
@@ -52,6 +51,18 @@ pub struct Env<B: TaskBody> {
     main: Manager,
     /// The bodies of the tasks that may still be taken.
     bodies: Vec<Option<Box<B>>>,
+}
+
+impl<B: TaskBody> Drop for Env<B> {
+    /// A crate that drops an environment, or what has one inside, goes by this code, and proves nothing of what lies in it.
+    fn drop(self) {
+        let Env {
+            ledger: _,
+            pool: _,
+            main: _,
+            bodies: _,
+        } = self;
+    }
 }
 
 impl<B: TaskBody> Model for Env<B> {
@@ -337,7 +348,13 @@ impl<B: TaskBody> Env<B> {
         ensures items { result.items ≡ self.history }
         ensures room { result.spare ≡ spare_of self }
     {
-        self.ledger.into_log()
+        let Env {
+            ledger,
+            pool: _,
+            main: _,
+            bodies: _,
+        } = self;
+        ledger.into_log()
     }
 
     // A post, by the script or by a task.

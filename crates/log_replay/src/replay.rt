@@ -44,8 +44,11 @@ impl Replay {
         ensures script { IfOk result (λ replay. replay.script ≡ script.now) }
         ensures empty { IfOk result (λ replay. replay.history ≡ []) }
     {
-        let env = Env::open(alloc, script.copy(alloc)?, bodies_of(alloc, script)?)?;
+        // The environment comes last, and the script's copy right before it: what is dropped where memory is short are lists alone.
         let hands = free_hands(alloc, script.workers + 1)?;
+        let bodies = bodies_of(alloc, script)?;
+        let copy = script.copy(alloc)?;
+        let env = Env::open(alloc, copy, bodies)?;
         Ok(Replay { env, hands })
     }
 
