@@ -48,7 +48,6 @@ use task_traits::{effective, forbids};
 /// policy and each call on a job take time logarithmic in the number of runners, tasks and jobs at most; a tick besides for
 /// each task that ripens, and `reprio` for each task of the runner that waits, or has waited since its last change;
 /// `is_any_ready` and `idle` look at each seat that a runner states, and `start_shutdown` at each runner, task and job.
-#[derive(Drop)]
 pub struct Pool {
     runners: RunnerTable,
     /// The present priority of each runner.
@@ -72,6 +71,28 @@ pub struct Pool {
     holders: Vec<Option<Holder>>,
     /// The moment of the last tick.
     moment: u64,
+}
+
+impl Drop for Pool {
+    /// A crate that drops a pool, or what has one inside, goes by this code, and proves nothing of what lies in it.
+    fn drop(self) {
+        let Pool {
+            runners: _,
+            priorities: _,
+            sequences: _,
+            lanes: _,
+            lists: _,
+            representatives: _,
+            groups: _,
+            delayed: _,
+            tracker: _,
+            postings: _,
+            seats: _,
+            jobs: _,
+            holders: _,
+            moment: _,
+        } = self;
+    }
 }
 
 impl Pool {
