@@ -22,6 +22,7 @@ use Rattle.pool_core.specs.Pasts.{pool_running}
 use Rattle.pool_core.specs.declared.pool.Pool.{Pool}
 use Rattle.sequence_manager.specs.Calls.{RunsMain}
 use Rattle.sequence_manager.specs.declared.manager.Manager.{Manager}
+use Rattle.script_model.specs.Laws.Sound.{IsSound}
 use Rattle.std.proofs.Common.{Bool, List, Option, Some, ap, false, length, refl, subst, sym, true, ℕ, ◌<◌, ◌∙◌, ◌≡◌, ◌≤◌}
 use Rattle.std.proofs.lemmas.Bool.{true≢false}
 use Rattle.std.proofs.lemmas.Option.{option_and_then_some, same_Some}
@@ -83,7 +84,7 @@ pub record DoesNext (view : EnvView) (seat : ℕ) (act : Act) : Type 0 where
   pub is_of : slice_get (filter is_act (steps_of view.script now.task)) (acts_done view.history seat) ≡ Some step
   pub is_act : is_act step ≡ true
   pub act_is : act ≡ act_of step
-  pub allowed : (kind : Kind) → entry_of now.task act (lets_in view act) ≡ Some kind
+  pub allowed : IsSound view.script → (kind : Kind) → entry_of now.task act (lets_in view act) ≡ Some kind
       → IsAllowed view.script view.history (record { seat = seat; kind = kind })
 
 -- the seat runs a task
@@ -108,7 +109,7 @@ does_next {view = view} {seat = seat} {act = act} next =
       is_act = subst (λ o. IfSome o (λ s. is_act s ≡ true)) is (slice_get_all _ (filter is_act (steps_of view.script w.task))
           (acts_done view.history seat) (filter_passes is_act (steps_of view.script w.task)));
       act_is = next.is_act;
-      allowed = λ kind is. act_allowed view seat act w kind next runs is;
+      allowed = λ plan kind is. act_allowed view seat act w kind plan.closed next runs is;
     }
 
 -- its entry may come, and leaves the driver's place
@@ -116,7 +117,7 @@ pub may_enter : {view : EnvView} {seat : ℕ} {act : Act} {kind : Kind} (does : 
     → entry_of does.now.task act (lets_in view act) ≡ Some kind → is_main_end kind ≡ false → is_main_none kind ≡ false
     → MayEnter view seat kind shifts.Stays
 may_enter {view = view} {seat = seat} {kind = kind} does is ends none = record {
-  allowed = does.allowed kind is;
+  allowed = λ plan. does.allowed plan kind is;
   place = λ a run. task_waits view.script view.history (record { seat = seat; kind = kind }) a does.now run.plan run.legal does.runs ends none run.driver;
 }
 
@@ -231,7 +232,7 @@ module _ {X : Type 0} {bodies : List (Option X)} {whole rest : X → List Step} 
   may_end_main {seat = seat} {work = work} can left =
       let (driver, runs, _) = runs_main can in
       record {
-        allowed = main_end_allowed view seat work holds.legal can left;
+        allowed = λ plan. main_end_allowed view seat work plan.closed holds.legal can left;
         place = λ a run. driver_ends view.script view.history (record { seat = seat; kind = kinds.MainEnd work.task work.value }) a can.seats.now run.plan
             run.legal runs driver refl refl run.driver;
       }

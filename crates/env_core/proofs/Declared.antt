@@ -8,6 +8,7 @@ use Rattle.env_core.proofs.Queues.{action_posts, step_posts}
 use Rattle.env_core.proofs.Shutdown.{at_done, at_start}
 use Rattle.env_core.specs.Calls.{IsWantedNext}
 use Rattle.env_core.specs.Views.{EnvView}
+use Rattle.hist_model.proofs.Laws.Open.{closed_main, closed_post}
 use Rattle.hist_model.proofs.Laws.OneThing.{wanted_by}
 use Rattle.hist_model.proofs.Laws.Postings.Once.{a_posted_task_is_new}
 use Rattle.hist_model.specs.Allowed.{IsAllowed, by_script, by_task, enters, may_come}
@@ -48,7 +49,8 @@ pub post_is_sound : (script : Plan) (past : List Entry) (seat task runner delay 
     → (task < length script.tasks) × (runner < length script.runners) × (delay ≤ MOST_MICROSECONDS) × (post_of past task ≡ None)
 unfolding may_come
 post_is_sound script past seat task runner delay ok plan legal allowed =
-    let sound = ⊎_elim by_the_script by_the_task (or_cases _ _ (and_parts _ _ (and_parts _ _ allowed).1).0) in (
+    let may = sym (closed_post script past seat task runner delay ok plan.closed) ∙ (and_parts _ _ allowed).1 in
+    let sound = ⊎_elim by_the_script by_the_task (or_cases _ _ (and_parts _ _ may).0) in (
       sound.0.task_declared,
       sound.0.runner_declared,
       sound.1,
@@ -58,7 +60,7 @@ post_is_sound script past seat task runner delay ok plan legal allowed =
   where
     by_the_script : by_script script past seat (kinds.Post task runner delay ok) ≡ true → IsActionSound script (actions.Post task runner delay)
     by_the_script wanted =
-        let c = wanted_by script past seat (kinds.Post task runner delay ok) wanted in
+        let c = wanted_by script past seat (kinds.Post task runner delay ok) plan.closed wanted in
         subst (IsActionSound script) (wants_post (own_entries 0 past) c.value.action c.value.made task runner delay ok c.passes)
         (current_is_one (IsActionSound script) script (own_entries 0 past) c.value plan.actions.each_sound c.is)
 
@@ -94,7 +96,8 @@ pub main_post_is_sound : (script : Plan) (past : List Entry) (seat task queue de
     → IsAllowed script past (record { seat = seat; kind = kinds.Main task queue delay ok }) → IsMainPostSound script past task queue delay
 unfolding may_come
 main_post_is_sound script past seat task queue delay ok plan legal allowed =
-    let (sound, posted) = ⊎_elim by_the_script by_the_task (or_cases _ _ (and_parts _ _ (and_parts _ _ allowed).1).0) in
+    let may = sym (closed_main script past seat task queue delay ok plan.closed) ∙ (and_parts _ _ allowed).1 in
+    let (sound, posted) = ⊎_elim by_the_script by_the_task (or_cases _ _ (and_parts _ _ may).0) in
     record {
       task_declared = sound.0.task_declared;
       delay_fits = sound.1;
@@ -106,7 +109,7 @@ main_post_is_sound script past seat task queue delay ok plan legal allowed =
     by_the_script : by_script script past seat (kinds.Main task queue delay ok) ≡ true
         → IsActionSound script (actions.Main task queue delay) × IsPostedTo script task queue
     by_the_script wanted =
-        let c = wanted_by script past seat (kinds.Main task queue delay ok) wanted in
+        let c = wanted_by script past seat (kinds.Main task queue delay ok) plan.closed wanted in
         let same = wants_main (own_entries 0 past) c.value.action c.value.made task queue delay ok c.passes in (
           subst (IsActionSound script) same (current_is_one (IsActionSound script) script (own_entries 0 past) c.value plan.actions.each_sound c.is),
           action_posts script task queue delay (subst (Contains script.actions) same
@@ -158,7 +161,7 @@ names_queue script own x made kind n is w sound = absurd (none-some n is)
 sound_at : (P : Type 0) (view : EnvView) (seat : ℕ) (kind : Kind) → IsSound view.script → IsWantedNext view seat kind
     → ((x : Action) (made : List Entry) → wants (own_entries 0 view.history) x made kind ≡ true → IsActionSound view.script x → P) → P
 sound_at P view seat kind plan next says =
-    let c = wanted_by view.script view.history seat kind (wanted_by_script view seat kind next) in
+    let c = wanted_by view.script view.history seat kind plan.closed (wanted_by_script view seat kind next) in
     says c.value.action c.value.made c.passes
     (current_is_one (IsActionSound view.script) view.script (own_entries 0 view.history) c.value plan.actions.each_sound c.is)
 
@@ -210,10 +213,10 @@ pub starts_while_running : (script : Plan) (past : List Entry) (seat : ℕ) → 
     → IsAllowed script past (record { seat = seat; kind = kinds.Shutdown }) → phase_of past ≡ phases.Running
 unfolding may_come
 starts_while_running script past seat plan legal allowed = at_start script past plan legal
-    (wanted_by script past seat kinds.Shutdown (and_parts _ _ allowed).1)
+    (wanted_by script past seat kinds.Shutdown plan.closed (and_parts _ _ allowed).1)
 
 -- shutdown ends where it has started
 pub done_while_started : (view : EnvView) (seat : ℕ) → IsSound view.script → IsLegal view.script view.history → IsWantedNext view seat kinds.Done
     → phase_of view.history ≡ phases.Started
 done_while_started view seat plan legal next = at_done view.script view.history plan legal
-    (wanted_by view.script view.history seat kinds.Done (wanted_by_script view seat kinds.Done next))
+    (wanted_by view.script view.history seat kinds.Done plan.closed (wanted_by_script view seat kinds.Done next))

@@ -299,7 +299,7 @@ moves_wanted script b own x front e w h rest made = moves_other script b x rest 
 pub driver_moves : (script : Plan) (past : List Entry) (e : Entry) (a : Agenda) → IsSound script → by_script script past e.seat e.kind ≡ true
     → is_counted e.kind ≡ true → IsDriverAt script past a → IsDriverAt script (past ++ e ∷ []) (moved_on script.actions a)
 driver_moves script past e a plan by counts at =
-    let c = wanted_by script past e.seat e.kind by in
+    let c = wanted_by script past e.seat e.kind plan.closed by in
     driver_to script past e a (moved_on script.actions a) c.value plan (eq-eqb e.seat 0 (by_driver script past e.seat e.kind by)) at c.is
     (moves_wanted script a (own_entries 0 past) c.value.action c.value.made e c.passes counts)
 
@@ -315,7 +315,7 @@ pub driver_goes_in : (script : Plan) (past : List Entry) (seat job id item : ℕ
     → by_script script past seat (kinds.JobTake job id item) ≡ true → IsDriverAt script past a
     → IsDriverAt script (past ++ (record { seat = seat; kind = kinds.JobTake job id item }) ∷ []) a
 driver_goes_in script past seat job id item a plan by at =
-    let c = wanted_by script past seat (kinds.JobTake job id item) by in
+    let c = wanted_by script past seat (kinds.JobTake job id item) plan.closed by in
     driver_joins_on script past (record { seat = seat; kind = kinds.JobTake job id item }) a c.value plan
     (by_driver script past seat (kinds.JobTake job id item) by) c.is
     (join_wants (own_entries 0 past) c.value.action c.value.made job id item c.passes) refl at
@@ -332,7 +332,7 @@ pub driver_takes : (script : Plan) (past : List Entry) (e : Entry) (a : Agenda) 
     → is_of_pump e.kind ≡ true → is_main_none e.kind ≡ false → is_main_end e.kind ≡ false → IsDriverAt script past a
     → IsDriverAt script (past ++ e ∷ []) a
 driver_takes script past e a plan by pumps none ends at =
-    let c = wanted_by script past e.seat e.kind by in
+    let c = wanted_by script past e.seat e.kind plan.closed by in
     driver_to script past e a a c.value plan (eq-eqb e.seat 0 (by_driver script past e.seat e.kind by)) at c.is
     (λ rest front. pump_stays script a c.value.action rest front e
     (wants_main_take (own_entries 0 past) c.value.action c.value.made e.kind c.passes pumps) none ends)
@@ -341,7 +341,7 @@ driver_takes script past e a plan by pumps none ends at =
 pub driver_passes : (script : Plan) (past : List Entry) (seat : ℕ) (a : Agenda) → IsSound script → by_script script past seat kinds.MainNone ≡ true
     → IsDriverAt script past a → IsDriverAt script (past ++ (record { seat = seat; kind = kinds.MainNone }) ∷ []) (passed_on script.actions a)
 driver_passes script past seat a plan by at =
-    let c = wanted_by script past seat kinds.MainNone by in
+    let c = wanted_by script past seat kinds.MainNone plan.closed by in
     let e : Entry = record { seat = seat; kind = kinds.MainNone } in
     driver_to script past e a (passed_on script.actions a) c.value plan (eq-eqb seat 0 (by_driver script past seat kinds.MainNone by)) at c.is
     (λ rest front. pump_passes script a c.value.action rest front e
@@ -352,7 +352,7 @@ pub driver_ends : (script : Plan) (past : List Entry) (e : Entry) (a : Agenda) (
     → running past 0 ≡ Some w → e.seat ≡ 0 → is_main_end e.kind ≡ true → is_main_none e.kind ≡ false → IsDriverAt script past a
     → IsDriverAt script (past ++ e ∷ []) (moved_on script.actions a)
 driver_ends script past e a w plan legal runs driver ends none at =
-    let (c, now, pump) = (legal_past script past legal).one_thing.pumps w runs in
+    let (c, now, pump) = (legal_past script past legal).one_thing.pumps plan.closed w runs in
     driver_to script past e a (moved_on script.actions a) c plan (eq-eqb e.seat 0 driver) at now
     (λ rest front. pump_ends script a c.action rest front e pump none ends)
 
@@ -365,7 +365,7 @@ task_waits script past e a w plan legal runs ends none at = by_seat (eqb e.seat 
     by_seat : (c : Bool) → eqb e.seat 0 ≡ c → IsDriverAt script (past ++ e ∷ []) a
     by_seat false other = driver_waits script past e a other at
     by_seat true driver =
-        let (c, now, pump) = (legal_past script past legal).one_thing.pumps w (ap (running past) (sym (eqb-true e.seat 0 driver)) ∙ runs) in
+        let (c, now, pump) = (legal_past script past legal).one_thing.pumps plan.closed w (ap (running past) (sym (eqb-true e.seat 0 driver)) ∙ runs) in
         driver_to script past e a a c plan driver at now (λ rest front. pump_stays script a c.action rest front e pump none ends)
 
 -- while a seat holds an item, its entries other than a reply leave the driver's place
@@ -377,5 +377,5 @@ holder_waits script past e a h plan legal holds joined at = by_seat (eqb e.seat 
     by_seat false other = driver_waits script past e a other at
     by_seat true is =
         let driver = eqb-true e.seat 0 is in
-        let (c, now, join) = (legal_past script past legal).one_thing.joins h (ap (holding past) (sym driver) ∙ holds) in
+        let (c, now, join) = (legal_past script past legal).one_thing.joins plan.closed h (ap (holding past) (sym driver) ∙ holds) in
         driver_joins_on script past e a c plan driver now join joined at

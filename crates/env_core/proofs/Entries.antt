@@ -23,6 +23,7 @@ use Rattle.sequence_manager.specs.Calls.{CanPost as MainCanPost, HasQueue}
 use Rattle.sequence_manager.specs.Others.{is_still}
 use Rattle.sequence_manager.specs.StandsFor.{StandsFor as MainStandsFor}
 use Rattle.sequence_manager.specs.declared.manager.Manager.{Manager}
+use Rattle.script_model.specs.Laws.Sound.{IsSound}
 use Rattle.std.proofs.Common.{List, Option, Some, [], arith, false, length, true, ℕ, ◌++◌, ◌<◌, ◌^◌, ◌∷◌, ◌≡◌, ◌≤◌}
 use Rattle.std.proofs.lemmas.Bool.{ne_eqb}
 use Rattle.std.specs.Prelude.{not}
@@ -37,7 +38,7 @@ use Rattle.task_traits.specs.declared.traits.Priority.{Priority}
 
 -- an entry that the script wants, and that counts
 pub counts : {view : EnvView} {seat : ℕ} {kind : Kind} → IsWantedNext view seat kind → is_counted kind ≡ true
-    → IsAllowed view.script view.history (record { seat = seat; kind = kind }) → MayEnter view seat kind shifts.Counts
+    → (IsSound view.script → IsAllowed view.script view.history (record { seat = seat; kind = kind })) → MayEnter view seat kind shifts.Counts
 counts {view = view} {seat = seat} {kind = kind} wanted counted allowed = record {
   allowed = allowed;
   place = λ a run. driver_moves view.script view.history (record { seat = seat; kind = kind }) a run.plan (wanted_by_script view seat kind wanted) counted
@@ -47,11 +48,11 @@ counts {view = view} {seat = seat} {kind = kind} wanted counted allowed = record
 -- one of which the rules ask no more than that the script wants it
 pub plain : {view : EnvView} {seat : ℕ} {kind : Kind} → IsWantedNext view seat kind → is_plain kind ≡ true → is_counted kind ≡ true
     → MayEnter view seat kind shifts.Counts
-plain {view = view} {seat = seat} {kind = kind} wanted is counted = counts wanted counted (plain_allowed view seat kind wanted is)
+plain {view = view} {seat = seat} {kind = kind} wanted is counted = counts wanted counted (λ plan. plain_allowed view seat kind wanted is)
 
 -- one of a worker
-pub by_worker : {view : EnvView} {seat : ℕ} {kind : Kind} → 1 ≤ seat → IsAllowed view.script view.history (record { seat = seat; kind = kind })
-    → MayEnter view seat kind shifts.Stays
+pub by_worker : {view : EnvView} {seat : ℕ} {kind : Kind} → 1 ≤ seat
+    → (IsSound view.script → IsAllowed view.script view.history (record { seat = seat; kind = kind })) → MayEnter view seat kind shifts.Stays
 by_worker {view = view} {seat = seat} {kind = kind} worker allowed = record {
   allowed = allowed;
   place = λ a run. driver_waits view.script view.history (record { seat = seat; kind = kind }) a (ne_eqb seat 0 (λ is. omega (arith, worker, is)))
@@ -72,7 +73,7 @@ module _ {X : Type 0} {bodies : List (Option X)} {whole rest : X → List Step} 
       → CanPost view.script view.history pool next task runner delay
   can_post seat next task runner delay shift is may =
       let sound = post_is_sound view.script view.history seat task runner delay (not (is_refused view.script view.history runner delay)) holds.plan
-      holds.legal may.allowed in record {
+      holds.legal (may.allowed holds.plan) in record {
         stands = holds.stands;
         place_is = is;
         runner_declared = sound.1;
@@ -87,7 +88,7 @@ module _ {X : Type 0} {bodies : List (Option X)} {whole rest : X → List Step} 
       → MainCanPost view.script view.history manager next task queue delay × (task < length view.script.tasks)
   can_main_post seat next task queue delay shift is may =
       let sound = main_post_is_sound view.script view.history seat task queue delay (not (is_closed view.history queue)) holds.plan holds.legal
-      may.allowed in (
+      (may.allowed holds.plan) in (
         record {
           stands = holds.main;
           place_is = is;

@@ -49,7 +49,7 @@ module _ {X : Type 0} {bodies : List (Option X)} {whole rest : X → List Step} 
   pub can_join : (seat job : ℕ) → ((id item : ℕ) → IsWantedNext view seat (kinds.JobTake job id item)) → CanJoin view.script view.history pool job
   can_join seat job wanted = record {
     knows = knows_job seat job (kinds.JobTake job 0 0) refl (wanted 0 0);
-    holds_nothing = driver_holds_nothing view.script view.history seat (kinds.JobTake job 0 0) holds.legal
+    holds_nothing = driver_holds_nothing view.script view.history seat (kinds.JobTake job 0 0) holds.plan.closed holds.legal
         (wanted_by_script view seat (kinds.JobTake job 0 0) (wanted 0 0));
   }
 
@@ -117,7 +117,7 @@ unanswered_is script past job h empty = rw empty at h
 pub may_go_in : {view : EnvView} {seat job id item : ℕ} → IsWantedNext view seat (kinds.JobTake job id item)
     → IsOpenJob view.script view.history job id item → MayEnter view seat (kinds.JobTake job id item) shifts.Stays
 may_go_in {view = view} {seat = seat} {job = job} {id = id} {item = item} wanted is = record {
-  allowed = job_take_allowed view seat job id item wanted is;
+  allowed = λ plan. job_take_allowed view seat job id item wanted is;
   place = λ a run. driver_goes_in view.script view.history seat job id item a run.plan (wanted_by_script view seat (kinds.JobTake job id item) wanted)
       run.driver;
 }
@@ -126,7 +126,7 @@ may_go_in {view = view} {seat = seat} {job = job} {id = id} {item = item} wanted
 pub may_step : {view : EnvView} {seat value : ℕ} {pass : PassView} {next : Option ℕ} → CanEndItem view seat pass value
     → next ≡ next_item view.script view.history seat pass.job → MayEnter view seat (kinds.JobStep pass.job pass.id pass.item value next) shifts.Stays
 may_step {view = view} {seat = seat} {value = value} {pass = pass} {next = next} can is = record {
-  allowed = job_step_allowed view seat value pass next can is;
+  allowed = λ plan. job_step_allowed view seat value pass next can is;
   place = λ a run. holder_waits view.script view.history (record { seat = seat; kind = kinds.JobStep pass.job pass.id pass.item value next }) a
       (held_by pass) run.plan run.legal (holds_item view seat value pass can) refl run.driver;
 }

@@ -16,6 +16,7 @@ use Rattle.hist_model.proofs.Laws.Own.{holding_own, own_entries_push}
 use Rattle.hist_model.specs.Allowed.{IsAllowed, by_script, is_job, is_ready_worker, may_come, same_number, same_reply, is_reply}
 use Rattle.hist_model.specs.Laws.Agenda.{completes}
 use Rattle.hist_model.specs.Legal.{IsLegal}
+use Rattle.hist_model.specs.Open.{IsClosed}
 use Rattle.hist_model.specs.Script.{Current, current, current_from, wants}
 use Rattle.hist_model.specs.Views.{own_entries}
 use Rattle.list_laws.proofs.Elements.{slice_get_all}
@@ -79,7 +80,7 @@ names_declared script own x made kind j is w sound = absurd (none-some j is)
 pub job_declared : (view : EnvView) (seat j : ℕ) (kind : Kind) → named_job kind ≡ Some j → IsSound view.script → IsWantedNext view seat kind
     → j < length view.script.jobs
 job_declared view seat j kind is sound next =
-    let c = wanted_by view.script view.history seat kind (wanted_by_script view seat kind next) in
+    let c = wanted_by view.script view.history seat kind sound.closed (wanted_by_script view seat kind next) in
     names_declared view.script (own_entries 0 view.history) c.value.action c.value.made kind j is c.passes
     (current_is_one (IsActionSound view.script) view.script (own_entries 0 view.history) c.value sound.actions.each_sound c.is)
 
@@ -167,10 +168,10 @@ CancelGoesFirst script past = (c : Current) (j : ℕ) → current script (own_en
     → is_cancelled past j ≡ true
 
 -- an entry of the driver
-cancel_next : (script : Plan) (past : List Entry) (e : Entry) → IsLegal script past → e.seat ≡ 0 → may_come script past 0 e.kind ≡ true
+cancel_next : (script : Plan) (past : List Entry) (e : Entry) → IsClosed script → IsLegal script past → e.seat ≡ 0 → may_come script past 0 e.kind ≡ true
     → CancelGoesFirst script past → (d : Current) (j : ℕ) → current script (own_entries 0 past ++ e ∷ []) ≡ Some d → d.action ≡ actions.Cancel j
     → 1 ≤ length d.made → (is_cancelled past j || cancels j e.kind) ≡ true
-cancel_next script past e legal driver may known d j now is some = by_current (current script own) refl
+cancel_next script past e closed legal driver may known d j now is some = by_current (current script own) refl
   where
     own : List Entry
     own = own_entries 0 past
@@ -179,11 +180,11 @@ cancel_next script past e legal driver may known d j now is some = by_current (c
         → (is_cancelled past j || cancels j e.kind) ≡ true
     first c was same (x ∷ made) front =
         let one : 1 ≤ length c.made = rw front (omega arith) in rw (known c j was same one) refl
-    first c was same [] front = ⊎_elim wanted (λ w. absurd (apart w)) (driver_entry script past e.kind (legal_does_one_thing script past legal) may)
+    first c was same [] front = ⊎_elim wanted (λ w. absurd (apart w)) (driver_entry script past e.kind closed (legal_does_one_thing script past legal) may)
       where
         wanted : by_script script past 0 e.kind ≡ true → (is_cancelled past j || cancels j e.kind) ≡ true
         wanted h =
-            let f = wanted_by script past 0 e.kind h in
+            let f = wanted_by script past 0 e.kind closed h in
             let is_c : f.value ≡ c = same_Some f.value c (sym f.is ∙ was) in
             let cancel = cancel_wants own j e.kind (rw (same, front) at (ap (λ (x : Current). wants own x.action x.made e.kind) (sym is_c) ∙ f.passes)) in
             rw cancel (or-true (is_cancelled past j))
@@ -207,9 +208,9 @@ begins_with_nothing [] c h = absurd (none-some c h)
 begins_with_nothing (actions.Tick zero ∷ xs) c h = begins_with_nothing xs c h
 begins_with_nothing (x ∷ xs) c h = ap (λ (y : Current). y.made) (sym (same_Some _ c h))
 
-cancel_goes_first : (script : Plan) (past : List Entry) → IsLegal script past → CancelGoesFirst script past
+cancel_goes_first : (script : Plan) (past : List Entry) → IsClosed script → IsLegal script past → CancelGoesFirst script past
 unfolding current
-cancel_goes_first script = legal_induction script (CancelGoesFirst script) nothing next
+cancel_goes_first script past closed = legal_induction script (CancelGoesFirst script) nothing next past
   where
     nothing : CancelGoesFirst script []
     nothing c j now is some = absurd (omega (arith, some, ap (λ xs. length xs) (begins_with_nothing script.actions c now)))
@@ -224,15 +225,16 @@ cancel_goes_first script = legal_induction script (CancelGoesFirst script) nothi
         by_seat : (b : Bool) → eqb e.seat 0 ≡ b → (is_cancelled before j || cancels j e.kind) ≡ true
         by_seat true driver =
             let at = eqb-true e.seat 0 driver in
-            cancel_next script before e legal at (subst (λ s. may_come script before s e.kind ≡ true) at may) known d j
+            cancel_next script before e closed legal at (subst (λ s. may_come script before s e.kind ≡ true) at may) known d j
             (rw (own_entries_push before e 0, driver) at now) is some
         by_seat false other = rw (known d j (rw (own_entries_push before e 0, other) at now) is some) refl
 
 -- the end of the wait for a job that is cancelled, where nobody is inside
-pub cancelled_allowed : (view : EnvView) (seat job : ℕ) → IsLegal view.script view.history → IsWantedNext view seat (kinds.Cancelled job)
-    → is_empty view.script view.history job ≡ true → IsAllowed view.script view.history (record { seat = seat; kind = kinds.Cancelled job })
+pub cancelled_allowed : (view : EnvView) (seat job : ℕ) → IsClosed view.script → IsLegal view.script view.history
+    → IsWantedNext view seat (kinds.Cancelled job) → is_empty view.script view.history job ≡ true
+    → IsAllowed view.script view.history (record { seat = seat; kind = kinds.Cancelled job })
 unfolding may_come
-cancelled_allowed view seat job legal next empty = driver_allowed view seat (kinds.Cancelled job) next.driver (rw (wanted, cancelled, empty) refl)
+cancelled_allowed view seat job closed legal next empty = driver_allowed view seat (kinds.Cancelled job) next.driver (rw (wanted, cancelled, empty) refl)
   where
     wanted : by_script view.script view.history seat (kinds.Cancelled job) ≡ true
     wanted = wanted_by_script view seat (kinds.Cancelled job) next
@@ -246,9 +248,9 @@ cancelled_allowed view seat job legal next empty = driver_allowed view seat (kin
 
     cancelled : is_cancelled view.history job ≡ true
     cancelled =
-        let c = wanted_by view.script view.history seat (kinds.Cancelled job) wanted in
+        let c = wanted_by view.script view.history seat (kinds.Cancelled job) closed wanted in
         let is = behind_cancel c.value.action c.value.made c.passes in
-        cancel_goes_first view.script view.history legal c.value job c.is is.0 is.1
+        cancel_goes_first view.script view.history closed legal c.value job c.is is.0 is.1
 
 -- A driver that waits for a job goes into it.
 
@@ -320,7 +322,7 @@ pub join_may_go_in : (view : EnvView) (seat j : ℕ) (reply : JobReply) → IsSo
     → IsWantedNext view seat (kinds.Joined j reply) → is_empty view.script view.history j ≡ true → reply_of view.script view.history j ≡ None
     → may_enter view.script view.history j ≡ true
 join_may_go_in view seat j reply sound legal wanted empty none =
-    let c = wanted_by view.script view.history seat (kinds.Joined j reply) (wanted_by_script view seat (kinds.Joined j reply) wanted) in
+    let c = wanted_by view.script view.history seat (kinds.Joined j reply) sound.closed (wanted_by_script view seat (kinds.Joined j reply) wanted) in
     join_goes_on view.script view.history j c.value sound legal c.is (joins c.value.action c.value.made c.passes) empty none
   where
     joins : (x : Action) (made : List Entry) → wants (own_entries 0 view.history) x made (kinds.Joined j reply) ≡ true → follows_start j x ≡ true

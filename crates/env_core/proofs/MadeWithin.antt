@@ -5,10 +5,12 @@ use Rattle.env_core.specs.Ledger.{IsDriverAt}
 use Rattle.env_core.specs.declared.agenda.Agenda.{Agenda}
 use Rattle.hist_model.specs.Laws.Agenda.{agenda, agenda_from, first_of}
 use Rattle.hist_model.specs.Legal.{IsLegal}
+use Rattle.hist_model.specs.Open.{IsClosed}
 use Rattle.hist_model.specs.Script.{Current, behind, behind_action, behind_join, behind_pump, current, is_finished, is_joined, is_main_end, is_main_none}
 use Rattle.hist_model.specs.Views.{own_entries}
 use Rattle.hist_model.proofs.Laws.Agenda.{current_is_first}
 use Rattle.hist_model.proofs.Laws.Entries.Bound.{entries_within_limit}
+use Rattle.hist_model.proofs.Laws.Open.{closed_finished}
 use Rattle.list_laws.proofs.Counts.{count_le}
 use Rattle.script_model.specs.Laws.Sound.{IsSound}
 use Rattle.std.proofs.Common.{Bool, List, None, Option, Some, [], cond, drop, eqb, false, leb, length, true, zero, suc, ℕ}
@@ -87,9 +89,9 @@ few_entries_made script past a plan legal at = omega (
 )
 
 -- the script is finished exactly where all actions are complete
-pub finished_is : (script : Plan) (past : List Entry) (a : Agenda) → IsDriverAt script past a → is_finished script past ≡ (a.place == length script.actions)
-unfolding is_finished
-finished_is script past a at = rw (current_is_first script (own_entries 0 past), at.actions_are)
+pub finished_is : (script : Plan) (past : List Entry) (a : Agenda) → IsClosed script → IsDriverAt script past a
+    → is_finished script past ≡ (a.place == length script.actions)
+finished_is script past a closed at = closed_finished script past closed ∙ rw (current_is_first script (own_entries 0 past), at.actions_are)
     (none_from script.actions a.place (agenda script (own_entries 0 past)).made at.within)
   where
     none_from : (xs : List Action) (n : ℕ) (front : List Entry) → n ≤ length xs → is_none (first_of (drop n xs) front) ≡ eqb n (length xs)

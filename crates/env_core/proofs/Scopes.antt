@@ -6,9 +6,11 @@ use Rattle.env_core.proofs.Plans.{runs_as}
 use Rattle.hist_model.proofs.Laws.Wants.{EntersStep, entered_by, next_is_of}
 use Rattle.hist_model.specs.Allowed.{IsAllowed, by_script, by_task, enters, is_reply, may_come, same_scope}
 use Rattle.hist_model.specs.Legal.{IsLegal}
+use Rattle.hist_model.specs.Open.{IsClosed}
 use Rattle.hist_model.proofs.Laws.AtPlaces.{take_at}
 use Rattle.hist_model.proofs.Laws.Legal.{is_legal_push, legal_induction}
 use Rattle.hist_model.proofs.Laws.LegalPast.{legal_past}
+use Rattle.hist_model.proofs.Laws.Open.{closed_enters, closed_leaves, closed_main, closed_post}
 use Rattle.hist_model.proofs.Laws.Postings.Counts.{counted, posted_at_most_once}
 use Rattle.hist_model.proofs.Laws.Takes.{by_driver, take_is}
 use Rattle.list_laws.proofs.Finds.{contained_counts}
@@ -117,12 +119,12 @@ scoped_task t u (steps.Main a q d) (kinds.Main task queue delay ok) h k = absurd
 scoped_task t u step kind h k = absurd cc
 
 -- an entry that opens or closes a scope is one of a task
-scopes_by_task : (script : Plan) (past : List Entry) (seat u : ℕ) (kind : Kind) → may_come script past seat kind ≡ true → scopes u kind ≡ true
-    → by_task script past seat kind ≡ true
+scopes_by_task : (script : Plan) (past : List Entry) (seat u : ℕ) (kind : Kind) → IsClosed script → may_come script past seat kind ≡ true
+    → scopes u kind ≡ true → by_task script past seat kind ≡ true
 unfolding may_come
-scopes_by_task script past seat u (kinds.Enter task scope) may k = may
-scopes_by_task script past seat u (kinds.Leave task) may k = may
-scopes_by_task script past seat u kind may k = absurd cc
+scopes_by_task script past seat u (kinds.Enter task scope) closed may k = sym (closed_enters script past seat task scope closed) ∙ may
+scopes_by_task script past seat u (kinds.Leave task) closed may k = sym (closed_leaves script past seat task closed) ∙ may
+scopes_by_task script past seat u kind closed may k = absurd cc
 
 -- what the task of the pool that a seat runs has open, by the act steps that were entered
 abbrev ScopeIs : Plan → List Entry → Type 0
@@ -149,7 +151,7 @@ scope_step script past e plan legal allowed before seat w runs pool = ⊎_elim o
         untouched : scopes w.task e.kind ≡ true → ⊥
         untouched k =
             let n : EntersStep script past e.seat e.kind =
-            entered_by script past e.seat e.kind (scopes_by_task script past e.seat w.task e.kind may k) in
+            entered_by script past e.seat e.kind (scopes_by_task script past e.seat w.task e.kind plan.closed may k) in
             let same : n.now.task ≡ w.task = scoped_task n.now.task w.task n.step e.kind n.enters k in
             apart n.now n.runs same n.now.is_main refl
           where
@@ -195,10 +197,12 @@ scope_step script past e plan legal allowed before seat w runs pool = ⊎_elim o
         by_kind (kinds.MainTake task queue value) m k = absurd (true≢false (ap (λ (v : Running). v.is_main) (same_Some _ w k) ∙ pool))
         by_kind (kinds.End task left) m k = absurd (none-some w k)
         by_kind (kinds.MainEnd task left) m k = absurd (none-some w k)
-        by_kind (kinds.Post task runner delay ok) m k = post (kinds.Post task runner delay ok) _ ok k m
-        by_kind (kinds.Main task queue delay ok) m k = post (kinds.Main task queue delay ok) _ ok k m
-        by_kind (kinds.Enter task scope) m k = act (kinds.Enter task scope) k m
-        by_kind (kinds.Leave task) m k = act (kinds.Leave task) k m
+        by_kind (kinds.Post task runner delay ok) m k = post (kinds.Post task runner delay ok) _ ok k
+            (sym (closed_post script past e.seat task runner delay ok plan.closed) ∙ m)
+        by_kind (kinds.Main task queue delay ok) m k = post (kinds.Main task queue delay ok) _ ok k
+            (sym (closed_main script past e.seat task queue delay ok plan.closed) ∙ m)
+        by_kind (kinds.Enter task scope) m k = act (kinds.Enter task scope) k (sym (closed_enters script past e.seat task scope plan.closed) ∙ m)
+        by_kind (kinds.Leave task) m k = act (kinds.Leave task) k (sym (closed_leaves script past e.seat task plan.closed) ∙ m)
         by_kind kind m k = before e.seat w k pool
 
 -- the task that a seat runs of the pool has a scope open exactly where the last scope step among the act steps that it has

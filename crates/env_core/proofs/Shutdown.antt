@@ -5,6 +5,7 @@ use Rattle.script_model.specs.Laws.Sound.{IsSound}
 use Rattle.hist_model.proofs.Laws.Agenda.{agenda_push, current_is_first}
 use Rattle.hist_model.proofs.Laws.Choice.{Found}
 use Rattle.hist_model.proofs.Laws.Legal.{legal_induction}
+use Rattle.hist_model.proofs.Laws.Open.{closed_enters, closed_leaves, closed_main, closed_post}
 use Rattle.hist_model.proofs.Laws.OneThing.{job_step_holds, legal_does_one_thing, wanted_by}
 use Rattle.hist_model.proofs.Laws.Own.{own_entries_push}
 use Rattle.hist_model.proofs.Laws.Takes.{by_driver, end_is, job_take_is, main_end_is, take_is}
@@ -12,6 +13,7 @@ use Rattle.hist_model.specs.Allowed.{IsAllowed, by_script, by_task, may_come}
 use Rattle.hist_model.specs.Laws.Agenda.{agenda, agenda_from, completes, first_of, next_agenda}
 use Rattle.hist_model.specs.Laws.Consistent.{is_join, is_pump}
 use Rattle.hist_model.specs.Legal.{IsLegal}
+use Rattle.hist_model.specs.Open.{IsClosed}
 use Rattle.hist_model.specs.Script.{Current, behind_action, current, wants}
 use Rattle.hist_model.specs.Views.{own_entries}
 use Rattle.list_laws.proofs.Counts.{count-cons}
@@ -47,19 +49,19 @@ record IsInside (script : Plan) (past : List Entry) (kind : Kind) : Type 0 where
   still : (phase : Phase) → phase_after phase kind ≡ phase
 
 -- the driver takes nothing as a worker; it runs main tasks at a pump, and holds items at a join
-driver_entry : (script : Plan) (past : List Entry) (seat : ℕ) (kind : Kind) → IsLegal script past → seat ≡ 0
+driver_entry : (script : Plan) (past : List Entry) (seat : ℕ) (kind : Kind) → IsClosed script → IsLegal script past → seat ≡ 0
     → may_come script past seat kind ≡ true → (by_script script past seat kind ≡ true) ⊎ IsInside script past kind
 unfolding may_come
-driver_entry script past seat kind legal driver may = by_kind kind may
+driver_entry script past seat kind closed legal driver may = by_kind kind may
   where
     runs : (k : Kind) (w : Running) → running past seat ≡ Some w → ((phase : Phase) → phase_after phase k ≡ phase) → IsInside script past k
     runs k w is still =
-        let (c, now, pump) = (legal_does_one_thing script past legal).pumps w (ap (running past) (sym driver) ∙ is) in
+        let (c, now, pump) = (legal_does_one_thing script past legal).pumps closed w (ap (running past) (sym driver) ∙ is) in
         record { now = c; is = now; inside = rw pump refl; still = still }
 
     holds : (k : Kind) (h : Holding) → holding past seat ≡ Some h → ((phase : Phase) → phase_after phase k ≡ phase) → IsInside script past k
     holds k h is still =
-        let (c, now, join) = (legal_does_one_thing script past legal).joins h (ap (holding past) (sym driver) ∙ is) in
+        let (c, now, join) = (legal_does_one_thing script past legal).joins closed h (ap (holding past) (sym driver) ∙ is) in
         record { now = c; is = now; inside = second (is_pump c.action) join; still = still }
       where
         second : (a : Bool) {b : Bool} → b ≡ true → (a || b) ≡ true
@@ -77,13 +79,16 @@ driver_entry script past seat kind legal driver may = by_kind kind may
     either k h still = ⊎_elim inl (λ task. inr (by_the_task k task still)) (or_cases _ _ h)
 
     by_kind : (k : Kind) → may_come script past seat k ≡ true → (by_script script past seat k ≡ true) ⊎ IsInside script past k
-    by_kind (kinds.Post task runner delay ok) h = either (kinds.Post task runner delay ok) (and_parts _ _ h).0 (λ phase. refl)
-    by_kind (kinds.Main task queue delay ok) h = either (kinds.Main task queue delay ok) (and_parts _ _ h).0 (λ phase. refl)
+    by_kind (kinds.Post task runner delay ok) h = either (kinds.Post task runner delay ok)
+        (and_parts _ _ (sym (closed_post script past seat task runner delay ok closed) ∙ h)).0 (λ phase. refl)
+    by_kind (kinds.Main task queue delay ok) h = either (kinds.Main task queue delay ok)
+        (and_parts _ _ (sym (closed_main script past seat task queue delay ok closed) ∙ h)).0 (λ phase. refl)
     by_kind (kinds.Tick now) h = inl (and_parts _ _ (and_parts _ _ h).0).0
     by_kind (kinds.Take task runner found) h = absurd (worker (take_is script past seat task runner found h).worker)
     by_kind (kinds.End task left) h = let w = end_is script past seat task left h in inr (runs (kinds.End task left) w.0 w.1 (λ phase. refl))
-    by_kind (kinds.Enter task scope) h = inr (by_the_task (kinds.Enter task scope) h (λ phase. refl))
-    by_kind (kinds.Leave task) h = inr (by_the_task (kinds.Leave task) h (λ phase. refl))
+    by_kind (kinds.Enter task scope) h = inr (by_the_task (kinds.Enter task scope)
+        (sym (closed_enters script past seat task scope closed) ∙ h) (λ phase. refl))
+    by_kind (kinds.Leave task) h = inr (by_the_task (kinds.Leave task) (sym (closed_leaves script past seat task closed) ∙ h) (λ phase. refl))
     by_kind (kinds.MainTake task queue found) h = inl (and_parts _ _ (and_parts _ _ h).0).0
     by_kind (kinds.MainEnd task left) h = let w = main_end_is script past seat task left h in inr (runs (kinds.MainEnd task left) w.0 w.1 (λ phase. refl))
     by_kind kinds.MainNone h = inl (and_parts _ _ h).0
@@ -236,7 +241,7 @@ in_step script past plan legal = legal_induction script (IsInStep script) (in_st
             → IsAtPhase (phase_after (phase_of before) e.kind) (agenda script (cond b (own ++ e ∷ []) own)).actions
             (agenda script (cond b (own ++ e ∷ []) own)).made
         by_seat true driver = rw (agenda_push script own e)
-            (⊎_elim wanted inside (driver_entry script before e.seat e.kind before_legal (eqb-true e.seat 0 driver) may))
+            (⊎_elim wanted inside (driver_entry script before e.seat e.kind plan.closed before_legal (eqb-true e.seat 0 driver) may))
           where
             Moved : Phase → Type 0
             Moved phase = IsAtPhase phase (next_agenda (agenda script own).actions (agenda script own).made e).actions
@@ -244,7 +249,7 @@ in_step script past plan legal = legal_induction script (IsInStep script) (in_st
 
             wanted : by_script script before e.seat e.kind ≡ true → Moved (phase_after (phase_of before) e.kind)
             wanted h =
-                let c = wanted_by script before e.seat e.kind h in
+                let c = wanted_by script before e.seat e.kind plan.closed h in
                 wanted_moves own (phase_of before) (agenda script own).actions (agenda script own).made c.value e
                 (sym (current_is_first script own) ∙ c.is) c.passes now
 

@@ -4,6 +4,7 @@ use Rattle.hist_model.proofs.Laws.Agenda.{agenda_push, current_is_first}
 use Rattle.hist_model.proofs.Laws.Choice.{found}
 use Rattle.hist_model.proofs.Laws.JobEntries.{none_is}
 use Rattle.hist_model.proofs.Laws.Legal.{legal_induction}
+use Rattle.hist_model.proofs.Laws.Open.{closed_enters, closed_leaves, closed_main, closed_post}
 use Rattle.hist_model.proofs.Laws.OneThing.{job_step_holds, legal_does_one_thing, wanted_by}
 use Rattle.hist_model.proofs.Laws.Own.{own_entries_push}
 use Rattle.hist_model.proofs.Laws.Takes.{by_driver, end_is, job_take_is, main_end_is, take_is}
@@ -11,6 +12,7 @@ use Rattle.hist_model.specs.Allowed.{IsAllowed, by_script, by_task, enters, may_
 use Rattle.hist_model.specs.Laws.Agenda.{agenda, agenda_from, completes, first_of, next_agenda}
 use Rattle.hist_model.specs.Laws.Consistent.{DoesOneThing, is_join, is_pump}
 use Rattle.hist_model.specs.Legal.{IsLegal}
+use Rattle.hist_model.specs.Open.{IsClosed}
 use Rattle.hist_model.specs.Script.{Current, behind_action, current, wants}
 use Rattle.hist_model.specs.Views.{own_entries}
 use Rattle.list_laws.proofs.Counts.{count-append, count-cons}
@@ -80,50 +82,56 @@ pub record IsAtWork (script : Plan) (past : List Entry) (kind : Kind) : Type 0 w
   pub of_work : is_of_work kind ≡ true
 
 -- a driver that runs a task is at a pump, and one that holds an item at a join
-runs_at : (script : Plan) (past : List Entry) (kind : Kind) (w : Running) → DoesOneThing script past → is_of_work kind ≡ true → running past 0 ≡ Some w
-    → IsAtWork script past kind
-runs_at script past kind w d of runs = let (c, is, pump) = d.pumps w runs in record { now = c; is = is; busy = rw pump refl; of_work = of }
+runs_at : (script : Plan) (past : List Entry) (kind : Kind) (w : Running) → IsClosed script → DoesOneThing script past → is_of_work kind ≡ true
+    → running past 0 ≡ Some w → IsAtWork script past kind
+runs_at script past kind w closed d of runs =
+    let (c, is, pump) = d.pumps closed w runs in record { now = c; is = is; busy = rw pump refl; of_work = of }
 
-holds_at : (script : Plan) (past : List Entry) (kind : Kind) (h : Holding) → DoesOneThing script past → is_of_work kind ≡ true → holding past 0 ≡ Some h
-    → IsAtWork script past kind
-holds_at script past kind h d of holds =
-    let (c, is, join) = d.joins h holds in record { now = c; is = is; busy = rw join (or-true (is_pump c.action)); of_work = of }
+holds_at : (script : Plan) (past : List Entry) (kind : Kind) (h : Holding) → IsClosed script → DoesOneThing script past → is_of_work kind ≡ true
+    → holding past 0 ≡ Some h → IsAtWork script past kind
+holds_at script past kind h closed d of holds =
+    let (c, is, join) = d.joins closed h holds in record { now = c; is = is; busy = rw join (or-true (is_pump c.action)); of_work = of }
 
-task_at : (script : Plan) (past : List Entry) (kind : Kind) → DoesOneThing script past → is_of_work kind ≡ true → by_task script past 0 kind ≡ true
-    → IsAtWork script past kind
+task_at : (script : Plan) (past : List Entry) (kind : Kind) → IsClosed script → DoesOneThing script past → is_of_work kind ≡ true
+    → by_task script past 0 kind ≡ true → IsAtWork script past kind
 unfolding by_task
-task_at script past kind d of h =
+task_at script past kind closed d of h =
     let w = found (λ (w : Running). holds_of (λ step. enters w.task step kind) (next_act script past 0)) (running past 0) h in
-    runs_at script past kind w.value d of w.is
+    runs_at script past kind w.value closed d of w.is
 
-pub driver_entry : (script : Plan) (past : List Entry) (kind : Kind) → DoesOneThing script past → may_come script past 0 kind ≡ true
+pub driver_entry : (script : Plan) (past : List Entry) (kind : Kind) → IsClosed script → DoesOneThing script past → may_come script past 0 kind ≡ true
     → (by_script script past 0 kind ≡ true) ⊎ IsAtWork script past kind
 unfolding may_come
-driver_entry script past kind d may = by_kind kind may
+driver_entry script past kind closed d may = by_kind kind may
   where
     no_worker : 1 ≤ 0 → ⊥
     no_worker low = omega (arith, low)
 
     either : (k : Kind) → is_of_work k ≡ true → (by_script script past 0 k || by_task script past 0 k) ≡ true
         → (by_script script past 0 k ≡ true) ⊎ IsAtWork script past k
-    either k of h = ⊎_elim inl (λ task. inr (task_at script past k d of task)) (or_cases _ _ h)
+    either k of h = ⊎_elim inl (λ task. inr (task_at script past k closed d of task)) (or_cases _ _ h)
 
     by_kind : (k : Kind) → may_come script past 0 k ≡ true → (by_script script past 0 k ≡ true) ⊎ IsAtWork script past k
-    by_kind (kinds.Post task runner delay ok) h = either (kinds.Post task runner delay ok) refl (and_parts _ _ h).0
-    by_kind (kinds.Main task queue delay ok) h = either (kinds.Main task queue delay ok) refl (and_parts _ _ h).0
+    by_kind (kinds.Post task runner delay ok) h = either (kinds.Post task runner delay ok) refl
+        (and_parts _ _ (sym (closed_post script past 0 task runner delay ok closed) ∙ h)).0
+    by_kind (kinds.Main task queue delay ok) h = either (kinds.Main task queue delay ok) refl
+        (and_parts _ _ (sym (closed_main script past 0 task queue delay ok closed) ∙ h)).0
     by_kind (kinds.Tick now) h = inl (and_parts _ _ (and_parts _ _ h).0).0
     by_kind (kinds.Take task runner value) h = absurd (no_worker (take_is script past 0 task runner value h).worker)
-    by_kind (kinds.End task left) h = let w = end_is script past 0 task left h in inr (runs_at script past (kinds.End task left) w.0 d refl w.1)
-    by_kind (kinds.Enter task scope) h = inr (task_at script past (kinds.Enter task scope) d refl h)
-    by_kind (kinds.Leave task) h = inr (task_at script past (kinds.Leave task) d refl h)
+    by_kind (kinds.End task left) h = let w = end_is script past 0 task left h in
+        inr (runs_at script past (kinds.End task left) w.0 closed d refl w.1)
+    by_kind (kinds.Enter task scope) h = inr (task_at script past (kinds.Enter task scope) closed d refl
+        (sym (closed_enters script past 0 task scope closed) ∙ h))
+    by_kind (kinds.Leave task) h = inr (task_at script past (kinds.Leave task) closed d refl (sym (closed_leaves script past 0 task closed) ∙ h))
     by_kind (kinds.MainTake task queue value) h = inl (and_parts _ _ (and_parts _ _ h).0).0
-    by_kind (kinds.MainEnd task left) h = let w = main_end_is script past 0 task left h in inr (runs_at script past (kinds.MainEnd task left) w.0 d refl w.1)
+    by_kind (kinds.MainEnd task left) h = let w = main_end_is script past 0 task left h in
+        inr (runs_at script past (kinds.MainEnd task left) w.0 closed d refl w.1)
     by_kind kinds.MainNone h = inl (and_parts _ _ h).0
     by_kind (kinds.JobPost job ok) h = inl (and_parts _ _ h).0
     by_kind (kinds.JobTake job id item) h = ⊎_elim (λ k. absurd (no_worker k.0.worker)) (λ k. inl k.0) (job_take_is script past 0 job id item h)
     by_kind (kinds.JobStep job id item value next) h =
         let held = job_step_holds script past 0 job id item value next h in
-        inr (holds_at script past (kinds.JobStep job id item value next) held.0 d refl held.1)
+        inr (holds_at script past (kinds.JobStep job id item value next) held.0 closed d refl held.1)
     by_kind (kinds.Cancelled job) h = inl (and_parts _ _ (and_parts _ _ h).0).0
     by_kind (kinds.Joined job reply) h = inl (and_parts _ _ (and_parts _ _ h).0).0
     by_kind kinds.Idle h = inl (and_parts _ _ (and_parts _ _ h).0).0
@@ -139,10 +147,10 @@ wanted_starts j own (actions.StartJob i) made kind h = absurd cc
 wanted_starts j own x made (kinds.JobPost job ok) h = absurd cc
 wanted_starts j own x made kind h = refl
 
-by_script_starts : (script : Plan) (past : List Entry) (seat j : ℕ) (kind : Kind) → by_script script past seat kind ≡ true
+by_script_starts : (script : Plan) (past : List Entry) (seat j : ℕ) (kind : Kind) → IsClosed script → by_script script past seat kind ≡ true
     → posts_job j kind ≡ starts_now script past j
-by_script_starts script past seat j kind h =
-    let c = wanted_by script past seat kind h in
+by_script_starts script past seat j kind closed h =
+    let c = wanted_by script past seat kind closed h in
     rw (c.is) (wanted_starts j (own_entries 0 past) c.value.action c.value.made kind c.passes)
 
 -- a pump starts no job, and a join none
@@ -155,10 +163,10 @@ work_posts : (j : ℕ) (kind : Kind) → is_of_work kind ≡ true → posts_job 
 work_posts j (kinds.JobPost job ok) h = absurd cc
 work_posts j kind h = refl
 
-driver_starts : (script : Plan) (past : List Entry) (j : ℕ) (kind : Kind) → DoesOneThing script past → may_come script past 0 kind ≡ true
+driver_starts : (script : Plan) (past : List Entry) (j : ℕ) (kind : Kind) → IsClosed script → DoesOneThing script past → may_come script past 0 kind ≡ true
     → posts_job j kind ≡ starts_now script past j
-driver_starts script past j kind d may = ⊎_elim (by_script_starts script past 0 j kind)
-    (λ w. rw (w.is, busy_starts j w.now.action w.busy) (work_posts j kind w.of_work)) (driver_entry script past kind d may)
+driver_starts script past j kind closed d may = ⊎_elim (by_script_starts script past 0 j kind closed)
+    (λ w. rw (w.is, busy_starts j w.now.action w.busy) (work_posts j kind w.of_work)) (driver_entry script past kind closed d may)
 
 -- a worker posts no job
 worker_posts : (script : Plan) (past : List Entry) (seat j : ℕ) (kind : Kind) → may_come script past seat kind ≡ true → eqb seat 0 ≡ false
@@ -194,9 +202,9 @@ next_starts j (x ∷ xs) made e same = rw same (by_completes (completes x made e
     by_completes false is = rw (goes_on_starts j x made e.kind is) (omega arith)
 
 -- how often a job was posted and is left to be started
-law_next : (script : Plan) (past : List Entry) (e : Entry) (j : ℕ) → IsLegal script past → IsAllowed script past e
+law_next : (script : Plan) (past : List Entry) (e : Entry) (j : ℕ) → IsClosed script → IsLegal script past → IsAllowed script past e
     → cond (posts_job j e.kind) 1 0 + starts_left script (past ++ e ∷ []) j ≡ starts_left script past j
-law_next script past e j legal allowed = by_seat (eqb e.seat 0) refl
+law_next script past e j closed legal allowed = by_seat (eqb e.seat 0) refl
   where
     own : List Entry
     own = own_entries 0 past
@@ -205,7 +213,7 @@ law_next script past e j legal allowed = by_seat (eqb e.seat 0) refl
     may = (and_parts (leb e.seat script.workers) (may_come script past e.seat e.kind) allowed).1
 
     posts_here : e.seat ≡ 0 → posts_job j e.kind ≡ starts_now script past j
-    posts_here driver = driver_starts script past j e.kind (legal_does_one_thing script past legal)
+    posts_here driver = driver_starts script past j e.kind closed (legal_does_one_thing script past legal)
         (subst (λ s. may_come script past s e.kind ≡ true) driver may)
 
     by_seat : (b : Bool) → eqb e.seat 0 ≡ b → cond (posts_job j e.kind) 1 0 + starts_left script (past ++ e ∷ []) j ≡ starts_left script past j
@@ -215,10 +223,10 @@ law_next script past e j legal allowed = by_seat (eqb e.seat 0) refl
         (posts_here (eqb-true e.seat 0 driver) ∙ ap (holds_of (λ c. is_start_of j c.action)) (current_is_first script own)))
 
 -- the posts of a job and the starts of it that the driver has left are together those of the script
-pub posts_and_starts : (script : Plan) (past : List Entry) (j : ℕ) → IsLegal script past
+pub posts_and_starts : (script : Plan) (past : List Entry) (j : ℕ) → IsClosed script → IsLegal script past
     → job_posts past j + starts_left script past j ≡ count (is_start_of j) script.actions
 unfolding agenda
-posts_and_starts script past j = legal_induction script
+posts_and_starts script past j closed = legal_induction script
     (λ before. job_posts before j + starts_left script before j ≡ count (is_start_of j) script.actions) nothing next past
   where
     nothing : job_posts [] j + starts_left script [] j ≡ count (is_start_of j) script.actions
@@ -228,7 +236,7 @@ posts_and_starts script past j = legal_induction script
         → job_posts before j + starts_left script before j ≡ count (is_start_of j) script.actions
         → job_posts (before ++ e ∷ []) j + starts_left script (before ++ e ∷ []) j ≡ count (is_start_of j) script.actions
     next before e legal allowed known =
-        omega (arith, known, count-push (λ x. posts_job j x.kind) before e, law_next script before e j legal allowed)
+        omega (arith, known, count-push (λ x. posts_job j x.kind) before e, law_next script before e j closed legal allowed)
 
 -- a job has no post exactly where it was not posted
 pub no_post_is : (script : Plan) (past : List Entry) (j : ℕ) → IsLegal script past → is_none (job_post_of past j) ≡ eqb (job_posts past j) 0
@@ -278,10 +286,10 @@ now_is_left script past j h = first (agenda script own).actions (agenda script o
 pub job_is_new : (script : Plan) (past : List Entry) (seat j : ℕ) (ok : Bool) → IsSound script → IsLegal script past
     → by_script script past seat (kinds.JobPost j ok) ≡ true → job_post_of past j ≡ None
 job_is_new script past seat j ok sound legal wanted =
-    let now : starts_now script past j ≡ true = sym (by_script_starts script past seat j (kinds.JobPost j ok) wanted) ∙ eq-eqb j j refl in
+    let now : starts_now script past j ≡ true = sym (by_script_starts script past seat j (kinds.JobPost j ok) sound.closed wanted) ∙ eq-eqb j j refl in
     let none : job_posts past j ≡ 0 = omega (
       arith,
-      posts_and_starts script past j legal,
+      posts_and_starts script past j sound.closed legal,
       now_is_left script past j now,
       sound.once.started_once j,
     ) in
@@ -344,7 +352,7 @@ joined_was_posted script past j c sound legal now follows = by_job_post (job_pos
         let starts : count (is_start_of j) before.0 ≡ 0 = omega (
           arith,
           none,
-          posts_and_starts script past j legal,
+          posts_and_starts script past j sound.closed legal,
           ap (count (is_start_of j)) before.1,
           count-append (is_start_of j) before.0 (agenda script own).actions,
         ) in

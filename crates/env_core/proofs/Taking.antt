@@ -56,16 +56,16 @@ has_taken_item {view = view} {after = after} {seat = seat} {job = job} {id = id}
 pub may_take_main : {view : EnvView} {seat task queue found : ℕ} → IsWantedNext view seat kinds.MainNone
     → MainIsTaken view.script view.history task queue found → MayEnter view seat (kinds.MainTake task queue found) shifts.Stays
 may_take_main {view = view} {seat = seat} {task = task} {queue = queue} {found = found} wanted taken = record {
-  allowed = main_take_allowed view seat task queue found taken.front wanted taken.chosen taken.task_is taken.queue_is taken.cell_is;
+  allowed = λ plan. main_take_allowed view seat task queue found taken.front plan.closed wanted taken.chosen taken.task_is taken.queue_is taken.cell_is;
   place = λ a run. driver_takes view.script view.history (record { seat = seat; kind = kinds.MainTake task queue found }) a run.plan
-      (wanted_by_script view seat (kinds.MainTake task queue found) (wants_take view seat task queue found wanted)) refl refl refl run.driver;
+      (wanted_by_script view seat (kinds.MainTake task queue found) (wants_take view seat task queue found run.plan.closed wanted)) refl refl refl run.driver;
 }
 
 -- and that there is none, which completes its action
 pub may_find_none : {view : EnvView} {seat : ℕ} → IsWantedNext view seat kinds.MainNone → chosen_of view.script view.history ≡ None
     → MayEnter view seat kinds.MainNone shifts.Completes
 may_find_none {view = view} {seat = seat} wanted none = record {
-  allowed = main_none_allowed view seat wanted none;
+  allowed = λ plan. main_none_allowed view seat wanted none;
   place = λ a run. driver_passes view.script view.history seat a run.plan (wanted_by_script view seat kinds.MainNone wanted) run.driver;
 }
 
@@ -100,7 +100,7 @@ module _ {X : Type 0} {bodies : List (Option X)} {whole rest : X → List Step} 
   pub can_main_take : {seat : ℕ} {kind : Kind} → IsWantedNext view seat kind → MainCanTake view.script view.history manager
   can_main_take {seat = seat} {kind = kind} next = record {
     stands = holds.main;
-    idle = rw (driver_runs_nothing view.script view.history seat kind holds.legal (wanted_by_script view seat kind next)) refl;
+    idle = rw (driver_runs_nothing view.script view.history seat kind holds.plan.closed holds.legal (wanted_by_script view seat kind next)) refl;
   }
 
   -- the main task that is taken was accepted and not taken, and its body is there

@@ -25,7 +25,9 @@ use Rattle.task_model.specs.Jobs.{is_cancelled, is_empty, may_enter, reply_of}
 use Rattle.task_model.specs.Phase.{is_started, phase_of}
 use Rattle.task_model.specs.Seats.{Holding, Running, holding, is_free, is_quiet, running, worker_seats}
 use Rattle.task_model.specs.Sources.{Candidate, best_of}
+use Rattle.hist_model.proofs.Laws.Open.{closed_enters, closed_leaves, closed_main, closed_post, closed_wanted}
 use Rattle.hist_model.specs.Allowed.{by_script, by_task, is_head_of, is_job, is_ready_worker, may_come, same_reply}
+use Rattle.hist_model.specs.Open.{IsClosed}
 use Rattle.hist_model.specs.Script.{Current, current, is_wanted, wants}
 use Rattle.hist_model.specs.Views.{own_entries}
 use Rattle.env_core.specs.Calls.{IsIdle}
@@ -97,19 +99,22 @@ not_joined script past seat job reply unanswered = false_from_ne_true (may_come 
 
 -- Who waits may enter nothing.
 
-module _ (script : Plan) (past : List Entry) where
+module _ (script : Plan) (past : List Entry) (closed : IsClosed script) where
   -- a seat that runs nothing, and takes nothing, enters only what the script wants
   enters_nothing : (seat : ℕ) (kind : Kind) → is_free past seat ≡ true
       → ((fits : Candidate → Bool) → (is_ready_worker script past seat && holds_of fits (best_of script past seat)) ≡ false)
       → by_script script past seat kind ≡ false → may_come script past seat kind ≡ false
   unfolding may_come by_task
-  enters_nothing seat (kinds.Post task runner delay ok) free takes none = rw (none, (free_parts past seat free).0) refl
-  enters_nothing seat (kinds.Main task queue delay ok) free takes none = rw (none, (free_parts past seat free).0) refl
+  enters_nothing seat (kinds.Post task runner delay ok) free takes none =
+      closed_post script past seat task runner delay ok closed ∙ rw (none, (free_parts past seat free).0) refl
+  enters_nothing seat (kinds.Main task queue delay ok) free takes none =
+      closed_main script past seat task queue delay ok closed ∙ rw (none, (free_parts past seat free).0) refl
   enters_nothing seat (kinds.Tick now) free takes none = rw none refl
   enters_nothing seat (kinds.Take task runner found) free takes none = takes (λ c. is_head_of script past task runner found c.source)
   enters_nothing seat (kinds.End task left) free takes none = rw (free_parts past seat free).0 refl
-  enters_nothing seat (kinds.Enter task scope) free takes none = rw (free_parts past seat free).0 refl
-  enters_nothing seat (kinds.Leave task) free takes none = rw (free_parts past seat free).0 refl
+  enters_nothing seat (kinds.Enter task scope) free takes none =
+      closed_enters script past seat task scope closed ∙ rw (free_parts past seat free).0 refl
+  enters_nothing seat (kinds.Leave task) free takes none = closed_leaves script past seat task closed ∙ rw (free_parts past seat free).0 refl
   enters_nothing seat (kinds.MainTake task queue found) free takes none = rw none refl
   enters_nothing seat (kinds.MainEnd task left) free takes none = and_right (seat == 0) _ (rw (free_parts past seat free).0 refl)
   enters_nothing seat kinds.MainNone free takes none = rw none refl
@@ -153,7 +158,7 @@ module _ (script : Plan) (past : List Entry) where
 
   -- the driver runs nothing, and what it waits for has not come
   pub driver_enters_nothing : (kind : Kind) → is_free past 0 ≡ true → may_go_on script past ≡ false → may_come script past 0 kind ≡ false
-  unfolding may_go_on by_script is_wanted
+  unfolding may_go_on by_script
   driver_enters_nothing kind free waits = by_current (current script (own_entries 0 past)) refl waits
     where
       by_current : (o : Option Current) → current script (own_entries 0 past) ≡ o
@@ -163,7 +168,8 @@ module _ (script : Plan) (past : List Entry) where
         where
           wanted : (b : Bool) → wants (own_entries 0 past) c.action c.made kind ≡ b → may_come script past 0 kind ≡ false
           wanted true wants_it = nothing_wanted c.action c.made kind come wants_it
-          wanted false wants_not = enters_nothing 0 kind free (λ fits. refl) (rw is wants_not)
+          wanted false wants_not = enters_nothing 0 kind free (λ fits. refl)
+              (closed_wanted script (own_entries 0 past) kind closed ∙ rw is wants_not)
 
   -- the worker runs nothing, and may take no source
   pub worker_enters_nothing : (seat : ℕ) (kind : Kind) → 1 ≤ seat → is_free past seat ≡ true → best_of script past seat ≡ None

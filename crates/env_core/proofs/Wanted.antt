@@ -6,9 +6,11 @@ use Rattle.env_core.proofs.Plans.{free_where_none_runs, runs_as}
 use Rattle.env_core.specs.Calls.{CanEnd, CanEndMain, IsFreeWorker, IsIdle, IsNextAct, IsWantedNext, act_of, entry_of, lets_in}
 use Rattle.env_core.specs.Views.{EnvView}
 use Rattle.hist_model.proofs.Laws.OneThing.{wanted_by}
+use Rattle.hist_model.proofs.Laws.Open.{closed_acts, closed_enters, closed_guest, closed_leaves, closed_main, closed_post, closed_wanted}
 use Rattle.hist_model.proofs.Laws.Own.{acts_done_own, holding_own, running_own}
 use Rattle.hist_model.specs.Allowed.{IsAllowed, by_script, by_task, enters, is_reply, may_come, same_scope}
 use Rattle.hist_model.specs.Legal.{IsLegal}
+use Rattle.hist_model.specs.Open.{IsClosed}
 use Rattle.hist_model.specs.Script.{is_finished, is_wanted, wants}
 use Rattle.hist_model.specs.Views.{own_entries}
 use Rattle.list_laws.proofs.Elements.{AllByRecursion-map}
@@ -62,41 +64,41 @@ unfolding by_script
 wanted_by_script view seat kind next = rw (next.driver) next.wanted
 
 -- a post that is wanted may come by its reply
-post_may_come : (script : Plan) (past : List Entry) (seat task runner delay : ℕ) (ok : Bool)
+post_may_come : (script : Plan) (past : List Entry) (seat task runner delay : ℕ) (ok : Bool) → IsClosed script
     → (by_script script past seat (kinds.Post task runner delay ok) || by_task script past seat (kinds.Post task runner delay ok)) ≡ true
     → ok ≡ not (is_refused script past runner delay) → may_come script past seat (kinds.Post task runner delay ok) ≡ true
-unfolding may_come
-post_may_come script past seat task runner delay ok wanted reply = rw (wanted, reply) (says (is_refused script past runner delay))
+post_may_come script past seat task runner delay ok closed wanted reply =
+    closed_post script past seat task runner delay ok closed ∙ rw (wanted, reply) (says (is_refused script past runner delay))
   where
     says : (refused : Bool) → is_reply refused (not refused) ≡ true
     says true = refl
     says false = refl
 
 -- a post with the right reply, which the script wants
-pub post_allowed : (view : EnvView) (seat task runner delay : ℕ) (ok : Bool) → IsWantedNext view seat (kinds.Post task runner delay ok)
+pub post_allowed : (view : EnvView) (seat task runner delay : ℕ) (ok : Bool) → IsClosed view.script → IsWantedNext view seat (kinds.Post task runner delay ok)
     → ok ≡ not (is_refused view.script view.history runner delay)
     → IsAllowed view.script view.history (record { seat = seat; kind = kinds.Post task runner delay ok })
-post_allowed view seat task runner delay ok next reply = driver_allowed view seat (kinds.Post task runner delay ok) next.driver
-    (post_may_come view.script view.history seat task runner delay ok
+post_allowed view seat task runner delay ok closed next reply = driver_allowed view seat (kinds.Post task runner delay ok) next.driver
+    (post_may_come view.script view.history seat task runner delay ok closed
     (rw (wanted_by_script view seat (kinds.Post task runner delay ok) next) refl) reply)
 
 -- so may a post to a main queue
-main_may_come : (script : Plan) (past : List Entry) (seat task queue delay : ℕ) (ok : Bool)
+main_may_come : (script : Plan) (past : List Entry) (seat task queue delay : ℕ) (ok : Bool) → IsClosed script
     → (by_script script past seat (kinds.Main task queue delay ok) || by_task script past seat (kinds.Main task queue delay ok)) ≡ true
     → ok ≡ not (is_closed past queue) → may_come script past seat (kinds.Main task queue delay ok) ≡ true
-unfolding may_come
-main_may_come script past seat task queue delay ok wanted reply = rw (wanted, reply) (says (is_closed past queue))
+main_may_come script past seat task queue delay ok closed wanted reply =
+    closed_main script past seat task queue delay ok closed ∙ rw (wanted, reply) (says (is_closed past queue))
   where
     says : (refused : Bool) → is_reply refused (not refused) ≡ true
     says true = refl
     says false = refl
 
 -- a post to a main queue with the right reply, which the script wants
-pub main_post_allowed : (view : EnvView) (seat task queue delay : ℕ) (ok : Bool) → IsWantedNext view seat (kinds.Main task queue delay ok)
-    → ok ≡ not (is_closed view.history queue)
+pub main_post_allowed : (view : EnvView) (seat task queue delay : ℕ) (ok : Bool) → IsClosed view.script
+    → IsWantedNext view seat (kinds.Main task queue delay ok) → ok ≡ not (is_closed view.history queue)
     → IsAllowed view.script view.history (record { seat = seat; kind = kinds.Main task queue delay ok })
-main_post_allowed view seat task queue delay ok next reply = driver_allowed view seat (kinds.Main task queue delay ok) next.driver
-    (main_may_come view.script view.history seat task queue delay ok
+main_post_allowed view seat task queue delay ok closed next reply = driver_allowed view seat (kinds.Main task queue delay ok) next.driver
+    (main_may_come view.script view.history seat task queue delay ok closed
     (rw (wanted_by_script view seat (kinds.Main task queue delay ok) next) refl) reply)
 
 -- whether the rules ask no more of such an entry of the driver than that the script wants it
@@ -140,25 +142,25 @@ take_wanted own (actions.Pump n) made task queue value h = h
 take_wanted own x made task queue value h = absurd cc
 
 -- the script wants the take of any main task where it wants that none is found
-pub wants_take : (view : EnvView) (seat task queue value : ℕ) → IsWantedNext view seat kinds.MainNone
+pub wants_take : (view : EnvView) (seat task queue value : ℕ) → IsClosed view.script → IsWantedNext view seat kinds.MainNone
     → IsWantedNext view seat (kinds.MainTake task queue value)
-unfolding is_wanted
-wants_take view seat task queue value next =
-    let c = wanted_by view.script view.history seat kinds.MainNone (wanted_by_script view seat kinds.MainNone next) in
+wants_take view seat task queue value closed next =
+    let c = wanted_by view.script view.history seat kinds.MainNone closed (wanted_by_script view seat kinds.MainNone next) in
     record {
       driver = next.driver;
-      wanted = rw c.is (take_wanted (own_entries 0 view.history) c.value.action c.value.made task queue value c.passes);
+      wanted = closed_wanted view.script (own_entries 0 view.history) (kinds.MainTake task queue value) closed
+          ∙ rw c.is (take_wanted (own_entries 0 view.history) c.value.action c.value.made task queue value c.passes);
     }
 
 -- the take of the chosen front, inside a pump
-pub main_take_allowed : (view : EnvView) (seat task queue value : ℕ) (front : Front) → IsWantedNext view seat kinds.MainNone
-    → chosen_of view.script view.history ≡ Some front → front.task ≡ task → front.queue ≡ queue → value ≡ main_cell_of view.history queue
-    → IsAllowed view.script view.history (record { seat = seat; kind = kinds.MainTake task queue value })
+pub main_take_allowed : (view : EnvView) (seat task queue value : ℕ) (front : Front) → IsClosed view.script
+    → IsWantedNext view seat kinds.MainNone → chosen_of view.script view.history ≡ Some front → front.task ≡ task → front.queue ≡ queue
+    → value ≡ main_cell_of view.history queue → IsAllowed view.script view.history (record { seat = seat; kind = kinds.MainTake task queue value })
 unfolding may_come
-main_take_allowed view seat task queue value front next chosen task_is queue_is value_is =
+main_take_allowed view seat task queue value front closed next chosen task_is queue_is value_is =
     driver_allowed view seat (kinds.MainTake task queue value) next.driver
     (rw (
-      wanted_by_script view seat (kinds.MainTake task queue value) (wants_take view seat task queue value next),
+      wanted_by_script view seat (kinds.MainTake task queue value) (wants_take view seat task queue value closed next),
       chosen,
       eq-eqb _ _ task_is,
       eq-eqb _ _ queue_is,
@@ -173,11 +175,11 @@ main_none_allowed view seat next none = driver_allowed view seat kinds.MainNone 
     (rw (wanted_by_script view seat kinds.MainNone next, none_open view.script view.history none) refl)
 
 -- the end of a main task of which no step is left
-pub main_end_allowed : (view : EnvView) (seat : ℕ) (work : AssignmentView) → IsLegal view.script view.history → CanEndMain view seat work
-    → work.value ≡ after work.whole work.found
+pub main_end_allowed : (view : EnvView) (seat : ℕ) (work : AssignmentView) → IsClosed view.script → IsLegal view.script view.history
+    → CanEndMain view seat work → work.value ≡ after work.whole work.found
     → IsAllowed view.script view.history (record { seat = seat; kind = kinds.MainEnd work.task work.value })
 unfolding may_come
-main_end_allowed view seat work legal can left =
+main_end_allowed view seat work closed legal can left =
     let runs : running view.history seat ≡ Some can.seats.now = sym (running_own view.history seat) ∙ can.seats.runs in
     let driver = (runs_as view.script view.history seat can.seats.now true legal runs can.is_main).can.driver refl in
     driver_allowed view seat (kinds.MainEnd work.task work.value) driver
@@ -185,6 +187,7 @@ main_end_allowed view seat work legal can left =
       eq-eqb seat 0 driver,
       runs,
       can.is_main,
+      closed_acts view.script view.history seat can.seats.now closed,
       eq-eqb _ _ (sym can.seats.task_is),
       ← acts_done_own view.history seat,
       can.all_entered,
@@ -210,15 +213,16 @@ done_allowed view seat next started none = driver_allowed view seat kinds.Done n
     (rw (wanted_by_script view seat kinds.Done next, started, none) refl)
 
 -- that the pool is idle, where nothing runs and nothing may be taken
-pub idle_allowed : (view : EnvView) (seat : ℕ) → IsLegal view.script view.history → IsWantedNext view seat kinds.Idle
+pub idle_allowed : (view : EnvView) (seat : ℕ) → IsClosed view.script → IsLegal view.script view.history → IsWantedNext view seat kinds.Idle
     → IsIdle view → IsAllowed view.script view.history (record { seat = seat; kind = kinds.Idle })
 unfolding may_come
-idle_allowed view seat legal next idle = driver_allowed view seat kinds.Idle next.driver
+idle_allowed view seat closed legal next idle = driver_allowed view seat kinds.Idle next.driver
     (rw (
       wanted_by_script view seat kinds.Idle next,
       free_is_quiet view.script view.history (λ s known. free_where_none_runs view.script view.history s legal
-          (driver_runs_nothing view.script view.history seat kinds.Idle legal (wanted_by_script view seat kinds.Idle next))
-          (driver_holds_nothing view.script view.history seat kinds.Idle legal (wanted_by_script view seat kinds.Idle next)) (omega (arith, known)) idle.0),
+          (driver_runs_nothing view.script view.history seat kinds.Idle closed legal (wanted_by_script view seat kinds.Idle next))
+          (driver_holds_nothing view.script view.history seat kinds.Idle closed legal (wanted_by_script view seat kinds.Idle next))
+          (omega (arith, known)) idle.0),
       none_ready,
     ) refl)
   where
@@ -232,11 +236,11 @@ idle_allowed view seat legal next idle = driver_allowed view seat kinds.Idle nex
         no_best (Some x) h = absurd cc
 
 -- the take of the head of a free worker's best source
-pub take_allowed : (view : EnvView) (seat task runner found : ℕ) → IsFreeWorker view seat → is_finished view.script view.history ≡ false
-    → IsTaken view.script view.history seat task runner found
+pub take_allowed : (view : EnvView) (seat task runner found : ℕ) → IsClosed view.script → IsFreeWorker view seat
+    → is_finished view.script view.history ≡ false → IsTaken view.script view.history seat task runner found
     → IsAllowed view.script view.history (record { seat = seat; kind = kinds.Take task runner found })
 unfolding may_come
-take_allowed view seat task runner found worker unfinished is = known_allowed view seat (kinds.Take task runner found) worker.known
+take_allowed view seat task runner found closed worker unfinished is = known_allowed view seat (kinds.Take task runner found) worker.known
     (rw (
       le-leb 1 seat worker.worker,
       le-leb seat view.script.workers worker.known,
@@ -244,6 +248,7 @@ take_allowed view seat task runner found worker unfinished is = known_allowed vi
       ← holding_own view.history seat,
       worker.free,
       unfinished,
+      closed_guest view.script seat closed,
       is.is_best,
       is.is_head,
       eq-eqb _ _ is.task_is,
@@ -252,11 +257,11 @@ take_allowed view seat task runner found worker unfinished is = known_allowed vi
     ) refl)
 
 -- the take of an item of the job that is a free worker's best source
-pub item_allowed : (view : EnvView) (seat job id item : ℕ) → IsFreeWorker view seat → is_finished view.script view.history ≡ false
-    → IsEntered view.script view.history seat job id item
+pub item_allowed : (view : EnvView) (seat job id item : ℕ) → IsClosed view.script → IsFreeWorker view seat
+    → is_finished view.script view.history ≡ false → IsEntered view.script view.history seat job id item
     → IsAllowed view.script view.history (record { seat = seat; kind = kinds.JobTake job id item })
 unfolding may_come
-item_allowed view seat job id item worker unfinished is = known_allowed view seat (kinds.JobTake job id item) worker.known
+item_allowed view seat job id item closed worker unfinished is = known_allowed view seat (kinds.JobTake job id item) worker.known
     (rw (
       le-leb 1 seat worker.worker,
       le-leb seat view.script.workers worker.known,
@@ -264,6 +269,7 @@ item_allowed view seat job id item worker unfinished is = known_allowed view sea
       ← holding_own view.history seat,
       worker.free,
       unfinished,
+      closed_guest view.script seat closed,
       is.is_best,
       is.id_is,
       eqb-same job,
@@ -272,14 +278,15 @@ item_allowed view seat job id item worker unfinished is = known_allowed view sea
     ) refl)
 
 -- the end of a task of the pool of which no step is left
-pub end_allowed : (view : EnvView) (seat : ℕ) (work : AssignmentView) → CanEnd view seat work → work.value ≡ after work.whole work.found
+pub end_allowed : (view : EnvView) (seat : ℕ) (work : AssignmentView) → IsClosed view.script → CanEnd view seat work → work.value ≡ after work.whole work.found
     → IsAllowed view.script view.history (record { seat = seat; kind = kinds.End work.task work.value })
 unfolding may_come
-end_allowed view seat work can left = known_allowed view seat (kinds.End work.task work.value) can.known
+end_allowed view seat work closed can left = known_allowed view seat (kinds.End work.task work.value) can.known
     (rw (
       ← running_own view.history seat,
       can.seats.runs,
       can.is_pool,
+      closed_acts view.script view.history seat can.seats.now closed,
       eq-eqb _ _ (sym can.seats.task_is),
       ← acts_done_own view.history seat,
       can.all_entered,
@@ -291,11 +298,11 @@ end_allowed view seat work can left = known_allowed view seat (kinds.End work.ta
     value_is = left ∙ rw (can.seats.whole_is, can.seats.found_is) refl
 
 -- the entry of the next act step of a task may come, and a post of it by its reply
-pub act_allowed : (view : EnvView) (seat : ℕ) (act : Act) (w : Running) (kind : Kind) → IsNextAct view seat act
+pub act_allowed : (view : EnvView) (seat : ℕ) (act : Act) (w : Running) (kind : Kind) → IsClosed view.script → IsNextAct view seat act
     → running view.history seat ≡ Some w → entry_of w.task act (lets_in view act) ≡ Some kind
     → IsAllowed view.script view.history (record { seat = seat; kind = kind })
 unfolding may_come
-act_allowed view seat act w kind next runs is = of_step next.step (rw (← next.is_act) is) is_next
+act_allowed view seat act w kind closed next runs is = of_step next.step (rw (← next.is_act) is) is_next
   where
     is_next : next_act view.script view.history seat ≡ Some next.step
     is_next = rw (← running_own view.history seat, ← acts_done_own view.history seat) next.is_next
@@ -323,15 +330,16 @@ act_allowed view seat act w kind next runs is = of_step next.step (rw (← next.
     of_step (steps.Post u r d) e now =
         let ok : Bool = not (is_refused view.script view.history r d) in
         subst Comes (some-injective e) (known_allowed view seat (kinds.Post u r d ok) next.known
-        (post_may_come view.script view.history seat u r d ok (second (by_script view.script view.history seat (kinds.Post u r d ok))
+        (post_may_come view.script view.history seat u r d ok closed (second (by_script view.script view.history seat (kinds.Post u r d ok))
         (by_the_task (kinds.Post u r d ok) (steps.Post u r d) now (same_post u r d))) refl))
     of_step (steps.Main u q d) e now =
         let ok : Bool = not (is_closed view.history q) in
         subst Comes (some-injective e) (known_allowed view seat (kinds.Main u q d ok) next.known
-        (main_may_come view.script view.history seat u q d ok (second (by_script view.script view.history seat (kinds.Main u q d ok))
+        (main_may_come view.script view.history seat u q d ok closed (second (by_script view.script view.history seat (kinds.Main u q d ok))
         (by_the_task (kinds.Main u q d ok) (steps.Main u q d) now (same_post u q d))) refl))
     of_step (steps.Block scope) e now = subst Comes (some-injective e) (known_allowed view seat (kinds.Enter w.task scope) next.known
-        (by_the_task (kinds.Enter w.task scope) (steps.Block scope) now (rw (eqb-same w.task) (same_scope_is scope))))
+        (closed_enters view.script view.history seat w.task scope closed
+        ∙ by_the_task (kinds.Enter w.task scope) (steps.Block scope) now (rw (eqb-same w.task) (same_scope_is scope))))
     of_step steps.Unblock e now = subst Comes (some-injective e) (known_allowed view seat (kinds.Leave w.task) next.known
-        (by_the_task (kinds.Leave w.task) steps.Unblock now (eqb-same w.task)))
+        (closed_leaves view.script view.history seat w.task closed ∙ by_the_task (kinds.Leave w.task) steps.Unblock now (eqb-same w.task)))
     of_step step e now = absurd (none-some kind e)

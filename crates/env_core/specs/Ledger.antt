@@ -35,6 +35,6 @@ pub record IsKept (script : Plan) (log : Listed Entry) (a : Agenda) : Type 0 whe
 
 -- the rules allow this entry of the seat, which so shifts the driver's place
 pub record MayEnter (view : EnvView) (seat : ℕ) (kind : Kind) (shift : Shift) : Type 0 where
-  pub allowed : IsAllowed view.script view.history (record { seat = seat; kind = kind })
+  pub allowed : IsSound view.script → IsAllowed view.script view.history (record { seat = seat; kind = kind })
   pub place : (a : Agenda) → IsUnderWay view a
       → IsDriverAt view.script (view.history ++ (record { seat = seat; kind = kind }) ∷ []) (shifted shift view.script.actions a)

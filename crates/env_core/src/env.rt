@@ -9,6 +9,7 @@ ghost use Rattle.env_core.specs.Ledger.{MayEnter};
 ghost use Rattle.env_core.specs.Views.{Enters, spare_of};
 ghost use Rattle.env_core.specs.Waits.{may_go_on};
 ghost use Rattle.hist_model.specs.Moments.{moment_behind};
+ghost use Rattle.hist_model.specs.Open.{IsClosed};
 ghost use Rattle.hist_model.specs.Script.{current, is_finished};
 ghost use Rattle.hist_model.specs.Views.{own_entries};
 ghost use Rattle.pool_core.specs.Calls.{running_tasks, is_any_ready, is_own};
@@ -263,7 +264,8 @@ impl<B: TaskBody> Env<B> {
 
     /// The action that the driver is at. None where the script is finished.
     pub fn action(&self) -> Option<Action>
-        ensures { result ≡ option_map (λ c. c.action) (current self.now.script (own_entries 0 self.now.history)) }
+        ensures closed { IsClosed self.now.script }
+        ensures action { result ≡ option_map (λ c. c.action) (current self.now.script (own_entries 0 self.now.history)) }
     {
         self.ledger.action()
     }

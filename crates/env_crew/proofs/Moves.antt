@@ -17,10 +17,12 @@ use Rattle.task_base.specs.declared.script.Action.TheVariants as actions
 use Rattle.task_base.specs.declared.script.FenceAt.{FenceAt}
 use Rattle.task_base.specs.declared.script.FenceAt.TheVariants as fences
 use Rattle.task_model.specs.Seats.{running, holding, is_free}
+use Rattle.hist_model.specs.Open.{IsClosed}
 use Rattle.hist_model.specs.Script.{behind, behind_action, wants, current, is_wanted, is_finished}
 use Rattle.hist_model.specs.Views.{own_entries}
 use Rattle.hist_model.specs.Laws.Agenda.{agenda, agenda_from, agenda_after, current_of}
 use Rattle.hist_model.proofs.Laws.Agenda.{agenda_push, current_is_first}
+use Rattle.hist_model.proofs.Laws.Open.{closed_finished, closed_wanted}
 use Rattle.env_crew.specs.Desk.{DeskView, mine}
 use Rattle.env_crew.specs.Driving.{AreLeft, IsWanted}
 
@@ -34,7 +36,10 @@ from_push script actions made e = agenda_push (record script { actions = actions
 pub at_more : (old new : DeskView) (actions : List Action) (made more : List Entry) → new.script ≡ old.script → mine new ≡ mine old ++ more
     → AreLeft old actions made → AreLeft new actions (made ++ more)
 unfolding AreLeft
-at_more old new actions made more same own at = ap (λ s. agenda s (mine new)) same ∙ ap (λ all. agenda old.script all) own ∙ grown (mine old) made more at
+at_more old new actions made more same own at = (
+  ap (λ s. s.is_open) same ∙ at.0,
+  ap (λ s. agenda s (mine new)) same ∙ ap (λ all. agenda old.script all) own ∙ grown (mine old) made more at.1,
+)
   where
     grown : (own made more : List Entry) → agenda old.script own ≡ agenda_from actions made
         → agenda old.script (own ++ more) ≡ agenda_from actions (made ++ more)
@@ -47,11 +52,11 @@ at_more old new actions made more same own at = ap (λ s. agenda s (mine new)) s
 -- what the first of the actions wants is wanted next
 pub wanted_at : (d : DeskView) (action : Action) (rest : List Action) (made : List Entry) (kind : Kind) → d.seat ≡ 0 → AreLeft d (action ∷ rest) made
     → behind_action action made ≡ None → wants (mine d) action made kind ≡ true → IsWanted d kind
-unfolding AreLeft is_wanted
+unfolding AreLeft
 wanted_at d action rest made kind driver at more is = record {
   driver = driver;
-  wanted = subst (λ n. is_wanted d.script (own_entries n d.seen) kind ≡ true) driver (ap (λ c. holds_of (λ c. wants (mine d) c.action c.made kind) c)
-      (current_is_first d.script (mine d) ∙ ap current_of at
+  wanted = subst (λ n. is_wanted d.script (own_entries n d.seen) kind ≡ true) driver (closed_wanted d.script (mine d) kind at.0
+      ∙ ap (λ c. holds_of (λ c. wants (mine d) c.action c.made kind) c) (current_is_first d.script (mine d) ∙ ap current_of at.1
       ∙ ap (λ o. current_of (option_map_or (λ left. agenda_from rest left) o (record { actions = action ∷ rest; made = made }))) more) ∙ is);
 }
 
@@ -66,7 +71,7 @@ pub at_next : (d : DeskView) (action : Action) (rest : List Action) (made left :
     → behind_action action made ≡ Some left → AreLeft d rest left
 unfolding AreLeft
 at_next d action rest made left at done =
-    at ∙ ap (λ o. option_map_or (λ left. agenda_from rest left) o (record { actions = action ∷ rest; made = made })) done
+    (at.0, at.1 ∙ ap (λ o. option_map_or (λ left. agenda_from rest left) o (record { actions = action ∷ rest; made = made })) done)
 
 -- a count of entries that was not made
 pub behind_short : (n : ℕ) (made : List Entry) → length made < n → behind n made ≡ None
@@ -108,18 +113,23 @@ pub wants_reprio : (own : List Entry) (r : ℕ) (p : Priority) → wants own (ac
 wants_reprio own r p = rw (eqb-same r, eqb-same (importance p)) refl
 
 -- at the start all actions are left
-pub at_start : (d : DeskView) (script : Plan) (actions : List Action) → d.script ≡ script → actions ≡ script.actions → mine d ≡ [] → AreLeft d actions []
+pub at_start : (d : DeskView) (script : Plan) (actions : List Action) → IsClosed script → d.script ≡ script → actions ≡ script.actions → mine d ≡ []
+    → AreLeft d actions []
 unfolding AreLeft agenda
-at_start d script actions same all none = ap (λ s. agenda s (mine d)) same ∙ ap (λ own. agenda script own) none ∙ ap (λ xs. agenda_from xs []) (sym all)
+at_start d script actions closed same all none = (
+  ap (λ s. s.is_open) same ∙ closed,
+  ap (λ s. agenda s (mine d)) same ∙ ap (λ own. agenda script own) none ∙ ap (λ xs. agenda_from xs []) (sym all),
+)
 
 -- nothing is left, so the script is finished
 pub finished_at : (d : DeskView) → d.seat ≡ 0 → AreLeft d [] [] → is_finished d.script d.seen ≡ true
-unfolding AreLeft is_finished
-finished_at d driver at = subst (λ n. is_none (current d.script (own_entries n d.seen)) ≡ true) driver
-    (ap is_none (current_is_first d.script (mine d) ∙ ap current_of at))
+unfolding AreLeft
+finished_at d driver at = closed_finished d.script d.seen at.0 ∙ subst (λ n. is_none (current d.script (own_entries n d.seen)) ≡ true) driver
+    (ap is_none (current_is_first d.script (mine d) ∙ ap current_of at.1))
 
 -- the next action of a list
-pub at_action : (d : DeskView) (xs : List Action) (i : ℕ) (x : Action) → i < length xs → AreLeft d (drop i xs) [] → AreLeft d (get_or xs i x ∷ drop (i + 1) xs) []
+pub at_action : (d : DeskView) (xs : List Action) (i : ℕ) (x : Action) → i < length xs → AreLeft d (drop i xs) []
+    → AreLeft d (get_or xs i x ∷ drop (i + 1) xs) []
 at_action d xs i x below at =
     let next : suc i ≡ i + 1 = omega arith in
     subst (λ n. AreLeft d (get_or xs i x ∷ drop n xs) []) next (subst (λ l. AreLeft d l []) (drop-cons xs i x below) at)

@@ -4,6 +4,7 @@ use Rattle.task_base.specs.declared.script.Action.{Action}
 use Rattle.task_base.specs.declared.entry.Entry.{Entry}
 use Rattle.task_base.specs.declared.entry.Kind.{Kind}
 use Rattle.task_model.specs.Seats.{is_free}
+use Rattle.hist_model.specs.Open.{IsClosed}
 use Rattle.hist_model.specs.Moments.{moments_of, ticks_of}
 use Rattle.hist_model.specs.Laws.Agenda.{agenda, agenda_from}
 use Rattle.env_io.specs.Readings.{BeginsWith}
@@ -15,9 +16,9 @@ use Rattle.env_crew.specs.Serving.{IsFree}
 abbrev pub IsWanted : DeskView → Kind → Type 0
 IsWanted d kind = IsWantedNext (as_seen d) d.seat kind
 
--- these actions are left to the driver, and the first of them has made these entries
+-- the plan is closed, these actions of it are left to the driver, and the first of them has made these entries
 unfoldable pub AreLeft : DeskView → List Action → List Entry → Type 0
-AreLeft d actions made = agenda d.script (mine d) ≡ agenda_from actions made
+AreLeft d actions made = IsClosed d.script × (agenda d.script (mine d) ≡ agenda_from actions made)
 
 -- the ticks are the moments of as many first readings, where those are told
 abbrev pub HasMomentsOf : (ℕ → Option ℕ) → List Entry → Type 0

@@ -13,10 +13,12 @@ use Rattle.task_base.specs.declared.script.Action.{Action}
 use Rattle.task_model.specs.Seats.{is_free}
 use Rattle.pool_laws.proofs.Room.Capacity.{free_parts}
 use Rattle.hist_model.specs.Allowed.{IsAllowed, by_script, by_task, may_come}
+use Rattle.hist_model.specs.Open.{IsClosed}
 use Rattle.hist_model.specs.Script.{current, is_finished}
 use Rattle.hist_model.specs.Views.{own_entries}
 use Rattle.hist_model.proofs.Laws.JobEntries.{none_is}
 use Rattle.hist_model.proofs.Laws.OneThing.{wanted_by}
+use Rattle.hist_model.proofs.Laws.Open.{closed_enters, closed_finished, closed_leaves, closed_main, closed_post}
 use Rattle.hist_model.proofs.Laws.Progress.Coming.{comes_by}
 use Rattle.hist_model.proofs.Laws.Takes.{IsReadyWorker, by_driver}
 use Rattle.env_core.proofs.Waiting.{driver_enters_nothing, worker_enters_nothing}
@@ -27,7 +29,7 @@ use Rattle.next_entry.specs.declared.cause.Explanation.{Explanation}
 use Rattle.next_entry.specs.declared.cause.Explanation.TheVariants as explanations
 use Rattle.env_explain.specs.Explained.{IsExplained, RulesOut}
 
-module _ (script : Plan) (past : List Entry) (seat : ℕ) where
+module _ (script : Plan) (past : List Entry) (seat : ℕ) (closed : IsClosed script) where
   -- what the driver alone makes comes of no other seat
   drivers_only : (kind : Kind) → by_script script past seat kind ≡ false → (seat == 0) ≡ false → is_drivers kind ≡ true
       → may_come script past seat kind ≡ false
@@ -55,11 +57,13 @@ module _ (script : Plan) (past : List Entry) (seat : ℕ) where
   busy_only : (kind : Kind) → by_script script past seat kind ≡ false → is_free past seat ≡ true → is_of_work kind ≡ true
       → may_come script past seat kind ≡ false
   unfolding may_come by_task
-  busy_only (kinds.Post task runner delay ok) none free is = rw (none, (free_parts past seat free).0) refl
-  busy_only (kinds.Main task queue delay ok) none free is = rw (none, (free_parts past seat free).0) refl
+  busy_only (kinds.Post task runner delay ok) none free is =
+      closed_post script past seat task runner delay ok closed ∙ rw (none, (free_parts past seat free).0) refl
+  busy_only (kinds.Main task queue delay ok) none free is =
+      closed_main script past seat task queue delay ok closed ∙ rw (none, (free_parts past seat free).0) refl
   busy_only (kinds.End task left) none free is = rw (free_parts past seat free).0 refl
-  busy_only (kinds.Enter task scope) none free is = rw (free_parts past seat free).0 refl
-  busy_only (kinds.Leave task) none free is = rw (free_parts past seat free).0 refl
+  busy_only (kinds.Enter task scope) none free is = closed_enters script past seat task scope closed ∙ rw (free_parts past seat free).0 refl
+  busy_only (kinds.Leave task) none free is = closed_leaves script past seat task closed ∙ rw (free_parts past seat free).0 refl
   busy_only (kinds.JobStep job id item value next) none free is = rw (free_parts past seat free).1 refl
   busy_only kind none free is = absurd (true≢false (sym is))
 
@@ -69,18 +73,17 @@ module _ (script : Plan) (past : List Entry) (seat : ℕ) where
 
   -- where the script is finished, nothing comes of a seat that is free
   finished_only : (kind : Kind) → is_free past seat ≡ true → is_finished script past ≡ true → may_come script past seat kind ≡ true → ⊥
-  unfolding is_finished
-  finished_only kind free finished may = by_comes (comes_by script past seat kind may
+  finished_only kind free finished may = by_comes (comes_by script past seat kind closed may
       (λ w runs. none-some w (sym (free_parts past seat free).0 ∙ runs)) (λ h holds. none-some h (sym (free_parts past seat free).1 ∙ holds)))
     where
       by_comes : (by_script script past seat kind ≡ true) ⊎ IsReadyWorker script past seat → ⊥
-      by_comes (inl wanted) = let c = wanted_by script past seat kind wanted in
-          none-some c.value (sym (none_is (current script (own_entries 0 past)) finished) ∙ c.is)
+      by_comes (inl wanted) = let c = wanted_by script past seat kind closed wanted in
+          none-some c.value (sym (none_is (current script (own_entries 0 past)) (sym (closed_finished script past closed) ∙ finished)) ∙ c.is)
       by_comes (inr worker) = both_ways (is_finished script past) worker.goes_on finished
 
   -- where the driver waits, nothing comes of it
   waiting_only : {action : Action} (kind : Kind) → WaitsAt script past seat action → may_come script past seat kind ≡ false
-  waiting_only kind w = subst (λ s. may_come script past s kind ≡ false) (sym w.at.driver) (driver_enters_nothing script past kind w.at.free w.waits)
+  waiting_only kind w = subst (λ s. may_come script past s kind ≡ false) (sym w.at.driver) (driver_enters_nothing script past closed kind w.at.free w.waits)
 
   module _ (kind : Option Kind) (other : Kind) where
     -- what a cause rules out may not come where it holds
@@ -98,7 +101,7 @@ module _ (script : Plan) (past : List Entry) (seat : ℕ) where
         by_cause causes.OnlyDriver h is =
             not_this (drivers_only other (wants_no_worker other h.0) (ne_eqb seat 0 (λ zero. omega (arith, h.0, zero))) is)
         by_cause causes.RunsNothing h is = not_this (busy_only other (wants_no_worker other h.0.0) h.0.1 is)
-        by_cause (causes.NoSource bar) h is = not_this (worker_enters_nothing script past seat other h.0.0 h.0.1 h.2)
+        by_cause (causes.NoSource bar) h is = not_this (worker_enters_nothing script past closed seat other h.0.0 h.0.1 h.2)
         by_cause causes.Finished h is = finished_only other h.0 h.1 parts.1
         by_cause (causes.NotIdle running ready) h is = not_this (waiting_only other h.0)
         by_cause (causes.Inside job seats) h is = ⊎_elim (λ w. not_this (waiting_only other w)) (λ w. not_this (waiting_only other w)) h.0
@@ -106,11 +109,12 @@ module _ (script : Plan) (past : List Entry) (seat : ℕ) where
         by_cause c h is = absurd (true≢false (sym is))
 
 -- so with what is said of a log
-pub rules_out_all : (script : Plan) (log : List Entry) (told : Explanation) → IsExplained script log told → RulesOut script log told
-rules_out_all script log explanations.Legal explained = tt
-rules_out_all script log (explanations.Barred place cause) explained = λ e kind at out.
+pub rules_out_all : (script : Plan) (log : List Entry) (told : Explanation) → IsClosed script → IsExplained script log told → RulesOut script log told
+rules_out_all script log explanations.Legal closed explained = tt
+rules_out_all script log (explanations.Barred place cause) closed explained = λ e kind at out.
     let same : explained.0 ≡ e = same_Some explained.0 e (sym explained.1 ∙ at) in
-    ruled_out script (take place log) e.seat (Some e.kind) kind cause
+    ruled_out script (take place log) e.seat closed (Some e.kind) kind cause
     (subst (λ (x : Entry). Explains cause script (take place log) x.seat (Some x.kind)) same explained.2) out
-rules_out_all script log (explanations.Unfinished place seat cause) explained = λ kind out. ruled_out script log seat None kind cause explained.3 out
-rules_out_all script log (explanations.AtWork place busy) explained = tt
+rules_out_all script log (explanations.Unfinished place seat cause) closed explained = λ kind out.
+    ruled_out script log seat closed None kind cause explained.3 out
+rules_out_all script log (explanations.AtWork place busy) closed explained = tt

@@ -20,7 +20,9 @@ use Rattle.pool_laws.proofs.Seats.Running.{free_is_quiet}
 use Rattle.hist_model.specs.Allowed.{by_script, may_come}
 use Rattle.hist_model.specs.Legal.{IsLegal}
 use Rattle.hist_model.specs.Moments.{ticks_of}
+use Rattle.hist_model.specs.Open.{IsClosed}
 use Rattle.hist_model.specs.Script.{Current, current, is_finished, IsWhole}
+use Rattle.hist_model.proofs.Laws.Open.{closed_finished}
 use Rattle.hist_model.specs.Views.{own_entries}
 use Rattle.hist_model.proofs.Laws.Legal.{entry_induction}
 use Rattle.hist_model.proofs.Laws.Own.{holding_own, own_entries_push, running_own}
@@ -180,22 +182,20 @@ spare_later key numbers xs ys was free same = record {
 -- The close.
 
 -- a script that is finished wants nothing more of the driver
-finished_none : (script : Plan) (past : List Entry) → is_finished script past ≡ true → current script (own_entries 0 past) ≡ None
-unfolding is_finished
-finished_none script past done = by_current (current script (own_entries 0 past)) done
+finished_none : (script : Plan) (past : List Entry) → IsClosed script → is_finished script past ≡ true → current script (own_entries 0 past) ≡ None
+finished_none script past closed done = by_current (current script (own_entries 0 past)) (sym (closed_finished script past closed) ∙ done)
   where
     by_current : (o : Option Current) → is_none o ≡ true → o ≡ None
     by_current None h = refl
     by_current (Some c) h = absurd cc
 
 -- so it is with the driver's seat that leaves its desk
-pub driver_finished : (key : TurnKey) (d : SitterView) (s : SeatView) → s ≡ d.seat → s.of.basis ≡ key.basis → s.number ≡ 0 → Seated s
-    → is_finished d.seat.of.basis d.seat.seen ≡ true
-    → current key.basis s.mine ≡ None
-driver_finished key d s out script number seated done =
+pub driver_finished : (key : TurnKey) (d : SitterView) (s : SeatView) → IsClosed key.basis → s ≡ d.seat → s.of.basis ≡ key.basis → s.number ≡ 0
+    → Seated s → is_finished d.seat.of.basis d.seat.seen ≡ true → current key.basis s.mine ≡ None
+driver_finished key d s closed out script number seated done =
     ap (λ p. current p s.mine) (sym script)
     ∙ ap (λ own. current s.of.basis own) (sym seated.own ∙ ap (λ n. own_entries n s.seen) number)
-    ∙ finished_none s.of.basis s.seen (subst (λ x. is_finished x.of.basis x.seen ≡ true) (sym out) done)
+    ∙ finished_none s.of.basis s.seen (ap (λ p. p.is_open) script ∙ closed) (subst (λ x. is_finished x.of.basis x.seen ≡ true) (sym out) done)
 
 -- and it is free
 pub driver_free : (d : SitterView) (s : SeatView) → s ≡ d.seat → Seated s → is_free (own_entries d.seat.number d.seat.seen) 0 ≡ true → is_free s.mine 0 ≡ true
@@ -217,10 +217,10 @@ workers_free key n (s ∷ rest) log all told (suc k) low =
     subst (λ m. is_free log m ≡ true) (omega arith) (workers_free key (n + 1) rest log all.1 told.1 k (omega (arith, low)))
 
 -- and so the history is whole
-pub whole_at_end : (script : Plan) (log : List Entry) (key : TurnKey) (workers : ℕ) (first : SeatView) (rest : List SeatView) → AreBack key workers first rest
-    → key.basis ≡ script → workers ≡ script.workers → Tells log first → AllByRecursion (Tells log) rest → IsWhole script log
-unfolding is_finished
-whole_at_end script log key workers first rest back basis count told others = rw (done, free_is_quiet script log each) refl
+pub whole_at_end : (script : Plan) (log : List Entry) (key : TurnKey) (workers : ℕ) (first : SeatView) (rest : List SeatView) → IsClosed script
+    → AreBack key workers first rest → key.basis ≡ script → workers ≡ script.workers → Tells log first → AllByRecursion (Tells log) rest → IsWhole script log
+whole_at_end script log key workers first rest closed back basis count told others =
+    rw (closed_finished script log closed, done, free_is_quiet script log each) refl
   where
     own : own_entries 0 log ≡ first.mine
     own = ap (λ m. own_entries m log) (sym back.number_is) ∙ told.own

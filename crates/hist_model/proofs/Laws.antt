@@ -5,6 +5,7 @@ pub mod Takes
 pub mod Consistent
 pub mod Own
 pub mod Shutdown
+pub mod Open
 pub mod Agenda
 pub mod Postings
 pub mod OneThing
@@ -33,3 +34,4 @@ pub mod Wants
 pub mod Ways
 pub mod Told
 pub mod Due
+pub mod OpenPlans

@@ -17,3 +17,4 @@ pub mod QueueCorners
 pub mod Moments
 pub mod Broken
 pub mod Ways
+pub mod Open

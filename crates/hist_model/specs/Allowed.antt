@@ -1,6 +1,6 @@
 -- What may come after a past (this project's own rules).
 use Rattle.std.specs.Prelude.{ℕ, ◌==◌, Bool, true, false, not, ◌&&◌, ◌||◌, nat_le, if◌then◌else◌, List, length, filter, Option, Some, None, is_none, IsTrue}
-use Rattle.std.specs.List.{list_all}
+use Rattle.std.specs.List.{list_all, list_any}
 use Rattle.task_base.specs.declared.limits.TheConstants.{LAST_MOMENT}
 use Rattle.task_base.specs.Plan.{Plan}
 use Rattle.task_base.specs.Steps.{after, is_act}
@@ -21,12 +21,14 @@ use Rattle.task_model.specs.Time.{now_of}
 use Rattle.task_model.specs.Refusal.{is_refused, is_job_forbidden, is_closed}
 use Rattle.task_model.specs.Sequences.{head_of}
 use Rattle.task_model.specs.Seats.{Running, running, holding, worker_seats, is_free, is_quiet, steps_of, acts_done, next_act}
+use Rattle.task_model.specs.Capacity.{open_scope}
 use Rattle.task_model.specs.Cells.{cell_of, main_cell_of}
 use Rattle.task_model.specs.Jobs.{is_cancelled, is_empty, claimed, item_value, may_enter, free_id, reply_of}
 use Rattle.task_model.specs.Sources.{best_of, next_item}
 use Rattle.task_model.specs.Blockers.{blockers_of}
 use Rattle.task_model.specs.MainQueues.{Front, open_fronts, chosen_of}
 use Rattle.hist_model.specs.Views.{own_entries}
+use Rattle.hist_model.specs.Open.{is_guest, is_kept, is_post_within, is_poster, may_close_scope, may_open_scope, was_posted}
 use Rattle.hist_model.specs.Script.{is_wanted, is_finished}
 
 -- by the script: the driver, and the script wants this entry next
@@ -51,9 +53,26 @@ enters t step kind = false
 unfoldable pub by_task : Plan → List Entry → ℕ → Kind → Bool
 by_task script past seat kind = holds_of (λ w. holds_of (λ step. enters w.task step kind) (next_act script past seat)) (running past seat)
 
--- a worker seat that runs no task and holds no item, while the script is not finished
+-- an act step of the task that the seat runs enters this kind of entry, in any order
+abbrev pub by_own_step : Plan → List Entry → ℕ → Kind → Bool
+by_own_step script past seat kind = holds_of (λ w. list_any (λ step. enters w.task step kind) (steps_of script w.task)) (running past seat)
+
+-- in an open plan, a task is posted that is declared and was not posted: by the task whose step posts it, where there is
+-- one, and else by whoever may post
+abbrev pub may_post : Plan → List Entry → ℕ → ℕ → Kind → Bool
+may_post script past seat task kind =
+    is_post_within script kind && not (was_posted past task)
+    && (if is_kept script task then by_own_step script past seat kind else is_poster script past seat)
+
+-- the task is posted by the script or by a task, or in an open plan
+abbrev pub is_posted_by : Plan → List Entry → ℕ → ℕ → Kind → Bool
+is_posted_by script past seat task kind =
+    if script.is_open then may_post script past seat task kind else by_script script past seat kind || by_task script past seat kind
+
+-- a worker seat that runs no task and holds no item, and is no guest, while the script is not finished
 abbrev pub is_ready_worker : Plan → List Entry → ℕ → Bool
-is_ready_worker script past seat = nat_le 1 seat && nat_le seat script.workers && is_free past seat && not (is_finished script past)
+is_ready_worker script past seat =
+    nat_le 1 seat && nat_le seat script.workers && is_free past seat && not (is_finished script past) && not (is_guest script seat)
 
 -- the source is the sequence whose head is this task on this runner, and its cell has this value
 abbrev pub is_head_of : Plan → List Entry → ℕ → ℕ → ℕ → TaskSource → Bool
@@ -66,9 +85,14 @@ abbrev pub is_job : ℕ → TaskSource → Bool
 is_job job (Sequence s) = false
 is_job job (Job j) = j == job
 
--- all act steps of the task were entered, and its steps leave this value of what it found
+-- the task has done what it enters: all its act steps, and in an open plan no scope of it is open
+abbrev pub has_acted : Plan → List Entry → ℕ → Running → Bool
+has_acted script past seat w =
+    if script.is_open then is_none (open_scope past w.task) else acts_done past seat == length (filter is_act (steps_of script w.task))
+
+-- the task has done what it enters, and its steps leave this value of what it found
 abbrev pub has_done : Plan → List Entry → ℕ → ℕ → Running → Bool
-has_done script past seat left w = acts_done past seat == length (filter is_act (steps_of script w.task)) && left == after (steps_of script w.task) w.found
+has_done script past seat left w = has_acted script past seat w && left == after (steps_of script w.task) w.found
 
 -- the front is this task of this queue
 abbrev pub is_front : ℕ → ℕ → Front → Bool
@@ -100,27 +124,28 @@ is_reply refused ok = if refused then not ok else ok
 
 -- whether an entry of this seat and kind may come after the past
 unfoldable pub may_come : Plan → List Entry → ℕ → Kind → Bool
--- by the script or by a task; it is refused where the phase forbids the task's effective behaviour
+-- by the script or by a task, or in an open plan; it is refused where the phase forbids the task's effective behaviour
 may_come script past seat (kinds.Post task runner delay ok) =
-    (by_script script past seat (kinds.Post task runner delay ok) || by_task script past seat (kinds.Post task runner delay ok))
+    is_posted_by script past seat task (kinds.Post task runner delay ok)
     && is_reply (is_refused script past runner delay) ok
--- by the script or by a task; it is refused where the queue is closed
+-- by the script or by a task, or in an open plan; it is refused where the queue is closed
 may_come script past seat (kinds.Main task queue delay ok) =
-    (by_script script past seat (kinds.Main task queue delay ok) || by_task script past seat (kinds.Main task queue delay ok))
+    is_posted_by script past seat task (kinds.Main task queue delay ok)
     && is_reply (is_closed past queue) ok
 -- by the script; the moment is at least the last one, and at most the last moment of all
 may_come script past seat (kinds.Tick now) =
     by_script script past seat (kinds.Tick now) && nat_le (now_of past) now && nat_le now LAST_MOMENT
--- a worker that is free, while the script is not finished; the best source is a sequence with this head, which finds its cell
+-- a worker that is free, and no guest, while the script is not finished; the best source is a sequence with this head, which finds its cell
 may_come script past seat (kinds.Take task runner found) =
     is_ready_worker script past seat && holds_of (λ c. is_head_of script past task runner found c.source) (best_of script past seat)
--- the seat runs the pool task, and all its act steps are entered; it leaves its steps applied to what it found
+-- the seat runs the pool task, which has done what it enters; it leaves its steps applied to what it found
 may_come script past seat (kinds.End task left) =
     holds_of (λ w. not w.is_main && w.task == task && has_done script past seat left w) (running past seat)
--- by the task
-may_come script past seat (kinds.Enter task scope) = by_task script past seat (kinds.Enter task scope)
--- by the task
-may_come script past seat (kinds.Leave task) = by_task script past seat (kinds.Leave task)
+-- by the task, or in an open plan, where none is open
+may_come script past seat (kinds.Enter task scope) =
+    if script.is_open then may_open_scope script past seat task else by_task script past seat (kinds.Enter task scope)
+-- by the task, or in an open plan, where one is open
+may_come script past seat (kinds.Leave task) = if script.is_open then may_close_scope past seat task else by_task script past seat (kinds.Leave task)
 -- by the script
 may_come script past seat (kinds.Policy policy) = by_script script past seat (kinds.Policy policy)
 -- by the script
@@ -138,7 +163,7 @@ may_come script past seat (kinds.Close queue) = by_script script past seat (kind
 -- the driver inside a pump, running nothing; the task is the chosen front, and finds its queue's cell
 may_come script past seat (kinds.MainTake task queue found) =
     by_script script past seat (kinds.MainTake task queue found) && holds_of (is_front task queue) (chosen_of script past) && found == main_cell_of past queue
--- the driver runs the main task, and all its act steps are entered; it leaves its steps applied to what it found
+-- the driver runs the main task, which has done what it enters; it leaves its steps applied to what it found
 may_come script past seat (kinds.MainEnd task left) =
     seat == 0 && holds_of (λ w. w.is_main && w.task == task && has_done script past seat left w) (running past seat)
 -- the driver inside a pump, running nothing; no front is open

@@ -18,3 +18,4 @@ pub mod State
 pub mod Order
 pub mod Progress
 pub mod Ways
+pub mod Open

@@ -1,4 +1,5 @@
 pub mod Views
+pub mod Open
 pub mod Script
 pub mod Allowed
 pub mod Legal

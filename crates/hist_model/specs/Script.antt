@@ -1,5 +1,5 @@
--- What the script wants next of the driver, seat 0. It depends on the driver's own entries alone (this project's own
--- rule).
+-- What is wanted next of the driver, seat 0: by the script, or in an open plan. It depends on the driver's own entries
+-- alone (this project's own rule).
 use Rattle.std.specs.Prelude.{ℕ, zero, suc, ◌-◌, ◌==◌, not, ◌&&◌, ◌||◌, Bool, true, false, nat_le, if◌then◌else◌, List, [], ◌∷◌, length, Option, Some, None, is_none, IsTrue}
 use Rattle.std.specs.Option.{option_map_or}
 use Rattle.task_base.specs.Plan.{Plan}
@@ -14,8 +14,10 @@ use Rattle.task_base.specs.declared.script.Action.{Action}
 use Rattle.task_base.specs.declared.script.Action.TheVariants as actions
 use Rattle.task_base.specs.Groups.{importance}
 use Rattle.list_laws.specs.Lists.{holds_of}
+use Rattle.task_model.specs.Phase.{phase_of}
 use Rattle.task_model.specs.Seats.{running, holding, is_quiet}
 use Rattle.hist_model.specs.Views.{own_entries}
+use Rattle.hist_model.specs.Open.{is_done, serves}
 
 -- the entries behind the first n, where there are that many
 abbrev pub behind : ℕ → List Entry → Option (List Entry)
@@ -112,13 +114,13 @@ wants own actions.Shutdown made kinds.Shutdown = length made == 0
 wants own actions.Shutdown made kinds.Done = length made == 1
 wants own action made kind = false
 
--- the script wants an entry of this kind next, by the driver's own entries
+-- an entry of this kind is wanted next, by the driver's own entries: by the action that the driver is at, or in an open plan
 unfoldable pub is_wanted : Plan → List Entry → Kind → Bool
-is_wanted script own kind = holds_of (λ c. wants own c.action c.made kind) (current script own)
+is_wanted script own kind = if script.is_open then serves script own kind else holds_of (λ c. wants own c.action c.made kind) (current script own)
 
--- the script wants nothing next
+-- nothing more is wanted: the script's actions are done, or, of an open plan, shutdown is
 unfoldable pub is_finished : Plan → List Entry → Bool
-is_finished script past = is_none (current script (own_entries 0 past))
+is_finished script past = if script.is_open then is_done (phase_of (own_entries 0 past)) else is_none (current script (own_entries 0 past))
 
 -- the script is finished
 abbrev pub IsFinished : Plan → List Entry → Type 0

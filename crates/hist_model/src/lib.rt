@@ -12,6 +12,7 @@ mod fences;
 mod histories;
 mod jobs;
 mod moments;
+mod open;
 mod order;
 mod phases;
 mod postings;
@@ -33,6 +34,10 @@ pub use fences::no_queue_passes_its_fence;
 pub use histories::{legal_histories_grow, the_first_illegal_place_is_told};
 pub use jobs::{claimed_items_are_done_or_held, holders_of_a_job_are_apart, job_entries_are_exact};
 pub use moments::moments_and_orders_rise;
+pub use open::{
+    closed_is_as_before, guests_only_post, nothing_starts_once_shutdown_is_done,
+    open_plans_are_never_stuck, workers_have_one_way_on,
+};
 pub use order::tasks_are_taken_in_order;
 pub use phases::phases_never_go_back;
 pub use postings::each_task_is_posted_once;

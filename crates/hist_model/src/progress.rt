@@ -4,6 +4,7 @@ ghost use Rattle.task_base.specs.declared.entry.Entry.{Entry};
 ghost use Rattle.script_model.specs.Bound.{events_bound_of};
 ghost use Rattle.script_model.specs.Laws.Sound.{IsSound};
 ghost use Rattle.hist_model.specs.Legal.{IsLegal};
+ghost use Rattle.hist_model.specs.Open.{IsClosed};
 ghost use Rattle.hist_model.specs.Script.{is_whole, IsWhole};
 ghost use Rattle.hist_model.specs.Laws.Progress.{GoesOn, SomeMayCome, IsAtEnd, AlwaysAllowed, grown};
 
@@ -29,7 +30,7 @@ pub fn legal_histories_can_go_on()
 pub fn every_way_ends_whole()
     ensures within_bound { (script : Plan) (past : List Entry) → IsSound script → IsLegal script past → length past ≤ events_bound_of script }
     ensures ends_whole { (script : Plan) (past : List Entry) → IsSound script → IsLegal script past → IsAtEnd script past → IsWhole script past }
-    ensures whole_is_at_end { (script : Plan) (past : List Entry) → IsWhole script past → IsAtEnd script past }
+    ensures whole_is_at_end { (script : Plan) (past : List Entry) → IsClosed script → IsWhole script past → IsAtEnd script past }
     ensures can_be_whole { (script : Plan) (past : List Entry) → IsSound script → IsLegal script past → (rest : List Entry) × IsLegal script (past ++ rest) × IsWhole script (past ++ rest) }
     ensures choices_end { (script : Plan) (choose : List Entry → Entry) → IsSound script → AlwaysAllowed script choose
         → IsLegal script (grown script choose (events_bound_of script) []) × IsWhole script (grown script choose (events_bound_of script) []) }

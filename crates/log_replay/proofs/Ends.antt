@@ -16,10 +16,12 @@ use Rattle.task_base.specs.declared.entry.Kind.TheVariants as kinds
 use Rattle.task_base.specs.declared.step.Step.{Step}
 use Rattle.task_base.specs.declared.step.Step.TheVariants as steps
 use Rattle.task_model.specs.Seats.{Holding, Running, acts_done, holding, holding_after, is_free, running, running_after, steps_of}
-use Rattle.hist_model.specs.Allowed.{has_done, may_come}
+use Rattle.hist_model.specs.Allowed.{has_acted, has_done, may_come}
 use Rattle.hist_model.specs.Legal.{IsLegal}
+use Rattle.hist_model.specs.Open.{IsClosed}
 use Rattle.hist_model.specs.Views.{own_entries}
 use Rattle.hist_model.proofs.Laws.Choice.{found}
+use Rattle.hist_model.proofs.Laws.Open.{closed_acts}
 use Rattle.hist_model.proofs.Laws.Own.{acts_done_own, holding_own}
 use Rattle.hist_model.proofs.Laws.Takes.{end_is}
 use Rattle.task_body.specs.Bodies.{AssignmentView}
@@ -78,36 +80,36 @@ pub record Ends (script : Plan) (past : List Entry) (seat task left : ℕ) : Typ
   pub left_is : left ≡ after (steps_of script now.task) now.found
 
 -- what is known where all of a task is done
-pub ends_by : (script : Plan) (past : List Entry) (seat task left : ℕ) → holds_of (is_done script past seat task left) (running past seat) ≡ true
-    → Ends script past seat task left
-ends_by script past seat task left h =
+pub ends_by : (script : Plan) (past : List Entry) (seat task left : ℕ) → IsClosed script
+    → holds_of (is_done script past seat task left) (running past seat) ≡ true → Ends script past seat task left
+ends_by script past seat task left closed h =
     let w = found (is_done script past seat task left) (running past seat) h in
     let parts = and_parts (w.value.task == task) (has_done script past seat left w.value) w.passes in
-    let done = and_parts (acts_done past seat == length (filter is_act (steps_of script w.value.task)))
+    let done = and_parts (has_acted script past seat w.value)
     (left == after (steps_of script w.value.task) w.value.found) parts.1 in
     record {
       now = w.value;
       runs = w.is;
       task_is = eqb-true w.value.task task parts.0;
-      all = eqb-true _ _ done.0;
+      all = eqb-true _ _ (sym (closed_acts script past seat w.value closed) ∙ done.0);
       left_is = eqb-true _ _ done.1;
     }
 
 -- a task of which all act steps were entered leaves one value
-done_leaves : (script : Plan) (past : List Entry) (seat left value : ℕ) (w : Running)
+done_leaves : (script : Plan) (past : List Entry) (seat left value : ℕ) (w : Running) → IsClosed script
     → acts_done past seat ≡ length (filter is_act (steps_of script w.task)) → value ≡ after (steps_of script w.task) w.found
     → has_done script past seat left w ≡ (value == left)
-done_leaves script past seat left value w all is = rw (eq-eqb _ _ all, ← is) (eqb-turned left value)
+done_leaves script past seat left value w closed all is = rw (closed_acts script past seat w closed, eq-eqb _ _ all, ← is) (eqb-turned left value)
 
 module _ {view : EnvView} {seat : ℕ} {work : AssignmentView} {next : Act} (at : IsAtTask view seat work next) where
   -- whether all of the task is done, where no step is left
-  done_at_end : (task left : ℕ) → next ≡ acts.Finished
+  done_at_end : (task left : ℕ) → IsClosed view.script → next ≡ acts.Finished
       → holds_of (is_done view.script view.history seat task left) (running view.history seat)
       ≡ (work.task == task && after work.whole work.found == left)
-  done_at_end task left ended =
+  done_at_end task left closed ended =
       let w = at.seats.now in
       ap (holds_of (is_done view.script view.history seat task left)) (runs_it at)
-      ∙ ap (λ b. w.task == task && b) (done_leaves view.script view.history seat left (after work.whole work.found) w
+      ∙ ap (λ b. w.task == task && b) (done_leaves view.script view.history seat left (after work.whole work.found) w closed
       (sym (acts_done_own view.history seat) ∙ all_entered at ended ∙ ap (λ xs. length (filter is_act xs)) at.seats.whole_is)
       (ap (λ xs. after xs work.found) at.seats.whole_is ∙ ap (after (steps_of view.script w.task)) at.seats.found_is))
       ∙ ap (λ t. t == task && after work.whole work.found == left) (sym at.seats.task_is)
@@ -120,18 +122,18 @@ module _ {view : EnvView} {seat : ℕ} {work : AssignmentView} {next : Act} (at 
       ∙ ap (λ xs. length (filter is_act xs)) (sym at.seats.whole_is))
 
   -- so where one is left it is not
-  not_done : (task left : ℕ) → (next ≡ acts.Finished → ⊥)
+  not_done : (task left : ℕ) → IsClosed view.script → (next ≡ acts.Finished → ⊥)
       → holds_of (is_done view.script view.history seat task left) (running view.history seat) ≡ false
-  not_done task left goes_on = false_from_ne_true (holds_of (is_done view.script view.history seat task left) (running view.history seat))
-      (λ h. goes_on (ends_at (ends_by view.script view.history seat task left h)))
+  not_done task left closed goes_on = false_from_ne_true (holds_of (is_done view.script view.history seat task left) (running view.history seat))
+      (λ h. goes_on (ends_at (ends_by view.script view.history seat task left closed h)))
 
   -- whether all of the task is done is told by its next act step and the value that it leaves
-  pub done_is : (task left : ℕ) (answer : Bool)
+  pub done_is : (task left : ℕ) (answer : Bool) → IsClosed view.script
       → (next ≡ acts.Finished → work.rest ≡ [] → answer ≡ (work.task == task && after work.whole work.found == left))
       → (next ≢ acts.Finished → answer ≡ false)
       → answer ≡ holds_of (is_done view.script view.history seat task left) (running view.history seat)
-  done_is task left answer ended goes_on = ⊎_elim (λ is. ended is (at.due.ends is) ∙ sym (done_at_end task left is))
-      (λ is. goes_on is ∙ sym (not_done task left is)) (is_at_end next)
+  done_is task left answer closed ended goes_on = ⊎_elim (λ is. ended is (at.due.ends is) ∙ sym (done_at_end task left closed is))
+      (λ is. goes_on is ∙ sym (not_done task left closed is)) (is_at_end next)
 
   -- a worker whose task is all done may end it
   pub may_end : {task left : ℕ} → IsLegal view.script view.history → 1 ≤ seat → seat ≤ view.script.workers
@@ -201,19 +203,19 @@ same_end script past seat task left other leaves a b =
     )
 
 -- of a worker's task
-pub one_end : (script : Plan) (past : List Entry) (seat task left other leaves : ℕ) → IsLegal script past → 1 ≤ seat → Ends script past seat task left
-    → may_come script past seat (kinds.End other leaves) ≡ true → kinds.End other leaves ≡ kinds.End task left
-one_end script past seat task left other leaves legal worker ends may =
+pub one_end : (script : Plan) (past : List Entry) (seat task left other leaves : ℕ) → IsClosed script → IsLegal script past → 1 ≤ seat
+    → Ends script past seat task left → may_come script past seat (kinds.End other leaves) ≡ true → kinds.End other leaves ≡ kinds.End task left
+one_end script past seat task left other leaves closed legal worker ends may =
     let same = same_end script past seat task left other leaves ends
-    (ends_by script past seat other leaves (sym (end_comes script past seat other leaves legal worker) ∙ may)) in
+    (ends_by script past seat other leaves closed (sym (end_comes script past seat other leaves legal worker) ∙ may)) in
     rw (same.0, same.1) refl
 
 -- and of the driver's main task
-pub one_main_end : (script : Plan) (past : List Entry) (seat task left other leaves : ℕ) → IsLegal script past → seat ≡ 0
+pub one_main_end : (script : Plan) (past : List Entry) (seat task left other leaves : ℕ) → IsClosed script → IsLegal script past → seat ≡ 0
     → Ends script past seat task left → may_come script past seat (kinds.MainEnd other leaves) ≡ true → kinds.MainEnd other leaves ≡ kinds.MainEnd task left
-one_main_end script past seat task left other leaves legal driver ends may =
+one_main_end script past seat task left other leaves closed legal driver ends may =
     let same = same_end script past seat task left other leaves ends
-    (ends_by script past seat other leaves (sym (main_end_comes script past seat other leaves legal driver) ∙ may)) in
+    (ends_by script past seat other leaves closed (sym (main_end_comes script past seat other leaves legal driver) ∙ may)) in
     rw (same.0, same.1) refl
 
 -- Behind it.

@@ -44,7 +44,7 @@ held_behind pass known enters = record { known = rw (script_is enters) known; ho
 -- a job that is joined is entered under any number with any item
 pub item_wanted : (view : EnvView) (seat job id item other number : ℕ)
     → by_script view.script view.history seat (kinds.JobTake job id item) ≡ true → IsWantedNext view seat (kinds.JobTake job other number)
-item_wanted view seat job id item other number by = next_alike view seat (kinds.JobTake job id item) (kinds.JobTake job other number) by
+item_wanted view seat job id item other number by = next_alike view seat (kinds.JobTake job id item) (kinds.JobTake job other number) by refl
     (λ x made. alike (own_entries 0 view.history) x made)
   where
     alike : (own : List Entry) (x : Action) (made : List Entry)

@@ -1,19 +1,19 @@
 -- Posts by the script and by tasks: only one reply may come.
--- Cited by `Replay::enter`, `Replay::leave`, `Replay::main_post`, `Replay::post`.
+-- Cited by `Replay::main_post`, `Replay::post`.
 use Rattle.std.proofs.Common.{◌≡◌, ℕ, Bool, true, false, List, refl, sym, ap, ◌∙◌}
 use Rattle.std.proofs.lemmas.Bool.{and_parts}
 use Rattle.std.proofs.Math.Bool.{beq}
-use Rattle.std.specs.Prelude.{◌||◌}
 use Rattle.task_base.specs.Plan.{Plan}
 use Rattle.task_base.specs.declared.entry.Entry.{Entry}
 use Rattle.task_base.specs.declared.entry.Kind.TheVariants as kinds
-use Rattle.task_base.specs.declared.step.Scope.{Scope}
 use Rattle.task_base.specs.declared.script.Action.{Action}
 use Rattle.task_base.specs.declared.script.Action.TheVariants as actions
 use Rattle.task_base.specs.Entries.{entry_by}
 use Rattle.task_model.specs.Refusal.{is_closed, is_refused}
-use Rattle.hist_model.specs.Allowed.{by_script, by_task, is_reply, may_come}
+use Rattle.hist_model.specs.Allowed.{by_script, by_task, is_posted_by, is_reply, may_come}
+use Rattle.hist_model.specs.Open.{IsClosed}
 use Rattle.hist_model.specs.Script.{wants}
+use Rattle.hist_model.proofs.Laws.Open.{closed_main, closed_post}
 use Rattle.hist_model.specs.Views.{own_entries}
 use Rattle.env_core.specs.Calls.{IsWantedNext}
 use Rattle.env_core.specs.Views.{EnvView, Enters}
@@ -43,7 +43,7 @@ same_beq false false same = refl
 -- a post by the script is wanted with any reply
 pub post_wanted : (view : EnvView) (seat task runner delay : ℕ) (ok other : Bool)
     → by_script view.script view.history seat (kinds.Post task runner delay ok) ≡ true → IsWantedNext view seat (kinds.Post task runner delay other)
-post_wanted view seat task runner delay ok other by = next_alike view seat (kinds.Post task runner delay ok) (kinds.Post task runner delay other) by
+post_wanted view seat task runner delay ok other by = next_alike view seat (kinds.Post task runner delay ok) (kinds.Post task runner delay other) by refl
     (λ x made. alike (own_entries 0 view.history) x made)
   where
     alike : (own : List Entry) (x : Action) (made : List Entry)
@@ -57,10 +57,8 @@ pub one_post : (script : Plan) (past : List Entry) (seat task runner delay : ℕ
 unfolding may_come
 one_post script past seat task runner delay ok other may also =
     let refused : Bool = is_refused script past runner delay in
-    let first = and_parts (by_script script past seat (kinds.Post task runner delay ok) || by_task script past seat (kinds.Post task runner delay ok))
-    (is_reply refused ok) may in
-    let second = and_parts (by_script script past seat (kinds.Post task runner delay other) || by_task script past seat (kinds.Post task runner delay other))
-    (is_reply refused other) also in
+    let first = and_parts (is_posted_by script past seat task (kinds.Post task runner delay ok)) (is_reply refused ok) may in
+    let second = and_parts (is_posted_by script past seat task (kinds.Post task runner delay other)) (is_reply refused other) also in
     only_reply refused other second.1 ∙ sym (only_reply refused ok first.1)
 
 -- so what was entered judges a post
@@ -73,18 +71,18 @@ judged_post before after seat task runner delay ok given enters =
     (λ may. same_beq given ok (one_post before.script before.history seat task runner delay ok given may (came enters)))
 
 -- none may come by neither
-pub no_post : (script : Plan) (past : List Entry) (seat task runner delay : ℕ) (ok : Bool)
+pub no_post : (script : Plan) (past : List Entry) (seat task runner delay : ℕ) (ok : Bool) → IsClosed script
     → by_script script past seat (kinds.Post task runner delay ok) ≡ false → by_task script past seat (kinds.Post task runner delay ok) ≡ false
     → may_come script past seat (kinds.Post task runner delay ok) ≡ false
-unfolding may_come
-no_post script past seat task runner delay ok script_not task_not = rw (script_not, task_not) refl
+no_post script past seat task runner delay ok closed script_not task_not =
+    closed_post script past seat task runner delay ok closed ∙ rw (script_not, task_not) refl
 
 -- Posts to main queues.
 
 -- a post by the script is wanted with any reply
 pub main_wanted : (view : EnvView) (seat task queue delay : ℕ) (ok other : Bool)
     → by_script view.script view.history seat (kinds.Main task queue delay ok) ≡ true → IsWantedNext view seat (kinds.Main task queue delay other)
-main_wanted view seat task queue delay ok other by = next_alike view seat (kinds.Main task queue delay ok) (kinds.Main task queue delay other) by
+main_wanted view seat task queue delay ok other by = next_alike view seat (kinds.Main task queue delay ok) (kinds.Main task queue delay other) by refl
     (λ x made. alike (own_entries 0 view.history) x made)
   where
     alike : (own : List Entry) (x : Action) (made : List Entry)
@@ -98,10 +96,8 @@ pub one_main_post : (script : Plan) (past : List Entry) (seat task queue delay :
 unfolding may_come
 one_main_post script past seat task queue delay ok other may also =
     let closed : Bool = is_closed past queue in
-    let first = and_parts (by_script script past seat (kinds.Main task queue delay ok) || by_task script past seat (kinds.Main task queue delay ok))
-    (is_reply closed ok) may in
-    let second = and_parts (by_script script past seat (kinds.Main task queue delay other) || by_task script past seat (kinds.Main task queue delay other))
-    (is_reply closed other) also in
+    let first = and_parts (is_posted_by script past seat task (kinds.Main task queue delay ok)) (is_reply closed ok) may in
+    let second = and_parts (is_posted_by script past seat task (kinds.Main task queue delay other)) (is_reply closed other) also in
     only_reply closed other second.1 ∙ sym (only_reply closed ok first.1)
 
 -- so what was entered judges a post
@@ -114,22 +110,8 @@ judged_main_post before after seat task queue delay ok given enters =
     (λ may. same_beq given ok (one_main_post before.script before.history seat task queue delay ok given may (came enters)))
 
 -- none may come by neither
-pub no_main_post : (script : Plan) (past : List Entry) (seat task queue delay : ℕ) (ok : Bool)
+pub no_main_post : (script : Plan) (past : List Entry) (seat task queue delay : ℕ) (ok : Bool) → IsClosed script
     → by_script script past seat (kinds.Main task queue delay ok) ≡ false → by_task script past seat (kinds.Main task queue delay ok) ≡ false
     → may_come script past seat (kinds.Main task queue delay ok) ≡ false
-unfolding may_come
-no_main_post script past seat task queue delay ok script_not task_not = rw (script_not, task_not) refl
-
--- Scopes.
-
--- a scope is opened by tasks alone
-pub enter_is_by_task : (script : Plan) (past : List Entry) (seat task : ℕ) (scope : Scope)
-    → may_come script past seat (kinds.Enter task scope) ≡ by_task script past seat (kinds.Enter task scope)
-unfolding may_come
-enter_is_by_task script past seat task scope = refl
-
--- and closed by tasks alone
-pub leave_is_by_task : (script : Plan) (past : List Entry) (seat task : ℕ)
-    → may_come script past seat (kinds.Leave task) ≡ by_task script past seat (kinds.Leave task)
-unfolding may_come
-leave_is_by_task script past seat task = refl
+no_main_post script past seat task queue delay ok closed script_not task_not =
+    closed_main script past seat task queue delay ok closed ∙ rw (script_not, task_not) refl

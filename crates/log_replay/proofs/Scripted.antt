@@ -30,8 +30,8 @@ scripted_is_free : (view : EnvView) (hands : List Hand) (seat : ℕ) (kind : Kin
 scripted_is_free view hands seat kind are by =
     rw (
       (wanted_next view seat kind by).driver,
-      driver_runs_nothing view.script view.history seat kind are.legal by,
-      driver_holds_nothing view.script view.history seat kind are.legal by,
+      driver_runs_nothing view.script view.history seat kind are.closed are.legal by,
+      driver_holds_nothing view.script view.history seat kind are.closed are.legal by,
     ) refl
 
 -- so where such an entry takes nothing, all hands stay

@@ -209,7 +209,7 @@ judged_front before after seat asked given same asks enters takes is = in_place 
 -- inside a pump, that none is found is wanted where the take of a main task is
 pub none_wanted : (view : EnvView) (seat task queue value : ℕ) → by_script view.script view.history seat (kinds.MainTake task queue value) ≡ true
     → IsWantedNext view seat kinds.MainNone
-none_wanted view seat task queue value by = next_alike view seat (kinds.MainTake task queue value) kinds.MainNone by
+none_wanted view seat task queue value by = next_alike view seat (kinds.MainTake task queue value) kinds.MainNone by refl
     (λ x made. alike (own_entries 0 view.history) x made)
   where
     alike : (own : List Entry) (x : Action) (made : List Entry) → wants own x made (kinds.MainTake task queue value) ≡ wants own x made kinds.MainNone

@@ -8,9 +8,11 @@ use Rattle.list_laws.proofs.Places.{slice_get-replicate}
 use Rattle.task_base.specs.Plan.{Plan}
 use Rattle.task_base.specs.declared.entry.Entry.{Entry}
 use Rattle.task_base.specs.declared.script.Action.{Action}
+use Rattle.hist_model.specs.Open.{IsClosed}
 use Rattle.hist_model.specs.Script.{Current, current, is_finished, is_whole}
 use Rattle.hist_model.specs.Views.{own_entries}
 use Rattle.hist_model.proofs.Laws.Legal.{nothing_is_legal}
+use Rattle.hist_model.proofs.Laws.Open.{closed_finished}
 use Rattle.std.specs.List.{list_all, range_with_len}
 use Rattle.std.specs.Option.{option_map}
 use Rattle.task_model.specs.Seats.{holding, is_free, is_quiet, running}
@@ -36,10 +38,10 @@ quiet_hands view hands are = all_at is_empty (is_free view.history) hands 0
     ∙ ap (λ n. list_all (is_free view.history) (range_with_len 0 n)) are.all
 
 -- the script is finished exactly where there is no action to be told
-pub finished_told : (script : Plan) (past : List Entry) (action : Option Action) (none : Bool)
+pub finished_told : (script : Plan) (past : List Entry) (action : Option Action) (none : Bool) → IsClosed script
     → action ≡ option_map (λ (c : Current). c.action) (current script (own_entries 0 past)) → is_some action ≡ not none → none ≡ is_finished script past
-unfolding is_finished
-finished_told script past action none is told = by_current (current script (own_entries 0 past)) none (ap is_some (sym is) ∙ told)
+finished_told script past action none closed is told =
+    by_current (current script (own_entries 0 past)) none (ap is_some (sym is) ∙ told) ∙ sym (closed_finished script past closed)
   where
     by_current : (c : Option Current) (b : Bool) → is_some (option_map (λ (x : Current). x.action) c) ≡ not b → b ≡ is_none c
     by_current None true same = refl
@@ -53,9 +55,10 @@ pub whole_told : (view : EnvView) (hands : List Hand) → AreInHand view hands �
 whole_told view hands are finished free is all = rw (is, all, quiet_hands view hands are) refl
 
 -- at first each seat is free
-pub free_at_first : (view : EnvView) → view.history ≡ [] → AreInHand view (replicate (view.script.workers + 1) Free)
+pub free_at_first : (view : EnvView) → IsClosed view.script → view.history ≡ [] → AreInHand view (replicate (view.script.workers + 1) Free)
 unfolding running holding
-free_at_first view none = record {
+free_at_first view closed none = record {
+  closed = closed;
   legal = rw none (nothing_is_legal view.script);
   all = length-replicate (view.script.workers + 1) Free;
   each = λ seat hand at. subst (IsInHand view seat) (one seat hand at) (rw none refl);

@@ -2,6 +2,7 @@ ghost use Rattle.std.specs.Prelude.{◌≡◌, ◌≤◌, [], replicate, IfOk};
 ghost use Rattle.std.specs.List.{list_all};
 ghost use Rattle.task_model.specs.Seats.{is_free};
 ghost use Rattle.hist_model.specs.Allowed.{by_script, by_task};
+ghost use Rattle.hist_model.specs.Open.{IsClosed};
 ghost use Rattle.hist_model.specs.Script.{is_wanted, is_whole};
 ghost use Rattle.hist_model.specs.Views.{own_entries};
 ghost use Rattle.script_model.specs.Laws.Sound.{IsSound};
@@ -84,7 +85,8 @@ impl Replay {
     /// Whether the entry is the next act step of the task that the seat runs.
     pub(crate) fn is_by_task(&self, seat: SeatNo, kind: &Kind) -> bool
         requires { seat ≤ self.now.script.workers }
-        ensures { result ≡ by_task self.now.script self.now.history seat kind.now }
+        ensures answer { result ≡ by_task self.now.script self.now.history seat kind.now }
+        ensures closed { IsClosed self.now.script }
     {
         match &self.hands[seat as usize] {
             Hand::Task(at) => makes(at, kind),

@@ -51,6 +51,7 @@ nest_script nest = record {
   tasks = map (λ task. []) nest.tasks;
   jobs = [];
   actions = flat_map main_of_action nest.actions ++ flat_map main_of_task nest.tasks;
+  is_open = false;
 }
 
 -- the entry is one that a nest makes of the main queues: a post that is accepted without a delay, a take or an end

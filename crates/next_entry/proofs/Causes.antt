@@ -25,9 +25,11 @@ use Rattle.task_traits.specs.declared.traits.Priority.{Priority}
 use Rattle.task_model.specs.Seats.{Running, holding, running}
 use Rattle.pool_laws.proofs.Room.Capacity.{free_parts}
 use Rattle.hist_model.specs.Legal.{IsLegal}
+use Rattle.hist_model.specs.Open.{IsClosed}
 use Rattle.hist_model.specs.Script.{Current, behind, behind_action, current, is_finished, is_wanted}
 use Rattle.hist_model.specs.Script.{wants}
 use Rattle.hist_model.specs.Views.{IsSeatsAssignment, own_entries}
+use Rattle.hist_model.proofs.Laws.Open.{closed_finished, closed_wanted}
 use Rattle.hist_model.proofs.Laws.Own.{holding_own, running_own}
 use Rattle.task_body.specs.Bodies.{AssignmentView}
 use Rattle.task_body.specs.Passes.{PassView}
@@ -49,8 +51,10 @@ pub wanted_at : {view : EnvView} {action : Action} (kind : Kind) → IsAtAction 
     → current view.script (own_entries 0 view.history) ≡ Some (record { action = action; made = made })
     → wants (own_entries 0 view.history) action made kind ≡ true)
     → IsWantedNext view 0 kind
-unfolding is_wanted
-wanted_at {view} {action} kind at says = record { driver = refl; wanted = by_current (current view.script own) refl at.action_is }
+wanted_at {view} {action} kind at says = record {
+  driver = refl;
+  wanted = closed_wanted view.script own kind at.closed ∙ by_current (current view.script own) refl at.action_is;
+}
   where
     own : List Entry
     own = own_entries 0 view.history
@@ -240,10 +244,9 @@ act_follows {before} {after} {seat} kind seats entered is =
     subst (MayFollow before.script before.history seat) same entered.enters.allowed
 
 -- where there is no action to be told the script is finished
-pub finished_at : (script : Plan) (past : List Entry) → None ≡ option_map (λ (c : Current). c.action) (current script (own_entries 0 past))
-    → is_finished script past ≡ true
-unfolding is_finished
-finished_at script past none = by_current (current script (own_entries 0 past)) (sym none)
+pub finished_at : (script : Plan) (past : List Entry) → IsClosed script
+    → None ≡ option_map (λ (c : Current). c.action) (current script (own_entries 0 past)) → is_finished script past ≡ true
+finished_at script past closed none = closed_finished script past closed ∙ by_current (current script (own_entries 0 past)) (sym none)
   where
     by_current : (o : Option Current) → option_map (λ (c : Current). c.action) o ≡ None → is_none o ≡ true
     by_current None is = refl

@@ -13,6 +13,7 @@ use Rattle.task_model.specs.Blockers.{blockers_of}
 use Rattle.task_model.specs.Seats.{Holding, Running, holding, inside, is_free, running}
 use Rattle.task_model.specs.Sources.{best_of}
 use Rattle.hist_model.specs.Allowed.{IsAllowed}
+use Rattle.hist_model.specs.Open.{IsClosed}
 use Rattle.hist_model.specs.Script.{Current, current, is_finished}
 use Rattle.hist_model.specs.Views.{own_entries}
 use Rattle.pool_core.specs.Calls.{running_tasks, is_any_ready}
@@ -55,8 +56,9 @@ HoldsItem past seat job = (h : Holding) × (holding past seat ≡ Some h) × (h.
 abbrev pub IsFreeWorkers : List Entry → ℕ → Type 0
 IsFreeWorkers past seat = (1 ≤ seat) × (is_free past seat ≡ true)
 
--- the seat is the driver's, which runs no task and holds no item and is at this action of the script
+-- the plan is closed; the seat is the driver's, which runs no task and holds no item and is at this action of the script
 pub record IsAtAction (script : Plan) (past : List Entry) (seat : ℕ) (action : Action) : Type 0 where
+  pub closed : IsClosed script
   pub driver : seat ≡ 0
   pub free : is_free past 0 ≡ true
   pub action_is : option_map (λ (c : Current). c.action) (current script (own_entries 0 past)) ≡ Some action

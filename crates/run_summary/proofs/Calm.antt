@@ -44,8 +44,10 @@ use Rattle.hist_model.specs.Views.{own_entries}
 use Rattle.hist_model.specs.Script.{Current, wants}
 use Rattle.hist_model.specs.Allowed.{by_script, by_task, enters, is_reply, may_come}
 use Rattle.hist_model.specs.Legal.{IsLegal}
+use Rattle.hist_model.specs.Open.{IsClosed}
 use Rattle.hist_model.proofs.Laws.Legal.{entry_induction}
 use Rattle.hist_model.proofs.Laws.OneThing.{wanted_by}
+use Rattle.hist_model.proofs.Laws.Open.{closed_enters, closed_leaves, closed_main, closed_post}
 use Rattle.task_script.specs.Generated.{numbers_behind, amount_of, goal_of, posting_of, postings_from, generated}
 
 -- the action is of one of the kinds that a generated script has, without a delay
@@ -82,8 +84,9 @@ is_accepting (kinds.Main task queue delay ok) = ok
 is_accepting (kinds.JobPost job ok) = ok
 is_accepting kind = true
 
--- each action is calm, and no task has an act step
+-- it is no open plan, each action is calm, and no task has an act step
 pub record IsCalmScript (script : Plan) : Type 0 where
+  pub closed : IsClosed script
   pub actions : AllByRecursion (λ action. is_calm_action action ≡ true) script.actions
   pub no_acts : (t : ℕ) → filter is_act (steps_of script t) ≡ []
 
@@ -103,11 +106,11 @@ pub record IsCalm (past : List Entry) : Type 0 where
   pub no_job_refused : (j : ℕ) → holds_of (λ p. not p.ok) (job_post_of past j) ≡ false
 
 -- an entry that the driver makes by the script is wanted by one of its actions
-pub wanted_by_one : (P : Action → Type 0) (script : Plan) (past : List Entry) (seat : ℕ) (kind : Kind) → AllByRecursion P script.actions
-    → by_script script past seat kind ≡ true
+pub wanted_by_one : (P : Action → Type 0) (script : Plan) (past : List Entry) (seat : ℕ) (kind : Kind) → IsClosed script
+    → AllByRecursion P script.actions → by_script script past seat kind ≡ true
     → (c : Current) × P c.action × (wants (own_entries 0 past) c.action c.made kind ≡ true)
-wanted_by_one P script past seat kind all by =
-    let c = wanted_by script past seat kind by in
+wanted_by_one P script past seat kind closed all by =
+    let c = wanted_by script past seat kind closed by in
     (c.value, current_is_one P script (own_entries 0 past) c.value all c.is, c.passes)
 
 -- a calm action wants only calm entries
@@ -129,7 +132,7 @@ calm_wants own action made kind calm h = absurd cc
 pub calm_by_script : (script : Plan) (past : List Entry) (seat : ℕ) (kind : Kind) → IsCalmScript script → by_script script past seat kind ≡ true
     → is_calm kind ≡ true
 calm_by_script script past seat kind calm by =
-    let (c, is, h) = wanted_by_one (λ action. is_calm_action action ≡ true) script past seat kind calm.actions by in
+    let (c, is, h) = wanted_by_one (λ action. is_calm_action action ≡ true) script past seat kind calm.closed calm.actions by in
     calm_wants (own_entries 0 past) c.action c.made kind is h
 
 -- where no task has an act step, nothing comes by a task
@@ -174,9 +177,9 @@ calm_by_either script past seat kind calm by = ⊎_elim (calm_by_script script p
 calm_comes : (script : Plan) (past : List Entry) (seat : ℕ) (kind : Kind) → IsCalmScript script → may_come script past seat kind ≡ true → is_calm kind ≡ true
 unfolding may_come
 calm_comes script past seat (kinds.Post task runner delay ok) calm h = calm_by_either script past seat (kinds.Post task runner delay ok) calm
-    (and_parts _ (is_reply (is_refused script past runner delay) ok) h).0
+    (and_parts _ (is_reply (is_refused script past runner delay) ok) (sym (closed_post script past seat task runner delay ok calm.closed) ∙ h)).0
 calm_comes script past seat (kinds.Main task queue delay ok) calm h = calm_by_either script past seat (kinds.Main task queue delay ok) calm
-    (and_parts _ (is_reply (is_closed past queue) ok) h).0
+    (and_parts _ (is_reply (is_closed past queue) ok) (sym (closed_main script past seat task queue delay ok calm.closed) ∙ h)).0
 calm_comes script past seat (kinds.Take task runner found) calm h = refl
 calm_comes script past seat (kinds.End task left) calm h = refl
 calm_comes script past seat (kinds.MainTake task queue found) calm h = refl
@@ -188,9 +191,9 @@ calm_comes script past seat (kinds.JobStep job id item value next) calm h = refl
 calm_comes script past seat (kinds.Joined job reply) calm h = refl
 calm_comes script past seat kinds.Idle calm h = refl
 calm_comes script past seat (kinds.Enter task scope) calm h =
-    absurd (true≢false (sym h ∙ none_by_task script past seat (kinds.Enter task scope) calm.no_acts))
+    absurd (true≢false (sym h ∙ closed_enters script past seat task scope calm.closed ∙ none_by_task script past seat (kinds.Enter task scope) calm.no_acts))
 calm_comes script past seat (kinds.Leave task) calm h =
-    absurd (true≢false (sym h ∙ none_by_task script past seat (kinds.Leave task) calm.no_acts))
+    absurd (true≢false (sym h ∙ closed_leaves script past seat task calm.closed ∙ none_by_task script past seat (kinds.Leave task) calm.no_acts))
 calm_comes script past seat (kinds.Tick now) calm h = calm_by_script script past seat (kinds.Tick now) calm
     (and_parts (by_script script past seat (kinds.Tick now)) _ (and_parts _ (leb now LAST_MOMENT) h).0).0
 calm_comes script past seat (kinds.Cancelled job) calm h = calm_by_script script past seat (kinds.Cancelled job) calm
@@ -327,6 +330,7 @@ postings_all P each t (x ∷ xs) = (each t x, postings_all P each (t + 1) xs)
 pub generated_is_calm : (number size : ℕ) → IsCalmScript (generated number size)
 unfolding generated
 generated_is_calm number size = record {
+  closed = refl;
   actions = (
     refl,
     AllByRecursion-append (λ action. is_calm_action action ≡ true) (postings_from 0 (numbers_behind number size))

@@ -64,8 +64,8 @@ generated_joins number size = list_any-append is_join (postings_from 0 (numbers_
 generated_done : (number size : ℕ) (log : List Entry) → IsLegal (generated number size) log → IsWhole (generated number size) log → done log 0 ≡ 8 * size
 generated_done number size log legal whole =
     joined_is_done (generated number size) (generated_is_calm number size) (generated_joins_first number size) log legal
-    (finished_script_joins (generated number size) log (and_parts (is_finished (generated number size) log) (is_quiet (generated number size) log) whole).0
-    (generated_joins number size))
+    (finished_script_joins (generated number size) log (generated_is_calm number size).closed
+    (and_parts (is_finished (generated number size) log) (is_quiet (generated number size) log) whole).0 (generated_joins number size))
     ∙ generated_items number size
 
 -- so many entries end an item

@@ -26,10 +26,12 @@ use Rattle.hist_model.specs.Script.{behind, behind_join, behind_pump, behind_act
 use Rattle.hist_model.specs.Script.{is_main_end, current_from, current, is_finished, wants}
 use Rattle.hist_model.specs.Allowed.{by_script, same_reply, may_come}
 use Rattle.hist_model.specs.Legal.{IsLegal}
+use Rattle.hist_model.specs.Open.{IsClosed}
 use Rattle.hist_model.specs.Laws.Consistent.{is_join}
 use Rattle.hist_model.proofs.Laws.Legal.{legal_induction, legal_next}
 use Rattle.hist_model.proofs.Laws.JobEntries.{none_is, join_is}
 use Rattle.hist_model.proofs.Laws.Claims.{claimed_is}
+use Rattle.hist_model.proofs.Laws.Open.{closed_finished}
 use Rattle.hist_model.proofs.Laws.Entries.Jobs.{claimed_within}
 use Rattle.run_summary.proofs.Calm.{IsCalmScript, IsCalm, calm_logs, calm_forbids_no_job, wanted_by_one}
 
@@ -99,10 +101,12 @@ any_of_filter p q (x ∷ xs) h = at (p x) h (any_of_filter p q xs)
     at false k next = or_right (q x) (list_any q xs) (next k)
 
 -- so has the log of such a script
-pub finished_script_joins : (script : Plan) (log : List Entry) → is_finished script log ≡ true → list_any is_join script.actions ≡ true → joined_in log ≡ true
-unfolding is_finished current
-finished_script_joins script log done h = any_of_filter (λ e. eqb e.seat 0) (λ e. is_joined e.kind) log
-    (finished_joins script.actions (own_entries 0 log) (none_is (current_from script.actions (own_entries 0 log)) done) h)
+pub finished_script_joins : (script : Plan) (log : List Entry) → IsClosed script → is_finished script log ≡ true
+    → list_any is_join script.actions ≡ true → joined_in log ≡ true
+unfolding current
+finished_script_joins script log closed done h = any_of_filter (λ e. eqb e.seat 0) (λ e. is_joined e.kind) log
+    (finished_joins script.actions (own_entries 0 log)
+    (none_is (current_from script.actions (own_entries 0 log)) (sym (closed_finished script log closed) ∙ done)) h)
 
 -- the action joins no job but the first
 abbrev pub joins_first : Action → Bool
@@ -126,10 +130,11 @@ only_finished false false false true sum reply a b c h = absurd cc
 only_finished false false false false sum reply a b c h = absurd cc
 
 -- a calm script joins a job only where all its items are done
-join_is_done : (script : Plan) (past : List Entry) (seat job : ℕ) (reply : JobReply) → AllByRecursion (λ action. joins_first action ≡ true) script.actions
-    → IsCalm past → may_come script past seat (kinds.Joined job reply) ≡ true → done past 0 ≡ items_of script 0
+join_is_done : (script : Plan) (past : List Entry) (seat job : ℕ) (reply : JobReply) → IsClosed script
+    → AllByRecursion (λ action. joins_first action ≡ true) script.actions → IsCalm past
+    → may_come script past seat (kinds.Joined job reply) ≡ true → done past 0 ≡ items_of script 0
 unfolding may_come
-join_is_done script past seat job reply first calm may = subst (λ j. done past j ≡ items_of script j) job_is
+join_is_done script past seat job reply closed first calm may = subst (λ j. done past j ≡ items_of script j) job_is
     (eqb-true (done past job) (items_of script job) (only_finished _ _ (is_cancelled past job) (is_job_forbidden script past job) (job_sum past job) reply
     (calm.no_job_refused job) (calm.not_cancelled job) (calm_forbids_no_job script past job calm) (join_is script past seat job reply may).reply_is))
   where
@@ -138,7 +143,7 @@ join_is_done script past seat job reply first calm may = subst (λ j. done past 
 
     job_is : job ≡ 0
     job_is =
-        let (c, is, h) = wanted_by_one (λ action. joins_first action ≡ true) script past seat (kinds.Joined job reply) first by_entry in
+        let (c, is, h) = wanted_by_one (λ action. joins_first action ≡ true) script past seat (kinds.Joined job reply) closed first by_entry in
         first_wanted (own_entries 0 past) c.action c.made job reply is h
 
 -- what is done stays so
@@ -160,5 +165,5 @@ joined_is_done script calm first = legal_induction script (λ past. joined_in pa
 
     now : (past : List Entry) (seat : ℕ) (kind : Kind) → IsLegal script past → may_come script past seat kind ≡ true → is_joined kind ≡ true
         → done past 0 ≡ items_of script 0
-    now past seat (kinds.Joined job reply) legal may k = join_is_done script past seat job reply first (calm_logs script calm past legal) may
+    now past seat (kinds.Joined job reply) legal may k = join_is_done script past seat job reply calm.closed first (calm_logs script calm past legal) may
     now past seat kind legal may k = absurd cc

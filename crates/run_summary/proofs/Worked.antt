@@ -72,6 +72,7 @@ refused_plan = record {
   tasks = (Set 18446744073709551615 ∷ []) ∷ (Add 3 ∷ []) ∷ (Add 5 ∷ []) ∷ [];
   jobs = [];
   actions = actions.Post 0 0 0 ∷ actions.Post 1 1 0 ∷ actions.Flush ∷ actions.Shutdown ∷ actions.Post 2 0 0 ∷ [];
+  is_open = false;
 }
 
 -- a worker runs two tasks, and the third one is refused

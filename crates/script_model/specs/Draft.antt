@@ -55,6 +55,7 @@ script_of d = record {
   tasks = d.tasks;
   jobs = d.jobs;
   actions = d.actions;
+  is_open = false;
 }
 
 -- nothing is done yet

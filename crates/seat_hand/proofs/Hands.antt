@@ -70,6 +70,7 @@ others_stay {before} {after} other hand enters apart = hand_same before after ot
 pub all_stay : {before after : EnvView} {seat : ℕ} {kind : Kind} (hands : List Hand) → AreInHand before hands → Enters before after seat kind
     → ((hand : Hand) → slice_get hands seat ≡ Some hand → IsInHand after seat hand) → AreInHand after hands
 all_stay {before} {after} {seat} hands are enters own = record {
+  closed = ap (λ s. s.is_open) (script_is enters) ∙ are.closed;
   legal = enters.legal;
   all = are.all ∙ ap (λ s. s.workers + 1) (sym (script_is enters));
   each = λ other hand at. at_other other hand at (eqb seat other) refl;
@@ -85,6 +86,7 @@ all_stay {before} {after} {seat} hands are enters own = record {
 pub all_in_hand : {before after : EnvView} {seat : ℕ} {kind : Kind} (hands : List Hand) (hand : Hand) → AreInHand before hands
     → seat ≤ before.script.workers → Enters before after seat kind → IsInHand after seat hand → AreInHand after (slice_set hands seat hand)
 all_in_hand {before} {after} {seat} hands hand are known enters own = record {
+  closed = ap (λ s. s.is_open) (script_is enters) ∙ are.closed;
   legal = enters.legal;
   all = length-set hands seat hand ∙ are.all ∙ ap (λ s. s.workers + 1) (sym (script_is enters));
   each = λ other now at. at_other other now at (eqb seat other) refl;

@@ -5,6 +5,7 @@ use Rattle.task_base.specs.declared.step.Step.{Step}
 use Rattle.task_base.specs.declared.step.Step.TheVariants as steps
 use Rattle.task_model.specs.Seats.{acts_done, is_free}
 use Rattle.hist_model.specs.Legal.{IsLegal}
+use Rattle.hist_model.specs.Open.{IsClosed}
 use Rattle.hist_model.specs.Views.{own_entries, IsSeatsAssignment}
 use Rattle.task_body.specs.Bodies.{AssignmentView}
 use Rattle.task_body.specs.declared.act.Act.{Act}
@@ -48,8 +49,9 @@ IsInHand view seat Free = is_free (own_entries seat view.history) seat ≡ true
 IsInHand view seat (Task at) = IsAtTask view seat at.work at.next
 IsInHand view seat (Item pass) = IsHeld view seat pass
 
--- the history is legal, and each seat has in hand what is at its place
+-- the plan is closed, the history is legal, and each seat has in hand what is at its place
 pub record AreInHand (view : EnvView) (hands : List Hand) : Type 0 where
+  pub closed : IsClosed view.script
   pub legal : IsLegal view.script view.history
   pub all : length hands ≡ view.script.workers + 1
   pub each : (seat : ℕ) (hand : Hand) → slice_get hands seat ≡ Some hand → IsInHand view seat hand

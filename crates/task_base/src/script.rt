@@ -243,6 +243,7 @@ pub struct Script {
 }
 
 impl Model for Script {
+    ghost use Rattle.std.specs.Prelude.{false};
     ghost use Rattle.task_base.specs.Plan.{Plan};
 
     ghost Value = { Plan };
@@ -258,6 +259,7 @@ impl Model for Script {
       tasks = s.tasks.items;
       jobs = s.jobs.items;
       actions = s.actions.items;
+      is_open = false;
     } };
 }
 

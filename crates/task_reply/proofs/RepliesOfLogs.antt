@@ -21,12 +21,14 @@ use Rattle.script_model.specs.Laws.Sound.{IsSound}
 use Rattle.task_model.specs.Posts.{takes, main_takes, ends}
 use Rattle.pool_laws.specs.Posts.{main_ends}
 use Rattle.task_model.specs.Seats.{Running, running, acts_done, steps_of}
-use Rattle.hist_model.specs.Allowed.{by_script, by_task, enters, has_done, may_come}
+use Rattle.hist_model.specs.Allowed.{by_script, by_task, enters, has_acted, has_done, may_come}
 use Rattle.hist_model.specs.Legal.{IsLegal}
+use Rattle.hist_model.specs.Open.{IsClosed}
 use Rattle.hist_model.specs.Laws.Places.{IsAt, StandsBefore}
 use Rattle.hist_model.specs.Laws.Postings.{kind_posts}
 use Rattle.hist_model.proofs.Laws.AtPlaces.{may_come_at, of_past, past_is_legal}
 use Rattle.hist_model.proofs.Laws.Choice.{found}
+use Rattle.hist_model.proofs.Laws.Open.{closed_acts}
 use Rattle.hist_model.proofs.Laws.Postings.Driver.{driver_begins, driver_has, driver_has_less, driver_posts}
 use Rattle.hist_model.proofs.Laws.Starts.{same_entry, tasks_start_at_most_once}
 use Rattle.task_reply.specs.declared.reply.Home.{Home}
@@ -46,11 +48,11 @@ driver_within script t = push_induction (λ past. driver_has script t past ≤ t
     (λ past e within. omega (arith, within, driver_has_less script t past e))
 
 -- what no action posts is not posted by the script
-not_by_script : (script : Plan) (t seat : ℕ) (past : List Entry) (kind : Kind) → times t (flat_map posts_of_action script.actions) ≡ 0
-    → kind_posts kind ≡ t ∷ [] → by_script script past seat kind ≡ true → ⊥
-not_by_script script t seat past kind none posts by =
+not_by_script : (script : Plan) (t seat : ℕ) (past : List Entry) (kind : Kind) → IsClosed script
+    → times t (flat_map posts_of_action script.actions) ≡ 0 → kind_posts kind ≡ t ∷ [] → by_script script past seat kind ≡ true → ⊥
+not_by_script script t seat past kind closed none posts by =
     let e : Entry = record { seat = seat; kind = kind } in
-    let used : driver_has script t (past ++ e ∷ []) + times t (kind_posts kind) ≤ driver_has script t past = driver_posts script t past e by in
+    let used : driver_has script t (past ++ e ∷ []) + times t (kind_posts kind) ≤ driver_has script t past = driver_posts script t past e closed by in
     let one : times t (kind_posts kind) ≡ 1 = ap (times t) posts ∙ once_in_one t in
     omega (arith, used, driver_within script t past, one, none)
 
@@ -108,7 +110,7 @@ post_facts : (script result : Plan) (replies : List Reply) (log : List Entry) (p
     → PostFacts script replies log place seat m reply
 post_facts script result replies log place seat m reply made sound legal is p =
     let acts = posts_act p.kind reply.reply p.posts in
-    by_side (by_either result past seat p.kind may acts)
+    by_side (by_either result past seat p.kind sound.closed may acts)
   where
     past : List Entry
     past = take place log
@@ -142,7 +144,7 @@ post_facts script result replies log place seat m reply made sound legal is p =
         }
 
     by_side : (by_script result past seat p.kind ≡ true) ⊎ (by_task result past seat p.kind ≡ true) → PostFacts script replies log place seat m reply
-    by_side (inl script_posts) = absurd (not_by_script result reply.reply seat past p.kind
+    by_side (inl script_posts) = absurd (not_by_script result reply.reply seat past p.kind sound.closed
         (no_action_posts result reply.reply reply.task at (reply_posting reply) sound.once.posted_once there posts) p.posts script_posts)
     by_side (inr task) = of_step (act_step result past seat p.kind task)
 
@@ -213,30 +215,30 @@ record EndsDone (script : Plan) (past : List Entry) (seat task : ℕ) : Type 0 w
   task_is : now.task ≡ task
   done : acts_done past seat ≡ length (filter is_act (steps_of script now.task))
 
-ends_done : (script : Plan) (past : List Entry) (seat task : ℕ) (kind : Kind) → may_come script past seat kind ≡ true
+ends_done : (script : Plan) (past : List Entry) (seat task : ℕ) (kind : Kind) → IsClosed script → may_come script past seat kind ≡ true
     → (ends task kind || main_ends task kind) ≡ true → EndsDone script past seat task
 unfolding may_come
-ends_done script past seat t (kinds.End task left) may h =
+ends_done script past seat t (kinds.End task left) closed may h =
     let w = found (λ (v : Running). not v.is_main && eqb v.task task && has_done script past seat left v) (running past seat) may in
     let parts = and_parts _ (has_done script past seat left w.value) w.passes in
-    let done = and_parts (eqb (acts_done past seat) _) _ parts.1 in
+    let done = and_parts (has_acted script past seat w.value) _ parts.1 in
     record {
       now = w.value;
       runs = w.is;
       task_is = eqb-true w.value.task task (and_parts _ (eqb w.value.task task) parts.0).1 ∙ eqb-true task t (sym (or-false (eqb task t)) ∙ h);
-      done = eqb-true (acts_done past seat) _ done.0;
+      done = eqb-true (acts_done past seat) _ (sym (closed_acts script past seat w.value closed) ∙ done.0);
     }
-ends_done script past seat t (kinds.MainEnd task left) may h =
+ends_done script past seat t (kinds.MainEnd task left) closed may h =
     let w = found (λ (v : Running). v.is_main && eqb v.task task && has_done script past seat left v) (running past seat) (and_parts (eqb seat 0) _ may).1 in
     let parts = and_parts _ (has_done script past seat left w.value) w.passes in
-    let done = and_parts (eqb (acts_done past seat) _) _ parts.1 in
+    let done = and_parts (has_acted script past seat w.value) _ parts.1 in
     record {
       now = w.value;
       runs = w.is;
       task_is = eqb-true w.value.task task (and_parts _ (eqb w.value.task task) parts.0).1 ∙ eqb-true task t h;
-      done = eqb-true (acts_done past seat) _ done.0;
+      done = eqb-true (acts_done past seat) _ (sym (closed_acts script past seat w.value closed) ∙ done.0);
     }
-ends_done script past seat t kind may h = absurd cc
+ends_done script past seat t kind closed may h = absurd cc
 
 -- an act step of the past that posts the reply is the reply's post
 entered_post : (script : Plan) (log : List Entry) (place seat task n : ℕ) (reply : Reply) → Entered script (take place log) seat task n
@@ -253,13 +255,14 @@ pub end_after_replies : (script result : Plan) (replies : List Reply) (log : Lis
 end_after_replies script result replies log made sound legal = record {
   all_posted = λ reply place seat kind has is h.
       let (m, reply_is) = placed replies reply has in
-      let e = ends_done result (take place log) seat reply.task kind (may_come_at result log place _ legal is) h in
+      let e = ends_done result (take place log) seat reply.task kind sound.closed (may_come_at result log place _ legal is) h in
       let n = own_acts script reply.task + rank_at replies m reply.task in
       let there = posting_at script result replies m reply made reply_is in
       let of_now = subst (λ u. slice_get (filter is_act (steps_of result u)) n ≡ Some (reply_posting reply)) (sym e.task_is) there in
       let within = slice_get_within (filter is_act (steps_of result e.now.task)) _ (reply_posting reply) of_now in
       entered_post result log place seat e.now.task _ reply
-      (acts_entered result (take place log) seat e.now _ (past_is_legal result log place _ legal is) e.runs (omega (arith, within, e.done))) of_now;
+      (acts_entered result (take place log) seat e.now _ sound.closed (past_is_legal result log place _ legal is) e.runs
+      (omega (arith, within, e.done))) of_now;
   in_order = λ first second i k seat other before p q.
       let f = post_facts script result replies log i seat before.m first made sound legal before.first_is p in
       let g = post_facts script result replies log k other before.n second made sound legal before.second_is q in

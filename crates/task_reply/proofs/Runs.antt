@@ -25,6 +25,7 @@ use Rattle.hist_model.specs.Views.{own_entries}
 use Rattle.hist_model.specs.Script.{wants}
 use Rattle.hist_model.specs.Allowed.{by_script, by_task, enters, may_come, IsAllowed}
 use Rattle.hist_model.specs.Legal.{IsLegal}
+use Rattle.hist_model.specs.Open.{IsClosed}
 use Rattle.hist_model.specs.Laws.Consistent.{is_pump}
 use Rattle.hist_model.specs.Laws.Places.{IsAt}
 use Rattle.hist_model.specs.Laws.Postings.{kind_posts, posted_in}
@@ -33,6 +34,7 @@ use Rattle.hist_model.proofs.Laws.AtPlaces.{in_past, of_past, take_at}
 use Rattle.hist_model.proofs.Laws.Choice.{found}
 use Rattle.hist_model.proofs.Laws.Legal.{legal_induction}
 use Rattle.hist_model.proofs.Laws.OneThing.{legal_does_one_thing, wanted_by}
+use Rattle.hist_model.proofs.Laws.Open.{closed_enters, closed_leaves, closed_main, closed_post}
 use Rattle.hist_model.proofs.Laws.Postings.Counts.{posted_at_most_once}
 use Rattle.hist_model.proofs.Laws.Since.{RunningSince, running_since, taking}
 use Rattle.hist_model.proofs.Laws.Starts.{same_entry, tasks_start_at_most_once}
@@ -155,15 +157,17 @@ act_step script past seat kind h =
       enters_it = step.passes;
     }
 
--- such an entry is by the script, or by the task that the seat runs
-pub by_either : (script : Plan) (past : List Entry) (seat : ℕ) (kind : Kind) → may_come script past seat kind ≡ true → is_acting kind ≡ true
+-- such an entry of a closed plan is by the script, or by the task that the seat runs
+pub by_either : (script : Plan) (past : List Entry) (seat : ℕ) (kind : Kind) → IsClosed script → may_come script past seat kind ≡ true → is_acting kind ≡ true
     → (by_script script past seat kind ≡ true) ⊎ (by_task script past seat kind ≡ true)
 unfolding may_come
-by_either script past seat (kinds.Post task runner delay ok) may acts = or_cases _ _ (and_parts _ _ may).0
-by_either script past seat (kinds.Main task queue delay ok) may acts = or_cases _ _ (and_parts _ _ may).0
-by_either script past seat (kinds.Enter task scope) may acts = inr may
-by_either script past seat (kinds.Leave task) may acts = inr may
-by_either script past seat kind may acts = absurd cc
+by_either script past seat (kinds.Post task runner delay ok) closed may acts =
+    or_cases _ _ (and_parts _ _ (sym (closed_post script past seat task runner delay ok closed) ∙ may)).0
+by_either script past seat (kinds.Main task queue delay ok) closed may acts =
+    or_cases _ _ (and_parts _ _ (sym (closed_main script past seat task queue delay ok closed) ∙ may)).0
+by_either script past seat (kinds.Enter task scope) closed may acts = inr (sym (closed_enters script past seat task scope closed) ∙ may)
+by_either script past seat (kinds.Leave task) closed may acts = inr (sym (closed_leaves script past seat task closed) ∙ may)
+by_either script past seat kind closed may acts = absurd cc
 
 -- a pump wants no act step's entry
 pump_wants_none : (own : List Entry) (action : Action) (made : List Entry) (kind : Kind) → is_pump action ≡ true → wants own action made kind ≡ true
@@ -176,16 +180,16 @@ pump_wants_none own (actions.Pump count) made kind pump h = refl
 pump_wants_none own action made kind pump h = absurd cc
 
 -- of a seat that runs a task it is by the task
-pub by_running : (script : Plan) (past : List Entry) (seat : ℕ) (kind : Kind) (now : Running) → IsLegal script past → running past seat ≡ Some now
-    → may_come script past seat kind ≡ true → is_acting kind ≡ true → by_task script past seat kind ≡ true
-by_running script past seat kind now legal runs may acts = at (by_either script past seat kind may acts)
+pub by_running : (script : Plan) (past : List Entry) (seat : ℕ) (kind : Kind) (now : Running) → IsClosed script → IsLegal script past
+    → running past seat ≡ Some now → may_come script past seat kind ≡ true → is_acting kind ≡ true → by_task script past seat kind ≡ true
+by_running script past seat kind now closed legal runs may acts = at (by_either script past seat kind closed may acts)
   where
     at : (by_script script past seat kind ≡ true) ⊎ (by_task script past seat kind ≡ true) → by_task script past seat kind ≡ true
     at (inr task) = task
     at (inl by) =
         let driver : seat ≡ 0 = by_driver script past seat kind by in
-        let (c, c_is, pump) = (legal_does_one_thing script past legal).pumps now (ap (running past) (sym driver) ∙ runs) in
-        let w = wanted_by script past seat kind by in
+        let (c, c_is, pump) = (legal_does_one_thing script past legal).pumps closed now (ap (running past) (sym driver) ∙ runs) in
+        let w = wanted_by script past seat kind closed by in
         let same = same_Some c w.value (sym c_is ∙ w.is) in
         let none = pump_wants_none (own_entries 0 past) w.value.action w.value.made kind (ap (λ d. is_pump d.action) (sym same) ∙ pump) w.passes in
         absurd (true≢false (sym acts ∙ none))
@@ -216,13 +220,13 @@ AllEntered : Plan → List Entry → Type 0
 AllEntered script past = (seat : ℕ) (w : Running) → running past seat ≡ Some w → (n : ℕ) → n < acts_done past seat → Entered script past seat w.task n
 
 -- one more act step
-one_entered : (script : Plan) (past : List Entry) (seat : ℕ) (kind : Kind) (w : Running) (n : ℕ) → IsLegal script past → running past seat ≡ Some w
-    → may_come script past seat kind ≡ true → is_acting kind ≡ true → (n < acts_done past seat → Entered script past seat w.task n)
+one_entered : (script : Plan) (past : List Entry) (seat : ℕ) (kind : Kind) (w : Running) (n : ℕ) → IsClosed script → IsLegal script past
+    → running past seat ≡ Some w → may_come script past seat kind ≡ true → is_acting kind ≡ true → (n < acts_done past seat → Entered script past seat w.task n)
     → n < acts_done past seat + 1 → Entered script (past ++ record { seat = seat; kind = kind } ∷ []) seat w.task n
-one_entered script past seat kind w n legal runs may acts before less = elim (cases_lt n (acts_done past seat)) [
+one_entered script past seat kind w n closed legal runs may acts before less = elim (cases_lt n (acts_done past seat)) [
   | inl lt ↦ entered_more script past _ seat w.task n (before lt)
   | inr le ↦
-      let a = act_step script past seat kind (by_running script past seat kind w legal runs may acts) in
+      let a = act_step script past seat kind (by_running script past seat kind w closed legal runs may acts) in
       let same : a.now ≡ w = same_Some a.now w (sym a.runs ∙ runs) in
       let last : acts_done past seat ≡ n = omega (arith, le, less) in
       record {
@@ -237,33 +241,33 @@ one_entered script past seat kind w n legal runs may acts before less = elim (ca
 ]
 
 -- an entry of the seat's own
-own_entered : (script : Plan) (past : List Entry) (seat : ℕ) (kind : Kind) (w : Running) (n : ℕ) → IsLegal script past
+own_entered : (script : Plan) (past : List Entry) (seat : ℕ) (kind : Kind) (w : Running) (n : ℕ) → IsClosed script → IsLegal script past
     → may_come script past seat kind ≡ true
     → ((v : Running) → running past seat ≡ Some v → n < acts_done past seat → Entered script past seat v.task n)
     → running_after (running past seat) kind ≡ Some w → n < acts_after (acts_done past seat) kind
     → Entered script (past ++ record { seat = seat; kind = kind } ∷ []) seat w.task n
-own_entered script past seat (kinds.Take task runner found) w n legal may before runs less = absurd (omega (arith, less))
-own_entered script past seat (kinds.MainTake task queue found) w n legal may before runs less = absurd (omega (arith, less))
-own_entered script past seat (kinds.End task left) w n legal may before runs less = absurd (none-some w runs)
-own_entered script past seat (kinds.MainEnd task left) w n legal may before runs less = absurd (none-some w runs)
-own_entered script past seat (kinds.Post task runner delay ok) w n legal may before runs less =
-    one_entered script past seat (kinds.Post task runner delay ok) w n legal runs may refl (before w runs) less
-own_entered script past seat (kinds.Main task queue delay ok) w n legal may before runs less =
-    one_entered script past seat (kinds.Main task queue delay ok) w n legal runs may refl (before w runs) less
-own_entered script past seat (kinds.Enter task scope) w n legal may before runs less =
-    one_entered script past seat (kinds.Enter task scope) w n legal runs may refl (before w runs) less
-own_entered script past seat (kinds.Leave task) w n legal may before runs less =
-    one_entered script past seat (kinds.Leave task) w n legal runs may refl (before w runs) less
-own_entered script past seat kind w n legal may before runs less = entered_more script past _ seat w.task n (before w runs less)
+own_entered script past seat (kinds.Take task runner found) w n closed legal may before runs less = absurd (omega (arith, less))
+own_entered script past seat (kinds.MainTake task queue found) w n closed legal may before runs less = absurd (omega (arith, less))
+own_entered script past seat (kinds.End task left) w n closed legal may before runs less = absurd (none-some w runs)
+own_entered script past seat (kinds.MainEnd task left) w n closed legal may before runs less = absurd (none-some w runs)
+own_entered script past seat (kinds.Post task runner delay ok) w n closed legal may before runs less =
+    one_entered script past seat (kinds.Post task runner delay ok) w n closed legal runs may refl (before w runs) less
+own_entered script past seat (kinds.Main task queue delay ok) w n closed legal may before runs less =
+    one_entered script past seat (kinds.Main task queue delay ok) w n closed legal runs may refl (before w runs) less
+own_entered script past seat (kinds.Enter task scope) w n closed legal may before runs less =
+    one_entered script past seat (kinds.Enter task scope) w n closed legal runs may refl (before w runs) less
+own_entered script past seat (kinds.Leave task) w n closed legal may before runs less =
+    one_entered script past seat (kinds.Leave task) w n closed legal runs may refl (before w runs) less
+own_entered script past seat kind w n closed legal may before runs less = entered_more script past _ seat w.task n (before w runs less)
 
 none_entered : (script : Plan) → AllEntered script []
 unfolding AllEntered running
 none_entered script seat w runs n less = absurd (none-some w runs)
 
-more_entered : (script : Plan) (past : List Entry) (e : Entry) → IsLegal script past → IsAllowed script past e → AllEntered script past
+more_entered : (script : Plan) → IsClosed script → (past : List Entry) (e : Entry) → IsLegal script past → IsAllowed script past e → AllEntered script past
     → AllEntered script (past ++ e ∷ [])
 unfolding AllEntered
-more_entered script past e legal allowed before seat w runs n less = at (eqb e.seat seat) refl
+more_entered script closed past e legal allowed before seat w runs n less = at (eqb e.seat seat) refl
     (sym (running_push past e seat) ∙ runs) (subst (λ m. n < m) (acts_done_push past e seat) less)
   where
     may : may_come script past e.seat e.kind ≡ true
@@ -275,12 +279,12 @@ more_entered script past e legal allowed before seat w runs n less = at (eqb e.s
     at true is r l =
         let own : e.seat ≡ seat = eqb-true e.seat seat is in
         subst (λ s. Entered script (past ++ e ∷ []) s w.task n) own
-        (own_entered script past e.seat e.kind w n legal may (λ v runs_v less_v. before e.seat v runs_v n less_v)
+        (own_entered script past e.seat e.kind w n closed legal may (λ v runs_v less_v. before e.seat v runs_v n less_v)
         (subst (λ s. running_after (running past s) e.kind ≡ Some w) (sym own) r)
         (subst (λ s. n < acts_after (acts_done past s) e.kind) (sym own) l))
 
-pub acts_entered : (script : Plan) (past : List Entry) (seat : ℕ) (w : Running) (n : ℕ) → IsLegal script past → running past seat ≡ Some w
-    → n < acts_done past seat → Entered script past seat w.task n
+pub acts_entered : (script : Plan) (past : List Entry) (seat : ℕ) (w : Running) (n : ℕ) → IsClosed script → IsLegal script past
+    → running past seat ≡ Some w → n < acts_done past seat → Entered script past seat w.task n
 unfolding AllEntered
-acts_entered script past seat w n legal runs less =
-    legal_induction script (AllEntered script) (none_entered script) (more_entered script) past legal seat w runs n less
+acts_entered script past seat w n closed legal runs less =
+    legal_induction script (AllEntered script) (none_entered script) (more_entered script closed) past legal seat w runs n less

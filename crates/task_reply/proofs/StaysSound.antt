@@ -186,6 +186,7 @@ stays_sound s reply sound may =
     let same = same_scopes s reply.task reply.reply reply.home may.task_there in
     let tasks = length-set s.tasks reply.task (get_or s.tasks reply.task [] ++ reply_posting reply ∷ []) in
     record {
+      closed = sound.closed;
       config = assumption;
       limits = record {
         few_runners = sound.limits.few_runners;

@@ -32,6 +32,7 @@ script = record {
   tasks = (steps.Add 1 ∷ []) ∷ (steps.Block May ∷ steps.Unblock ∷ []) ∷ (steps.Add 2 ∷ []) ∷ (steps.Post 2 0 0 ∷ steps.Add 3 ∷ []) ∷ [];
   jobs = [];
   actions = actions.Post 3 0 0 ∷ actions.Flush ∷ actions.Pump 1 ∷ [];
+  is_open = false;
 }
 
 -- what the definition says of lines, and what it is to say

@@ -1,5 +1,5 @@
 -- What contracts see of the table of runners.
-use Rattle.std.specs.Prelude.{ℕ, List, []}
+use Rattle.std.specs.Prelude.{ℕ, false, List, []}
 use Rattle.task_base.specs.Plan.{Plan}
 use Rattle.task_base.specs.declared.script.Runner.{Runner}
 
@@ -16,4 +16,5 @@ table_of runners background = record {
   tasks = [];
   jobs = [];
   actions = [];
+  is_open = false;
 }

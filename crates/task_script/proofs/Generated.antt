@@ -278,6 +278,7 @@ generated_sound number size some few =
     let xs = numbers_behind number size in
     let long = length-numbers_behind number size in
     record {
+      closed = refl;
       config = config_sound size xs;
       limits = limits_kept size xs long few;
       declarations = declarations_sound size xs few;

@@ -77,6 +77,7 @@ generated_from size numbers = record {
   tasks = generated_tasks numbers;
   jobs = generated_job size ∷ [];
   actions = generated_actions size numbers;
+  is_open = false;
 }
 
 -- the script of a number and so many tasks

@@ -73,6 +73,7 @@ no_script = record {
   tasks = [];
   jobs = [];
   actions = [];
+  is_open = false;
 }
 
 -- the view that a joined seat leaves

@@ -29,6 +29,7 @@ idle_plan workers to_do = record {
   tasks = [];
   jobs = [];
   actions = to_do;
+  is_open = false;
 }
 
 -- a runner

@@ -25,6 +25,7 @@ steps_script = record {
   tasks = (steps.Add 5 ∷ []) ∷ [];
   jobs = [];
   actions = actions.Post 0 0 0 ∷ actions.Shutdown ∷ [];
+  is_open = false;
 }
 
 -- what the driver and the worker enter for it

@@ -51,7 +51,7 @@ pub wanted_soundly : (script : Plan) (past : List Entry) (seat : ℕ) (kind : Ki
     → IsWantedSoundly script past kind
 unfolding current
 wanted_soundly script past seat kind sound h =
-    let c = wanted_by script past seat kind h in
+    let c = wanted_by script past seat kind sound.closed h in
     record {
       action = c.value.action;
       made = c.value.made;

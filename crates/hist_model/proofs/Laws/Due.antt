@@ -28,6 +28,7 @@ use Rattle.task_model.specs.Sequences.{head_of}
 use Rattle.task_model.specs.Sources.{Candidate, best_of}
 use Rattle.task_model.specs.Time.{now_of}
 use Rattle.hist_model.specs.Views.{own_entries}
+use Rattle.hist_model.specs.Open.{IsClosed, is_tick}
 use Rattle.hist_model.specs.Script.{Current, behind_action, current, is_finished, wants}
 use Rattle.hist_model.specs.Allowed.{by_script, is_head_of, is_job, is_ready_worker, may_come, same_number, same_reply}
 use Rattle.hist_model.specs.Legal.{IsLegal}
@@ -35,14 +36,15 @@ use Rattle.hist_model.specs.Moments.{moment_behind}
 use Rattle.hist_model.specs.Laws.Progress.{MayMake, TaskGoesOn, step_of, end_of}
 use Rattle.hist_model.specs.Laws.Progress.TaskGoesOn.{ByStep, Ends}
 use Rattle.hist_model.specs.Laws.Ways.{but_moment, is_due, way_into, way_of_action, way_of_free, way_on, way_to_take}
-use Rattle.hist_model.proofs.Laws.OneThing.{wanted_by}
+use Rattle.hist_model.proofs.Laws.OneThing.{served_by, wanted_by}
+use Rattle.hist_model.proofs.Laws.Open.{closed_finished, closed_or_open, open_finished}
 use Rattle.hist_model.proofs.Laws.Own.{holding_own}
 use Rattle.hist_model.proofs.Laws.Progress.Actions.{action_goes_on}
 use Rattle.hist_model.proofs.Laws.Progress.Driver.{current_waits}
 use Rattle.hist_model.proofs.Laws.Progress.Made.{wanted_now}
 use Rattle.hist_model.proofs.Laws.Progress.Tasks.{item_goes_on, task_goes_on}
 use Rattle.hist_model.proofs.Laws.Takes.{by_driver, job_take_is, ready_worker}
-use Rattle.hist_model.proofs.Laws.Told.{is_tick, untimed}
+use Rattle.hist_model.proofs.Laws.Told.{untimed}
 use Rattle.hist_model.proofs.Laws.Ways.{one_way, way_at_nothing, way_is}
 
 -- the seat makes the entry
@@ -52,8 +54,9 @@ may_be script past seat kind may = (and_parts (leb seat script.workers) (may_com
 -- ---- what is allowed is due
 
 goes_on : (script : Plan) (past : List Entry) (seat : ℕ) (kind : Kind) → by_script script past seat kind ≡ true → is_finished script past ≡ false
-unfolding is_finished
-goes_on script past seat kind by = ap is_none (wanted_by script past seat kind by).is
+goes_on script past seat kind by = ⊎_elim
+    (λ closed. closed_finished script past closed ∙ ap is_none (wanted_by script past seat kind closed by).is)
+    (λ opened. open_finished script past opened ∙ (served_by script past seat kind opened by).not_done) (closed_or_open script)
 
 pub due_is : (script : Plan) (past : List Entry) (seat : ℕ) (kind : Kind) → may_come script past seat kind ≡ true → is_due script past kind ≡ true
 unfolding may_come
@@ -93,13 +96,13 @@ positive : (n : ℕ) → eqb n 0 ≡ false → 1 ≤ n
 positive zero h = absurd cc
 positive (suc n) h = omega arith
 
-module _ (script : Plan) (past : List Entry) (legal : IsLegal script past) where
+module _ (script : Plan) (past : List Entry) (closed : IsClosed script) (legal : IsLegal script past) where
   -- a tick is wanted at any moment
   ticks : (seat now other : ℕ) → by_script script past seat (kinds.Tick other) ≡ true → by_script script past seat (kinds.Tick now) ≡ true
   ticks seat now other by =
-      let c = wanted_by script past seat (kinds.Tick other) by in
+      let c = wanted_by script past seat (kinds.Tick other) closed by in
       subst (λ s. by_script script past s (kinds.Tick now) ≡ true) (sym (by_driver script past seat (kinds.Tick other) by))
-      (wanted_now script past c.value (kinds.Tick now) c.is (alike (own_entries 0 past) c.value.action c.value.made c.passes))
+      (wanted_now script past c.value (kinds.Tick now) closed c.is (alike (own_entries 0 past) c.value.action c.value.made c.passes))
     where
       alike : (own : List Entry) (action : Action) (made : List Entry) → wants own action made (kinds.Tick other) ≡ true
           → wants own action made (kinds.Tick now) ≡ true
@@ -121,7 +124,7 @@ module _ (script : Plan) (past : List Entry) (legal : IsLegal script past) where
   from_allowed : (seat : ℕ) (allowed kind : Kind) → may_come script past seat allowed ≡ true → way_on script past seat ≡ Some (but_moment kind)
       → is_due script past kind ≡ true → may_come script past seat kind ≡ true
   from_allowed seat allowed kind may way due = from_same seat allowed kind may
-      (same_Some (but_moment allowed) (but_moment kind) (sym (way_is script past seat allowed legal may) ∙ way)) due
+      (same_Some (but_moment allowed) (but_moment kind) (sym (way_is script past seat allowed closed legal may) ∙ way)) due
 
   -- a way that is no tick
   at_way : (seat : ℕ) (way kind : Kind) → is_tick way ≡ false → Some way ≡ Some (but_moment kind)
@@ -143,21 +146,21 @@ module _ (script : Plan) (past : List Entry) (legal : IsLegal script past) where
   unfolding may_come
   idle_due made is due =
       let parts = and_parts (is_quiet script past) (list_all (λ worker. is_none (best_of script past worker)) (worker_seats script)) due in
-      and_from _ _ (and_from _ _ (wanted_now script past (record { action = actions.Flush; made = made }) kinds.Idle is refl) parts.0) parts.1
+      and_from _ _ (and_from _ _ (wanted_now script past (record { action = actions.Flush; made = made }) kinds.Idle closed is refl) parts.0) parts.1
 
   done_due : (x : Entry) → current script (own_entries 0 past) ≡ Some (record { action = actions.Shutdown; made = x ∷ [] })
       → is_due script past kinds.Done ≡ true → may_come script past 0 kinds.Done ≡ true
   unfolding may_come
   done_due x is due =
       let parts = and_parts (is_started (phase_of past)) (eqb (blockers_of script past) 0) due in
-      and_from _ _ (and_from _ _ (wanted_now script past (record { action = actions.Shutdown; made = x ∷ [] }) kinds.Done is refl) parts.0) parts.1
+      and_from _ _ (and_from _ _ (wanted_now script past (record { action = actions.Shutdown; made = x ∷ [] }) kinds.Done closed is refl) parts.0) parts.1
 
   cancelled_due : (j : ℕ) (x : Entry) → current script (own_entries 0 past) ≡ Some (record { action = actions.Cancel j; made = x ∷ [] })
       → is_due script past (kinds.Cancelled j) ≡ true → may_come script past 0 (kinds.Cancelled j) ≡ true
   unfolding may_come
   cancelled_due j x is due =
       let parts = and_parts (is_cancelled past j) (is_empty script past j) due in
-      and_from _ _ (and_from _ _ (wanted_now script past (record { action = actions.Cancel j; made = x ∷ [] }) (kinds.Cancelled j) is
+      and_from _ _ (and_from _ _ (wanted_now script past (record { action = actions.Cancel j; made = x ∷ [] }) (kinds.Cancelled j) closed is
       (and_from _ _ (eq-eqb j j refl) refl)) parts.0) parts.1
 
   module _ (runs : running past 0 ≡ None) (holds : holding past 0 ≡ None) where
@@ -168,7 +171,7 @@ module _ (script : Plan) (past : List Entry) (legal : IsLegal script past) where
         → reply_of script past j ≡ Some reply → is_due script past (kinds.Joined j reply) ≡ true → may_come script past 0 (kinds.Joined j reply) ≡ true
     unfolding may_come
     joined_due j made reply is said due = and_from _ _ (and_from _ _
-        (wanted_now script past (record { action = actions.Join j; made = made }) (kinds.Joined j reply) is (join_wanted j)) due)
+        (wanted_now script past (record { action = actions.Join j; made = made }) (kinds.Joined j reply) closed is (join_wanted j)) due)
         (ap (holds_of (same_reply reply)) said ∙ same_reply_now reply)
 
     enters_due : (j : ℕ) (made : List Entry) (id : ℕ) → current script (own_entries 0 past) ≡ Some (record { action = actions.Join j; made = made })
@@ -176,7 +179,8 @@ module _ (script : Plan) (past : List Entry) (legal : IsLegal script past) where
     unfolding may_come
     enters_due j made id is may number = and_from _ _ (and_from _ _
         (or_right (is_ready_worker script past 0 && holds_of (λ (c : Candidate). is_job j c.source) (best_of script past 0)) _
-        (and_from _ _ (wanted_now script past (record { action = actions.Join j; made = made }) (kinds.JobTake j id (claimed past j)) is (join_wanted j)) may))
+        (and_from _ _ (wanted_now script past (record { action = actions.Join j; made = made }) (kinds.JobTake j id (claimed past j)) closed is
+        (join_wanted j)) may))
         (ap (λ o. same_number o (Some id)) number ∙ eq-eqb id id refl)) (eq-eqb (claimed past j) (claimed past j) refl)
 
     join_due : (j : ℕ) (made : List Entry) (kind : Kind) → current script (own_entries 0 past) ≡ Some (record { action = actions.Join j; made = made })
@@ -212,7 +216,7 @@ module _ (script : Plan) (past : List Entry) (legal : IsLegal script past) where
     action_due actions.Shutdown (x ∷ y ∷ made) kind is on way due =
         absurd (none-some made (sym (waits_now script (own_entries 0 past) (record { action = actions.Shutdown; made = x ∷ y ∷ made }) is)))
     action_due action made kind is on way due =
-        let w = action_goes_on script past action made legal runs is refl in
+        let w = action_goes_on script past action made closed legal runs is refl in
         from_allowed 0 w.kind kind (may_be script past 0 w.kind w.may) on due
 
     driver_due : (kind : Kind) → way_on script past 0 ≡ Some (but_moment kind) → is_due script past kind ≡ true → may_come script past 0 kind ≡ true
@@ -227,7 +231,7 @@ module _ (script : Plan) (past : List Entry) (legal : IsLegal script past) where
 
   module _ (seat : ℕ) (worker : eqb seat 0 ≡ false) (known : seat ≤ script.workers) (runs : running past seat ≡ None) (holds : holding past seat ≡ None) where
     ready : is_finished script past ≡ false → is_ready_worker script past seat ≡ true
-    ready going = rw (le-leb 1 seat (positive seat worker), le-leb seat script.workers known, runs, holds, going) refl
+    ready going = rw (le-leb 1 seat (positive seat worker), le-leb seat script.workers known, runs, holds, going, closed) refl
 
     going_on : (b : Bool) → not b ≡ true → b ≡ false
     going_on true h = absurd cc
@@ -307,24 +311,25 @@ module _ (script : Plan) (past : List Entry) (legal : IsLegal script past) where
 
       by_running : (o : Option Running) → running past seat ≡ o → may_come script past seat kind ≡ true
       by_running None runs = by_holding (holding past seat) runs refl
-      by_running (Some w) runs = by_task w (task_goes_on script past seat w legal runs)
+      by_running (Some w) runs = by_task w (task_goes_on script past seat w closed legal runs)
 
 -- an entry of a seat of the script is allowed exactly where it is the way on and is due
-pub allowed_exactly : (script : Plan) (past : List Entry) (seat : ℕ) (kind : Kind) → IsLegal script past → seat ≤ script.workers
+pub allowed_exactly : (script : Plan) (past : List Entry) (seat : ℕ) (kind : Kind) → IsClosed script → IsLegal script past → seat ≤ script.workers
     → (may_come script past seat kind ≡ true) ↔ ((way_on script past seat ≡ Some (but_moment kind)) × (is_due script past kind ≡ true))
-allowed_exactly script past seat kind legal known =
-    (λ may. (way_is script past seat kind legal may, due_is script past seat kind may), λ k. way_due script past legal seat kind known k.0 k.1)
+allowed_exactly script past seat kind closed legal known =
+    (λ may. (way_is script past seat kind closed legal may, due_is script past seat kind may), λ k. way_due script past closed legal seat kind known k.0 k.1)
 
 -- a moment that a tick may have is what it would become as a reading
 own_moment : (before now : ℕ) → before ≤ now → now ≤ LAST_MOMENT → moment_behind before now ≡ now
 own_moment before now low high = omega (arith, low, high)
 
 -- where one entry is allowed, another one is exactly where it is the same; a tick is made of the other's moment as a reading
-pub judged : (script : Plan) (past : List Entry) (seat : ℕ) (given asked : Kind) → IsLegal script past → may_come script past seat given ≡ true
+pub judged : (script : Plan) (past : List Entry) (seat : ℕ) (given asked : Kind) → IsClosed script → IsLegal script past
+    → may_come script past seat given ≡ true
     → ((other now : ℕ) → given ≡ kinds.Tick other → asked ≡ kinds.Tick now → other ≡ moment_behind (now_of past) now)
     → (may_come script past seat asked ≡ true) ↔ (given ≡ asked)
-judged script past seat given asked legal may reads = (
-  λ also. same asked (one_way script past seat given asked legal may also) also reads,
+judged script past seat given asked closed legal may reads = (
+  λ also. same asked (one_way script past seat given asked closed legal may also) also reads,
   λ is.
       ap (may_come script past seat) (sym is) ∙ may,
 )

@@ -1,6 +1,6 @@
 -- What is known of an allowed entry of a job: of its entering, of a step, and of a join.
--- Cited by `Laws/Claims`, `Laws/Entries/Jobs`, `Laws/Fitting/Entries`, `Laws/HoldsApart`, `Laws/Progress/Ends`, `Laws/Ways`,
--- `Laws/Whole/Items`, `jobs.rt`, `env_core`, `env_crew`, `env_explain`, `log_replay`, `run_summary`, `trace_json`.
+-- Cited by `Laws/Claims`, `Laws/Entries/Jobs`, `Laws/Fitting/Entries`, `Laws/HoldsApart`, `Laws/OpenPlans`, `Laws/Progress/Ends`,
+-- `Laws/Ways`, `Laws/Whole/Items`, `jobs.rt`, `env_core`, `env_crew`, `env_explain`, `log_replay`, `run_summary`, `trace_json`.
 use Rattle.std.proofs.Common.{◌≡◌, ℕ, true, eqb, List, [], ◌∷◌, length, refl, sym, ap, subst, ◌∙◌, Option, Some, None, ⊎_elim, arith}
 use Rattle.std.specs.Prelude.{◌&&◌, is_none}
 use Rattle.std.proofs.lemmas.Bool.{eqb-true, and_parts}
@@ -14,7 +14,7 @@ use Rattle.task_base.specs.declared.script.Action.TheVariants as actions
 use Rattle.task_base.specs.declared.source.TaskSource.{TaskSource}
 use Rattle.task_base.specs.declared.source.TaskSource.TheVariants.{Sequence, Job}
 use Rattle.list_laws.specs.Lists.{holds_of}
-use Rattle.task_model.specs.Seats.{Holding, holding, inside}
+use Rattle.task_model.specs.Seats.{Holding, holding, inside, running}
 use Rattle.task_model.specs.Jobs.{claimed, item_value, free_id, is_empty, reply_of}
 use Rattle.pool_laws.specs.Jobs.{MayEnter}
 use Rattle.task_model.specs.Sources.{best_of, next_item}
@@ -25,7 +25,8 @@ use Rattle.hist_model.specs.Laws.Choice.{IsWaitingSource}
 use Rattle.hist_model.specs.Laws.Jobs.{IsEntering, IsJobStep, IsJoin}
 use Rattle.hist_model.proofs.Laws.Choice.{found, best_is}
 use Rattle.hist_model.proofs.Laws.Takes.{by_driver, job_take_is}
-use Rattle.hist_model.proofs.Laws.OneThing.{wanted_by, job_take_free}
+use Rattle.hist_model.proofs.Laws.Open.{closed_or_open}
+use Rattle.hist_model.proofs.Laws.OneThing.{wanted_by, served_free, job_take_free}
 use Rattle.hist_model.proofs.Laws.Own.{holding_own}
 
 -- an optional value that is none, as a test
@@ -94,11 +95,14 @@ join_is script past seat job reply h =
     let last = and_parts _ (holds_of (same_reply reply) (reply_of script past job)) h in
     let front = and_parts (by_script script past seat (kinds.Joined job reply)) (is_empty script past job) last.0 in
     let said = found (same_reply reply) (reply_of script past job) last.1 in
-    let c = wanted_by script past seat (kinds.Joined job reply) front.0 in
     record {
       driver = by_driver script past seat (kinds.Joined job reply) front.0;
-      holds_nothing = sym (holding_own past 0) ∙ none_is (holding (own_entries 0 past) 0)
-          (wants_nothing (own_entries 0 past) c.value.action c.value.made c.passes);
+      holds_nothing = ⊎_elim
+          (λ closed. let c = wanted_by script past seat (kinds.Joined job reply) closed front.0 in
+          sym (holding_own past 0) ∙ none_is (holding (own_entries 0 past) 0) (wants_nothing (own_entries 0 past) c.value.action c.value.made c.passes))
+          (λ opened. none_is (holding past 0) (and_parts (is_none (running past 0)) (is_none (holding past 0))
+          (served_free script past seat (kinds.Joined job reply) opened refl front.0)).1)
+          (closed_or_open script);
       nobody_inside = nobody (inside script past job) front.1;
       reply_is = said.is ∙ ap Some (sym (same_reply_is reply said.value said.passes));
     }

@@ -1,6 +1,6 @@
 -- Legal histories, entry by entry.
 -- Cited by `Laws/AtPlaces`, `Laws/Claims`, `Laws/Consistent`, `Laws/Entries/Bound`, `Laws/Entries/Jobs`, `Laws/Fitting/Entries`,
--- `Laws/HoldsApart`, `Laws/Moments`, `Laws/OneSeat`, `Laws/OneThing`, `Laws/Postings/Counts`, `Laws/Postings/Once`,
+-- `Laws/HoldsApart`, `Laws/Moments`, `Laws/OneSeat`, `Laws/OneThing`, `Laws/OpenPlans`, `Laws/Postings/Counts`, `Laws/Postings/Once`,
 -- `Laws/Progress/Actions`, `Laws/Progress/Driver`, `Laws/Progress/Ends`, `Laws/Progress/Tasks`, `Laws/Refusals`, `Laws/Rising`,
 -- `Laws/Shutdown/Histories`, `Laws/Shutdown/Places`, `Laws/Told`, `Laws/Whole/Items`, `Laws/Whole/MainTasks`, `Laws/Whole/Workers`,
 -- `histories.rt`, `app_modes`, `env_app`, `env_check`, `env_core`, `env_crew`, `env_explain`, `env_threads`, `log_replay`, `next_entry`,

@@ -1,6 +1,7 @@
 -- Moments, orders and scopes in every legal past.
--- Cited by `moments_and_orders_rise`, `Laws/LegalPast`, `Laws/Order/Lanes`, `Laws/Order/Pasts`, `Laws/Whole/MainTasks`.
-use Rattle.std.proofs.Common.{◌≡◌, ℕ, ◌≤◌, Bool, true, false, eqb, leb, List, [], ◌∷◌, ◌++◌, refl, sym, ap, ◌∙◌, Some, None, arith}
+-- Cited by `moments_and_orders_rise`, `Laws/LegalPast`, `Laws/OpenPlans`, `Laws/Order/Lanes`, `Laws/Order/Pasts`, `Laws/Whole/MainTasks`.
+use Rattle.std.specs.Prelude.{◌&&◌, not, is_none}
+use Rattle.std.proofs.Common.{◌≡◌, ℕ, ◌≤◌, Bool, true, false, cond, eqb, leb, List, [], ◌∷◌, ◌++◌, refl, sym, ap, ◌∙◌, Some, None, ⊎_elim, arith}
 use Rattle.std.proofs.lemmas.Bool.{cond_both, eqb-true, leb-true, and_parts, both_ways, or_parts}
 use Rattle.task_base.specs.Plan.{Plan}
 use Rattle.task_base.specs.declared.limits.TheConstants.{LAST_MOMENT}
@@ -23,11 +24,14 @@ use Rattle.pool_laws.proofs.Keys.Ready.{no_tick_ahead_at_start, no_tick_ahead_gr
 use Rattle.pool_laws.proofs.Keys.Arrivals.{arrivals_are_ready_at_start, arrivals_are_ready_grows}
 use Rattle.queue_laws.proofs.Arrivals.{main_arrivals_are_ordered_at_start, main_arrivals_are_ordered_grows}
 use Rattle.queue_laws.proofs.Distinct.{orders_below, orders_distinct}
+use Rattle.script_model.specs.Draft.{may_block_on}
+use Rattle.hist_model.specs.Open.{may_open_scope}
 use Rattle.hist_model.specs.Allowed.{enters, by_script, by_task, may_come, IsAllowed}
 use Rattle.hist_model.specs.Legal.{IsLegal}
 use Rattle.pool_laws.specs.Runs.{taken_as}
 use Rattle.hist_model.specs.Laws.Consistent.{IsConsistent}
 use Rattle.hist_model.specs.Laws.Rising.{Rises}
+use Rattle.hist_model.proofs.Laws.Open.{closed_enters, closed_or_open}
 use Rattle.hist_model.proofs.Laws.Legal.{legal_induction}
 use Rattle.hist_model.proofs.Laws.Choice.{found}
 use Rattle.hist_model.proofs.Laws.Consistent.{legal_is_consistent}
@@ -40,17 +44,31 @@ moment_rises script past seat (kinds.Tick now) h = leb-true (now_of past) now
 moment_rises script past seat kind h = omega arith
 
 -- who opens a scope runs the task
-opens_as_running : (script : Plan) (past : List Entry) (seat task : ℕ) (scope : Scope) → may_come script past seat (kinds.Enter task scope) ≡ true
+pub opens_as_running : (script : Plan) (past : List Entry) (seat task : ℕ) (scope : Scope) → may_come script past seat (kinds.Enter task scope) ≡ true
     → (w : Running) × (running past seat ≡ Some w) × (w.task ≡ task)
 unfolding may_come by_task
-opens_as_running script past seat task scope h =
-    let w = found (λ (x : Running). holds_of (λ step. enters x.task step (kinds.Enter task scope)) (next_act script past seat)) (running past seat) h in
-    let step = found (λ s. enters w.value.task s (kinds.Enter task scope)) (next_act script past seat) w.passes in
-    (w.value, w.is, same w.value.task step.value step.passes)
+opens_as_running script past seat task scope h = ⊎_elim (λ closed. by_step (sym (closed_enters script past seat task scope closed) ∙ h))
+    (λ opened. freely (ap (λ b. cond b (may_open_scope script past seat task) (by_task script past seat (kinds.Enter task scope))) (sym opened) ∙ h))
+    (closed_or_open script)
   where
     same : (t : ℕ) (step : Step) → enters t step (kinds.Enter task scope) ≡ true → t ≡ task
     same t (steps.Block s) k = sym (eqb-true task t (and_parts (eqb task t) _ k).0)
     same t step k = absurd cc
+
+    Runs : Type 0
+    Runs = (w : Running) × (running past seat ≡ Some w) × (w.task ≡ task)
+
+    by_step : by_task script past seat (kinds.Enter task scope) ≡ true → Runs
+    by_step k =
+        let w = found (λ (x : Running). holds_of (λ step. enters x.task step (kinds.Enter task scope)) (next_act script past seat)) (running past seat) k in
+        let step = found (λ s. enters w.value.task s (kinds.Enter task scope)) (next_act script past seat) w.passes in
+        (w.value, w.is, same w.value.task step.value step.passes)
+
+    freely : may_open_scope script past seat task ≡ true → Runs
+    freely k =
+        let w = found (λ (x : Running). eqb x.task task && not x.is_main && may_block_on script.runners x.home) (running past seat)
+        (and_parts _ (is_none (open_scope past task)) k).0 in
+        (w.value, w.is, eqb-true w.value.task task (and_parts _ (not w.value.is_main) (and_parts _ (may_block_on script.runners w.value.home) w.passes).0).0)
 
 -- what was taken, of the pool or of a main queue
 was_taken : (past : List Entry) (t : ℕ) (main : Bool) → taken_as main past t ≡ true → is_taken past t ≡ false → is_main_taken past t ≡ false → ⊥

@@ -1,8 +1,8 @@
 -- What is known of an allowed take.
 -- Cited by `Laws/Consistent`, `Laws/Due`, `Laws/Entries/Bound`, `Laws/Fences`, `Laws/Fitting/Entries`, `Laws/JobEntries`, `Laws/OneSeat`,
--- `Laws/OneThing`, `Laws/Postings/Counts`, `Laws/Progress/Coming`, `Laws/Progress/Driver`, `Laws/Progress/Ends`, `Laws/Progress/Tasks`,
--- `Laws/Shutdown/Histories`, `Laws/Singly`, `Laws/Starts`, `Laws/State`, `Laws/Ways`, `seats.rt`, `env_core`, `env_explain`, `log_replay`,
--- `run_summary`, `task_reply`, `trace_json`.
+-- `Laws/OneThing`, `Laws/OpenPlans`, `Laws/Postings/Counts`, `Laws/Progress/Coming`, `Laws/Progress/Driver`, `Laws/Progress/Ends`,
+-- `Laws/Progress/Tasks`, `Laws/Shutdown/Histories`, `Laws/Singly`, `Laws/Starts`, `Laws/State`, `Laws/Ways`, `seats.rt`, `env_core`,
+-- `env_explain`, `log_replay`, `run_summary`, `task_reply`, `trace_json`.
 use Rattle.std.proofs.Common.{◌≡◌, ℕ, ◌≤◌, true, false, eqb, leb, List, sym, ap, subst, ◌∙◌, Some, ◌⊎◌, inl, inr, ⊎_elim}
 use Rattle.std.specs.Prelude.{not, ◌&&◌}
 use Rattle.std.proofs.lemmas.Bool.{or_cases, eqb-true, leb-true, and_parts, not-true}
@@ -25,6 +25,7 @@ use Rattle.pool_laws.specs.Jobs.{MayEnter}
 use Rattle.task_model.specs.Sources.{Candidate, best_of}
 use Rattle.task_model.specs.MainQueues.{chosen_of}
 use Rattle.hist_model.specs.Views.{own_entries}
+use Rattle.hist_model.specs.Open.{is_guest}
 use Rattle.hist_model.specs.Script.{is_wanted, is_finished}
 use Rattle.hist_model.specs.Allowed.{enters_job, is_job, is_head_of, is_ready_worker, is_front, has_done, by_script, may_come}
 use Rattle.pool_laws.specs.Keys.{IsHead}
@@ -32,16 +33,18 @@ use Rattle.hist_model.specs.Laws.Choice.{IsWaitingSource, IsTake, IsMainTake}
 use Rattle.pool_laws.proofs.Choice.Least.{head_is}
 use Rattle.hist_model.proofs.Laws.Choice.{Found, found, best_is, chosen_is}
 
--- a free worker, while the script is not finished
+-- a free worker that is no guest, while the script is not finished
 pub record IsReadyWorker (script : Plan) (past : List Entry) (seat : ℕ) : Type 0 where
   pub worker : 1 ≤ seat
   pub known : seat ≤ script.workers
   pub free : is_free past seat ≡ true
   pub goes_on : is_finished script past ≡ false
+  pub no_guest : is_guest script seat ≡ false
 
 pub ready_worker : (script : Plan) (past : List Entry) (seat : ℕ) → is_ready_worker script past seat ≡ true → IsReadyWorker script past seat
 ready_worker script past seat h =
-    let last = and_parts _ (not (is_finished script past)) h in
+    let guest = and_parts _ (not (is_guest script seat)) h in
+    let last = and_parts _ (not (is_finished script past)) guest.0 in
     let third = and_parts _ (is_free past seat) last.0 in
     let first = and_parts (leb 1 seat) (leb seat script.workers) third.0 in
     record {
@@ -49,6 +52,7 @@ ready_worker script past seat h =
       known = leb-true seat script.workers first.1;
       free = third.1;
       goes_on = not-true (is_finished script past) last.1;
+      no_guest = not-true (is_guest script seat) guest.1;
     }
 
 pub take_is : (script : Plan) (past : List Entry) (seat task runner value : ℕ) → may_come script past seat (kinds.Take task runner value) ≡ true

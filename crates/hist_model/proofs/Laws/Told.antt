@@ -1,6 +1,6 @@
 -- A legal log is told by the order of its seats and the moments of its ticks.
 -- Cited by `Laws/Due`, `ways.rt`.
-use Rattle.std.proofs.Common.{◌≡◌, ℕ, Bool, true, false, leb, List, [], ◌∷◌, ◌++◌, refl, sym, ap, subst, ◌∙◌, Option, Some, None}
+use Rattle.std.proofs.Common.{◌≡◌, ℕ, true, false, leb, List, [], ◌∷◌, ◌++◌, refl, sym, ap, subst, ◌∙◌, Option, Some, None}
 use Rattle.std.specs.Prelude.{is_some}
 use Rattle.std.specs.List.{cons_option}
 use Rattle.std.proofs.lemmas.Bool.{and_parts}
@@ -12,6 +12,7 @@ use Rattle.task_model.specs.Orders.{moment_of}
 use Rattle.hist_model.specs.Allowed.{is_allowed, may_come}
 use Rattle.hist_model.specs.Legal.{legal_from, is_legal, IsLegal}
 use Rattle.hist_model.specs.Moments.{ticks_of}
+use Rattle.hist_model.specs.Open.{IsClosed, is_tick}
 use Rattle.hist_model.specs.Laws.Ways.{but_moment, seats_of}
 use Rattle.hist_model.proofs.Laws.Legal.{nothing_is_legal, legal_next}
 use Rattle.hist_model.proofs.Laws.Ways.{one_way}
@@ -20,11 +21,6 @@ use Rattle.hist_model.proofs.Laws.Ways.{one_way}
 pub at_moment : Kind → Option ℕ → Kind
 at_moment (kinds.Tick now) (Some other) = kinds.Tick other
 at_moment kind moment = kind
-
--- the kind is a tick
-abbrev pub is_tick : Kind → Bool
-is_tick (kinds.Tick now) = true
-is_tick kind = false
 
 pub moment_back : (kind : Kind) → at_moment (but_moment kind) (moment_of kind) ≡ kind
 unfolding at_moment
@@ -56,10 +52,11 @@ entry_is x y seat kind = ap (λ s. record { seat = s; kind = x.kind }) seat ∙ 
 both : (x y : Entry) (xs ys : List Entry) → x ≡ y → xs ≡ ys → x ∷ xs ≡ y ∷ ys
 both x y xs ys one rest = cc
 
--- two legal logs of one script whose seats and ticks are alike are equal
-pub told : (script : Plan) (a b : List Entry) → IsLegal script a → IsLegal script b → seats_of a ≡ seats_of b → ticks_of a ≡ ticks_of b → a ≡ b
+-- two legal logs of one closed plan whose seats and ticks are alike are equal
+pub told : (script : Plan) (a b : List Entry) → IsClosed script → IsLegal script a → IsLegal script b → seats_of a ≡ seats_of b → ticks_of a ≡ ticks_of b
+    → a ≡ b
 unfolding is_legal
-told script a b first second seats ticks = walk [] a b (nothing_is_legal script) first second seats ticks
+told script a b closed first second seats ticks = walk [] a b (nothing_is_legal script) first second seats ticks
   where
     walk : (past xs ys : List Entry) → IsLegal script past → legal_from script past xs ≡ true → legal_from script past ys ≡ true
         → seats_of xs ≡ seats_of ys → ticks_of xs ≡ ticks_of ys → xs ≡ ys
@@ -73,7 +70,7 @@ told script a b first second seats ticks = walk [] a b (nothing_is_legal script)
         let also = (and_parts (leb y.seat script.workers) (may_come script past y.seat y.kind) q.0).1 in
         let seat : x.seat ≡ y.seat = cc in
         let here : may_come script past x.seat y.kind ≡ true = rw seat also in
-        let kind : but_moment x.kind ≡ but_moment y.kind = one_way script past x.seat x.kind y.kind legal may here in
+        let kind : but_moment x.kind ≡ but_moment y.kind = one_way script past x.seat x.kind y.kind closed legal may here in
         let parts = parted (moment_of x.kind) (moment_of y.kind) (ticks_of xs) (ticks_of ys)
         (has_moment x.kind ∙ ap is_tick kind ∙ sym (has_moment y.kind)) ticks in
         let same : x.kind ≡ y.kind = sym (moment_back x.kind) ∙ ap (λ k. at_moment k (moment_of x.kind)) kind

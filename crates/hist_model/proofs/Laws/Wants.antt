@@ -18,6 +18,7 @@ use Rattle.task_model.specs.Seats.{Holding, Running, acts_done, holding, next_ac
 use Rattle.hist_model.specs.Allowed.{by_script, by_task, enters}
 use Rattle.hist_model.specs.Laws.Consistent.{is_join, is_pump}
 use Rattle.hist_model.specs.Legal.{IsLegal}
+use Rattle.hist_model.specs.Open.{IsClosed}
 use Rattle.hist_model.specs.Script.{Current, current, wants}
 use Rattle.hist_model.specs.Views.{own_entries}
 use Rattle.hist_model.proofs.Laws.Choice.{Found, found}
@@ -104,20 +105,22 @@ pump_wants own (actions.Pump n) made kinds.MainNone pump h = h
 pump_wants own (actions.Pump n) made kind pump h = absurd cc
 pump_wants own action made kind pump h = absurd cc
 
--- where the script wants an entry of the driver, the driver runs nothing
-pub driver_runs_nothing : (script : Plan) (past : List Entry) (seat : ℕ) (kind : Kind) → IsLegal script past → by_script script past seat kind ≡ true
+-- where a closed plan wants an entry of the driver, the driver runs nothing
+pub driver_runs_nothing : (script : Plan) (past : List Entry) (seat : ℕ) (kind : Kind) → IsClosed script → IsLegal script past
+    → by_script script past seat kind ≡ true
     → running past 0 ≡ None
-driver_runs_nothing script past seat kind legal wanted = at (running past 0) refl
+driver_runs_nothing script past seat kind closed legal wanted = at (running past 0) refl
   where
     c : Found Current (λ c. wants (own_entries 0 past) c.action c.made kind) (current script (own_entries 0 past))
-    c = wanted_by script past seat kind wanted
+    c = wanted_by script past seat kind closed wanted
 
     at : (o : Option Running) → running past 0 ≡ o → o ≡ None
     at None is = refl
     at (Some w) is =
-        let (d, now, pump) = (legal_does_one_thing script past legal).pumps w is in
+        let (d, now, pump) = (legal_does_one_thing script past legal).pumps closed w is in
         let same : d ≡ c.value = same_Some d c.value (sym now ∙ c.is) in
-        absurd (true≢false (sym (pump_wants (own_entries 0 past) c.value.action c.value.made kind (subst (λ (x : Current). is_pump x.action ≡ true) same pump) c.passes)
+        absurd (true≢false (sym (pump_wants (own_entries 0 past) c.value.action c.value.made kind
+        (subst (λ (x : Current). is_pump x.action ≡ true) same pump) c.passes)
         ∙ ap is_none (running_own past 0 ∙ is)))
 
 -- what a join wants, it wants while the driver holds nothing
@@ -128,18 +131,20 @@ join_wants own (actions.Join j) made (kinds.Joined job reply) join h = (and_part
 join_wants own (actions.Join j) made kind join h = absurd cc
 join_wants own action made kind join h = absurd cc
 
--- where the script wants an entry of the driver, the driver holds nothing
-pub driver_holds_nothing : (script : Plan) (past : List Entry) (seat : ℕ) (kind : Kind) → IsLegal script past → by_script script past seat kind ≡ true
+-- where a closed plan wants an entry of the driver, the driver holds nothing
+pub driver_holds_nothing : (script : Plan) (past : List Entry) (seat : ℕ) (kind : Kind) → IsClosed script → IsLegal script past
+    → by_script script past seat kind ≡ true
     → holding past 0 ≡ None
-driver_holds_nothing script past seat kind legal wanted = at (holding past 0) refl
+driver_holds_nothing script past seat kind closed legal wanted = at (holding past 0) refl
   where
     c : Found Current (λ c. wants (own_entries 0 past) c.action c.made kind) (current script (own_entries 0 past))
-    c = wanted_by script past seat kind wanted
+    c = wanted_by script past seat kind closed wanted
 
     at : (o : Option Holding) → holding past 0 ≡ o → o ≡ None
     at None is = refl
     at (Some h) is =
-        let (d, now, join) = (legal_does_one_thing script past legal).joins h is in
+        let (d, now, join) = (legal_does_one_thing script past legal).joins closed h is in
         let same : d ≡ c.value = same_Some d c.value (sym now ∙ c.is) in
-        absurd (true≢false (sym (join_wants (own_entries 0 past) c.value.action c.value.made kind (subst (λ (x : Current). is_join x.action ≡ true) same join) c.passes)
+        absurd (true≢false (sym (join_wants (own_entries 0 past) c.value.action c.value.made kind
+        (subst (λ (x : Current). is_join x.action ≡ true) same join) c.passes)
         ∙ ap is_none (holding_own past 0 ∙ is)))

@@ -1,5 +1,5 @@
 -- Each seat has at most one way on.
--- Cited by `Laws/Due`, `Laws/Told`, `ways.rt`.
+-- Cited by `Laws/Due`, `Laws/OpenPlans`, `Laws/Told`, `ways.rt`.
 use Rattle.std.proofs.Common.{◌≡◌, ℕ, ◌≤◌, ◌<◌, Bool, true, false, cond, eqb, List, [], ◌∷◌, length, refl, sym, ap, ◌∙◌, Option, Some, None, ⊎_elim, arith}
 use Rattle.std.specs.Prelude.{◌&&◌, ◌||◌, not, nat_lt, is_none, filter}
 use Rattle.std.proofs.lemmas.Bool.{and_parts, eqb-true, or_cases, not-true, ne_eqb, ltb-true, false_from_ne_true}
@@ -35,15 +35,17 @@ use Rattle.task_model.specs.Jobs.{JobPosted, job_post_of, claimed, done, may_ent
 use Rattle.task_model.specs.Sources.{Candidate, best_of}
 use Rattle.task_model.specs.MainQueues.{Front, choice_among, chosen_of, immediate_of_least_class, is_starved, of_least_class, open_fronts, order_below, streak_of}
 use Rattle.hist_model.specs.Views.{own_entries}
+use Rattle.hist_model.specs.Open.{IsClosed}
 use Rattle.hist_model.specs.Script.{wants, same_policy, same_fence}
-use Rattle.hist_model.specs.Allowed.{by_script, by_task, enters, has_done, is_front, is_head_of, is_job, is_ready_worker, is_reply, may_come, same_scope}
+use Rattle.hist_model.specs.Allowed.{has_acted, by_script, by_task, enters, has_done, is_front, is_head_of, is_job, is_ready_worker, is_reply, may_come, same_scope}
 use Rattle.hist_model.specs.Legal.{IsLegal}
 use Rattle.hist_model.specs.Laws.Consistent.{is_pump}
 use Rattle.hist_model.specs.Laws.Progress.{end_of, step_of}
 use Rattle.hist_model.specs.Laws.Ways.{but_moment, way_into, way_to_take, way_to_front, way_of_action, way_of_step, way_of_task, way_of_free, way_on}
+use Rattle.hist_model.proofs.Laws.Open.{closed_acts, closed_enters, closed_leaves, closed_main, closed_post}
 use Rattle.hist_model.proofs.Laws.Choice.{found}
 use Rattle.hist_model.proofs.Laws.Claims.{claimed_is}
-use Rattle.hist_model.proofs.Laws.JobEntries.{entering_is, job_step_is, join_is}
+use Rattle.hist_model.proofs.Laws.JobEntries.{entering_is, job_step_is, join_is, none_is}
 use Rattle.hist_model.proofs.Laws.OneThing.{legal_does_one_thing, wanted_by}
 use Rattle.hist_model.proofs.Laws.Wants.{driver_holds_nothing, driver_runs_nothing, entered_by, enters_main, enters_post, wants_main, wants_post}
 use Rattle.hist_model.proofs.Laws.Takes.{IsReadyWorker, by_driver, job_take_is, ready_worker}
@@ -100,17 +102,81 @@ pub way_at_nothing : (script : Plan) (past : List Entry) (seat : ℕ) → runnin
 unfolding way_on
 way_at_nothing script past seat runs holds = rw (runs, holds) refl
 
+-- ---- by a worker
+
+module _ (script : Plan) (past : List Entry) where
+  way_in : (job id item : ℕ) → free_id script past job ≡ Some id → item ≡ claimed past job → way_into script past job ≡ Some (kinds.JobTake job id item)
+  way_in job id item number is = rw (number, is) refl
+
+  no_driver : (seat : ℕ) → 1 ≤ seat → eqb seat 0 ≡ false
+  no_driver seat worker = ne_eqb seat 0 (λ same. absurd (omega (arith, worker, same)))
+
+  -- what takes the best source of a free worker
+  taken : (seat : ℕ) (best : Candidate) (way : Kind) → IsReadyWorker script past seat → best_of script past seat ≡ Some best
+      → way_to_take script past best.source ≡ Some way → way_on script past seat ≡ Some way
+  taken seat best way ready is takes =
+      let parts = and_parts (is_none (running past seat)) (is_none (holding past seat)) ready.free in
+      way_at_nothing script past seat (none_is (running past seat) parts.0) (none_is (holding past seat) parts.1)
+      ∙ rw (no_driver seat ready.worker, is) takes
+
+  head_taken : (task runner value : ℕ) (source : TaskSource) → is_head_of script past task runner value source ≡ true
+      → way_to_take script past source ≡ Some (kinds.Take task runner value)
+  head_taken task runner value (Job j) h = absurd cc
+  head_taken task runner value (Sequence s) h =
+      let parts = and_parts (holds_of (λ (r : Ready). eqb r.posted.task task && eqb r.posted.home runner) (head_of script past s))
+      (eqb value (cell_of script past s)) h in
+      let head = found (λ (r : Ready). eqb r.posted.task task && eqb r.posted.home runner) (head_of script past s) parts.0 in
+      let same = and_parts (eqb head.value.posted.task task) (eqb head.value.posted.home runner) head.passes in
+      rw (head.is, eqb-true _ _ same.0, eqb-true _ _ same.1, eqb-true value (cell_of script past s) parts.1) refl
+
+  job_taken : (job id item : ℕ) (source : TaskSource) → is_job job source ≡ true → free_id script past job ≡ Some id → item ≡ claimed past job
+      → way_to_take script past source ≡ Some (kinds.JobTake job id item)
+  job_taken job id item (Sequence s) h number is = absurd cc
+  job_taken job id item (Job j) h number is = rw (eqb-true j job h) (way_in job id item number is)
+
+  pub take_way : (seat task runner value : ℕ) → may_come script past seat (kinds.Take task runner value) ≡ true
+      → way_on script past seat ≡ Some (kinds.Take task runner value)
+  unfolding may_come
+  take_way seat task runner value may =
+      let parts = and_parts (is_ready_worker script past seat)
+      (holds_of (λ (c : Candidate). is_head_of script past task runner value c.source) (best_of script past seat)) may in
+      let c = found (λ (c : Candidate). is_head_of script past task runner value c.source) (best_of script past seat) parts.1 in
+      taken seat c.value (kinds.Take task runner value) (ready_worker script past seat parts.0) c.is (head_taken task runner value c.value.source c.passes)
+
+  pub worker_job_way : (seat job id item : ℕ) (ready : IsReadyWorker script past seat)
+      → holds_of (λ (c : Candidate). is_job job c.source) (best_of script past seat) ≡ true → may_come script past seat (kinds.JobTake job id item) ≡ true
+      → way_on script past seat ≡ Some (kinds.JobTake job id item)
+  worker_job_way seat job id item ready best may =
+      let e = entering_is script past seat job id item may in
+      let c = found (λ (c : Candidate). is_job job c.source) (best_of script past seat) best in
+      taken seat c.value (kinds.JobTake job id item) ready c.is (job_taken job id item c.value.source c.passes e.number_is e.item_is)
+
+  pub job_step_way : (seat job id item value : ℕ) (next : Option ℕ) → IsLegal script past
+      → may_come script past seat (kinds.JobStep job id item value next) ≡ true
+      → way_on script past seat ≡ Some (kinds.JobStep job id item value next)
+  job_step_way seat job id item value next legal may =
+      let s = job_step_is script past seat job id item value next may in
+      way_at_item script past seat (record { job = job; id = id; item = item }) (runs_none (running past seat) refl s.held) s.held
+      ∙ rw (s.value_is, s.next_is) refl
+    where
+      runs_none : (o : Option Running) → running past seat ≡ o → holding past seat ≡ Some (record { job = job; id = id; item = item })
+          → running past seat ≡ None
+      runs_none None is held = is
+      runs_none (Some w) is held =
+          absurd ((legal_does_one_thing script past legal).one_thing seat w (record { job = job; id = id; item = item }) is held)
+
 -- ---- by the script
 
-module _ (script : Plan) (past : List Entry) (legal : IsLegal script past) where
+module _ (script : Plan) (past : List Entry) (closed : IsClosed script) (legal : IsLegal script past) where
   -- what the script wants is the way of the action that the driver is at
   scripted : (seat : ℕ) (kind way : Kind) → by_script script past seat kind ≡ true
       → ((action : Action) (made : List Entry) → wants (own_entries 0 past) action made kind ≡ true → way_of_action script past action made ≡ Some way)
       → way_on script past seat ≡ Some way
   scripted seat kind way by told =
       let driver = by_driver script past seat kind by in
-      let c = wanted_by script past seat kind by in
-      ap (way_on script past) driver ∙ way_at_nothing script past 0 (driver_runs_nothing script past seat kind legal by) (driver_holds_nothing script past seat kind legal by)
+      let c = wanted_by script past seat kind closed by in
+      ap (way_on script past) driver ∙ way_at_nothing script past 0 (driver_runs_nothing script past seat kind closed legal by)
+      (driver_holds_nothing script past seat kind closed legal by)
       ∙ rw c.is (told c.value.action c.value.made c.passes)
 
   -- ---- by a task
@@ -126,8 +192,8 @@ module _ (script : Plan) (past : List Entry) (legal : IsLegal script past) where
   ended : (seat left : ℕ) (w : Running) → running past seat ≡ Some w → has_done script past seat left w ≡ true
       → (way_on script past seat ≡ Some (end_of script w)) × (left ≡ after (steps_of script w.task) w.found)
   ended seat left w runs all =
-      let parts = and_parts (eqb (acts_done past seat) (length (filter is_act (steps_of script w.task)))) (eqb left (after (steps_of script w.task) w.found)) all in
-      let count = eqb-true (acts_done past seat) (length (filter is_act (steps_of script w.task))) parts.0 in (
+      let parts = and_parts (has_acted script past seat w) (eqb left (after (steps_of script w.task) w.found)) all in
+      let count = eqb-true (acts_done past seat) (length (filter is_act (steps_of script w.task))) (sym (closed_acts script past seat w closed) ∙ parts.0) in (
         way_at_task script past seat w runs
             ∙ rw (slice_get_past (filter is_act (steps_of script w.task)) (acts_done past seat) (omega (arith, count))) refl,
         eqb-true left (after (steps_of script w.task) w.found) parts.1,
@@ -303,15 +369,12 @@ module _ (script : Plan) (past : List Entry) (legal : IsLegal script past) where
       accepted None h = absurd cc
       accepted (Some p) h = rw h refl
 
-  way_in : (job id item : ℕ) → free_id script past job ≡ Some id → item ≡ claimed past job → way_into script past job ≡ Some (kinds.JobTake job id item)
-  way_in job id item number is = rw (number, is) refl
-
   join_in_action : (job id item : ℕ) → may_enter script past job ≡ true → free_id script past job ≡ Some id → item ≡ claimed past job
       → (own : List Entry) (action : Action) (made : List Entry) → wants own action made (kinds.JobTake job id item) ≡ true
       → way_of_action script past action made ≡ Some (kinds.JobTake job id item)
   join_in_action job id item may number is own (actions.Join j) made h =
       let same = eqb-true job j (and_parts (eqb job j) (is_none (holding own 0)) h).0 in
-      rw (← same, may) (way_in job id item number is)
+      rw (← same, may) (way_in script past job id item number is)
   join_in_action job id item may number is own action made h = absurd cc
 
   joined_action : (job : ℕ) (reply : JobReply) → reply_of script past job ≡ Some reply → (own : List Entry) (action : Action) (made : List Entry)
@@ -321,72 +384,16 @@ module _ (script : Plan) (past : List Entry) (legal : IsLegal script past) where
       rw (← same, false_from_ne_true (may_enter script past job) (λ may. none-some reply (sym (unanswered job may) ∙ is)), is) refl
   joined_action job reply is own action made h = absurd cc
 
-  -- ---- workers
-
-  no_driver : (seat : ℕ) → 1 ≤ seat → eqb seat 0 ≡ false
-  no_driver seat worker = ne_eqb seat 0 (λ same. absurd (omega (arith, worker, same)))
-
-  none_is : {A : Type 0} (o : Option A) → is_none o ≡ true → o ≡ None
-  none_is None h = refl
-  none_is (Some x) h = absurd cc
-
-  -- what takes the best source of a free worker
-  taken : (seat : ℕ) (best : Candidate) (way : Kind) → IsReadyWorker script past seat → best_of script past seat ≡ Some best
-      → way_to_take script past best.source ≡ Some way → way_on script past seat ≡ Some way
-  taken seat best way ready is takes =
-      let parts = and_parts (is_none (running past seat)) (is_none (holding past seat)) ready.free in
-      way_at_nothing script past seat (none_is (running past seat) parts.0) (none_is (holding past seat) parts.1)
-      ∙ rw (no_driver seat ready.worker, is) takes
-
-  head_taken : (task runner value : ℕ) (source : TaskSource) → is_head_of script past task runner value source ≡ true
-      → way_to_take script past source ≡ Some (kinds.Take task runner value)
-  head_taken task runner value (Job j) h = absurd cc
-  head_taken task runner value (Sequence s) h =
-      let parts = and_parts (holds_of (λ (r : Ready). eqb r.posted.task task && eqb r.posted.home runner) (head_of script past s))
-      (eqb value (cell_of script past s)) h in
-      let head = found (λ (r : Ready). eqb r.posted.task task && eqb r.posted.home runner) (head_of script past s) parts.0 in
-      let same = and_parts (eqb head.value.posted.task task) (eqb head.value.posted.home runner) head.passes in
-      rw (head.is, eqb-true _ _ same.0, eqb-true _ _ same.1, eqb-true value (cell_of script past s) parts.1) refl
-
-  job_taken : (job id item : ℕ) (source : TaskSource) → is_job job source ≡ true → free_id script past job ≡ Some id → item ≡ claimed past job
-      → way_to_take script past source ≡ Some (kinds.JobTake job id item)
-  job_taken job id item (Sequence s) h number is = absurd cc
-  job_taken job id item (Job j) h number is = rw (eqb-true j job h) (way_in job id item number is)
-
   -- ---- all together
-
-  take_way : (seat task runner value : ℕ) → may_come script past seat (kinds.Take task runner value) ≡ true
-      → way_on script past seat ≡ Some (kinds.Take task runner value)
-  unfolding may_come
-  take_way seat task runner value may =
-      let parts = and_parts (is_ready_worker script past seat)
-      (holds_of (λ (c : Candidate). is_head_of script past task runner value c.source) (best_of script past seat)) may in
-      let c = found (λ (c : Candidate). is_head_of script past task runner value c.source) (best_of script past seat) parts.1 in
-      taken seat c.value (kinds.Take task runner value) (ready_worker script past seat parts.0) c.is (head_taken task runner value c.value.source c.passes)
 
   job_take_way : (seat job id item : ℕ) → may_come script past seat (kinds.JobTake job id item) ≡ true
       → way_on script past seat ≡ Some (kinds.JobTake job id item)
   job_take_way seat job id item may =
       let e = entering_is script past seat job id item may in
-      ⊎_elim
-      (λ k. let c = found (λ (c : Candidate). is_job job c.source) (best_of script past seat) k.1 in
-      taken seat c.value (kinds.JobTake job id item) k.0 c.is (job_taken job id item c.value.source c.passes e.number_is e.item_is))
+      ⊎_elim (λ k. worker_job_way script past seat job id item k.0 k.1 may)
       (λ k. scripted seat (kinds.JobTake job id item) (kinds.JobTake job id item) k.0
       (join_in_action job id item k.1 e.number_is e.item_is (own_entries 0 past)))
       (job_take_is script past seat job id item may)
-
-  job_step_way : (seat job id item value : ℕ) (next : Option ℕ) → may_come script past seat (kinds.JobStep job id item value next) ≡ true
-      → way_on script past seat ≡ Some (kinds.JobStep job id item value next)
-  job_step_way seat job id item value next may =
-      let s = job_step_is script past seat job id item value next may in
-      way_at_item script past seat (record { job = job; id = id; item = item }) (runs_none (running past seat) refl s.held) s.held
-      ∙ rw (s.value_is, s.next_is) refl
-    where
-      runs_none : (o : Option Running) → running past seat ≡ o → holding past seat ≡ Some (record { job = job; id = id; item = item })
-          → running past seat ≡ None
-      runs_none None is held = is
-      runs_none (Some w) is held =
-          absurd ((legal_does_one_thing script past legal).one_thing seat w (record { job = job; id = id; item = item }) is held)
 
   pool_end : (w : Running) (task left : ℕ) → w.is_main ≡ false → w.task ≡ task → left ≡ after (steps_of script w.task) w.found
       → Some (end_of script w) ≡ Some (kinds.End task left)
@@ -446,7 +453,8 @@ module _ (script : Plan) (past : List Entry) (legal : IsLegal script past) where
   unfolding may_come
   post_way seat task runner delay ok may =
       let kind : Kind = kinds.Post task runner delay ok in
-      let parts = and_parts (by_script script past seat kind || by_task script past seat kind) (is_reply (is_refused script past runner delay) ok) may in
+      let parts = and_parts (by_script script past seat kind || by_task script past seat kind) (is_reply (is_refused script past runner delay) ok)
+      (sym (closed_post script past seat task runner delay ok closed) ∙ may) in
       ⊎_elim (λ by. scripted seat kind kind by (post_action task runner delay ok parts.1 (own_entries 0 past)))
       (λ by. tasked seat kind kind by (post_step task runner delay ok parts.1))
       (or_cases (by_script script past seat kind) (by_task script past seat kind) parts.0)
@@ -456,7 +464,8 @@ module _ (script : Plan) (past : List Entry) (legal : IsLegal script past) where
   unfolding may_come
   main_way seat task queue delay ok may =
       let kind : Kind = kinds.Main task queue delay ok in
-      let parts = and_parts (by_script script past seat kind || by_task script past seat kind) (is_reply (is_closed past queue) ok) may in
+      let parts = and_parts (by_script script past seat kind || by_task script past seat kind) (is_reply (is_closed past queue) ok)
+      (sym (closed_main script past seat task queue delay ok closed) ∙ may) in
       ⊎_elim (λ by. scripted seat kind kind by (main_action task queue delay ok parts.1 (own_entries 0 past)))
       (λ by. tasked seat kind kind by (main_step task queue delay ok parts.1))
       (or_cases (by_script script past seat kind) (by_task script past seat kind) parts.0)
@@ -469,70 +478,74 @@ module _ (script : Plan) (past : List Entry) (legal : IsLegal script past) where
       scripted seat (kinds.Joined job reply) (kinds.Joined job reply) by
       (joined_action job reply (join_is script past seat job reply may).reply_is (own_entries 0 past))
 
--- what may come is the way on, but for the moment of a tick
-pub way_is : (script : Plan) (past : List Entry) (seat : ℕ) (kind : Kind) → IsLegal script past → may_come script past seat kind ≡ true
+-- what may come in a closed plan is the way on, but for the moment of a tick
+pub way_is : (script : Plan) (past : List Entry) (seat : ℕ) (kind : Kind) → IsClosed script → IsLegal script past → may_come script past seat kind ≡ true
     → way_on script past seat ≡ Some (but_moment kind)
 unfolding may_come
-way_is script past seat (kinds.Post task runner delay ok) legal may = post_way script past legal seat task runner delay ok may
-way_is script past seat (kinds.Main task queue delay ok) legal may = main_way script past legal seat task queue delay ok may
-way_is script past seat (kinds.Tick now) legal may =
-    scripted script past legal seat (kinds.Tick now) (kinds.Tick 0) (and_parts (by_script script past seat (kinds.Tick now)) _ (and_parts _ _ may).0).0
-    (tick_action script past legal now (own_entries 0 past))
-way_is script past seat (kinds.Take task runner value) legal may = take_way script past legal seat task runner value may
-way_is script past seat (kinds.End task left) legal may = end_way script past legal seat task left may
-way_is script past seat (kinds.Enter task scope) legal may =
-    tasked script past legal seat (kinds.Enter task scope) (kinds.Enter task scope) may (enter_step script past legal task scope)
-way_is script past seat (kinds.Leave task) legal may =
-    tasked script past legal seat (kinds.Leave task) (kinds.Leave task) may (leave_step script past legal task)
-way_is script past seat (kinds.Policy policy) legal may =
-    scripted script past legal seat (kinds.Policy policy) (kinds.Policy policy) may (policy_action script past legal policy (own_entries 0 past))
-way_is script past seat (kinds.Reprio runner priority) legal may =
-    scripted script past legal seat (kinds.Reprio runner priority) (kinds.Reprio runner priority) may
-    (reprio_action script past legal runner priority (own_entries 0 past))
-way_is script past seat (kinds.Fence queue at) legal may =
-    scripted script past legal seat (kinds.Fence queue at) (kinds.Fence queue at) may (fence_action script past legal queue at (own_entries 0 past))
-way_is script past seat (kinds.Unfence queue) legal may =
-    scripted script past legal seat (kinds.Unfence queue) (kinds.Unfence queue) may (unfence_action script past legal queue (own_entries 0 past))
-way_is script past seat (kinds.Vote queue voter on) legal may =
-    scripted script past legal seat (kinds.Vote queue voter on) (kinds.Vote queue voter on) may
-    (vote_action script past legal queue voter on (own_entries 0 past))
-way_is script past seat (kinds.Rank queue class) legal may =
-    scripted script past legal seat (kinds.Rank queue class) (kinds.Rank queue class) may (rank_action script past legal queue class (own_entries 0 past))
-way_is script past seat (kinds.Close queue) legal may =
-    scripted script past legal seat (kinds.Close queue) (kinds.Close queue) may (close_action script past legal queue (own_entries 0 past))
-way_is script past seat (kinds.MainTake task queue value) legal may = main_take_way script past legal seat task queue value may
-way_is script past seat (kinds.MainEnd task left) legal may = main_end_way script past legal seat task left may
-way_is script past seat kinds.MainNone legal may = main_none_way script past legal seat may
-way_is script past seat (kinds.JobPost job ok) legal may =
+way_is script past seat (kinds.Post task runner delay ok) closed legal may = post_way script past closed legal seat task runner delay ok may
+way_is script past seat (kinds.Main task queue delay ok) closed legal may = main_way script past closed legal seat task queue delay ok may
+way_is script past seat (kinds.Tick now) closed legal may =
+    scripted script past closed legal seat (kinds.Tick now) (kinds.Tick 0) (and_parts (by_script script past seat (kinds.Tick now)) _ (and_parts _ _ may).0).0
+    (tick_action script past closed legal now (own_entries 0 past))
+way_is script past seat (kinds.Take task runner value) closed legal may = take_way script past seat task runner value may
+way_is script past seat (kinds.End task left) closed legal may = end_way script past closed legal seat task left may
+way_is script past seat (kinds.Enter task scope) closed legal may =
+    tasked script past closed legal seat (kinds.Enter task scope) (kinds.Enter task scope)
+    (sym (closed_enters script past seat task scope closed) ∙ may) (enter_step script past closed legal task scope)
+way_is script past seat (kinds.Leave task) closed legal may =
+    tasked script past closed legal seat (kinds.Leave task) (kinds.Leave task)
+    (sym (closed_leaves script past seat task closed) ∙ may) (leave_step script past closed legal task)
+way_is script past seat (kinds.Policy policy) closed legal may =
+    scripted script past closed legal seat (kinds.Policy policy) (kinds.Policy policy) may (policy_action script past closed legal policy (own_entries 0 past))
+way_is script past seat (kinds.Reprio runner priority) closed legal may =
+    scripted script past closed legal seat (kinds.Reprio runner priority) (kinds.Reprio runner priority) may
+    (reprio_action script past closed legal runner priority (own_entries 0 past))
+way_is script past seat (kinds.Fence queue at) closed legal may =
+    scripted script past closed legal seat (kinds.Fence queue at) (kinds.Fence queue at) may
+    (fence_action script past closed legal queue at (own_entries 0 past))
+way_is script past seat (kinds.Unfence queue) closed legal may =
+    scripted script past closed legal seat (kinds.Unfence queue) (kinds.Unfence queue) may (unfence_action script past closed legal queue (own_entries 0 past))
+way_is script past seat (kinds.Vote queue voter on) closed legal may =
+    scripted script past closed legal seat (kinds.Vote queue voter on) (kinds.Vote queue voter on) may
+    (vote_action script past closed legal queue voter on (own_entries 0 past))
+way_is script past seat (kinds.Rank queue class) closed legal may =
+    scripted script past closed legal seat (kinds.Rank queue class) (kinds.Rank queue class) may
+    (rank_action script past closed legal queue class (own_entries 0 past))
+way_is script past seat (kinds.Close queue) closed legal may =
+    scripted script past closed legal seat (kinds.Close queue) (kinds.Close queue) may (close_action script past closed legal queue (own_entries 0 past))
+way_is script past seat (kinds.MainTake task queue value) closed legal may = main_take_way script past closed legal seat task queue value may
+way_is script past seat (kinds.MainEnd task left) closed legal may = main_end_way script past closed legal seat task left may
+way_is script past seat kinds.MainNone closed legal may = main_none_way script past closed legal seat may
+way_is script past seat (kinds.JobPost job ok) closed legal may =
     let parts = and_parts (by_script script past seat (kinds.JobPost job ok)) (is_reply (is_job_forbidden script past job) ok) may in
-    scripted script past legal seat (kinds.JobPost job ok) (kinds.JobPost job ok) parts.0
-    (job_post_action script past legal job ok parts.1 (own_entries 0 past))
-way_is script past seat (kinds.JobTake job id item) legal may = job_take_way script past legal seat job id item may
-way_is script past seat (kinds.JobStep job id item value next) legal may = job_step_way script past legal seat job id item value next may
-way_is script past seat (kinds.JobCancel job) legal may =
-    scripted script past legal seat (kinds.JobCancel job) (kinds.JobCancel job) may (job_cancel_action script past legal job (own_entries 0 past))
-way_is script past seat (kinds.Cancelled job) legal may =
-    scripted script past legal seat (kinds.Cancelled job) (kinds.Cancelled job)
+    scripted script past closed legal seat (kinds.JobPost job ok) (kinds.JobPost job ok) parts.0
+    (job_post_action script past closed legal job ok parts.1 (own_entries 0 past))
+way_is script past seat (kinds.JobTake job id item) closed legal may = job_take_way script past closed legal seat job id item may
+way_is script past seat (kinds.JobStep job id item value next) closed legal may = job_step_way script past seat job id item value next legal may
+way_is script past seat (kinds.JobCancel job) closed legal may =
+    scripted script past closed legal seat (kinds.JobCancel job) (kinds.JobCancel job) may (job_cancel_action script past closed legal job (own_entries 0 past))
+way_is script past seat (kinds.Cancelled job) closed legal may =
+    scripted script past closed legal seat (kinds.Cancelled job) (kinds.Cancelled job)
     (and_parts (by_script script past seat (kinds.Cancelled job)) _ (and_parts _ _ may).0).0
-    (cancelled_action script past legal job (own_entries 0 past))
-way_is script past seat (kinds.Joined job reply) legal may = joined_way script past legal seat job reply may
-way_is script past seat kinds.Idle legal may =
-    scripted script past legal seat kinds.Idle kinds.Idle (and_parts (by_script script past seat kinds.Idle) _ (and_parts _ _ may).0).0
-    (idle_action script past legal (own_entries 0 past))
-way_is script past seat kinds.Shutdown legal may =
-    scripted script past legal seat kinds.Shutdown kinds.Shutdown may (shutdown_action script past legal (own_entries 0 past))
-way_is script past seat kinds.Done legal may =
-    scripted script past legal seat kinds.Done kinds.Done (and_parts (by_script script past seat kinds.Done) _ (and_parts _ _ may).0).0
-    (done_action script past legal (own_entries 0 past))
+    (cancelled_action script past closed legal job (own_entries 0 past))
+way_is script past seat (kinds.Joined job reply) closed legal may = joined_way script past closed legal seat job reply may
+way_is script past seat kinds.Idle closed legal may =
+    scripted script past closed legal seat kinds.Idle kinds.Idle (and_parts (by_script script past seat kinds.Idle) _ (and_parts _ _ may).0).0
+    (idle_action script past closed legal (own_entries 0 past))
+way_is script past seat kinds.Shutdown closed legal may =
+    scripted script past closed legal seat kinds.Shutdown kinds.Shutdown may (shutdown_action script past closed legal (own_entries 0 past))
+way_is script past seat kinds.Done closed legal may =
+    scripted script past closed legal seat kinds.Done kinds.Done (and_parts (by_script script past seat kinds.Done) _ (and_parts _ _ may).0).0
+    (done_action script past closed legal (own_entries 0 past))
 
 -- so there is at most one
-pub one_way : (script : Plan) (past : List Entry) (seat : ℕ) (a b : Kind) → IsLegal script past → may_come script past seat a ≡ true
+pub one_way : (script : Plan) (past : List Entry) (seat : ℕ) (a b : Kind) → IsClosed script → IsLegal script past → may_come script past seat a ≡ true
     → may_come script past seat b ≡ true → but_moment a ≡ but_moment b
-one_way script past seat a b legal may also =
-    same_Some (but_moment a) (but_moment b) (sym (way_is script past seat a legal may) ∙ way_is script past seat b legal also)
+one_way script past seat a b closed legal may also =
+    same_Some (but_moment a) (but_moment b) (sym (way_is script past seat a closed legal may) ∙ way_is script past seat b closed legal also)
 
 -- who may go into a job finds none answered
-pub in_or_joined : (script : Plan) (past : List Entry) (seat job id item other : ℕ) (reply : JobReply) → IsLegal script past
+pub in_or_joined : (script : Plan) (past : List Entry) (seat job id item other : ℕ) (reply : JobReply) → IsClosed script → IsLegal script past
     → may_come script past seat (kinds.JobTake job id item) ≡ true → may_come script past seat (kinds.Joined other reply) ≡ true → ⊥
-in_or_joined script past seat job id item other reply legal may also =
-    let same = one_way script past seat (kinds.JobTake job id item) (kinds.Joined other reply) legal may also in absurd cc
+in_or_joined script past seat job id item other reply closed legal may also =
+    let same = one_way script past seat (kinds.JobTake job id item) (kinds.Joined other reply) closed legal may also in absurd cc

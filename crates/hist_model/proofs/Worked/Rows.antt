@@ -1,5 +1,5 @@
 -- How worked histories are checked: by computing, with all definitions open.
-use Rattle.std.proofs.Common.{◌≡◌, ℕ, Bool, true, List, [], ◌∷◌, ◌++◌}
+use Rattle.std.proofs.Common.{◌≡◌, ℕ, Bool, true, List, [], ◌∷◌, ◌++◌, false}
 use Rattle.std.specs.Prelude.{if◌then◌else◌, Option, Some, None, Result, Ok, map}
 use Rattle.task_base.specs.Plan.{Plan, JobPlan}
 use Rattle.task_base.specs.declared.entry.Entry.{Entry}
@@ -26,6 +26,7 @@ use Rattle.task_model.specs.Sources.{would_wait, waiting, best_of, leaves}
 use Rattle.task_model.specs.Blockers.{block_part, skip_part, blockers_of}
 use Rattle.task_model.specs.Orders.{ripening, draws, order_of}
 use Rattle.task_model.specs.MainQueues.{fence_of, votes_on, class_of, front_of, open_fronts, of_least_class, streak_of, choice_among}
+use Rattle.hist_model.specs.Open.{was_posted}
 use Rattle.hist_model.specs.Script.{current, is_wanted, is_finished, is_whole}
 use Rattle.hist_model.specs.Allowed.{by_script, by_task, may_come}
 use Rattle.hist_model.specs.Legal.{is_legal, first_illegal}
@@ -46,7 +47,7 @@ unfolding fold_past now_of tick_from posts main_posts is_taken is_ended is_main_
     job_post_of is_cancelled
     claimed done
     job_sum may_enter would_wait waiting best_of leaves block_part skip_part blockers_of ripening draws order_of fence_of votes_on class_of front_of open_fronts
-    of_least_class streak_of choice_among current is_wanted is_finished by_script by_task may_come is_legal first_illegal
+    of_least_class streak_of choice_among current is_wanted is_finished was_posted by_script by_task may_come is_legal first_illegal
 judge script log = (is_legal script log, is_whole script log, first_illegal script log)
 
 -- what the seat of each entry does next after those before it, but for the moment of a tick, where that is due
@@ -116,6 +117,7 @@ plain = record {
   tasks = [];
   jobs = [];
   actions = [];
+  is_open = false;
 }
 
 abbrev pub runner_of : RunnerKind → Priority → Behaviour → Bool → Runner

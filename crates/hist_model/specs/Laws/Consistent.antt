@@ -8,6 +8,7 @@ use Rattle.task_model.specs.Seats.{Running, Holding, running, holding}
 use Rattle.task_model.specs.Jobs.{claimed}
 use Rattle.pool_laws.specs.Runs.{RunsSingly}
 use Rattle.hist_model.specs.Views.{own_entries}
+use Rattle.hist_model.specs.Open.{IsClosed}
 use Rattle.hist_model.specs.Script.{Current, current}
 
 -- of the pool, and of the main queues: a task that has ended was taken; what a seat runs was accepted and taken, and has not
@@ -52,9 +53,11 @@ abbrev pub is_join : Action → Bool
 is_join (actions.Join job) = true
 is_join action = false
 
--- while the driver runs a main task it is at a pump, and while it holds an item at a join; no seat runs a task and
--- holds an item at once
+-- while the driver of a closed plan runs a main task it is at a pump, and while it holds an item at a join; no seat runs
+-- a task and holds an item at once
 pub record DoesOneThing (script : Plan) (past : List Entry) : Type 0 where
-  pub pumps : (w : Running) → running past 0 ≡ Some w → (c : Current) × (current script (own_entries 0 past) ≡ Some c) × (is_pump c.action ≡ true)
-  pub joins : (h : Holding) → holding past 0 ≡ Some h → (c : Current) × (current script (own_entries 0 past) ≡ Some c) × (is_join c.action ≡ true)
+  pub pumps : IsClosed script → (w : Running) → running past 0 ≡ Some w
+      → (c : Current) × (current script (own_entries 0 past) ≡ Some c) × (is_pump c.action ≡ true)
+  pub joins : IsClosed script → (h : Holding) → holding past 0 ≡ Some h
+      → (c : Current) × (current script (own_entries 0 past) ≡ Some c) × (is_join c.action ≡ true)
   pub one_thing : (seat : ℕ) (w : Running) (h : Holding) → running past seat ≡ Some w → holding past seat ≡ Some h → ⊥

@@ -32,7 +32,7 @@ EndedOnce log t = ((is_ended log t ≡ true) × (is_main_ended log t ≡ false))
 ended_once : (script : Plan) (size : ℕ) (amount : ℕ → ℕ) (log : List Entry) (t : ℕ) → AddsUp script size amount → IsLegal script log → IsWhole script log
     → t < size → EndedOnce log t
 ended_once script size amount log t a legal whole below =
-    by_side (accepted_post t log (is_accepted script size amount t a log legal below (ap (actions_post t) (finished_plan script log done))))
+    by_side (accepted_post t log (is_accepted script size amount t a log legal below (ap (actions_post t) (finished_plan script log a.calm.closed done))))
   where
     done : IsFinished script log
     done = (and_parts (is_finished script log) (is_quiet script log) whole).0

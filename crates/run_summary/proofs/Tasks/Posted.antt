@@ -75,7 +75,7 @@ plain_at script size amount past x rest made a is = subst (λ (p : Agenda). AreP
 wanted_is_plain : (main : Bool) (script : Plan) (size : ℕ) (amount : ℕ → ℕ) (past : List Entry) (seat : ℕ) (kind : Kind) → AddsUp script size amount
     → by_script script past seat kind ≡ true → AllByRecursion (IsPlainPost main size) (posted_as main past kind)
 wanted_is_plain main script size amount past seat kind a by =
-    let w : WantedAt script past kind = (wanted_at script past seat kind by).1 in
+    let w : WantedAt script past kind = (wanted_at script past seat kind a.calm.closed by).1 in
     wanted_post main size (own_entries 0 past) past w.action w.rest w.made kind
     (plain_at script size amount past w.action w.rest w.made a w.plan_is).0 w.wants_it
 
@@ -83,9 +83,9 @@ wanted_is_plain main script size amount past seat kind a by =
 plain_posted : (main : Bool) (script : Plan) (size : ℕ) (amount : ℕ → ℕ) (past : List Entry) (seat : ℕ) (kind : Kind) → AddsUp script size amount
     → may_come script past seat kind ≡ true → AllByRecursion (IsPlainPost main size) (posted_as main past kind)
 plain_posted false script size amount past seat (kinds.Post task runner delay ok) a may = wanted_is_plain false script size amount past seat
-    (kinds.Post task runner delay ok) a (post_comes script past seat task runner delay ok a.calm.no_acts may)
+    (kinds.Post task runner delay ok) a (post_comes script past seat task runner delay ok a.calm may)
 plain_posted true script size amount past seat (kinds.Main task queue delay ok) a may = wanted_is_plain true script size amount past seat
-    (kinds.Main task queue delay ok) a (main_comes script past seat task queue delay ok a.calm.no_acts may)
+    (kinds.Main task queue delay ok) a (main_comes script past seat task queue delay ok a.calm may)
 plain_posted false script size amount past seat kind a may = tt
 plain_posted true script size amount past seat kind a may = tt
 
@@ -152,7 +152,7 @@ accepted_next script size amount t a past e legal accepts may before =
       where
         posts : times t (posts_of_action x) ≤ accepted_by t past e.kind
         posts = posts_it t (own_entries 0 past) past x made e.kind
-            (driver_does script past e.kind x rest made a.calm.no_acts legal (subst (λ seat. may_come script past seat e.kind ≡ true) driver may) is) accepts
+            (driver_does script past e.kind x rest made a.calm legal (subst (λ seat. may_come script past seat e.kind ≡ true) driver may) is) accepts
 
         by_completes : (b : Bool) → actions_post t (x ∷ rest) ≤ actions_post t (next_plan b x rest made e).actions + accepted_by t past e.kind
         by_completes true = omega (arith, one_more t x rest, posts)

@@ -135,7 +135,7 @@ found_none : (script : Plan) (size : ℕ) (amount : ℕ → ℕ) (past : List En
 unfolding may_come
 found_none script size amount past seat a legal may =
     let parts = and_parts (by_script script past seat kinds.MainNone) (eqb (length (open_fronts script past)) 0) may in
-    let w : WantedAt script past kinds.MainNone = (wanted_at script past seat kinds.MainNone parts.0).1 in (
+    let w : WantedAt script past kinds.MainNone = (wanted_at script past seat kinds.MainNone a.calm.closed parts.0).1 in (
       no_front script past a.one_queue (calm_logs script a.calm past legal) (eqb-true (length (open_fronts script past)) 0 parts.1),
       λ t. ap (λ (p : _). actions_post t p.actions) w.plan_is
           ∙ pump_posts_none size t (own_entries 0 past) w.action w.rest w.made
@@ -221,7 +221,7 @@ main_tasks_taken script size amount log p a legal done among =
 
     by_free : is_main_taken log p.task ≡ false
         → (list_any is_pump (plan_of script log).actions ≡ true) ⊎ ((list_any (λ e. is_main_none e.kind) log ≡ true) ⊎ (size ≤ main_ends_in log)) → ⊥
-    by_free free (inl left) = true≢false (sym left ∙ ap (list_any is_pump) (finished_plan script log done))
+    by_free free (inl left) = true≢false (sym left ∙ ap (list_any is_pump) (finished_plan script log a.calm.closed done))
     by_free free (inr (inl none)) =
         let at = passes_at (λ (e : Entry). is_main_none e.kind) log none in
         let parts = parted_at log at.place at.value at.is in

@@ -12,7 +12,6 @@ use Rattle.task_traits.specs.declared.traits.Priority.{Priority}
 use Rattle.task_base.specs.Plan.{Plan}
 use Rattle.task_base.specs.Groups.{Group, Foreground, Background, is_best_effort}
 use Rattle.task_base.specs.Runners.{is_parallel, sequence_of, sequence_count}
-use Rattle.task_base.specs.Steps.{is_act}
 use Rattle.task_base.specs.declared.entry.Entry.{Entry}
 use Rattle.task_base.specs.declared.entry.Kind.{Kind}
 use Rattle.task_base.specs.declared.entry.Kind.TheVariants as kinds
@@ -29,7 +28,7 @@ use Rattle.list_laws.proofs.Ranges.{AllByRecursion-range, range_all_at}
 use Rattle.task_model.specs.Posts.{Posted, posts, is_taken}
 use Rattle.task_model.specs.Policies.{is_held}
 use Rattle.task_model.specs.Refusal.{effective_at}
-use Rattle.task_model.specs.Seats.{worker_seats, is_quiet, steps_of}
+use Rattle.task_model.specs.Seats.{worker_seats, is_quiet}
 use Rattle.task_model.specs.Capacity.{work_at, is_in, is_best_in, load_of, load, capacity, best_load, best_capacity, limit, best_limit, has_room_in, has_room}
 use Rattle.task_model.specs.Sources.{Candidate, sequence_candidate, waiting, is_takeable, goes_before, best_of}
 use Rattle.pool_laws.specs.Choice.{IsWaiting}
@@ -40,14 +39,16 @@ use Rattle.hist_model.specs.Script.{wants, is_finished, IsFinished, IsWhole}
 use Rattle.hist_model.specs.Views.{own_entries}
 use Rattle.hist_model.specs.Allowed.{by_script, may_come}
 use Rattle.hist_model.specs.Legal.{IsLegal}
+use Rattle.hist_model.specs.Open.{IsClosed}
 use Rattle.hist_model.specs.Laws.Agenda.{Agenda, first_of, completes, next_agenda, agenda_after}
 use Rattle.hist_model.specs.Laws.Consistent.{is_pump, is_join}
 use Rattle.hist_model.specs.Laws.Whole.{sequence_at, LeftTask, LosesNothing}
 use Rattle.hist_model.specs.Laws.Whole.LeftTask.{Forbidden, Unripe, Waits}
 use Rattle.hist_model.proofs.Laws.Agenda.{current_is_first}
 use Rattle.hist_model.proofs.Laws.Legal.{legal_induction}
+use Rattle.hist_model.proofs.Laws.Open.{closed_finished}
 use Rattle.hist_model.proofs.Laws.Whole.Losing.{loses_nothing}
-use Rattle.run_summary.proofs.Calm.{IsCalm, calm_logs}
+use Rattle.run_summary.proofs.Calm.{IsCalm, IsCalmScript, calm_logs}
 use Rattle.run_summary.proofs.Tasks.Driver.{IsPlain, plan_of, plan_push, plan_begins, next_plan, next_is}
 use Rattle.run_summary.proofs.Tasks.Comes.{Comes, comes, WantedAt, wanted_at, driver_does}
 use Rattle.run_summary.proofs.Tasks.Adding.{AddsUp}
@@ -56,32 +57,31 @@ use Rattle.run_summary.proofs.Tasks.Posted.{plain_at, IsPlainPost, plain_posts}
 -- ---- a script that is finished
 
 -- a finished script has no action left
-pub finished_plan : (script : Plan) (past : List Entry) → IsFinished script past → (plan_of script past).actions ≡ []
-unfolding is_finished
-finished_plan script past done = at (plan_of script past).actions (plan_of script past).made
-    (ap is_none (sym (current_is_first script (own_entries 0 past))) ∙ done)
+pub finished_plan : (script : Plan) (past : List Entry) → IsClosed script → IsFinished script past → (plan_of script past).actions ≡ []
+finished_plan script past closed done = at (plan_of script past).actions (plan_of script past).made
+    (ap is_none (sym (current_is_first script (own_entries 0 past))) ∙ (sym (closed_finished script past closed) ∙ done))
   where
     at : (xs : List Action) (made : List Entry) → is_none (first_of xs made) ≡ true → xs ≡ []
     at [] made h = refl
     at (x ∷ xs) made h = absurd cc
 
 -- and one that has none left is finished
-plan_finished : (script : Plan) (past : List Entry) → (plan_of script past).actions ≡ [] → IsFinished script past
-unfolding is_finished
-plan_finished script past none = ap is_none (current_is_first script (own_entries 0 past)) ∙ ap (λ xs. is_none (first_of xs (plan_of script past).made)) none
+plan_finished : (script : Plan) (past : List Entry) → IsClosed script → (plan_of script past).actions ≡ [] → IsFinished script past
+plan_finished script past closed none = closed_finished script past closed ∙ ap is_none (current_is_first script (own_entries 0 past))
+    ∙ ap (λ xs. is_none (first_of xs (plan_of script past).made)) none
 
 -- behind a quiet past of a finished script nothing comes
-nothing_follows : (script : Plan) (past : List Entry) (seat : ℕ) (kind : Kind) → ((t : ℕ) → filter is_act (steps_of script t) ≡ [])
-    → IsLegal script past → IsFinished script past → is_quiet script past ≡ true → may_come script past seat kind ≡ true → ⊥
-nothing_follows script past seat kind no_acts legal done quiet may = by_comes (comes script past seat kind no_acts may)
+nothing_follows : (script : Plan) (past : List Entry) (seat : ℕ) (kind : Kind) → IsCalmScript script → IsLegal script past
+    → IsFinished script past → is_quiet script past ≡ true → may_come script past seat kind ≡ true → ⊥
+nothing_follows script past seat kind calm legal done quiet may = by_comes (comes script past seat kind calm may)
   where
     all : LosesNothing script past
     all = loses_nothing script past legal (and_from (is_finished script past) (is_quiet script past) done quiet)
 
     by_comes : Comes script past seat kind → ⊥
     by_comes (Comes.Wanted wanted) =
-        let w : WantedAt script past kind = (wanted_at script past seat kind wanted).1 in
-        let none : w.action ∷ w.rest ≡ [] = ap (λ (p : Agenda). p.actions) (sym w.plan_is) ∙ finished_plan script past done in
+        let w : WantedAt script past kind = (wanted_at script past seat kind calm.closed wanted).1 in
+        let none : w.action ∷ w.rest ≡ [] = ap (λ (p : Agenda). p.actions) (sym w.plan_is) ∙ finished_plan script past calm.closed done in
         absurd cc
     by_comes (Comes.Taken worker) = both_ways (is_finished script past) worker.goes_on done
     by_comes (Comes.Ran w runs) = none-some w (sym (all.nobody_runs seat) ∙ runs)
@@ -144,13 +144,13 @@ RestsAtEnd script past = IsFinished script past → EndsAtRest script past
 rests_next : (script : Plan) (size : ℕ) (amount : ℕ → ℕ) → AddsUp script size amount → (past : List Entry) (e : Entry) → IsLegal script past
     → may_come script past e.seat e.kind ≡ true → RestsAtEnd script past → RestsAtEnd script (past ++ e ∷ [])
 rests_next script size amount a past e legal may before done = by_seat (eqb e.seat 0) refl
-    (subst (λ (p : Agenda). p.actions ≡ []) (plan_push script past e) (finished_plan script (past ++ e ∷ []) done))
+    (subst (λ (p : Agenda). p.actions ≡ []) (plan_push script past e) (finished_plan script (past ++ e ∷ []) a.calm.closed done))
   where
     -- a script that was finished before had nothing more to come
     was_finished : (plan_of script past).actions ≡ [] → EndsAtRest script (past ++ e ∷ [])
     was_finished none =
-        let finished : IsFinished script past = plan_finished script past none in
-        absurd (nothing_follows script past e.seat e.kind a.calm.no_acts legal finished (quiet_at_end script past (before finished)) may)
+        let finished : IsFinished script past = plan_finished script past a.calm.closed none in
+        absurd (nothing_follows script past e.seat e.kind a.calm legal finished (quiet_at_end script past (before finished)) may)
 
     is_last : (x : Action) (rest : List Action) (made : List Entry) → e.seat ≡ 0 → plan_of script past ≡ record { actions = x ∷ rest; made = made }
         → rest ≡ [] → EndsAtRest script (past ++ e ∷ [])
@@ -158,7 +158,7 @@ rests_next script size amount a past e legal may before done = by_seat (eqb e.se
         let here : may_come script past 0 e.kind ≡ true = subst (λ seat. may_come script past seat e.kind ≡ true) driver may in
         let idle : e.kind ≡ kinds.Idle = flush_wants (own_entries 0 past) x made e.kind
         (last_is_flush size x rest (plain_at script size amount past x rest made a is).0 none)
-        (driver_does script past e.kind x rest made a.calm.no_acts legal here is) in
+        (driver_does script past e.kind x rest made a.calm legal here is) in
         subst (λ k. EndsAtRest script (past ++ record { seat = e.seat; kind = k } ∷ [])) (sym idle)
         (idle_is script past e.seat (subst (λ k. may_come script past e.seat k ≡ true) idle may))
 
@@ -180,7 +180,7 @@ rests_next script size amount a past e legal may before done = by_seat (eqb e.se
 -- at first no script of this kind is finished
 nothing_rests : (script : Plan) (size : ℕ) (amount : ℕ → ℕ) → AddsUp script size amount → RestsAtEnd script []
 nothing_rests script size amount a done =
-    let none : script.actions ≡ [] = ap (λ (p : Agenda). p.actions) (sym (plan_begins script size a.plain)) ∙ finished_plan script [] done in
+    let none : script.actions ≡ [] = ap (λ (p : Agenda). p.actions) (sym (plan_begins script size a.plain)) ∙ finished_plan script [] a.calm.closed done in
     absurd (true≢false (sym a.pumps ∙ ap (list_any is_pump) none))
 
 -- the legal log of a finished script ends at rest

@@ -1,6 +1,6 @@
 -- Each action of the canonical text is read, behind those before it, as itself; and so the whole text is.
 -- Cited by `scripts_that_are_read_are_valid`, `env_core`, `task_reply`, `task_script`.
-use Rattle.std.proofs.Common.{◌≡◌, ℕ, ◌+◌, ◌≤◌, false, List, [], ◌∷◌, ◌++◌, length, take, map, refl, subst, arith}
+use Rattle.std.proofs.Common.{◌≡◌, ℕ, ◌+◌, ◌≤◌, false, List, [], ◌∷◌, ◌++◌, length, take, map, refl, sym, subst, arith}
 use Rattle.std.proofs.lemmas.Bool.{lt-ltb, le-ltb}
 use Rattle.std.proofs.Math.Seq.{take-append_seam}
 use Rattle.task_base.specs.Plan.{Plan}
@@ -15,7 +15,7 @@ use Rattle.script_model.specs.Lines.{post_line, main_line, tick_line, policy_lin
 use Rattle.script_model.specs.Lines.{rank_line, close_line, pump_line, flush_line, start_job_line, join_line, cancel_line}
 use Rattle.script_model.specs.Lines.{shutdown_line, queue_command_read, action_command_read, command_read}
 use Rattle.script_model.specs.Grammar.{Reads}
-use Rattle.script_model.specs.Canonical.{runner_words, queue_words, task_words, job_words, action_words, config_lines, numbered, canonical_lines, IsValid}
+use Rattle.script_model.specs.Canonical.{runner_words, queue_words, task_words, job_words, action_words, config_lines, numbered, canonical, canonical_lines, IsValid}
 use Rattle.script_model.specs.Laws.Sound.{IsSound, IsActionSound, IsInOrder}
 use Rattle.script_model.proofs.Laws.Parts.{Passed}
 use Rattle.script_model.proofs.Laws.Sound.{room, reads_sound}
@@ -206,12 +206,13 @@ sound_is_valid s sound =
     let tasks = numbered_are_read task_words (λ done. draft_at s s.runners s.queues done [] []) s.tasks (task_read s sound) [] s.tasks 0 refl refl in
     let jobs = numbered_are_read job_words (λ done. draft_at s s.runners s.queues s.tasks done []) s.jobs (job_read s sound) [] s.jobs 0 refl refl in
     let actions = mapped_are_read action_words (λ done. acted_at s done) s.actions (action_read s sound) [] s.actions refl in
-    text_is_read (canonical_lines s) d5
+    subst (λ is_open. Reads (canonical s) (record s { is_open = is_open })) (sym sound.closed)
+    (text_is_read (canonical_lines s) d5
     (are_read-append empty_draft to_jobs (map action_words s.actions) d4 d5
     (are_read-append empty_draft to_tasks (numbered job_words 0 s.jobs) d3 d4
     (are_read-append empty_draft to_queues (numbered task_words 0 s.tasks) d2 d3
     (are_read-append empty_draft to_runners (numbered queue_words 0 s.queues) d1 d2
-    (are_read-append empty_draft (config_lines s) (numbered runner_words 0 s.runners) d0 d1 (config_read s sound) runners) queues) tasks) jobs) actions)
+    (are_read-append empty_draft (config_lines s) (numbered runner_words 0 s.runners) d0 d1 (config_read s sound) runners) queues) tasks) jobs) actions))
 
 -- a script that any bytes give is valid
 pub reads_valid : (bytes : List ℕ) (script : Plan) → Reads bytes script → IsValid script

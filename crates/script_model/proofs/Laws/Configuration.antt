@@ -134,6 +134,7 @@ with_config d workers groups threshold bare config sound =
     let none = bare_parts d bare in
     let stay = same_stays (script_of d) script refl refl refl in
     record {
+      closed = refl;
       config = config;
       limits = assumption;
       declarations = record {

@@ -41,6 +41,7 @@ with_runner d made seat none few sound =
     let script = script_of (record d { runners = d.runners ++ made ∷ [] }) in
     let few_runners : length script.runners ≤ MOST_RUNNERS = omega (arith, few, length-append d.runners (made ∷ [])) in
     record {
+      closed = refl;
       config = assumption;
       limits = assumption;
       declarations = record {
@@ -87,6 +88,7 @@ with_queue d made within none few sound =
     let script = script_of (record d { queues = d.queues ++ made ∷ [] }) in
     let few_queues : length script.queues ≤ MOST_QUEUES = omega (arith, few, length-append d.queues (made ∷ [])) in
     record {
+      closed = refl;
       config = assumption;
       limits = assumption;
       declarations = record {
@@ -178,6 +180,7 @@ with_task d steps made fresh none few few_steps few_events sound =
     let few_events : events_bound_of script ≤ MOST_EVENTS = omega (arith, few_events, more_events) in
     let posted_once = posted_once_with_task d steps fresh sound.once.posted_once in
     record {
+      closed = refl;
       config = assumption;
       limits = assumption;
       declarations = record {
@@ -232,6 +235,7 @@ with_job d job made none few few_items few_steps few_events sound =
     let few_events : events_bound_of script ≤ MOST_EVENTS = omega (arith, few_events, more_events) in
     let stay = same_stays (script_of d) script refl refl refl in
     record {
+      closed = refl;
       config = assumption;
       limits = assumption;
       declarations = record {

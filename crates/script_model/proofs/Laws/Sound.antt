@@ -94,6 +94,7 @@ with_action d action made order fresh passed sound =
     let few_ticks : ticks_in d' ≤ MOST_TICKS = omega (arith, ticks, more_ticks) in
     let few_events : events_in d' ≤ MOST_EVENTS = omega (arith, events, more_events) in
     record {
+      closed = refl;
       config = assumption;
       limits = assumption;
       declarations = record {
@@ -351,6 +352,7 @@ keeps_lines d n (line ∷ lines) d' sound e =
 empty_sound : Keeps empty_draft
 unfolding postings
 empty_sound = record {
+  closed = refl;
   config = record {
     some_workers = omega arith;
     few_workers = omega arith;

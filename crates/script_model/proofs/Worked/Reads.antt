@@ -26,6 +26,7 @@ default_script = record {
   tasks = [];
   jobs = [];
   actions = [];
+  is_open = false;
 }
 
 -- one task in one sequence
@@ -62,6 +63,7 @@ page_load = record {
       ∷ [];
   jobs = record { priority = UserVisible; behaviour = BlockShutdown; items = 32; cap = 4; steps = Mul 3 ∷ Add 1 ∷ [] } ∷ [];
   actions = Main 3 1 0 ∷ Main 4 0 5 ∷ Post 2 0 0 ∷ Post 5 1 0 ∷ Post 6 2 0 ∷ StartJob 0 ∷ Pump 2 ∷ Tick 2 ∷ Join 0 ∷ Flush ∷ Pump 4 ∷ Shutdown ∷ [];
+  is_open = false;
 }
 
 -- its text, without the comment at its head
@@ -117,6 +119,7 @@ edges = record {
   actions =
       Post 2 0 0 ∷ Policy All ∷ Policy Foreground ∷ Reprio 1 BestEffort ∷ Reprio 0 UserVisible ∷ Rank 1 0 ∷ Vote 0 15 false ∷ Tick 65536 ∷ Pump 1 ∷ StartJob 1
       ∷ Cancel 1 ∷ Cancel 1 ∷ Join 1 ∷ Shutdown ∷ Fence 1 Start ∷ Fence 0 Now ∷ [];
+  is_open = false;
 }
 
 abbrev edges_text : List ℕ

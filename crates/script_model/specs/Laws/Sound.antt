@@ -150,6 +150,7 @@ pub record IsDoneOnce (script : Plan) : Type 0 where
 
 -- what every script that is read is like (this project's own notion)
 pub record IsSound (script : Plan) : Type 0 where
+  pub closed : script.is_open ≡ false
   pub config : IsConfigSound script
   pub limits : IsWithinLimits script
   pub declarations : AreDeclarationsSound script

@@ -14,7 +14,7 @@ pub loop-action-init : goal.loop-action-init
 loop-action-init g c =
     let old = g.D.Desk.desk c.args.desk.now in (
       later_refl old,
-      at_start old c.args.script.now c.as_slice-action-items.result.now c.requires.script
+      at_start old c.args.script.now c.as_slice-action-items.result.now c.requires.plan.closed c.requires.script
           (c.as_slice-action-items.ensures ∙ ap (λ p. p.actions) c.script.view_is) c.requires.start,
       nothing_rests old c.requires.start,
       rw c.requires.start (time_starts (g.C.Clock.readings c.args.clock.now)),

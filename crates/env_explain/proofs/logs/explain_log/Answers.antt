@@ -20,7 +20,8 @@ pub returns-in_ok-told-in-Illegal-clause-named : goal.returns-in_ok-told-in-Ille
 returns-in_ok-told-in-Illegal-clause-named c = names_allowed c.args.script.now c.args.log.now.items _ c.in_ok-told-in-Illegal.ensures.cause
 
 pub returns-in_ok-told-in-Illegal-clause-ruled_out : goal.returns-in_ok-told-in-Illegal-clause-ruled_out
-returns-in_ok-told-in-Illegal-clause-ruled_out c = rules_out_all c.args.script.now c.args.log.now.items _ c.in_ok-told-in-Illegal.ensures.cause
+returns-in_ok-told-in-Illegal-clause-ruled_out c = rules_out_all c.args.script.now c.args.log.now.items _ c.requires.closed
+    c.in_ok-told-in-Illegal.ensures.cause
 
 pub explain_at-requires : goal.explain_at-requires
 explain_at-requires c = record { plan = c.requires; illegal = sym c.in_ok-verdict.ensures.verdict ∙ c.in-Illegal.is }

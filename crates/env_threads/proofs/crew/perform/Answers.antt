@@ -26,7 +26,8 @@ returns-clause-back g c =
           c.requires.stands seated;
       number_is = number;
       made_is = ap (λ s. s.made) out ∙ ap (λ o. o.made) later.origin_is ∙ ap (λ s. s.made) in_ ∙ split.made_is;
-      finished = driver_finished key c.drive.new.desk first out script number seated c.drive.ensures.finished;
+      finished = driver_finished key c.drive.new.desk first (ap (λ p. p.is_open) c.requires.script ∙ c.requires.plan.closed)
+          out script number seated c.drive.ensures.finished;
       free = driver_free c.drive.new.desk first out seated c.drive.ensures.rests;
       all = c.join_all.ensures.all ∙ c.requires.all;
       rising = c.join_all.ensures.workers;

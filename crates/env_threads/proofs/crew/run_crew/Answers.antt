@@ -10,8 +10,8 @@ close-requires-clause-rest g c = workers_rise c.in_ok-shared.shared 1 c.in_ok-fi
 
 pub returns-clause-whole : goal.returns-clause-whole
 returns-clause-whole g c =
-    whole_at_end c.args.script.now c.close.result.0.history c.in_ok-shared.shared _ c.in_ok-first.first c.in_ok-first.rest.items c.in_ok-first.ensures.back
-    (c.in_ok-shared.ensures.script ∙ c.in_ok-copy.ensures) refl c.close.ensures.first c.close.ensures.rest
+    whole_at_end c.args.script.now c.close.result.0.history c.in_ok-shared.shared _ c.in_ok-first.first c.in_ok-first.rest.items c.requires.plan.closed
+    c.in_ok-first.ensures.back (c.in_ok-shared.ensures.script ∙ c.in_ok-copy.ensures) refl c.close.ensures.first c.close.ensures.rest
 
 pub returns-clause-bounded : goal.returns-clause-bounded
 returns-clause-bounded g c =

@@ -20,7 +20,7 @@ use Rattle.list_laws.proofs.Elements.{AllByRecursion-map, AllByRecursion-from_in
 use Rattle.list_laws.proofs.Finds.{contained_counts}
 use Rattle.script_model.specs.Bound.{events_bound_of}
 use Rattle.script_model.specs.Laws.Sound.{IsSound, IsActionSound, IsStepSound}
-use Rattle.script_model.specs.Laws.Postings.{posts_of_step, posts_of_action, postings, times, IsPostedOnce}
+use Rattle.script_model.specs.Laws.Postings.{posts_of_step, posts_of_action, postings, times}
 use Rattle.task_model.specs.Phase.{phase_of, is_started}
 use Rattle.task_model.specs.Time.{now_of}
 use Rattle.task_model.specs.Posts.{posts, main_posts, is_taken, takes, is_main_taken, main_takes}
@@ -28,7 +28,9 @@ use Rattle.task_model.specs.Refusal.{is_refused, is_closed}
 use Rattle.task_model.specs.Seats.{Running, running, is_quiet, steps_of}
 use Rattle.task_model.specs.Jobs.{is_cancelled, is_empty}
 use Rattle.hist_model.specs.Allowed.{by_script, by_task, may_come, IsAllowed}
+use Rattle.hist_model.specs.Open.{IsClosed}
 use Rattle.hist_model.specs.Legal.{IsLegal}
+use Rattle.hist_model.proofs.Laws.Open.{closed_enters, closed_leaves, closed_main, closed_post}
 use Rattle.hist_model.proofs.Laws.Legal.{legal_induction, is_legal_push}
 use Rattle.hist_model.proofs.Laws.Takes.{take_is, main_take_is, end_is, main_end_is}
 use Rattle.hist_model.proofs.Laws.Postings.Driver.{times-append}
@@ -95,12 +97,13 @@ left script past = driver_left script past + tasks_left script past + seats_left
 IsOne : Plan → List Entry → Entry → Type 0
 IsOne script past e = left script (past ++ e ∷ []) + 1 ≤ left script past
 
-by_script_one : (script : Plan) (past : List Entry) (e : Entry) → e.seat ≤ script.workers → takes_nothing e.kind ≡ true → is_of_script e.kind ≡ true
+by_script_one : (script : Plan) (past : List Entry) (e : Entry) → IsClosed script → e.seat ≤ script.workers → takes_nothing e.kind ≡ true
+    → is_of_script e.kind ≡ true
     → by_script script past e.seat e.kind ≡ true → IsOne script past e
 unfolding left IsOne
-by_script_one script past e le none of by = omega (
+by_script_one script past e closed le none of by = omega (
   arith,
-  driver_left_falls script past e by of,
+  driver_left_falls script past e closed by of,
   tasks_left_less script past e,
   seats_left_less script past e le none,
   jobs_left_less script past e,
@@ -116,9 +119,10 @@ by_task_one script past e le by = omega (
   jobs_left_less script past e,
 )
 
-by_either_one : (script : Plan) (past : List Entry) (e : Entry) → e.seat ≤ script.workers → takes_nothing e.kind ≡ true → is_of_script e.kind ≡ true
+by_either_one : (script : Plan) (past : List Entry) (e : Entry) → IsClosed script → e.seat ≤ script.workers → takes_nothing e.kind ≡ true
+    → is_of_script e.kind ≡ true
     → (by_script script past e.seat e.kind || by_task script past e.seat e.kind) ≡ true → IsOne script past e
-by_either_one script past e le none of by = ⊎_elim (λ k. by_script_one script past e le none of k) (λ k. by_task_one script past e le k)
+by_either_one script past e closed le none of by = ⊎_elim (λ k. by_script_one script past e closed le none of k) (λ k. by_task_one script past e le k)
     (or_cases (by_script script past e.seat e.kind) (by_task script past e.seat e.kind) by)
 
 end_one : (script : Plan) (past : List Entry) (e : Entry) (w : Running) → e.seat ≤ script.workers → running past e.seat ≡ Some w
@@ -148,28 +152,28 @@ record IsTakenNow (script : Plan) (past : List Entry) (u : ℕ) : Type 0 where
   untaken : is_untaken past u ≡ true
   posted : 1 ≤ times u (postings script)
 
-taken_now : (script : Plan) (past : List Entry) (seat task runner value : ℕ) → IsPostedOnce script → IsLegal script past
+taken_now : (script : Plan) (past : List Entry) (seat task runner value : ℕ) → IsSound script → IsLegal script past
     → may_come script past seat (kinds.Take task runner value) ≡ true → IsTakenNow script past task
-taken_now script past seat task runner value once legal may =
-    let known : Counted script past = counted script once past legal in
+taken_now script past seat task runner value sound legal may =
+    let known : Counted script past = counted script sound.once.posted_once past legal in
     let t = take_is script past seat task runner value may in
     let here : 1 ≤ of_task task (posts past) = contained_counts (λ p. eqb p.task task) (posts past) t.head.posted t.is_head.accepted
     (eq-eqb t.head.posted.task task t.task_is) in
     let other : is_main_taken past task ≡ false = false_from_ne_true (is_main_taken past task)
-    (λ k. omega (arith, here, known.taken true task k, known.accepted task, known.within task, once task)) in
-    record { untaken = rw (t.not_taken, other) refl; posted = omega (arith, here, known.accepted task, known.within task) }
+    (λ k. omega (arith, here, known.taken true task k, known.accepted task, known.once task)) in
+    record { untaken = rw (t.not_taken, other) refl; posted = omega (arith, here, known.accepted task, known.within sound.closed task) }
 
-main_taken_now : (script : Plan) (past : List Entry) (seat task queue value : ℕ) → IsPostedOnce script → IsLegal script past
+main_taken_now : (script : Plan) (past : List Entry) (seat task queue value : ℕ) → IsSound script → IsLegal script past
     → may_come script past seat (kinds.MainTake task queue value) ≡ true → IsTakenNow script past task
-main_taken_now script past seat task queue value once legal may =
-    let known : Counted script past = counted script once past legal in
+main_taken_now script past seat task queue value sound legal may =
+    let known : Counted script past = counted script sound.once.posted_once past legal in
     let t = main_take_is script past seat task queue value may in
     let here : 1 ≤ of_task task (main_posts past) = contained_counts (λ p. eqb p.task task) (main_posts past) t.is_front.accepted t.is_front.posted
     (eq-eqb t.is_front.accepted.task task (t.is_front.task_is ∙ t.task_is)) in
     let this : is_main_taken past task ≡ false = ap (is_main_taken past) (sym t.task_is) ∙ t.is_front.not_taken in
     let other : is_taken past task ≡ false = false_from_ne_true (is_taken past task)
-    (λ k. omega (arith, here, known.taken false task k, known.accepted task, known.within task, once task)) in
-    record { untaken = rw (other, this) refl; posted = omega (arith, here, known.accepted task, known.within task) }
+    (λ k. omega (arith, here, known.taken false task k, known.accepted task, known.once task)) in
+    record { untaken = rw (other, this) refl; posted = omega (arith, here, known.accepted task, known.within sound.closed task) }
 
 take_one : (script : Plan) (u : ℕ) (past : List Entry) (e : Entry) → IsSound script → e.seat ≤ script.workers → (takes u e.kind || main_takes u e.kind) ≡ true
     → IsTakenNow script past u → IsOne script past e
@@ -192,20 +196,20 @@ one_goes : (script : Plan) (past : List Entry) (seat : ℕ) (kind : Kind) → Is
     → IsOne script past (record { seat = seat; kind = kind })
 unfolding may_come
 one_goes script past seat (kinds.Post task runner delay ok) sound legal longer le h =
-    by_either_one script past (record { seat = seat; kind = kinds.Post task runner delay ok }) le refl refl
-    (and_parts _ (cond (is_refused script past runner delay) (not ok) ok) h).0
+    by_either_one script past (record { seat = seat; kind = kinds.Post task runner delay ok }) sound.closed le refl refl
+    (and_parts _ (cond (is_refused script past runner delay) (not ok) ok) (sym (closed_post script past seat task runner delay ok sound.closed) ∙ h)).0
 one_goes script past seat (kinds.Main task queue delay ok) sound legal longer le h =
-    by_either_one script past (record { seat = seat; kind = kinds.Main task queue delay ok }) le refl refl
-    (and_parts _ (cond (is_closed past queue) (not ok) ok) h).0
+    by_either_one script past (record { seat = seat; kind = kinds.Main task queue delay ok }) sound.closed le refl refl
+    (and_parts _ (cond (is_closed past queue) (not ok) ok) (sym (closed_main script past seat task queue delay ok sound.closed) ∙ h)).0
 one_goes script past seat (kinds.Tick now) sound legal longer le h =
-    by_script_one script past (record { seat = seat; kind = kinds.Tick now }) le refl refl
+    by_script_one script past (record { seat = seat; kind = kinds.Tick now }) sound.closed le refl refl
     (and_parts _ (leb (now_of past) now) (and_parts _ (leb now LAST_MOMENT) h).0).0
 one_goes script past seat (kinds.Take task runner value) sound legal longer le h =
     take_one script task past (record { seat = seat; kind = kinds.Take task runner value }) sound le (rw (eq-eqb task task refl) refl)
-    (taken_now script past seat task runner value sound.once.posted_once legal h)
+    (taken_now script past seat task runner value sound legal h)
 one_goes script past seat (kinds.MainTake task queue value) sound legal longer le h =
     take_one script task past (record { seat = seat; kind = kinds.MainTake task queue value }) sound le (rw (eq-eqb task task refl) refl)
-    (main_taken_now script past seat task queue value sound.once.posted_once legal h)
+    (main_taken_now script past seat task queue value sound legal h)
 one_goes script past seat (kinds.End task value) sound legal longer le h =
     let (w, is, pool, same) = end_is script past seat task value h in
     end_one script past (record { seat = seat; kind = kinds.End task value }) w le is refl refl
@@ -213,31 +217,33 @@ one_goes script past seat (kinds.MainEnd task value) sound legal longer le h =
     let (w, is, main, same) = main_end_is script past seat task value h in
     end_one script past (record { seat = seat; kind = kinds.MainEnd task value }) w le is refl refl
 one_goes script past seat (kinds.Enter task scope) sound legal longer le h =
-    by_task_one script past (record { seat = seat; kind = kinds.Enter task scope }) le h
-one_goes script past seat (kinds.Leave task) sound legal longer le h = by_task_one script past (record { seat = seat; kind = kinds.Leave task }) le h
+    by_task_one script past (record { seat = seat; kind = kinds.Enter task scope }) le (sym (closed_enters script past seat task scope sound.closed) ∙ h)
+one_goes script past seat (kinds.Leave task) sound legal longer le h =
+    by_task_one script past (record { seat = seat; kind = kinds.Leave task }) le (sym (closed_leaves script past seat task sound.closed) ∙ h)
 one_goes script past seat (kinds.JobTake job id item) sound legal longer le h =
     job_one script past (record { seat = seat; kind = kinds.JobTake job id item }) le refl (jobs_left_take script past seat job id item longer)
 one_goes script past seat (kinds.JobStep job id item value next) sound legal longer le h =
     job_one script past (record { seat = seat; kind = kinds.JobStep job id item value next }) le refl
     (jobs_left_step script past seat job id item value next longer)
 one_goes script past seat kinds.MainNone sound legal longer le h =
-    by_script_one script past (record { seat = seat; kind = kinds.MainNone }) le refl refl (and_parts (by_script script past seat kinds.MainNone) _ h).0
+    by_script_one script past (record { seat = seat; kind = kinds.MainNone }) sound.closed le refl refl
+    (and_parts (by_script script past seat kinds.MainNone) _ h).0
 one_goes script past seat (kinds.JobPost job ok) sound legal longer le h =
-    by_script_one script past (record { seat = seat; kind = kinds.JobPost job ok }) le refl refl
+    by_script_one script past (record { seat = seat; kind = kinds.JobPost job ok }) sound.closed le refl refl
     (and_parts (by_script script past seat (kinds.JobPost job ok)) _ h).0
 one_goes script past seat (kinds.Cancelled job) sound legal longer le h =
-    by_script_one script past (record { seat = seat; kind = kinds.Cancelled job }) le refl refl
+    by_script_one script past (record { seat = seat; kind = kinds.Cancelled job }) sound.closed le refl refl
     (and_parts (by_script script past seat (kinds.Cancelled job)) (is_cancelled past job) (and_parts _ (is_empty script past job) h).0).0
 one_goes script past seat (kinds.Joined job reply) sound legal longer le h =
-    by_script_one script past (record { seat = seat; kind = kinds.Joined job reply }) le refl refl
+    by_script_one script past (record { seat = seat; kind = kinds.Joined job reply }) sound.closed le refl refl
     (and_parts (by_script script past seat (kinds.Joined job reply)) (is_empty script past job) (and_parts _ _ h).0).0
 one_goes script past seat kinds.Idle sound legal longer le h =
-    by_script_one script past (record { seat = seat; kind = kinds.Idle }) le refl refl
+    by_script_one script past (record { seat = seat; kind = kinds.Idle }) sound.closed le refl refl
     (and_parts (by_script script past seat kinds.Idle) (is_quiet script past) (and_parts _ _ h).0).0
 one_goes script past seat kinds.Done sound legal longer le h =
-    by_script_one script past (record { seat = seat; kind = kinds.Done }) le refl refl
+    by_script_one script past (record { seat = seat; kind = kinds.Done }) sound.closed le refl refl
     (and_parts (by_script script past seat kinds.Done) (is_started (phase_of past)) (and_parts _ _ h).0).0
-one_goes script past seat kind sound legal longer le h = by_script_one script past (record { seat = seat; kind = kind }) le refl refl h
+one_goes script past seat kind sound legal longer le h = by_script_one script past (record { seat = seat; kind = kind }) sound.closed le refl refl h
 
 -- ---- the bound
 

@@ -15,9 +15,11 @@ use Rattle.task_base.specs.declared.script.Action.TheVariants as actions
 use Rattle.list_laws.specs.Lists.{holds_of}
 use Rattle.script_model.specs.Bound.{events_of_action}
 use Rattle.hist_model.specs.Views.{own_entries}
+use Rattle.hist_model.specs.Open.{IsClosed}
 use Rattle.hist_model.specs.Script.{behind, behind_action, wants, is_wanted}
 use Rattle.hist_model.specs.Laws.Agenda.{Agenda, agenda_from, agenda, first_of, completes, next_agenda}
 use Rattle.hist_model.specs.Allowed.{by_script}
+use Rattle.hist_model.proofs.Laws.Open.{closed_wanted}
 use Rattle.hist_model.proofs.Laws.Agenda.{current_is_first, agenda_push}
 use Rattle.hist_model.proofs.Laws.Own.{own_entries_push}
 
@@ -152,20 +154,22 @@ waits_now : (script : Plan) (own : List Entry) → Waits (agenda script own).act
 unfolding agenda
 waits_now script own = agenda_from_waits script.actions own
 
-wanted_falls : (script : Plan) (own : List Entry) (e : Entry) → is_wanted script own e.kind ≡ true → is_of_script e.kind ≡ true
+wanted_falls : (script : Plan) (own : List Entry) (e : Entry) → IsClosed script → is_wanted script own e.kind ≡ true → is_of_script e.kind ≡ true
     → of_agenda (agenda script (own ++ e ∷ [])) + 1 ≤ of_agenda (agenda script own)
-unfolding of_agenda is_wanted
-wanted_falls script own e h of = rw (agenda_push script own e)
+unfolding of_agenda
+wanted_falls script own e closed h of = rw (agenda_push script own e)
     (next_falls own (agenda script own).actions (agenda script own).made e (waits_now script own)
-    (ap (holds_of (λ c. wants own c.action c.made e.kind)) (sym (current_is_first script own)) ∙ h) of)
+    (ap (holds_of (λ c. wants own c.action c.made e.kind)) (sym (current_is_first script own))
+    ∙ (sym (closed_wanted script own e.kind closed) ∙ h)) of)
 
 -- an entry by the script is one of its actions'
-pub driver_left_falls : (script : Plan) (past : List Entry) (e : Entry) → by_script script past e.seat e.kind ≡ true → is_of_script e.kind ≡ true
+pub driver_left_falls : (script : Plan) (past : List Entry) (e : Entry) → IsClosed script → by_script script past e.seat e.kind ≡ true
+    → is_of_script e.kind ≡ true
     → driver_left script (past ++ e ∷ []) + 1 ≤ driver_left script past
 unfolding driver_left by_script
-driver_left_falls script past e h of =
+driver_left_falls script past e closed h of =
     let parts = and_parts (eqb e.seat 0) (is_wanted script (own_entries 0 past) e.kind) h in
-    rw (own_entries_push past e 0, parts.0) (wanted_falls script (own_entries 0 past) e parts.1 of)
+    rw (own_entries_push past e 0, parts.0) (wanted_falls script (own_entries 0 past) e closed parts.1 of)
 
 pub driver_left_begins : (script : Plan) → driver_left script [] ≤ sum_by events_of_action script.actions
 unfolding driver_left agenda

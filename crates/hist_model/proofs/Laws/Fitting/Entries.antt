@@ -39,6 +39,7 @@ use Rattle.pool_laws.proofs.Jobs.Numbers.{free_id_is_first}
 use Rattle.hist_model.specs.Script.{same_fence, wants}
 use Rattle.hist_model.specs.Allowed.{by_script, by_task, enters, same_scope, may_come}
 use Rattle.hist_model.specs.Legal.{IsLegal}
+use Rattle.hist_model.proofs.Laws.Open.{closed_enters, closed_leaves, closed_main, closed_post}
 use Rattle.hist_model.proofs.Laws.Legal.{entry_induction}
 use Rattle.hist_model.proofs.Laws.BySound.{wanted_soundly, task_is_sound, entered_soundly}
 use Rattle.hist_model.proofs.Laws.Entries.Jobs.{claims_one, declared}
@@ -219,10 +220,10 @@ kind_fits : (script : Plan) (past : List Entry) (seat : ℕ) (kind : Kind) → I
 unfolding may_come
 kind_fits script past seat (kinds.Post task runner delay ok) sound all h =
     either_fits script past seat (kinds.Post task runner delay ok) sound all (by_script_fits script past seat (kinds.Post task runner delay ok) sound)
-    (and_parts _ (cond (is_refused script past runner delay) (not ok) ok) h).0
+    (and_parts _ (cond (is_refused script past runner delay) (not ok) ok) (sym (closed_post script past seat task runner delay ok sound.closed) ∙ h)).0
 kind_fits script past seat (kinds.Main task queue delay ok) sound all h =
     either_fits script past seat (kinds.Main task queue delay ok) sound all (by_script_fits script past seat (kinds.Main task queue delay ok) sound)
-    (and_parts _ (cond (is_closed past queue) (not ok) ok) h).0
+    (and_parts _ (cond (is_closed past queue) (not ok) ok) (sym (closed_main script past seat task queue delay ok sound.closed) ∙ h)).0
 kind_fits script past seat (kinds.Tick now) sound all h = omega (arith, leb-true now LAST_MOMENT (and_parts _ (leb now LAST_MOMENT) h).1)
 kind_fits script past seat (kinds.Take task runner value) sound all h =
     let t = take_is script past seat task runner value h in
@@ -232,8 +233,10 @@ kind_fits script past seat (kinds.End task left) sound all h =
     let (home, value, runs, is) = ends_running script past seat task left h in
     let fits = running_fits past seat _ all runs in
     (fits.0, left_fits script task value left sound is fits.1)
-kind_fits script past seat (kinds.Enter task scope) sound all h = by_task_fits script past seat (kinds.Enter task scope) sound all h
-kind_fits script past seat (kinds.Leave task) sound all h = by_task_fits script past seat (kinds.Leave task) sound all h
+kind_fits script past seat (kinds.Enter task scope) sound all h =
+    by_task_fits script past seat (kinds.Enter task scope) sound all (sym (closed_enters script past seat task scope sound.closed) ∙ h)
+kind_fits script past seat (kinds.Leave task) sound all h =
+    by_task_fits script past seat (kinds.Leave task) sound all (sym (closed_leaves script past seat task sound.closed) ∙ h)
 kind_fits script past seat (kinds.MainTake task queue value) sound all h =
     let t = main_take_is script past seat task queue value h in
     let fits = main_posted_fits past t.is_front.accepted all t.is_front.posted in (

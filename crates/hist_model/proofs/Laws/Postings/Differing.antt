@@ -47,6 +47,7 @@ script_with posted = record {
   tasks = (steps.Add 5 ∷ steps.Main posted 0 0 ∷ []) ∷ [] ∷ [] ∷ [];
   jobs = [];
   actions = actions.Post 0 0 0 ∷ actions.Flush ∷ actions.Main 1 0 0 ∷ [];
+  is_open = false;
 }
 
 postings_of_both : postings (script_with 2) ≡ 0 ∷ 1 ∷ 2 ∷ []

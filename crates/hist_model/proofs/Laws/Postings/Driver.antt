@@ -15,11 +15,13 @@ use Rattle.task_base.specs.declared.script.Action.TheVariants as actions
 use Rattle.list_laws.specs.Lists.{holds_of}
 use Rattle.list_laws.proofs.Counts.{count-append}
 use Rattle.hist_model.specs.Views.{own_entries}
+use Rattle.hist_model.specs.Open.{IsClosed}
 use Rattle.hist_model.specs.Script.{behind_action, wants, is_wanted}
 use Rattle.hist_model.specs.Laws.Agenda.{agenda_from, agenda, first_of, completes, next_agenda}
 use Rattle.hist_model.specs.Allowed.{by_script}
 use Rattle.hist_model.specs.Laws.Postings.{kind_posts}
 use Rattle.script_model.specs.Laws.Postings.{posts_of_action, times}
+use Rattle.hist_model.proofs.Laws.Open.{closed_wanted}
 use Rattle.hist_model.proofs.Laws.Agenda.{current_is_first, agenda_push}
 
 pub times-append : (t : ℕ) (xs ys : List ℕ) → times t (xs ++ ys) ≡ times t xs + times t ys
@@ -90,19 +92,19 @@ pub driver_begins : (script : Plan) (t : ℕ) → driver_has script t [] ≤ act
 unfolding agenda
 driver_begins script t = agenda_from_within t script.actions []
 
--- an entry that the script wants next is its posting that goes
-script_wants : (script : Plan) (own : List Entry) (kind : Kind) → is_wanted script own kind ≡ true
+-- an entry that a closed plan wants next is its posting that goes
+script_wants : (script : Plan) (own : List Entry) (kind : Kind) → IsClosed script → is_wanted script own kind ≡ true
     → holds_of (λ c. wants own c.action c.made kind) (first_of (agenda script own).actions (agenda script own).made) ≡ true
-unfolding is_wanted
-script_wants script own kind h = ap (holds_of (λ c. wants own c.action c.made kind)) (sym (current_is_first script own)) ∙ h
+script_wants script own kind closed h =
+    ap (holds_of (λ c. wants own c.action c.made kind)) (sym (current_is_first script own)) ∙ (sym (closed_wanted script own kind closed) ∙ h)
 
-posts_of_wanted : (script : Plan) (t : ℕ) (own : List Entry) (e : Entry) → is_wanted script own e.kind ≡ true
+posts_of_wanted : (script : Plan) (t : ℕ) (own : List Entry) (e : Entry) → IsClosed script → is_wanted script own e.kind ≡ true
     → actions_post t (agenda script (own ++ e ∷ [])).actions + times t (kind_posts e.kind) ≤ actions_post t (agenda script own).actions
-posts_of_wanted script t own e h = rw (agenda_push script own e)
-    (wanted_next t own (agenda script own).actions (agenda script own).made e (script_wants script own e.kind h))
+posts_of_wanted script t own e closed h = rw (agenda_push script own e)
+    (wanted_next t own (agenda script own).actions (agenda script own).made e (script_wants script own e.kind closed h))
 
-pub driver_posts : (script : Plan) (t : ℕ) (past : List Entry) (e : Entry) → by_script script past e.seat e.kind ≡ true
+pub driver_posts : (script : Plan) (t : ℕ) (past : List Entry) (e : Entry) → IsClosed script → by_script script past e.seat e.kind ≡ true
     → driver_has script t (past ++ e ∷ []) + times t (kind_posts e.kind) ≤ driver_has script t past
 unfolding by_script
-driver_posts script t past e h = rw (own_push past e, (and_parts (eqb e.seat 0) (is_wanted script (own_entries 0 past) e.kind) h).0)
-    (posts_of_wanted script t (own_entries 0 past) e (and_parts (eqb e.seat 0) (is_wanted script (own_entries 0 past) e.kind) h).1)
+driver_posts script t past e closed h = rw (own_push past e, (and_parts (eqb e.seat 0) (is_wanted script (own_entries 0 past) e.kind) h).0)
+    (posts_of_wanted script t (own_entries 0 past) e closed (and_parts (eqb e.seat 0) (is_wanted script (own_entries 0 past) e.kind) h).1)

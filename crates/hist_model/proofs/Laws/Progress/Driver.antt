@@ -27,6 +27,7 @@ use Rattle.task_model.specs.Phase.{phase_of, phase_after, is_started}
 use Rattle.task_model.specs.Jobs.{JobPosted, job_post_of, job_post_after, is_cancelled, cancels}
 use Rattle.task_model.proofs.Growth.{phase_of_push, job_post_of_push, is_cancelled_push}
 use Rattle.hist_model.specs.Views.{own_entries}
+use Rattle.hist_model.specs.Open.{IsClosed}
 use Rattle.hist_model.specs.Script.{behind_action, Current, current_from, current, wants}
 use Rattle.hist_model.specs.Allowed.{by_script, may_come}
 use Rattle.hist_model.specs.Legal.{IsLegal}
@@ -197,10 +198,10 @@ other_leaves script past e a may other l = record {
         (done_is_wanted script past e.seat e.kind may now))))
 
 -- an entry of the driver, with the actions that it has left
-own_leaves : (script : Plan) (past : List Entry) (e : Entry) (xs : List Action) (made : List Entry) → may_come script past 0 e.kind ≡ true
+own_leaves : (script : Plan) (past : List Entry) (e : Entry) (xs : List Action) (made : List Entry) → IsClosed script → may_come script past 0 e.kind ≡ true
     → DoesOneThing script past → current script (own_entries 0 past) ≡ first_of xs made → Leaves script past (record { actions = xs; made = made })
     → Leaves script (past ++ e ∷ []) (next_agenda xs made e)
-own_leaves script past e [] made may one is l = record {
+own_leaves script past e [] made closed may one is l = record {
   front = l.front;
   parts = l.parts;
   posted = λ j start. stays_posted past e j (l.posted j start);
@@ -210,9 +211,9 @@ own_leaves script past e [] made may one is l = record {
   where
     by_side : (phase_of past ≡ phases.Done) ⊎ (e.kind ≡ kinds.Done) → list_any is_shutdown l.front ≡ true
     by_side (inl before) = l.done_by before
-    by_side (inr now) = let v = wanted_by script past 0 kinds.Done (done_is_wanted script past 0 e.kind may now) in
+    by_side (inr now) = let v = wanted_by script past 0 kinds.Done closed (done_is_wanted script past 0 e.kind may now) in
         absurd (none-some v.value (sym is ∙ v.is))
-own_leaves script past e (x ∷ xs) made may one is l = by_completes (completes x made e.kind) refl
+own_leaves script past e (x ∷ xs) made closed may one is l = by_completes (completes x made e.kind) refl
   where
     own : List Entry
     own = own_entries 0 past
@@ -221,11 +222,11 @@ own_leaves script past e (x ∷ xs) made may one is l = by_completes (completes 
     later = past ++ e ∷ []
 
     wanted : is_pump x ≡ false → is_join x ≡ false → wants own x made e.kind ≡ true
-    wanted no_pump no_join = driver_wants script past e.kind (record { action = x; made = made }) may one is no_pump no_join
+    wanted no_pump no_join = driver_wants script past e.kind (record { action = x; made = made }) closed may one is no_pump no_join
 
     shuts : e.kind ≡ kinds.Done → (is_shutdown x ≡ true) × (completes x made e.kind ≡ true)
     shuts now =
-        let v = wanted_by script past 0 kinds.Done (done_is_wanted script past 0 e.kind may now) in
+        let v = wanted_by script past 0 kinds.Done closed (done_is_wanted script past 0 e.kind may now) in
         let w : wants own x made kinds.Done ≡ true = subst (λ (c : Current). wants own c.action c.made kinds.Done ≡ true)
         (same_Some v.value (record { action = x; made = made }) (sym v.is ∙ is)) v.passes in
         let both = done_shuts own x made w in
@@ -289,9 +290,9 @@ nothing_left script = record {
     s : Skips script.actions
     s = skips script.actions
 
-leaves_next : (script : Plan) (past : List Entry) (e : Entry) → may_come script past e.seat e.kind ≡ true → DoesOneThing script past
+leaves_next : (script : Plan) (past : List Entry) (e : Entry) → IsClosed script → may_come script past e.seat e.kind ≡ true → DoesOneThing script past
     → Leaves script past (agenda script (own_entries 0 past)) → Leaves script (past ++ e ∷ []) (agenda script (own_entries 0 (past ++ e ∷ [])))
-leaves_next script past e may one l = subst (λ xs. Leaves script (past ++ e ∷ []) (agenda script xs)) (sym (own_entries_push past e 0))
+leaves_next script past e closed may one l = subst (λ xs. Leaves script (past ++ e ∷ []) (agenda script xs)) (sym (own_entries_push past e 0))
     (by_seat (eqb e.seat 0) refl)
   where
     own : List Entry
@@ -299,13 +300,13 @@ leaves_next script past e may one l = subst (λ xs. Leaves script (past ++ e ∷
 
     by_seat : (b : Bool) → eqb e.seat 0 ≡ b → Leaves script (past ++ e ∷ []) (agenda script (cond b (own ++ e ∷ []) own))
     by_seat true here = subst (Leaves script (past ++ e ∷ [])) (sym (agenda_push script own e)) (own_leaves script past e (agenda script own).actions
-        (agenda script own).made (ap (λ n. may_come script past n e.kind) (sym (eqb-true e.seat 0 here)) ∙ may) one (current_is_first script own) l)
+        (agenda script own).made closed (ap (λ n. may_come script past n e.kind) (sym (eqb-true e.seat 0 here)) ∙ may) one (current_is_first script own) l)
     by_seat false other = other_leaves script past e (agenda script own) may other l
 
-legal_leaves : (script : Plan) (past : List Entry) → IsLegal script past → Leaves script past (agenda script (own_entries 0 past))
-legal_leaves script = legal_induction script (λ past. Leaves script past (agenda script (own_entries 0 past))) (nothing_left script)
-    (λ past e legal allowed l. leaves_next script past e (and_parts _ (may_come script past e.seat e.kind) allowed).1
-    (legal_does_one_thing script past legal) l)
+legal_leaves : (script : Plan) (past : List Entry) → IsClosed script → IsLegal script past → Leaves script past (agenda script (own_entries 0 past))
+legal_leaves script past closed = legal_induction script (λ past. Leaves script past (agenda script (own_entries 0 past))) (nothing_left script)
+    (λ past e legal allowed l. leaves_next script past e closed (and_parts _ (may_come script past e.seat e.kind) allowed).1
+    (legal_does_one_thing script past legal) l) past
 
 -- ---- where the driver is
 
@@ -354,7 +355,7 @@ pub stands : (script : Plan) (past : List Entry) (c : Current) → IsSound scrip
     → Stands script past c
 unfolding current
 stands script past c sound legal is = by_agenda (agenda script (own_entries 0 past)).actions (agenda script (own_entries 0 past)).made
-    (sym (current_is_first script (own_entries 0 past)) ∙ is) (legal_leaves script past legal)
+    (sym (current_is_first script (own_entries 0 past)) ∙ is) (legal_leaves script past sound.closed legal)
   where
     by_agenda : (xs : List Action) (made : List Entry) → first_of xs made ≡ Some c → Leaves script past (record { actions = xs; made = made })
         → Stands script past c

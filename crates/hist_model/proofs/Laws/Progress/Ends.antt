@@ -13,10 +13,12 @@ use Rattle.task_model.specs.Seats.{running, holding, is_quiet}
 use Rattle.pool_laws.proofs.Room.Capacity.{free_parts}
 use Rattle.pool_laws.proofs.Seats.Running.{quiet_is_free}
 use Rattle.hist_model.specs.Views.{own_entries}
+use Rattle.hist_model.specs.Open.{IsClosed}
 use Rattle.hist_model.specs.Script.{current, is_finished, is_whole, IsWhole}
 use Rattle.hist_model.specs.Allowed.{by_script, may_come, IsAllowed}
 use Rattle.hist_model.specs.Legal.{IsLegal}
 use Rattle.hist_model.specs.Laws.Progress.{IsAtEnd, AlwaysAllowed, grown}
+use Rattle.hist_model.proofs.Laws.Open.{closed_finished}
 use Rattle.hist_model.proofs.Laws.Legal.{nothing_is_legal, legal_next}
 use Rattle.hist_model.proofs.Laws.Entries.Bound.{entries_within}
 use Rattle.hist_model.proofs.Laws.JobEntries.{none_is}
@@ -29,10 +31,9 @@ pub ends_whole : (script : Plan) (past : List Entry) → IsSound script → IsLe
 ends_whole script past sound legal at_end = true_from_ne_false (is_whole script past) (λ not_whole.
     let s = some_may_come script past sound legal not_whole in at_end s.entry s.allowed)
 
--- after a whole history no entry is allowed
-pub whole_is_at_end : (script : Plan) (past : List Entry) → IsWhole script past → IsAtEnd script past
-unfolding is_finished
-whole_is_at_end script past whole e allowed = by_comes (comes_by script past e.seat e.kind parts.1
+-- after a whole history of a closed plan no entry is allowed
+pub whole_is_at_end : (script : Plan) (past : List Entry) → IsClosed script → IsWhole script past → IsAtEnd script past
+whole_is_at_end script past closed whole e allowed = by_comes (comes_by script past e.seat e.kind closed parts.1
     (λ w runs. none-some w (sym free.0 ∙ runs)) (λ h holds. none-some h (sym free.1 ∙ holds)))
   where
     done : (is_finished script past ≡ true) × (is_quiet script past ≡ true)
@@ -45,8 +46,8 @@ whole_is_at_end script past whole e allowed = by_comes (comes_by script past e.s
     free = free_parts past e.seat (quiet_is_free script past e.seat done.1 (omega (arith, leb-true e.seat script.workers parts.0)))
 
     by_comes : (by_script script past e.seat e.kind ≡ true) ⊎ IsReadyWorker script past e.seat → ⊥
-    by_comes (inl wanted) = let c = wanted_by script past e.seat e.kind wanted in
-        none-some c.value (sym (none_is (current script (own_entries 0 past)) done.0) ∙ c.is)
+    by_comes (inl wanted) = let c = wanted_by script past e.seat e.kind closed wanted in
+        none-some c.value (sym (none_is (current script (own_entries 0 past)) (sym (closed_finished script past closed) ∙ done.0)) ∙ c.is)
     by_comes (inr worker) = both_ways (is_finished script past) worker.goes_on done.0
 
 -- ---- growing

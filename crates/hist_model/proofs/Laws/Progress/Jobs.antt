@@ -115,12 +115,12 @@ join_proceeds script past j made sound q within posted is = by_reply (reply_of s
     enters : MayEnter script past j → (n : ℕ) → free_id script past j ≡ Some n → Proceeds script past c
     enters may n free = GoesIn j n (claimed past j) refl (may_make script past 0 (kinds.JobTake j n (claimed past j)) (omega arith) (and_from _ _ (and_from _ _
         (or_right (is_ready_worker script past 0 && holds_of (λ best. is_job j best.source) (best_of script past 0)) _
-        (and_from _ _ (wanted_now script past c (kinds.JobTake j n (claimed past j)) is wanted) may))
+        (and_from _ _ (wanted_now script past c (kinds.JobTake j n (claimed past j)) sound.closed is wanted) may))
         (ap (λ o. same_number o (Some n)) free ∙ eq-eqb n n refl)) (eq-eqb (claimed past j) (claimed past j) refl)))
 
     by_reply : (o : Option JobReply) → reply_of script past j ≡ o → Proceeds script past c
     by_reply (Some reply) says = Wanted (by_it script past c (kinds.Joined j reply) wanted (and_from _ _ (and_from _ _
-        (wanted_now script past c (kinds.Joined j reply) is wanted) (ap (λ xs. eqb (length xs) 0) (nobody_inside script past j q)))
+        (wanted_now script past c (kinds.Joined j reply) sound.closed is wanted) (ap (λ xs. eqb (length xs) 0) (nobody_inside script past j q)))
         (ap (holds_of (same_reply reply)) says ∙ same_reply_now reply)))
     by_reply None none =
         let (ok, not_done, not_cancelled, allowed) = no_reply (holds_of (λ p. not p.ok) (job_post_of past j)) (is_finished_job script past j)

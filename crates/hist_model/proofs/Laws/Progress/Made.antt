@@ -11,20 +11,23 @@ use Rattle.task_base.specs.declared.entry.Kind.{Kind}
 use Rattle.list_laws.specs.Lists.{holds_of}
 use Rattle.task_model.specs.Seats.{Running, running, next_act}
 use Rattle.hist_model.specs.Views.{own_entries}
-use Rattle.hist_model.specs.Script.{Current, current, wants, is_wanted}
+use Rattle.hist_model.specs.Open.{IsClosed}
+use Rattle.hist_model.specs.Script.{Current, current, wants}
 use Rattle.hist_model.specs.Allowed.{enters, by_script, by_task, is_reply, may_come}
 use Rattle.hist_model.specs.Laws.Progress.{MayMake, WantedMayCome}
+use Rattle.hist_model.proofs.Laws.Open.{closed_wanted}
 
 -- a seat of the script may make an entry of a kind that may come
 pub may_make : (script : Plan) (past : List Entry) (seat : ℕ) (kind : Kind) → seat ≤ script.workers → may_come script past seat kind ≡ true
     → MayMake script past seat kind
 may_make script past seat kind known may = rw (le-leb seat script.workers known, may) refl
 
--- what the driver's action wants comes by the script
-pub wanted_now : (script : Plan) (past : List Entry) (c : Current) (kind : Kind) → current script (own_entries 0 past) ≡ Some c
+-- what the driver's action wants comes by the script, where the plan is closed
+pub wanted_now : (script : Plan) (past : List Entry) (c : Current) (kind : Kind) → IsClosed script → current script (own_entries 0 past) ≡ Some c
     → wants (own_entries 0 past) c.action c.made kind ≡ true → by_script script past 0 kind ≡ true
-unfolding by_script is_wanted
-wanted_now script past c kind is wanted = ap (holds_of (λ d. wants (own_entries 0 past) d.action d.made kind)) is ∙ wanted
+unfolding by_script
+wanted_now script past c kind closed is wanted =
+    closed_wanted script (own_entries 0 past) kind closed ∙ ap (holds_of (λ d. wants (own_entries 0 past) d.action d.made kind)) is ∙ wanted
 
 -- an entry that the action wants, and that may come
 pub by_it : (script : Plan) (past : List Entry) (c : Current) (kind : Kind) → wants (own_entries 0 past) c.action c.made kind ≡ true

@@ -17,6 +17,7 @@ use Rattle.task_model.specs.Cells.{main_cell_of}
 use Rattle.task_model.specs.MainQueues.{Front, order_below, class_below, least_class, of_least_class, immediate_of_least_class}
 use Rattle.task_model.specs.MainQueues.{is_starved, choice_among, open_fronts, streak_of, chosen_of}
 use Rattle.hist_model.specs.Views.{own_entries}
+use Rattle.hist_model.specs.Open.{IsClosed}
 use Rattle.hist_model.specs.Script.{Current, current, wants}
 use Rattle.hist_model.specs.Allowed.{is_front, may_come}
 use Rattle.hist_model.specs.Laws.Progress.{WantedMayCome}
@@ -53,10 +54,10 @@ none_open script past h = at (is_starved fronts (streak_of script past)) refl h
         let none = no_least order_below (immediate_of_least_class fronts) k in
         absurd (omega (arith, leb-true 1 (length (immediate_of_least_class fronts)) (and_parts _ _ is).1, ap (λ xs. length xs) none))
 
-pub pump_goes_on : (script : Plan) (past : List Entry) (c : Current) (n : ℕ) → c.action ≡ actions.Pump n → running past 0 ≡ None
+pub pump_goes_on : (script : Plan) (past : List Entry) (c : Current) (n : ℕ) → IsClosed script → c.action ≡ actions.Pump n → running past 0 ≡ None
     → current script (own_entries 0 past) ≡ Some c → WantedMayCome script past c
 unfolding may_come
-pump_goes_on script past c n at_pump idle is = by_chosen (chosen_of script past) refl
+pump_goes_on script past c n closed at_pump idle is = by_chosen (chosen_of script past) refl
   where
     runs_none : is_none (running (own_entries 0 past) 0) ≡ true
     runs_none = rw (running_own past 0, idle) refl
@@ -69,7 +70,7 @@ pump_goes_on script past c n at_pump idle is = by_chosen (chosen_of script past)
 
     by_chosen : (o : Option Front) → chosen_of script past ≡ o → WantedMayCome script past c
     by_chosen (Some f) chosen = by_it script past c (take_of f) (wanted (take_of f) runs_none) (and_from _ _ (and_from _ _
-        (wanted_now script past c (take_of f) is (wanted (take_of f) runs_none)) (ap (holds_of (is_front f.task f.queue)) chosen
+        (wanted_now script past c (take_of f) closed is (wanted (take_of f) runs_none)) (ap (holds_of (is_front f.task f.queue)) chosen
         ∙ and_from _ _ (eq-eqb f.task f.task refl) (eq-eqb f.queue f.queue refl))) (eq-eqb (main_cell_of past f.queue) (main_cell_of past f.queue) refl))
     by_chosen None none = by_it script past c kinds.MainNone (wanted kinds.MainNone runs_none) (and_from _ _
-        (wanted_now script past c kinds.MainNone is (wanted kinds.MainNone runs_none)) (ap (λ xs. eqb (length xs) 0) (none_open script past none)))
+        (wanted_now script past c kinds.MainNone closed is (wanted kinds.MainNone runs_none)) (ap (λ xs. eqb (length xs) 0) (none_open script past none)))

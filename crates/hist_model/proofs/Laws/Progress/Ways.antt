@@ -19,12 +19,14 @@ use Rattle.task_model.specs.Seats.{Running, Holding, running, holding, worker_se
 use Rattle.task_model.specs.Sources.{Candidate, best_of}
 use Rattle.task_model.specs.Blockers.{blockers_of}
 use Rattle.hist_model.specs.Views.{own_entries}
+use Rattle.hist_model.specs.Open.{IsClosed}
 use Rattle.hist_model.specs.Script.{Current, current, wants, is_finished, is_whole}
 use Rattle.hist_model.specs.Allowed.{may_come}
 use Rattle.hist_model.specs.Legal.{IsLegal}
 use Rattle.hist_model.specs.Laws.Progress.{MayMake, end_of, step_of, TaskGoesOn, WorkerTakes, Proceeds, GoesOn, SomeMayCome}
 use Rattle.hist_model.specs.Laws.Progress.TaskGoesOn.{ByStep, Ends}
 use Rattle.hist_model.specs.Laws.Progress.Proceeds.{Wanted, GoesIn, Takes}
+use Rattle.hist_model.proofs.Laws.Open.{closed_finished}
 use Rattle.hist_model.proofs.Laws.Progress.Made.{by_it, wanted_now}
 use Rattle.hist_model.proofs.Laws.Progress.Tasks.{task_goes_on, item_goes_on}
 use Rattle.hist_model.proofs.Laws.Progress.Quiet.{Quiet, is_quiet_now, nobody_inside}
@@ -47,18 +49,18 @@ range_fails p start (suc len) h = by_test (p start) refl (range_fails p (start +
     by_test false is rest k = (start, omega arith, omega arith, is)
 
 -- the script is not finished while the driver is at an action
-not_finished : (script : Plan) (past : List Entry) (c : Current) → current script (own_entries 0 past) ≡ Some c → is_finished script past ≡ false
-unfolding is_finished
-not_finished script past c is = ap is_none is
+not_finished : (script : Plan) (past : List Entry) (c : Current) → IsClosed script → current script (own_entries 0 past) ≡ Some c
+    → is_finished script past ≡ false
+not_finished script past c closed is = closed_finished script past closed ∙ ap is_none is
 
 -- ---- actions that wait
 
 -- a flush is idle, or a worker takes something
-flush_proceeds : (script : Plan) (past : List Entry) (made : List Entry) → Quiet script past
+flush_proceeds : (script : Plan) (past : List Entry) (made : List Entry) → IsClosed script → Quiet script past
     → current script (own_entries 0 past) ≡ Some (record { action = actions.Flush; made = made })
     → Proceeds script past (record { action = actions.Flush; made = made })
 unfolding may_come
-flush_proceeds script past made q is = by_all (list_all (λ worker. is_none (best_of script past worker)) (worker_seats script)) refl
+flush_proceeds script past made closed q is = by_all (list_all (λ worker. is_none (best_of script past worker)) (worker_seats script)) refl
   where
     c : Current
     c = record { action = actions.Flush; made = made }
@@ -66,22 +68,23 @@ flush_proceeds script past made q is = by_all (list_all (λ worker. is_none (bes
     best : (worker : ℕ) (o : Option Candidate) → best_of script past worker ≡ o → is_none o ≡ false → 1 ≤ worker → worker ≤ script.workers
         → WorkerTakes script past
     best worker None is_it some from to = absurd cc
-    best worker (Some b) is_it some from to = takes_best script past worker b q (not_finished script past c is) from to is_it
+    best worker (Some b) is_it some from to = takes_best script past worker b closed q (not_finished script past c closed is) from to is_it
 
     by_all : (b : Bool) → list_all (λ worker. is_none (best_of script past worker)) (worker_seats script) ≡ b → Proceeds script past c
-    by_all true idle = Wanted (by_it script past c kinds.Idle refl (and_from _ _ (and_from _ _ (wanted_now script past c kinds.Idle is refl) q.quiet) idle))
+    by_all true idle = Wanted (by_it script past c kinds.Idle refl
+        (and_from _ _ (and_from _ _ (wanted_now script past c kinds.Idle closed is refl) q.quiet) idle))
     by_all false busy =
         let (worker, from, to, some) = range_fails (λ seat. is_none (best_of script past seat)) 1 script.workers busy in
         Takes refl (best worker (best_of script past worker) refl some from (omega (arith, to)))
 
 -- a cancel ends, as nobody is inside
-cancel_proceeds : (script : Plan) (past : List Entry) (j : ℕ) (x : Entry) (made : List Entry) → Quiet script past
+cancel_proceeds : (script : Plan) (past : List Entry) (j : ℕ) (x : Entry) (made : List Entry) → IsClosed script → Quiet script past
     → Stands script past (record { action = actions.Cancel j; made = x ∷ made })
     → current script (own_entries 0 past) ≡ Some (record { action = actions.Cancel j; made = x ∷ made })
     → Proceeds script past (record { action = actions.Cancel j; made = x ∷ made })
 unfolding may_come
-cancel_proceeds script past j x [] q s is = Wanted (by_it script past c (kinds.Cancelled j) wanted (and_from _ _ (and_from _ _
-    (wanted_now script past c (kinds.Cancelled j) is wanted) (s.cancelled j refl (λ none. absurd cc)))
+cancel_proceeds script past j x [] closed q s is = Wanted (by_it script past c (kinds.Cancelled j) wanted (and_from _ _ (and_from _ _
+    (wanted_now script past c (kinds.Cancelled j) closed is wanted) (s.cancelled j refl (λ none. absurd cc)))
     (ap (λ xs. eqb (length xs) 0) (nobody_inside script past j q))))
   where
     c : Current
@@ -89,7 +92,7 @@ cancel_proceeds script past j x [] q s is = Wanted (by_it script past c (kinds.C
 
     wanted : wants (own_entries 0 past) c.action c.made (kinds.Cancelled j) ≡ true
     wanted = rw (eq-eqb j j refl) refl
-cancel_proceeds script past j x (y ∷ made) q s is = absurd (none-some made (sym s.waits))
+cancel_proceeds script past j x (y ∷ made) closed q s is = absurd (none-some made (sym s.waits))
 
 -- shutdown is done, or a worker takes what blocks it
 shutdown_proceeds : (script : Plan) (past : List Entry) (x : Entry) (made : List Entry) → IsSound script → Quiet script past
@@ -107,29 +110,29 @@ shutdown_proceeds script past x [] sound q s is = by_blockers (eqb (blockers_of 
 
     by_blockers : (b : Bool) → eqb (blockers_of script past) 0 ≡ b → Proceeds script past c
     by_blockers true free = Wanted (by_it script past c kinds.Done refl
-        (and_from _ _ (and_from _ _ (wanted_now script past c kinds.Done is refl) (ap is_started started)) free))
+        (and_from _ _ (and_from _ _ (wanted_now script past c kinds.Done sound.closed is refl) (ap is_started started)) free))
     by_blockers false blocked =
         let w = blocked_waits script past sound q started (λ none. true≢false (sym (eq-eqb (blockers_of script past) 0 none) ∙ blocked)) in
-        Takes refl (worker_takes script past w.source sound q (not_finished script past c is) w.waits w.for_one)
+        Takes refl (worker_takes script past w.source sound q (not_finished script past c sound.closed is) w.waits w.for_one)
 shutdown_proceeds script past x (y ∷ made) sound q s is = absurd (none-some made (sym s.waits))
 
 -- each action proceeds
 proceeds_at : (script : Plan) (past : List Entry) (action : Action) (made : List Entry) → IsSound script → Quiet script past
     → Stands script past (record { action = action; made = made }) → current script (own_entries 0 past) ≡ Some (record { action = action; made = made })
     → Proceeds script past (record { action = action; made = made })
-proceeds_at script past actions.Flush made sound q s is = flush_proceeds script past made q is
+proceeds_at script past actions.Flush made sound q s is = flush_proceeds script past made sound.closed q is
 proceeds_at script past (actions.Join j) made sound q s is = join_proceeds script past j made sound q s.sound (s.posted j refl) is
-proceeds_at script past (actions.Cancel j) (x ∷ made) sound q s is = cancel_proceeds script past j x made q s is
+proceeds_at script past (actions.Cancel j) (x ∷ made) sound q s is = cancel_proceeds script past j x made sound.closed q s is
 proceeds_at script past actions.Shutdown (x ∷ made) sound q s is = shutdown_proceeds script past x made sound q s is
-proceeds_at script past action made sound q s is = Wanted (action_goes_on script past action made q.legal (q.runs 0) is refl)
+proceeds_at script past action made sound q s is = Wanted (action_goes_on script past action made sound.closed q.legal (q.runs 0) is refl)
 
 -- ---- all of it
 
 pub goes_on : (script : Plan) (past : List Entry) → IsSound script → IsLegal script past → GoesOn script past
 goes_on script past sound legal = record {
-  tasks_go_on = λ seat w runs. task_goes_on script past seat w legal runs;
+  tasks_go_on = λ seat w runs. task_goes_on script past seat w sound.closed legal runs;
   items_go_on = λ seat h holds. item_goes_on script past seat h legal holds;
-  driver_goes_on = λ c idle is goes. action_goes_on script past c.action c.made legal idle is goes;
+  driver_goes_on = λ c idle is goes. action_goes_on script past c.action c.made sound.closed legal idle is goes;
   quiet_proceeds = λ c quiet is. proceeds_at script past c.action c.made sound (is_quiet_now script past legal quiet) (stands script past c sound legal is) is;
 }
 
@@ -157,7 +160,7 @@ of_seat script past seat g busy = by_running (running past seat) (holding past s
     by_running None None runs holds k = absurd cc
 
 pub some_may_come : (script : Plan) (past : List Entry) → IsSound script → IsLegal script past → is_whole script past ≡ false → SomeMayCome script past
-unfolding is_quiet is_finished
+unfolding is_quiet
 some_may_come script past sound legal not_whole = by_quiet (is_quiet script past) refl
   where
     g : GoesOn script past
@@ -168,5 +171,6 @@ some_may_come script past sound legal not_whole = by_quiet (is_quiet script past
     at (Some c) is quiet k = of_action script past c (g.quiet_proceeds c quiet is)
 
     by_quiet : (b : Bool) → is_quiet script past ≡ b → SomeMayCome script past
-    by_quiet true quiet = at (current script (own_entries 0 past)) refl quiet (ap (λ b. is_finished script past && b) (sym quiet) ∙ not_whole)
+    by_quiet true quiet = at (current script (own_entries 0 past)) refl quiet
+        (ap (λ b. b && true) (sym (closed_finished script past sound.closed)) ∙ (ap (λ b. is_finished script past && b) (sym quiet) ∙ not_whole))
     by_quiet false busy = let (seat, from, to, fails) = range_fails (is_free past) 0 (script.workers + 1) busy in of_seat script past seat g fails

@@ -23,6 +23,7 @@ use Rattle.task_model.specs.Sources.{Candidate, waiting, is_takeable, best_of}
 use Rattle.pool_laws.specs.Choice.{IsWaiting}
 use Rattle.pool_laws.proofs.Jobs.Numbers.{free_id_is_first}
 use Rattle.pool_laws.proofs.Choice.Least.{no_best, head_is as is_head}
+use Rattle.hist_model.specs.Open.{IsClosed}
 use Rattle.hist_model.specs.Script.{is_finished}
 use Rattle.hist_model.specs.Allowed.{is_ready_worker, is_head_of, is_job, same_number, may_come}
 use Rattle.hist_model.specs.Laws.Choice.{IsWaitingSource}
@@ -31,14 +32,15 @@ use Rattle.hist_model.proofs.Laws.Choice.{best_is}
 use Rattle.hist_model.proofs.Laws.Progress.Made.{may_make}
 use Rattle.hist_model.proofs.Laws.Progress.Quiet.{Quiet, has_room_now}
 
--- a worker that is free may take its best source
-pub takes_best : (script : Plan) (past : List Entry) (seat : ℕ) (best : Candidate) → Quiet script past → is_finished script past ≡ false → 1 ≤ seat
+-- a worker that is free may take its best source, where the plan is closed
+pub takes_best : (script : Plan) (past : List Entry) (seat : ℕ) (best : Candidate) → IsClosed script → Quiet script past → is_finished script past ≡ false
+    → 1 ≤ seat
     → seat ≤ script.workers → best_of script past seat ≡ Some best → WorkerTakes script past
 unfolding may_come
-takes_best script past seat best q going worker known is = by_source best.source refl (best_is script past seat best is).waits
+takes_best script past seat best closed q going worker known is = by_source best.source refl (best_is script past seat best is).waits
   where
     ready : is_ready_worker script past seat ≡ true
-    ready = rw (le-leb 1 seat worker, le-leb seat script.workers known, q.runs seat, q.holds seat, going) refl
+    ready = rw (le-leb 1 seat worker, le-leb seat script.workers known, q.runs seat, q.holds seat, going, closed) refl
 
     by_source : (source : TaskSource) → best.source ≡ source → IsWaitingSource script past source → WorkerTakes script past
     by_source (Sequence s) same (head, head_is, not_running) = record {
@@ -114,4 +116,4 @@ pub worker_takes : (script : Plan) (past : List Entry) (c : Candidate) → IsSou
     → IsWaiting script past c → SeatFor script c.seat → WorkerTakes script past
 worker_takes script past c sound q going waits for_it =
     let (best, is) = some_best script past for_it.seat c waits (and_from _ _ (has_room_now script past c.priority sound q) for_it.fits) in
-    takes_best script past for_it.seat best q going for_it.worker for_it.known is
+    takes_best script past for_it.seat best sound.closed q going for_it.worker for_it.known is

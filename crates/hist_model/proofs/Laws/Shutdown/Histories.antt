@@ -1,5 +1,5 @@
 -- What shutdown refuses, forbids and waits for, in every legal history.
--- Cited by `Laws/Refusals`, `shutdown.rt`.
+-- Cited by `Laws/OpenPlans`, `Laws/Refusals`, `shutdown.rt`.
 use Rattle.std.proofs.Common.{◌≡◌, ℕ, ◌+◌, Bool, true, false, eqb, List, ◌∷◌, ◌++◌, length, refl, sym, ap, ◌∙◌, ⊎_elim, arith}
 use Rattle.std.specs.Prelude.{not, ◌&&◌, if◌then◌else◌}
 use Rattle.std.specs.List.{range_with_len}

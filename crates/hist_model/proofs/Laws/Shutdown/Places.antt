@@ -1,5 +1,5 @@
 -- What shutdown waits for and forbids in a legal log, over its places.
--- Cited by `shutdown.rt`.
+-- Cited by `Laws/OpenPlans`, `shutdown.rt`.
 use Rattle.pool_laws.proofs.Choice.Sources.{no_job_post}
 use Rattle.std.proofs.Common.{◌≡◌, ℕ, ◌+◌, ◌<◌, Bool, true, false, List, [], ◌∷◌, ◌++◌, length, take, refl}
 use Rattle.std.proofs.Common.{sym, ap, subst, ◌∙◌, Option, Some, None, ⊎_elim, arith, cond, leb, eqb}
@@ -209,7 +209,7 @@ taken_in log k task runner found s = passed_by (λ (e : Entry). takes task e.kin
     (record { seat = s.seat; kind = kinds.Take task runner found }) (in_past log s.at k s.earlier ∙ s.is) (eq-eqb task task refl)
 
 -- two tests of which not both pass, where the first does
-second_fails : (a b : Bool) → (a && not b) ≡ false → a ≡ true → b ≡ true
+pub second_fails : (a b : Bool) → (a && not b) ≡ false → a ≡ true → b ≡ true
 second_fails true true h is = refl
 second_fails true false h is = absurd cc
 second_fails false b h is = absurd cc

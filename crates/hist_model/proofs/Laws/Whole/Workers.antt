@@ -31,6 +31,7 @@ use Rattle.hist_model.specs.Allowed.{by_script, by_task, enters, may_come}
 use Rattle.hist_model.specs.Legal.{IsLegal}
 use Rattle.hist_model.specs.Laws.Whole.{sequence_at, WaitsInSequence}
 use Rattle.hist_model.specs.Laws.Whole.{IsLeftToWorkers}
+use Rattle.hist_model.proofs.Laws.Open.{closed_post}
 use Rattle.hist_model.proofs.Laws.Legal.{entry_induction}
 use Rattle.hist_model.proofs.Laws.BySound.{wanted_soundly, entered_soundly}
 
@@ -80,7 +81,8 @@ posts_declared : (script : Plan) (past : List Entry) (seat : ℕ) (kind : Kind) 
 unfolding may_come
 posts_declared script past seat (kinds.Post task runner delay true) sound may =
     let kind = kinds.Post task runner delay true in
-    let wanted = and_parts (by_script script past seat kind || by_task script past seat kind) _ may in (
+    let wanted = and_parts (by_script script past seat kind || by_task script past seat kind) _
+    (sym (closed_post script past seat task runner delay true sound.closed) ∙ may) in (
       ⊎_elim (driver_posts script past seat task runner delay true sound) (task_posts script past seat task runner delay true sound)
           (or_cases (by_script script past seat kind) (by_task script past seat kind) wanted.0),
       tt,

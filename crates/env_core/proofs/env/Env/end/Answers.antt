@@ -18,7 +18,7 @@ pub enter-requires : goal.enter-requires
 enter-requires g c =
     let can : CanEnd c.self.inside.ledger c.args.seat c.args.work = rw c.self.view_is c.requires in
     rw (c.task-task.ensures, c.value-left.ensures, c.split_up-cell.ensures.cell) (by_worker (ends_at_worker c.self.invariant can)
-    (end_allowed c.self.inside.ledger c.args.seat c.args.work can (sym c.split_up-cell.ensures.cell ∙ c.split_up-cell.ensures.left)))
+    (λ plan. end_allowed c.self.inside.ledger c.args.seat c.args.work plan.closed can (sym c.split_up-cell.ensures.cell ∙ c.split_up-cell.ensures.left)))
 
 pub invariant_of-self : goal.invariant_of-self
 invariant_of-self g c =

@@ -14,7 +14,7 @@ enter-requires g c =
     let view = c.self.inside.ledger in
     let can = can_post_job c.self.invariant c.args.seat c.len.result c.args.job c.len.ensures (λ ok. rw c.self.view_is (c.requires ok)) in
     let wanted : IsWantedNext view c.args.seat (kinds.JobPost c.args.job c.job_post-ok.result) = rw c.self.view_is (c.requires c.job_post-ok.result) in
-    counts wanted refl (job_post_allowed view c.args.seat c.args.job c.job_post-ok.result wanted (c.job_post-ok.ensures.reply _ _ can))
+    counts wanted refl (λ plan. job_post_allowed view c.args.seat c.args.job c.job_post-ok.result wanted (c.job_post-ok.ensures.reply _ _ can))
 
 pub invariant_of-self : goal.invariant_of-self
 invariant_of-self g c =

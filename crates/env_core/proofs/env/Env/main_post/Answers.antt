@@ -9,4 +9,4 @@ pub enter_main_post-requires : goal.enter_main_post-requires
 enter_main_post-requires g c =
     let view = c.args.self.now in
     let ok = not (is_closed view.history c.args.queue) in
-    counts (c.requires ok) refl (main_post_allowed view c.args.seat c.args.task c.args.queue c.args.delay ok (c.requires ok) refl)
+    counts (c.requires ok) refl (λ plan. main_post_allowed view c.args.seat c.args.task c.args.queue c.args.delay ok plan.closed (c.requires ok) refl)

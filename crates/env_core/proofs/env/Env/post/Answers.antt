@@ -9,4 +9,4 @@ pub enter_post-requires : goal.enter_post-requires
 enter_post-requires g c =
     let view = c.args.self.now in
     let ok = not (is_refused view.script view.history c.args.runner c.args.delay) in
-    counts (c.requires ok) refl (post_allowed view c.args.seat c.args.task c.args.runner c.args.delay ok (c.requires ok) refl)
+    counts (c.requires ok) refl (λ plan. post_allowed view c.args.seat c.args.task c.args.runner c.args.delay ok plan.closed (c.requires ok) refl)

@@ -31,7 +31,7 @@ returns-in-Nothing g c = rw (← c.self.view_is) (record {
 pub enter-requires : goal.enter-requires
 enter-requires g c =
     let free : IsFreeWorker c.self.inside.ledger c.args.seat = rw c.self.view_is c.requires in
-    by_worker c.requires.worker (item_allowed c.self.inside.ledger c.args.seat c.in-Item.job c.in-Item.id c.in-Item.item free
+    by_worker c.requires.worker (λ plan. item_allowed c.self.inside.ledger c.args.seat c.in-Item.job c.in-Item.id c.in-Item.item plan.closed free
     (sym c.is_finished.ensures ∙ c.if-is_finished.false) (c.in-Item.ensures.answer _ _ (can_take c.self.invariant free)))
 
 pub invariant_of-self-in-Item : goal.invariant_of-self-in-Item
@@ -50,8 +50,8 @@ take_body-body-requires g c = rw (taken_body c.self.invariant (c.in-Task.ensures
 pub enter-requires-in-Task : goal.enter-requires-in-Task
 enter-requires-in-Task g c =
     let free : IsFreeWorker c.self.inside.ledger c.args.seat = rw c.self.view_is c.requires in
-    rw c.value.ensures (by_worker c.requires.worker (take_allowed c.self.inside.ledger c.args.seat c.in-Task.task c.in-Task.runner c.in-Task.cell free
-    (sym c.is_finished.ensures ∙ c.if-is_finished.false) (c.in-Task.ensures.answer _ _ (can_take c.self.invariant free))))
+    rw c.value.ensures (by_worker c.requires.worker (λ plan. take_allowed c.self.inside.ledger c.args.seat c.in-Task.task c.in-Task.runner
+    c.in-Task.cell plan.closed free (sym c.is_finished.ensures ∙ c.if-is_finished.false) (c.in-Task.ensures.answer _ _ (can_take c.self.invariant free))))
 
 pub new-requires-in-Task : goal.new-requires-in-Task
 new-requires-in-Task g c =

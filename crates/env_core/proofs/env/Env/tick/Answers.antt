@@ -40,7 +40,7 @@ enter-requires g c =
     let can = can_tick view c.self.inside.pool c.len.result c.args.reading c.moment.result c.max.result c.min-now.result c.self.invariant.stands
     c.len.ensures (c.moment.ensures view.script view.history c.self.invariant.stands) c.max.ensures c.min-now.ensures in
     counts (rw c.self.view_is (c.requires c.min-now.result)) refl
-    (tick_allowed view c.args.seat c.min-now.result (rw c.self.view_is (c.requires c.min-now.result)) can.later can.fits)
+    (λ plan. tick_allowed view c.args.seat c.min-now.result (rw c.self.view_is (c.requires c.min-now.result)) can.later can.fits)
 
 pub invariant_of-self : goal.invariant_of-self
 invariant_of-self g c =

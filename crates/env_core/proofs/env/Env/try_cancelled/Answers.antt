@@ -27,7 +27,7 @@ pub enter-requires : goal.enter-requires
 enter-requires g c =
     let empty = c.in_ok-cancelled.ensures.ok _ _ (knows_job c.self.invariant c.args.seat c.args.job (kinds.Cancelled c.args.job) refl
     (rw c.self.view_is c.requires)) in
-    counts (rw c.self.view_is c.requires) refl (cancelled_allowed c.self.inside.ledger c.args.seat c.args.job c.self.invariant.legal
+    counts (rw c.self.view_is c.requires) refl (λ plan. cancelled_allowed c.self.inside.ledger c.args.seat c.args.job plan.closed c.self.invariant.legal
     (rw c.self.view_is c.requires) (empty.0 (refl {a = true})))
 
 pub invariant_of-self : goal.invariant_of-self

@@ -45,7 +45,7 @@ pub enter-requires : goal.enter-requires
 enter-requires g c =
     let phase = ends c.self.inside.ledger c.self.inside.pool c.args.seat c.self.invariant.plan c.self.invariant.legal (rw c.self.view_is c.requires)
     c.self.invariant.stands in
-    counts (rw c.self.view_is c.requires) refl (done_allowed c.self.inside.ledger c.args.seat (rw c.self.view_is c.requires) phase.phase_is
+    counts (rw c.self.view_is c.requires) refl (λ plan. done_allowed c.self.inside.ledger c.args.seat (rw c.self.view_is c.requires) phase.phase_is
     ((c.in_ok-try_done.ensures.ok _ _ phase).0 (refl {a = true})))
 
 pub invariant_of-self-2 : goal.invariant_of-self-2

@@ -41,7 +41,7 @@ enter-requires g c =
     let wanted : IsWantedNext view c.args.seat (kinds.Joined c.args.job c.in_ok-reply.reply) = rw c.self.view_is (c.requires c.in_ok-reply.reply) in
     let is = joined_is view.script view.history c.args.job c.in_ok-reply.reply (c.in_ok-reply.ensures.ok view.script view.history
     (knows_job c.self.invariant c.args.seat c.args.job (kinds.Joined c.args.job c.in_ok-reply.reply) refl wanted)) in
-    counts wanted refl (joined_allowed view c.args.seat c.args.job c.in_ok-reply.reply wanted is.0 is.1)
+    counts wanted refl (λ plan. joined_allowed view c.args.seat c.args.job c.in_ok-reply.reply wanted is.0 is.1)
 
 pub invariant_of-self : goal.invariant_of-self
 invariant_of-self g c = holds_at_pool c.self.invariant c.enter.ensures refl (λ t. refl) (pool_still c.self.invariant _ refl)

@@ -24,7 +24,7 @@ spare_falls script past e plan legal = omega (arith, length-append past (e ∷ [
 module _ {script : Plan} {log : Listed Entry} {agenda : Agenda} (kept : IsKept script log agenda) (seat : ℕ) (kind : Kind) (shift : Shift)
     (may : MayEnter (record { script = script; history = log.items }) seat kind shift) where
   legal_now : IsLegal script (log.items ++ (record { seat = seat; kind = kind }) ∷ [])
-  legal_now = legal_next script log.items (record { seat = seat; kind = kind }) kept.run.legal may.allowed
+  legal_now = legal_next script log.items (record { seat = seat; kind = kind }) kept.run.legal (may.allowed kept.run.plan)
 
   -- there is room for the entry
   has_room : 0 < log.spare
@@ -40,7 +40,7 @@ module _ {script : Plan} {log : Listed Entry} {agenda : Agenda} (kept : IsKept s
       → Enters (record { script = script; history = log.items }) (record { script = script; history = items }) seat kind
   enters is = rw is (record {
     entered = refl;
-    allowed = may.allowed;
+    allowed = may.allowed kept.run.plan;
     legal = legal_now;
     bounded = entries_within_limit script (log.items ++ (record { seat = seat; kind = kind }) ∷ []) kept.run.plan legal_now;
     room = spare_falls script log.items (record { seat = seat; kind = kind }) kept.run.plan legal_now;

@@ -27,14 +27,14 @@ pub take_task-requires : goal.take_task-requires
 take_task-requires c =
     let view = c.args.self.now in
     let are : AreInHand view c.self.inside.hands.items = rw (← c.self.view_is) c.self.invariant in
-    let ends = ends_by view.script view.history c.args.seat c.args.task c.args.left (sym c.if-not-has_done.ensures) in
+    let ends = ends_by view.script view.history c.args.seat c.args.task c.args.left are.closed (sym c.if-not-has_done.ensures) in
     task_there are c.args.seat ends.now c.requires ends.runs
 
 pub end-requires : goal.end-requires
 end-requires c =
     let view = c.args.self.now in
     let are : AreInHand view c.self.inside.hands.items = rw (← c.self.view_is) c.self.invariant in
-    let ends = ends_by view.script view.history c.args.seat c.args.task c.args.left (sym c.if-not-has_done.ensures) in
+    let ends = ends_by view.script view.history c.args.seat c.args.task c.args.left are.closed (sym c.if-not-has_done.ensures) in
     rw (c.self.view_is, c.into_parts-work.ensures.work)
     (may_end (are.each c.args.seat (Task c.take_task.result) c.take_task.ensures.was) are.legal (omega arith) c.requires ends)
 
@@ -53,7 +53,8 @@ returns c =
     let work = c.into_parts-work.result.0 in
     let are : AreInHand view c.self.inside.hands.items = rw (← c.self.view_is) c.self.invariant in
     let enters : Enters view c.end.new.self c.args.seat (kinds.End work.task work.value) = rw (← c.self.view_is) c.end.ensures in
-    let ends = ends_by view.script view.history c.args.seat c.args.task c.args.left (sym c.if-not-has_done.ensures) in
+    let ends = ends_by view.script view.history c.args.seat c.args.task c.args.left are.closed (sym c.if-not-has_done.ensures) in
     in_place view c.end.new.self c.args.seat (kinds.End c.args.task c.args.left) (kinds.End work.task work.value) true enters
-    (λ yes. one_end view.script view.history c.args.seat c.args.task c.args.left work.task work.value are.legal (omega arith) ends (came enters))
+    (λ yes. one_end view.script view.history c.args.seat c.args.task c.args.left work.task work.value are.closed are.legal (omega arith) ends
+    (came enters))
     (λ may. refl)

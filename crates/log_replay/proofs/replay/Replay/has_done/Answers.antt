@@ -11,7 +11,8 @@ returns-in-Task c =
     let view = c.args.self.now in
     let are : AreInHand view c.self.inside.hands.items = rw (← c.self.view_is) c.self.invariant in
     let at = read_there are c.args.seat c.index.result.now (Task c.in-Task.at) c.requires c.index.ensures c.in-Task.is in
-    done_is (are.each c.args.seat (Task c.in-Task.at) at) c.args.task c.args.left c.has_ended.result c.has_ended.ensures.ended c.has_ended.ensures.not_ended
+    done_is (are.each c.args.seat (Task c.in-Task.at) at) c.args.task c.args.left c.has_ended.result are.closed
+    c.has_ended.ensures.ended c.has_ended.ensures.not_ended
 
 pub returns-in-Free : goal.returns-in-Free
 returns-in-Free c =

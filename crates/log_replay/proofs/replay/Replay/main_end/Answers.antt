@@ -26,14 +26,14 @@ pub take_task-requires : goal.take_task-requires
 take_task-requires c =
     let view = c.args.self.now in
     let are : AreInHand view c.self.inside.hands.items = rw (← c.self.view_is) c.self.invariant in
-    let ends = ends_by view.script view.history c.args.seat c.args.task c.args.left (sym c.if-not-has_done.ensures) in
+    let ends = ends_by view.script view.history c.args.seat c.args.task c.args.left are.closed (sym c.if-not-has_done.ensures) in
     task_there are c.args.seat ends.now c.requires ends.runs
 
 pub main_end-requires : goal.main_end-requires
 main_end-requires c =
     let view = c.args.self.now in
     let are : AreInHand view c.self.inside.hands.items = rw (← c.self.view_is) c.self.invariant in
-    let ends = ends_by view.script view.history c.args.seat c.args.task c.args.left (sym c.if-not-has_done.ensures) in
+    let ends = ends_by view.script view.history c.args.seat c.args.task c.args.left are.closed (sym c.if-not-has_done.ensures) in
     rw (c.self.view_is, c.into_parts-work.ensures.work)
     (may_end_main (are.each c.args.seat (Task c.take_task.result) c.take_task.ensures.was) are.legal c.if-seat-ne0.false ends)
 
@@ -52,7 +52,8 @@ returns c =
     let work = c.into_parts-work.result.0 in
     let are : AreInHand view c.self.inside.hands.items = rw (← c.self.view_is) c.self.invariant in
     let enters : Enters view c.main_end.new.self c.args.seat (kinds.MainEnd work.task work.value) = rw (← c.self.view_is) c.main_end.ensures in
-    let ends = ends_by view.script view.history c.args.seat c.args.task c.args.left (sym c.if-not-has_done.ensures) in
+    let ends = ends_by view.script view.history c.args.seat c.args.task c.args.left are.closed (sym c.if-not-has_done.ensures) in
     in_place view c.main_end.new.self c.args.seat (kinds.MainEnd c.args.task c.args.left) (kinds.MainEnd work.task work.value) true enters
-    (λ yes. one_main_end view.script view.history c.args.seat c.args.task c.args.left work.task work.value are.legal c.if-seat-ne0.false ends (came enters))
+    (λ yes. one_main_end view.script view.history c.args.seat c.args.task c.args.left work.task work.value are.closed are.legal c.if-seat-ne0.false
+    ends (came enters))
     (λ may. refl)

@@ -29,9 +29,10 @@ returns-then-is_by_script c =
 pub returns-then-not-is_by_task : goal.returns-then-not-is_by_task
 returns-then-not-is_by_task c =
     let view = c.args.self.now in
+    let are : AreInHand view c.self.inside.hands.items = rw (← c.self.view_is) c.self.invariant in
     may_not view view c.args.seat (kinds.Main c.args.task c.args.queue c.args.delay c.args.ok)
-    (no_main_post view.script view.history c.args.seat c.args.task c.args.queue c.args.delay c.args.ok (sym c.if-is_by_script.ensures)
-    (sym c.if-not-is_by_task.ensures))
+    (no_main_post view.script view.history c.args.seat c.args.task c.args.queue c.args.delay c.args.ok are.closed
+    (sym c.if-is_by_script.ensures) (sym c.if-not-is_by_task.ensures.answer))
 
 pub returns : goal.returns
 returns c =

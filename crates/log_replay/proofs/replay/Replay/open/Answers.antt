@@ -9,4 +9,4 @@ invariant_of-result c =
     let script_is : c.in_ok-env.env.script ≡ c.args.script.now = c.in_ok-env.ensures.script ∙ c.in_ok-copy.ensures in
     let hands_are : c.in_ok-hands.hands.items ≡ replicate (c.in_ok-env.env.script.workers + 1) Free = c.in_ok-hands.ensures
     ∙ ap (λ (n : ℕ). replicate (n + 1) Free) (ap (λ p. p.workers) c.script.view_is ∙ sym (ap (λ p. p.workers) script_is)) in
-    rw hands_are (free_at_first c.in_ok-env.env c.in_ok-env.ensures.empty)
+    rw hands_are (free_at_first c.in_ok-env.env (ap (λ p. p.is_open) script_is ∙ c.requires.closed) c.in_ok-env.ensures.empty)
