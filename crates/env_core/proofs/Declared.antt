@@ -81,14 +81,14 @@ pub record IsMainPostSound (script : Plan) (past : List Entry) (task queue delay
   pub is_new : main_post_of past task ≡ None
 
 -- an act step that posts to a main queue does so rightly
-act_posts : (script : Plan) (t n task queue delay : ℕ) → slice_get (filter is_act (steps_of script t)) n ≡ Some (steps.Main task queue delay)
-    → IsPostedTo script task queue
-act_posts script t n task queue delay is = at (slice_get script.tasks t) refl is
+act_posts : (script : Plan) (t n task queue delay : ℕ) → script.is_open ≡ false
+    → slice_get (filter is_act (steps_of script t)) n ≡ Some (steps.Main task queue delay) → IsPostedTo script task queue
+act_posts script t n task queue delay closed is = at (slice_get script.tasks t) refl is
   where
     at : (o : Option (List Step)) → slice_get script.tasks t ≡ o
         → slice_get (filter is_act (option_map_or (λ steps. steps) o [])) n ≡ Some (steps.Main task queue delay) → IsPostedTo script task queue
     at None here k = absurd (none-some _ k)
-    at (Some xs) here k = step_posts script t task queue delay xs here
+    at (Some xs) here k = step_posts script t task queue delay xs closed here
         (act_is (Contains xs) xs n (steps.Main task queue delay) (AllByRecursion-contains_itself xs) k)
 
 -- a post to a main queue that may come is sound, and its task was not posted
@@ -112,7 +112,7 @@ main_post_is_sound script past seat task queue delay ok plan legal allowed =
         let c = wanted_by script past seat (kinds.Main task queue delay ok) plan.closed wanted in
         let same = wants_main (own_entries 0 past) c.value.action c.value.made task queue delay ok c.passes in (
           subst (IsActionSound script) same (current_is_one (IsActionSound script) script (own_entries 0 past) c.value plan.actions.each_sound c.is),
-          action_posts script task queue delay (subst (Contains script.actions) same
+          action_posts script task queue delay plan.closed (subst (Contains script.actions) same
               (current_is_one (Contains script.actions) script (own_entries 0 past) c.value (AllByRecursion-contains_itself script.actions) c.is)),
         )
 
@@ -124,7 +124,7 @@ main_post_is_sound script past seat task queue delay ok plan legal allowed =
         let declared = subst (IsStepSound script s.now.task) is (act_is (IsStepSound script s.now.task) _ _ s.step
         (steps_are script s.now.task plan.declarations).1 s.is_next) in
         let within = subst IsStepWithin is (act_is IsStepWithin _ _ s.step (steps_are script s.now.task plan.declarations).0 s.is_next) in
-        ((declared.1, within), act_posts script s.now.task (acts_done past seat) task queue delay (rw is at s.is_next))
+        ((declared.1, within), act_posts script s.now.task (acts_done past seat) task queue delay plan.closed (rw is at s.is_next))
 
 -- What the driver does to a main queue names one that is declared.
 

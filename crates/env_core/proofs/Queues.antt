@@ -9,7 +9,8 @@ use Rattle.script_model.specs.Laws.Sound as sounds
 use Rattle.sequence_manager.specs.Pasts.{IsMainPast, IsMainScript, IsPostedTo, IsQueueWithin}
 use Rattle.sequence_manager.specs.Postings.{MainPosting, main_postings, posting_of_action, posting_of_step, postings_of_tasks}
 use Rattle.std.proofs.Common.{◌≡◌, ℕ, zero, suc, ◌+◌, ◌<◌, ◌≤◌, ◌^◌, Bool, true, false, List, [], ◌∷◌, length, length-append, refl}
-use Rattle.std.proofs.Common.{Some, arith}
+use Rattle.std.proofs.Common.{Some, arith, inl, inr, sym, ◌∙◌}
+use Rattle.std.proofs.lemmas.Bool.{false≢true}
 use Rattle.std.proofs.lemmas.List.Elements.{Contains-append_left, Contains-append_right}
 use Rattle.std.proofs.lemmas.List.Sums.{sum_by-cons}
 use Rattle.std.proofs.lemmas.Option.{none-some, slice_get-get_or}
@@ -106,22 +107,31 @@ main_script script plan = record {
   postings_fit = postings_few script plan;
   homes_there = AllByRecursion-map (IsRight script) (λ p. p.queue < length script.queues) (main_postings script) (λ p right. right.queue_declared)
       (postings_right script plan);
+  tasks_fit = λ is_open. absurd (false≢true (sym plan.closed ∙ is_open));
 }
 
 -- what was accepted is declared, and of a task that opens no scope
 pub accepted_right : (script : Plan) (past : List Entry) (p : Posted) → IsSound script → IsMainPast script past → Contains (main_posts past) p
     → IsQueuePost script p.task p.home
-accepted_right script past p plan fits accepted = AllByRecursion-contains (IsRight script) (main_postings script) (record { task = p.task; queue = p.home })
-    (postings_right script plan) (AllByRecursion-contains (λ q. IsPostedTo script q.task q.home) (main_posts past) p fits.posted accepted)
+accepted_right script past p plan fits accepted = by_plan
+    (AllByRecursion-contains (λ q. IsPostedTo script q.task q.home) (main_posts past) p fits.posted accepted)
+  where
+    by_plan : IsPostedTo script p.task p.home → IsQueuePost script p.task p.home
+    by_plan (inl posting) = AllByRecursion-contains (IsRight script) (main_postings script) (record { task = p.task; queue = p.home })
+        (postings_right script plan) posting.among
+    by_plan (inr posting) = absurd (false≢true (sym plan.closed ∙ posting.opened))
 
 -- What an action or a step posts is among the postings.
 
 -- what an action posts to a main queue is a posting of the script
-pub action_posts : (script : Plan) (task queue delay : ℕ) → Contains script.actions (actions.Main task queue delay) → IsPostedTo script task queue
+pub action_posts : (script : Plan) (task queue delay : ℕ) → script.is_open ≡ false → Contains script.actions (actions.Main task queue delay)
+    → IsPostedTo script task queue
 unfolding main_postings
-action_posts script task queue delay there =
-    Contains-append_right (postings_of_tasks script.tasks) (filter_map posting_of_action script.actions) (record { task = task; queue = queue })
-    (contains_filter_map posting_of_action script.actions (actions.Main task queue delay) (record { task = task; queue = queue }) there refl)
+action_posts script task queue delay closed there = inl (record {
+  closed = closed;
+  among = Contains-append_right (postings_of_tasks script.tasks) (filter_map posting_of_action script.actions) (record { task = task; queue = queue })
+      (contains_filter_map posting_of_action script.actions (actions.Main task queue delay) (record { task = task; queue = queue }) there refl);
+})
 
 -- what a step posts is among the postings of the tasks
 of_task_posts : (tasks : List (List Step)) (t task queue delay : ℕ) (xs : List Step) → slice_get tasks t ≡ Some xs
@@ -136,12 +146,14 @@ of_task_posts (ys ∷ tasks) (suc t) task queue delay xs is there =
     (of_task_posts tasks t task queue delay xs is there)
 
 -- what a step posts to a main queue is a posting of the script
-pub step_posts : (script : Plan) (t task queue delay : ℕ) (xs : List Step) → slice_get script.tasks t ≡ Some xs
+pub step_posts : (script : Plan) (t task queue delay : ℕ) (xs : List Step) → script.is_open ≡ false → slice_get script.tasks t ≡ Some xs
     → Contains xs (steps.Main task queue delay) → IsPostedTo script task queue
 unfolding main_postings
-step_posts script t task queue delay xs is there =
-    Contains-append_left (postings_of_tasks script.tasks) (filter_map posting_of_action script.actions) (record { task = task; queue = queue })
-    (of_task_posts script.tasks t task queue delay xs is there)
+step_posts script t task queue delay xs closed is there = inl (record {
+  closed = closed;
+  among = Contains-append_left (postings_of_tasks script.tasks) (filter_map posting_of_action script.actions) (record { task = task; queue = queue })
+      (of_task_posts script.tasks t task queue delay xs is there);
+})
 
 -- A task that opens no scope has no step of one.
 

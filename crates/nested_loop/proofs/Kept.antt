@@ -9,7 +9,7 @@ use Rattle.std.proofs.Math.Bool.{or-false}
 use Rattle.std.proofs.lemmas.Bool.{eqb-true, true≢false}
 use Rattle.std.proofs.lemmas.List.{length-map, map-append}
 use Rattle.list_laws.specs.Lists.{count, keep}
-use Rattle.list_laws.proofs.Elements.{AllByRecursion-append, AllByRecursion-contains, AllByRecursion-map}
+use Rattle.list_laws.proofs.Elements.{AllByRecursion-append, AllByRecursion-map}
 use Rattle.list_laws.proofs.Filters.{filter-map}
 use Rattle.list_laws.proofs.Finds.{none_found}
 use Rattle.task_base.specs.declared.entry.Entry.{Entry}
@@ -21,8 +21,8 @@ use Rattle.task_model.specs.Seats.{Running, running}
 use Rattle.task_model.proofs.Growth.{is_main_taken_push, main_posts_push, running_push}
 use Rattle.sequence_manager.specs.Calls.{CanPost as MainCanPost, CanTake as MainCanTake, IsTaken}
 use Rattle.sequence_manager.specs.Calls.{RunsMain, TakeAnswers, after_end, after_main, after_take}
+use Rattle.sequence_manager.proofs.PostingsFit.{queue_there}
 use Rattle.sequence_manager.specs.Pasts.{IsPostedTo}
-use Rattle.sequence_manager.specs.Postings.{main_postings}
 use Rattle.sequence_manager.specs.StandsFor.{StandsFor}
 use Rattle.sequence_manager.specs.declared.manager.Manager.{Manager}
 use Rattle.nested_loop.specs.Keeping.{CanPostNext, CanTakeNext, IsTakenFrom, KeepsManager, takes}
@@ -203,11 +203,7 @@ can_take nest past waiting can = record { stands = can.keeps.stands; idle = ap (
 homes_there : (nest : NestPlan) (entries : List Entry) (manager : Manager) → StandsFor (nest_script nest) entries manager
     → AllByRecursion (λ p. p.home < length (nest_script nest).queues) (main_posts entries)
 homes_there nest entries manager stands = AllByRecursion-map (λ p. IsPostedTo (nest_script nest) p.task p.home) (λ p. p.home < length (nest_script nest).queues)
-    (main_posts entries)
-    (λ p among. AllByRecursion-contains (λ m. m.queue < length (nest_script nest).queues) (main_postings (nest_script nest))
-    (record { task = p.task; queue = p.home })
-    stands.script_fits.homes_there among)
-    stands.past_fits.posted
+    (main_posts entries) (λ p. queue_there (nest_script nest) p.task p.home stands.script_fits) stands.past_fits.posted
 
 -- the manager takes the front
 pub takes_front : (nest : NestPlan) (past : List Event) (waiting : Waiting) (can : CanTakeNext nest past waiting) (answer : Option (ℕ × ℕ × ℕ))

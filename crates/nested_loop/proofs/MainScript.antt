@@ -1,7 +1,8 @@
 -- The script of a sound nest is one that the manager of the main queues can be made with.
 -- Cited by `Waiting::new`, `most_events`, `Kept`, `Made`.
 use Rattle.std.proofs.Common.{◌≡◌, ℕ, zero, suc, ◌+◌, ◌*◌, ◌<◌, ◌≤◌, ◌^◌, length, List, [], ◌∷◌, ◌++◌}
-use Rattle.std.proofs.Common.{map, refl, sym, ap, subst, Option, Some, None, arith, length-append}
+use Rattle.std.proofs.Common.{map, refl, sym, ap, subst, Option, Some, None, inl, arith, length-append}
+use Rattle.std.proofs.lemmas.Bool.{false≢true}
 use Rattle.std.specs.Prelude.{slice_get, flat_map, sum_by, Contains}
 use Rattle.std.specs.List.{AllByRecursion, cons_option, filter_map}
 use Rattle.std.specs.Option.{IfSome}
@@ -112,6 +113,7 @@ is_main_script nest sound = record {
       (AllByRecursion-flat_map (PostsThere nest) (IsNestActionSound nest) main_of_action nest.actions (of_action nest) sound.actions_sound)
       (tasks_from nest 0 nest.tasks
       (λ t task is. subst (λ n. AllByRecursion (IsNestStepSound nest n) task.steps) (omega arith) (sound.tasks_sound t task is)))));
+  tasks_fit = λ is_open. absurd (false≢true is_open);
 }
 
 in_lists : {A B : Type 0} (f : A → List B) (xs : List A) (i : ℕ) (x : A) (y : B) → slice_get xs i ≡ Some x → Contains (f x) y → Contains (flat_map f xs) y
@@ -124,14 +126,16 @@ in_lists f (z ∷ zs) (suc i) x y is within = Contains-append_right (f z) (flat_
 pub posted_to : (nest : NestPlan) (past : List Event) (task queue : ℕ) → next_event nest past ≡ Some (events.Post task queue)
     → IsPostedTo (nest_script nest) task queue
 unfolding main_postings
-posted_to nest past task queue next =
-    Contains-append_right (postings_of_tasks (map (λ t. []) nest.tasks))
-    (filter_map posting_of_action (flat_map main_of_action nest.actions ++ flat_map main_of_task nest.tasks))
-    (record { task = task; queue = queue })
-    (contains_filter_map posting_of_action (flat_map main_of_action nest.actions ++ flat_map main_of_task nest.tasks) (script_actions.Main task queue 0)
-    (record { task = task; queue = queue })
-    (at (nesting_of nest past) (events.Post task queue) (nesting_of nest (past ++ events.Post task queue ∷ []))
-    (comes nest past (events.Post task queue) next) refl) refl)
+posted_to nest past task queue next = inl (record {
+  closed = refl;
+  among = Contains-append_right (postings_of_tasks (map (λ t. []) nest.tasks))
+      (filter_map posting_of_action (flat_map main_of_action nest.actions ++ flat_map main_of_task nest.tasks))
+      (record { task = task; queue = queue })
+      (contains_filter_map posting_of_action (flat_map main_of_action nest.actions ++ flat_map main_of_task nest.tasks) (script_actions.Main task queue 0)
+      (record { task = task; queue = queue })
+      (at (nesting_of nest past) (events.Post task queue) (nesting_of nest (past ++ events.Post task queue ∷ []))
+      (comes nest past (events.Post task queue) next) refl) refl);
+})
   where
     Posts : Event → Type 0
     Posts (events.Post t q) = Contains (flat_map main_of_action nest.actions ++ flat_map main_of_task nest.tasks) (script_actions.Main t q 0)

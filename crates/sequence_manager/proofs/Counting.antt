@@ -1,14 +1,15 @@
 -- Counting what is posted to main queues, posting by posting.
--- Cited by `count_actions`, `count_steps`, `rooms`, `Fresh`.
+-- Cited by `count_actions`, `count_steps`, `rooms`.
 use Rattle.list_laws.proofs.Counts.{count_le}
 use Rattle.list_laws.proofs.Elements.{AllByRecursion-back, AllByRecursion-front, AllByRecursion-made, slice_get_all}
 use Rattle.list_laws.proofs.Places.{count-push, slice_get-set_other, slice_get-set_same}
 use Rattle.list_laws.proofs.Values.{eqb-same, some-injective}
 use Rattle.list_laws.specs.Lists.{count}
 use Rattle.sequence_manager.specs.Pasts.{IsMainScript}
-use Rattle.sequence_manager.specs.Postings.{MainPosting, is_to, main_postings, posting_of_action, posting_of_step, postings_of_tasks}
+use Rattle.sequence_manager.specs.Postings.{MainPosting, is_to, main_postings, posting_of_action, posting_of_step, postings_of_tasks, room_of}
+use Rattle.sequence_manager.specs.Queues.{IsTable}
 use Rattle.sequence_manager.specs.Rooms.{AreCounts, CanCount}
-use Rattle.std.proofs.Common.{List, None, Option, Some, [], add-one, ap, append_assoc, arith, cond, drop, get_or, inl, inr}
+use Rattle.std.proofs.Common.{List, None, Option, Some, [], add-one, ap, append_assoc, arith, cond, drop, false, get_or, inl, inr}
 use Rattle.std.proofs.Common.{length, length-append, sym, take, ℕ, ◌+◌, ◌++◌, ◌<◌, ◌∙◌, ◌∷◌, ◌≡◌, ◌≤◌, ◌^◌, append-nil}
 use Rattle.std.proofs.Math.Seq.{take-suc}
 use Rattle.std.proofs.lemmas.Bool.{cases_eq, ne_eqb}
@@ -24,7 +25,7 @@ use Rattle.task_base.specs.declared.script.Action.{Action}
 use Rattle.task_base.specs.declared.step.Step.{Step}
 
 -- a count is of what was posted to its queue
-pub count_is : (queues : ℕ) (counts : List ℕ) (postings : List MainPosting) (q n : ℕ) → AreCounts queues counts postings → q < length counts
+count_is : (queues : ℕ) (counts : List ℕ) (postings : List MainPosting) (q n : ℕ) → AreCounts queues counts postings → q < length counts
     → n ≡ get_or counts q n → n ≡ count (is_to q) postings
 count_is queues counts postings q n counted there is = some-injective
     (ap Some is ∙ sym (slice_get-get_or counts q n there) ∙ counted.each q (omega (arith, there, counted.all)))
@@ -162,9 +163,9 @@ can_count_actions script counts k actions fits end same counted = rw same (can_c
     (filter_map posting_of_action script.actions) [] fits (sym (append-nil (postings_of_tasks script.tasks ++ filter_map posting_of_action script.actions)))
     (tasks_counted script counts k end counted))
 
--- and then all is
-pub actions_counted : (script : Plan) (counts : List ℕ) (actions : List Action) → actions ≡ script.actions
+-- and then all is: where the plan is closed, the counts are the rooms of the queues
+pub actions_counted : (script : Plan) (counts : List ℕ) (actions : List Action) → script.is_open ≡ false → actions ≡ script.actions
     → AreCounts (length script.queues) counts (postings_of_tasks script.tasks ++ filter_map posting_of_action actions)
-    → AreCounts (length script.queues) counts (main_postings script)
+    → IsTable (room_of script) (length script.queues) counts
 unfolding main_postings
-actions_counted script counts actions same counted = rw same at counted
+actions_counted script counts actions closed same counted = record { all = counted.all; each = λ q less. rw (closed, ← same) (counted.each q less) }

@@ -4,16 +4,12 @@ use Rattle.list_laws.proofs.Values.{some-injective}
 use Rattle.queue_selector.specs.Rows.{closed_row}
 use Rattle.queue_selector.specs.Selecting.{Selecting, with_class}
 use Rattle.queue_selector.specs.declared.row.Row.{Row}
-use Rattle.sequence_manager.proofs.Counting.{count_is}
-use Rattle.sequence_manager.specs.Postings.{main_postings, room_of}
-use Rattle.sequence_manager.specs.Rooms.{AreCounts}
-use Rattle.sequence_manager.specs.State.{fresh_from, fresh_queue, fresh_queues}
+use Rattle.sequence_manager.specs.State.{fresh_queue, fresh_queues}
 use Rattle.sequence_manager.specs.declared.task_queue.TaskQueue.{TaskQueue}
 use Rattle.std.proofs.Common.{List, Some, [], add-one, ap, append_assoc, arith, drop, drop-cons, get_or, length}
 use Rattle.std.proofs.Common.{map, refl, replicate, suc, sym, take, zero, ℕ, ◌+◌, ◌++◌, ◌<◌, ◌∙◌, ◌∷◌, ◌≡◌}
 use Rattle.std.proofs.lemmas.Option.{none-some, slice_get-get_or, slice_get_within}
 use Rattle.std.specs.Prelude.{slice_get, slice_index_or, slice_set}
-use Rattle.task_base.specs.Plan.{Plan}
 use Rattle.task_base.specs.declared.script.MainQueue.{MainQueue}
 
 -- what a selector knows of a queue that was given its class
@@ -37,20 +33,22 @@ pub class_set : (queues : List MainQueue) (k : ℕ) (queue : MainQueue) (selecto
 class_set queues k queue selector is so_far = rw (so_far, add-one) (ap (λ (rows : List Row). record { rows = rows; streak = 0 }) (class_next queues k queue is))
 
 -- one more queue is a fresh one
-pub fresh_next : (script : Plan) (made : List TaskQueue) (k : ℕ) (queue : MainQueue) (more : TaskQueue) → slice_get script.queues k ≡ Some queue
-    → more ≡ fresh_queue queue.voters (room_of script k) → made ++ fresh_from script k (drop k script.queues) ≡ fresh_queues script
-    → (made ++ more ∷ []) ++ fresh_from script (k + 1) (drop (k + 1) script.queues) ≡ fresh_queues script
-fresh_next script made k queue more is fresh so_far = append_assoc made (more ∷ []) (fresh_from script (k + 1) (drop (k + 1) script.queues))
-    ∙ ap (λ x. made ++ x ∷ fresh_from script (k + 1) (drop (k + 1) script.queues)) fresh ∙ ap (λ qs. made ++ fresh_from script k qs) (sym front) ∙ so_far
+pub fresh_next : (rooms : List ℕ) (queues : List MainQueue) (made : List TaskQueue) (k : ℕ) (queue : MainQueue) (more : TaskQueue)
+    → length rooms ≡ length queues → slice_get queues k ≡ Some queue → more ≡ fresh_queue queue.voters (get_or rooms k 0)
+    → made ++ fresh_queues (drop k rooms) (drop k queues) ≡ fresh_queues rooms queues
+    → (made ++ more ∷ []) ++ fresh_queues (drop (k + 1) rooms) (drop (k + 1) queues) ≡ fresh_queues rooms queues
+fresh_next rooms queues made k queue more all is fresh so_far =
+    append_assoc made (more ∷ []) (fresh_queues (drop (k + 1) rooms) (drop (k + 1) queues))
+    ∙ ap (λ x. made ++ x ∷ fresh_queues (drop (k + 1) rooms) (drop (k + 1) queues)) fresh ∙ ap (λ qs. made ++ qs) (sym front) ∙ so_far
   where
-    less : k < length script.queues
-    less = slice_get_within script.queues k queue is
+    less : k < length queues
+    less = slice_get_within queues k queue is
 
-    front : drop k script.queues ≡ queue ∷ drop (k + 1) script.queues
-    front = rw (add-one, drop-cons script.queues k queue less, ← some-injective (sym is ∙ slice_get-get_or script.queues k queue less)) refl
-
--- the room of a queue is what was counted for it
-pub room_is : (script : Plan) (rooms : List ℕ) (k n : ℕ) (queue : MainQueue) → AreCounts (length script.queues) rooms (main_postings script)
-    → slice_get script.queues k ≡ Some queue → n ≡ get_or rooms k n → n ≡ room_of script k
-room_is script rooms k n queue counted is here = count_is (length script.queues) rooms (main_postings script) k n counted
-    (omega (arith, slice_get_within script.queues k queue is, counted.all)) here
+    front : fresh_queues (drop k rooms) (drop k queues)
+        ≡ fresh_queue queue.voters (get_or rooms k 0) ∷ fresh_queues (drop (k + 1) rooms) (drop (k + 1) queues)
+    front = rw (
+      add-one,
+      drop-cons rooms k 0 (omega (arith, less, all)),
+      drop-cons queues k queue less,
+      ← some-injective (sym is ∙ slice_get-get_or queues k queue less),
+    ) refl

@@ -6,7 +6,6 @@ use Rattle.std.specs.Prelude.{nat_lt, not, filter, All, slice_get}
 use Rattle.std.proofs.lemmas.List.{append-nil, length-append}
 use Rattle.std.proofs.lemmas.List.Elements.{Contains-append_left}
 use Rattle.list_laws.specs.Sorts.{Rises, sort_by}
-use Rattle.list_laws.proofs.Elements.{AllByRecursion-contains}
 use Rattle.list_laws.proofs.Values.{eqb-same}
 use Rattle.queue_laws.proofs.Arrivals.{main_arrivals_at_post, main_arrivals_below, main_arrivals_rise}
 use Rattle.queue_laws.specs.Orders.{ordered_below, Ordered, main_arrivals}
@@ -33,16 +32,16 @@ use Rattle.sequence_manager.proofs.Others.{longer, stands_apart}
 use Rattle.sequence_manager.proofs.Parts.{can_tell, load, parts_changed, posted_to, room_by_past}
 use Rattle.sequence_manager.proofs.Pasts.{past_at_post, untaken}
 use Rattle.sequence_manager.proofs.Posted.{accepts, posted_at_post, waiting_at_post}
-use Rattle.sequence_manager.proofs.PostingsFit.{posts_fit}
+use Rattle.sequence_manager.proofs.PostingsFit.{posts_fit, queue_there}
 use Rattle.sequence_manager.proofs.Quiet.{now_kept}
 use Rattle.sequence_manager.proofs.Tables.{queue_at_is}
 
 -- the queue is declared
 pub declared_at : {script : Plan} {past : List Entry} {manager : Manager} {place task queue delay : ℕ} → CanPost script past manager place task queue delay
     → HasQueue script past manager queue
-declared_at {script = script} can = record {
+declared_at {script = script} {task = task} {queue = queue} can = record {
   stands = can.stands;
-  declared = AllByRecursion-contains (λ p. p.queue < length script.queues) _ _ can.stands.script_fits.homes_there can.posted;
+  declared = queue_there script task queue can.stands.script_fits can.posted;
 }
 
 -- there is room for one more task of the queue

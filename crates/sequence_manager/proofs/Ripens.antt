@@ -10,14 +10,14 @@ use Rattle.queue_laws.proofs.Arrivals.{main_arrivals_at_tick, main_arrivals_rise
 use Rattle.queue_laws.specs.Orders.{ordered_below, Ordered, main_arrivals, numbered_from}
 use Rattle.sequence_manager.proofs.Arriving.{all_below, arrived, behind_first, other_arrived, other_waiting, room_left, load_same}
 use Rattle.sequence_manager.proofs.Parts.{load, posted_to, room_by_past}
-use Rattle.sequence_manager.proofs.PostingsFit.{posts_fit}
+use Rattle.sequence_manager.proofs.PostingsFit.{posts_fit, queue_there}
 use Rattle.sequence_manager.proofs.Refreshing.{can_refresh, refreshed_rows}
 use Rattle.sequence_manager.proofs.Soonest.{delayed_of}
 use Rattle.sequence_manager.proofs.Tables.{queue_at_is, table_set}
 use Rattle.sequence_manager.proofs.Waiting.{IsWaiting, ripe_at_tick, unripe_waiting}
 use Rattle.sequence_manager.specs.Calls.{after_tick}
 use Rattle.sequence_manager.specs.Pasts.{IsMainPast, IsMainScript, IsPostedTo}
-use Rattle.sequence_manager.specs.Postings.{main_postings, room_of}
+use Rattle.sequence_manager.specs.Postings.{room_of}
 use Rattle.sequence_manager.specs.Queues.{IsTable, queue_of, ripening_of, unripe}
 use Rattle.sequence_manager.specs.Ripening.{CanRipen, IsInTick, known, ripened, without_first}
 use Rattle.sequence_manager.specs.StandsFor.{ArePartsOf}
@@ -65,7 +65,7 @@ known-push past front p =
 -- each accepted task has a queue that is declared
 home_there : (script : Plan) (past : List Entry) (p : Posted) → IsMainScript script → IsMainPast script past → Contains (main_posts past) p
     → p.home < length script.queues
-home_there script past p limits fits among = AllByRecursion-contains (λ x. x.queue < length script.queues) (main_postings script) _ limits.homes_there
+home_there script past p limits fits among = queue_there script p.task p.home limits
     (AllByRecursion-contains (λ x. IsPostedTo script x.task x.home) (main_posts past) p fits.posted among)
 
 -- the manager with the queue's first delayed task at the end of its lane, of which the selector has not been told

@@ -2,7 +2,6 @@
 use Rattle.std.specs.Prelude.{◌≡◌, ℕ, ◌<◌, ◌≤◌, ◌^◌, Bool, List, length, Option, Some, None}
 use Rattle.task_base.specs.Plan.{Plan}
 use Rattle.task_base.specs.declared.entry.Entry.{Entry}
-use Rattle.task_base.specs.declared.entry.Kind.{Kind}
 use Rattle.task_base.specs.declared.entry.Kind.TheVariants as kinds
 use Rattle.task_base.specs.declared.script.FenceAt.{FenceAt}
 use Rattle.task_base.specs.declared.limits.TheConstants.{LAST_MOMENT, MOST_MICROSECONDS}
@@ -47,7 +46,7 @@ after_take past None = past
 abbrev pub after_end : List Entry → ℕ → ℕ → List Entry
 after_end past task left = next past 0 (kinds.MainEnd task left)
 
--- the entry's place is the next one; the script posts the task to the queue, and it was not accepted before
+-- the entry's place is the next one; the task may be posted to the queue, and was not accepted before
 pub record CanPost (script : Plan) (past : List Entry) (manager : Manager) (place task queue delay : ℕ) : Type 0 where
   pub stands : StandsFor script past manager
   pub place_is : place ≡ length past

@@ -1,5 +1,5 @@
 -- What the main queues need to know of a script and of a past.
-use Rattle.std.specs.Prelude.{◌≡◌, ℕ, ◌<◌, ◌≤◌, ◌^◌, true, List, length, Option, Some, Contains}
+use Rattle.std.specs.Prelude.{◌≡◌, ℕ, ◌<◌, ◌≤◌, ◌^◌, ◌⊎◌, true, false, List, length, Option, Some, Contains}
 use Rattle.std.specs.List.{AllByRecursion}
 use Rattle.task_base.specs.Plan.{Plan}
 use Rattle.task_base.specs.declared.entry.Entry.{Entry}
@@ -22,16 +22,29 @@ pub record IsQueueWithin (queue : MainQueue) : Type 0 where
   pub class_fits : queue.class ≤ LAST_CLASS
   pub voters_fit : queue.voters ≤ MOST_VOTERS
 
--- within the limits of scripts; what is posted to a main queue is posted to one that is declared
+-- within the limits of scripts; what is posted to a main queue is posted to one that is declared; the tasks of an open plan
+-- can be counted
 pub record IsMainScript (script : Plan) : Type 0 where
   pub queues_fit : length script.queues ≤ MOST_QUEUES
   pub queues_within : AllByRecursion IsQueueWithin script.queues
   pub postings_fit : length (main_postings script) < 2 ^ 31
   pub homes_there : AllByRecursion (λ p. p.queue < length script.queues) (main_postings script)
+  pub tasks_fit : script.is_open ≡ true → length script.tasks < 2 ^ 31
 
--- the script posts the task to the queue
+-- the plan is closed, and the script posts the task to the queue
+pub record IsClosedPosting (script : Plan) (task queue : ℕ) : Type 0 where
+  pub closed : script.is_open ≡ false
+  pub among : Contains (main_postings script) (record { task = task; queue = queue })
+
+-- the plan is open, and the task and the queue are declared
+pub record IsOpenPosting (script : Plan) (task queue : ℕ) : Type 0 where
+  pub opened : script.is_open ≡ true
+  pub task_declared : task < length script.tasks
+  pub queue_declared : queue < length script.queues
+
+-- the task may be posted to the queue: the script does so, or its plan is open
 abbrev pub IsPostedTo : Plan → ℕ → ℕ → Type 0
-IsPostedTo script task queue = Contains (main_postings script) (record { task = task; queue = queue })
+IsPostedTo script task queue = IsClosedPosting script task queue ⊎ IsOpenPosting script task queue
 
 -- the task is an immediate one, or its moment has come
 abbrev pub IsDue : List Entry → Posted → Type 0
@@ -43,7 +56,7 @@ pub record WasDue (past : List Entry) (t : ℕ) : Type 0 where
   pub accepted : main_post_of past t ≡ Some post
   pub due : IsDue past post
 
--- each accepted main task is one that the script posts to this queue, and was posted once; a main task that was taken was
+-- each accepted main task is one that may be posted to this queue, and was posted once; a main task that was taken was
 -- accepted, and was due; orders come as ticks reach ripe moments
 pub record IsMainPast (script : Plan) (past : List Entry) : Type 0 where
   pub in_order : InOrder (main_posts past)

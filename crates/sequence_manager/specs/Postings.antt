@@ -1,5 +1,5 @@
 -- Which main tasks a script posts, and to which queues (this project's own rules).
-use Rattle.std.specs.Prelude.{ℕ, ◌==◌, Bool, List, ◌++◌, flat_map, Option, Some, None}
+use Rattle.std.specs.Prelude.{ℕ, ◌==◌, Bool, if◌then◌else◌, List, ◌++◌, length, flat_map, Option, Some, None}
 use Rattle.std.specs.List.{filter_map}
 use Rattle.task_base.specs.Plan.{Plan}
 use Rattle.task_base.specs.declared.step.Step.{Step}
@@ -35,6 +35,6 @@ main_postings script = postings_of_tasks script.tasks ++ filter_map posting_of_a
 abbrev pub is_to : ℕ → MainPosting → Bool
 is_to q p = p.queue == q
 
--- how many tasks the script posts to the queue
+-- how many tasks may be posted to the queue: those that the script posts to it, and all where its plan is open
 abbrev pub room_of : Plan → ℕ → ℕ
-room_of script q = count (is_to q) (main_postings script)
+room_of script q = if script.is_open then length script.tasks else count (is_to q) (main_postings script)

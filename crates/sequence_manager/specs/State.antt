@@ -1,7 +1,6 @@
 -- What the calls do to the manager's parts.
-use Rattle.std.specs.Prelude.{◌≡◌, ℕ, ◌+◌, ◌<◌, ◌^◌, ◌&&◌, Bool, true, false, List, [], ◌∷◌, length, replicate, Option, Some, None, slice_get, slice_set, slice_index_or, Contains, All}
+use Rattle.std.specs.Prelude.{◌≡◌, ℕ, ◌+◌, ◌<◌, ◌^◌, ◌&&◌, Bool, true, false, List, [], ◌∷◌, length, map, replicate, Option, Some, None, slice_get, slice_set, slice_index_or, Contains, All}
 use Rattle.std.specs.Option.{option_map}
-use Rattle.task_base.specs.Plan.{Plan}
 use Rattle.task_base.specs.declared.script.FenceAt.{FenceAt}
 use Rattle.task_base.specs.declared.script.FenceAt.TheVariants.{Now, Start}
 use Rattle.task_base.specs.declared.script.Lane.{Lane}
@@ -13,13 +12,12 @@ use Rattle.delayed_manager.specs.Delayed.{with_held}
 use Rattle.queue_fence.specs.Fence.{lets_pass}
 use Rattle.queue_fence.specs.Voters.{all_on}
 use Rattle.queue_selector.specs.declared.row.Row.{Row}
-use Rattle.queue_selector.specs.Rows.{order_in}
+use Rattle.queue_selector.specs.Rows.{closed_row, order_in}
 use Rattle.queue_selector.specs.Selecting.{row_at, with_front}
 use Rattle.queue_laws.specs.Orders.{Ordered, ordered_below}
 use Rattle.task_model.specs.MainQueues.{is_of_lane}
 use Rattle.work_queue.specs.Lanes.{IsBelow, all_held, emptied, popped}
 use Rattle.work_queue.specs.Lanes as lanes
-use Rattle.sequence_manager.specs.Postings.{room_of}
 use Rattle.sequence_manager.specs.declared.task_queue.TaskQueue.{TaskQueue}
 use Rattle.sequence_manager.specs.declared.manager.Manager.{Manager}
 
@@ -42,14 +40,19 @@ fresh_queue voters room = record {
   closed = false;
 }
 
--- the queues that some declarations make, from a number on
-abbrev pub fresh_from : Plan → ℕ → List MainQueue → List TaskQueue
-fresh_from script q [] = []
-fresh_from script q (queue ∷ queues) = fresh_queue queue.voters (room_of script q) ∷ fresh_from script (q + 1) queues
+-- the queues that some declarations make, with so much room each
+abbrev pub fresh_queues : List ℕ → List MainQueue → List TaskQueue
+fresh_queues (room ∷ rooms) (queue ∷ queues) = fresh_queue queue.voters room ∷ fresh_queues rooms queues
+fresh_queues rooms queues = []
 
--- the queues that the script declares
-abbrev pub fresh_queues : Plan → List TaskQueue
-fresh_queues script = fresh_from script 0 script.queues
+-- their manager: the selector knows their classes, and no order is drawn
+abbrev pub fresh_manager : List ℕ → List MainQueue → Manager
+fresh_manager rooms queues = record {
+  queues = fresh_queues rooms queues;
+  selector = record { rows = map (λ queue. record closed_row { class = queue.class }) queues; streak = 0 };
+  next_order = 2;
+  moment = 0;
+}
 
 -- the queue without delayed tasks
 abbrev pub without_delayed : TaskQueue → TaskQueue

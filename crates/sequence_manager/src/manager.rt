@@ -1,18 +1,21 @@
-ghost use Rattle.std.specs.Prelude.{◌≡◌, ℕ, ◌+◌, ◌<◌, ◌^◌, not, List, [], length, map, replicate, slice_get, Some, IfOk};
-ghost use Rattle.task_base.specs.Plan.{Plan};
+ghost use Rattle.std.specs.Prelude.{◌≡◌, ℕ, ◌+◌, ◌<◌, ◌≤◌, ◌^◌, not, List, [], length, map, replicate, slice_get, Some, IfOk};
+ghost use Rattle.std.specs.List.{AllByRecursion};
+ghost use Rattle.task_base.specs.Plan.{Plan, opened};
+ghost use Rattle.task_base.specs.declared.limits.TheConstants.{MOST_QUEUES};
 ghost use Rattle.task_base.specs.declared.entry.Entry.{Entry};
 ghost use Rattle.queue_laws.specs.Orders.{Ordered};
 ghost use Rattle.task_model.specs.Refusal.{is_closed};
 ghost use Rattle.task_model.specs.Seats.{Running};
 ghost use Rattle.sequence_manager.specs.Calls.{CanPost, CanTick, CanFence, CanVote, CanRank, HasQueue, CanTake, RunsMain, TakeAnswers, after_main, after_tick, after_fence, after_unfence, after_vote, after_rank, after_close, after_take, after_end};
-ghost use Rattle.sequence_manager.specs.Pasts.{IsMainScript};
+ghost use Rattle.sequence_manager.specs.Pasts.{IsMainScript, IsQueueWithin};
 ghost use Rattle.sequence_manager.specs.Queues.{is_out};
 ghost use Rattle.sequence_manager.specs.StandsFor.{StandsFor};
-ghost use Rattle.sequence_manager.specs.State.{CanPush, CanRefresh, order_at, pushed, queue_at, refreshed, with_order_at};
+ghost use Rattle.sequence_manager.specs.State.{CanPush, CanRefresh, fresh_manager, order_at, pushed, queue_at, refreshed, with_order_at};
 ghost use Rattle.delayed_manager.specs.declared.ripening.Ripening.{Ripening};
 ghost use Rattle.queue_selector.specs.Rows.{closed_row};
 ghost use Rattle.sequence_manager.specs.Ripening.{CanRipen, ripened};
 
+use crate::rooms::rooms;
 use crate::task_queues::TaskQueues;
 use queue_selector::Selector;
 use std::alloc::{AllocError, Global};
@@ -30,7 +33,7 @@ const FIRST_ORDER: u64 = 2;
 /// The driver makes all calls, and posts may be any task's. Shutdown leaves the main queues as they are: all of this goes
 /// on after it.
 ///
-/// A call stands for the entry of its kind in the history. All memory is taken by `new`. A tick looks at each queue
+/// A call stands for the entry of its kind in the history. All memory is taken by `new` or `open`. A tick looks at each queue
 /// once for each task that ripens, and once more; no other call takes longer with more queues, but for what the selector
 /// needs.
 pub struct Manager {
@@ -60,7 +63,29 @@ impl Manager {
         requires { IsMainScript script.now }
         ensures { IfOk result (λ manager. StandsFor script.now [] manager) }
     {
-        let queues = TaskQueues::new(alloc, script)?;
+        let rooms = rooms(alloc, script)?;
+        Manager::with_rooms(alloc, script, rooms.as_slice())
+    }
+
+    /// The main queues of a script's open plan at the start of its history: each has room for all tasks. The error is want
+    /// of memory.
+    pub fn open(alloc: Global, script: &Script) -> Result<Manager, AllocError>
+        requires { IsMainScript (opened script.now) }
+        ensures { IfOk result (λ manager. StandsFor (opened script.now) [] manager) }
+    {
+        let room = script.tasks.len() as u32;
+        let rooms = vec![in alloc; room; script.queues.len()]?;
+        Manager::with_rooms(alloc, script, rooms.as_slice())
+    }
+
+    // The main queues that a script declares, each with room for so many tasks, before anything is done.
+    fn with_rooms(alloc: Global, script: &Script, rooms: &[u32]) -> Result<Manager, AllocError>
+        requires each { length rooms.now ≡ length script.now.queues }
+        requires few { length script.now.queues ≤ MOST_QUEUES }
+        requires within { AllByRecursion IsQueueWithin script.now.queues }
+        ensures { IfOk result (λ manager. manager ≡ fresh_manager rooms.now script.now.queues) }
+    {
+        let queues = TaskQueues::new(alloc, script, rooms)?;
         let mut selector = Selector::new(alloc, script.queues.len() as u32)?;
         set_classes(&mut selector, script);
         Ok(Manager {
@@ -244,7 +269,8 @@ impl Manager {
 
 // Tells a selector the class of each queue of a script.
 fn set_classes(selector: &mut Selector, script: &Script)
-    requires script { IsMainScript script.now }
+    requires few { length script.now.queues ≤ MOST_QUEUES }
+    requires within { AllByRecursion IsQueueWithin script.now.queues }
     requires fresh { selector.old ≡ record { rows = replicate (length script.now.queues) closed_row; streak = 0 } }
     ensures { selector.new ≡ record { rows = map (λ queue. record closed_row { class = queue.class }) script.now.queues; streak = 0 } }
 {

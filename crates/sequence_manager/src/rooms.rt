@@ -1,7 +1,8 @@
 ghost use Rattle.std.specs.Prelude.{◌++◌, ℕ, List, length, IfOk};
 ghost use Rattle.std.specs.List.{filter_map};
 ghost use Rattle.sequence_manager.specs.Pasts.{IsMainScript};
-ghost use Rattle.sequence_manager.specs.Postings.{MainPosting, main_postings, posting_of_action, posting_of_step};
+ghost use Rattle.sequence_manager.specs.Postings.{MainPosting, posting_of_action, posting_of_step, room_of};
+ghost use Rattle.sequence_manager.specs.Queues.{IsTable};
 ghost use Rattle.sequence_manager.specs.Rooms.{AreCounts, CanCount};
 
 use std::alloc::{AllocError, Global};
@@ -10,7 +11,7 @@ use task_base::{Action, Script, Step};
 /// How many tasks a script posts to each of its main queues. The error is want of memory.
 pub(crate) fn rooms(alloc: Global, script: &Script) -> Result<Vec<u32>, AllocError>
     requires { IsMainScript script.now }
-    ensures { IfOk result (λ rooms. AreCounts (length script.now.queues) rooms.items (main_postings script.now)) }
+    ensures { IfOk result (λ rooms. IsTable (room_of script.now) (length script.now.queues) rooms.items) }
 {
     let mut rooms = vec![in alloc; 0; script.queues.len()]?;
     for task in script.tasks.as_slice() {

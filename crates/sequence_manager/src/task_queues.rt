@@ -1,9 +1,9 @@
 ghost use Rattle.std.specs.Prelude.{◌≡◌, ◌<◌, ◌^◌, length, slice_get, Some, IfOk};
-ghost use Rattle.sequence_manager.specs.Pasts.{IsMainScript};
+ghost use Rattle.std.specs.List.{AllByRecursion};
+ghost use Rattle.sequence_manager.specs.Pasts.{IsQueueWithin};
 ghost use Rattle.sequence_manager.specs.State.{fresh_queues};
 ghost use Rattle.sequence_manager.specs.Ripening.{first_ripe, sooner};
 
-use crate::rooms::rooms;
 use crate::task_queue::TaskQueue;
 use delayed_manager::Ripening;
 use std::alloc::{AllocError, Global};
@@ -29,13 +29,12 @@ impl TaskQueues {
     ghost use Rattle.std.specs.Borrow.{sem};
     ghost use Rattle.sequence_manager.specs.Lending.{LendsQueue};
 
-    /// The queues that a script declares, each without tasks, with room for those that the script posts to it. The error
-    /// is want of memory.
-    pub fn new(alloc: Global, script: &Script) -> Result<TaskQueues, AllocError>
-        requires { IsMainScript script.now }
-        ensures { IfOk result (λ queues. queues ≡ fresh_queues script.now) }
+    /// The queues that a script declares, each without tasks, with room for so many. The error is want of memory.
+    pub fn new(alloc: Global, script: &Script, rooms: &[u32]) -> Result<TaskQueues, AllocError>
+        requires each { length rooms.now ≡ length script.now.queues }
+        requires within { AllByRecursion IsQueueWithin script.now.queues }
+        ensures { IfOk result (λ queues. queues ≡ fresh_queues rooms.now script.now.queues) }
     {
-        let rooms = rooms(alloc, script)?;
         let mut queues = Vec::with_capacity(alloc, script.queues.len())?;
         for place in 0..script.queues.len() {
             if let Some(queue) = script.queues.at(place) {

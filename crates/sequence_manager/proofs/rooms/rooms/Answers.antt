@@ -1,6 +1,6 @@
 use Rattle.sequence_manager.proofs.Counting.{actions_counted, can_count_actions, can_count_steps, steps_counted, tasks_counted}
 use Rattle.sequence_manager.specs.Postings.{postings_of_tasks}
-use Rattle.std.proofs.Common.{ap, length, take, ◌∙◌, ◌≡◌}
+use Rattle.std.proofs.Common.{ap, length, sym, take, ◌∙◌, ◌≡◌}
 use Rattle.task_base.specs.Plan.{Plan}
 use Rattle.sequence_manager.proofs.rooms.rooms.Goals as goal
 
@@ -32,7 +32,7 @@ count_actions-requires c =
 pub returns : goal.returns
 returns c =
     let tasks : c.as_slice-task-items.result.now ≡ c.args.script.now.tasks = c.as_slice-task-items.ensures ∙ ap (λ (s : Plan). s.tasks) c.script.view_is in
-    actions_counted c.args.script.now c.count_actions.new.counts.items c.as_slice-2.result.now
+    actions_counted c.args.script.now c.count_actions.new.counts.items c.as_slice-2.result.now (ap (λ (s : Plan). s.is_open) (sym c.script.view_is))
     (c.as_slice-2.ensures ∙ ap (λ (s : Plan). s.actions) c.script.view_is)
     (c.count_actions.ensures _ _ (tasks_counted c.args.script.now c.loop-task.rooms.items c.loop-task.task-index (rw tasks at c.loop-task-test.false)
     c.loop-task.invariant))
