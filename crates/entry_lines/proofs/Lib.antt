@@ -1,4 +1,3 @@
-pub mod Words
 pub mod ReadBack
 pub mod Turns
 pub mod PlainWords

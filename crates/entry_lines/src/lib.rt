@@ -5,8 +5,10 @@
 mod keywords;
 mod kinds;
 mod lines;
+mod parts;
 mod spelling;
 
 pub use kinds::kind_of;
 pub use lines::line;
+pub use parts::{Part, parts_of};
 pub use spelling::meant;

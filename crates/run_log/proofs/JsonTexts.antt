@@ -1,7 +1,7 @@
 -- The text of an entry's JSON row, and of the rows of a log.
 -- Cited by `json_text`, `json_row`, `trace_json`.
 use Rattle.std.proofs.Common.{◌≡◌, ◌≢◌, ◌<◌, ◌+◌, ℕ, true, false, suc, List, [], ◌∷◌, ◌++◌, length, get_or, take, map}
-use Rattle.std.proofs.Common.{Some, None, refl, sym, ap, ◌∙◌, append_assoc, append-nil, add-zero, zero-add, arith}
+use Rattle.std.proofs.Common.{Some, None, refl, ap, ◌∙◌, append_assoc, add-zero, zero-add, arith}
 use Rattle.std.specs.List.{join_with_byte}
 use Rattle.std.specs.Fmt.{decimal}
 use Rattle.std.proofs.lemmas.Bool.{ne_eqb}
@@ -19,14 +19,9 @@ use Rattle.task_base.specs.declared.policy.Policy.TheVariants.{All, Foreground, 
 use Rattle.task_base.specs.declared.script.FenceAt.TheVariants.{Now, Start}
 use Rattle.task_base.specs.declared.step.Scope.TheVariants.{May, Will}
 use Rattle.log_model.specs.LogText.{Part, word, number, entry_parts, parts_of, shown_json, json_array, json_of, jsons_from, log_json}
-use Rattle.run_log.specs.JsonRows.{data_of, with_parts, before_row}
+use Rattle.run_log.specs.JsonRows.{data_of, before_row}
 
 -- ---- a row
-
--- a row with parts behind it has their data behind it
-with_parts_is : (row : List Data) (parts : List Part) → with_parts row parts ≡ row ++ map data_of parts
-with_parts_is row [] = sym (append-nil row)
-with_parts_is row (part ∷ parts) = with_parts_is (row ++ data_of part ∷ []) parts ∙ append_assoc row (data_of part ∷ []) (map data_of parts)
 
 -- the items of an array behind its first one, with the bracket that closes it
 items_joined : (d : Data) (ds : List Data)
@@ -101,11 +96,6 @@ parts_have_no_float (number n ∷ parts) = parts_have_no_float parts
 -- nor has the data of an entry one
 pub row_data-has_no_float : (place : ℕ) (e : Entry) → has_float (row_data place e) ≡ false
 row_data-has_no_float place e = parts_have_no_float (entry_parts place e)
-
--- a row of the place, the seat and the kind's parts is that of the entry
-pub row_is : (place : ℕ) (e : Entry) (first second whole : List Data) → first ≡ data_of (number place) ∷ [] → second ≡ first ++ data_of (number e.seat) ∷ []
-    → whole ≡ with_parts second (parts_of e.kind) → whole ≡ map data_of (entry_parts place e)
-row_is place e first second whole p q r = rw (r, q, p, with_parts_is) refl
 
 -- ---- rows
 

@@ -1,5 +1,5 @@
--- How the JSON row of an entry grows by its parts.
-use Rattle.std.specs.Prelude.{ℕ, ◌==◌, if◌then◌else◌, List, [], ◌∷◌, ◌++◌}
+-- The parts of an entry as JSON data, and what stands before a row.
+use Rattle.std.specs.Prelude.{ℕ, ◌==◌, if◌then◌else◌, List, [], ◌∷◌}
 use Rattle.serde_json.specs.Data.{Data, unsigned}
 use Rattle.serde_json.specs.Data as data_
 use Rattle.log_model.specs.LogText.{Part, word, number}
@@ -8,11 +8,6 @@ use Rattle.log_model.specs.LogText.{Part, word, number}
 abbrev pub data_of : Part → Data
 data_of (word bytes) = data_.string bytes
 data_of (number n) = data_.number (unsigned n)
-
--- a row with parts behind it
-abbrev pub with_parts : List Data → List Part → List Data
-with_parts row [] = row
-with_parts row (part ∷ parts) = with_parts (row ++ data_of part ∷ []) parts
 
 -- what stands before the row of a place: a comma, where it is not the first
 abbrev pub before_row : ℕ → List ℕ
