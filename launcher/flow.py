@@ -48,17 +48,39 @@ def _answer(request: words.Request, launcher: str, home: str) -> int:
         running.write(2, b"bad words\n")
         say(words.bad_words_line(request))
         return BAD_WORDS
+    if request.mode == "judge" and not request.fault:
+        return _judge(program or _building("build", home, launcher), request, launcher)
     given = inputs.Given(None) if request.fault else inputs.gather(request.files, _places(request))
     program = program or _building("build", home, launcher)
     ran = _run(program, request, given, home)
     if request.timed:
-        say("{:.3f} s on the clock, {:.3f} s and {:.3f} s (system) of the processors".format(*ran.times))
+        _say_times(*ran.times)
     try:
         say(*_hints(program, request, given, ran))
     except Exception as error:
         # What is said behind a run changes nothing of it.
         say(f"no more can be said of it: {type(error).__name__}: {error}")
     return ran.status
+
+
+def _judge(program: Program, request: words.Request, launcher: str) -> int:
+    """Has the mode judge done, which asks the program many times."""
+    if not program.is_kept:
+        raise CannotBuild("nothing is judged, since this kit leaves no program that could be kept, and each log would take minutes")
+    if not running.works(program.file):
+        raise _not_run(program, "it is none for this machine")
+    import judging
+
+    began = os.times()
+    status = judging.judge(request, program.file, launcher)
+    if request.timed:
+        times = [now - then for now, then in zip(os.times(), began)]
+        _say_times(times[4], times[0] + times[2], times[1] + times[3])
+    return status
+
+
+def _say_times(clock: float, processors: float, system: float) -> None:
+    say(f"{clock:.3f} s on the clock, {processors:.3f} s and {system:.3f} s (system) of the processors")
 
 
 def _building(what: str, *arguments: str) -> Program | None:

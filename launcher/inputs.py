@@ -54,8 +54,13 @@ def gather(files: list[str], places: list[str]) -> Given:
     if _is_cut(script):
         raise BadInput(f"{names[0]} has a line %% itself: give the script alone, or this file alone")
     if places[1] == "LOG":
-        behind = _log_text(names[1], behind)
+        behind = log_text(names[1], behind)
     return Given(script + (b"" if script.endswith(b"\n") or not script else b"\n") + b"%%\n" + behind)
+
+
+def part(file: str, place: str) -> bytes:
+    """What stands in a file, or on standard input where its name is `-`."""
+    return _standard_input([place]) if file == "-" else _read_file(file, file)
 
 
 def _own_input(places: list[str]) -> Given:
@@ -105,7 +110,7 @@ def _is_cut(part: bytes) -> bool:
     return b"%%" in part and any(line in (b"%%", b"%%\r") for line in part.split(b"\n"))
 
 
-def _log_text(name: str, log: bytes) -> bytes:
+def log_text(name: str, log: bytes) -> bytes:
     """The text of a log that `run --json` wrote; any other one as it is."""
     if not log.lstrip().startswith(b"["):
         return log

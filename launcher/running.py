@@ -84,11 +84,12 @@ def run(command: list[str], data: bytes | None, is_watched: bool) -> Ran:
     return Ran(status, log, (time.monotonic() - began, usage.ru_utime, usage.ru_stime))
 
 
-def ask(command: list[str], data: bytes, stream: int) -> tuple[int, bytes]:
-    """Runs the program on these bytes unseen, and returns its status, and what it writes to that stream."""
+def ask(command: list[str], data: bytes, stream: int, is_apart: bool = False) -> tuple[int, bytes]:
+    """Runs the program on these bytes unseen, and returns its status, and what it writes to that stream. Apart, it is of no group that
+    a terminal stops."""
     output, into = os.pipe()
     other = (os.POSIX_SPAWN_OPEN, 3 - stream, NULL, os.O_WRONLY, 0)
-    process = _start(command, data, [(os.POSIX_SPAWN_DUP2, into, stream), other])
+    process = _start(command, data, [(os.POSIX_SPAWN_DUP2, into, stream), other], {"setpgroup": 0} if is_apart else {})
     os.close(into)
     with open(output, "rb") as it:
         said = it.read()
@@ -100,14 +101,14 @@ def works(file: str) -> bool:
     return ask([file, "run"], b"", 1) == (0, EMPTY_LOG)
 
 
-def _start(command: list[str], data: bytes | None, actions: list[tuple]) -> int:
+def _start(command: list[str], data: bytes | None, actions: list[tuple], how: dict[str, int] = {}) -> int:
     """Starts it. A signal waits until it is known what runs."""
     if data is not None:
         source = _file_of(data)
         actions = [(os.POSIX_SPAWN_DUP2, source, 0), *actions]
     mask = _signal.pthread_sigmask(_signal.SIG_BLOCK, STOPS)
     try:
-        process = os.posix_spawn(command[0], command, os.environ, file_actions=actions, setsigmask=mask, setsigdef=RESTORED)
+        process = os.posix_spawn(command[0], command, os.environ, file_actions=actions, setsigmask=mask, setsigdef=RESTORED, **how)
         _running.append(process)
     finally:
         _signal.pthread_sigmask(_signal.SIG_SETMASK, mask)

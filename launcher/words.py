@@ -9,16 +9,22 @@ from guesses import nearest, plain_number
 
 VERSION = "taskenv 1.0"
 
-# An option takes a number of a range, or is a flag and has none.
-Option = namedtuple("Option", "range says")
+# An option takes a value of this name, which is a number of a range or the name of a folder, or it is a flag and has none.
+Option = namedtuple("Option", "value range says")
 OPTIONS = {
-    "--step": Option((1, 10 ** 12), "ticks read N, 2N, 3N and so on, in microseconds; without it the system's clock, from 0"),
-    "--json": Option(None, "writes JSON in place of text"),
-    "--prefix": Option(None, "a log is right too where the run isn't over"),
-    "--replies": Option(None, "reads a script and replies"),
-    "--nest": Option(None, "reads a nest script"),
-    "--number": Option((0, 2 ** 64 - 1), "what the script is made from, by default 0"),
-    "--size": Option((1, 8192), "how many tasks it has, by default 16"),
+    "--step": Option("N", (1, 10 ** 12), "ticks read N, 2N, 3N and so on, in microseconds; without it the system's clock, from 0"),
+    "--json": Option(None, None, "writes JSON in place of text"),
+    "--prefix": Option(None, None, "a log is right too where the run isn't over"),
+    "--replies": Option(None, None, "reads a script and replies"),
+    "--nest": Option(None, None, "reads a nest script"),
+    "--number": Option("N", (0, 2 ** 64 - 1), "what the script is made from, by default 0"),
+    "--size": Option("N", (1, 8192), "how many tasks it has, by default 16"),
+    "--runs": Option("N", (1, 10 ** 6), "how often each script is played, by default 100"),
+    "--jobs": Option("N", (1, 256), "how many runs go on at once, by default one for each processor"),
+    "--timeout": Option("S", (1, 3600), "after so many seconds a run is stopped, by default 20"),
+    "--keep": Option("DIR", None, "where the first failure of each cause is kept, by default judged"),
+    "--logs": Option("DIR", None, "judges the logs of that folder, in place of a command's"),
+    "--shrink": Option(None, None, "makes the script of the most frequent cause as short as it still fails"),
 }
 
 # What the launcher alone takes, before the mode.
@@ -31,7 +37,7 @@ HELP = ("-h", "--help")
 ASKS_VERSION = ("-V", "--version")
 
 # The files that a mode may be given, its options, what it does, what its exit statuses say, and an example, in which {it} is the
-# launcher and {at} the folder of the examples.
+# launcher and {at} the folder of the examples. The mode judge is the launcher's own.
 Mode = namedtuple("Mode", "files options says statuses example")
 RUNS = "0 the script was run   3 the script is bad"
 MAKES = "0 the script was made"
@@ -44,6 +50,10 @@ MODES = {
                   JUDGES, "{it} check {at}/first_run.task {at}/first_run.log"),
     "explain": Mode(("SCRIPT", "LOG"), ("--json",), "reads a script and a log, and writes why a wrong log is wrong",
                     JUDGES, "sed 's/end 0 5/end 0 6/' {at}/first_run.log | {it} explain {at}/first_run.task -"),
+    "judge": Mode(("SCRIPT..", "-- COMMAND.."), ("--runs", "--jobs", "--timeout", "--keep", "--json", "--shrink", "--logs"),
+                  "plays scripts on another pool, again and again, and writes why its logs are wrong",
+                  "0 each log is legal and whole   1 some log is not, or some run failed   2 nothing was judged",
+                  "{it} judge --runs 20 {at}/own_pool/one_runner.task -- ./own_pool"),
     "trace": Mode(("SCRIPT", "LOG"), (), "reads a script and a log, and writes a right log as trace events",
                   JUDGES, "{it} trace {at}/first_run.task {at}/first_run.log"),
     "reply": Mode(("SCRIPT", "REPLIES"), (), "reads a script and replies, runs the script with them, and writes the log",
@@ -57,13 +67,20 @@ MODES = {
     "bench": Mode((), ("--number", "--size"), "makes the script that gen makes, runs it, and writes what its log adds up to",
                   MAKES, "{it} bench --size 2"),
 }
+# What is said of the words of the mode judge.
+JUDGED = """Without SCRIPT it reads nothing; the word - is standard input. COMMAND reads the script from its standard input, and writes the
+log to its standard output, or to the files that {script} and {log} stand for in it. With --logs there is no COMMAND: of one
+SCRIPT each file DIR/*.log is a log; of several, those are the logs of NAME.task that are called NAME.log, or NAME, one of the
+signs . - _, and more up to .log.
+"""
 # Among so many names in a folder a near one is looked for.
 MOST_LOOKED_AT = 1000
 STATUSES = "2 bad words   4 read fault   5 write fault   6 no memory   7 too large   125 not built   130 the build was stopped"
 
 # What the words ask for: a text to answer with, what they ask of the launcher, the mode if one is named, the words that the program
-# gets, the files behind the mode, and what is wrong, if anything is. Then the program gets all words, and refuses them.
-Request = namedtuple("Request", "answer prove unproved timed mode words files fault")
+# gets, the files after the mode, what is wrong, if anything is, and of the mode judge its command and its options with their values.
+# Where something is wrong the program gets all words, and refuses them.
+Request = namedtuple("Request", "answer prove unproved timed mode words files fault command options")
 
 # A part of the command line: its sort, the words that it is, and of an option its name and its value, if it has one.
 Part = namedtuple("Part", "sort words name value")
@@ -79,7 +96,9 @@ def read(arguments: list[str], launcher_name: str, home: str) -> Request:
     kept = ("option", "mode", "end", "file" if fault else "")
     words = [word for part in parts if part.sort in kept for word in part.words]
     answer = _answer_to(parts, mode, launcher_name, home)
-    return Request(answer, *(name in given for name in LAUNCHER), mode, words, files, fault)
+    command = [part.name for part in parts if part.sort == "command"]
+    options = {part.name: part.value for part in parts if part.sort == "option"}
+    return Request(answer, *(name in given for name in LAUNCHER), mode, words, files, fault, command, options)
 
 
 def bad_words_line(request: Request) -> str:
@@ -93,21 +112,22 @@ def files_of(mode: str, options: Iterable[str]) -> tuple[str, ...]:
 
 
 def _parts_of(arguments: list[str]) -> Iterator[Part]:
-    """The arguments, cut as the program cuts them."""
-    words, has_mode, has_ended = list(arguments), False, False
+    """The arguments, cut as the program cuts them. After the word -- the mode judge has its command."""
+    words, mode, has_ended = list(arguments), None, False
     while words:
         word = words.pop(0)
         if has_ended or not _is_option(word):
-            yield Part("file" if has_mode else "mode", [word], word, None)
-            has_mode = True
+            sort = "mode" if mode is None else "command" if has_ended and mode == "judge" else "file"
+            yield Part(sort, [word], word, None)
+            mode = word if mode is None else mode
         elif word == "--":
             yield Part("end", [word], word, None)
             has_ended = True
-        elif word in LAUNCHER and not has_mode:
+        elif word in LAUNCHER and mode is None:
             yield Part("launcher", [word], word, None)
         else:
             name, equals, value = word.partition("=")
-            is_apart = not equals and name in OPTIONS and OPTIONS[name].range and words and not _is_option(words[0])
+            is_apart = not equals and name in OPTIONS and OPTIONS[name].value and words and not _is_option(words[0])
             rest = [words.pop(0)] if is_apart else []
             yield Part("option", [word, *rest], name, rest[0] if rest else value if equals else None)
 
@@ -146,16 +166,18 @@ def _version(home: str) -> str:
 
 
 def _with_value(option: str) -> str:
-    return f"{option} N" if OPTIONS[option].range else option
+    return " ".join(filter(None, (option, OPTIONS[option].value)))
 
 
 def _range(option: str) -> str:
     return "{:,} to {:,}".format(*OPTIONS[option].range)
 
 
-def _usage(name: str) -> str:
+def _usage(name: str, is_short: bool = False) -> str:
     """`run [--step N] [--json] [SCRIPT]`"""
-    return " ".join([name, *(f"[{it}]" for it in (*map(_with_value, MODES[name].options), " ".join(MODES[name].files)) if it)])
+    options = ["OPTION.."] if is_short and len(MODES[name].options) > 2 else map(_with_value, MODES[name].options)
+    files = " ".join(MODES[name].files)
+    return " ".join([name, *(f"[{it}]" for it in options), *filter(None, [files if name == "judge" else files and f"[{files}]"])])
 
 
 def _table(rows: Iterable[tuple[str, str]]) -> str:
@@ -169,12 +191,14 @@ def _help_of(name: str, places: dict[str, str]) -> str:
     """The help of a mode."""
     mode = MODES[name]
     text = f"usage: {places['it']} {_usage(name)}\n\n{name} {mode.says}.\n"
-    if mode.files:
+    if name == "judge":
+        text += JUDGED
+    elif mode.files:
         text += f"Without {' and '.join(mode.files)} it reads standard input"
         text += f", with a line %% between them, and with SCRIPT alone {mode.files[1]} is standard input" if mode.files[1:] else ""
         text += ". The word - is standard input too.\n"
     if mode.options:
-        ranges = {option: f"; N is {_range(option)}" if OPTIONS[option].range else "" for option in mode.options}
+        ranges = {option: f"; {OPTIONS[option].value} is {_range(option)}" if OPTIONS[option].range else "" for option in mode.options}
         text += "\nOptions\n" + _table((_with_value(option), OPTIONS[option].says + ranges[option]) for option in mode.options)
     return text + f"\nExit statuses\n  {mode.statuses}\n  {STATUSES}\n\nExample\n  {mode.example.format(**places)}\n"
 
@@ -186,11 +210,11 @@ def _help(places: dict[str, str]) -> str:
     return f"""usage: {places['it']} {' '.join(f'[{it}]' for it in LAUNCHER)} MODE [OPTION..] [FILE..]
 
 Modes
-{_table((_usage(name), mode.says) for name, mode in MODES.items())}
+{_table((_usage(name, True), mode.says) for name, mode in MODES.items())}
 Words of the launcher, before the mode
 {_table({**LAUNCHER, **others}.items())}
 Exit statuses
-  0 done   1 check, explain, trace: the log is wrong; lint: the script is bad   3 the script is bad
+  0 done   1 check, explain, trace, judge: a log is wrong; lint: the script is bad   3 the script is bad
   {STATUSES}
 
 Examples
@@ -217,14 +241,34 @@ def _faults_of(parts: list[Part], mode: str | None) -> Iterator[str]:
         yield f"a mode is missing: {_any_of(MODES)}"
     elif {"--replies", "--nest"} <= seen:
         yield "--replies and --nest do not go together"
+    elif mode == "judge":
+        yield from _faults_of_judge(parts, named[1:], seen)
     else:
         yield from _faults_of_files(named[1:], mode, files_of(mode, seen))
 
 
-def _any_of(names: Iterable[str]) -> str:
-    """`a, b or c`"""
-    *firsts, last = names
-    return f"{', '.join(firsts)} or {last}"
+def _faults_of_judge(parts: list[Part], scripts: list[str], seen: set[str]) -> Iterator[str]:
+    """What is wrong with the scripts and the command of the mode judge, or with what stands in the command's place."""
+    command = [part.name for part in parts if part.sort == "command"]
+    played = [option for option in ("--runs", "--jobs", "--timeout", "--shrink") if option in seen]
+    for part in parts:
+        if part.name == "--logs" and not os.path.isdir(part.value):
+            yield f"--logs {part.value}: " + ("that is no folder" if os.path.exists(part.value) else "no such folder")
+    if not scripts:
+        yield "a script is missing: judge SCRIPT.. -- COMMAND.."
+    elif "--logs" in seen and command:
+        yield f"--logs stands in place of a command, and one is given: {command[0]}"
+    elif "--logs" in seen and played:
+        yield f"with --logs nothing is run, so there is no {played[0]}"
+    elif "--logs" not in seen and not command:
+        yield "a command is missing: judge SCRIPT.. -- COMMAND.., or --logs DIR in its place"
+    yield from _faults_of_files(scripts, "judge", ("SCRIPT",) * len(scripts))
+
+
+def _any_of(names: Iterable[str], joined_by: str = "or") -> str:
+    """`a, b or c`, or nothing."""
+    names = list(names)
+    return f" {joined_by} ".join(filter(None, [", ".join(names[:-1]), *names[-1:]]))
 
 
 def _fault_of_mode(word: str) -> str:
@@ -236,7 +280,7 @@ def _fault_of_mode(word: str) -> str:
 
 def _taken_by(mode: str) -> str:
     """What options the mode takes."""
-    return f"{mode} takes {' and '.join(map(_with_value, MODES[mode].options)) or 'no options'}"
+    return f"{mode} takes {_any_of(map(_with_value, MODES[mode].options), 'and') or 'no options'}"
 
 
 def _faults_of_option(part: Part, mode: str | None, seen: set[str]) -> Iterator[str]:
@@ -252,6 +296,9 @@ def _faults_of_option(part: Part, mode: str | None, seen: set[str]) -> Iterator[
         yield f"{name} stands twice"
     elif name in OPTIONS and OPTIONS[name].range:
         yield from _faults_of_number(name, value)
+    elif name in OPTIONS and OPTIONS[name].value:
+        if not value:
+            yield f"{name} needs a folder"
     elif value is not None:
         yield f"{name} takes no value"
 
