@@ -20,11 +20,11 @@ use Rattle.hist_model.proofs.Laws.OneThing.{legal_does_one_thing}
 use Rattle.hist_model.proofs.Laws.Own.{holding_own}
 use Rattle.env_core.specs.Jobs.{held_by}
 use Rattle.env_core.specs.Views.{EnvView}
-use Rattle.seat_hand.specs.Hands.{AreInHand, IsInHand}
-use Rattle.seat_hand.specs.declared.hand.Hand.{Hand}
-use Rattle.seat_hand.specs.declared.hand.Hand.TheVariants.{Free, Item, Task}
-use Rattle.seat_hand.proofs.Free.{free_hand}
-use Rattle.seat_hand.proofs.UnderWay.{runs_it}
+use Rattle.env_step.specs.Hands.{AreInHand, IsInHand}
+use Rattle.env_step.specs.declared.hand.Hand.{Hand}
+use Rattle.env_step.specs.declared.hand.Hand.TheVariants.{Free, Item, Task}
+use Rattle.env_step.proofs.Free.{free_hand}
+use Rattle.env_step.proofs.UnderWay.{runs_it}
 use Rattle.next_entry.specs.declared.cause.Busy.{Busy}
 use Rattle.next_entry.specs.declared.cause.Work.{Work}
 use Rattle.next_entry.specs.declared.cause.Work.TheVariants as works

@@ -17,11 +17,14 @@ use Rattle.hist_model.specs.Allowed.{IsAllowed}
 use Rattle.hist_model.specs.Legal.{IsIllegalAt, IsLegal, first_illegal}
 use Rattle.hist_model.specs.Script.{IsWhole, is_finished, is_whole}
 use Rattle.hist_model.proofs.Laws.Legal.{first_illegal_none, first_illegal_some}
+use Rattle.hist_model.proofs.Laws.Own.{holding_own}
+use Rattle.env_core.specs.Jobs.{held_by}
 use Rattle.env_core.specs.Views.{EnvView}
-use Rattle.seat_hand.specs.Hands.{AreInHand, IsInHand, is_empty}
-use Rattle.seat_hand.specs.declared.hand.Hand.{Hand}
-use Rattle.seat_hand.specs.declared.hand.Hand.TheVariants.{Free}
-use Rattle.seat_hand.proofs.Free.{free_hand}
+use Rattle.env_step.specs.Hands.{AreInHand, IsInHand, is_empty}
+use Rattle.env_step.specs.declared.hand.Hand.{Hand}
+use Rattle.env_step.specs.declared.hand.Hand.TheVariants.{Free, Item, Task}
+use Rattle.env_step.proofs.Free.{free_hand}
+use Rattle.env_step.proofs.UnderWay.{runs_it}
 use Rattle.next_entry.specs.Causes.{Explains, MayFollow, named_by}
 use Rattle.next_entry.specs.declared.cause.Cause.{Cause}
 use Rattle.next_entry.specs.declared.cause.Cause.TheVariants as causes
@@ -31,7 +34,7 @@ use Rattle.env_check.specs.Verdicts.{verdict_at, verdict_of}
 use Rattle.env_check.specs.declared.verdict.Verdict.TheVariants.{Illegal, Legal}
 use Rattle.env_check.proofs.Verdicts.{legal_answer}
 use Rattle.log_replay.proofs.Whole.{whole_told}
-use Rattle.env_explain.specs.Explained.{HasInHand, HasMore, IsExplained, NamesAllowed, verdict_told}
+use Rattle.env_explain.specs.Explained.{HasInHand, HasMore, IsExplained, NamesAllowed, goes_on, verdict_told, work_in}
 
 -- Where a log goes wrong.
 
@@ -104,6 +107,14 @@ legal_told script log told is =
 pub free_driver : (view : EnvView) (seat : ℕ) → IsInHand view seat Free → (1 ≤ seat → is_free view.history seat ≡ false) → seat ≡ 0
 free_driver view zero in_hand busy = refl
 free_driver view (suc n) in_hand busy = absurd (true≢false (free_hand view (suc n) Free in_hand ∙ busy (omega arith)))
+
+-- a seat goes on by an entry that may come of it, from what it has in hand
+pub went_on : (view : EnvView) (seat : ℕ) (hand : Hand) (next : Kind) (kind : Option Kind) → IsInHand view seat hand
+    → (1 ≤ seat → is_free view.history seat ≡ false) → MayFollow view.script view.history seat next
+    → Explains (goes_on (work_in hand) next) view.script view.history seat kind
+went_on view seat Free next kind in_hand busy may = (free_driver view seat in_hand busy, sym (free_hand view seat Free in_hand), may)
+went_on view seat (Task at) next kind in_hand busy may = ((in_hand.seats.now, runs_it in_hand, sym in_hand.seats.task_is), may)
+went_on view seat (Item pass) next kind in_hand busy may = ((held_by pass, sym (holding_own view.history seat) ∙ in_hand.holds, refl), may)
 
 -- What is left at the end of a log.
 

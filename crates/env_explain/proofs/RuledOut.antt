@@ -1,28 +1,23 @@
 -- What a cause rules out may not come where the cause holds.
 -- Cited by `explain_log`.
-use Rattle.std.proofs.Common.{◌≡◌, ℕ, ◌≤◌, true, false, leb, List, refl, sym, subst, ◌∙◌, Option, Some, None, inl, inr, ⊎_elim, arith}
-use Rattle.std.proofs.lemmas.Bool.{and_parts, both_ways, false_from_ne_true, leb-true, ne_eqb, true≢false}
-use Rattle.std.proofs.lemmas.Option.{none-some, same_Some}
-use Rattle.std.specs.Prelude.{◌==◌, ◌⊎◌, take}
+use Rattle.std.proofs.Common.{◌≡◌, ℕ, ◌≤◌, true, false, leb, List, refl, sym, subst, ◌∙◌, Option, Some, None, arith}
+use Rattle.std.proofs.lemmas.Bool.{and_parts, false_from_ne_true, leb-true, ne_eqb, true≢false}
+use Rattle.std.proofs.lemmas.Option.{same_Some}
+use Rattle.std.specs.Prelude.{◌==◌, take}
 use Rattle.task_base.specs.Entries.{entry_by}
 use Rattle.task_base.specs.Plan.{Plan}
 use Rattle.task_base.specs.declared.entry.Entry.{Entry}
 use Rattle.task_base.specs.declared.entry.Kind.{Kind}
 use Rattle.task_base.specs.declared.entry.Kind.TheVariants as kinds
-use Rattle.task_base.specs.declared.script.Action.{Action}
 use Rattle.task_model.specs.Seats.{is_free}
 use Rattle.pool_laws.proofs.Room.Capacity.{free_parts}
 use Rattle.hist_model.specs.Allowed.{IsAllowed, by_script, by_task, may_come}
 use Rattle.hist_model.specs.Open.{IsClosed}
-use Rattle.hist_model.specs.Script.{current, is_finished}
-use Rattle.hist_model.specs.Views.{own_entries}
-use Rattle.hist_model.proofs.Laws.JobEntries.{none_is}
-use Rattle.hist_model.proofs.Laws.OneThing.{wanted_by}
-use Rattle.hist_model.proofs.Laws.Open.{closed_enters, closed_finished, closed_leaves, closed_main, closed_post}
-use Rattle.hist_model.proofs.Laws.Progress.Coming.{comes_by}
-use Rattle.hist_model.proofs.Laws.Takes.{IsReadyWorker, by_driver}
-use Rattle.env_core.proofs.Waiting.{driver_enters_nothing, worker_enters_nothing}
-use Rattle.next_entry.specs.Causes.{Explains, WaitsAt, is_drivers, is_of_work, rules_out}
+use Rattle.hist_model.proofs.Laws.Open.{closed_enters, closed_leaves, closed_main, closed_post}
+use Rattle.hist_model.proofs.Laws.Takes.{by_driver}
+use Rattle.env_step.specs.declared.wait.Wait.TheVariants as waits
+use Rattle.env_step.proofs.Nothing.{nothing_comes}
+use Rattle.next_entry.specs.Causes.{Explains, is_drivers, is_of_work, rules_out}
 use Rattle.next_entry.specs.declared.cause.Cause.{Cause}
 use Rattle.next_entry.specs.declared.cause.Cause.TheVariants as causes
 use Rattle.next_entry.specs.declared.cause.Explanation.{Explanation}
@@ -71,20 +66,6 @@ module _ (script : Plan) (past : List Entry) (seat : ℕ) (closed : IsClosed scr
   wants_no_worker : (kind : Kind) → 1 ≤ seat → by_script script past seat kind ≡ false
   wants_no_worker kind worker = false_from_ne_true (by_script script past seat kind) (λ by. omega (arith, worker, by_driver script past seat kind by))
 
-  -- where the script is finished, nothing comes of a seat that is free
-  finished_only : (kind : Kind) → is_free past seat ≡ true → is_finished script past ≡ true → may_come script past seat kind ≡ true → ⊥
-  finished_only kind free finished may = by_comes (comes_by script past seat kind closed may
-      (λ w runs. none-some w (sym (free_parts past seat free).0 ∙ runs)) (λ h holds. none-some h (sym (free_parts past seat free).1 ∙ holds)))
-    where
-      by_comes : (by_script script past seat kind ≡ true) ⊎ IsReadyWorker script past seat → ⊥
-      by_comes (inl wanted) = let c = wanted_by script past seat kind closed wanted in
-          none-some c.value (sym (none_is (current script (own_entries 0 past)) (sym (closed_finished script past closed) ∙ finished)) ∙ c.is)
-      by_comes (inr worker) = both_ways (is_finished script past) worker.goes_on finished
-
-  -- where the driver waits, nothing comes of it
-  waiting_only : {action : Action} (kind : Kind) → WaitsAt script past seat action → may_come script past seat kind ≡ false
-  waiting_only kind w = subst (λ s. may_come script past s kind ≡ false) (sym w.at.driver) (driver_enters_nothing script past closed kind w.at.free w.waits)
-
   module _ (kind : Option Kind) (other : Kind) where
     -- what a cause rules out may not come where it holds
     pub ruled_out : (cause : Cause) → Explains cause script past seat kind → rules_out cause other ≡ true → ¬ IsAllowed script past (entry_by seat other)
@@ -101,11 +82,11 @@ module _ (script : Plan) (past : List Entry) (seat : ℕ) (closed : IsClosed scr
         by_cause causes.OnlyDriver h is =
             not_this (drivers_only other (wants_no_worker other h.0) (ne_eqb seat 0 (λ zero. omega (arith, h.0, zero))) is)
         by_cause causes.RunsNothing h is = not_this (busy_only other (wants_no_worker other h.0.0) h.0.1 is)
-        by_cause (causes.NoSource bar) h is = not_this (worker_enters_nothing script past closed seat other h.0.0 h.0.1 h.2)
-        by_cause causes.Finished h is = finished_only other h.0 h.1 parts.1
-        by_cause (causes.NotIdle running ready) h is = not_this (waiting_only other h.0)
-        by_cause (causes.Inside job seats) h is = ⊎_elim (λ w. not_this (waiting_only other w)) (λ w. not_this (waiting_only other w)) h.0
-        by_cause (causes.Blocked count) h is = not_this (waiting_only other h.0)
+        by_cause (causes.NoSource bar) h is = not_this (nothing_comes script past seat closed waits.NoSource h.0 other)
+        by_cause causes.Finished h is = not_this (nothing_comes script past seat closed waits.Over h other)
+        by_cause (causes.NotIdle running ready) h is = not_this (nothing_comes script past seat closed (waits.NotIdle running ready) h other)
+        by_cause (causes.Inside job seats) h is = not_this (nothing_comes script past seat closed (waits.Inside job seats) h other)
+        by_cause (causes.Blocked count) h is = not_this (nothing_comes script past seat closed (waits.Blocked count) h other)
         by_cause c h is = absurd (true≢false (sym is))
 
 -- so with what is said of a log

@@ -9,11 +9,13 @@ use Rattle.task_base.specs.Entries.{entry_by}
 use Rattle.task_model.specs.Seats.{Holding, Running, all_seats, holding, is_free, running}
 use Rattle.hist_model.specs.Allowed.{IsAllowed}
 use Rattle.hist_model.specs.Script.{is_finished}
-use Rattle.seat_hand.specs.Hands.{is_empty}
-use Rattle.seat_hand.specs.declared.hand.Hand.{Hand}
-use Rattle.seat_hand.specs.declared.hand.Hand.TheVariants.{Free, Task, Item}
+use Rattle.env_step.specs.Hands.{is_empty}
+use Rattle.env_step.specs.declared.hand.Hand.{Hand}
+use Rattle.env_step.specs.declared.hand.Hand.TheVariants.{Free, Task, Item}
 use Rattle.next_entry.specs.Causes.{Explains, named_by, rules_out}
 use Rattle.next_entry.specs.declared.cause.Busy.{Busy}
+use Rattle.next_entry.specs.declared.cause.Cause.{Cause}
+use Rattle.next_entry.specs.declared.cause.Cause.TheVariants as causes
 use Rattle.next_entry.specs.declared.cause.Explanation.{Explanation}
 use Rattle.next_entry.specs.declared.cause.Explanation.TheVariants as explanations
 use Rattle.next_entry.specs.declared.cause.Work.{Work}
@@ -91,3 +93,9 @@ busy_at hands seat = option_map (λ work. record { seat = seat; work = work }) (
 -- the seats below a number that have something in hand
 abbrev pub busy_below : List Hand → ℕ → List Busy
 busy_below hands n = filter_map (busy_at hands) (range_with_len 0 n)
+
+-- a seat that runs or holds this goes on by this entry, which the script wants where it does neither
+abbrev pub goes_on : Option Work → Kind → Cause
+goes_on None next = causes.Wants next
+goes_on (Some (works.Task task)) next = causes.Runs task next
+goes_on (Some (works.Item job)) next = causes.Holds job next

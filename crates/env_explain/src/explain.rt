@@ -1,21 +1,21 @@
-ghost use Rattle.std.specs.Prelude.{◌≡◌, ◌<◌, ◌≤◌, ◌^◌, Option, Some, None, IfOk, IfSome, false, length, true};
+ghost use Rattle.std.specs.Prelude.{◌≡◌, ◌≢◌, ◌<◌, ◌≤◌, ◌^◌, ℕ, List, Option, Some, None, IfOk, IfSome, false, length, true};
 ghost use Rattle.std.specs.List.{list_all};
 ghost use Rattle.script_model.specs.Laws.Sound.{IsSound};
+ghost use Rattle.task_base.specs.Plan.{Plan};
+ghost use Rattle.task_base.specs.declared.entry.Entry.{Entry as AnyEntry};
 ghost use Rattle.task_base.specs.declared.entry.Kind.{Kind as AnyKind};
 ghost use Rattle.task_model.specs.Seats.{is_free};
 ghost use Rattle.hist_model.specs.Script.{is_whole};
-ghost use Rattle.seat_hand.specs.Entries.{takes_source};
-ghost use Rattle.seat_hand.specs.Hands.{AreInHand, is_empty};
-ghost use Rattle.next_entry.specs.Causes.{Explains, is_of_work};
+ghost use Rattle.env_step.specs.Hands.{AreInHand, is_empty};
+ghost use Rattle.env_step.specs.Steps.{WaitsFor};
+ghost use Rattle.next_entry.specs.Causes.{Explains, is_of_work, takes_source};
 ghost use Rattle.env_check.specs.declared.verdict.Verdict.{Verdict};
-ghost use Rattle.env_explain.specs.Explained.{HasInHand, HasMore, IsExplained, busy_below, verdict_told, work_in};
+ghost use Rattle.env_explain.specs.Explained.{HasInHand, HasMore, IsExplained, busy_below, goes_on, verdict_told, work_in};
 
 use env_core::Env;
-use log_replay::{Replay, discard};
-use next_entry::{
-    Busy, Cause, Explanation, Work, next_of_driver, next_of_item, next_of_task, next_of_worker,
-};
-use seat_hand::{Hand, take_hand};
+use env_step::{Hand, Hands, Wait};
+use log_replay::{Replay, discard, reading_of};
+use next_entry::{Busy, Cause, Explanation, Work, next_of_worker};
 use std::alloc::{AllocError, Global};
 use task_base::{Entry, Kind, Place, Script, SeatNo};
 use task_body::ScriptBody;
@@ -68,7 +68,7 @@ fn choice(replay: Replay, script: &Script, past: &[Entry], entry: &Entry) -> Cau
     ensures { Explains result replay.script replay.history entry.now.seat (Some entry.now.kind) }
 {
     let (mut env, hands) = replay.into_parts();
-    let cause = next_of_worker(&mut env, &hands, script, past, entry);
+    let cause = next_of_worker(&mut env, hands.as_slice(), script, past, entry);
     discard(env, hands);
     cause
 }
@@ -121,7 +121,7 @@ pub fn explain_end(
 /// What is left to be done at the end of a log that led to this environment, with this in the seats' hands.
 fn end_told(
     env: &mut Env<ScriptBody>,
-    hands: &mut Vec<Hand>,
+    hands: &mut Hands,
     alloc: Global,
     script: &Script,
     place: Place,
@@ -130,11 +130,11 @@ fn end_told(
     requires script { script.now ≡ env.old.script }
     requires place { place ≡ length env.old.history }
     requires more { is_whole env.old.script env.old.history ≡ false }
-    requires hands { AreInHand env.old hands.old.items }
+    requires hands { AreInHand env.old hands.old }
     ensures verdict { IfOk result (λ told. verdict_told told ≡ Verdict.Illegal place) }
     ensures cause { IfOk result (λ told. IsExplained env.old.script env.old.history told) }
 {
-    let busy = busy_seats(alloc, hands, script.workers + 1)?;
+    let busy = busy_seats(alloc, hands.as_slice(), script.workers + 1)?;
     if busy.len() > 1 && env.is_finished() {
         return Ok(Explanation::AtWork { place, busy });
     }
@@ -144,16 +144,16 @@ fn end_told(
 
 /// What is left to be done where the log ends, and of which seat: the first one that runs or holds something, or else the
 /// driver.
-fn left(env: &mut Env<ScriptBody>, hands: &mut Vec<Hand>, script: &Script) -> (SeatNo, Cause)
+fn left(env: &mut Env<ScriptBody>, hands: &mut Hands, script: &Script) -> (SeatNo, Cause)
     requires plan { IsSound env.old.script }
     requires script { script.now ≡ env.old.script }
     requires more { is_whole env.old.script env.old.history ≡ false }
-    requires hands { AreInHand env.old hands.old.items }
+    requires hands { AreInHand env.old hands.old }
     ensures known { result.0 ≤ env.old.script.workers }
     ensures more { HasMore env.old.script env.old.history result.0 }
     ensures cause { Explains result.1 env.old.script env.old.history result.0 None }
 {
-    match first_busy(hands) {
+    match first_busy(hands.as_slice()) {
         None => (0, next_of_seat(env, hands, script, 0, 0)),
         Some(seat) => {
             let seat = seat as SeatNo;
@@ -165,7 +165,7 @@ fn left(env: &mut Env<ScriptBody>, hands: &mut Vec<Hand>, script: &Script) -> (S
 /// What a seat does next by what it has in hand, or why it may do nothing.
 fn next_of_seat(
     env: &mut Env<ScriptBody>,
-    hands: &mut Vec<Hand>,
+    hands: &mut Hands,
     script: &Script,
     seat: SeatNo,
     reading: u64,
@@ -173,13 +173,38 @@ fn next_of_seat(
     requires script { script.now ≡ env.old.script }
     requires known { seat ≤ env.old.script.workers }
     requires busy { 1 ≤ seat → is_free env.old.history seat ≡ false }
-    requires hands { AreInHand env.old hands.old.items }
+    requires hands { AreInHand env.old hands.old }
     ensures { (kind : Option AnyKind) → Explains result env.old.script env.old.history seat kind }
 {
-    match take_hand(hands, seat) {
-        Hand::Task(at) => next_of_task(env, seat, at),
-        Hand::Item(pass) => next_of_item(env, script, seat, pass),
-        Hand::Free => next_of_driver(env, reading),
+    let work = work_in(hands.at(seat));
+    match hands.step(env, script, seat, reading) {
+        Ok(next) => goes_on(work, next),
+        Err(wait) => waits_for(wait),
+    }
+}
+
+/// That a seat goes on by this entry, which runs or holds this.
+fn goes_on(work: Option<Work>, next: Kind) -> Cause
+    ensures { result ≡ goes_on work next }
+{
+    match work {
+        None => Cause::Wants { next },
+        Some(Work::Task { task }) => Cause::Runs { task, next },
+        Some(Work::Item { job }) => Cause::Holds { job, next },
+    }
+}
+
+/// That a seat waits for this, which is no worker that is free.
+fn waits_for(wait: Wait) -> Cause
+    requires { wait ≢ Wait.NoSource }
+    ensures { (script : Plan) (past : List AnyEntry) (seat : ℕ) (kind : Option AnyKind) → WaitsFor wait script past seat → Explains result script past seat kind }
+{
+    match wait {
+        Wait::Over => Cause::Finished,
+        Wait::NoSource => unreachable!(),
+        Wait::NotIdle { running, ready } => Cause::NotIdle { running, ready },
+        Wait::Inside { job, seats } => Cause::Inside { job, seats },
+        Wait::Blocked { count } => Cause::Blocked { count },
     }
 }
 
@@ -224,14 +249,6 @@ fn first_busy(hands: &[Hand]) -> Option<usize>
         seat += 1;
     }
     None
-}
-
-/// The moment of a tick, or else 0.
-fn reading_of(kind: &Kind) -> u64 {
-    match *kind {
-        Kind::Tick { now } => now,
-        _ => 0,
-    }
 }
 
 /// Whether a task makes the entry, or a job.

@@ -1,11 +1,3 @@
-pub mod Ends
 pub mod Fresh
 pub mod Judged
-pub mod Passes
-pub mod Posts
-pub mod Replies
-pub mod Scripted
-pub mod Takes
-pub mod Waited
 pub mod Whole
-pub mod Wishes

@@ -17,10 +17,10 @@ use Rattle.std.specs.List.{list_all, range_with_len}
 use Rattle.std.specs.Option.{option_map}
 use Rattle.task_model.specs.Seats.{holding, is_free, is_quiet, running}
 use Rattle.env_core.specs.Views.{EnvView}
-use Rattle.seat_hand.specs.Hands.{AreInHand, IsInHand, is_empty}
-use Rattle.seat_hand.specs.declared.hand.Hand.{Hand}
-use Rattle.seat_hand.specs.declared.hand.Hand.TheVariants.{Free}
-use Rattle.seat_hand.proofs.Free.{free_hand}
+use Rattle.env_step.specs.Hands.{AreInHand, IsInHand, is_empty}
+use Rattle.env_step.specs.declared.hand.Hand.{Hand}
+use Rattle.env_step.specs.declared.hand.Hand.TheVariants.{Free}
+use Rattle.env_step.proofs.Free.{free_hand}
 
 -- a test of each of some elements, which are told by their places, is a test of the places
 all_at : {A : Type 0} (p : A → Bool) (q : ℕ → Bool) (xs : List A) (start : ℕ) → ((i : ℕ) (x : A) → slice_get xs i ≡ Some x → p x ≡ q (start + i))

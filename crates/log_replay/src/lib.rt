@@ -1,14 +1,10 @@
-//! A log that is followed entry by entry in an environment of its own, which makes the event of each entry: where that
-//! can't be made, or makes another entry, the log's was not allowed.
+//! A log that is followed entry by entry in an environment of its own: the seat of each entry does its step there, and where that
+//! makes another entry, or none, the log's was not allowed.
 #![tactic(auto)]
 
-mod act;
-mod asks;
-mod driver;
 mod follow;
-mod items;
+mod kinds;
 mod replay;
-mod tasks;
-mod waits;
 
+pub use follow::reading_of;
 pub use replay::{Replay, discard};

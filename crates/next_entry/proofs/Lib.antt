@@ -1,4 +1,2 @@
 pub mod Bars
-pub mod Causes
 pub mod Ranks
-pub mod Waits

@@ -9,11 +9,11 @@ use Rattle.pool_laws.proofs.Room.Capacity.{free_parts}
 use Rattle.hist_model.proofs.Laws.OneThing.{legal_does_one_thing}
 use Rattle.hist_model.proofs.Laws.Own.{holding_own}
 use Rattle.env_core.specs.Views.{EnvView}
-use Rattle.seat_hand.specs.Hands.{AreInHand, IsInHand}
-use Rattle.seat_hand.specs.declared.hand.Hand.{Hand}
-use Rattle.seat_hand.specs.declared.hand.Hand.TheVariants.{Free, Item, Task}
-use Rattle.seat_hand.proofs.Free.{free_hand}
-use Rattle.seat_hand.proofs.UnderWay.{runs_it}
+use Rattle.env_step.specs.Hands.{AreInHand, IsInHand}
+use Rattle.env_step.specs.declared.hand.Hand.{Hand}
+use Rattle.env_step.specs.declared.hand.Hand.TheVariants.{Free, Item, Task}
+use Rattle.env_step.proofs.Free.{free_hand}
+use Rattle.env_step.proofs.UnderWay.{runs_it}
 use Rattle.next_entry.specs.Ranks.{is_item_of}
 
 -- so many of some elements, which are told by their places, pass a test as places pass it

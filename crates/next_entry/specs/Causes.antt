@@ -1,24 +1,16 @@
 -- Why an entry of a seat may not come, or what a seat has left to do.
-use Rattle.std.specs.Prelude.{◌≡◌, ◌⊎◌, ℕ, ◌<◌, ◌≤◌, Bool, true, false, not, ◌||◌, List, length, Option, Some, None}
+use Rattle.std.specs.Prelude.{◌≡◌, ℕ, ◌<◌, ◌≤◌, Bool, true, false, not, ◌||◌, List, Option, Some, None}
 use Rattle.std.specs.Option.{option_map}
 use Rattle.list_laws.specs.Lists.{holds_of}
 use Rattle.task_base.specs.Plan.{Plan}
 use Rattle.task_base.specs.declared.entry.Entry.{Entry}
 use Rattle.task_base.specs.declared.entry.Kind.{Kind}
 use Rattle.task_base.specs.declared.entry.Kind.TheVariants as kinds
-use Rattle.task_base.specs.declared.script.Action.{Action}
-use Rattle.task_base.specs.declared.script.Action.TheVariants as actions
 use Rattle.task_base.specs.Entries.{entry_by}
-use Rattle.task_model.specs.Blockers.{blockers_of}
-use Rattle.task_model.specs.Seats.{Holding, Running, holding, inside, is_free, running}
-use Rattle.task_model.specs.Sources.{best_of}
+use Rattle.task_model.specs.Seats.{Holding, Running, holding, is_free, running}
 use Rattle.hist_model.specs.Allowed.{IsAllowed}
-use Rattle.hist_model.specs.Open.{IsClosed}
-use Rattle.hist_model.specs.Script.{Current, current, is_finished}
-use Rattle.hist_model.specs.Views.{own_entries}
-use Rattle.pool_core.specs.Calls.{running_tasks, is_any_ready}
-use Rattle.env_core.specs.Waits.{may_go_on}
-use Rattle.seat_hand.specs.Entries.{takes_source}
+use Rattle.env_step.specs.Steps.{IsFreeWorkers, WaitsFor}
+use Rattle.env_step.specs.declared.wait.Wait.TheVariants as waits
 use Rattle.next_entry.specs.Bars.{bar_of, is_room_for}
 use Rattle.next_entry.specs.Ranks.{edge_of}
 use Rattle.next_entry.specs.declared.cause.Bar.{Bar}
@@ -36,6 +28,12 @@ is_of_work (kinds.Leave task) = true
 is_of_work (kinds.JobStep job id item value next) = true
 is_of_work kind = false
 
+-- the entry takes a source of the pool
+abbrev pub takes_source : Kind → Bool
+takes_source (kinds.Take task runner found) = true
+takes_source (kinds.JobTake job id item) = true
+takes_source kind = false
+
 -- the driver alone makes the entry
 abbrev pub is_drivers : Kind → Bool
 is_drivers kind = not (is_of_work kind || takes_source kind)
@@ -51,22 +49,6 @@ RunsTask past seat task = (w : Running) × (running past seat ≡ Some w) × (w.
 -- the seat holds an item of this job
 abbrev pub HoldsItem : List Entry → ℕ → ℕ → Type 0
 HoldsItem past seat job = (h : Holding) × (holding past seat ≡ Some h) × (h.job ≡ job)
-
--- the seat is a worker's, which runs no task and holds no item
-abbrev pub IsFreeWorkers : List Entry → ℕ → Type 0
-IsFreeWorkers past seat = (1 ≤ seat) × (is_free past seat ≡ true)
-
--- the plan is closed; the seat is the driver's, which runs no task and holds no item and is at this action of the script
-pub record IsAtAction (script : Plan) (past : List Entry) (seat : ℕ) (action : Action) : Type 0 where
-  pub closed : IsClosed script
-  pub driver : seat ≡ 0
-  pub free : is_free past 0 ≡ true
-  pub action_is : option_map (λ (c : Current). c.action) (current script (own_entries 0 past)) ≡ Some action
-
--- the driver waits at this action: what the action waits for has not come
-pub record WaitsAt (script : Plan) (past : List Entry) (seat : ℕ) (action : Action) : Type 0 where
-  pub at : IsAtAction script past seat action
-  pub waits : may_go_on script past ≡ false
 
 -- this is against the take of the source that the entry takes; where it is the limits, they leave no room for it
 pub record IsBarred (script : Plan) (past : List Entry) (seat : ℕ) (kind : Option Kind) (bar : Bar) : Type 0 where
@@ -84,17 +66,11 @@ Explains (causes.Wants next) script past seat kind = (seat ≡ 0) × (is_free pa
 Explains (causes.Best next edge) script past seat kind =
     IsFreeWorkers past seat × (takes_source next ≡ true) × MayFollow script past seat next
     × (option_map (edge_of script past next) kind ≡ Some edge)
-Explains (causes.NoSource bar) script past seat kind =
-    IsFreeWorkers past seat × (is_finished script past ≡ false) × (best_of script past seat ≡ None) × IsBarred script past seat kind bar
-Explains causes.Finished script past seat kind = (is_free past seat ≡ true) × (is_finished script past ≡ true)
-Explains (causes.NotIdle running ready) script past seat kind =
-    WaitsAt script past seat actions.Flush × (running ≡ running_tasks script past) × (ready ≡ is_any_ready script past)
-    × ((1 ≤ running) ⊎ (ready ≡ true))
-Explains (causes.Inside job seats) script past seat kind =
-    (WaitsAt script past seat (actions.Cancel job) ⊎ WaitsAt script past seat (actions.Join job))
-    × (seats ≡ length (inside script past job)) × (1 ≤ seats)
-Explains (causes.Blocked count) script past seat kind =
-    WaitsAt script past seat actions.Shutdown × (count ≡ blockers_of script past) × (1 ≤ count)
+Explains (causes.NoSource bar) script past seat kind = WaitsFor waits.NoSource script past seat × IsBarred script past seat kind bar
+Explains causes.Finished script past seat kind = WaitsFor waits.Over script past seat
+Explains (causes.NotIdle running ready) script past seat kind = WaitsFor (waits.NotIdle running ready) script past seat
+Explains (causes.Inside job seats) script past seat kind = WaitsFor (waits.Inside job seats) script past seat
+Explains (causes.Blocked count) script past seat kind = WaitsFor (waits.Blocked count) script past seat
 
 -- the entry that a cause names
 abbrev pub named_by : Cause → Option Kind

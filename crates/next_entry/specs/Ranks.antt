@@ -16,8 +16,8 @@ use Rattle.task_model.specs.Keys.{key_at, key_of}
 use Rattle.task_model.specs.Posts.{Posted}
 use Rattle.pool_laws.specs.Posts.{post_of}
 use Rattle.task_model.specs.Seats.{inside}
-use Rattle.seat_hand.specs.declared.hand.Hand.{Hand}
-use Rattle.seat_hand.specs.declared.hand.Hand.TheVariants as hands
+use Rattle.env_step.specs.declared.hand.Hand.{Hand}
+use Rattle.env_step.specs.declared.hand.Hand.TheVariants as hands
 use Rattle.next_entry.specs.declared.cause.Edge.{Edge}
 use Rattle.next_entry.specs.declared.cause.Edge.TheVariants as edges
 use Rattle.next_entry.specs.declared.rank.Rank.{Rank}

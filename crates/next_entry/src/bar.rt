@@ -3,17 +3,17 @@ ghost use Rattle.script_model.specs.Laws.Sound.{IsSound};
 ghost use Rattle.task_base.specs.Runners.{sequence_of};
 ghost use Rattle.task_model.specs.Seats.{runs_sequence};
 ghost use Rattle.past_lookup.specs.Posts.{posted};
-ghost use Rattle.seat_hand.specs.Hands.{AreInHand};
+ghost use Rattle.env_step.specs.Hands.{AreInHand};
 ghost use Rattle.next_entry.specs.Bars.{bar_of, has_place, job_bar, posted_bar, task_bar};
 
 use crate::cause::Bar;
 use crate::rank::seats_inside;
 use env_core::Env;
+use env_step::Hand;
 use past_lookup::{
     Post, concurrency, has_unclaimed, is_cancelled, is_forbidden, is_held, is_job_accepted,
     is_job_forbidden, is_others, is_taken, job_priority, key_of, post_of, priority_of,
 };
-use seat_hand::Hand;
 use task_base::{Entry, JobId, Kind, RunnerId, Script, SeatNo, TaskId};
 use task_body::ScriptBody;
 

@@ -2,12 +2,12 @@ ghost use Rattle.std.specs.Prelude.{◌≡◌, ◌<◌, ◌^◌, length};
 ghost use Rattle.list_laws.specs.Lists.{count};
 ghost use Rattle.task_model.specs.Seats.{inside};
 ghost use Rattle.env_core.specs.Views.{EnvView};
-ghost use Rattle.seat_hand.specs.Hands.{AreInHand};
+ghost use Rattle.env_step.specs.Hands.{AreInHand};
 ghost use Rattle.next_entry.specs.Ranks.{edge_between, edge_of, edge_over, is_item_of, is_same_source, job_rank, rank_of, task_rank};
 
 use crate::cause::Edge;
+use env_step::Hand;
 use past_lookup::{is_parallel, job_post_of, job_priority, key_at, key_of, post_of, priority_of};
-use seat_hand::Hand;
 use task_base::{Entry, JobId, Key, Kind, Priority, RunnerId, Script, TaskId};
 
 /// By what a source is compared with others that wait.

@@ -11,7 +11,7 @@ pub returns-then-is_finished-clause-cause : goal.returns-then-is_finished-clause
 returns-then-is_finished-clause-cause c = (
   c.requires.place,
   sym c.is_finished.ensures ∙ c.if-is_finished.true,
-  (rw (c.deref.ensures.value, ap (λ (p : Plan). p.workers) (c.script.view_is ∙ c.requires.script)) at c.in_ok-busy.ensures)
+  (rw (c.as_slice.ensures, ap (λ (p : Plan). p.workers) (c.script.view_is ∙ c.requires.script)) at c.in_ok-busy.ensures)
       ∙ at_work_told c.requires.hands,
   omega (arith, c.len.ensures, c.if-len-gt1.true, c.in_ok-busy.busy.ok.0),
 )
@@ -21,7 +21,7 @@ returns-clause-cause c =
     let script = c.args.env.now.script in
     let past = c.args.env.now.history in
     let all : c.in_ok-busy.busy.items ≡ at_work script past =
-    (rw (c.deref.ensures.value, ap (λ (p : Plan). p.workers) (c.script.view_is ∙ c.requires.script)) at c.in_ok-busy.ensures)
+    (rw (c.as_slice.ensures, ap (λ (p : Plan). p.workers) (c.script.view_is ∙ c.requires.script)) at c.in_ok-busy.ensures)
     ∙ at_work_told c.requires.hands in
     let few : is_finished script past ≡ true → length (at_work script past) ≤ 1 = λ finished. elim c.else-len-gt1.branch [
       | else-len-gt1-via-then-len-gt1+else-is_finished w ↦

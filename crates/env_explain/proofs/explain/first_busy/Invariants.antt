@@ -1,6 +1,6 @@
 use Rattle.std.proofs.Common.{◌≡◌, take, true}
 use Rattle.std.specs.List.{list_all}
-use Rattle.seat_hand.specs.Hands.{is_empty}
+use Rattle.env_step.specs.Hands.{is_empty}
 use Rattle.env_explain.proofs.explain.first_busy.Given as goal
 
 abbrev pub invariant-loop-hand : goal.invariant-loop-hand

@@ -35,9 +35,7 @@ returns-in-Over c = (c.requires.free, c.in-Over.ensures.finished)
 
 pub returns-in-Nothing : goal.returns-in-Nothing
 returns-in-Nothing c = (
-  (c.requires.worker.worker, c.requires.free),
-  c.in-Nothing.ensures.unfinished,
-  c.in-Nothing.ensures.none,
+  ((c.requires.worker.worker, c.requires.free), c.in-Nothing.ensures.unfinished, c.in-Nothing.ensures.none),
   barred c.args.env.now.script c.args.env.now.history c.requires.plan c.requires.hands.legal c.args.entry.now.seat c.in-Nothing.ensures.none
       c.args.entry.now.kind c.bar_of.result (rw c.in-Nothing.ensures.kept at c.bar_of.ensures),
 )
