@@ -1,0 +1,13 @@
+pub mod Asks
+pub mod AtStart
+pub mod Calling
+pub mod Entered
+pub mod Fitting
+pub mod JobAnswers
+pub mod Kept
+pub mod Made
+pub mod May
+pub mod Moved
+pub mod Quiet
+pub mod Serving
+pub mod Works

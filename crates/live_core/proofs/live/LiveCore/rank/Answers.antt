@@ -1,0 +1,19 @@
+use Rattle.live_core.proofs.Asks.{can_rank}
+use Rattle.live_core.proofs.May.{plain_may}
+use Rattle.live_core.proofs.Moved.{main_moved}
+use Rattle.live_core.proofs.Serving.{served}
+use Rattle.std.proofs.Common.{refl}
+use Rattle.std.proofs.lemmas.Bool.{and_parts}
+use Rattle.task_base.specs.declared.entry.Kind.TheVariants as kinds
+use Rattle.live_core.proofs.live.LiveCore.rank.Goals as goal
+
+pub rank-requires : goal.rank-requires
+rank-requires c = (_, _, can_rank c.requires.2)
+
+pub returns : goal.returns
+returns c = λ plan past can.
+    let kind = kinds.Rank c.args.queue c.args.class in
+    let fit = and_parts _ _ can.may.fit in
+    main_moved plan past _ c.args.self.now kind _ can.stands refl refl (record { scope = tt; job = tt; task = tt }) (refl, refl)
+    (plain_may plan past kind refl (served plan past kind can.stands.opened can.stands.legal fit.0 fit.1))
+    (c.rank.ensures plan past 0 (can_rank can))
