@@ -4,7 +4,7 @@ from __future__ import annotations
 from collections import namedtuple
 from collections.abc import Iterator
 
-from faults import parted
+from inputs import parted
 
 # At most so many causes have a line, and so many tasks are named in it.
 MOST_CAUSES = 2

@@ -6,6 +6,7 @@ from collections.abc import Callable
 from itertools import islice
 
 from guesses import nearest, plain_number
+from inputs import parted
 from words import MODES
 
 # What the form of a line or a step is, by its first word, in each of the three languages.
@@ -50,18 +51,6 @@ def lines(note: str, mode: str, parts_known: bool, data: bytes, lint: Callable[[
     fault.ask(lint)
     of_line, of_word = (next(filter(None, (trap(fault) for trap in traps)), None) for traps in (LINE_TRAPS[fault.language], WORD_TRAPS))
     return [fault.said, *fault.quoted(None if of_line else fault.meant()), *filter(None, [of_line or of_word])]
-
-
-def parted(data: bytes) -> tuple[bytes, bytes]:
-    """What stands before the first line that is exactly `%%`, and behind it."""
-    at = data.find(b"%%")
-    while at >= 0:
-        end = data.find(b"\n", at)
-        end = len(data) if end < 0 else end
-        if data[at:end] in (b"%%", b"%%\r") and data[max(at - 1, 0) : at] in (b"", b"\n"):
-            return data[:at], data[end + 1 :]
-        at = data.find(b"%%", at + 1)
-    return data, b""
 
 
 class Fault:

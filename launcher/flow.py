@@ -2,6 +2,7 @@
 from __future__ import annotations
 
 import os
+from collections.abc import Callable
 
 import inputs
 import programs
@@ -48,8 +49,11 @@ def _answer(request: words.Request, launcher: str, home: str) -> int:
         running.write(2, b"bad words\n")
         say(words.bad_words_line(request))
         return BAD_WORDS
-    if request.mode == "judge" and not request.fault:
-        return _judge(program or _building("build", home, launcher), request, launcher)
+    if request.mode in ("judge", "picture") and not request.fault:
+        program = program or _building("build", home, launcher)
+        if request.mode == "judge":
+            return _timed(request, _judge, program, request, launcher)
+        return _timed(request, _picture, program, request, home)
     given = inputs.Given(None) if request.fault else inputs.gather(request.files, _places(request))
     program = program or _building("build", home, launcher)
     ran = _run(program, request, given, home)
@@ -65,18 +69,51 @@ def _answer(request: words.Request, launcher: str, home: str) -> int:
 
 def _judge(program: Program, request: words.Request, launcher: str) -> int:
     """Has the mode judge done, which asks the program many times."""
-    if not program.is_kept:
-        raise CannotBuild("nothing is judged, since this kit leaves no program that could be kept, and each log would take minutes")
-    if not running.works(program.file):
-        raise _not_run(program, "it is none for this machine")
+    _see_that_it_works(program, "nothing is judged, since this kit leaves no program that could be kept, and each log would take minutes")
     import judging
 
+    return judging.judge(request, program.file, launcher)
+
+
+def _picture(program: Program, request: words.Request, home: str) -> int:
+    """Has the mode picture done. Where there is nothing to be drawn, it is what `check` says and answers."""
+    _see_that_it_works(program, "nothing is drawn, since this kit leaves no program that could be kept, and it is asked more than once")
+    import picture
+
+    logs = inputs.gather_logs(request.files)
+    told = picture.stories(logs, lambda asked, data: running.ask([program.file, *asked], data, 1))
+    if not told:
+        return _checked(program, request, logs[-1][1] if logs else None, home)
+    import page
+
+    is_written = running.write(1, page.page(told))
+    return WRITE_FAULT if not is_written else int(any(story.faults for story in told))
+
+
+def _see_that_it_works(program: Program, why: str) -> None:
+    """What a mode of the launcher's own needs; `why` says what it is not done for, where there is no program."""
+    if not program.is_kept:
+        raise CannotBuild(why)
+    if not running.works(program.file):
+        raise _not_run(program, "it is none for this machine")
+
+
+def _timed(request: words.Request, do: Callable[..., int], *arguments: object) -> int:
+    """Does a mode of the launcher's own, and says its time where that is asked for."""
     began = os.times()
-    status = judging.judge(request, program.file, launcher)
+    status = do(*arguments)
     if request.timed:
         times = [now - then for now, then in zip(os.times(), began)]
         _say_times(times[4], times[0] + times[2], times[1] + times[3])
     return status
+
+
+def _checked(program: Program, request: words.Request, data: bytes | None, home: str) -> int:
+    """Does what `check` does with these bytes, or with standard input."""
+    checked, given = request._replace(mode="check", words=["check"]), inputs.Given(data)
+    ran = _run(program, checked, given, home)
+    say(*_hints(program, checked, given, ran))
+    return ran.status
 
 
 def _say_times(clock: float, processors: float, system: float) -> None:

@@ -58,6 +58,31 @@ def gather(files: list[str], places: list[str]) -> Given:
     return Given(script + (b"" if script.endswith(b"\n") or not script else b"\n") + b"%%\n" + behind)
 
 
+def parted(data: bytes) -> tuple[bytes, bytes]:
+    """What stands before the first line that is exactly `%%`, and behind it."""
+    at = data.find(b"%%")
+    while at >= 0:
+        end = data.find(b"\n", at)
+        end = len(data) if end < 0 else end
+        if data[at:end] in (b"%%", b"%%\r") and data[max(at - 1, 0) : at] in (b"", b"\n"):
+            return data[:at], data[end + 1 :]
+        at = data.find(b"%%", at + 1)
+    return data, b""
+
+
+def gather_logs(files: list[str]) -> list[tuple[str, bytes]]:
+    """A script and a log of it, once for each log that the files name, or that standard input has, with the log's name."""
+    given = gather(files[:2], ["SCRIPT", "LOG"])
+    data = given.again()
+    if data is None:
+        return []
+    logs = [("standard input" if name == "-" else name, data) for name in (files[1:2] or files[:1] or ["-"])]
+    for name in files[2:]:
+        log = log_text(name, part(name, "LOG"))
+        logs.append(("standard input" if name == "-" else name, parted(data)[0] + b"%%\n" + log))
+    return logs
+
+
 def part(file: str, place: str) -> bytes:
     """What stands in a file, or on standard input where its name is `-`."""
     return _standard_input([place]) if file == "-" else _read_file(file, file)

@@ -37,7 +37,7 @@ HELP = ("-h", "--help")
 ASKS_VERSION = ("-V", "--version")
 
 # The files that a mode may be given, its options, what it does, what its exit statuses say, and an example, in which {it} is the
-# launcher and {at} the folder of the examples. The mode judge is the launcher's own.
+# launcher and {at} the folder of the examples. The modes judge and picture are the launcher's own.
 Mode = namedtuple("Mode", "files options says statuses example")
 RUNS = "0 the script was run   3 the script is bad"
 MAKES = "0 the script was made"
@@ -56,6 +56,8 @@ MODES = {
                   "{it} judge --runs 20 {at}/own_pool/one_runner.task -- ./own_pool"),
     "trace": Mode(("SCRIPT", "LOG"), (), "reads a script and a log, and writes a right log as trace events",
                   JUDGES, "{it} trace {at}/first_run.task {at}/first_run.log"),
+    "picture": Mode(("SCRIPT", "LOG", "[LOG]"), (), "reads a script and a log, or two, and writes a page that shows them",
+                    JUDGES, "{it} picture {at}/scopes.task {at}/scopes.log > page.html"),
     "reply": Mode(("SCRIPT", "REPLIES"), (), "reads a script and replies, runs the script with them, and writes the log",
                   RUNS, f"printf '{REPLIED}' | {{it}} reply"),
     "nest": Mode(("SCRIPT",), (), "reads a nest script, runs it, and writes its log",
@@ -194,7 +196,7 @@ def _help_of(name: str, places: dict[str, str]) -> str:
     if name == "judge":
         text += JUDGED
     elif mode.files:
-        text += f"Without {' and '.join(mode.files)} it reads standard input"
+        text += f"Without {' and '.join(mode.files[:2])} it reads standard input"
         text += f", with a line %% between them, and with SCRIPT alone {mode.files[1]} is standard input" if mode.files[1:] else ""
         text += ". The word - is standard input too.\n"
     if mode.options:
@@ -214,7 +216,7 @@ Modes
 Words of the launcher, before the mode
 {_table({**LAUNCHER, **others}.items())}
 Exit statuses
-  0 done   1 check, explain, trace, judge: a log is wrong; lint: the script is bad   3 the script is bad
+  0 done   1 check, explain, trace, picture, judge: a log is wrong; lint: the script is bad   3 the script is bad
   {STATUSES}
 
 Examples
@@ -321,7 +323,7 @@ def _faults_of_files(files: list[str], mode: str, places: tuple[str, ...]) -> It
     if files and not places:
         yield f"{_taken_by(mode)}, and no file: {files[0]}"
     elif len(files) > len(places):
-        yield f"{mode} takes {' and '.join(places)}: {files[len(places)]} is one file too many"
+        yield f"{mode} takes {_any_of(places, 'and')}: {files[len(places)]} is one file too many"
     elif files.count("-") > 1:
         yield "- stands twice: standard input is read once"
 
