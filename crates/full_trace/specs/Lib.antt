@@ -1,0 +1,3 @@
+pub mod Args
+pub mod Data
+pub mod Shown
