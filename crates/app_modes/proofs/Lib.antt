@@ -1,3 +1,4 @@
 pub mod Verdicts
 pub mod Explained
 pub mod Outcomes
+pub mod Tracing

@@ -12,11 +12,10 @@ use Rattle.run_log.specs.TextLines.{IsBadLine}
 use Rattle.env_check.specs.declared.verdict.Verdict.{Verdict}
 use Rattle.env_check.specs.declared.verdict.Verdict.TheVariants.{Legal, Illegal}
 use Rattle.env_check.specs.Verdicts.{prefix_verdict_of, verdict_of}
-use Rattle.trace_json.specs.Trace.{trace_of}
-use Rattle.trace_json.specs.Text.{trace_text}
 use Rattle.app_modes.specs.declared.judged.Judged.{Judged}
 use Rattle.app_modes.specs.declared.judged.Judged.TheVariants.{Right, Wrong}
 use Rattle.app_streams.specs.Parts.{script_part, part_behind}
+use Rattle.app_streams.specs.Written.{traced_text}
 
 -- the text is that of this log, in one of the two versions
 pub record IsTextOf (text : List ℕ) (log : List Entry) : Type 0 where
@@ -87,13 +86,14 @@ pub record HasChecked (prefix : Bool) (bytes : List ℕ) (Holds : ℕ → List �
   pub found : IsFoundAt prefix script (part_behind bytes) line
   pub holds : Holds (verdict_status line) (verdict_text line)
 
--- this holds of the status of a line, and of what `trace` writes: where no line is wrong the trace of the log, and else nothing
-abbrev pub IsTraced : List ℕ → (ℕ → List ℕ → Type 0) → Option ℕ → Type 0
-IsTraced text Holds None = (log : List Entry) × IsTextOf text log × Holds 0 (trace_text (trace_of log))
-IsTraced text Holds (Some line) = Holds 1 []
+-- this holds of the status of a line, and of what `trace` writes: where no line is wrong the trace of the log, or the full one, and
+-- else nothing
+abbrev pub IsTraced : Bool → Plan → List ℕ → (ℕ → List ℕ → Type 0) → Option ℕ → Type 0
+IsTraced full script text Holds None = (log : List Entry) × IsTextOf text log × Holds 0 (traced_text full script log)
+IsTraced full script text Holds (Some line) = Holds 1 []
 
 -- the same of what `trace` writes
-pub record HasTraced (bytes : List ℕ) (Holds : ℕ → List ℕ → Type 0) : Type 0 where
+pub record HasTraced (full prefix : Bool) (bytes : List ℕ) (Holds : ℕ → List ℕ → Type 0) : Type 0 where
   pub line : Option ℕ
-  pub found : IsFoundIn false bytes line
-  pub holds : IsTraced (part_behind bytes) Holds line
+  pub found : IsFoundIn prefix bytes line
+  pub holds : IsTraced full found.script (part_behind bytes) Holds line

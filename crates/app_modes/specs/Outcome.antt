@@ -1,5 +1,5 @@
 -- What a command did, by what it read and what it wrote.
-use Rattle.std.specs.Prelude.{◌≡◌, ◌≢◌, ◌<◌, ℕ, Bool, false, List, length, Option, Some, None, IsSome, option_map, Result, Ok, Err}
+use Rattle.std.specs.Prelude.{◌≡◌, ◌≢◌, ◌<◌, ℕ, Bool, List, length, Option, Some, None, IsSome, option_map, Result, Ok, Err}
 use Rattle.task_base.specs.Plan.{Plan}
 use Rattle.task_base.specs.declared.limits.TheConstants.{MOST_BYTES}
 use Rattle.task_base.specs.declared.entry.Entry.{Entry}
@@ -28,7 +28,7 @@ use Rattle.app_streams.specs.Taken.{IsReadToEnd, OfBytes, OfTaken}
 use Rattle.app_streams.specs.Written.{WroteAll, WroteFront, output_of}
 use Rattle.app_modes.specs.declared.failure.Failure.{Failure}
 use Rattle.app_modes.specs.declared.failure.Failure.TheVariants.{Common, Linted, NotTraced, BadReplies, BadNest}
-use Rattle.command_line.specs.CommandLine.{IsLint, TakesInput, WritesVerdict}
+use Rattle.command_line.specs.CommandLine.{IsLint, IsTrace, TakesInput, WritesVerdict, takes_prefix}
 use Rattle.app_modes.specs.Judged.{HasChecked, HasTraced, IsFoundIn}
 use Rattle.app_modes.specs.Explained.{HasExplained}
 use Rattle.app_modes.specs.Linted.{IsSaid, lint_said}
@@ -102,7 +102,7 @@ refusal_of (Some (Run step json)) bytes = script_refusal bytes
 refusal_of (Some (Check prefix)) bytes = script_refusal (script_part bytes)
 refusal_of (Some (Explain json)) bytes = script_refusal (script_part bytes)
 refusal_of (Some Reply) bytes = reply_refusal (script_read (script_part bytes)) (part_behind bytes)
-refusal_of (Some Trace) bytes = script_refusal (script_part bytes)
+refusal_of (Some (Trace full prefix)) bytes = script_refusal (script_part bytes)
 refusal_of (Some Nest) bytes = option_map (λ at. BadNest at.0 at.1) (nest_fault bytes)
 refusal_of (Some (Lint input)) bytes = None
 refusal_of (Some (Generate number size)) bytes = None
@@ -116,7 +116,7 @@ Does (Some (Run step json)) told source Holds = OfTaken source (λ bytes. HasRun
 Does (Some (Check prefix)) told source Holds = OfTaken source (λ bytes. HasChecked prefix bytes Holds)
 Does (Some (Explain json)) told source Holds = OfTaken source (λ bytes. HasExplained json bytes Holds)
 Does (Some Reply) told source Holds = OfTaken source (λ bytes. HasReplied bytes told (Holds 0))
-Does (Some Trace) told source Holds = OfTaken source (λ bytes. HasTraced bytes Holds)
+Does (Some (Trace full prefix)) told source Holds = OfTaken source (λ bytes. HasTraced full prefix bytes Holds)
 Does (Some Nest) told source Holds = OfTaken source (λ bytes. HasNested bytes (Holds 0))
 Does (Some (Lint input)) told source Holds = OfTaken source (λ bytes. IsSaid (lint_said input bytes) Holds)
 Does (Some (Generate number size)) told source Holds = Holds 0 (canonical (generated number size))
@@ -166,6 +166,7 @@ EndsIn command told source sink (Ok done) = RunsTo command told source sink (Ok 
 EndsIn command told source sink (Err (Common fault)) = RunsTo command told source sink (Err fault)
 EndsIn command told source sink (Err Linted) = IsLint command × IsReadToEnd source × Does command told source (IsWritten sink 1)
 EndsIn command told source sink (Err (NotTraced line)) =
-    (command ≡ Some Trace) × IsReadToEnd source × Does command told source (IsWritten sink 1) × OfTaken source (λ bytes. IsFoundIn false bytes (Some line))
+    IsTrace command × IsReadToEnd source × Does command told source (IsWritten sink 1)
+    × OfTaken source (λ bytes. IsFoundIn (takes_prefix command) bytes (Some line))
 EndsIn command told source sink (Err (BadReplies line reason)) = (command ≡ Some Reply) × IsRefused command source (BadReplies line reason)
 EndsIn command told source sink (Err (BadNest line reason)) = (command ≡ Some Nest) × IsRefused command source (BadNest line reason)

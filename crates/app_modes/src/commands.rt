@@ -69,7 +69,7 @@ pub fn execute<R: Threads + Wait + Sync, S: Source, K: Sink, C: Clock, G: Gate>(
         Command::Check { prefix } => common(judge(alloc, prefix, source, sink)),
         Command::Explain { json } => common(explain(alloc, json, source, sink)),
         Command::Reply => run_replies(rt, alloc, source, sink, clock, gate),
-        Command::Trace => trace(alloc, source, sink),
+        Command::Trace { full, prefix } => trace(alloc, full, prefix, source, sink),
         Command::Nest => run_nest_script(alloc, source, sink),
         Command::Lint { input } => lint(alloc, input, source, sink),
         Command::Generate { number, size } => common(write_generated(alloc, number, size, sink)),

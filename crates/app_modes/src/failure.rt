@@ -14,7 +14,7 @@ pub enum Failure {
     Common(Fault),
     /// In `lint`: the input is none, which is said by then.
     Linted,
-    /// In `trace`: the log is not that of a whole run of the script; `line` counts from 1.
+    /// In `trace`: the log is not that of a run of the script, whole or with `--prefix` begun; `line` counts from 1.
     NotTraced { line: u32 },
     /// In `reply`: a reply line breaks a rule. `line` counts from 1, behind the line `%%`.
     BadReplies { line: u32, reason: u8 },

@@ -13,10 +13,17 @@ use env_io::{Sink, Source};
 use std::alloc::Global;
 use task_base::Fault;
 
-/// Reads a script from the source, to its end, and the log behind it, and writes the trace of the log where it is that of a
-/// whole run of the script, and else nothing: `NotTraced` has the line at which it is found not to be.
-pub fn trace<S: Source, K: Sink>(alloc: Global, source: &mut S, sink: &mut K) -> Result<(), Failure>
-    ensures outcome { (told : ℕ → Option ℕ) → EndsIn (Some Trace) told
+/// Reads a script from the source, to its end, and the log behind it, and writes the trace of the log, or the full one, where it
+/// is that of a whole run of the script, or where a prefix is asked for, that of the beginning of one. Else it writes nothing:
+/// `NotTraced` has the line at which it is found not to be.
+pub fn trace<S: Source, K: Sink>(
+    alloc: Global,
+    full: bool,
+    prefix: bool,
+    source: &mut S,
+    sink: &mut K,
+) -> Result<(), Failure>
+    ensures outcome { (told : ℕ → Option ℕ) → EndsIn (Some (Trace full prefix)) told
         (ends (S.left source.old) (S.left source.new) (S.faults source.old) (S.faults source.new))
         (ends (K.holds sink.old) (K.holds sink.new) (K.faults sink.old) (K.faults sink.new)) result }
     ensures sink_kept { IfErr result (λ failure. failure_status failure ≢ 5 → sink.new ≡ sink.old) }
@@ -28,8 +35,11 @@ pub fn trace<S: Source, K: Sink>(alloc: Global, source: &mut S, sink: &mut K) ->
     let bytes = take_all(alloc, source)?;
     let (text, log) = parts_of(&bytes);
     let script = script_of(alloc, text)?;
-    match judge_log(alloc, false, &script, log) {
-        Ok(Judged::Right(log)) => Ok(write_events(alloc, sink, &log)?),
+    match judge_log(alloc, prefix, &script, log) {
+        Ok(Judged::Right(log)) => match write_events(alloc, sink, full, &script, &log) {
+            Ok(()) => Ok(()),
+            Err(fault) => Err(Failure::Common(fault)),
+        },
         Ok(Judged::Wrong { line }) => Err(Failure::NotTraced { line }),
         Err(error) => Err(Failure::Common(Fault::NoMemory(error))),
     }

@@ -1,12 +1,11 @@
 ghost use Rattle.std.specs.Prelude.{◌≡◌, ◌≢◌, ◌<◌, ◌^◌, ◌⊎◌, Err, IfErr, OnOk, alloc_error, length, true};
 ghost use Rattle.env_io.specs.Bytes.{Rose};
 ghost use Rattle.script_model.specs.Canonical.{canonical};
-ghost use Rattle.trace_json.specs.Text.{trace_text};
-ghost use Rattle.trace_json.specs.Trace.{trace_of};
 ghost use Rattle.nested_loop.specs.NestText.{nest_text};
-ghost use Rattle.app_streams.specs.Written.{WroteAll, WroteFront, output_of};
+ghost use Rattle.app_streams.specs.Written.{WroteAll, WroteFront, output_of, traced_text};
 
 use env_io::{Sink, put_all};
+use full_trace::full_text;
 use nested_loop::{Event, write_nest};
 use run_log::{JsonFault, write_json, write_log};
 use script_text::write_script;
@@ -43,15 +42,27 @@ pub fn write<K: Sink>(
     }
 }
 
-/// Writes the trace of a log. Want of memory comes before the first byte.
-pub fn write_events<K: Sink>(alloc: Global, sink: &mut K, log: &Rows<Entry>) -> Result<(), Fault>
-    ensures written { OnOk result (WroteAll (K.holds sink.old) (K.holds sink.new) (trace_text (trace_of log.now.items))) }
-    ensures cut { result ≡ Err Fault.WriteFault → WroteFront (K.holds sink.old) (K.holds sink.new) (trace_text (trace_of log.now.items)) }
+/// Writes the trace of a log of the script, or the full one. Want of memory comes before the first byte.
+pub fn write_events<K: Sink>(
+    alloc: Global,
+    sink: &mut K,
+    full: bool,
+    script: &Script,
+    log: &Rows<Entry>,
+) -> Result<(), Fault>
+    ensures written { OnOk result (WroteAll (K.holds sink.old) (K.holds sink.new) (traced_text full script.now log.now.items)) }
+    ensures cut { result ≡ Err Fault.WriteFault → WroteFront (K.holds sink.old) (K.holds sink.new) (traced_text full script.now log.now.items) }
     ensures failed { result ≡ Err Fault.WriteFault → Rose (K.faults sink.old) (K.faults sink.new) }
     ensures kept { result ≡ Err (Fault.NoMemory alloc_error) → sink.new ≡ sink.old }
     ensures faults { IfErr result (λ fault. (fault ≡ Fault.WriteFault) ⊎ (fault ≡ Fault.NoMemory alloc_error)) }
     ensures steady { result ≢ Err Fault.WriteFault → K.faults sink.new ≡ K.faults sink.old }
 {
+    if full {
+        return match full_text(alloc, script, log.as_slice()) {
+            Ok(text) => write_text(sink, &text),
+            Err(error) => Err(Fault::NoMemory(error)),
+        };
+    }
     match write_trace(alloc, sink, log) {
         Ok(()) => Ok(()),
         Err(TraceFault::Sink(_)) => Err(Fault::WriteFault),

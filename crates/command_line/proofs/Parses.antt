@@ -40,14 +40,14 @@ refused app words e is fails found =
     ]
 
 -- words that it takes are the command that its matches make
-pub taken : (app : App) (words : List (List ℕ)) (m : ArgMatches) (mode step json prefix number size replies nest : Option (List ℕ)) → app ≡ taskenv
+pub taken : (app : App) (words : List (List ℕ)) (m : ArgMatches) (mode step json prefix number size replies nest full : Option (List ℕ)) → app ≡ taskenv
     → (is_simple_and_free app ≡ true → fault_of app words ≡ []) → HasMatchesOf app words m
     → mode ≡ first_value (found_of m) (codes "MODE") → step ≡ first_value (found_of m) (codes "step") → json ≡ first_value (found_of m) (codes "json")
     → prefix ≡ first_value (found_of m) (codes "prefix") → number ≡ first_value (found_of m) (codes "number") → size ≡ first_value (found_of m) (codes "size")
     → replies ≡ first_value (found_of m) (codes "replies") → nest ≡ first_value (found_of m) (codes "nest")
-    → command_by mode step json prefix number size replies nest ≡ command_of words
+    → full ≡ first_value (found_of m) (codes "full") → command_by mode step json prefix number size replies nest full ≡ command_of words
 unfolding command_of
-taken app words m mode step json prefix number size replies nest is free matches mode_is step_is json_is prefix_is number_is size_is replies_is nest_is =
+taken app words m mode step json prefix number size replies nest full is free matches mode_is step_is json_is prefix_is number_is size_is replies_is nest_is full_is =
     let rows : rows_of (found_of m) ≡ matches_of taskenv words = (matches (ap is_simple is ∙ simple)).0 ∙ ap (λ (a : App). matches_of a words) is in
     let none : fault_of taskenv words ≡ [] = ap (λ (a : App). fault_of a words) (sym is) ∙ free (ap is_simple_and_free is ∙ simple_and_free) in
     let in_rows = λ (name : List ℕ). first_value-rows (found_of m) name in
@@ -60,4 +60,5 @@ taken app words m mode step json prefix number size replies nest is free matches
       size_is ∙ in_rows (codes "size"),
       replies_is ∙ in_rows (codes "replies"),
       nest_is ∙ in_rows (codes "nest"),
+      full_is ∙ in_rows (codes "full"),
     ) (ap₂ command_unless (sym none) rows)

@@ -36,12 +36,12 @@ value_argument name = record (new_rule name) { long = Some name }
 abbrev pub flag_argument : List ℕ → Rule
 flag_argument name = record (new_rule name) { long = Some name; action = Some SetTrue }
 
--- `taskenv MODE [--step N] [--json] [--prefix] [--number N] [--size N] [--replies] [--nest]` (this project's own)
+-- `taskenv MODE [--step N] [--json] [--prefix] [--number N] [--size N] [--replies] [--nest] [--full]` (this project's own)
 abbrev pub taskenv : App
 taskenv =
-    with_rule (with_rule (with_rule (with_rule (with_rule (with_rule (with_rule (with_rule (new_app (codes "taskenv")) mode_argument)
+    with_rule (with_rule (with_rule (with_rule (with_rule (with_rule (with_rule (with_rule (with_rule (new_app (codes "taskenv")) mode_argument)
     (value_argument (codes "step"))) (flag_argument (codes "json"))) (flag_argument (codes "prefix"))) (value_argument (codes "number")))
-    (value_argument (codes "size"))) (flag_argument (codes "replies"))) (flag_argument (codes "nest"))
+    (value_argument (codes "size"))) (flag_argument (codes "replies"))) (flag_argument (codes "nest"))) (flag_argument (codes "full"))
 
 -- ---- the values of its arguments
 
@@ -91,15 +91,14 @@ made_with command number size = do
   s ← size_given size
   Some (command n s)
 
--- the command of a mode with the words of its options: `run` takes `--step` and `--json`, `check` takes `--prefix`, `explain`
--- takes `--json`, `gen` and `bench` take `--number` and `--size`, and the others take none; an option that the mode does not
+-- the command of another mode with the words of its options: `run` takes `--step` and `--json`, `check` takes `--prefix`,
+-- `explain` takes `--json`, `gen` and `bench` take `--number` and `--size`, and the others take none; an option that the mode does not
 -- take makes it none (this project's own rule)
 abbrev pub command_with : Mode → Option (List ℕ) → Bool → Bool → Option (List ℕ) → Option (List ℕ) → Option Command
 command_with modes.Run step json false None None = option_map (λ s. Run s json) (step_given step)
 command_with modes.Check None false prefix None None = Some (Check prefix)
 command_with modes.Explain None json false None None = Some (Explain json)
 command_with modes.Reply None false false None None = Some Reply
-command_with modes.Trace None false false None None = Some Trace
 command_with modes.Nest None false false None None = Some Nest
 command_with modes.Generate None false false number size = made_with Generate number size
 command_with modes.Bench None false false number size = made_with Bench number size
@@ -120,22 +119,27 @@ linted_by true true = None
 abbrev pub lint_with : Bool → Bool → Bool → Option Command
 lint_with bare replies nest = linted_by replies nest >>= λ input. if bare then Some (Lint input) else None
 
--- the command of a mode with the words of all options: those of `lint` are its own
-abbrev pub command_asked : Mode → Option (List ℕ) → Bool → Bool → Option (List ℕ) → Option (List ℕ) → Bool → Bool → Option Command
-command_asked modes.Lint step json prefix number size replies nest = lint_with (is_bare step json prefix number size) replies nest
-command_asked mode step json prefix number size false false = command_with mode step json prefix number size
-command_asked mode step json prefix number size replies nest = None
+-- the command of the mode `trace`, where there are no options but `--full` and `--prefix` (this project's own rule)
+abbrev pub trace_with : Bool → Bool → Bool → Option Command
+trace_with bare full prefix = if bare then Some (Trace full prefix) else None
+
+-- the command of a mode with the words of all options: `--replies` and `--nest` are those of `lint`, and `--full` is that of `trace`
+abbrev pub command_asked : Mode → Option (List ℕ) → Bool → Bool → Option (List ℕ) → Option (List ℕ) → Bool → Bool → Bool → Option Command
+command_asked modes.Lint step json prefix number size replies nest false = lint_with (is_bare step json prefix number size) replies nest
+command_asked modes.Trace step json prefix number size false false full = trace_with (is_bare step json false number size) full prefix
+command_asked mode step json prefix number size false false false = command_with mode step json prefix number size
+command_asked mode step json prefix number size replies nest full = None
 
 -- the command that these values of its arguments make, if each is one
 abbrev pub command_by : Option (List ℕ) → Option (List ℕ) → Option (List ℕ) → Option (List ℕ) → Option (List ℕ) → Option (List ℕ) → Option (List ℕ) → Option (List ℕ)
-    → Option Command
-command_by mode step json prefix number size replies nest =
-    mode >>= mode_named >>= λ m. command_asked m step (is_set json) (is_set prefix) number size (is_set replies) (is_set nest)
+    → Option (List ℕ) → Option Command
+command_by mode step json prefix number size replies nest full =
+    mode >>= mode_named >>= λ m. command_asked m step (is_set json) (is_set prefix) number size (is_set replies) (is_set nest) (is_set full)
 
 -- the command that these matches of clap's command make, if their values are right
 abbrev pub command_matched : List Row → Option Command
 command_matched rows = command_by (first_of (codes "MODE") rows) (first_of (codes "step") rows) (first_of (codes "json") rows) (first_of (codes "prefix") rows)
-    (first_of (codes "number") rows) (first_of (codes "size") rows) (first_of (codes "replies") rows) (first_of (codes "nest") rows)
+    (first_of (codes "number") rows) (first_of (codes "size") rows) (first_of (codes "replies") rows) (first_of (codes "nest") rows) (first_of (codes "full") rows)
 
 -- the same, unless clap finds a fault
 abbrev pub command_unless : Kinds → List Row → Option Command
@@ -152,7 +156,7 @@ IsSized (Run step json) = Unit {0}
 IsSized (Check prefix) = Unit {0}
 IsSized (Explain json) = Unit {0}
 IsSized Reply = Unit {0}
-IsSized Trace = Unit {0}
+IsSized (Trace full prefix) = Unit {0}
 IsSized Nest = Unit {0}
 IsSized (Lint input) = Unit {0}
 IsSized (Generate number size) = (1 ≤ size) × (size ≤ MOST_SIZE)
@@ -166,7 +170,7 @@ TakesInput (Some (Run step json)) = Unit {0}
 TakesInput (Some (Check prefix)) = Unit {0}
 TakesInput (Some (Explain json)) = Unit {0}
 TakesInput (Some Reply) = Unit {0}
-TakesInput (Some Trace) = Unit {0}
+TakesInput (Some (Trace full prefix)) = Unit {0}
 TakesInput (Some Nest) = Unit {0}
 TakesInput (Some (Lint input)) = Unit {0}
 TakesInput (Some (Generate number size)) = ⊥
@@ -180,7 +184,7 @@ ReadsClock (Some (Run (Some step) json)) = ⊥
 ReadsClock (Some (Check prefix)) = ⊥
 ReadsClock (Some (Explain json)) = ⊥
 ReadsClock (Some Reply) = Unit {0}
-ReadsClock (Some Trace) = ⊥
+ReadsClock (Some (Trace full prefix)) = ⊥
 ReadsClock (Some Nest) = ⊥
 ReadsClock (Some (Lint input)) = ⊥
 ReadsClock (Some (Generate number size)) = ⊥
@@ -194,7 +198,7 @@ WritesJson (Some (Run step false)) = ⊥
 WritesJson (Some (Check prefix)) = ⊥
 WritesJson (Some (Explain json)) = ⊥
 WritesJson (Some Reply) = ⊥
-WritesJson (Some Trace) = ⊥
+WritesJson (Some (Trace full prefix)) = ⊥
 WritesJson (Some Nest) = ⊥
 WritesJson (Some (Lint input)) = ⊥
 WritesJson (Some (Generate number size)) = ⊥
@@ -207,7 +211,7 @@ IsJudge (Some (Run step json)) = ⊥
 IsJudge (Some (Check prefix)) = Unit {0}
 IsJudge (Some (Explain json)) = Unit {0}
 IsJudge (Some Reply) = ⊥
-IsJudge (Some Trace) = Unit {0}
+IsJudge (Some (Trace full prefix)) = Unit {0}
 IsJudge (Some Nest) = ⊥
 IsJudge (Some (Lint input)) = ⊥
 IsJudge (Some (Generate number size)) = ⊥
@@ -220,7 +224,7 @@ WritesVerdict (Some (Run step json)) = ⊥
 WritesVerdict (Some (Check prefix)) = Unit {0}
 WritesVerdict (Some (Explain json)) = Unit {0}
 WritesVerdict (Some Reply) = ⊥
-WritesVerdict (Some Trace) = ⊥
+WritesVerdict (Some (Trace full prefix)) = ⊥
 WritesVerdict (Some Nest) = ⊥
 WritesVerdict (Some (Lint input)) = ⊥
 WritesVerdict (Some (Generate number size)) = ⊥
@@ -231,7 +235,13 @@ abbrev pub IsLint : Option Command → Type 0
 IsLint (Some (Lint input)) = Unit {0}
 IsLint command = ⊥
 
+-- the command writes the trace of a log
+abbrev pub IsTrace : Option Command → Type 0
+IsTrace (Some (Trace full prefix)) = Unit {0}
+IsTrace command = ⊥
+
 -- the command takes a log as legal that ends before the script is done
 abbrev pub takes_prefix : Option Command → Bool
 takes_prefix (Some (Check prefix)) = prefix
+takes_prefix (Some (Trace full prefix)) = prefix
 takes_prefix command = false

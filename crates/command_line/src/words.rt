@@ -3,7 +3,7 @@ ghost use Rattle.script_model.specs.Words.{is_word};
 ghost use Rattle.clap.specs.Simple.{app_of, with_rule};
 ghost use Rattle.clap.specs.Values.{kind_of};
 ghost use Rattle.clap.specs.Walk.{rule_of};
-ghost use Rattle.command_line.specs.CommandLine.{IsSized, command_by, command_of, command_with, flag_argument, is_bare, is_set, lint_with, mode_argument, mode_named, number_named, seed_given, size_given, step_given, taskenv, value_argument};
+ghost use Rattle.command_line.specs.CommandLine.{IsSized, command_by, command_of, command_with, flag_argument, is_bare, is_set, lint_with, mode_argument, mode_named, number_named, seed_given, size_given, step_given, taskenv, trace_with, value_argument};
 
 use clap::error::ErrorKind;
 use clap::{Arg, ArgAction};
@@ -40,7 +40,12 @@ pub enum Command {
     /// Runs a script whose tasks post the replies behind it, and writes the log of the run.
     Reply,
     /// Writes the trace of the log behind a script.
-    Trace,
+    Trace {
+        /// Whether the trace says all that the log and the script tell.
+        full: bool,
+        /// Whether the log may also end before the script is done.
+        prefix: bool,
+    },
     /// Runs a nest script, and writes its log.
     Nest,
     /// Says why an input is none.
@@ -107,6 +112,7 @@ pub fn command_of(alloc: Global, words: &[String]) -> Result<Option<Command>, Al
         matches.get_str("size"),
         matches.get_str("replies"),
         matches.get_str("nest"),
+        matches.get_str("full"),
     ))
 }
 
@@ -120,7 +126,7 @@ fn refusal(error: &clap::Error) -> Result<Option<Command>, AllocError>
     }
 }
 
-/// The command `taskenv MODE [--step N] [--json] [--prefix] [--number N] [--size N] [--replies] [--nest]`.
+/// The command `taskenv MODE [--step N] [--json] [--prefix] [--number N] [--size N] [--replies] [--nest] [--full]`.
 fn taskenv<'a>(alloc: Global) -> Result<clap::Command<'a>, AllocError>
     ensures { IfOk result (λ command. app_of command ≡ taskenv) }
 {
@@ -131,7 +137,8 @@ fn taskenv<'a>(alloc: Global) -> Result<clap::Command<'a>, AllocError>
     let command = with_argument(command, value_argument(alloc, "number"))?;
     let command = with_argument(command, value_argument(alloc, "size"))?;
     let command = with_argument(command, flag_argument(alloc, "replies"))?;
-    with_argument(command, flag_argument(alloc, "nest"))
+    let command = with_argument(command, flag_argument(alloc, "nest"))?;
+    with_argument(command, flag_argument(alloc, "full"))
 }
 
 /// The command with one argument more.
@@ -179,23 +186,23 @@ fn command_by(
     size: Option<&str>,
     replies: Option<&str>,
     nest: Option<&str>,
+    full: Option<&str>,
 ) -> Option<Command>
     ensures command { result ≡ command_by (option_map (λ s. s.now) mode.entry) (option_map (λ s. s.now) step.entry) (option_map (λ s. s.now) json.entry)
         (option_map (λ s. s.now) prefix.entry) (option_map (λ s. s.now) number.entry) (option_map (λ s. s.now) size.entry)
-        (option_map (λ s. s.now) replies.entry) (option_map (λ s. s.now) nest.entry) }
+        (option_map (λ s. s.now) replies.entry) (option_map (λ s. s.now) nest.entry) (option_map (λ s. s.now) full.entry) }
     ensures sized { IfSome result IsSized }
 {
     let mode = mode_named(mode?)?;
-    let lint = (is_set(replies), is_set(nest));
-    match (mode, lint) {
-        (Mode::Lint, (replies, nest)) => lint_with(
-            is_bare(step, is_set(json), is_set(prefix), number, size),
-            replies,
-            nest,
-        ),
-        (_, (false, false)) => {
-            command_with(mode, step, is_set(json), is_set(prefix), number, size)
+    let (json, prefix) = (is_set(json), is_set(prefix));
+    match (mode, is_set(replies), is_set(nest), is_set(full)) {
+        (Mode::Lint, replies, nest, false) => {
+            lint_with(is_bare(step, json, prefix, number, size), replies, nest)
         }
+        (Mode::Trace, false, false, full) => {
+            trace_with(is_bare(step, json, false, number, size), full, prefix)
+        }
+        (_, false, false, false) => command_with(mode, step, json, prefix, number, size),
         _ => None,
     }
 }
@@ -213,6 +220,18 @@ fn lint_with(bare: bool, replies: bool, nest: bool) -> Option<Command>
     };
     if bare {
         Some(Command::Lint { input })
+    } else {
+        None
+    }
+}
+
+/// The command of the mode `trace`, where there are no options but its own.
+fn trace_with(bare: bool, full: bool, prefix: bool) -> Option<Command>
+    ensures command { result ≡ trace_with bare full prefix }
+    ensures sized { IfSome result IsSized }
+{
+    if bare {
+        Some(Command::Trace { full, prefix })
     } else {
         None
     }
@@ -251,7 +270,6 @@ fn command_with(
         (Mode::Check, None, false, prefix, None, None) => Some(Command::Check { prefix }),
         (Mode::Explain, None, json, false, None, None) => Some(Command::Explain { json }),
         (Mode::Reply, None, false, false, None, None) => Some(Command::Reply),
-        (Mode::Trace, None, false, false, None, None) => Some(Command::Trace),
         (Mode::Nest, None, false, false, None, None) => Some(Command::Nest),
         (Mode::Generate, None, false, false, number, size) => Some(Command::Generate {
             number: seed_given(number)?,

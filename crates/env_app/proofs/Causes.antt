@@ -7,7 +7,7 @@ use Rattle.app_modes.specs.declared.failure.Failure.{Failure}
 use Rattle.app_modes.specs.declared.failure.Failure.TheVariants.{Common, Linted, NotTraced, BadReplies, BadNest}
 use Rattle.command_line.specs.declared.words.Command.{Command}
 use Rattle.command_line.specs.declared.words.Command.TheVariants.{Run, Check, Explain, Reply, Trace, Nest, Lint}
-use Rattle.command_line.specs.CommandLine.{IsJudge, IsLint, TakesInput, WritesVerdict, takes_prefix}
+use Rattle.command_line.specs.CommandLine.{IsJudge, IsLint, IsTrace, TakesInput, WritesVerdict, takes_prefix}
 use Rattle.app_modes.specs.Failures.{failure_status}
 use Rattle.app_streams.specs.Ends.{Ends, IsSteady}
 use Rattle.app_streams.specs.Taken.{IsWithin, OfBytes, OfTaken, TookAll, TookMore, TookWithin}
@@ -26,7 +26,7 @@ record IsOfJudge (command : Option Command) : Type 0 where
 of_judge : (command : Option Command) → IsJudge command → IsOfJudge command
 of_judge (Some (Check prefix)) judges = record { done = inr refl; takes = tt }
 of_judge (Some (Explain json)) judges = record { done = inr refl; takes = tt }
-of_judge (Some Trace) judges = record { done = inr refl; takes = tt }
+of_judge (Some (Trace full prefix)) judges = record { done = inr refl; takes = tt }
 of_judge command judges = absurd judges
 
 of_lint : (command : Option Command) → IsLint command → IsOfJudge command
@@ -37,6 +37,10 @@ verdict_judges : (command : Option Command) → WritesVerdict command → IsJudg
 verdict_judges (Some (Check prefix)) writes = tt
 verdict_judges (Some (Explain json)) writes = tt
 verdict_judges command writes = absurd writes
+
+trace_judges : (command : Option Command) → IsTrace command → IsJudge command
+trace_judges (Some (Trace full prefix)) traces = tt
+trace_judges command traces = absurd traces
 
 -- a command that reads the source does what it does with bytes, within the limit, that are not refused
 record IsTaken (command : Option Command) (bytes : List ℕ) : Type 0 where
@@ -55,7 +59,7 @@ taken Holds (Some (Check prefix)) told source takes does = of_told (Some (Check 
 taken Holds (Some (Explain json)) told source takes does = of_told (Some (Explain json)) source does.bytes does.took (rw does.holds.reads refl)
 taken Holds (Some Reply) told source takes does =
     of_told (Some Reply) source does.bytes does.took (rw (does.holds.reads, does.holds.elaborates.said) refl)
-taken Holds (Some Trace) told source takes does = of_told (Some Trace) source does.bytes does.took (rw does.holds.found.reads refl)
+taken Holds (Some (Trace full prefix)) told source takes does = of_told (Some (Trace full prefix)) source does.bytes does.took (rw does.holds.found.reads refl)
 taken Holds (Some Nest) told source takes does = of_told (Some Nest) source does.bytes does.took (rw does.holds.reads refl)
 taken Holds (Some (Lint input)) told source takes does = of_told (Some (Lint input)) source does.bytes does.took refl
 taken Holds command told source takes does = absurd takes
@@ -70,7 +74,7 @@ pub cause_of_failure : (command : Option Command) (told : ℕ → Option ℕ) (s
     → (ended failure ≡ ended (Common TooLarge) → TookMore source) → (ended failure ≢ ended (Common TooLarge) → TookWithin source)
     → HasCause command told source sink (failure_status failure)
 cause_of_failure command told source sink (NotTraced line) runs source_steady sink_steady more within =
-    let judges = subst IsJudge (sym runs.0) tt in let of = of_judge command judges in
+    let judges = trace_judges command runs.0 in let of = of_judge command judges in
     let bytes = taken _ command told source of.takes runs.2 in search (rules, tests)
 cause_of_failure command told source sink Linted runs source_steady sink_steady more within =
     let of = of_lint command runs.0 in let bytes = taken _ command told source of.takes runs.2 in search (rules, tests)
@@ -95,6 +99,6 @@ judge_says (Some (Check prefix)) told source sink status does judges =
     record { bytes = does.bytes; took = does.took; holds = check_says prefix does.bytes sink status does.holds }
 judge_says (Some (Explain json)) told source sink status does judges =
     record { bytes = does.bytes; took = does.took; holds = explain_says json does.bytes sink status does.holds }
-judge_says (Some Trace) told source sink status does judges =
-    record { bytes = does.bytes; took = does.took; holds = trace_says does.bytes sink status does.holds }
+judge_says (Some (Trace full prefix)) told source sink status does judges =
+    record { bytes = does.bytes; took = does.took; holds = trace_says full prefix does.bytes sink status does.holds }
 judge_says command told source sink status does judges = absurd judges

@@ -124,10 +124,12 @@ explain_says json bytes sink status h =
     let found = found_as_said json h.script (part_behind bytes) h.said h.line h.found in
     says_of false bytes status h.line (record { script = h.script; reads = h.reads; found = found }) h.holds.0
 
-traced_status : (text : List ℕ) (sink : Ends) (status : ℕ) (line : Option ℕ) → IsTraced text (IsWritten sink status) line → status ≡ verdict_status line
-traced_status text sink status None traced = traced.2.0
-traced_status text sink status (Some line) traced = traced.0
+traced_status : (full : Bool) (script : Plan) (text : List ℕ) (sink : Ends) (status : ℕ) (line : Option ℕ)
+    → IsTraced full script text (IsWritten sink status) line → status ≡ verdict_status line
+traced_status full script text sink status None traced = traced.2.0
+traced_status full script text sink status (Some line) traced = traced.0
 
-pub trace_says : (bytes : List ℕ) (sink : Ends) (status : ℕ) → HasTraced bytes (IsWritten sink status) → SaysLegal false bytes status
-trace_says bytes sink status h =
-    says_of false bytes status h.line h.found (traced_status (part_behind bytes) sink status h.line h.holds)
+pub trace_says : (full prefix : Bool) (bytes : List ℕ) (sink : Ends) (status : ℕ) → HasTraced full prefix bytes (IsWritten sink status)
+    → SaysLegal prefix bytes status
+trace_says full prefix bytes sink status h =
+    says_of prefix bytes status h.line h.found (traced_status full h.found.script (part_behind bytes) sink status h.line h.holds)

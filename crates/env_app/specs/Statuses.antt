@@ -1,5 +1,5 @@
 -- The statuses and the failures that a command ends with, each with its cause.
-use Rattle.std.specs.Prelude.{◌≡◌, ◌≢◌, ◌⊎◌, ◌<◌, ◌≤◌, ℕ, false, length, Option, Some, None, IsSome}
+use Rattle.std.specs.Prelude.{◌≡◌, ◌≢◌, ◌⊎◌, ◌<◌, ◌≤◌, ℕ, length, Option, Some, None, IsSome}
 use Rattle.task_base.specs.declared.limits.TheConstants.{MOST_BYTES}
 use Rattle.task_base.specs.declared.fault.Fault.TheVariants.{NotLegal, BadScript}
 use Rattle.command_line.specs.declared.words.Command.{Command}
@@ -9,7 +9,7 @@ use Rattle.app_streams.specs.Taken.{IsReadToEnd, OfBytes, IsWithin, TookMore, To
 use Rattle.app_modes.specs.declared.failure.Failure.{Failure}
 use Rattle.app_modes.specs.declared.failure.Failure.TheVariants.{Common, Linted, NotTraced, BadReplies, BadNest}
 use Rattle.app_modes.specs.Failures.{failure_status}
-use Rattle.command_line.specs.CommandLine.{IsJudge, IsLint, TakesInput, WritesVerdict}
+use Rattle.command_line.specs.CommandLine.{IsJudge, IsLint, IsTrace, TakesInput, WritesVerdict, takes_prefix}
 use Rattle.app_modes.specs.Judged.{IsFoundIn}
 use Rattle.app_modes.specs.Outcome.{Does, IsRefused, IsWritten, IsCutOff, refusal_of}
 
@@ -20,7 +20,7 @@ IsDone (Some (Run step json)) status = status ≡ 0
 IsDone (Some (Check prefix)) status = (status ≡ 0) ⊎ (status ≡ 1)
 IsDone (Some (Explain json)) status = (status ≡ 0) ⊎ (status ≡ 1)
 IsDone (Some Reply) status = status ≡ 0
-IsDone (Some Trace) status = (status ≡ 0) ⊎ (status ≡ 1)
+IsDone (Some (Trace full prefix)) status = (status ≡ 0) ⊎ (status ≡ 1)
 IsDone (Some Nest) status = status ≡ 0
 IsDone (Some (Lint input)) status = (status ≡ 0) ⊎ (status ≡ 1)
 IsDone (Some (Generate number size)) status = status ≡ 0
@@ -76,7 +76,7 @@ IsFailureOf command (Common (NotLegal line)) = WritesVerdict command
 IsFailureOf command (Common (BadScript line reason)) = command ≢ Some Nest
 IsFailureOf command (Common fault) = Unit {0}
 IsFailureOf command Linted = IsLint command
-IsFailureOf command (NotTraced line) = command ≡ Some Trace
+IsFailureOf command (NotTraced line) = IsTrace command
 IsFailureOf command (BadReplies line reason) = command ≡ Some Reply
 IsFailureOf command (BadNest line reason) = command ≡ Some Nest
 
@@ -86,7 +86,7 @@ abbrev pub IsOfBytes : Option Command → Ends → Failure → Type 0
 IsOfBytes command source (Common (BadScript line reason)) = IsRefused command source (Common (BadScript line reason))
 IsOfBytes command source (Common fault) = Unit {0}
 IsOfBytes command source Linted = Unit {0}
-IsOfBytes command source (NotTraced line) = OfTaken source (λ bytes. IsFoundIn false bytes (Some line))
+IsOfBytes command source (NotTraced line) = OfTaken source (λ bytes. IsFoundIn (takes_prefix command) bytes (Some line))
 IsOfBytes command source (BadReplies line reason) = IsRefused command source (BadReplies line reason)
 IsOfBytes command source (BadNest line reason) = IsRefused command source (BadNest line reason)
 

@@ -32,7 +32,8 @@ use std::thread::Threads;
 
 /// Does what the words ask for, and answers the exit status (this project's own rule).
 ///
-/// The command is `taskenv MODE [--step N] [--json] [--prefix] [--number N] [--size N] [--replies] [--nest]`, the program's name first.
+/// The command is `taskenv MODE [--step N] [--json] [--prefix] [--number N] [--size N] [--replies] [--nest]
+/// [--full]`, the program's name first.
 /// The modes are:
 ///
 /// - `run` reads a script from the source, to its end, runs it, and writes the run's log to the sink, as text or with
@@ -44,7 +45,8 @@ use std::thread::Threads;
 /// - `reply` reads a script, the line `%%` and replies from the source, to its end, and does what `run` does of the script
 ///   whose tasks post their replies.
 /// - `trace` reads what `check` reads, and writes the log as trace events, which is status 0, where it is that of a whole
-///   run of the script, and else nothing, which is status 1.
+///   run of the script, or with `--prefix` of the beginning of one, and else nothing, which is status 1. With `--full` the
+///   events say all that the log and the script tell.
 /// - `nest` reads a nest script from the source, to its end, runs it, and writes its log.
 /// - `lint` reads a script from the source, to its end, or with `--replies` what `reply` reads, or with `--nest` what `nest` reads, and
 ///   writes why it is none, in one line, where it is none, which is status 1.
@@ -79,7 +81,7 @@ pub fn run_words<R: Threads + Wait + Sync, S: Source, K: Sink, N: Sink, C: Clock
         (λ bytes. HasRun bytes json (readings_of step (C.readings clock.old)) (WroteAll (K.holds sink.old) (K.holds sink.new))) }
 
     // `check` answers 0 or 1 by the line at which the log behind the script is found wrong, and writes that line; `trace` writes
-    // the log's trace under 0, and nothing under 1. 0 comes only where the log is a legal, whole one of the script, whose numbers
+    // the log's trace under 0, with `--full` the full one, and nothing under 1. 0 comes only where the log is a legal, whole one of the script, whose numbers
     // fit, and 1 only where there is none, whatever its numbers are. With `--prefix` nothing is asked of whole.
     ensures verdict { (prefix : Bool) → command_of (map string_bytes words.now) ≡ Some (Check prefix) → (result ≡ 0) ⊎ (result ≡ 1)
         → OfTaken (ends (S.left source.old) (S.left source.new) (S.faults source.old) (S.faults source.new))
@@ -89,9 +91,9 @@ pub fn run_words<R: Threads + Wait + Sync, S: Source, K: Sink, N: Sink, C: Clock
     ensures explained { (json : Bool) → command_of (map string_bytes words.now) ≡ Some (Explain json) → (result ≡ 0) ⊎ (result ≡ 1)
         → OfTaken (ends (S.left source.old) (S.left source.new) (S.faults source.old) (S.faults source.new))
         (λ bytes. HasExplained json bytes (λ status text. (result ≡ status) × WroteAll (K.holds sink.old) (K.holds sink.new) text)) }
-    ensures traced { command_of (map string_bytes words.now) ≡ Some Trace → (result ≡ 0) ⊎ (result ≡ 1)
+    ensures traced { (full prefix : Bool) → command_of (map string_bytes words.now) ≡ Some (Trace full prefix) → (result ≡ 0) ⊎ (result ≡ 1)
         → OfTaken (ends (S.left source.old) (S.left source.new) (S.faults source.old) (S.faults source.new))
-        (λ bytes. HasTraced bytes (λ status text. (result ≡ status) × WroteAll (K.holds sink.old) (K.holds sink.new) text)) }
+        (λ bytes. HasTraced full prefix bytes (λ status text. (result ≡ status) × WroteAll (K.holds sink.old) (K.holds sink.new) text)) }
     ensures legal_log { IsJudge (command_of (map string_bytes words.now)) → result ≡ 0
         → OfTaken (ends (S.left source.old) (S.left source.new) (S.faults source.old) (S.faults source.new))
         (HasLegalLog (takes_prefix (command_of (map string_bytes words.now)))) }

@@ -38,7 +38,10 @@ commands =
     ∷ good (codes "explain" ∷ []) (Explain false)
     ∷ good (codes "explain" ∷ codes "--json" ∷ []) (Explain true)
     ∷ good (codes "reply" ∷ []) Reply
-    ∷ good (codes "trace" ∷ []) Trace
+    ∷ good (codes "trace" ∷ []) (Trace false false)
+    ∷ good (codes "trace" ∷ codes "--full" ∷ []) (Trace true false)
+    ∷ good (codes "--full" ∷ codes "trace" ∷ codes "--prefix" ∷ []) (Trace true true)
+    ∷ good (codes "trace" ∷ codes "--prefix" ∷ []) (Trace false true)
     ∷ good (codes "nest" ∷ []) Nest
     ∷ good (codes "lint" ∷ []) (Lint linted.Script)
     ∷ good (codes "lint" ∷ codes "--replies" ∷ []) (Lint linted.Replies)
@@ -132,7 +135,10 @@ others_options =
     ∷ bad (codes "reply" ∷ codes "--json" ∷ [])
     ∷ bad (codes "reply" ∷ codes "--step" ∷ codes "1" ∷ [])
     ∷ bad (codes "trace" ∷ codes "--json" ∷ [])
-    ∷ bad (codes "trace" ∷ codes "--prefix" ∷ [])
+    ∷ bad (codes "trace" ∷ codes "--full" ∷ codes "--step" ∷ codes "1" ∷ [])
+    ∷ bad (codes "trace" ∷ codes "--nest" ∷ [])
+    ∷ bad (codes "run" ∷ codes "--full" ∷ [])
+    ∷ bad (codes "lint" ∷ codes "--full" ∷ [])
     ∷ bad (codes "trace" ∷ codes "--number" ∷ codes "0" ∷ [])
     ∷ bad (codes "nest" ∷ codes "--step" ∷ codes "1" ∷ [])
     ∷ bad (codes "nest" ∷ codes "--size" ∷ codes "3" ∷ [])

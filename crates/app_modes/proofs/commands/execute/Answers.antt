@@ -15,7 +15,7 @@ returns-in-Explain-clause-outcome g c =
 
 pub returns-in-Trace-clause-outcome : goal.returns-in-Trace-clause-outcome
 returns-in-Trace-clause-outcome g c =
-    ends_asked _ Trace _ _ _ _
+    ends_asked _ (Trace c.in-Trace.full c.in-Trace.prefix) _ _ _ _
     (sym c.in-Ok-Some.ensures.command ∙ c.in-Ok-Some.field-0-is ∙ ap Some c.in-Trace.is) c.trace.ensures.outcome
 
 pub returns-in-Nest-clause-outcome : goal.returns-in-Nest-clause-outcome

@@ -12,4 +12,5 @@ returns c =
     let fifth = c.in_ok-command-5.ensures ∙ ap₂ with_rule fourth c.value_argument-2.ensures.rule in
     let sixth = c.in_ok-command-6.ensures ∙ ap₂ with_rule fifth c.value_argument-3.ensures.rule in
     let seventh = c.in_ok-command-7.ensures ∙ ap₂ with_rule sixth c.flag_argument-3.ensures.rule in
-    IfOk-weaker c.with_argument-8.result _ _ (λ command is. is ∙ ap₂ with_rule seventh c.flag_argument-4.ensures.rule) c.with_argument-8.ensures
+    let eighth = c.in_ok-command-8.ensures ∙ ap₂ with_rule seventh c.flag_argument-4.ensures.rule in
+    IfOk-weaker c.with_argument-9.result _ _ (λ command is. is ∙ ap₂ with_rule eighth c.flag_argument-5.ensures.rule) c.with_argument-9.ensures
