@@ -1,0 +1,121 @@
+//! Calls by their words.
+use live_core::Call;
+use std::str::FromStr;
+use value_words::{fence_named, policy_named, priority_named, scope_named, vote_named};
+
+/// The call of a line, and the answer that is wanted of it, if it has both.
+pub fn asked(line: &str) -> Option<(Call, &str)> {
+    let (call, answer) = line.split_once(" -> ")?;
+    Some((call_of(call)?, answer))
+}
+
+/// The call that these words make, if they make one: the word of the entry that it asks for, the seat that makes it, where that
+/// is not always the driver, and what it names.
+fn call_of(text: &str) -> Option<Call> {
+    let mut words = text.split(' ');
+    let word = words.next()?;
+    match (words.next(), words.next(), words.next(), words.next()) {
+        (None, _, _, _) => call_alone(word),
+        (Some(first), None, _, _) => call_with_one(word, first),
+        (Some(first), Some(second), None, _) => call_with_two(word, first, second),
+        (Some(first), Some(second), Some(third), None) => {
+            call_with_three(word, first, second, third)
+        }
+        _ => None,
+    }
+}
+
+fn call_alone(word: &str) -> Option<Call> {
+    match word {
+        "maintake" => Some(Call::MainTake),
+        "mainend" => Some(Call::MainEnd),
+        "idle" => Some(Call::Idle),
+        "shutdown" => Some(Call::Shutdown),
+        "done" => Some(Call::Done),
+        _ => None,
+    }
+}
+
+fn call_with_one(word: &str, first: &str) -> Option<Call> {
+    match word {
+        "policy" => {
+            let policy = policy_named(first.as_bytes())?;
+            Some(Call::Policy { policy })
+        }
+        "tick" => {
+            let reading = number(first)?;
+            Some(Call::Tick { reading })
+        }
+        _ => call_of_one(word, number(first)?),
+    }
+}
+
+/// The call that names one seat, queue or job.
+fn call_of_one(word: &str, number: u32) -> Option<Call> {
+    match word {
+        "take" => Some(Call::Take { seat: number }),
+        "end" => Some(Call::End { seat: number }),
+        "unblock" => Some(Call::Leave { seat: number }),
+        "jobstep" => Some(Call::JobStep { seat: number }),
+        "unfence" => Some(Call::Unfence { queue: number }),
+        "close" => Some(Call::Close { queue: number }),
+        "startjob" => Some(Call::JobPost { job: number }),
+        "jobtake" => Some(Call::JobTake { job: number }),
+        "cancel" => Some(Call::JobCancel { job: number }),
+        "cancelled" => Some(Call::Cancelled { job: number }),
+        "joined" => Some(Call::Joined { job: number }),
+        _ => None,
+    }
+}
+
+fn call_with_two(word: &str, first: &str, second: &str) -> Option<Call> {
+    match word {
+        "block" => {
+            let (seat, scope) = (number(first)?, scope_named(second.as_bytes())?);
+            Some(Call::Enter { seat, scope })
+        }
+        "reprio" => {
+            let (runner, priority) = (number(first)?, priority_named(second.as_bytes())?);
+            Some(Call::Reprio { runner, priority })
+        }
+        "fence" => {
+            let (queue, at) = (number(first)?, fence_named(second.as_bytes())?);
+            Some(Call::Fence { queue, at })
+        }
+        "rank" => {
+            let (queue, class) = (number(first)?, number(second)?);
+            Some(Call::Rank { queue, class })
+        }
+        _ => None,
+    }
+}
+
+fn call_with_three(word: &str, first: &str, second: &str, third: &str) -> Option<Call> {
+    match word {
+        "post" => {
+            let (seat, runner, delay) = (number(first)?, number(second)?, number(third)?);
+            Some(Call::Post {
+                seat,
+                runner,
+                delay,
+            })
+        }
+        "main" => {
+            let (seat, queue, delay) = (number(first)?, number(second)?, number(third)?);
+            Some(Call::Main { seat, queue, delay })
+        }
+        "vote" => {
+            let (queue, voter) = (number(first)?, number(second)?);
+            let on = vote_named(third.as_bytes())?;
+            Some(Call::Vote { queue, voter, on })
+        }
+        _ => None,
+    }
+}
+
+fn number<N: FromStr + Drop>(word: &str) -> Option<N>
+where
+    N::Err: Drop,
+{
+    word.parse::<N>().ok()
+}
