@@ -1,0 +1,9 @@
+mod Draws
+mod Made
+mod Noted
+mod Ripe
+mod Shares
+mod Stepped
+mod Ticks
+mod Turns
+mod Worked

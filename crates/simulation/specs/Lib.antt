@@ -1,0 +1,7 @@
+pub mod Awaited
+pub mod Awaits
+pub mod Clock
+pub mod Draw
+pub mod Schedule
+pub mod Simulated
+pub mod Turns
