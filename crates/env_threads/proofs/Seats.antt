@@ -1,5 +1,5 @@
 -- The workers of a script, from their split to the close.
--- Cited by `perform`, `run_crew`, `join_all`, `start_all`.
+-- Cited by `perform`, `run`, `join_all`, `start_all`.
 use Rattle.std.proofs.Common.{◌≡◌, ℕ, zero, suc, ◌+◌, ◌-◌, ◌<◌, ◌≤◌, Bool, true, false, cond, eqb, append-nil, List, [], ◌∷◌, ◌++◌}
 use Rattle.std.proofs.Common.{length, map, refl, sym, ap, subst, ◌∙◌, length-append, get_or, Option, Some, None, arith, inl, inr}
 use Rattle.std.specs.Prelude.{is_none, slice_get}

@@ -4,4 +4,4 @@
 mod crew;
 mod workers;
 
-pub use crew::run_crew;
+pub use crew::{run_crew, run_shaken};

@@ -5,8 +5,10 @@ ghost use Rattle.env_threads.specs.Crew.{AreSpare, ArePromised, refused};
 
 use env_crew::{Desk, work};
 use env_io::Gate;
+use env_pauses::PausingDesk;
 use env_shared::{EnvSeat, Shared, SharedDesk};
 use std::alloc::{AllocError, Global};
+use std::rt::Clock;
 use std::snapshot::Snapshot;
 use std::sync::Wait;
 use std::sync::atomic::{AtomicU32, Ordering};
@@ -36,6 +38,9 @@ impl<B: TaskBody> Promise<EnvSeat<B>> for GivesBack<B> {
 
 /// The start of a worker's thread, or `None` where it was refused.
 pub type Start<B> = Option<PromisedHandle<EnvSeat<B>, GivesBack<B>>>;
+
+/// A desk of the caller's thread: the driver's, which may pause, or that of a worker whose start was refused, which never does.
+pub type CallersDesk<'a, B, H> = PausingDesk<'a, SharedDesk<'a, B>, H>;
 
 /// What a worker's thread does. Where the word is the worker's number it gives the seat back at once.
 fn attend<R: Wait, B: TaskBody, G: Gate>(
@@ -92,7 +97,7 @@ fn start<'s, E, R: Threads + Wait + Sync, B: TaskBody + Send, G: Gate>(
 }
 
 /// Starts all workers, the last one first. A worker whose thread is refused gets a spare desk.
-pub fn start_all<'s, E, R: Threads + Wait + Sync, B: TaskBody + Send, G: Gate>(
+pub fn start_all<'s, E, R: Threads + Wait + Sync, B: TaskBody + Send, G: Gate, H: Clock>(
     rt: &'s R,
     scope: &Scope<'s, E>,
     shared: &'s Shared<B>,
@@ -100,7 +105,7 @@ pub fn start_all<'s, E, R: Threads + Wait + Sync, B: TaskBody + Send, G: Gate>(
     gate: &'s G,
     mut seats: Rows<EnvSeat<B>>,
     starts: &mut Rows<Start<B>>,
-    spare: &mut Rows<SharedDesk<'s, B>>,
+    spare: &mut Rows<CallersDesk<'s, B, H>>,
 )
     requires workers { AreWorkers shared.now 1 seats.items }
     requires known { length seats.items ≤ shared.now.basis.workers }
@@ -117,18 +122,18 @@ pub fn start_all<'s, E, R: Threads + Wait + Sync, B: TaskBody + Send, G: Gate>(
             Ok(handle) => starts.push_spare(Some(handle)),
             Err(back) => {
                 starts.push_spare(None);
-                spare.push_spare(shared.desk(back));
+                spare.push_spare(PausingDesk::new(shared.desk(back), None));
             }
         }
     }
 }
 
 /// Waits for all workers, the first one first, and takes those of the spare desks in between.
-pub fn join_all<R: Threads, B: TaskBody>(
+pub fn join_all<R: Threads, B: TaskBody, H: Clock>(
     rt: &R,
     shared: &Shared<B>,
     mut starts: Rows<Start<B>>,
-    mut spare: Rows<SharedDesk<'_, B>>,
+    mut spare: Rows<CallersDesk<'_, B, H>>,
     mut rest: Rows<EnvSeat<B>>,
 ) -> Rows<EnvSeat<B>>
     requires stands { shared.now.stands ≡ true }
@@ -143,7 +148,7 @@ pub fn join_all<R: Threads, B: TaskBody>(
         let seat = match start {
             Some(handle) => handle.join(rt),
             None => match spare.pop() {
-                Some(desk) => desk.into_seat(),
+                Some(desk) => desk.into_inner().into_seat(),
                 None => unreachable!(),
             },
         };

@@ -17,7 +17,8 @@ pub returns-clause-back : goal.returns-clause-back
 returns-clause-back g c =
     let key = c.args.shared.now in let first = c.into_seat-first.result in let seated = c.into_seat-first.ensures.seated in
     let split = c.requires.first in let later = c.drive.ensures.later in
-    let out = c.into_seat-first.ensures.seat in let in_ = c.desk-desk.ensures.seat in
+    let out = c.into_seat-first.ensures.seat ∙ ap (λ d. d.seat) c.into_inner.ensures in
+    let in_ = ap (λ d. d.seat) c.new-desk.ensures ∙ c.desk.ensures.seat in
     let number : first.number ≡ 0 = ap (λ s. s.number) out ∙ later.seat_is ∙ ap (λ s. s.number) in_ ∙ split.number_is in
     let script : first.of.basis ≡ key.basis = ap (λ s. s.of.basis) out ∙ later.script_is ∙ ap (λ s. s.of.basis) in_ ∙ ap (λ k. k.basis) split.of_is in
     record {

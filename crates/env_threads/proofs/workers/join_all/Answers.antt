@@ -34,7 +34,7 @@ loop-start-preserved g c =
           let items : c.loop-start.starts.items ≡ front ++ None ∷ [] = c.in-Some.ensures.items ∙ ap (λ o. front ++ o ∷ []) w.in-None.is in
           let last = spare_pop key (refused n front) (n - length front) w.pop-in-None.new.self.items desk
           (rw (← w.in-Some-pop.ensures.items, ← refused_none n front, ← items) was.spare) in
-          let out = w.into_seat.ensures.seat in (
+          let out = w.into_seat.ensures.seat ∙ ap (λ d. d.seat) w.into_inner.ensures in (
             rw (w.seat-is, ← number) (leaves_free key (n - length front) w.into_seat.result (ap (λ s. s.of.table) out ∙ last.2.table_is)
                 (ap (λ s. s.of.basis) out ∙ last.2.script_is) c.requires.stands
                 (ap (λ s. s.number) out ∙ last.1) (rw out last.2.free) w.into_seat.ensures.seated),

@@ -57,7 +57,7 @@ loop-seat-preserved g c =
       left = last.0;
       all = omega (arith, was.all, last.2, longer);
       promised = rw items (promised_none (λ h. h.promise.0.value) _ _ starts was.promised);
-      spare_are = rw (items, refused_none n starts, c.push_spare-in-Err-2.ensures.items, ← number) (spare_push key _ _ desk was.spare_are one);
+      spare_are = rw (items, refused_none n starts, c.push_spare-in-Err-2.ensures.items, c.new.ensures, ← number) (spare_push key _ _ desk was.spare_are one);
       room = omega (arith, last.2, was.room, c.push_spare-in-Err.ensures.spare);
       spare_room = omega (arith, last.2, was.spare_room, c.push_spare-in-Err-2.ensures.spare);
     }

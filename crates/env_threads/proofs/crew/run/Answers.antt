@@ -3,7 +3,7 @@ use Rattle.hist_model.specs.Legal.{IsLegal}
 use Rattle.hist_model.proofs.Laws.Entries.Bound.{entries_within_limit}
 use Rattle.hist_model.proofs.Laws.Fitting.Entries.{entries_fit}
 use Rattle.env_threads.proofs.Seats.{moments_whole, whole_at_end, workers_rise}
-use Rattle.env_threads.proofs.crew.run_crew.Goals as goal
+use Rattle.env_threads.proofs.crew.run.Goals as goal
 
 pub close-requires-clause-rest : goal.close-requires-clause-rest
 close-requires-clause-rest g c = workers_rise c.in_ok-shared.shared 1 c.in_ok-first.rest.items c.in_ok-first.ensures.back.rising
