@@ -1,15 +1,16 @@
 //! Runs on threads, with bodies and gates of the tests' own.
 ghost use Rattle.script_model.specs.Laws.Sound.{IsSound};
 
-use env_io::{Gate, ListClock};
-use env_threads::run_crew;
+use env_io::{Gate, ListClock, OpenGate};
+use env_pauses::Pauses;
+use env_threads::{run_crew, run_shaken};
 use std::alloc::{AllocError, Global};
-use std::hint;
 use std::process::Abort;
 use std::sync::atomic::{AtomicU64, Ordering};
 use std::sync::{Arc, Wait};
 use std::test::Fail;
 use std::thread::Threads;
+use std::{hint, rt};
 use task_base::{Entry, Rows, Script};
 use worked_calls::{Word, assert_log, bodies_of, script_of};
 
@@ -26,6 +27,22 @@ fn log_of<R: Threads + Wait + Sync, G: Gate>(
     let bodies = bodies_of(alloc, script, word)?;
     let mut clock = ListClock::new(Vec::new(alloc));
     let env = run_crew(rt, alloc, script, bodies, &mut clock, gate)?;
+    Ok(env.into_log())
+}
+
+/// The log of a run of this script on threads, with pauses. Its bodies share the word.
+fn shaken_log_of<R: Threads + Wait + Sync + rt::Clock>(
+    rt: &R,
+    alloc: Global,
+    script: &Script,
+    word: &Word,
+) -> Result<Rows<Entry>, AllocError>
+    requires { IsSound script.now }
+{
+    let bodies = bodies_of(alloc, script, word)?;
+    let mut clock = ListClock::new(Vec::new(alloc));
+    let pauses = Pauses { most: 20, seed: 7 };
+    let env = run_shaken(rt, alloc, script, bodies, &mut clock, &OpenGate, pauses)?;
     Ok(env.into_log())
 }
 
@@ -99,6 +116,14 @@ fn gate_is_passed_once_a_task_before_its_first_step(rt: HostRuntime) -> Result<(
     assert_passed(&rt, &gate);
     assert_count(&rt, &word, 4);
     Ok(())
+}
+
+#[test]
+fn shaken_run_is_a_run(rt: HostRuntime) -> Result<(), Fail> {
+    let word = Arc::new(rt.alloc(), AtomicU64::new(0))?;
+    let script = script_of(rt.alloc(), ALONG)?;
+    let log = shaken_log_of(&rt, rt.alloc(), &script, &word)?;
+    assert_log(rt.alloc(), &log, ALONG_LOG)
 }
 
 /// A gate at which each worker waits until three have come, and that counts those that saw it.

@@ -3,3 +3,5 @@
 
 #[cfg(test)]
 mod crew;
+#[cfg(test)]
+mod pauses;
