@@ -10,7 +10,7 @@ use Rattle.std.proofs.lemmas.Fmt.{parse-decimal}
 use Rattle.std.proofs.lemmas.Bool.{and_parts, eqb-true, leb-true}
 use Rattle.script_model.specs.Words.{is_word, number_of}
 use Rattle.script_model.proofs.Laws.Texts.{number_of-decimal}
-use Rattle.command_line.specs.CommandLine.{◌>>=◌, number_named}
+use Rattle.command_line.specs.Options.{◌>>=◌, number_named}
 
 same_word : (a b : List ℕ) → is_word a b ≡ true → a ≡ b
 same_word [] [] h = refl

@@ -1,26 +1,19 @@
 -- What the words of a command line ask for.
-use Rattle.std.specs.Prelude.{ℕ, ◌-◌, ◌^◌, ◌≤◌, ◌&&◌, nat_le, not, is_none, Bool, true, false, if◌then◌else◌, List, [], ◌∷◌, codes, Option, Some, None, option_map}
-use Rattle.std.specs.Fmt.{decimal}
-use Rattle.task_base.specs.declared.limits.TheConstants.{MOST_MICROSECONDS}
-use Rattle.script_model.specs.Words.{is_word, number_of}
+use Rattle.std.specs.Prelude.{ℕ, ◌≤◌, Bool, true, false, if◌then◌else◌, List, [], ◌∷◌, fold, codes, Option, Some, None}
+use Rattle.script_model.specs.Words.{is_word}
 use Rattle.clap.specs.Walk.{Rule, Row, first_of}
 use Rattle.clap.specs.Simple.{App, new_app, new_rule, with_rule, matches_of}
 use Rattle.clap.specs.Kinds.{Kinds}
 use Rattle.clap.specs.Faults.{fault_of}
 use Rattle.clap.specs.declared.builder.action.ArgAction.TheVariants.{SetTrue}
 use Rattle.command_line.specs.declared.words.Command.{Command}
-use Rattle.command_line.specs.declared.words.Command.TheVariants.{Run, Check, Explain, Reply, Trace, Nest, Lint, Generate, Bench}
-use Rattle.command_line.specs.declared.words.Linted.{Linted}
+use Rattle.command_line.specs.declared.words.Command.TheVariants.{Run, Simulate, Check, Explain, Reply, Trace, Nest, Lint, Generate, Bench}
 use Rattle.command_line.specs.declared.words.Linted.TheVariants as linted
 use Rattle.command_line.specs.declared.words.Mode.{Mode}
 use Rattle.command_line.specs.declared.words.Mode.TheVariants as modes
-use Rattle.command_line.specs.declared.words.TheConstants.{USUAL_SIZE, MOST_SIZE}
-
-infixl 10 ◌>>=◌
--- the second, made of the value of the first, if there is one
-abbrev pub ◌>>=◌ : {A B : Type 0} → Option A → (A → Option B) → Option B
-(Some x) >>= f = f x
-None >>= f = None
+use Rattle.command_line.specs.declared.options.TheConstants.{MOST_SIZE, MOST_WORK}
+use Rattle.command_line.specs.Options.{◌>>=◌, Options, IsShake, favour_given, is_bare, options_by}
+use Rattle.command_line.specs.Options.{pace_given, seed_given, shake_given, size_given, step_given, work_given}
 
 -- ---- the command, as clap has commands
 
@@ -36,19 +29,37 @@ value_argument name = record (new_rule name) { long = Some name }
 abbrev pub flag_argument : List ℕ → Rule
 flag_argument name = record (new_rule name) { long = Some name; action = Some SetTrue }
 
--- `taskenv MODE [--step N] [--json] [--prefix] [--number N] [--size N] [--replies] [--nest] [--full]` (this project's own)
-abbrev pub taskenv : App
-taskenv =
-    with_rule (with_rule (with_rule (with_rule (with_rule (with_rule (with_rule (with_rule (with_rule (new_app (codes "taskenv")) mode_argument)
-    (value_argument (codes "step"))) (flag_argument (codes "json"))) (flag_argument (codes "prefix"))) (value_argument (codes "number")))
-    (value_argument (codes "size"))) (flag_argument (codes "replies"))) (flag_argument (codes "nest"))) (flag_argument (codes "full"))
+-- the arguments of the command, in this order
+abbrev pub arguments : List Rule
+arguments =
+    mode_argument
+    ∷ value_argument (codes "step")
+    ∷ flag_argument (codes "json")
+    ∷ flag_argument (codes "prefix")
+    ∷ value_argument (codes "number")
+    ∷ value_argument (codes "size")
+    ∷ flag_argument (codes "replies")
+    ∷ flag_argument (codes "nest")
+    ∷ flag_argument (codes "full")
+    ∷ value_argument (codes "seed")
+    ∷ value_argument (codes "favour")
+    ∷ flag_argument (codes "jump")
+    ∷ value_argument (codes "shake")
+    ∷ value_argument (codes "work")
+    ∷ []
 
--- ---- the values of its arguments
+-- `taskenv MODE [--step N] [--json] [--prefix] [--number N] [--size N] [--replies] [--nest] [--full] [--seed N] [--favour WORD] [--jump]
+-- [--shake N] [--work N]` (this project's own)
+abbrev pub taskenv : App
+taskenv = fold with_rule (new_app (codes "taskenv")) arguments
+
+-- ---- the modes
 
 -- the mode that a word names (this project's own)
 abbrev pub mode_named : List ℕ → Option Mode
 mode_named word =
     if is_word word (codes "run") then Some modes.Run
+    else (if is_word word (codes "simulate") then Some modes.Simulate
     else (if is_word word (codes "check") then Some modes.Check
     else (if is_word word (codes "explain") then Some modes.Explain
     else (if is_word word (codes "reply") then Some modes.Reply
@@ -57,89 +68,87 @@ mode_named word =
     else (if is_word word (codes "lint") then Some modes.Lint
     else (if is_word word (codes "gen") then Some modes.Generate
     else (if is_word word (codes "bench") then Some modes.Bench
-    else None))))))))
+    else None)))))))))
 
--- the number from low to high that a word writes, in decimal digits without a sign and without zeros in front (this project's
+-- the options that the mode does not take: `run` takes `--step`, `--json`, `--shake` and `--seed`, `simulate` takes `--seed`, `--favour`,
+-- `--step`, `--jump` and `--json`, `check` takes `--prefix`, `explain` takes `--json`, `trace` takes `--full` and `--prefix`, `lint` takes
+-- `--replies` and `--nest`, `gen` takes `--number` and `--size`, `bench` takes these and `--work`, and the others take none (this project's
 -- own rule)
-unfoldable pub number_named : ℕ → ℕ → List ℕ → Option ℕ
-number_named low high word = number_of word >>= λ n. if is_word (decimal n) word && nat_le low n && nat_le n high then Some n else None
+abbrev pub others_than : Mode → Options → Options
+others_than modes.Run o = record o { step = None; json = false; shake = None; seed = None }
+others_than modes.Simulate o = record o { seed = None; favour = None; step = None; jump = false; json = false }
+others_than modes.Check o = record o { prefix = false }
+others_than modes.Explain o = record o { json = false }
+others_than modes.Reply o = o
+others_than modes.Trace o = record o { full = false; prefix = false }
+others_than modes.Nest o = o
+others_than modes.Lint o = record o { replies = false; nest = false }
+others_than modes.Generate o = record o { number = None; size = None }
+others_than modes.Bench o = record o { number = None; size = None; work = None }
 
--- the microseconds of a step: from 1 to 10^12. It may be left out, and is `None` where it is there and no step
-abbrev pub step_given : Option (List ℕ) → Option (Option ℕ)
-step_given None = Some None
-step_given (Some word) = option_map (λ n. Some n) (number_named 1 MOST_MICROSECONDS word)
+-- ---- the command of each mode
 
--- the number that a script is made from: 0 where it is left out
-abbrev pub seed_given : Option (List ℕ) → Option ℕ
-seed_given None = Some 0
-seed_given (Some word) = number_named 0 (2 ^ 64 - 1) word
+-- the command of the mode `run`
+abbrev pub run_with : Options → Option Command
+run_with o = do
+  step ← step_given o.step
+  shake ← shake_given o.shake o.seed
+  Some (Run step o.json shake)
 
--- how many tasks it has: the usual number where that is left out
-abbrev pub size_given : Option (List ℕ) → Option ℕ
-size_given None = Some USUAL_SIZE
-size_given (Some word) = number_named 1 MOST_SIZE word
+-- the command of the mode `simulate`
+abbrev pub simulate_with : Options → Option Command
+simulate_with o = do
+  seed ← seed_given o.seed
+  favour ← favour_given o.favour
+  step ← pace_given o.step o.jump
+  Some (Simulate seed favour step o.json)
 
--- the flag is there: clap gives it the text `true` then, and `false` where it is not
-abbrev pub is_set : Option (List ℕ) → Bool
-is_set None = false
-is_set (Some text) = is_word text (codes "true")
+-- the command of the mode `lint`, whose two flags are not both there (this project's own rule)
+abbrev pub lint_with : Bool → Bool → Option Command
+lint_with false false = Some (Lint linted.Script)
+lint_with true false = Some (Lint linted.Replies)
+lint_with false true = Some (Lint linted.Nest)
+lint_with true true = None
 
--- a command for a script that is made from a number, by the words of the number and the size
-abbrev pub made_with : (ℕ → ℕ → Command) → Option (List ℕ) → Option (List ℕ) → Option Command
-made_with command number size = do
-  n ← seed_given number
-  s ← size_given size
-  Some (command n s)
+-- the command of the mode `gen`
+abbrev pub generate_with : Options → Option Command
+generate_with o = do
+  number ← seed_given o.number
+  size ← size_given o.size
+  Some (Generate number size)
 
--- the command of another mode with the words of its options: `run` takes `--step` and `--json`, `check` takes `--prefix`,
--- `explain` takes `--json`, `gen` and `bench` take `--number` and `--size`, and the others take none; an option that the mode does not
--- take makes it none (this project's own rule)
-abbrev pub command_with : Mode → Option (List ℕ) → Bool → Bool → Option (List ℕ) → Option (List ℕ) → Option Command
-command_with modes.Run step json false None None = option_map (λ s. Run s json) (step_given step)
-command_with modes.Check None false prefix None None = Some (Check prefix)
-command_with modes.Explain None json false None None = Some (Explain json)
-command_with modes.Reply None false false None None = Some Reply
-command_with modes.Nest None false false None None = Some Nest
-command_with modes.Generate None false false number size = made_with Generate number size
-command_with modes.Bench None false false number size = made_with Bench number size
-command_with mode step json prefix number size = None
+-- the command of the mode `bench`
+abbrev pub bench_with : Options → Option Command
+bench_with o = do
+  number ← seed_given o.number
+  size ← size_given o.size
+  work ← work_given o.work
+  Some (Bench number size work)
 
--- none of these options is there
-abbrev pub is_bare : Option (List ℕ) → Bool → Bool → Option (List ℕ) → Option (List ℕ) → Bool
-is_bare step json prefix number size = is_none step && not json && not prefix && is_none number && is_none size
+-- the command of the mode with those options that it takes
+abbrev pub command_with : Mode → Options → Option Command
+command_with modes.Run o = run_with o
+command_with modes.Simulate o = simulate_with o
+command_with modes.Check o = Some (Check o.prefix)
+command_with modes.Explain o = Some (Explain o.json)
+command_with modes.Reply o = Some Reply
+command_with modes.Trace o = Some (Trace o.full o.prefix)
+command_with modes.Nest o = Some Nest
+command_with modes.Lint o = lint_with o.replies o.nest
+command_with modes.Generate o = generate_with o
+command_with modes.Bench o = bench_with o
 
--- the input that is to be linted, by the flags of that mode
-abbrev pub linted_by : Bool → Bool → Option Linted
-linted_by false false = Some linted.Script
-linted_by true false = Some linted.Replies
-linted_by false true = Some linted.Nest
-linted_by true true = None
+-- the command of the mode with all options: one that it does not take makes it none
+abbrev pub command_asked : Mode → Options → Option Command
+command_asked mode options = if is_bare (others_than mode options) then command_with mode options else None
 
--- the command of the mode `lint`, where there are no options but its own two, and not both of them (this project's own rule)
-abbrev pub lint_with : Bool → Bool → Bool → Option Command
-lint_with bare replies nest = linted_by replies nest >>= λ input. if bare then Some (Lint input) else None
-
--- the command of the mode `trace`, where there are no options but `--full` and `--prefix` (this project's own rule)
-abbrev pub trace_with : Bool → Bool → Bool → Option Command
-trace_with bare full prefix = if bare then Some (Trace full prefix) else None
-
--- the command of a mode with the words of all options: `--replies` and `--nest` are those of `lint`, and `--full` is that of `trace`
-abbrev pub command_asked : Mode → Option (List ℕ) → Bool → Bool → Option (List ℕ) → Option (List ℕ) → Bool → Bool → Bool → Option Command
-command_asked modes.Lint step json prefix number size replies nest false = lint_with (is_bare step json prefix number size) replies nest
-command_asked modes.Trace step json prefix number size false false full = trace_with (is_bare step json false number size) full prefix
-command_asked mode step json prefix number size false false false = command_with mode step json prefix number size
-command_asked mode step json prefix number size replies nest full = None
-
--- the command that these values of its arguments make, if each is one
-abbrev pub command_by : Option (List ℕ) → Option (List ℕ) → Option (List ℕ) → Option (List ℕ) → Option (List ℕ) → Option (List ℕ) → Option (List ℕ) → Option (List ℕ)
-    → Option (List ℕ) → Option Command
-command_by mode step json prefix number size replies nest full =
-    mode >>= mode_named >>= λ m. command_asked m step (is_set json) (is_set prefix) number size (is_set replies) (is_set nest) (is_set full)
+-- the command of the mode that the word names, with these options
+abbrev pub command_by : Option (List ℕ) → Options → Option Command
+command_by mode options = mode >>= mode_named >>= λ m. command_asked m options
 
 -- the command that these matches of clap's command make, if their values are right
 abbrev pub command_matched : List Row → Option Command
-command_matched rows = command_by (first_of (codes "MODE") rows) (first_of (codes "step") rows) (first_of (codes "json") rows) (first_of (codes "prefix") rows)
-    (first_of (codes "number") rows) (first_of (codes "size") rows) (first_of (codes "replies") rows) (first_of (codes "nest") rows) (first_of (codes "full") rows)
+command_matched rows = command_by (first_of (codes "MODE") rows) (options_by (λ name. first_of name rows))
 
 -- the same, unless clap finds a fault
 abbrev pub command_unless : Kinds → List Row → Option Command
@@ -150,23 +159,26 @@ command_unless (kind ∷ kinds) rows = None
 unfoldable pub command_of : List (List ℕ) → Option Command
 command_of words = command_unless (fault_of taskenv words) (matches_of taskenv words)
 
--- a script that is to be made has from 1 to 8,192 tasks
-abbrev pub IsSized : Command → Type 0
-IsSized (Run step json) = Unit {0}
-IsSized (Check prefix) = Unit {0}
-IsSized (Explain json) = Unit {0}
-IsSized Reply = Unit {0}
-IsSized (Trace full prefix) = Unit {0}
-IsSized Nest = Unit {0}
-IsSized (Lint input) = Unit {0}
-IsSized (Generate number size) = (1 ≤ size) × (size ≤ MOST_SIZE)
-IsSized (Bench number size) = (1 ≤ size) × (size ≤ MOST_SIZE)
+-- the numbers of a command are in their ranges: a script that is to be made has from 1 to 8,192 tasks, those of the pool work
+-- at most 1,000,000,000 nanoseconds each, and a run that is shaken pauses from 1 to 1,000,000 microseconds at most
+abbrev pub IsInRange : Command → Type 0
+IsInRange (Run step json shake) = IsShake shake
+IsInRange (Simulate seed favour step json) = Unit {0}
+IsInRange (Check prefix) = Unit {0}
+IsInRange (Explain json) = Unit {0}
+IsInRange Reply = Unit {0}
+IsInRange (Trace full prefix) = Unit {0}
+IsInRange Nest = Unit {0}
+IsInRange (Lint input) = Unit {0}
+IsInRange (Generate number size) = (1 ≤ size) × (size ≤ MOST_SIZE)
+IsInRange (Bench number size work) = (1 ≤ size) × (size ≤ MOST_SIZE) × (work ≤ MOST_WORK)
 
 -- the command reads the source: a script, behind which `check`, `explain` and `trace` have a log and `reply` has replies, or a nest
 -- script; `lint` any of the scripts and replies
 abbrev pub TakesInput : Option Command → Type 0
 TakesInput None = ⊥
-TakesInput (Some (Run step json)) = Unit {0}
+TakesInput (Some (Run step json shake)) = Unit {0}
+TakesInput (Some (Simulate seed favour step json)) = Unit {0}
 TakesInput (Some (Check prefix)) = Unit {0}
 TakesInput (Some (Explain json)) = Unit {0}
 TakesInput (Some Reply) = Unit {0}
@@ -174,13 +186,14 @@ TakesInput (Some (Trace full prefix)) = Unit {0}
 TakesInput (Some Nest) = Unit {0}
 TakesInput (Some (Lint input)) = Unit {0}
 TakesInput (Some (Generate number size)) = ⊥
-TakesInput (Some (Bench number size)) = ⊥
+TakesInput (Some (Bench number size work)) = ⊥
 
 -- the command reads the clock
 abbrev pub ReadsClock : Option Command → Type 0
 ReadsClock None = ⊥
-ReadsClock (Some (Run None json)) = Unit {0}
-ReadsClock (Some (Run (Some step) json)) = ⊥
+ReadsClock (Some (Run None json shake)) = Unit {0}
+ReadsClock (Some (Run (Some step) json shake)) = ⊥
+ReadsClock (Some (Simulate seed favour step json)) = ⊥
 ReadsClock (Some (Check prefix)) = ⊥
 ReadsClock (Some (Explain json)) = ⊥
 ReadsClock (Some Reply) = Unit {0}
@@ -188,13 +201,15 @@ ReadsClock (Some (Trace full prefix)) = ⊥
 ReadsClock (Some Nest) = ⊥
 ReadsClock (Some (Lint input)) = ⊥
 ReadsClock (Some (Generate number size)) = ⊥
-ReadsClock (Some (Bench number size)) = ⊥
+ReadsClock (Some (Bench number size work)) = ⊥
 
 -- the command runs a script and writes JSON, for which it takes memory after the run
 abbrev pub WritesJson : Option Command → Type 0
 WritesJson None = ⊥
-WritesJson (Some (Run step true)) = Unit {0}
-WritesJson (Some (Run step false)) = ⊥
+WritesJson (Some (Run step true shake)) = Unit {0}
+WritesJson (Some (Run step false shake)) = ⊥
+WritesJson (Some (Simulate seed favour step true)) = Unit {0}
+WritesJson (Some (Simulate seed favour step false)) = ⊥
 WritesJson (Some (Check prefix)) = ⊥
 WritesJson (Some (Explain json)) = ⊥
 WritesJson (Some Reply) = ⊥
@@ -202,12 +217,13 @@ WritesJson (Some (Trace full prefix)) = ⊥
 WritesJson (Some Nest) = ⊥
 WritesJson (Some (Lint input)) = ⊥
 WritesJson (Some (Generate number size)) = ⊥
-WritesJson (Some (Bench number size)) = ⊥
+WritesJson (Some (Bench number size work)) = ⊥
 
 -- the command judges a log
 abbrev pub IsJudge : Option Command → Type 0
 IsJudge None = ⊥
-IsJudge (Some (Run step json)) = ⊥
+IsJudge (Some (Run step json shake)) = ⊥
+IsJudge (Some (Simulate seed favour step json)) = ⊥
 IsJudge (Some (Check prefix)) = Unit {0}
 IsJudge (Some (Explain json)) = Unit {0}
 IsJudge (Some Reply) = ⊥
@@ -215,12 +231,13 @@ IsJudge (Some (Trace full prefix)) = Unit {0}
 IsJudge (Some Nest) = ⊥
 IsJudge (Some (Lint input)) = ⊥
 IsJudge (Some (Generate number size)) = ⊥
-IsJudge (Some (Bench number size)) = ⊥
+IsJudge (Some (Bench number size work)) = ⊥
 
 -- the command writes its verdict on a log
 abbrev pub WritesVerdict : Option Command → Type 0
 WritesVerdict None = ⊥
-WritesVerdict (Some (Run step json)) = ⊥
+WritesVerdict (Some (Run step json shake)) = ⊥
+WritesVerdict (Some (Simulate seed favour step json)) = ⊥
 WritesVerdict (Some (Check prefix)) = Unit {0}
 WritesVerdict (Some (Explain json)) = Unit {0}
 WritesVerdict (Some Reply) = ⊥
@@ -228,7 +245,7 @@ WritesVerdict (Some (Trace full prefix)) = ⊥
 WritesVerdict (Some Nest) = ⊥
 WritesVerdict (Some (Lint input)) = ⊥
 WritesVerdict (Some (Generate number size)) = ⊥
-WritesVerdict (Some (Bench number size)) = ⊥
+WritesVerdict (Some (Bench number size work)) = ⊥
 
 -- the command says of an input why it is none
 abbrev pub IsLint : Option Command → Type 0

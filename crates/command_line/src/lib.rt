@@ -1,6 +1,8 @@
 //! What the words of the program's command line ask for.
 #![tactic(auto)]
 
+mod options;
 mod words;
 
-pub use words::{Command, Linted, MOST_SIZE, USUAL_SIZE, command_of};
+pub use options::{Favour, MOST_SHAKE, MOST_SIZE, MOST_WORK, Shake, USUAL_SIZE};
+pub use words::{Command, Linted, command_of};

@@ -1,45 +1,56 @@
-ghost use Rattle.std.specs.Prelude.{◌≡◌, ◌≢◌, ◌≤◌, ◌<◌, ◌&&◌, nat_le, false, None, map, string_bytes, IfOk, IfSome, option_map, decimal};
-ghost use Rattle.script_model.specs.Words.{is_word};
+ghost use Rattle.std.specs.Prelude.{◌≡◌, ◌≢◌, false, None, map, string_bytes, IfOk, IfSome, option_map};
+ghost use Rattle.clap.specs.Matches.{found_of, first_value};
 ghost use Rattle.clap.specs.Simple.{app_of, with_rule};
 ghost use Rattle.clap.specs.Values.{kind_of};
 ghost use Rattle.clap.specs.Walk.{rule_of};
-ghost use Rattle.command_line.specs.CommandLine.{IsSized, command_by, command_of, command_with, flag_argument, is_bare, is_set, lint_with, mode_argument, mode_named, number_named, seed_given, size_given, step_given, taskenv, trace_with, value_argument};
+ghost use Rattle.command_line.specs.Options.{options_by, options_of};
+ghost use Rattle.command_line.specs.CommandLine.{IsInRange, bench_with, command_by, command_of, command_with, flag_argument, lint_with};
+ghost use Rattle.command_line.specs.CommandLine.{generate_with, mode_argument, mode_named, others_than, run_with, simulate_with, taskenv, value_argument};
 
+use crate::options::{
+    Favour, Given, Shake, favour_given, is_bare, is_set, pace_given, seed_given, shake_given,
+    size_given, step_given, work_given,
+};
 use clap::error::ErrorKind;
-use clap::{Arg, ArgAction};
-use itoa::Buffer;
+use clap::{Arg, ArgAction, ArgMatches};
 use std::alloc::{AllocError, Global};
-use task_base::MOST_MICROSECONDS;
-
-/// The most tasks of a script that is made from a number.
-pub const MOST_SIZE: u32 = 8192;
-
-/// How many tasks it has where nothing is said.
-pub const USUAL_SIZE: u32 = 16;
 
 /// What the words of a command line ask for (this project's own).
 #[derive(Clone, Copy, Debug, PartialEq, Eq)]
 pub enum Command {
     /// Runs a script, and writes the log of the run.
     Run {
-        /// How many microseconds each reading is behind the one before it, in place of what the clock reads.
+        /// How many microseconds each reading is after the one before it, in place of what the clock reads.
+        step: Option<u64>,
+        /// Whether the log is written as JSON, and not as text.
+        json: bool,
+        /// The pauses of the run, where it is shaken.
+        shake: Option<Shake>,
+    },
+    /// Runs a script on one thread, whose seats take turns by a seed, and writes the log of the run.
+    Simulate {
+        /// The seed of the draws.
+        seed: u64,
+        /// Whom the draws favour.
+        favour: Favour,
+        /// How many microseconds each tick is after the one before it, where it does not jump to what is awaited.
         step: Option<u64>,
         /// Whether the log is written as JSON, and not as text.
         json: bool,
     },
-    /// Judges the log behind a script.
+    /// Judges the log after a script.
     Check {
         /// Whether the log may also end before the script is done.
         prefix: bool,
     },
-    /// Judges the log behind a script, and says why it is illegal.
+    /// Judges the log after a script, and says why it is illegal.
     Explain {
         /// Whether that is said in JSON, and not in words.
         json: bool,
     },
-    /// Runs a script whose tasks post the replies behind it, and writes the log of the run.
+    /// Runs a script whose tasks post the replies after it, and writes the log of the run.
     Reply,
-    /// Writes the trace of the log behind a script.
+    /// Writes the trace of the log after a script.
     Trace {
         /// Whether the trace says all that the log and the script tell.
         full: bool,
@@ -66,6 +77,8 @@ pub enum Command {
         number: u64,
         /// How many tasks it has: 1 to 8,192.
         size: u32,
+        /// How many nanoseconds each task of the pool works: 0 to 1,000,000,000.
+        work: u64,
     },
 }
 
@@ -74,7 +87,7 @@ pub enum Command {
 pub enum Linted {
     /// A script.
     Script,
-    /// A script, and replies behind it.
+    /// A script, and replies after it.
     Replies,
     /// A nest script.
     Nest,
@@ -84,6 +97,7 @@ pub enum Linted {
 #[derive(Clone, Copy)]
 enum Mode {
     Run,
+    Simulate,
     Check,
     Explain,
     Reply,
@@ -94,29 +108,19 @@ enum Mode {
     Bench,
 }
 
-/// The command that the words are, if they are one. The error is want of memory.
+/// The command that the words are, if they are one. The error is out of memory.
 pub fn command_of(alloc: Global, words: &[String]) -> Result<Option<Command>, AllocError>
     ensures command { IfOk result (λ command. command ≡ command_of (map string_bytes words.now)) }
-    ensures sized { IfOk result (λ command. IfSome command IsSized) }
+    ensures in_range { IfOk result (λ command. IfSome command IsInRange) }
 {
     let matches = match taskenv(alloc)?.try_get_matches_from(words) {
         Ok(matches) => matches,
         Err(error) => return refusal(&error),
     };
-    Ok(command_by(
-        matches.get_str("MODE"),
-        matches.get_str("step"),
-        matches.get_str("json"),
-        matches.get_str("prefix"),
-        matches.get_str("number"),
-        matches.get_str("size"),
-        matches.get_str("replies"),
-        matches.get_str("nest"),
-        matches.get_str("full"),
-    ))
+    Ok(command_by(matches.get_str("MODE"), given_in(&matches)))
 }
 
-/// What is answered where clap refuses the words: that they are no command, or want of memory.
+/// What is answered where clap refuses the words: that they are no command, or out of memory.
 fn refusal(error: &clap::Error) -> Result<Option<Command>, AllocError>
     ensures { IfOk result (λ command. (command ≡ None) × (kind_of error.now ≢ ErrorKind.OutOfMemory)) }
 {
@@ -126,7 +130,29 @@ fn refusal(error: &clap::Error) -> Result<Option<Command>, AllocError>
     }
 }
 
-/// The command `taskenv MODE [--step N] [--json] [--prefix] [--number N] [--size N] [--replies] [--nest] [--full]`.
+/// The options that clap found among the words.
+fn given_in<'a>(matches: &ArgMatches<'a>) -> Given<'a>
+    ensures { options_of result ≡ options_by (first_value (found_of matches.now)) }
+{
+    Given {
+        step: matches.get_str("step"),
+        json: is_set(matches.get_str("json")),
+        prefix: is_set(matches.get_str("prefix")),
+        number: matches.get_str("number"),
+        size: matches.get_str("size"),
+        replies: is_set(matches.get_str("replies")),
+        nest: is_set(matches.get_str("nest")),
+        full: is_set(matches.get_str("full")),
+        seed: matches.get_str("seed"),
+        favour: matches.get_str("favour"),
+        jump: is_set(matches.get_str("jump")),
+        shake: matches.get_str("shake"),
+        work: matches.get_str("work"),
+    }
+}
+
+/// The command `taskenv MODE [--step N] [--json] [--prefix] [--number N] [--size N] [--replies] [--nest] [--full] [--seed N]
+/// [--favour WORD] [--jump] [--shake N] [--work N]`.
 fn taskenv<'a>(alloc: Global) -> Result<clap::Command<'a>, AllocError>
     ensures { IfOk result (λ command. app_of command ≡ taskenv) }
 {
@@ -138,7 +164,12 @@ fn taskenv<'a>(alloc: Global) -> Result<clap::Command<'a>, AllocError>
     let command = with_argument(command, value_argument(alloc, "size"))?;
     let command = with_argument(command, flag_argument(alloc, "replies"))?;
     let command = with_argument(command, flag_argument(alloc, "nest"))?;
-    with_argument(command, flag_argument(alloc, "full"))
+    let command = with_argument(command, flag_argument(alloc, "full"))?;
+    let command = with_argument(command, value_argument(alloc, "seed"))?;
+    let command = with_argument(command, value_argument(alloc, "favour"))?;
+    let command = with_argument(command, flag_argument(alloc, "jump"))?;
+    let command = with_argument(command, value_argument(alloc, "shake"))?;
+    with_argument(command, value_argument(alloc, "work"))
 }
 
 /// The command with one argument more.
@@ -176,110 +207,16 @@ fn flag_argument<'a>(alloc: Global, name: &'a str) -> Arg<'a>
     Arg::new(alloc, name).long(name).action(ArgAction::SetTrue)
 }
 
-/// The command that the values of its arguments make, if each is right.
-fn command_by(
-    mode: Option<&str>,
-    step: Option<&str>,
-    json: Option<&str>,
-    prefix: Option<&str>,
-    number: Option<&str>,
-    size: Option<&str>,
-    replies: Option<&str>,
-    nest: Option<&str>,
-    full: Option<&str>,
-) -> Option<Command>
-    ensures command { result ≡ command_by (option_map (λ s. s.now) mode.entry) (option_map (λ s. s.now) step.entry) (option_map (λ s. s.now) json.entry)
-        (option_map (λ s. s.now) prefix.entry) (option_map (λ s. s.now) number.entry) (option_map (λ s. s.now) size.entry)
-        (option_map (λ s. s.now) replies.entry) (option_map (λ s. s.now) nest.entry) (option_map (λ s. s.now) full.entry) }
-    ensures sized { IfSome result IsSized }
+/// The command of the mode that the word names with these options, if each is right.
+fn command_by(mode: Option<&str>, given: Given<'_>) -> Option<Command>
+    ensures command { result ≡ command_by (option_map (λ s. s.now) mode.entry) (options_of given.entry) }
+    ensures in_range { IfSome result IsInRange }
 {
     let mode = mode_named(mode?)?;
-    let (json, prefix) = (is_set(json), is_set(prefix));
-    match (mode, is_set(replies), is_set(nest), is_set(full)) {
-        (Mode::Lint, replies, nest, false) => {
-            lint_with(is_bare(step, json, prefix, number, size), replies, nest)
-        }
-        (Mode::Trace, false, false, full) => {
-            trace_with(is_bare(step, json, false, number, size), full, prefix)
-        }
-        (_, false, false, false) => command_with(mode, step, json, prefix, number, size),
-        _ => None,
-    }
-}
-
-/// The command of the mode `lint`, where there are no options but its own.
-fn lint_with(bare: bool, replies: bool, nest: bool) -> Option<Command>
-    ensures command { result ≡ lint_with bare replies nest }
-    ensures sized { IfSome result IsSized }
-{
-    let input = match (replies, nest) {
-        (false, false) => Linted::Script,
-        (true, false) => Linted::Replies,
-        (false, true) => Linted::Nest,
-        (true, true) => return None,
-    };
-    if bare {
-        Some(Command::Lint { input })
+    if is_bare(others_than(mode, given)) {
+        command_with(mode, given)
     } else {
         None
-    }
-}
-
-/// The command of the mode `trace`, where there are no options but its own.
-fn trace_with(bare: bool, full: bool, prefix: bool) -> Option<Command>
-    ensures command { result ≡ trace_with bare full prefix }
-    ensures sized { IfSome result IsSized }
-{
-    if bare {
-        Some(Command::Trace { full, prefix })
-    } else {
-        None
-    }
-}
-
-/// Whether none of these options is there.
-fn is_bare(
-    step: Option<&str>,
-    json: bool,
-    prefix: bool,
-    number: Option<&str>,
-    size: Option<&str>,
-) -> bool
-    ensures { result ≡ is_bare (option_map (λ s. s.now) step.entry) json prefix (option_map (λ s. s.now) number.entry) (option_map (λ s. s.now) size.entry) }
-{
-    step.is_none() && !json && !prefix && number.is_none() && size.is_none()
-}
-
-/// The command of a mode with these options, if it takes each of them.
-fn command_with(
-    mode: Mode,
-    step: Option<&str>,
-    json: bool,
-    prefix: bool,
-    number: Option<&str>,
-    size: Option<&str>,
-) -> Option<Command>
-    ensures command { result ≡ command_with mode (option_map (λ s. s.now) step.entry) json prefix (option_map (λ s. s.now) number.entry) (option_map (λ s. s.now) size.entry) }
-    ensures sized { IfSome result IsSized }
-{
-    match (mode, step, json, prefix, number, size) {
-        (Mode::Run, step, json, false, None, None) => Some(Command::Run {
-            step: step_given(step)?,
-            json,
-        }),
-        (Mode::Check, None, false, prefix, None, None) => Some(Command::Check { prefix }),
-        (Mode::Explain, None, json, false, None, None) => Some(Command::Explain { json }),
-        (Mode::Reply, None, false, false, None, None) => Some(Command::Reply),
-        (Mode::Nest, None, false, false, None, None) => Some(Command::Nest),
-        (Mode::Generate, None, false, false, number, size) => Some(Command::Generate {
-            number: seed_given(number)?,
-            size: size_given(size)?,
-        }),
-        (Mode::Bench, None, false, false, number, size) => Some(Command::Bench {
-            number: seed_given(number)?,
-            size: size_given(size)?,
-        }),
-        _ => None,
     }
 }
 
@@ -288,6 +225,7 @@ fn mode_named(word: &str) -> Option<Mode>
 {
     match word {
         "run" => Some(Mode::Run),
+        "simulate" => Some(Mode::Simulate),
         "check" => Some(Mode::Check),
         "explain" => Some(Mode::Explain),
         "reply" => Some(Mode::Reply),
@@ -300,61 +238,141 @@ fn mode_named(word: &str) -> Option<Mode>
     }
 }
 
-/// The step that may be left out.
-fn step_given(word: Option<&str>) -> Option<Option<u64>>
-    ensures { result ≡ step_given (option_map (λ s. s.now) word.entry) }
+/// The options that the mode does not take.
+fn others_than<'a>(mode: Mode, given: Given<'a>) -> Given<'a>
+    ensures { options_of result ≡ others_than mode (options_of given.entry) }
 {
-    match word {
-        Some(word) => Some(Some(number_named(1, MOST_MICROSECONDS, word)?)),
-        None => Some(None),
+    match mode {
+        Mode::Run => Given {
+            step: None,
+            json: false,
+            shake: None,
+            seed: None,
+            ..given
+        },
+        Mode::Simulate => Given {
+            seed: None,
+            favour: None,
+            step: None,
+            jump: false,
+            json: false,
+            ..given
+        },
+        Mode::Check => Given {
+            prefix: false,
+            ..given
+        },
+        Mode::Explain => Given {
+            json: false,
+            ..given
+        },
+        Mode::Reply | Mode::Nest => given,
+        Mode::Trace => Given {
+            full: false,
+            prefix: false,
+            ..given
+        },
+        Mode::Lint => Given {
+            replies: false,
+            nest: false,
+            ..given
+        },
+        Mode::Generate => Given {
+            number: None,
+            size: None,
+            ..given
+        },
+        Mode::Bench => Given {
+            number: None,
+            size: None,
+            work: None,
+            ..given
+        },
     }
 }
 
-/// The number that a script is made from. It may be left out.
-fn seed_given(word: Option<&str>) -> Option<u64>
-    ensures { result ≡ seed_given (option_map (λ s. s.now) word.entry) }
+/// The command of the mode with those options that it takes, if each is right.
+fn command_with(mode: Mode, given: Given<'_>) -> Option<Command>
+    ensures command { result ≡ command_with mode (options_of given.entry) }
+    ensures in_range { IfSome result IsInRange }
 {
-    match word {
-        Some(word) => number_named(0, u64::MAX, word),
-        None => Some(0),
+    match mode {
+        Mode::Run => run_with(given),
+        Mode::Simulate => simulate_with(given),
+        Mode::Check => Some(Command::Check {
+            prefix: given.prefix,
+        }),
+        Mode::Explain => Some(Command::Explain { json: given.json }),
+        Mode::Reply => Some(Command::Reply),
+        Mode::Trace => Some(Command::Trace {
+            full: given.full,
+            prefix: given.prefix,
+        }),
+        Mode::Nest => Some(Command::Nest),
+        Mode::Lint => lint_with(given.replies, given.nest),
+        Mode::Generate => generate_with(given),
+        Mode::Bench => bench_with(given),
     }
 }
 
-/// The number of tasks that a script is to have. It may be left out.
-fn size_given(word: Option<&str>) -> Option<u32>
-    ensures size { result ≡ size_given (option_map (λ s. s.now) word.entry) }
-    ensures some { IfSome result (λ size. 1 ≤ size) }
-    ensures few { IfSome result (λ size. size ≤ MOST_SIZE) }
+/// The command of the mode `run`.
+fn run_with(given: Given<'_>) -> Option<Command>
+    ensures command { result ≡ run_with (options_of given.entry) }
+    ensures in_range { IfSome result IsInRange }
 {
-    match word {
-        Some(word) => Some(number_named(1, u64::from(MOST_SIZE), word)? as u32),
-        None => Some(USUAL_SIZE),
-    }
+    Some(Command::Run {
+        step: step_given(given.step)?,
+        json: given.json,
+        shake: shake_given(given.shake, given.seed)?,
+    })
 }
 
-/// The number from low to high that the word writes without a sign and without zeros in front.
-fn number_named(low: u64, high: u64, word: &str) -> Option<u64>
-    ensures number { result ≡ number_named low high word.now }
-    ensures above { IfSome result (λ number. low ≤ number) }
-    ensures below { IfSome result (λ number. number ≤ high) }
+/// The command of the mode `simulate`.
+fn simulate_with(given: Given<'_>) -> Option<Command>
+    ensures command { result ≡ simulate_with (options_of given.entry) }
+    ensures in_range { IfSome result IsInRange }
 {
-    let number = word.parse::<u64>().ok()?;
-    is_number(low, high, word, number).then_some(number)
+    Some(Command::Simulate {
+        seed: seed_given(given.seed)?,
+        favour: favour_given(given.favour)?,
+        step: pace_given(given.step, given.jump)?,
+        json: given.json,
+    })
 }
 
-/// Whether the number is from low to high, and the word is its decimal form.
-fn is_number(low: u64, high: u64, word: &str, number: u64) -> bool
-    ensures { result ≡ (is_word (decimal number) word.now && nat_le low number && nat_le number high) }
+/// The command of the mode `lint`.
+fn lint_with(replies: bool, nest: bool) -> Option<Command>
+    ensures command { result ≡ lint_with replies nest }
+    ensures in_range { IfSome result IsInRange }
 {
-    Buffer::new().format(number) == word && number >= low && number <= high
+    let input = match (replies, nest) {
+        (false, false) => Linted::Script,
+        (true, false) => Linted::Replies,
+        (false, true) => Linted::Nest,
+        (true, true) => return None,
+    };
+    Some(Command::Lint { input })
 }
 
-/// Whether the flag was given: its text is `true` then.
-fn is_set(flag: Option<&str>) -> bool
-    ensures { result ≡ is_set (option_map (λ s. s.now) flag.entry) }
+/// The command of the mode `gen`.
+fn generate_with(given: Given<'_>) -> Option<Command>
+    ensures command { result ≡ generate_with (options_of given.entry) }
+    ensures in_range { IfSome result IsInRange }
 {
-    match flag {
-        Some(text) => text == "true",
-        None => false,
-    }
+    Some(Command::Generate {
+        number: seed_given(given.number)?,
+        size: size_given(given.size)?,
+    })
+}
+
+/// The command of the mode `bench`.
+fn bench_with(given: Given<'_>) -> Option<Command>
+    ensures command { result ≡ bench_with (options_of given.entry) }
+    ensures in_range { IfSome result IsInRange }
+{
+    Some(Command::Bench {
+        number: seed_given(given.number)?,
+        size: size_given(given.size)?,
+        work: work_given(given.work)?,
+    })
 }

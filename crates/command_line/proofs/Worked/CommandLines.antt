@@ -3,9 +3,11 @@ use Rattle.std.proofs.Common.{◌≡◌, ℕ, true, false, List, [], ◌∷◌, 
 use Rattle.std.specs.Fmt.{digits}
 use Rattle.clap.proofs.OnLiterals.{clap_on_literals}
 use Rattle.command_line.specs.declared.words.Command.{Command}
-use Rattle.command_line.specs.declared.words.Command.TheVariants.{Run, Check, Explain, Reply, Trace, Nest, Lint, Generate, Bench}
+use Rattle.command_line.specs.declared.words.Command.TheVariants.{Run, Simulate, Check, Explain, Reply, Trace, Nest, Lint, Generate, Bench}
+use Rattle.command_line.specs.declared.options.Favour.TheVariants as favours
 use Rattle.command_line.specs.declared.words.Linted.TheVariants as linted
-use Rattle.command_line.specs.CommandLine.{number_named, command_of}
+use Rattle.command_line.specs.Options.{number_named}
+use Rattle.command_line.specs.CommandLine.{command_of}
 
 -- the words behind the program's name, and the command that they are, if they are one
 abbrev Row : Type 0
@@ -25,13 +27,13 @@ AreRight rows = map (λ row. command_of (codes "taskenv" ∷ row.0)) rows ≡ ma
 
 abbrev commands : List Row
 commands =
-    good (codes "run" ∷ []) (Run None false)
-    ∷ good (codes "run" ∷ codes "--json" ∷ []) (Run None true)
-    ∷ good (codes "--json" ∷ codes "run" ∷ []) (Run None true)  -- before the mode
-    ∷ good (codes "run" ∷ codes "--step" ∷ codes "10" ∷ []) (Run (Some 10) false)
-    ∷ good (codes "run" ∷ codes "--step=10" ∷ []) (Run (Some 10) false)  -- as one word
-    ∷ good (codes "run" ∷ codes "--step" ∷ codes "1000000000000" ∷ codes "--json" ∷ []) (Run (Some 1000000000000) true)  -- the greatest step
-    ∷ good (codes "--" ∷ codes "run" ∷ []) (Run None false)  -- behind `--`, which ends the options
+    good (codes "run" ∷ []) (Run None false None)
+    ∷ good (codes "run" ∷ codes "--json" ∷ []) (Run None true None)
+    ∷ good (codes "--json" ∷ codes "run" ∷ []) (Run None true None)  -- before the mode
+    ∷ good (codes "run" ∷ codes "--step" ∷ codes "10" ∷ []) (Run (Some 10) false None)
+    ∷ good (codes "run" ∷ codes "--step=10" ∷ []) (Run (Some 10) false None)  -- as one word
+    ∷ good (codes "run" ∷ codes "--step" ∷ codes "1000000000000" ∷ codes "--json" ∷ []) (Run (Some 1000000000000) true None)  -- the greatest step
+    ∷ good (codes "--" ∷ codes "run" ∷ []) (Run None false None)  -- behind `--`, which ends the options
     ∷ good (codes "check" ∷ []) (Check false)
     ∷ good (codes "check" ∷ codes "--prefix" ∷ []) (Check true)
     ∷ good (codes "--prefix" ∷ codes "check" ∷ []) (Check true)  -- before the mode
@@ -57,13 +59,57 @@ made =
     good (codes "gen" ∷ []) (Generate 0 16)  -- the usual number and size
     ∷ good (codes "gen" ∷ codes "--number" ∷ codes "0" ∷ codes "--size" ∷ codes "2" ∷ []) (Generate 0 2)
     ∷ good (codes "--size" ∷ codes "1" ∷ codes "gen" ∷ []) (Generate 0 1)  -- before the mode
-    ∷ good (codes "bench" ∷ codes "--number" ∷ codes "18446744073709551615" ∷ []) (Bench 18446744073709551615 16)  -- the greatest number
-    ∷ good (codes "bench" ∷ codes "--size=8192" ∷ []) (Bench 0 8192)  -- the greatest size
+    ∷ good (codes "bench" ∷ codes "--number" ∷ codes "18446744073709551615" ∷ []) (Bench 18446744073709551615 16 0)  -- the greatest number
+    ∷ good (codes "bench" ∷ codes "--size=8192" ∷ []) (Bench 0 8192 0)  -- the greatest size
     ∷ []
 
 made_right : AreRight made
 unfolding clap_on_literals digits number_named command_of
 made_right = refl
+
+abbrev simulated : List Row
+simulated =
+    good (codes "simulate" ∷ []) (Simulate 0 favours.Nobody None false)
+    ∷ good (codes "simulate" ∷ codes "--seed" ∷ codes "7" ∷ []) (Simulate 7 favours.Nobody None false)
+    ∷ good (codes "--seed=18446744073709551615" ∷ codes "simulate" ∷ []) (Simulate 18446744073709551615 favours.Nobody None false)  -- the greatest seed
+    ∷ good (codes "simulate" ∷ codes "--favour" ∷ codes "driver" ∷ []) (Simulate 0 favours.Driver None false)
+    ∷ good (codes "simulate" ∷ codes "--favour=workers" ∷ codes "--seed" ∷ codes "0" ∷ []) (Simulate 0 favours.Workers None false)
+    ∷ good (codes "simulate" ∷ codes "--favour" ∷ codes "none" ∷ codes "--json" ∷ []) (Simulate 0 favours.Nobody None true)
+    ∷ good (codes "simulate" ∷ codes "--jump" ∷ []) (Simulate 0 favours.Nobody None false)  -- as without
+    ∷ good (codes "simulate" ∷ codes "--step" ∷ codes "5" ∷ []) (Simulate 0 favours.Nobody (Some 5) false)
+    ∷ good (codes "simulate" ∷ codes "--json" ∷ codes "--step=1000000000000" ∷ codes "--seed=3" ∷ codes "--favour=driver" ∷ [])
+    (Simulate 3 favours.Driver (Some 1000000000000) true)  -- the greatest step
+    ∷ []
+
+simulated_right : AreRight simulated
+unfolding clap_on_literals digits number_named command_of
+simulated_right = refl
+
+-- a run with pauses
+abbrev shaken : List Row
+shaken =
+    good (codes "run" ∷ codes "--shake" ∷ codes "1" ∷ []) (Run None false (Some (record { most = 1; seed = 0 })))  -- the least
+    ∷ good (codes "run" ∷ codes "--shake" ∷ codes "1000000" ∷ codes "--seed" ∷ codes "9" ∷ [])
+    (Run None false (Some (record { most = 1000000; seed = 9 })))  -- the most
+    ∷ good (codes "--seed" ∷ codes "18446744073709551615" ∷ codes "--shake=50" ∷ codes "run" ∷ codes "--json" ∷ codes "--step" ∷ codes "2" ∷ [])
+    (Run (Some 2) true (Some (record { most = 50; seed = 18446744073709551615 })))
+    ∷ []
+
+shaken_right : AreRight shaken
+unfolding clap_on_literals digits number_named command_of
+shaken_right = refl
+
+-- a benchmark whose tasks work
+abbrev working : List Row
+working =
+    good (codes "bench" ∷ codes "--work" ∷ codes "1000" ∷ []) (Bench 0 16 1000)
+    ∷ good (codes "bench" ∷ codes "--work" ∷ codes "0" ∷ []) (Bench 0 16 0)  -- as without
+    ∷ good (codes "--work=1000000000" ∷ codes "bench" ∷ codes "--size" ∷ codes "1" ∷ codes "--number" ∷ codes "4" ∷ []) (Bench 4 1 1000000000)  -- the most
+    ∷ []
+
+working_right : AreRight working
+unfolding clap_on_literals digits number_named command_of
+working_right = refl
 
 abbrev bad_modes : List Row
 bad_modes =
@@ -122,6 +168,55 @@ bad_numbers_right : AreRight bad_numbers
 unfolding clap_on_literals digits number_named command_of
 bad_numbers_right = refl
 
+abbrev bad_seeds : List Row
+bad_seeds =
+    bad (codes "simulate" ∷ codes "--seed" ∷ [])  -- no number
+    ∷ bad (codes "simulate" ∷ codes "--seed" ∷ codes "18446744073709551616" ∷ [])  -- one more than the greatest
+    ∷ bad (codes "simulate" ∷ codes "--seed" ∷ codes "-1" ∷ [])
+    ∷ bad (codes "simulate" ∷ codes "--seed=-1" ∷ [])
+    ∷ bad (codes "simulate" ∷ codes "--seed" ∷ codes "007" ∷ [])  -- zeros in front
+    ∷ bad (codes "simulate" ∷ codes "--seed" ∷ codes "1" ∷ codes "--seed" ∷ codes "1" ∷ [])  -- twice
+    ∷ bad (codes "run" ∷ codes "--seed" ∷ codes "1" ∷ [])  -- no pauses that it could be of
+    ∷ bad (codes "run" ∷ codes "--shake" ∷ codes "5" ∷ codes "--seed" ∷ codes "+1" ∷ [])
+    ∷ []
+
+bad_seeds_right : AreRight bad_seeds
+unfolding clap_on_literals digits number_named command_of
+bad_seeds_right = refl
+
+abbrev bad_draws : List Row
+bad_draws =
+    bad (codes "simulate" ∷ codes "--favour" ∷ [])  -- no word
+    ∷ bad (codes "simulate" ∷ codes "--favour" ∷ codes "all" ∷ [])
+    ∷ bad (codes "simulate" ∷ codes "--favour" ∷ codes "Driver" ∷ [])
+    ∷ bad (codes "simulate" ∷ codes "--favour" ∷ codes "worker" ∷ [])
+    ∷ bad (codes "simulate" ∷ codes "--favour=" ∷ [])  -- the empty word
+    ∷ bad (codes "simulate" ∷ codes "--jump" ∷ codes "--step" ∷ codes "5" ∷ [])  -- one of the two
+    ∷ bad (codes "simulate" ∷ codes "--jump=true" ∷ [])  -- a flag takes no value
+    ∷ bad (codes "simulate" ∷ codes "--step" ∷ codes "0" ∷ [])
+    ∷ bad (codes "simulate" ∷ codes "--step" ∷ codes "1000000000001" ∷ [])  -- one more than the greatest
+    ∷ bad (codes "simulated" ∷ [])
+    ∷ []
+
+bad_draws_right : AreRight bad_draws
+unfolding clap_on_literals digits number_named command_of
+bad_draws_right = refl
+
+abbrev bad_pauses : List Row
+bad_pauses =
+    bad (codes "run" ∷ codes "--shake" ∷ [])  -- no number
+    ∷ bad (codes "run" ∷ codes "--shake" ∷ codes "0" ∷ [])
+    ∷ bad (codes "run" ∷ codes "--shake" ∷ codes "1000001" ∷ [])  -- one more than the greatest
+    ∷ bad (codes "run" ∷ codes "--shake" ∷ codes "010" ∷ [])  -- a zero in front
+    ∷ bad (codes "bench" ∷ codes "--work" ∷ codes "1000000001" ∷ [])  -- one more than the greatest
+    ∷ bad (codes "bench" ∷ codes "--work" ∷ codes "-1" ∷ [])
+    ∷ bad (codes "bench" ∷ codes "--work" ∷ codes "00" ∷ [])  -- a zero in front
+    ∷ []
+
+bad_pauses_right : AreRight bad_pauses
+unfolding clap_on_literals digits number_named command_of
+bad_pauses_right = refl
+
 -- an option that the mode does not take
 abbrev others_options : List Row
 others_options =
@@ -151,6 +246,32 @@ others_options =
 others_options_right : AreRight others_options
 unfolding clap_on_literals digits number_named command_of
 others_options_right = refl
+
+-- the same of the options of `simulate`, of pauses and of work
+abbrev others_newer_options : List Row
+others_newer_options =
+    bad (codes "run" ∷ codes "--favour" ∷ codes "driver" ∷ [])
+    ∷ bad (codes "run" ∷ codes "--jump" ∷ [])
+    ∷ bad (codes "run" ∷ codes "--work" ∷ codes "1" ∷ [])
+    ∷ bad (codes "simulate" ∷ codes "--shake" ∷ codes "5" ∷ [])
+    ∷ bad (codes "simulate" ∷ codes "--number" ∷ codes "0" ∷ [])
+    ∷ bad (codes "simulate" ∷ codes "--prefix" ∷ [])
+    ∷ bad (codes "simulate" ∷ codes "--work" ∷ codes "1" ∷ [])
+    ∷ bad (codes "check" ∷ codes "--seed" ∷ codes "3" ∷ [])
+    ∷ bad (codes "explain" ∷ codes "--jump" ∷ [])
+    ∷ bad (codes "reply" ∷ codes "--shake" ∷ codes "5" ∷ [])
+    ∷ bad (codes "trace" ∷ codes "--favour" ∷ codes "none" ∷ [])
+    ∷ bad (codes "nest" ∷ codes "--jump" ∷ [])
+    ∷ bad (codes "lint" ∷ codes "--seed" ∷ codes "3" ∷ [])
+    ∷ bad (codes "gen" ∷ codes "--work" ∷ codes "0" ∷ [])
+    ∷ bad (codes "gen" ∷ codes "--seed" ∷ codes "3" ∷ [])
+    ∷ bad (codes "bench" ∷ codes "--seed" ∷ codes "3" ∷ [])
+    ∷ bad (codes "bench" ∷ codes "--shake" ∷ codes "5" ∷ [])
+    ∷ []
+
+others_newer_options_right : AreRight others_newer_options
+unfolding clap_on_literals digits number_named command_of
+others_newer_options_right = refl
 
 abbrev bad_options : List Row
 bad_options =

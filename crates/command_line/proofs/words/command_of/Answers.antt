@@ -11,6 +11,4 @@ returns-in-Err-clause-command c =
 pub returns-clause-command : goal.returns-clause-command
 returns-clause-command c =
     c.command_by.ensures.command
-    ∙ taken _ _ c.in-Ok.matches _ _ _ _ _ _ _ _ _ c.in_ok-taskenv.ensures c.in-Ok.ensures.kinds c.in-Ok.ensures.matches
-    c.get_str.ensures c.get_str-2.ensures c.get_str-3.ensures c.get_str-4.ensures c.get_str-5.ensures c.get_str-6.ensures
-    c.get_str-7.ensures c.get_str-8.ensures c.get_str-9.ensures
+    ∙ taken _ _ c.in-Ok.matches _ _ c.in_ok-taskenv.ensures c.in-Ok.ensures.kinds c.in-Ok.ensures.matches c.get_str.ensures c.given_in.ensures

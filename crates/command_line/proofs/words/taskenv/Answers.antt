@@ -13,4 +13,9 @@ returns c =
     let sixth = c.in_ok-command-6.ensures ∙ ap₂ with_rule fifth c.value_argument-3.ensures.rule in
     let seventh = c.in_ok-command-7.ensures ∙ ap₂ with_rule sixth c.flag_argument-3.ensures.rule in
     let eighth = c.in_ok-command-8.ensures ∙ ap₂ with_rule seventh c.flag_argument-4.ensures.rule in
-    IfOk-weaker c.with_argument-9.result _ _ (λ command is. is ∙ ap₂ with_rule eighth c.flag_argument-5.ensures.rule) c.with_argument-9.ensures
+    let ninth = c.in_ok-command-9.ensures ∙ ap₂ with_rule eighth c.flag_argument-5.ensures.rule in
+    let tenth = c.in_ok-command-10.ensures ∙ ap₂ with_rule ninth c.value_argument-4.ensures.rule in
+    let eleventh = c.in_ok-command-11.ensures ∙ ap₂ with_rule tenth c.value_argument-5.ensures.rule in
+    let twelfth = c.in_ok-command-12.ensures ∙ ap₂ with_rule eleventh c.flag_argument-6.ensures.rule in
+    let thirteenth = c.in_ok-command-13.ensures ∙ ap₂ with_rule twelfth c.value_argument-6.ensures.rule in
+    IfOk-weaker c.with_argument-14.result _ _ (λ command is. is ∙ ap₂ with_rule thirteenth c.value_argument-7.ensures.rule) c.with_argument-14.ensures

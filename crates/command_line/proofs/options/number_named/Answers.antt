@@ -1,6 +1,6 @@
 use Rattle.std.proofs.Common.{rules, sym, ◌∙◌}
 use Rattle.command_line.proofs.Numbers.{not_parsed, parsed}
-use Rattle.command_line.proofs.words.number_named.Goals as goal
+use Rattle.command_line.proofs.options.number_named.Goals as goal
 
 pub returns-in_err-number-clause-number : goal.returns-in_err-number-clause-number
 returns-in_err-number-clause-number c =
