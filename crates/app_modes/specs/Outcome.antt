@@ -21,7 +21,9 @@ use Rattle.nested_loop.specs.NestText.{nest_text}
 use Rattle.nested_loop.specs.Nest.{IsLegalNest}
 use Rattle.nested_loop.specs.declared.event.Event.{Event}
 use Rattle.command_line.specs.declared.words.Command.{Command}
-use Rattle.command_line.specs.declared.words.Command.TheVariants.{Run, Check, Explain, Reply, Trace, Nest, Lint, Generate, Bench}
+use Rattle.command_line.specs.declared.words.Command.TheVariants.{Run, Simulate, Check, Explain, Reply, Trace, Nest, Lint, Generate, Bench}
+use Rattle.command_line.specs.declared.options.Favour.{Favour}
+use Rattle.command_line.specs.declared.options.Favour.TheVariants as favours
 use Rattle.app_streams.specs.Parts.{script_part, part_behind}
 use Rattle.app_streams.specs.Ends.{Ends, Failed}
 use Rattle.app_streams.specs.Taken.{IsReadToEnd, OfBytes, OfTaken}
@@ -35,6 +37,8 @@ use Rattle.app_modes.specs.Linted.{IsSaid, lint_said}
 use Rattle.app_modes.specs.Totals.{summary_text}
 use Rattle.run_summary.specs.Summary.{generated_totals}
 use Rattle.task_script.specs.Generated.{generated}
+use Rattle.simulation.specs.Simulated.{simulated}
+use Rattle.simulation.specs.declared.lots.Lots.{Lots}
 
 -- the readings of a run: those of a step, where there is one, and else what the clock tells
 abbrev pub readings_of : Option ℕ → (ℕ → Option ℕ) → ℕ → Option ℕ
@@ -51,6 +55,21 @@ pub record HasRun (bytes : List ℕ) (json : Bool) (told : ℕ → Option ℕ) (
   pub whole : IsWhole script log
   pub moments : HasMomentsOf told log
   pub written : Written (output_of json log)
+
+-- how many lots the driver and each worker have in a draw: 8 where they are favoured, and else 1 (this project's own rule)
+abbrev pub lots_of : Favour → Lots
+lots_of favours.Driver = record { driver = 8; worker = 1 }
+lots_of favours.Workers = record { driver = 1; worker = 8 }
+lots_of favours.Nobody = record { driver = 1; worker = 1 }
+
+-- the bytes are a script, whose simulated run by this seed, with these ticks, is a legal, whole history of it, and this holds of what is
+-- written of that run
+pub record HasSimulated (bytes : List ℕ) (seed : ℕ) (favour : Favour) (step : Option ℕ) (json : Bool) (Written : List ℕ → Type 0) : Type 0 where
+  pub script : Plan
+  pub reads : Reads bytes script
+  pub legal : IsLegal script (simulated script seed (lots_of favour) step)
+  pub whole : IsWhole script (simulated script seed (lots_of favour) step)
+  pub written : Written (output_of json (simulated script seed (lots_of favour) step))
 
 -- the bytes are a script and replies to its tasks, and this holds of what is written of one legal, whole history of the script
 -- with the replies, whose ticks are the moments of these readings
@@ -98,7 +117,8 @@ reply_refusal (Ok script) replies = option_map (λ at. BadReplies at.0 at.1) (re
 -- what is wrong with the bytes that come as the input of a command, if anything is
 abbrev pub refusal_of : Option Command → List ℕ → Option Failure
 refusal_of None bytes = None
-refusal_of (Some (Run step json)) bytes = script_refusal bytes
+refusal_of (Some (Run step json shake)) bytes = script_refusal bytes
+refusal_of (Some (Simulate seed favour step json)) bytes = script_refusal bytes
 refusal_of (Some (Check prefix)) bytes = script_refusal (script_part bytes)
 refusal_of (Some (Explain json)) bytes = script_refusal (script_part bytes)
 refusal_of (Some Reply) bytes = reply_refusal (script_read (script_part bytes)) (part_behind bytes)
@@ -106,13 +126,14 @@ refusal_of (Some (Trace full prefix)) bytes = script_refusal (script_part bytes)
 refusal_of (Some Nest) bytes = option_map (λ at. BadNest at.0 at.1) (nest_fault bytes)
 refusal_of (Some (Lint input)) bytes = None
 refusal_of (Some (Generate number size)) bytes = None
-refusal_of (Some (Bench number size)) bytes = None
+refusal_of (Some (Bench number size work)) bytes = None
 
 -- what a command does, where its clock tells these readings: this holds of the status that it ends with where no write fails,
 -- and of the text that it writes
 abbrev pub Does : Option Command → (ℕ → Option ℕ) → Ends → (ℕ → List ℕ → Type 0) → Type 0
 Does None told source Holds = ⊥
-Does (Some (Run step json)) told source Holds = OfTaken source (λ bytes. HasRun bytes json (readings_of step told) (Holds 0))
+Does (Some (Run step json shake)) told source Holds = OfTaken source (λ bytes. HasRun bytes json (readings_of step told) (Holds 0))
+Does (Some (Simulate seed favour step json)) told source Holds = OfTaken source (λ bytes. HasSimulated bytes seed favour step json (Holds 0))
 Does (Some (Check prefix)) told source Holds = OfTaken source (λ bytes. HasChecked prefix bytes Holds)
 Does (Some (Explain json)) told source Holds = OfTaken source (λ bytes. HasExplained json bytes Holds)
 Does (Some Reply) told source Holds = OfTaken source (λ bytes. HasReplied bytes told (Holds 0))
@@ -120,7 +141,7 @@ Does (Some (Trace full prefix)) told source Holds = OfTaken source (λ bytes. Ha
 Does (Some Nest) told source Holds = OfTaken source (λ bytes. HasNested bytes (Holds 0))
 Does (Some (Lint input)) told source Holds = OfTaken source (λ bytes. IsSaid (lint_said input bytes) Holds)
 Does (Some (Generate number size)) told source Holds = Holds 0 (canonical (generated number size))
-Does (Some (Bench number size)) told source Holds = Holds 0 (summary_text (generated_totals number size))
+Does (Some (Bench number size work)) told source Holds = Holds 0 (summary_text (generated_totals number size))
 
 -- the whole text was written, and the status is the one that goes with it
 abbrev pub IsWritten : Ends → ℕ → ℕ → List ℕ → Type 0

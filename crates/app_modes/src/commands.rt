@@ -15,10 +15,12 @@ use crate::lint::lint;
 use crate::nests::run_nest_script;
 use crate::replies::run_replies;
 use crate::runs::run_script;
+use crate::simulate::simulate_script;
 use crate::trace::trace;
 use command_line::{Command, command_of};
 use env_io::{Clock, Gate, Sink, Source};
 use std::alloc::Global;
+use std::rt;
 use std::sync::Wait;
 use std::thread::Threads;
 use task_base::Fault;
@@ -35,7 +37,7 @@ fn common(end: Result<(), Fault>) -> Result<(), Failure>
 
 /// Does what the words ask for. The error says why the command did not end with status 0: where a log is judged and is not
 /// legal (`NotLegal`), the verdict is written by then.
-pub fn execute<R: Threads + Wait + Sync, S: Source, K: Sink, C: Clock, G: Gate>(
+pub fn execute<R: Threads + Wait + Sync + rt::Clock, S: Source, K: Sink, C: Clock, G: Gate>(
     rt: &R,
     alloc: Global,
     words: &[String],
@@ -48,8 +50,10 @@ pub fn execute<R: Threads + Wait + Sync, S: Source, K: Sink, C: Clock, G: Gate>(
         (ends (S.left source.old) (S.left source.new) (S.faults source.old) (S.faults source.new))
         (ends (K.holds sink.old) (K.holds sink.new) (K.faults sink.old) (K.faults sink.new)) result }
     ensures sink_kept { IfErr result (λ failure. is_verdict failure ≡ false → failure_status failure ≢ 5 → sink.new ≡ sink.old) }
-    ensures took_more { result ≡ Err (Failure.Common Fault.TooLarge) → TookMore (ends (S.left source.old) (S.left source.new) (S.faults source.old) (S.faults source.new)) }
-    ensures took_within { result ≢ Err (Failure.Common Fault.TooLarge) → TookWithin (ends (S.left source.old) (S.left source.new) (S.faults source.old) (S.faults source.new)) }
+    ensures took_more { result ≡ Err (Failure.Common Fault.TooLarge)
+        → TookMore (ends (S.left source.old) (S.left source.new) (S.faults source.old) (S.faults source.new)) }
+    ensures took_within { result ≢ Err (Failure.Common Fault.TooLarge)
+        → TookWithin (ends (S.left source.old) (S.left source.new) (S.faults source.old) (S.faults source.new)) }
     ensures source_kept { ¬ TakesInput (command_of (map string_bytes words.now)) → source.new ≡ source.old }
     ensures source_steady { result ≢ Err (Failure.Common Fault.ReadFault) → S.faults source.new ≡ S.faults source.old }
     ensures sink_steady { result ≢ Err (Failure.Common Fault.WriteFault) → K.faults sink.new ≡ K.faults sink.old }
@@ -63,9 +67,15 @@ pub fn execute<R: Threads + Wait + Sync, S: Source, K: Sink, C: Clock, G: Gate>(
         Err(error) => return Err(Failure::Common(Fault::NoMemory(error))),
     };
     match command {
-        Command::Run { step, json } => common(run_script(
-            rt, alloc, step, json, source, sink, clock, gate,
+        Command::Run { step, json, shake } => common(run_script(
+            rt, alloc, step, json, shake, source, sink, clock, gate,
         )),
+        Command::Simulate {
+            seed,
+            favour,
+            step,
+            json,
+        } => common(simulate_script(alloc, seed, favour, step, json, source, sink)),
         Command::Check { prefix } => common(judge(alloc, prefix, source, sink)),
         Command::Explain { json } => common(explain(alloc, json, source, sink)),
         Command::Reply => run_replies(rt, alloc, source, sink, clock, gate),
@@ -73,8 +83,8 @@ pub fn execute<R: Threads + Wait + Sync, S: Source, K: Sink, C: Clock, G: Gate>(
         Command::Nest => run_nest_script(alloc, source, sink),
         Command::Lint { input } => lint(alloc, input, source, sink),
         Command::Generate { number, size } => common(write_generated(alloc, number, size, sink)),
-        Command::Bench { number, size } => {
-            common(run_generated(rt, alloc, number, size, sink, gate))
+        Command::Bench { number, size, work } => {
+            common(run_generated(rt, alloc, number, size, work, sink, gate))
         }
     }
 }

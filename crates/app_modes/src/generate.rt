@@ -3,7 +3,7 @@ ghost use Rattle.std.specs.Prelude.{◌≡◌, ◌≢◌, ◌⊎◌, ◌≤◌, 
 ghost use Rattle.command_line.specs.declared.words.Command.TheVariants.{Generate};
 ghost use Rattle.app_streams.specs.Ends.{Ends, ends};
 ghost use Rattle.app_modes.specs.Outcome.{RunsTo};
-ghost use Rattle.command_line.specs.declared.words.TheConstants.{MOST_SIZE};
+ghost use Rattle.command_line.specs.declared.options.TheConstants.{MOST_SIZE};
 
 use app_streams::write_plan;
 use env_io::Sink;

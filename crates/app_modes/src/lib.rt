@@ -1,5 +1,5 @@
 //! What the program's command does in each of its modes, by the words that ask for it: it reads the source and writes to the
-//! sink the log of a run, the verdict on a log or its trace, a script that is made from a number, or what such a script's run
+//! sink the log of a run, on threads or simulated, the verdict on a log or its trace, a script that is made from a number, or what such a script's run
 //! adds up to.
 //!
 //! A call is seen by its command, its end, and what the outside tells before and after it: the bytes that the source has left
@@ -18,6 +18,7 @@ mod lint;
 mod nests;
 mod replies;
 mod runs;
+mod simulate;
 mod trace;
 
 pub use commands::execute;

@@ -26,8 +26,10 @@ pub fn run_nest_script<S: Source, K: Sink>(
         (ends (S.left source.old) (S.left source.new) (S.faults source.old) (S.faults source.new))
         (ends (K.holds sink.old) (K.holds sink.new) (K.faults sink.old) (K.faults sink.new)) result }
     ensures sink_kept { IfErr result (λ failure. failure_status failure ≢ 5 → sink.new ≡ sink.old) }
-    ensures took_more { result ≡ Err (Failure.Common Fault.TooLarge) → TookMore (ends (S.left source.old) (S.left source.new) (S.faults source.old) (S.faults source.new)) }
-    ensures took_within { result ≢ Err (Failure.Common Fault.TooLarge) → TookWithin (ends (S.left source.old) (S.left source.new) (S.faults source.old) (S.faults source.new)) }
+    ensures took_more { result ≡ Err (Failure.Common Fault.TooLarge)
+        → TookMore (ends (S.left source.old) (S.left source.new) (S.faults source.old) (S.faults source.new)) }
+    ensures took_within { result ≢ Err (Failure.Common Fault.TooLarge)
+        → TookWithin (ends (S.left source.old) (S.left source.new) (S.faults source.old) (S.faults source.new)) }
     ensures source_steady { result ≢ Err (Failure.Common Fault.ReadFault) → S.faults source.new ≡ S.faults source.old }
     ensures sink_steady { result ≢ Err (Failure.Common Fault.WriteFault) → K.faults sink.new ≡ K.faults sink.old }
 {

@@ -14,6 +14,7 @@ use crate::runs::log_of_run;
 use app_streams::{parts_of, script_of, take_all, write};
 use env_io::{Clock, Gate, Sink, Source};
 use std::alloc::Global;
+use std::rt;
 use std::sync::Wait;
 use std::thread::Threads;
 use task_base::{Fault, Script};
@@ -21,7 +22,7 @@ use task_reply::{ReplyFault, elaborate};
 
 /// Reads a script from the source, to its end, and the replies behind it, runs the script with the replies, and writes the
 /// log of the run.
-pub fn run_replies<R: Threads + Wait + Sync, S: Source, K: Sink, C: Clock, G: Gate>(
+pub fn run_replies<R: Threads + Wait + Sync + rt::Clock, S: Source, K: Sink, C: Clock, G: Gate>(
     rt: &R,
     alloc: Global,
     source: &mut S,
@@ -33,8 +34,10 @@ pub fn run_replies<R: Threads + Wait + Sync, S: Source, K: Sink, C: Clock, G: Ga
         (ends (S.left source.old) (S.left source.new) (S.faults source.old) (S.faults source.new))
         (ends (K.holds sink.old) (K.holds sink.new) (K.faults sink.old) (K.faults sink.new)) result }
     ensures sink_kept { IfErr result (λ failure. failure_status failure ≢ 5 → sink.new ≡ sink.old) }
-    ensures took_more { result ≡ Err (Failure.Common Fault.TooLarge) → TookMore (ends (S.left source.old) (S.left source.new) (S.faults source.old) (S.faults source.new)) }
-    ensures took_within { result ≢ Err (Failure.Common Fault.TooLarge) → TookWithin (ends (S.left source.old) (S.left source.new) (S.faults source.old) (S.faults source.new)) }
+    ensures took_more { result ≡ Err (Failure.Common Fault.TooLarge)
+        → TookMore (ends (S.left source.old) (S.left source.new) (S.faults source.old) (S.faults source.new)) }
+    ensures took_within { result ≢ Err (Failure.Common Fault.TooLarge)
+        → TookWithin (ends (S.left source.old) (S.left source.new) (S.faults source.old) (S.faults source.new)) }
     ensures source_steady { result ≢ Err (Failure.Common Fault.ReadFault) → S.faults source.new ≡ S.faults source.old }
     ensures sink_steady { result ≢ Err (Failure.Common Fault.WriteFault) → K.faults sink.new ≡ K.faults sink.old }
     ensures clock_kept { IfErr result (λ failure. failure_status failure ≢ 5 → clock.new ≡ clock.old) }
@@ -43,7 +46,7 @@ pub fn run_replies<R: Threads + Wait + Sync, S: Source, K: Sink, C: Clock, G: Ga
     let (text, replies) = parts_of(&bytes);
     let script = script_of(alloc, text)?;
     let script = with_replies(alloc, script, replies)?;
-    let log = match log_of_run(rt, alloc, &script, None, clock, gate) {
+    let log = match log_of_run(rt, alloc, &script, None, None, clock, gate) {
         Ok(log) => log,
         Err(error) => return Err(Failure::Common(Fault::NoMemory(error))),
     };

@@ -1,12 +1,12 @@
 -- The status of a failure that ends a command has its cause.
 -- Cited by `run_words`.
-use Rattle.std.proofs.Common.{rules, tests, ◌≡◌, ◌≢◌, ℕ, List, refl, sym, subst, inl, inr, Option, Some, None}
+use Rattle.std.proofs.Common.{rules, tests, ◌≡◌, ◌≢◌, ℕ, List, refl, subst, inr, Option, Some, None}
 use Rattle.std.specs.Prelude.{Result, Err}
 use Rattle.task_base.specs.declared.fault.Fault.TheVariants.{NotLegal, BadWords, BadScript, ReadFault, WriteFault, NoMemory, TooLarge}
 use Rattle.app_modes.specs.declared.failure.Failure.{Failure}
 use Rattle.app_modes.specs.declared.failure.Failure.TheVariants.{Common, Linted, NotTraced, BadReplies, BadNest}
 use Rattle.command_line.specs.declared.words.Command.{Command}
-use Rattle.command_line.specs.declared.words.Command.TheVariants.{Run, Check, Explain, Reply, Trace, Nest, Lint}
+use Rattle.command_line.specs.declared.words.Command.TheVariants.{Run, Simulate, Check, Explain, Reply, Trace, Nest, Lint}
 use Rattle.command_line.specs.CommandLine.{IsJudge, IsLint, IsTrace, TakesInput, WritesVerdict, takes_prefix}
 use Rattle.app_modes.specs.Failures.{failure_status}
 use Rattle.app_streams.specs.Ends.{Ends, IsSteady}
@@ -54,7 +54,10 @@ of_told command source bytes took accepted told is =
 
 taken : (Holds : ℕ → List ℕ → Type 0) (command : Option Command) (told : ℕ → Option ℕ) (source : Ends) → TakesInput command → Does command told source Holds
     → OfBytes source (IsTaken command)
-taken Holds (Some (Run step json)) told source takes does = of_told (Some (Run step json)) source does.bytes does.took (rw does.holds.reads refl)
+taken Holds (Some (Run step json shake)) told source takes does =
+    of_told (Some (Run step json shake)) source does.bytes does.took (rw does.holds.reads refl)
+taken Holds (Some (Simulate seed favour step json)) told source takes does =
+    of_told (Some (Simulate seed favour step json)) source does.bytes does.took (rw does.holds.reads refl)
 taken Holds (Some (Check prefix)) told source takes does = of_told (Some (Check prefix)) source does.bytes does.took (rw does.holds.reads refl)
 taken Holds (Some (Explain json)) told source takes does = of_told (Some (Explain json)) source does.bytes does.took (rw does.holds.reads refl)
 taken Holds (Some Reply) told source takes does =

@@ -3,7 +3,7 @@ use Rattle.std.specs.Prelude.{◌≡◌, ◌≢◌, ◌⊎◌, ◌<◌, ◌≤�
 use Rattle.task_base.specs.declared.limits.TheConstants.{MOST_BYTES}
 use Rattle.task_base.specs.declared.fault.Fault.TheVariants.{NotLegal, BadScript}
 use Rattle.command_line.specs.declared.words.Command.{Command}
-use Rattle.command_line.specs.declared.words.Command.TheVariants.{Run, Check, Explain, Reply, Trace, Nest, Lint, Generate, Bench}
+use Rattle.command_line.specs.declared.words.Command.TheVariants.{Run, Simulate, Check, Explain, Reply, Trace, Nest, Lint, Generate, Bench}
 use Rattle.app_streams.specs.Ends.{Ends, Failed, IsSteady}
 use Rattle.app_streams.specs.Taken.{IsReadToEnd, OfBytes, IsWithin, TookMore, TookWithin, OfTaken}
 use Rattle.app_modes.specs.declared.failure.Failure.{Failure}
@@ -16,7 +16,8 @@ use Rattle.app_modes.specs.Outcome.{Does, IsRefused, IsWritten, IsCutOff, refusa
 -- the status says that the command did its work: 0, and 1 too where a log is judged, or an input
 abbrev pub IsDone : Option Command → ℕ → Type 0
 IsDone None status = status ≡ 0
-IsDone (Some (Run step json)) status = status ≡ 0
+IsDone (Some (Run step json shake)) status = status ≡ 0
+IsDone (Some (Simulate seed favour step json)) status = status ≡ 0
 IsDone (Some (Check prefix)) status = (status ≡ 0) ⊎ (status ≡ 1)
 IsDone (Some (Explain json)) status = (status ≡ 0) ⊎ (status ≡ 1)
 IsDone (Some Reply) status = status ≡ 0
@@ -24,7 +25,7 @@ IsDone (Some (Trace full prefix)) status = (status ≡ 0) ⊎ (status ≡ 1)
 IsDone (Some Nest) status = status ≡ 0
 IsDone (Some (Lint input)) status = (status ≡ 0) ⊎ (status ≡ 1)
 IsDone (Some (Generate number size)) status = status ≡ 0
-IsDone (Some (Bench number size)) status = status ≡ 0
+IsDone (Some (Bench number size work)) status = status ≡ 0
 
 -- the status is a verdict that is written: of a log that is not legal, or of an input that is none
 abbrev pub IsVerdictOf : Option Command → ℕ → Type 0

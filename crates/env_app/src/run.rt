@@ -5,7 +5,9 @@ ghost use Rattle.script_model.specs.Canonical.{canonical};
 ghost use Rattle.task_script.specs.Generated.{generated};
 ghost use Rattle.run_summary.specs.Summary.{generated_totals};
 ghost use Rattle.env_io.specs.Bytes.{Gains, Rose};
-ghost use Rattle.command_line.specs.declared.words.Command.TheVariants.{Run, Check, Explain, Reply, Trace, Nest, Lint, Generate, Bench};
+ghost use Rattle.command_line.specs.declared.words.Command.TheVariants.{Run, Simulate, Check, Explain, Reply, Trace, Nest, Lint, Generate, Bench};
+ghost use Rattle.command_line.specs.declared.options.Favour.{Favour};
+ghost use Rattle.command_line.specs.declared.options.Shake.{Shake};
 ghost use Rattle.command_line.specs.declared.words.Linted.{Linted};
 ghost use Rattle.command_line.specs.declared.words.Linted.TheVariants as linted;
 ghost use Rattle.command_line.specs.CommandLine.{IsJudge, ReadsClock, TakesInput, WritesJson, command_of, takes_prefix};
@@ -20,24 +22,30 @@ ghost use Rattle.script_model.specs.Grammar.{first_fault};
 ghost use Rattle.app_streams.specs.Ends.{ends};
 ghost use Rattle.app_streams.specs.Taken.{OfTaken};
 ghost use Rattle.app_streams.specs.Written.{WroteAll, WroteFront};
-ghost use Rattle.app_modes.specs.Outcome.{HasNested, HasReplied, HasRun, readings_of};
+ghost use Rattle.app_modes.specs.Outcome.{HasNested, HasReplied, HasRun, HasSimulated, readings_of};
 ghost use Rattle.env_app.specs.Statuses.{IsEnd, IsVerdictOf, HasCause};
 
 use crate::notes::tell;
 use app_modes::execute;
 use env_io::{Clock, Gate, Sink, Source};
 use std::alloc::Global;
+use std::rt;
 use std::sync::Wait;
 use std::thread::Threads;
 
 /// Does what the words ask for, and answers the exit status (this project's own rule).
 ///
-/// The command is `taskenv MODE [--step N] [--json] [--prefix] [--number N] [--size N] [--replies] [--nest]
-/// [--full]`, the program's name first.
+/// The command is `taskenv MODE [--step N] [--json] [--prefix] [--number N] [--size N] [--replies] [--nest] [--full] [--seed N]
+/// [--favour WORD] [--jump] [--shake N] [--work N]`, the program's name first.
 /// The modes are:
 ///
 /// - `run` reads a script from the source, to its end, runs it, and writes the run's log to the sink, as text or with
-///   `--json` as JSON.
+///   `--json` as JSON. With `--shake` its threads pause up to that many microseconds, by `--seed`: each worker after its take of
+///   a task, and the driver before each of its entries.
+/// - `simulate` reads what `run` reads, and runs it on one thread, whose seats take turns by draws, by `--seed`. Of the lots in
+///   each draw the driver has 8 to each worker's one with `--favour driver`, each worker 8 to the driver's one with
+///   `--favour workers`, and else all have one. Ticks are `--step` apart, or each goes on to the next moment that is awaited. It writes
+///   what `run` does of its log, which is the same whenever it is asked for.
 /// - `check` reads a script, the line `%%` and a log from the source, to its end, and writes whether the log is that of a
 ///   whole run of the script, which is status 0, or at which line it is not, which is status 1. With `--prefix` the log may
 ///   also end before the script is done.
@@ -51,18 +59,26 @@ use std::thread::Threads;
 /// - `lint` reads a script from the source, to its end, or with `--replies` what `reply` reads, or with `--nest` what `nest` reads, and
 ///   writes why it is none, in one line, where it is none, which is status 1.
 /// - `gen` writes the script that is made from `--number`, of `--size` tasks, and reads nothing.
-/// - `bench` runs that script, and writes what the log of the run adds up to. It reads nothing.
+/// - `bench` runs that script, where each task of the pool works `--work` nanoseconds, and writes what the log of the run adds up
+///   to. It reads nothing.
 ///
 /// A status above 0 is that of a `Failure`, whose note goes to the notes, but for the verdict of `check`, `explain` and `lint`. Want of
 /// memory comes before the first entry of a run, or with `--json` and in `trace` before the first byte is written. The gate
 /// is called between each take of a task of the pool and the task's first step, while no turn is held. The clock is read by
 /// `run` and `reply` alone, once for each tick, or with `--step` not at all: its readings are then N, 2N, 3N and so on, in
-/// microseconds.
+/// microseconds. Pauses and work go by the system's own clock.
 ///
 /// The driver is the caller's thread, and in `run`, `reply` and `bench` each worker has a thread of its own, as far as the
 /// system gives them: what a worker without one would do, the caller does while it waits. It may wait for the threads for
 /// ever; nothing is promised of time.
-pub fn run_words<R: Threads + Wait + Sync, S: Source, K: Sink, N: Sink, C: Clock, G: Gate>(
+pub fn run_words<
+    R: Threads + Wait + Sync + rt::Clock,
+    S: Source,
+    K: Sink,
+    N: Sink,
+    C: Clock,
+    G: Gate,
+>(
     rt: &R,
     alloc: Global,
     words: &[String],
@@ -76,9 +92,16 @@ pub fn run_words<R: Threads + Wait + Sync, S: Source, K: Sink, N: Sink, C: Clock
     // text of one history that is legal and whole for it, or with `--json` its JSON form and a line feed. Where the source tells
     // its bytes, they are these. The moments of the history's ticks are those of as many first readings: with `--step` always,
     // and else where the clock tells its readings.
-    ensures run_theorem { (step : Option ℕ) (json : Bool) → command_of (map string_bytes words.now) ≡ Some (Run step json) → result ≡ 0
+    ensures run_theorem { (step : Option ℕ) (json : Bool) (shake : Option Shake) → command_of (map string_bytes words.now) ≡ Some (Run step json shake)
+        → result ≡ 0
         → OfTaken (ends (S.left source.old) (S.left source.new) (S.faults source.old) (S.faults source.new))
         (λ bytes. HasRun bytes json (readings_of step (C.readings clock.old)) (WroteAll (K.holds sink.old) (K.holds sink.new))) }
+
+    // `simulate` writes so the one history that its seed, its favour and its ticks give, which is legal and whole for the script.
+    ensures simulated { (seed : ℕ) (favour : Favour) (step : Option ℕ) (json : Bool)
+        → command_of (map string_bytes words.now) ≡ Some (Simulate seed favour step json) → result ≡ 0
+        → OfTaken (ends (S.left source.old) (S.left source.new) (S.faults source.old) (S.faults source.new))
+        (λ bytes. HasSimulated bytes seed favour step json (WroteAll (K.holds sink.old) (K.holds sink.new))) }
 
     // `check` answers 0 or 1 by the line at which the log behind the script is found wrong, and writes that line; `trace` writes
     // the log's trace under 0, with `--full` the full one, and nothing under 1. 0 comes only where the log is a legal, whole one of the script, whose numbers
@@ -124,7 +147,7 @@ pub fn run_words<R: Threads + Wait + Sync, S: Source, K: Sink, N: Sink, C: Clock
     // `gen` writes the script of its number and size, and `bench` what every run of that script adds up to.
     ensures generated { (number size : ℕ) → command_of (map string_bytes words.now) ≡ Some (Generate number size) → result ≡ 0
         → WroteAll (K.holds sink.old) (K.holds sink.new) (canonical (generated number size)) }
-    ensures totals { (number size : ℕ) → command_of (map string_bytes words.now) ≡ Some (Bench number size) → result ≡ 0
+    ensures totals { (number size work : ℕ) → command_of (map string_bytes words.now) ≡ Some (Bench number size work) → result ≡ 0
         → WroteAll (K.holds sink.old) (K.holds sink.new) (summary_text (generated_totals number size)) }
 
     // Each status has its cause.
@@ -138,7 +161,7 @@ pub fn run_words<R: Threads + Wait + Sync, S: Source, K: Sink, N: Sink, C: Clock
     ensures nothing_taken { (result ≡ 2) ⊎ (¬ TakesInput (command_of (map string_bytes words.now))) → source.new ≡ source.old }
 
     // The clock is as it was in each mode but `run` and `reply`, with `--step`, and where nothing is run; so it is wherever memory
-    // is wanting, but for that of JSON, which is made behind the run.
+    // runs out, but for that of JSON, which is made after the run.
     ensures clock_unread { ¬ ReadsClock (command_of (map string_bytes words.now)) → clock.new ≡ clock.old }
     ensures clock_kept { result ≢ 0 → result ≢ 5 → (result ≡ 6 → ¬ WritesJson (command_of (map string_bytes words.now))) → clock.new ≡ clock.old }
 

@@ -11,14 +11,14 @@ use anyhow::{Result, anyhow, ensure};
 use play::play;
 use row_table::{Row, begins_row, take_line};
 use std::process::ExitCode;
-use std::rt::{Env, Files};
+use std::rt::{Clock, Env, Files};
 use std::sync::Wait;
 use std::thread::Threads;
 use std::{env, fs};
 
 /// Plays the row that ends here, if there is one, prints its line, and answers whether it is as it should be: it holds, or
 /// fails where it must.
-fn play_row<R: Print + AllocGlobal + Threads + Wait + Sync>(
+fn play_row<R: Print + AllocGlobal + Threads + Wait + Sync + Clock>(
     rt: &R,
     row: Option<&mut Row<'_>>,
     must_fail: bool,
@@ -41,7 +41,7 @@ fn play_row<R: Print + AllocGlobal + Threads + Wait + Sync>(
 
 /// Plays the rows of a table, and answers whether each is as it should be. The line is the one that was read last; the
 /// error is what is wrong with it.
-fn play_lines<R: Print + AllocGlobal + Threads + Wait + Sync>(
+fn play_lines<R: Print + AllocGlobal + Threads + Wait + Sync + Clock>(
     rt: &R,
     table: &str,
     must_fail: bool,
@@ -60,7 +60,7 @@ fn play_lines<R: Print + AllocGlobal + Threads + Wait + Sync>(
 }
 
 /// Plays a table, and answers its status.
-fn play_table<R: Files + Print + AllocGlobal + Threads + Wait + Sync>(
+fn play_table<R: Files + Print + AllocGlobal + Threads + Wait + Sync + Clock>(
     rt: &R,
     path: &str,
     must_fail: bool,
@@ -84,7 +84,9 @@ fn play_table<R: Files + Print + AllocGlobal + Threads + Wait + Sync>(
 }
 
 /// Plays the tables that the arguments name, and answers the status.
-fn play_tables<R: Files + Env + Print + AllocGlobal + Threads + Wait + Sync>(rt: &R) -> Result<u8> {
+fn play_tables<R: Files + Env + Print + AllocGlobal + Threads + Wait + Sync + Clock>(
+    rt: &R,
+) -> Result<u8> {
     let (mut status, mut must_fail) = (None, false);
     for word in env::args(rt)?.skip(1) {
         if word.as_str() == "--failing" {

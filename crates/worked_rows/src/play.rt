@@ -8,6 +8,7 @@ use row_table::{
     unless_same,
 };
 use std::alloc::{AllocError, Global};
+use std::rt;
 use std::sync::Wait;
 use std::thread::Threads;
 
@@ -64,7 +65,7 @@ fn left_in<S: Source>(source: &mut S) -> usize {
 }
 
 /// What the program's call does by this row over a source and a sink. The sink has the output.
-fn told_over<S: Source, K: Sink, R: AllocGlobal + Threads + Wait + Sync>(
+fn told_over<S: Source, K: Sink, R: AllocGlobal + Threads + Wait + Sync + rt::Clock>(
     rt: &R,
     row: &Row<'_>,
     source: &mut S,
@@ -95,7 +96,7 @@ fn told_over<S: Source, K: Sink, R: AllocGlobal + Threads + Wait + Sync>(
 }
 
 /// What the program's call does by a row that has pieces and no failures of the input and the output.
-fn told_in_pieces<R: AllocGlobal + Threads + Wait + Sync>(
+fn told_in_pieces<R: AllocGlobal + Threads + Wait + Sync + rt::Clock>(
     rt: &R,
     row: &Row<'_>,
 ) -> Result<Told, AllocError> {
@@ -107,7 +108,7 @@ fn told_in_pieces<R: AllocGlobal + Threads + Wait + Sync>(
 }
 
 /// What the program's call does by a row whose input and output may fail.
-fn told_with_failures<R: AllocGlobal + Threads + Wait + Sync>(
+fn told_with_failures<R: AllocGlobal + Threads + Wait + Sync + rt::Clock>(
     rt: &R,
     row: &Row<'_>,
 ) -> Result<Told, AllocError> {
@@ -120,7 +121,7 @@ fn told_with_failures<R: AllocGlobal + Threads + Wait + Sync>(
 }
 
 /// What the program's call does by this row.
-fn told_by<R: AllocGlobal + Threads + Wait + Sync>(
+fn told_by<R: AllocGlobal + Threads + Wait + Sync + rt::Clock>(
     rt: &R,
     row: &Row<'_>,
 ) -> Result<Told, AllocError> {
@@ -133,7 +134,7 @@ fn told_by<R: AllocGlobal + Threads + Wait + Sync>(
 }
 
 /// The complaint where `check` does not find that this is the log of a whole run of this script.
-fn unless_legal<R: AllocGlobal + Threads + Wait + Sync>(
+fn unless_legal<R: AllocGlobal + Threads + Wait + Sync + rt::Clock>(
     rt: &R,
     script: &[u8],
     log: &[u8],
@@ -145,7 +146,7 @@ fn unless_legal<R: AllocGlobal + Threads + Wait + Sync>(
 }
 
 /// What of the output is not as this wants it.
-fn unless_wanted<R: AllocGlobal + Threads + Wait + Sync>(
+fn unless_wanted<R: AllocGlobal + Threads + Wait + Sync + rt::Clock>(
     rt: &R,
     input: &[u8],
     want: &Want,
@@ -198,7 +199,7 @@ fn unless_left(alloc: Global, row: &Row<'_>, told: &Told) -> Result<Option<Strin
 }
 
 /// What is not as the row wants it.
-fn complaint_about<R: AllocGlobal + Threads + Wait + Sync>(
+fn complaint_about<R: AllocGlobal + Threads + Wait + Sync + rt::Clock>(
     rt: &R,
     row: &Row<'_>,
     told: &Told,
@@ -222,7 +223,7 @@ fn complaint_about<R: AllocGlobal + Threads + Wait + Sync>(
 }
 
 /// Plays a row as often as it says, and tells what the first time is not as it wants it. It keeps what it wrote last.
-pub fn play<R: AllocGlobal + Threads + Wait + Sync>(
+pub fn play<R: AllocGlobal + Threads + Wait + Sync + rt::Clock>(
     rt: &R,
     row: &mut Row<'_>,
 ) -> Result<Option<String>, AllocError> {

@@ -1,7 +1,12 @@
 use Rattle.std.proofs.Common.{Some, ap, sym, ◌∙◌}
-use Rattle.command_line.specs.declared.words.Command.TheVariants.{Check, Explain, Trace, Nest, Lint, Generate, Bench}
+use Rattle.command_line.specs.declared.words.Command.TheVariants.{Simulate, Check, Explain, Trace, Nest, Lint, Generate, Bench}
 use Rattle.app_modes.proofs.Outcomes.{ends_asked, ends_in_common}
 use Rattle.app_modes.proofs.commands.execute.Goals as goal
+
+pub returns-in-Simulate-clause-outcome : goal.returns-in-Simulate-clause-outcome
+returns-in-Simulate-clause-outcome g c =
+    ends_in_common _ (Simulate c.in-Simulate.seed c.in-Simulate.favour c.in-Simulate.step c.in-Simulate.json) _ _ _ c.simulate_script.result _
+    (sym c.in-Ok-Some.ensures.command ∙ c.in-Ok-Some.field-0-is ∙ ap Some c.in-Simulate.is) c.common-in-Simulate.ensures c.simulate_script.ensures.outcome
 
 pub returns-in-Check-clause-outcome : goal.returns-in-Check-clause-outcome
 returns-in-Check-clause-outcome g c =
@@ -36,6 +41,6 @@ returns-in-Generate-clause-outcome g c =
 
 pub returns-in-Bench-clause-outcome : goal.returns-in-Bench-clause-outcome
 returns-in-Bench-clause-outcome g c =
-    ends_in_common _ (Bench c.in-Bench.number c.in-Bench.size) _ _ _ c.run_generated.result _
+    ends_in_common _ (Bench c.in-Bench.number c.in-Bench.size c.in-Bench.work) _ _ _ c.run_generated.result _
     (sym c.in-Ok-Some.ensures.command ∙ c.in-Ok-Some.field-0-is ∙ ap Some c.in-Bench.is) c.common-in-Bench.ensures
     (λ told. c.run_generated.ensures.outcome told _)

@@ -11,7 +11,7 @@ returns-clause-outcome g c =
     (g.S.Source.faults c.take_all.new.source) in
     let took = c.in_ok-bytes.ensures.whole in
     let run = c.in-Ok.ensures in
-    ends_written (Run c.args.step c.args.json) told source _ (output_of c.args.json c.in-Ok.log.items) c.write.result (λ takes. took.end)
+    ends_written (Run c.args.step c.args.json c.args.shake) told source _ (output_of c.args.json c.in-Ok.log.items) c.write.result (λ takes. took.end)
     (λ Holds holds. record {
       bytes = c.in_ok-bytes.bytes.items;
       took = took;
