@@ -3,11 +3,9 @@
 Each run's log is judged by the program, with `explain`, or where the run did not end well with `check --prefix`."""
 from __future__ import annotations
 
-import errno
 import json
 import os
 import shlex
-import signal
 import threading
 from collections import namedtuple
 from collections.abc import Callable, Iterable, Iterator
@@ -17,10 +15,11 @@ import inputs
 import running
 import shrinking
 from causes import Finding
-from playing import Command, NotStarted, Played, Stopped, played_before, side_by_side
-from running import say, write
+from playing import Command, NotStarted, Played, played_before
+from running import say
+from runs import STOPPED, WRITE_FAULT, Over, Shown, Stopped, is_written, many, processors, side_by_side, take_signals, write_file
 
-SOME_FAILED, NOTHING_JUDGED, WRITE_FAULT, STOPPED = 1, 2, 5, 130
+SOME_FAILED, NOTHING_JUDGED = 1, 2
 # What holds where no option says it.
 DEFAULTS = {"--runs": "100", "--timeout": "20", "--keep": "judged"}
 # By what the name of a log may go on after that of its script.
@@ -68,18 +67,19 @@ class Group:
             self.first, self.order = case, order
 
 
-class Judging:
+class Judging(Shown):
     """A call of the mode."""
 
     def __init__(self, request: object, file: str, launcher: str):
-        values = {**DEFAULTS, "--jobs": str(len(os.sched_getaffinity(0))), **request.options}
+        super().__init__()
+        values = {**DEFAULTS, "--jobs": str(processors()), **request.options}
         self.runs, self.jobs, self.seconds = (int(values[name]) for name in ("--runs", "--jobs", "--timeout"))
         self.keep, self.logs = values["--keep"], values.get("--logs")
         self.is_json, self.is_shrunk = "--json" in values, "--shrink" in values
         self.command, self.files = Command(request.command, self.seconds), request.files
         self.file, self.launcher = file, launcher
         self.groups: dict[str, Group] = {}
-        self.count, self.total, self.failed, self.silent, self.shown = 0, 0, 0, 0, ""
+        self.count, self.total, self.failed, self.silent = 0, 0, 0, 0
         self.stopped = threading.Event()
 
     def done(self) -> int:
@@ -92,15 +92,15 @@ class Judging:
         self.clear()
         if self.groups and self.silent == self.count:
             self._say_silence()
-        is_written = fault and not self.count or _written(self._told().encode("utf-8", "backslashreplace"))
+        is_told = fault and not self.count or is_written(self._told())
         if fault:
             say(fault)
-        return NOTHING_JUDGED if fault else self._status() if is_written else WRITE_FAULT
+        return NOTHING_JUDGED if fault else self._status() if is_told else WRITE_FAULT
 
     def _count_all(self) -> None:
         """Judges each run, or each log."""
         scripts = [self._script(file) for file in self.files]
-        self._take_signals()
+        take_signals(self.stopped)
         for case in self._logs(scripts) if self.logs is not None else self._plays(scripts):
             self._count(*case)
         if not self.count and not self.stopped.is_set():
@@ -111,12 +111,6 @@ class Judging:
             return STOPPED
         # Where no run wrote anything, and all ended by themselves, the command is likely to be none that plays a script.
         return NOTHING_JUDGED if self.silent == self.count else SOME_FAILED if self.failed else 0
-
-    def _take_signals(self) -> None:
-        """Has what would stop the launcher end the runs, and then say what was found so far."""
-        for number in running.STOPS:
-            if signal.getsignal(number) != signal.SIG_IGN:
-                signal.signal(number, lambda *_: self.stopped.set())
 
     def _script(self, file: str) -> Script:
         """A script that can be played."""
@@ -186,7 +180,7 @@ class Judging:
         matched = [(name, script_of(name, scripts)) for name in names]
         left = [name for name, script in matched if script is None]
         if left:
-            say(f"{_many(len(left), 'log')} of no script, by the name: {', '.join(left[:4])}{' ..' * (len(left) > 4)}")
+            say(f"{many(len(left), 'log')} of no script, by the name: {', '.join(left[:4])}{' ..' * (len(left) > 4)}")
         self.total = len(names) - len(left)
         for order, (name, script) in enumerate((it for it in matched if it[1])):
             if self.stopped.is_set():
@@ -200,7 +194,7 @@ class Judging:
             self.failed += 1
             self.silent += not case.played.log and case.played.is_by_itself
             self.groups.setdefault(case.found.cause, Group(case.found.cause)).add(case, order)
-        self.show(f"{self.count:,} of {_many(self.total, 'log' if self.logs else 'run')}, {self.failed:,} not legal")
+        self.show(f"{self.count:,} of {many(self.total, 'log' if self.logs else 'run')}, {self.failed:,} not legal")
 
     # ---- what is kept
 
@@ -215,7 +209,7 @@ class Judging:
         try:
             group.folder = _new_folder(self.keep)
             for name, data in {**files, "how": self._how(group, case).encode("utf-8", "backslashreplace")}.items():
-                _write_file(os.path.join(group.folder, name), data)
+                write_file(os.path.join(group.folder, name), data)
         except OSError as error:
             self.clear()
             say(f"the first failure can't be kept: {error.filename or self.keep}: {error.strerror}")
@@ -249,7 +243,7 @@ class Judging:
             try:
                 files = {"task": shrunk.text, "log": shrunk.case.played.log, "explanation": shrunk.case.found.explanation}
                 for name, data in files.items():
-                    _write_file(os.path.join(group.folder, f"shrunk.{name}"), data)
+                    write_file(os.path.join(group.folder, f"shrunk.{name}"), data)
             except OSError as error:
                 self.clear()
                 say(f"the shrunk script can't be kept: {error.filename}: {error.strerror}")
@@ -260,18 +254,6 @@ class Judging:
         """Says that no run wrote a log, and what the first one said instead."""
         said = self._sorted()[0].first.played.said.decode("utf-8", "replace").split("\n")[0].strip()
         say("no run wrote a log, so nothing was judged" + (f"; the first one said: {said}" if said else ""))
-
-    def show(self, text: str) -> None:
-        """Shows how far it has come, where someone reads along, in one line that is rewritten."""
-        if text != self.shown and os.isatty(2):
-            write(2, f"\rtaskenv: {text:<68}".encode())
-            self.shown = text
-
-    def clear(self) -> None:
-        """Removes that line."""
-        if self.shown:
-            write(2, f"\r{'':78}\r".encode())
-            self.shown = ""
 
     def _sorted(self) -> list[Group]:
         """The groups, the largest one first."""
@@ -284,12 +266,12 @@ class Judging:
     def _text(self) -> str:
         """A line that counts, and one for each group."""
         what = "log" if self.logs is not None else "run"
-        stopped = f"stopped after {self.count:,} of {_many(self.total, what)}\n" if self.count < self.total else ""
+        stopped = f"stopped after {self.count:,} of {many(self.total, what)}\n" if self.count < self.total else ""
         if not self.count:
             return stopped
         if not self.groups:
-            return f"{stopped}{_many(self.count, what)}: all legal\n"
-        text = f"{stopped}{_many(self.count, what)}, {self.failed:,} not legal, for {_many(len(self.groups), 'cause')}\n"
+            return f"{stopped}{many(self.count, what)}: all legal\n"
+        text = f"{stopped}{many(self.count, what)}, {self.failed:,} not legal, for {many(len(self.groups), 'cause')}\n"
         width = len(f"{max(group.count for group in self.groups.values()):,}")
         for group in self._sorted():
             kept = f" (the first, {group.first.name}, in {group.folder})" if group.folder else f" (the first: {group.first.name})"
@@ -307,18 +289,6 @@ class Judging:
             groups.append({**told, **({"shrunk": group.shrunk.as_json()} if group.shrunk else {})})
         whole = {"count": self.count, "legal": self.count - self.failed, "failed": self.failed, "stopped": self.stopped.is_set()}
         return json.dumps({**whole, "groups": groups}, separators=(",", ":")) + "\n"
-
-
-class Over(threading.Event):
-    """The end of some runs, which comes with the stop of the call, too."""
-
-    def __init__(self, stopped: threading.Event):
-        super().__init__()
-        self.stopped = stopped
-
-    def is_set(self) -> bool:
-        """Whether no more is to be begun."""
-        return super().is_set() or self.stopped.is_set()
 
 
 def script_of(name: str, scripts: list[Script]) -> Script | None:
@@ -345,25 +315,3 @@ def _new_folder(parent: str) -> str:
             return folder
         except FileExistsError:
             number += 1
-
-
-def _write_file(file: str, data: bytes) -> None:
-    with open(file, "xb") as it:
-        it.write(data)
-
-
-def _written(text: bytes) -> bool:
-    """Writes all of it to standard output. Where nobody reads that any more, nothing is said."""
-    rest = memoryview(text)
-    try:
-        while rest:
-            rest = rest[os.write(1, rest) :]
-    except OSError as error:
-        if error.errno != errno.EPIPE:
-            say(f"standard output can't be written: {error.strerror}")
-        return False
-    return True
-
-
-def _many(count: int, what: str) -> str:
-    return f"{count:,} {what}{'s' * (count != 1)}"

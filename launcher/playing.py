@@ -3,18 +3,17 @@ from __future__ import annotations
 
 import contextlib
 import os
-import queue
 import select
 import shutil
 import signal
 import subprocess
 import tempfile
-import threading
 import time
 from collections import namedtuple
-from collections.abc import Callable, Iterable, Iterator
+from collections.abc import Callable
 
 from inputs import MOST
+from runs import Stopped
 
 # The words in a command that stand for the files.
 SCRIPT, LOG = "{script}", "{log}"
@@ -34,10 +33,6 @@ Played = namedtuple("Played", "log said end is_by_itself")
 
 class NotStarted(Exception):
     """Why a command could not be started, as one line."""
-
-
-class Stopped(Exception):
-    """Nobody wants to know any more how a run ends."""
 
 
 class Command:
@@ -184,47 +179,3 @@ def _ending(status: int) -> str:
         return f"was ended by signal {-status} ({signal.Signals(-status).name})"
     except ValueError:
         return f"was ended by signal {-status}"
-
-
-def side_by_side(items: Iterable, do: Callable, jobs: int, is_over: threading.Event) -> Iterator:
-    """Does this with each item, so many at once, and gives what comes of each, until that is over. An item that fails ends all."""
-    left, lock, answers, lanes = iter(items), threading.Lock(), queue.SimpleQueue(), []
-
-    def lane() -> None:
-        try:
-            while not is_over.is_set():
-                with lock:
-                    item = next(left, None)
-                if item is None:
-                    break
-                answers.put(do(item))
-        except Stopped:
-            pass
-        except BaseException as error:
-            answers.put(error)
-        answers.put(None)
-
-    try:
-        for _ in range(jobs):
-            lanes.append(threading.Thread(target=lane, daemon=True))
-            try:
-                lanes[-1].start()
-            except RuntimeError:
-                # This machine has no room for more of them.
-                lanes.pop()
-                if not lanes:
-                    raise
-                break
-        ended = 0
-        while ended < len(lanes):
-            answer = answers.get()
-            if isinstance(answer, BaseException):
-                raise answer
-            if answer is None:
-                ended += 1
-            else:
-                yield answer
-    finally:
-        is_over.set()
-        for it in lanes:
-            it.join()

@@ -8,7 +8,7 @@ from collections import namedtuple
 from collections.abc import Callable, Iterable, Iterator
 from itertools import islice
 
-from playing import Stopped
+from runs import Stopped
 
 # What a line or a step names, word by word after the first, and which lines declare.
 NAMES = {
