@@ -113,7 +113,8 @@ class Fault:
         """What stands for the word, where that is likely: one of those that its place takes, or a number in digits alone."""
         if self.range:
             low, high = self.range
-            number = plain_number(self.word.encode("latin-1").decode("utf-8", "replace"), is_time=high == MOST_MICROSECONDS)
+            counts = "microseconds" if high == MOST_MICROSECONDS else None
+            number = plain_number(self.word.encode("latin-1").decode("utf-8", "replace"), counts)
             return str(number) if number is not None and low <= number <= high else None
         # A word that is right at another place is no slip of the pen.
         if " is no " not in self.text or self.word in PLACED:

@@ -49,11 +49,10 @@ def _answer(request: words.Request, launcher: str, home: str) -> int:
         running.write(2, b"bad words\n")
         say(words.bad_words_line(request))
         return BAD_WORDS
-    if request.mode in ("judge", "picture") and not request.fault:
+    own = {"judge": _judge, "picture": _picture, "simulate": _seeds if "--seeds" in request.options else None}.get(request.mode)
+    if own and not request.fault:
         program = program or _building("build", home, launcher)
-        if request.mode == "judge":
-            return _timed(request, _judge, program, request, launcher)
-        return _timed(request, _picture, program, request, home)
+        return _timed(request, own, program, request, launcher, home)
     given = inputs.Given(None) if request.fault else inputs.gather(request.files, _places(request))
     program = program or _building("build", home, launcher)
     ran = _run(program, request, given, home)
@@ -67,7 +66,7 @@ def _answer(request: words.Request, launcher: str, home: str) -> int:
     return ran.status
 
 
-def _judge(program: Program, request: words.Request, launcher: str) -> int:
+def _judge(program: Program, request: words.Request, launcher: str, _home: str) -> int:
     """Has the mode judge done, which asks the program many times."""
     _see_that_it_works(program, "nothing is judged, since this kit leaves no program that could be kept, and each log would take minutes")
     import judging
@@ -75,7 +74,7 @@ def _judge(program: Program, request: words.Request, launcher: str) -> int:
     return judging.judge(request, program.file, launcher)
 
 
-def _picture(program: Program, request: words.Request, home: str) -> int:
+def _picture(program: Program, request: words.Request, _launcher: str, home: str) -> int:
     """Has the mode picture done. Where there is nothing to be drawn, it is what `check` says and answers."""
     _see_that_it_works(program, "nothing is drawn, since this kit leaves no program that could be kept, and it is asked more than once")
     import picture
@@ -83,11 +82,23 @@ def _picture(program: Program, request: words.Request, home: str) -> int:
     logs = inputs.gather_logs(request.files)
     told = picture.stories(logs, lambda asked, data: running.ask([program.file, *asked], data, 1))
     if not told:
-        return _checked(program, request, logs[-1][1] if logs else None, home)
+        return _done_plainly(program, request, ["check"], logs[-1][1] if logs else None, home)
     import page
 
     is_written = running.write(1, page.page(told))
     return WRITE_FAULT if not is_written else int(any(story.faults for story in told))
+
+
+def _seeds(program: Program, request: words.Request, _launcher: str, home: str) -> int:
+    """Runs a script once for each seed of a range, and sums up what came. Where the first run fails, it is what that one says."""
+    _see_that_it_works(program, "nothing is run, since this kit leaves no program that could be kept, and each seed would take minutes")
+    import seeds
+
+    data = inputs.gather(request.files, _places(request)).again()
+    them = seeds.Seeds(program.file, request.options, data)
+    if data is None or not them.first_is_run():
+        return _done_plainly(program, request, them.words_of_first(), data, home)
+    return them.done()
 
 
 def _see_that_it_works(program: Program, why: str) -> None:
@@ -108,11 +119,11 @@ def _timed(request: words.Request, do: Callable[..., int], *arguments: object) -
     return status
 
 
-def _checked(program: Program, request: words.Request, data: bytes | None, home: str) -> int:
-    """Does what `check` does with these bytes, or with standard input."""
-    checked, given = request._replace(mode="check", words=["check"]), inputs.Given(data)
-    ran = _run(program, checked, given, home)
-    say(*_hints(program, checked, given, ran))
+def _done_plainly(program: Program, request: words.Request, asked: list[str], data: bytes | None, home: str) -> int:
+    """Does what the program does by these words, of which the first is the mode, with these bytes, or with standard input."""
+    plain, given = request._replace(mode=asked[0], words=asked), inputs.Given(data)
+    ran = _run(program, plain, given, home)
+    say(*_hints(program, plain, given, ran))
     return ran.status
 
 
@@ -142,7 +153,7 @@ def _run(program: Program, request: words.Request, given: inputs.Given, home: st
     """Runs the program. Where someone reads along, the log of a run is kept, to tell how it ended."""
     if not program.is_kept:
         return _building("run_by_try", home, request.words, given.data)
-    is_watched = request.mode in ("run", "reply") and os.isatty(2)
+    is_watched = request.mode in ("run", "simulate", "reply") and os.isatty(2)
     try:
         ran = running.run([program.file, *request.words], given.data, is_watched)
     except OSError as error:

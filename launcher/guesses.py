@@ -1,8 +1,9 @@
 """What a wrong word was meant to be."""
 from __future__ import annotations
 
-# How many microseconds a unit of time is.
-UNITS = {"us": 1, "µs": 1, "μs": 1, "ms": 1000, "s": 1000000, "sec": 1000000, "min": 60000000}
+# How many nanoseconds a unit of time is.
+NANOSECONDS = {"ns": 1, "us": 1000, "µs": 1000, "μs": 1000, "ms": 10 ** 6, "s": 10 ** 9, "sec": 10 ** 9, "min": 60 * 10 ** 9}
+IN_FULL = {"nanoseconds": "ns", "microseconds": "us"}
 LETTERS = "abcdefghijklmnopqrstuvwxyzµμ"
 
 
@@ -22,18 +23,19 @@ def nearest(word: str, names: list[str]) -> str | None:
     return _only([name for name, it in folded.items() if meant in it or it in meant])
 
 
-def plain_number(word: str, is_time: bool = False) -> int | None:
-    """The number that `1_000`, `1,000`, `1e3`, `+5`, `005`, `0x10` or, of a time in microseconds, `5ms` means."""
+def plain_number(word: str, counts: str | None = None) -> int | None:
+    """The number that `1_000`, `1,000`, `1e3`, `+5`, `005`, `0x10` means, or `5ms`, where it counts microseconds or nanoseconds."""
     text = word.lower().lstrip("+").replace("_", "").replace(",", "")
     digits = text.rstrip(LETTERS)
     unit = text[len(digits) :]
     try:
         if text.startswith("0x"):
             return int(text, 16)
-        if unit and not is_time:
+        if unit and not counts:
             return None
         value = int(digits) if digits.isdigit() else float(digits)
-        value *= UNITS[unit] if unit else 1
+        if unit:
+            value = value * NANOSECONDS[unit] / NANOSECONDS[IN_FULL[counts]]
         return int(value) if 0 <= value == int(value) else None
     except (KeyError, OverflowError, ValueError):
         return None

@@ -9,17 +9,25 @@ from guesses import nearest, plain_number
 
 VERSION = "taskenv 1.0"
 
-# An option takes a value of this name, which is a number of a range or the name of a folder, or it is a flag and has none.
-Option = namedtuple("Option", "value range says")
+# An option takes a value of this name, which is a number of a range, one of some words, the name of a folder, or a range of seeds; or it
+# is a flag and has none.
+Option = namedtuple("Option", "value takes says")
+SEED = (0, 2 ** 64 - 1)
 OPTIONS = {
     "--step": Option("N", (1, 10 ** 12), "ticks read N, 2N, 3N and so on, in microseconds; without it the system's clock, from 0"),
+    "--jump": Option(None, None, "each tick goes on to where something ripens, or a scope comes to count, as it does without --step"),
     "--json": Option(None, None, "writes JSON in place of text"),
+    "--seed": Option("N", SEED, "what the turns of the seats are drawn from, by default 0"),
+    "--favour": Option("WHO", ("driver", "workers", "none"), "whose turn it is 8 times as often, by default none"),
+    "--seeds": Option("A..B", None, "runs it once for each seed from A to B, and writes what came how often"),
+    "--shake": Option("N", (1, 10 ** 6), "threads pause up to N microseconds before what they do, so that they overlap"),
     "--prefix": Option(None, None, "a log is right too where the run isn't over"),
     "--replies": Option(None, None, "reads a script and replies"),
     "--nest": Option(None, None, "reads a nest script"),
     "--full": Option(None, None, "the events say all that the log and the script tell, with flows, marks and counters"),
     "--number": Option("N", (0, 2 ** 64 - 1), "what the script is made from, by default 0"),
     "--size": Option("N", (1, 8192), "how many tasks it has, by default 16"),
+    "--work": Option("N", (0, 10 ** 9), "how many nanoseconds each task works, by default 0"),
     "--runs": Option("N", (1, 10 ** 6), "how often each script is played, by default 100"),
     "--jobs": Option("N", (1, 256), "how many runs go on at once, by default one for each processor"),
     "--timeout": Option("S", (1, 3600), "after so many seconds a run is stopped, by default 20"),
@@ -27,6 +35,19 @@ OPTIONS = {
     "--logs": Option("DIR", None, "judges the logs of that folder, in place of a command's"),
     "--shrink": Option(None, None, "makes the script of the most frequent cause as short as it still fails"),
 }
+# What an option says at one mode alone.
+SAYS = {
+    ("run", "--seed"): "what the pauses are drawn from, by default 0; with --shake alone",
+    ("simulate", "--step"): "ticks read N, 2N, 3N and so on, in microseconds",
+    ("simulate", "--keep"): "the new folder in which each different log is kept; with --seeds alone",
+}
+# Which options do not go together, and which of a mode goes with another one alone.
+APART = (("--replies", "--nest"), ("--step", "--jump"), ("--seed", "--seeds"))
+NEEDED = {("run", "--seed"): "--shake", ("simulate", "--keep"): "--seeds"}
+# So many seeds are run at most.
+MOST_SEEDS = 1_000_000
+# What a number counts, where it is a time.
+UNITS = {"--step": "microseconds", "--shake": "microseconds", "--work": "nanoseconds"}
 
 # What the launcher alone takes, before the mode.
 LAUNCHER = {
@@ -38,15 +59,18 @@ HELP = ("-h", "--help")
 ASKS_VERSION = ("-V", "--version")
 
 # The files that a mode may be given, its options, what it does, what its exit statuses say, and an example, in which {it} is the
-# launcher and {at} the folder of the examples. The modes judge and picture are the launcher's own.
+# launcher and {at} the folder of the examples. The modes judge and picture are the launcher's own, and so is the option --seeds.
 Mode = namedtuple("Mode", "files options says statuses example")
 RUNS = "0 the script was run   3 the script is bad"
 MAKES = "0 the script was made"
 JUDGES = "0 the log is legal and whole   1 it is not   3 the script is bad"
 REPLIED = r"runner 0 parallel user_visible skip\ntask 0 add 1\ntask 1 add 2\npost 1 0 0\nflush\n%%%%\nreply 1 0 runner 0\n"
 MODES = {
-    "run": Mode(("SCRIPT",), ("--step", "--json"), "reads a script, runs it, and writes the log of the run",
+    "run": Mode(("SCRIPT",), ("--step", "--json", "--shake", "--seed"), "reads a script, runs it, and writes the log of the run",
                 RUNS, "{it} run {at}/first_run.task"),
+    "simulate": Mode(("SCRIPT",), ("--seed", "--seeds", "--favour", "--step", "--jump", "--json", "--keep"),
+                     "reads a script, runs it on one thread, on which the seats take turns by a seed, and writes the log",
+                     RUNS, "{it} simulate --seeds 0..999 {at}/race.task"),
     "check": Mode(("SCRIPT", "LOG"), ("--prefix",), "reads a script and a log, and writes whether the rules allow that log",
                   JUDGES, "{it} check {at}/first_run.task {at}/first_run.log"),
     "explain": Mode(("SCRIPT", "LOG"), ("--json",), "reads a script and a log, and writes why a wrong log is wrong",
@@ -67,7 +91,7 @@ MODES = {
                  "0 it is a script   1 it is none", "echo 'worker 2' | {it} lint"),
     "gen": Mode((), ("--number", "--size"), "makes a script from a number, and writes it",
                 MAKES, "{it} gen --size 2"),
-    "bench": Mode((), ("--number", "--size"), "makes the script that gen makes, runs it, and writes what its log adds up to",
+    "bench": Mode((), ("--number", "--size", "--work"), "makes the script that gen makes, runs it, and writes what its log adds up to",
                   MAKES, "{it} bench --size 2"),
 }
 # What is said of the words of the mode judge.
@@ -172,8 +196,10 @@ def _with_value(option: str) -> str:
     return " ".join(filter(None, (option, OPTIONS[option].value)))
 
 
-def _range(option: str) -> str:
-    return "{:,} to {:,}".format(*OPTIONS[option].range)
+def _taken(option: str) -> str:
+    """The numbers of its range, or its words."""
+    takes = OPTIONS[option].takes
+    return _any_of(takes) if isinstance(takes[0], str) else "{:,} to {:,}".format(*takes)
 
 
 def _usage(name: str, is_short: bool = False) -> str:
@@ -201,8 +227,9 @@ def _help_of(name: str, places: dict[str, str]) -> str:
         text += f", with a line %% between them, and with SCRIPT alone {mode.files[1]} is standard input" if mode.files[1:] else ""
         text += ". The word - is standard input too.\n"
     if mode.options:
-        ranges = {option: f"; {OPTIONS[option].value} is {_range(option)}" if OPTIONS[option].range else "" for option in mode.options}
-        text += "\nOptions\n" + _table((_with_value(option), OPTIONS[option].says + ranges[option]) for option in mode.options)
+        taken = {option: f"; {OPTIONS[option].value} is {_taken(option)}" if OPTIONS[option].takes else "" for option in mode.options}
+        says = {option: SAYS.get((name, option), OPTIONS[option].says) + taken[option] for option in mode.options}
+        text += "\nOptions\n" + _table((_with_value(option), said) for option, said in says.items())
     return text + f"\nExit statuses\n  {mode.statuses}\n  {STATUSES}\n\nExample\n  {mode.example.format(**places)}\n"
 
 
@@ -242,9 +269,11 @@ def _faults_of(parts: list[Part], mode: str | None) -> Iterator[str]:
             seen.add(part.name)
     if not mode:
         yield f"a mode is missing: {_any_of(MODES)}"
-    elif {"--replies", "--nest"} <= seen:
-        yield "--replies and --nest do not go together"
-    elif mode == "judge":
+    yield from (f"{one} and {other} do not go together" for one, other in APART if {one, other} <= seen)
+    for (needing, option), needed in NEEDED.items():
+        if needing == mode and option in seen and needed not in seen:
+            yield f"{mode} takes {option} with {needed} alone: {needed} {OPTIONS[needed].value}"
+    if mode == "judge":
         yield from _faults_of_judge(parts, named[1:], seen)
     else:
         yield from _faults_of_files(named[1:], mode, files_of(mode, seen))
@@ -297,24 +326,61 @@ def _faults_of_option(part: Part, mode: str | None, seen: set[str]) -> Iterator[
         yield f"{_taken_by(mode)}, and {'' if taken else 'so '}no {name}"
     elif name in seen:
         yield f"{name} stands twice"
-    elif name in OPTIONS and OPTIONS[name].range:
-        yield from _faults_of_number(name, value)
+    elif name == "--seeds":
+        yield from _faults_of_seeds(value or "")
+    elif name == "--seed" and mode == "simulate" and seeds_in(value or ""):
+        yield f"--seed {value}: did you mean --seeds {value}?"
+    elif name in OPTIONS and OPTIONS[name].takes:
+        yield from (_faults_of_word if isinstance(OPTIONS[name].takes[0], str) else _faults_of_number)(name, value)
     elif name in OPTIONS and OPTIONS[name].value:
         if not value:
             yield f"{name} needs a folder"
+        elif mode == "simulate" and os.path.lexists(value):
+            yield f"{name} {value}: that is there already, and nothing is overwritten: name a new folder"
     elif value is not None:
         yield f"{name} takes no value"
 
 
 def _faults_of_number(name: str, value: str | None) -> Iterator[str]:
-    low, high = OPTIONS[name].range
-    number = plain_number(value or "", is_time=name == "--step")
+    low, high = OPTIONS[name].takes
+    number = plain_number(value or "", UNITS.get(name))
     if not value:
-        yield f"{name} needs a number: {_range(name)}"
+        yield f"{name} needs a number: {_taken(name)}"
     elif number is None or not low <= number <= high:
-        yield f"{name} {value}: the number is {_range(name)}" + ("" if value.isdigit() else ", in digits alone")
+        yield f"{name} {value}: the number is {_taken(name)}" + ("" if value.isdigit() else ", in digits alone")
     elif value != str(number):
-        yield f"{name} {value}: write {number}, in {'microseconds and ' if name == '--step' else ''}digits alone"
+        yield f"{name} {value}: write {number}, in {UNITS[name] + ' and ' if name in UNITS else ''}digits alone"
+
+
+def _faults_of_word(name: str, value: str | None) -> Iterator[str]:
+    if not value:
+        yield f"{name} needs a word: {_taken(name)}"
+    elif value not in OPTIONS[name].takes:
+        near = nearest(value, list(OPTIONS[name].takes))
+        yield f"{name} {value}: " + (f"did you mean {near}?" if near else f"the word is {_taken(name)}")
+
+
+def seeds_in(value: str) -> range | None:
+    """The seeds of a range `A..B`, both ends included, which may be none, or more than there are."""
+    first, parting, last = value.partition("..")
+    is_range = all(it.isascii() and it.isdigit() for it in (first, last)) and parting
+    return range(int(first), int(last) + 1) if is_range else None
+
+
+def _faults_of_seeds(value: str) -> Iterator[str]:
+    seeds = seeds_in(value)
+    if not value:
+        yield "--seeds needs a range of seeds: A..B, as 0..999"
+    elif seeds is None:
+        yield f"--seeds {value}: a range of seeds is A..B, as 0..999, in digits alone"
+    elif max(seeds.start, seeds.stop - 1) > SEED[1]:
+        yield f"--seeds {value}: a seed is {_taken('--seed')}"
+    elif not seeds:
+        yield f"--seeds {value}: that range is empty, since its first seed is above its last one"
+    elif seeds.stop - seeds.start > MOST_SEEDS:
+        yield f"--seeds {value}: those are {seeds.stop - seeds.start:,} seeds, and at most {MOST_SEEDS:,} are run"
+    elif value != f"{seeds.start}..{seeds.stop - 1}":
+        yield f"--seeds {value}: write {seeds.start}..{seeds.stop - 1}"
 
 
 def _faults_of_files(files: list[str], mode: str, places: tuple[str, ...]) -> Iterator[str]:

@@ -12,6 +12,7 @@ import building
 import files
 import judging
 import pictures
+import ranges
 import streams
 
 HOME = os.path.dirname(os.path.dirname(os.path.dirname(os.path.abspath(__file__))))
@@ -19,7 +20,7 @@ HOME = os.path.dirname(os.path.dirname(os.path.dirname(os.path.abspath(__file__)
 
 def main(program: str) -> None:
     """Tries all cases, each in a room of its own."""
-    for module in building, files, judging, pictures, streams:
+    for module in building, files, judging, pictures, ranges, streams:
         for name, case in list(vars(module).items()):
             if name.startswith("case_"):
                 with tempfile.TemporaryDirectory() as room:

@@ -21,6 +21,7 @@ def case_each_mode(room: str, home: str, program: str) -> bool:
     with open(os.path.join(home, "examples/nested.nest"), encoding="utf-8") as it:
         cases = [("nest", it.read(), None)]
     cases += [("run", SCRIPT, None), ("run --json", SCRIPT, None), ("lint", SCRIPT, None), ("reply", replied, REPLIES)]
+    cases += [("simulate", SCRIPT, None), ("simulate --seed 5 --favour=driver --json", SCRIPT, None), ("simulate --jump", "walk", None)]
     cases += [("check", SCRIPT, LOG), ("check", SCRIPT, wrong), ("check", SCRIPT + "walk", LOG), ("check", "", "")]
     cases += [("check --prefix", SCRIPT, BEGUN), ("explain", SCRIPT, wrong), ("trace", SCRIPT, LOG)]
     for words, script, behind in cases:
