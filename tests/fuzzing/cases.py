@@ -8,6 +8,7 @@ from program import REASONS, Wrong
 from scripts import spelled_anew, text_of
 
 MARK = b"%%\n"
+FAVOURS = ("driver", "workers", "none")
 BYTES = b" \t\r\n;#%-0123456789abc\x00\x80\xff"
 
 
@@ -51,6 +52,20 @@ class Case:
         return told.output
 
 
+    def simulate_words(self, rng):
+        """The words of a simulated run, with or without a step, and the step."""
+        step = rng.choice([None, 1, 7, 10**12])
+        words = ["simulate", "--seed", str(rng.randrange(2**64)), *rng.choice([[], ["--favour", rng.choice(FAVOURS)]])]
+        return words + (["--step", str(step)] if step else rng.choice([[], ["--jump"]])), step
+
+    def look_at(self, lines, entries, step):
+        """Refuses a log that breaks a promise. With a step, the moments are its multiples, as far as a moment may go."""
+        promises.look_at(lines, entries)
+        moments = [int(entry[2]) for entry in entries if entry[1] == "tick"]
+        if step and moments != [min(step * (place + 1), 2**62) for place in range(len(moments))]:
+            raise Wrong("other moments than those of the step", moments)
+
+
 class GoodScript(Case):
     """A run of a good script writes a log that is legal, in whatever spelling, and in JSON too."""
 
@@ -66,12 +81,21 @@ class GoodScript(Case):
         self.look_at(lines, entries, step)
         want(self.program.run(["check"], text_of(spelling) + MARK + logs.text_of(entries)), 0, b"legal\n")
 
-    def look_at(self, lines, entries, step):
-        """Refuses a log that breaks a promise. With a step, the moments are its multiples, as far as a moment may go."""
-        promises.look_at(lines, entries)
-        moments = [int(entry[2]) for entry in entries if entry[1] == "tick"]
-        if step and moments != [min(step * (place + 1), 2**62) for place in range(len(moments))]:
-            raise Wrong("other moments than those of the step", moments)
+
+class Simulated(Case):
+    """A simulated run of a good script writes a log that is legal, and by the same seed the same one, in whatever spelling, and in JSON."""
+
+    def judge(self, lines):
+        rng = self.choices()
+        words, step = self.simulate_words(rng)
+        script = text_of(lines)
+        log = self.run_good(words, lines)
+        entries = logs.entries_of(log)
+        self.look_at(lines, entries, step)
+        want(self.program.run(["check"], script + MARK + log), 0, b"legal\n")
+        spelling = spelled_anew(rng, lines)
+        if self.run_good(words, spelling) != log or logs.entries_of_json(self.run_good(words + ["--json"], spelling)) != entries:
+            raise Wrong("another log by the same seed", " ".join(words))
 
 
 class EditedLog(Case):
@@ -80,7 +104,7 @@ class EditedLog(Case):
 
     def judge(self, lines):
         rng = self.choices()
-        log = self.run_good(["run"], lines)
+        log = self.run_good(rng.choice([["run"], self.simulate_words(rng)[0]]), lines)
         entries = logs.entries_of(log)
         busy = logs.busy_seats(entries)
         for edit in rng.sample(logs.EXACT + logs.EARLIEST, 5):
@@ -184,10 +208,14 @@ class Words(Case):
 
     def judge(self, lines):
         rng = self.choices()
-        mode = rng.choice(["gen", "bench", "run"])
+        mode = rng.choice(["gen", "bench", "run", "simulate"])
         options = [("--number", str(rng.randrange(2**64))), ("--size", str(rng.choice([1, 2, rng.randint(1, 300)])))]
-        if mode == "run":
+        if mode == "bench":
+            options.append(("--work", str(rng.choice([0, 1, 1000]))))
+        if mode in ("run", "simulate"):
             options = [("--step", str(rng.randint(1, 10**12)))]
+        if mode == "simulate":
+            options += [("--seed", str(rng.randrange(2**64))), ("--favour", rng.choice(FAVOURS))]
         options = rng.sample(options, rng.randint(0, len(options)))
         words = [rng.choice([[name, value], [f"{name}={value}"]]) for name, value in options] + [[mode]]
         rng.shuffle(words)
@@ -196,8 +224,9 @@ class Words(Case):
             raise Wrong(f"good words: {words}", f"status {told.status}")
         if mode == "gen":
             self.run_good(["run"], told.output.decode().splitlines())
-        bad = rng.choice([["run"], ["--step", "0"], ["--size", "8193"], ["--help"], ["--fast"], [""], ["--number", "1x"]])
+        bad = [["run"], ["--step", "0"], ["--size", "8193"], ["--help"], ["--fast"], [""], ["--number", "1x"], ["--favour", "all"]]
+        bad = rng.choice([*bad, ["--seed", "-1"], ["--jump=1"], ["--shake", "0"], ["--work", "1000000001"], ["--seeds", "0..9"]])
         want(self.program.run(sum(words, bad), text_of(lines)), 2)
 
 
-KINDS = [GoodScript] * 4 + [EditedLog] * 3 + [DamagedScript] * 3 + [AnyBytes] * 2 + [FullDevice, Words]
+KINDS = [GoodScript] * 4 + [Simulated] * 3 + [EditedLog] * 3 + [DamagedScript] * 3 + [AnyBytes] * 2 + [FullDevice, Words]

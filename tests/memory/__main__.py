@@ -100,6 +100,8 @@ def commands(examples):
         script = Path(examples, name).read_bytes()
         yield ["run"], script
         yield ["run", "--json"], script
+        yield ["simulate"], script
+        yield ["simulate", "--json"], script
         yield ["check"], script + b"%%\n0 0 idle\n"
     yield ["gen", "--size", "3"], b""
 
