@@ -168,7 +168,9 @@ def case_stopped(room: str, home: str, program: str) -> bool:
         wait_for(lambda: len(pool.left()) >= 4)
         process.send_signal(number)
         output, notes = process.communicate(timeout=20)
-        if (process.returncode, output, notes) != (130, b"stopped after 0 of 100 runs\n", b"") or pool.left():
+        # What is killed is gone a moment later, on a busy machine.
+        is_left = not wait_for(lambda: not pool.left(), 5)
+        if (process.returncode, output, notes) != (130, b"stopped after 0 of 100 runs\n", b"") or is_left:
             raise AssertionError(f"{process.returncode} {output} {notes}")
     return not pool.kept()
 
