@@ -27,7 +27,7 @@ OPTIONS = {
     "--full": Option(None, None, "the events say all that the log and the script tell, with flows, marks and counters"),
     "--number": Option("N", (0, 2 ** 64 - 1), "what the script is made from, by default 0"),
     "--size": Option("N", (1, 8192), "how many tasks it has, by default 16"),
-    "--work": Option("N", (0, 10 ** 9), "how many nanoseconds each task works, by default 0"),
+    "--work": Option("N", (0, 10 ** 9), "how many nanoseconds each task of the pool works, by default 0"),
     "--runs": Option("N", (1, 10 ** 6), "how often each script is played, by default 100"),
     "--jobs": Option("N", (1, 256), "how many runs go on at once, by default one for each processor"),
     "--timeout": Option("S", (1, 3600), "after so many seconds a run is stopped, by default 20"),
