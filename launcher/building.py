@@ -72,14 +72,23 @@ def _make(work: Work, rt: str, sources: dict[str, bytes]) -> str:
 
 
 def _takes_module(work: Work, module: str, seen: list[str]) -> bool:
-    """Takes the module, once it is whole: that is when the object file beside it has been begun. Notes where it was seen."""
+    """Takes the program's module, once it is whole: that is when the object file beside it has been begun. Notes where it was seen."""
     for folder, _, names in os.walk(work.path("tmp")):
-        if "module.bc" in names:
+        if "module.bc" in names and _has_main(os.path.join(folder, "module.bc")):
             seen.append(folder)
-        if "module.bc" in names and any(re.match(r"module-.*\.o", name) for name in names):
-            shutil.copyfile(os.path.join(folder, "module.bc"), module)
-            return True
+            if any(re.match(r"module-.*\.o", name) for name in names):
+                shutil.copyfile(os.path.join(folder, "module.bc"), module)
+                return True
     return False
+
+
+def _has_main(module: str) -> bool:
+    """Whether a module is the program's. Before it the kit compiles, in a blink, one of its own, which has no `main`."""
+    try:
+        with open(module, "rb") as it:
+            return b"main" in it.read()
+    except FileNotFoundError:
+        return False
 
 
 def _forget_old(folder: str) -> None:
