@@ -57,6 +57,12 @@ options_same f g same =
       same (codes "jump"),
       same (codes "shake"),
       same (codes "work"),
+      same (codes "wide"),
+      same (codes "no-jobs"),
+      same (codes "no-main"),
+      same (codes "no-delays"),
+      same (codes "no-scopes"),
+      same (codes "no-shutdown"),
     ) refl
 
 -- words that it takes are the command that its matches make

@@ -12,8 +12,8 @@ use Rattle.command_line.specs.declared.words.Linted.TheVariants as linted
 use Rattle.command_line.specs.declared.words.Mode.{Mode}
 use Rattle.command_line.specs.declared.words.Mode.TheVariants as modes
 use Rattle.command_line.specs.declared.options.TheConstants.{MOST_SIZE, MOST_WORK}
-use Rattle.command_line.specs.Options.{◌>>=◌, Options, IsShake, favour_given, is_bare, options_by}
-use Rattle.command_line.specs.Options.{pace_given, seed_given, shake_given, size_given, step_given, work_given}
+use Rattle.command_line.specs.Options.{◌>>=◌, Options, IsShake, everything, favour_given, is_bare, options_by}
+use Rattle.command_line.specs.Options.{pace_given, seed_given, shake_given, size_given, step_given, wide_given, work_given}
 
 -- ---- the command, as clap has commands
 
@@ -46,10 +46,16 @@ arguments =
     ∷ flag_argument (codes "jump")
     ∷ value_argument (codes "shake")
     ∷ value_argument (codes "work")
+    ∷ flag_argument (codes "wide")
+    ∷ flag_argument (codes "no-jobs")
+    ∷ flag_argument (codes "no-main")
+    ∷ flag_argument (codes "no-delays")
+    ∷ flag_argument (codes "no-scopes")
+    ∷ flag_argument (codes "no-shutdown")
     ∷ []
 
 -- `taskenv MODE [--step N] [--json] [--prefix] [--number N] [--size N] [--replies] [--nest] [--full] [--seed N] [--favour WORD] [--jump]
--- [--shake N] [--work N]` (this project's own)
+-- [--shake N] [--work N] [--wide] [--no-jobs] [--no-main] [--no-delays] [--no-scopes] [--no-shutdown]` (this project's own)
 abbrev pub taskenv : App
 taskenv = fold with_rule (new_app (codes "taskenv")) arguments
 
@@ -71,19 +77,19 @@ mode_named word =
     else None)))))))))
 
 -- the options that the mode does not take: `run` takes `--step`, `--json`, `--shake` and `--seed`, `simulate` takes `--seed`, `--favour`,
--- `--step`, `--jump` and `--json`, `check` takes `--prefix`, `explain` takes `--json`, `trace` takes `--full` and `--prefix`, `lint` takes
--- `--replies` and `--nest`, `gen` takes `--number` and `--size`, `bench` takes these and `--work`, and the others take none (this project's
--- own rule)
+-- `--step`, `--jump` and `--json`, `check` takes `--prefix`, `explain` takes `--json` and `--prefix`, `trace` takes `--full` and `--prefix`, `lint` takes
+-- `--replies` and `--nest`, `gen` takes `--number`, `--size`, `--wide` and the flags that leave something out,
+-- `bench` takes `--number`, `--size` and `--work`, and the others take none (this project's own rule)
 abbrev pub others_than : Mode → Options → Options
 others_than modes.Run o = record o { step = None; json = false; shake = None; seed = None }
 others_than modes.Simulate o = record o { seed = None; favour = None; step = None; jump = false; json = false }
 others_than modes.Check o = record o { prefix = false }
-others_than modes.Explain o = record o { json = false }
+others_than modes.Explain o = record o { json = false; prefix = false }
 others_than modes.Reply o = o
 others_than modes.Trace o = record o { full = false; prefix = false }
 others_than modes.Nest o = o
 others_than modes.Lint o = record o { replies = false; nest = false }
-others_than modes.Generate o = record o { number = None; size = None }
+others_than modes.Generate o = record o { number = None; size = None; wide = false; parts = everything }
 others_than modes.Bench o = record o { number = None; size = None; work = None }
 
 -- ---- the command of each mode
@@ -115,7 +121,8 @@ abbrev pub generate_with : Options → Option Command
 generate_with o = do
   number ← seed_given o.number
   size ← size_given o.size
-  Some (Generate number size)
+  wide ← wide_given o.wide o.parts
+  Some (Generate number size wide)
 
 -- the command of the mode `bench`
 abbrev pub bench_with : Options → Option Command
@@ -130,7 +137,7 @@ abbrev pub command_with : Mode → Options → Option Command
 command_with modes.Run o = run_with o
 command_with modes.Simulate o = simulate_with o
 command_with modes.Check o = Some (Check o.prefix)
-command_with modes.Explain o = Some (Explain o.json)
+command_with modes.Explain o = Some (Explain o.json o.prefix)
 command_with modes.Reply o = Some Reply
 command_with modes.Trace o = Some (Trace o.full o.prefix)
 command_with modes.Nest o = Some Nest
@@ -165,12 +172,12 @@ abbrev pub IsInRange : Command → Type 0
 IsInRange (Run step json shake) = IsShake shake
 IsInRange (Simulate seed favour step json) = Unit {0}
 IsInRange (Check prefix) = Unit {0}
-IsInRange (Explain json) = Unit {0}
+IsInRange (Explain json prefix) = Unit {0}
 IsInRange Reply = Unit {0}
 IsInRange (Trace full prefix) = Unit {0}
 IsInRange Nest = Unit {0}
 IsInRange (Lint input) = Unit {0}
-IsInRange (Generate number size) = (1 ≤ size) × (size ≤ MOST_SIZE)
+IsInRange (Generate number size wide) = (1 ≤ size) × (size ≤ MOST_SIZE)
 IsInRange (Bench number size work) = (1 ≤ size) × (size ≤ MOST_SIZE) × (work ≤ MOST_WORK)
 
 -- the command reads the source: a script, behind which `check`, `explain` and `trace` have a log and `reply` has replies, or a nest
@@ -180,12 +187,12 @@ TakesInput None = ⊥
 TakesInput (Some (Run step json shake)) = Unit {0}
 TakesInput (Some (Simulate seed favour step json)) = Unit {0}
 TakesInput (Some (Check prefix)) = Unit {0}
-TakesInput (Some (Explain json)) = Unit {0}
+TakesInput (Some (Explain json prefix)) = Unit {0}
 TakesInput (Some Reply) = Unit {0}
 TakesInput (Some (Trace full prefix)) = Unit {0}
 TakesInput (Some Nest) = Unit {0}
 TakesInput (Some (Lint input)) = Unit {0}
-TakesInput (Some (Generate number size)) = ⊥
+TakesInput (Some (Generate number size wide)) = ⊥
 TakesInput (Some (Bench number size work)) = ⊥
 
 -- the command reads the clock
@@ -195,12 +202,12 @@ ReadsClock (Some (Run None json shake)) = Unit {0}
 ReadsClock (Some (Run (Some step) json shake)) = ⊥
 ReadsClock (Some (Simulate seed favour step json)) = ⊥
 ReadsClock (Some (Check prefix)) = ⊥
-ReadsClock (Some (Explain json)) = ⊥
+ReadsClock (Some (Explain json prefix)) = ⊥
 ReadsClock (Some Reply) = Unit {0}
 ReadsClock (Some (Trace full prefix)) = ⊥
 ReadsClock (Some Nest) = ⊥
 ReadsClock (Some (Lint input)) = ⊥
-ReadsClock (Some (Generate number size)) = ⊥
+ReadsClock (Some (Generate number size wide)) = ⊥
 ReadsClock (Some (Bench number size work)) = ⊥
 
 -- the command runs a script and writes JSON, for which it takes memory after the run
@@ -211,12 +218,12 @@ WritesJson (Some (Run step false shake)) = ⊥
 WritesJson (Some (Simulate seed favour step true)) = Unit {0}
 WritesJson (Some (Simulate seed favour step false)) = ⊥
 WritesJson (Some (Check prefix)) = ⊥
-WritesJson (Some (Explain json)) = ⊥
+WritesJson (Some (Explain json prefix)) = ⊥
 WritesJson (Some Reply) = ⊥
 WritesJson (Some (Trace full prefix)) = ⊥
 WritesJson (Some Nest) = ⊥
 WritesJson (Some (Lint input)) = ⊥
-WritesJson (Some (Generate number size)) = ⊥
+WritesJson (Some (Generate number size wide)) = ⊥
 WritesJson (Some (Bench number size work)) = ⊥
 
 -- the command judges a log
@@ -225,12 +232,12 @@ IsJudge None = ⊥
 IsJudge (Some (Run step json shake)) = ⊥
 IsJudge (Some (Simulate seed favour step json)) = ⊥
 IsJudge (Some (Check prefix)) = Unit {0}
-IsJudge (Some (Explain json)) = Unit {0}
+IsJudge (Some (Explain json prefix)) = Unit {0}
 IsJudge (Some Reply) = ⊥
 IsJudge (Some (Trace full prefix)) = Unit {0}
 IsJudge (Some Nest) = ⊥
 IsJudge (Some (Lint input)) = ⊥
-IsJudge (Some (Generate number size)) = ⊥
+IsJudge (Some (Generate number size wide)) = ⊥
 IsJudge (Some (Bench number size work)) = ⊥
 
 -- the command writes its verdict on a log
@@ -239,12 +246,12 @@ WritesVerdict None = ⊥
 WritesVerdict (Some (Run step json shake)) = ⊥
 WritesVerdict (Some (Simulate seed favour step json)) = ⊥
 WritesVerdict (Some (Check prefix)) = Unit {0}
-WritesVerdict (Some (Explain json)) = Unit {0}
+WritesVerdict (Some (Explain json prefix)) = Unit {0}
 WritesVerdict (Some Reply) = ⊥
 WritesVerdict (Some (Trace full prefix)) = ⊥
 WritesVerdict (Some Nest) = ⊥
 WritesVerdict (Some (Lint input)) = ⊥
-WritesVerdict (Some (Generate number size)) = ⊥
+WritesVerdict (Some (Generate number size wide)) = ⊥
 WritesVerdict (Some (Bench number size work)) = ⊥
 
 -- the command says of an input why it is none
@@ -260,5 +267,6 @@ IsTrace command = ⊥
 -- the command takes a log as legal that ends before the script is done
 abbrev pub takes_prefix : Option Command → Bool
 takes_prefix (Some (Check prefix)) = prefix
+takes_prefix (Some (Explain json prefix)) = prefix
 takes_prefix (Some (Trace full prefix)) = prefix
 takes_prefix command = false

@@ -8,6 +8,7 @@ use Rattle.command_line.specs.declared.options.Favour.{Favour}
 use Rattle.command_line.specs.declared.options.Favour.TheVariants as favours
 use Rattle.command_line.specs.declared.options.Given.{Given}
 use Rattle.command_line.specs.declared.options.Shake.{Shake}
+use Rattle.command_line.specs.declared.options.Wide.{Wide}
 use Rattle.command_line.specs.declared.options.TheConstants.{USUAL_SIZE, MOST_SIZE, MOST_SHAKE, MOST_WORK}
 
 infixl 10 ◌>>=◌
@@ -33,6 +34,8 @@ pub record Options : Type 0 where
   pub jump : Bool
   pub shake : Option (List ℕ)
   pub work : Option (List ℕ)
+  pub wide : Bool
+  pub parts : Wide
 
 -- the same, with the words behind the references
 abbrev pub options_of : Given → Options
@@ -50,24 +53,44 @@ options_of g = record {
   jump = g.jump;
   shake = option_map (λ s. s.now) g.shake;
   work = option_map (λ s. s.now) g.work;
+  wide = g.wide;
+  parts = g.parts;
 }
 
 -- none of the options is there that have no value
 abbrev pub has_no_flag : Options → Bool
-has_no_flag o = not (o.json || o.prefix || o.replies || o.nest || o.full || o.jump)
+has_no_flag o = not (o.json || o.prefix || o.replies || o.nest || o.full || o.jump || o.wide)
 
 -- none of those is there whose value is a number
 abbrev pub has_no_number : Options → Bool
 has_no_number o = is_none o.step && is_none o.number && is_none o.size && is_none o.seed && is_none o.shake && is_none o.work
 
+-- all that a wide script may have
+abbrev pub everything : Wide
+everything = record { jobs = true; main = true; delays = true; scopes = true; shutdown = true }
+
+-- a wide script has all of it
+abbrev pub has_all : Wide → Bool
+has_all parts = parts.jobs && parts.main && parts.delays && parts.scopes && parts.shutdown
+
 -- no option is there
 abbrev pub is_bare : Options → Bool
-is_bare o = has_no_flag o && has_no_number o && is_none o.favour
+is_bare o = has_no_flag o && has_no_number o && is_none o.favour && has_all o.parts
 
 -- the flag is there: clap gives it the text `true` then, and `false` where it is not
 abbrev pub is_set : Option (List ℕ) → Bool
 is_set None = false
 is_set (Some text) = is_word text (codes "true")
+
+-- what a wide script has, where this is the word that stands under each name: what no flag leaves out
+abbrev pub parts_by : (List ℕ → Option (List ℕ)) → Wide
+parts_by word_at = record {
+  jobs = not (is_set (word_at (codes "no-jobs")));
+  main = not (is_set (word_at (codes "no-main")));
+  delays = not (is_set (word_at (codes "no-delays")));
+  scopes = not (is_set (word_at (codes "no-scopes")));
+  shutdown = not (is_set (word_at (codes "no-shutdown")));
+}
 
 -- the options, where this is the word that stands under each name
 abbrev pub options_by : (List ℕ → Option (List ℕ)) → Options
@@ -85,6 +108,8 @@ options_by word_at = record {
   jump = is_set (word_at (codes "jump"));
   shake = word_at (codes "shake");
   work = word_at (codes "work");
+  wide = is_set (word_at (codes "wide"));
+  parts = parts_by word_at;
 }
 
 -- ---- the values of their words
@@ -143,6 +168,11 @@ favour_named word =
 abbrev pub favour_given : Option (List ℕ) → Option Favour
 favour_given None = Some favours.Nobody
 favour_given (Some word) = favour_named word
+
+-- what a wide script has, if one is asked for: only of a wide one may something be left out (this project's own rule)
+abbrev pub wide_given : Bool → Wide → Option (Option Wide)
+wide_given true parts = Some (Some parts)
+wide_given false parts = if has_all parts then Some None else None
 
 -- a run that is shaken pauses from 1 to 1,000,000 microseconds at most
 abbrev pub IsShake : Option Shake → Type 0

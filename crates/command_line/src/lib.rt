@@ -4,5 +4,5 @@
 mod options;
 mod words;
 
-pub use options::{Favour, MOST_SHAKE, MOST_SIZE, MOST_WORK, Shake, USUAL_SIZE};
+pub use options::{Favour, MOST_SHAKE, MOST_SIZE, MOST_WORK, Shake, USUAL_SIZE, Wide};
 pub use words::{Command, Linted, command_of};

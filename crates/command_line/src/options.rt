@@ -1,7 +1,7 @@
 ghost use Rattle.std.specs.Prelude.{◌≡◌, ◌≤◌, ◌&&◌, nat_le, decimal, option_map, IfSome};
 ghost use Rattle.script_model.specs.Words.{is_word};
-ghost use Rattle.command_line.specs.Options.{IsShake, favour_given, favour_named, has_no_flag, has_no_number, is_bare, is_set, number_named};
-ghost use Rattle.command_line.specs.Options.{options_of, pace_given, seed_given, shake_given, size_given, step_given, work_given};
+ghost use Rattle.command_line.specs.Options.{IsShake, favour_given, favour_named, has_all, has_no_flag, has_no_number, is_bare, is_set, number_named};
+ghost use Rattle.command_line.specs.Options.{options_of, pace_given, seed_given, shake_given, size_given, step_given, wide_given, work_given};
 
 use itoa::Buffer;
 use task_base::MOST_MICROSECONDS;
@@ -38,6 +38,21 @@ pub enum Favour {
     Nobody,
 }
 
+/// What a wide script has besides tasks, runners and their posts (this project's own).
+#[derive(Clone, Copy, Debug, PartialEq, Eq)]
+pub struct Wide {
+    /// Jobs.
+    pub jobs: bool,
+    /// Main queues, with their tasks and all that changes them.
+    pub main: bool,
+    /// Delays of posts, and ticks.
+    pub delays: bool,
+    /// Blocking scopes.
+    pub scopes: bool,
+    /// A shutdown, and posts after it.
+    pub shutdown: bool,
+}
+
 /// The options as they were given: the word of each that has a value, and of each other whether it is there.
 #[derive(Clone, Copy)]
 pub(crate) struct Given<'a> {
@@ -54,19 +69,27 @@ pub(crate) struct Given<'a> {
     pub(crate) jump: bool,
     pub(crate) shake: Option<&'a str>,
     pub(crate) work: Option<&'a str>,
+    pub(crate) wide: bool,
+    pub(crate) parts: Wide,
 }
 
 /// Whether no option is there.
 pub(crate) fn is_bare(given: Given<'_>) -> bool
     ensures { result ≡ is_bare (options_of given.entry) }
 {
-    has_no_flag(given) && has_no_number(given) && given.favour.is_none()
+    has_no_flag(given) && has_no_number(given) && given.favour.is_none() && has_all(given.parts)
 }
 
 fn has_no_flag(given: Given<'_>) -> bool
     ensures { result ≡ has_no_flag (options_of given.entry) }
 {
-    !(given.json || given.prefix || given.replies || given.nest || given.full || given.jump)
+    !(given.json
+        || given.prefix
+        || given.replies
+        || given.nest
+        || given.full
+        || given.jump
+        || given.wide)
 }
 
 fn has_no_number(given: Given<'_>) -> bool
@@ -78,6 +101,13 @@ fn has_no_number(given: Given<'_>) -> bool
         && given.seed.is_none()
         && given.shake.is_none()
         && given.work.is_none()
+}
+
+/// Whether nothing is left out.
+fn has_all(parts: Wide) -> bool
+    ensures { result ≡ has_all parts }
+{
+    parts.jobs && parts.main && parts.delays && parts.scopes && parts.shutdown
 }
 
 /// The step that may be left out.
@@ -145,6 +175,19 @@ pub(crate) fn shake_given(most: Option<&str>, seed: Option<&str>) -> Option<Opti
         })),
         (None, None) => Some(None),
         (None, Some(_)) => None,
+    }
+}
+
+/// What a wide script has, if one is asked for: only of a wide one may something be left out.
+pub(crate) fn wide_given(wide: bool, parts: Wide) -> Option<Option<Wide>>
+    ensures { result ≡ wide_given wide parts }
+{
+    if wide {
+        Some(Some(parts))
+    } else if has_all(parts) {
+        Some(None)
+    } else {
+        None
     }
 }
 

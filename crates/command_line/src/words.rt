@@ -3,13 +3,13 @@ ghost use Rattle.clap.specs.Matches.{found_of, first_value};
 ghost use Rattle.clap.specs.Simple.{app_of, with_rule};
 ghost use Rattle.clap.specs.Values.{kind_of};
 ghost use Rattle.clap.specs.Walk.{rule_of};
-ghost use Rattle.command_line.specs.Options.{options_by, options_of};
+ghost use Rattle.command_line.specs.Options.{options_by, options_of, parts_by};
 ghost use Rattle.command_line.specs.CommandLine.{IsInRange, bench_with, command_by, command_of, command_with, flag_argument, lint_with};
 ghost use Rattle.command_line.specs.CommandLine.{generate_with, mode_argument, mode_named, others_than, run_with, simulate_with, taskenv, value_argument};
 
 use crate::options::{
-    Favour, Given, Shake, favour_given, is_bare, is_set, pace_given, seed_given, shake_given,
-    size_given, step_given, work_given,
+    Favour, Given, Shake, Wide, favour_given, is_bare, is_set, pace_given, seed_given, shake_given,
+    size_given, step_given, wide_given, work_given,
 };
 use clap::error::ErrorKind;
 use clap::{Arg, ArgAction, ArgMatches};
@@ -47,6 +47,8 @@ pub enum Command {
     Explain {
         /// Whether that is said in JSON, and not in words.
         json: bool,
+        /// Whether the log may also end before the script is done.
+        prefix: bool,
     },
     /// Runs a script whose tasks post the replies after it, and writes the log of the run.
     Reply,
@@ -70,6 +72,8 @@ pub enum Command {
         number: u64,
         /// How many tasks it has: 1 to 8,192.
         size: u32,
+        /// What it has besides, where it is a wide one.
+        wide: Option<Wide>,
     },
     /// Runs the script that is made from a number, and writes what its log adds up to.
     Bench {
@@ -148,11 +152,26 @@ fn given_in<'a>(matches: &ArgMatches<'a>) -> Given<'a>
         jump: is_set(matches.get_str("jump")),
         shake: matches.get_str("shake"),
         work: matches.get_str("work"),
+        wide: is_set(matches.get_str("wide")),
+        parts: parts_in(matches),
+    }
+}
+
+/// What a wide script is to have: what no flag among the words leaves out.
+fn parts_in(matches: &ArgMatches<'_>) -> Wide
+    ensures { result ≡ parts_by (first_value (found_of matches.now)) }
+{
+    Wide {
+        jobs: !is_set(matches.get_str("no-jobs")),
+        main: !is_set(matches.get_str("no-main")),
+        delays: !is_set(matches.get_str("no-delays")),
+        scopes: !is_set(matches.get_str("no-scopes")),
+        shutdown: !is_set(matches.get_str("no-shutdown")),
     }
 }
 
 /// The command `taskenv MODE [--step N] [--json] [--prefix] [--number N] [--size N] [--replies] [--nest] [--full] [--seed N]
-/// [--favour WORD] [--jump] [--shake N] [--work N]`.
+/// [--favour WORD] [--jump] [--shake N] [--work N] [--wide] [--no-jobs] [--no-main] [--no-delays] [--no-scopes] [--no-shutdown]`.
 fn taskenv<'a>(alloc: Global) -> Result<clap::Command<'a>, AllocError>
     ensures { IfOk result (λ command. app_of command ≡ taskenv) }
 {
@@ -169,7 +188,13 @@ fn taskenv<'a>(alloc: Global) -> Result<clap::Command<'a>, AllocError>
     let command = with_argument(command, value_argument(alloc, "favour"))?;
     let command = with_argument(command, flag_argument(alloc, "jump"))?;
     let command = with_argument(command, value_argument(alloc, "shake"))?;
-    with_argument(command, value_argument(alloc, "work"))
+    let command = with_argument(command, value_argument(alloc, "work"))?;
+    let command = with_argument(command, flag_argument(alloc, "wide"))?;
+    let command = with_argument(command, flag_argument(alloc, "no-jobs"))?;
+    let command = with_argument(command, flag_argument(alloc, "no-main"))?;
+    let command = with_argument(command, flag_argument(alloc, "no-delays"))?;
+    let command = with_argument(command, flag_argument(alloc, "no-scopes"))?;
+    with_argument(command, flag_argument(alloc, "no-shutdown"))
 }
 
 /// The command with one argument more.
@@ -264,6 +289,7 @@ fn others_than<'a>(mode: Mode, given: Given<'a>) -> Given<'a>
         },
         Mode::Explain => Given {
             json: false,
+            prefix: false,
             ..given
         },
         Mode::Reply | Mode::Nest => given,
@@ -280,6 +306,14 @@ fn others_than<'a>(mode: Mode, given: Given<'a>) -> Given<'a>
         Mode::Generate => Given {
             number: None,
             size: None,
+            wide: false,
+            parts: Wide {
+                jobs: true,
+                main: true,
+                delays: true,
+                scopes: true,
+                shutdown: true,
+            },
             ..given
         },
         Mode::Bench => Given {
@@ -302,7 +336,10 @@ fn command_with(mode: Mode, given: Given<'_>) -> Option<Command>
         Mode::Check => Some(Command::Check {
             prefix: given.prefix,
         }),
-        Mode::Explain => Some(Command::Explain { json: given.json }),
+        Mode::Explain => Some(Command::Explain {
+            json: given.json,
+            prefix: given.prefix,
+        }),
         Mode::Reply => Some(Command::Reply),
         Mode::Trace => Some(Command::Trace {
             full: given.full,
@@ -362,6 +399,7 @@ fn generate_with(given: Given<'_>) -> Option<Command>
     Some(Command::Generate {
         number: seed_given(given.number)?,
         size: size_given(given.size)?,
+        wide: wide_given(given.wide, given.parts)?,
     })
 }
 

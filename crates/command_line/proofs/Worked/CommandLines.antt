@@ -6,7 +6,7 @@ use Rattle.command_line.specs.declared.words.Command.{Command}
 use Rattle.command_line.specs.declared.words.Command.TheVariants.{Run, Simulate, Check, Explain, Reply, Trace, Nest, Lint, Generate, Bench}
 use Rattle.command_line.specs.declared.options.Favour.TheVariants as favours
 use Rattle.command_line.specs.declared.words.Linted.TheVariants as linted
-use Rattle.command_line.specs.Options.{number_named}
+use Rattle.command_line.specs.Options.{everything, number_named}
 use Rattle.command_line.specs.CommandLine.{command_of}
 
 -- the words behind the program's name, and the command that they are, if they are one
@@ -37,8 +37,10 @@ commands =
     ∷ good (codes "check" ∷ []) (Check false)
     ∷ good (codes "check" ∷ codes "--prefix" ∷ []) (Check true)
     ∷ good (codes "--prefix" ∷ codes "check" ∷ []) (Check true)  -- before the mode
-    ∷ good (codes "explain" ∷ []) (Explain false)
-    ∷ good (codes "explain" ∷ codes "--json" ∷ []) (Explain true)
+    ∷ good (codes "explain" ∷ []) (Explain false false)
+    ∷ good (codes "explain" ∷ codes "--json" ∷ []) (Explain true false)
+    ∷ good (codes "explain" ∷ codes "--prefix" ∷ []) (Explain false true)
+    ∷ good (codes "--prefix" ∷ codes "explain" ∷ codes "--json" ∷ []) (Explain true true)  -- before the mode
     ∷ good (codes "reply" ∷ []) Reply
     ∷ good (codes "trace" ∷ []) (Trace false false)
     ∷ good (codes "trace" ∷ codes "--full" ∷ []) (Trace true false)
@@ -56,9 +58,9 @@ commands_right = refl
 
 abbrev made : List Row
 made =
-    good (codes "gen" ∷ []) (Generate 0 16)  -- the usual number and size
-    ∷ good (codes "gen" ∷ codes "--number" ∷ codes "0" ∷ codes "--size" ∷ codes "2" ∷ []) (Generate 0 2)
-    ∷ good (codes "--size" ∷ codes "1" ∷ codes "gen" ∷ []) (Generate 0 1)  -- before the mode
+    good (codes "gen" ∷ []) (Generate 0 16 None)  -- the usual number and size
+    ∷ good (codes "gen" ∷ codes "--number" ∷ codes "0" ∷ codes "--size" ∷ codes "2" ∷ []) (Generate 0 2 None)
+    ∷ good (codes "--size" ∷ codes "1" ∷ codes "gen" ∷ []) (Generate 0 1 None)  -- before the mode
     ∷ good (codes "bench" ∷ codes "--number" ∷ codes "18446744073709551615" ∷ []) (Bench 18446744073709551615 16 0)  -- the greatest number
     ∷ good (codes "bench" ∷ codes "--size=8192" ∷ []) (Bench 0 8192 0)  -- the greatest size
     ∷ []
@@ -66,6 +68,41 @@ made =
 made_right : AreRight made
 unfolding clap_on_literals digits number_named command_of
 made_right = refl
+
+-- a wide script, with what it has
+abbrev wide : List Row
+wide =
+    good (codes "gen" ∷ codes "--wide" ∷ []) (Generate 0 16 (Some everything))
+    ∷ good (codes "--wide" ∷ codes "gen" ∷ codes "--size=64" ∷ codes "--number" ∷ codes "7" ∷ []) (Generate 7 64 (Some everything))
+    ∷ good (codes "gen" ∷ codes "--wide" ∷ codes "--no-jobs" ∷ []) (Generate 0 16 (Some (record everything { jobs = false })))
+    ∷ good (codes "gen" ∷ codes "--no-main" ∷ codes "--wide" ∷ []) (Generate 0 16 (Some (record everything { main = false })))  -- before it
+    ∷ good (codes "gen" ∷ codes "--wide" ∷ codes "--no-delays" ∷ codes "--no-shutdown" ∷ [])
+    (Generate 0 16 (Some (record everything { delays = false; shutdown = false })))
+    ∷ good (codes "gen" ∷ codes "--wide" ∷ codes "--no-scopes" ∷ []) (Generate 0 16 (Some (record everything { scopes = false })))
+    ∷ []
+
+wide_right : AreRight wide
+unfolding clap_on_literals digits number_named command_of
+wide_right = refl
+
+abbrev bad_wide : List Row
+bad_wide =
+    bad (codes "gen" ∷ codes "--no-jobs" ∷ [])  -- of a script that is not wide
+    ∷ bad (codes "gen" ∷ codes "--no-shutdown" ∷ codes "--size" ∷ codes "4" ∷ [])
+    ∷ bad (codes "gen" ∷ codes "--wide" ∷ codes "--wide" ∷ [])  -- twice
+    ∷ bad (codes "gen" ∷ codes "--wide" ∷ codes "--no-main" ∷ codes "--no-main" ∷ [])  -- twice
+    ∷ bad (codes "gen" ∷ codes "--wide=yes" ∷ [])  -- a flag takes no value
+    ∷ bad (codes "gen" ∷ codes "--wide" ∷ codes "--no-tasks" ∷ [])
+    ∷ bad (codes "gen" ∷ codes "--wide" ∷ codes "--seed" ∷ codes "1" ∷ [])
+    ∷ bad (codes "bench" ∷ codes "--wide" ∷ [])
+    ∷ bad (codes "run" ∷ codes "--wide" ∷ [])
+    ∷ bad (codes "simulate" ∷ codes "--no-delays" ∷ [])
+    ∷ bad (codes "nest" ∷ codes "--no-scopes" ∷ [])
+    ∷ []
+
+bad_wide_right : AreRight bad_wide
+unfolding clap_on_literals digits number_named command_of
+bad_wide_right = refl
 
 abbrev simulated : List Row
 simulated =
@@ -226,7 +263,7 @@ others_options =
     ∷ bad (codes "check" ∷ codes "--json" ∷ [])
     ∷ bad (codes "check" ∷ codes "--step" ∷ codes "1" ∷ [])
     ∷ bad (codes "check" ∷ codes "--size" ∷ codes "3" ∷ [])
-    ∷ bad (codes "explain" ∷ codes "--prefix" ∷ [])
+    ∷ bad (codes "explain" ∷ codes "--full" ∷ [])
     ∷ bad (codes "reply" ∷ codes "--json" ∷ [])
     ∷ bad (codes "reply" ∷ codes "--step" ∷ codes "1" ∷ [])
     ∷ bad (codes "trace" ∷ codes "--json" ∷ [])

@@ -18,4 +18,10 @@ returns c =
     let eleventh = c.in_ok-command-11.ensures ∙ ap₂ with_rule tenth c.value_argument-5.ensures.rule in
     let twelfth = c.in_ok-command-12.ensures ∙ ap₂ with_rule eleventh c.flag_argument-6.ensures.rule in
     let thirteenth = c.in_ok-command-13.ensures ∙ ap₂ with_rule twelfth c.value_argument-6.ensures.rule in
-    IfOk-weaker c.with_argument-14.result _ _ (λ command is. is ∙ ap₂ with_rule thirteenth c.value_argument-7.ensures.rule) c.with_argument-14.ensures
+    let fourteenth = c.in_ok-command-14.ensures ∙ ap₂ with_rule thirteenth c.value_argument-7.ensures.rule in
+    let fifteenth = c.in_ok-command-15.ensures ∙ ap₂ with_rule fourteenth c.flag_argument-7.ensures.rule in
+    let sixteenth = c.in_ok-command-16.ensures ∙ ap₂ with_rule fifteenth c.flag_argument-8.ensures.rule in
+    let seventeenth = c.in_ok-command-17.ensures ∙ ap₂ with_rule sixteenth c.flag_argument-9.ensures.rule in
+    let eighteenth = c.in_ok-command-18.ensures ∙ ap₂ with_rule seventeenth c.flag_argument-10.ensures.rule in
+    let nineteenth = c.in_ok-command-19.ensures ∙ ap₂ with_rule eighteenth c.flag_argument-11.ensures.rule in
+    IfOk-weaker c.with_argument-20.result _ _ (λ command is. is ∙ ap₂ with_rule nineteenth c.flag_argument-12.ensures.rule) c.with_argument-20.ensures
