@@ -40,3 +40,7 @@ entry_behind_place (place ∷ seat ∷ words) = do
   kind ← kind_of words
   Some (record { seat = written; kind = kind })
 entry_behind_place words = None
+
+-- the entry that a line is meant to be, if one is: that of its plain words (this project's own rule)
+abbrev pub meant_of : List ℕ → Option Entry
+meant_of line = entry_behind_place (plain_words line)

@@ -11,4 +11,4 @@ mod spelling;
 pub use kinds::kind_of;
 pub use lines::line;
 pub use parts::{Part, parts_of};
-pub use spelling::meant;
+pub use spelling::{is_blank_byte, meant, without_zeros};

@@ -3,7 +3,7 @@ ghost use Rattle.line_text.specs.Words.{texts};
 ghost use Rattle.task_base.specs.declared.entry.Entry.{Entry};
 ghost use Rattle.log_model.specs.Fits.{Fits};
 ghost use Rattle.log_model.specs.LogText.{number, parts_of, shown};
-ghost use Rattle.entry_lines.specs.Spelling.{IsMeant, entry_behind_place, has_zero_in_front, is_blank_byte, plain_words, without_zeros};
+ghost use Rattle.entry_lines.specs.Spelling.{IsMeant, entry_behind_place, has_zero_in_front, is_blank_byte, meant_of, plain_words, without_zeros};
 
 use crate::kinds::kind_of;
 use arrayvec::ArrayVec;
@@ -14,6 +14,7 @@ use task_base::Entry;
 /// zeros in front, and there may be other blanks (spaces, tabs, carriage returns, line feeds) between the words and around
 /// them, also no line feed at the end. It takes no memory.
 pub fn meant(line: &[u8]) -> Option<Entry>
+    ensures same { result ≡ meant_of line.now }
     ensures meant { IfSome result (IsMeant line.now) }
     ensures none { result ≡ None → (e : Entry) → ¬ IsMeant line.now e }
 {
@@ -52,13 +53,15 @@ fn plain_words(line: &[u8]) -> Option<ArrayVec<&[u8], 8>>
     Some(words)
 }
 
-fn is_blank_byte(byte: u8) -> bool
+/// Whether the byte is a blank: a space, a tab, a carriage return or a line feed.
+pub fn is_blank_byte(byte: u8) -> bool
     ensures { result ≡ is_blank_byte byte }
 {
     byte == b' ' || byte == b'\t' || byte == b'\r' || byte == b'\n'
 }
 
-fn without_zeros(word: &[u8]) -> &[u8]
+/// The word without the zeros in front of a digit: `007` is `7`, and `0` and `000` are `0`.
+pub fn without_zeros(word: &[u8]) -> &[u8]
     ensures { result.now ≡ without_zeros word.now }
 {
     let mut rest = word;
