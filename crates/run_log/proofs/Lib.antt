@@ -1,3 +1,4 @@
+pub mod Beginnings
 pub mod Taken
 pub mod JsonTexts
 pub mod LineWords

@@ -1,5 +1,5 @@
 -- Entries whose lines begin a text, and texts of no log.
--- Cited by `entries_of`, `read_log`, `env_app`.
+-- Cited by `entries_of`, `read_log`.
 use Rattle.std.proofs.Common.{◌≡◌, ◌≢◌, ◌<◌, ℕ, List, [], ◌∷◌, ◌++◌, All, length, sym, ap, ◌∙◌, arith, append_assoc, length-append}
 use Rattle.std.proofs.lemmas.List.{append_cancel_left}
 use Rattle.task_base.specs.declared.entry.Entry.{Entry}

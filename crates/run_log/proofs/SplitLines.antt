@@ -1,5 +1,5 @@
 -- A text that is cut behind each line feed is cut into its lines.
--- Cited by `app_modes`, `app_streams`.
+-- Cited by `app_streams`, `log_mistakes`.
 use Rattle.std.proofs.Common.{◌≡◌, ◌<◌, ◌+◌, ℕ, min, Bool, Bor, List, ◌++◌, length, Option, MatchOption, refl, sym, ap, subst, ◌∙◌}
 use denote.Param.Members.{Mut}
 use Rattle.std.specs.Fn.{CalledAt, ComputesKey}

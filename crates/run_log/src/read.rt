@@ -48,7 +48,7 @@ pub fn read_log(alloc: Global, bytes: &[u8]) -> Result<Rows<Entry>, LogFault>
 }
 
 // The entries whose lines stand in front of the bytes, each at its place, and what stands behind them.
-fn entries_of(alloc: Global, bytes: &[u8]) -> Result<(Vec<Entry>, &[u8]), AllocError>
+pub(crate) fn entries_of(alloc: Global, bytes: &[u8]) -> Result<(Vec<Entry>, &[u8]), AllocError>
     requires { length bytes.now < 2 ^ 32 }
     ensures read { IfOk result (λ read. IsRead bytes.now read.0.items read.1.now) }
     ensures few { IfOk result (λ read. length read.0.items ≤ length bytes.now) }
@@ -111,7 +111,7 @@ fn line_end(bytes: &[u8]) -> usize
 }
 
 // Where the first line feed stands.
-fn first_feed(bytes: &[u8]) -> Option<usize>
+pub(crate) fn first_feed(bytes: &[u8]) -> Option<usize>
     ensures { result ≡ position (λ byte. byte == 10) bytes.now }
 {
     memchr(b'\n', bytes)

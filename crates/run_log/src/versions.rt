@@ -24,7 +24,7 @@ pub(crate) fn split_head(bytes: &[u8]) -> (Version, &[u8])
 }
 
 /// What stands before the lines of the entries.
-pub(crate) fn head_of(version: Version) -> &'static [u8]
+pub fn head_of(version: Version) -> &'static [u8]
     ensures { result.now ≡ head_of version }
 {
     match version {
@@ -44,7 +44,7 @@ pub fn lines_before(version: Version) -> u32
 }
 
 /// What stands behind the lines of so many entries. It takes no memory.
-pub(crate) fn end_of(version: Version, entries: Place) -> Line
+pub fn end_of(version: Version, entries: Place) -> Line
     ensures { result.items ≡ end_of version entries }
 {
     let mut line = Line::new();
