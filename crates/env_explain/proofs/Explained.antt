@@ -1,6 +1,6 @@
 -- Where a log goes wrong, and what is left at its end.
--- Cited by `left`, `next_of_seat`, `explain_at`, `explain_log`.
-use Rattle.std.proofs.Common.{◌≡◌, ◌↔◌, inl, inr, ℕ, zero, suc, ◌+◌, ◌≤◌, Bool, true, false, List, ◌∷◌}
+-- Cited by `left`, `next_of_seat`, `explain_at`, `explain_log`, `explain_prefix`.
+use Rattle.std.proofs.Common.{◌≡◌, ◌↔◌, inl, inr, ℕ, zero, suc, ◌+◌, ◌<◌, ◌≤◌, Bool, true, false, List, ◌∷◌}
 use Rattle.std.proofs.Common.{length, take, refl, sym, ap, subst, ◌∙◌, Option, Some, None, arith}
 use Rattle.std.proofs.Math.Seq.{take-append_seam}
 use Rattle.std.proofs.lemmas.Bool.{true≢false}
@@ -30,11 +30,11 @@ use Rattle.next_entry.specs.declared.cause.Cause.{Cause}
 use Rattle.next_entry.specs.declared.cause.Cause.TheVariants as causes
 use Rattle.next_entry.specs.declared.cause.Explanation.{Explanation}
 use Rattle.next_entry.specs.declared.cause.Explanation.TheVariants as explanations
-use Rattle.env_check.specs.Verdicts.{verdict_at, verdict_of}
+use Rattle.env_check.specs.Verdicts.{prefix_verdict_at, prefix_verdict_of, verdict_at, verdict_of}
 use Rattle.env_check.specs.declared.verdict.Verdict.TheVariants.{Illegal, Legal}
-use Rattle.env_check.proofs.Verdicts.{legal_answer}
+use Rattle.env_check.proofs.Verdicts.{legal_answer, legal_prefix_answer}
 use Rattle.log_replay.proofs.Whole.{whole_told}
-use Rattle.env_explain.specs.Explained.{HasInHand, HasMore, IsExplained, NamesAllowed, goes_on, verdict_told, work_in}
+use Rattle.env_explain.specs.Explained.{HasInHand, HasMore, IsExplained, NamesAllowed, SaysNothingOfTheEnd, goes_on, verdict_told, work_in}
 
 -- Where a log goes wrong.
 
@@ -90,18 +90,50 @@ names_allowed script log (explanations.Unfinished place seat cause) explained = 
     named_follows cause script log seat None next explained.3 named
 names_allowed script log (explanations.AtWork place busy) explained = tt
 
--- a log is said to be legal exactly where its verdict is
+-- where the verdict is that it is legal, that is said
+told_legal : (told : Explanation) → verdict_told told ≡ Legal → told ≡ explanations.Legal
+told_legal explanations.Legal same = refl
+told_legal (explanations.Barred place cause) same = absurd cc
+told_legal (explanations.Unfinished place seat cause) same = absurd cc
+told_legal (explanations.AtWork place busy) same = absurd cc
+
+-- so a log is said to be legal exactly where its verdict is
 pub legal_told : (script : Plan) (log : List Entry) (told : Explanation) → verdict_told told ≡ verdict_of script log
     → (told ≡ explanations.Legal) ↔ (IsLegal script log × IsWhole script log)
 legal_told script log told is =
     let legal = legal_answer script log (verdict_told told) is in
-    (λ same. legal.0 (ap verdict_told same), λ both. by_told told (legal.1 both))
+    (λ same. legal.0 (ap verdict_told same), λ both. told_legal told (legal.1 both))
+
+-- and a beginning
+pub legal_prefix_told : (script : Plan) (log : List Entry) (told : Explanation) → verdict_told told ≡ prefix_verdict_of script log
+    → (told ≡ explanations.Legal) ↔ IsLegal script log
+legal_prefix_told script log told is =
+    let legal = legal_prefix_answer script log (verdict_told told) is in
+    (λ same. legal.0 (ap verdict_told same), λ begun. told_legal told (legal.1 begun))
+
+-- a beginning that is illegal at a place is an illegal log there, and the place is one of its entries
+pub illegal_prefix : (script : Plan) (log : List Entry) (place : ℕ) → prefix_verdict_of script log ≡ Illegal place
+    → (verdict_of script log ≡ Illegal place) × (place < length log)
+unfolding prefix_verdict_of verdict_of
+illegal_prefix script log place verdict = by_first_illegal (first_illegal script log) refl verdict
   where
-    by_told : (t : Explanation) → verdict_told t ≡ Legal → t ≡ explanations.Legal
-    by_told explanations.Legal same = refl
-    by_told (explanations.Barred place cause) same = absurd cc
-    by_told (explanations.Unfinished place seat cause) same = absurd cc
-    by_told (explanations.AtWork place busy) same = absurd cc
+    by_first_illegal : (o : Option ℕ) → first_illegal script log ≡ o → prefix_verdict_at o ≡ Illegal place
+        → (verdict_at script log o ≡ Illegal place) × (place < length log)
+    by_first_illegal None is told = absurd cc
+    by_first_illegal (Some p) is told =
+        let here : p ≡ place = cc in
+        let at = first_illegal_some script log place (is ∙ ap Some here) in
+        (told, omega (arith, at.place_is, ap length at.parts, length-append at.past (at.entry ∷ at.rest)))
+
+-- so nothing is said of its end
+pub nothing_of_the_end : (script : Plan) (log : List Entry) (place : ℕ) (told : Explanation) → place < length log → verdict_told told ≡ Illegal place
+    → IsExplained script log told → SaysNothingOfTheEnd told
+nothing_of_the_end script log place explanations.Legal within is explained = tt
+nothing_of_the_end script log place (explanations.Barred at cause) within is explained = tt
+nothing_of_the_end script log place (explanations.Unfinished at seat cause) within is explained =
+    let here : at ≡ place = cc in absurd (omega (arith, here, explained.0, within))
+nothing_of_the_end script log place (explanations.AtWork at busy) within is explained =
+    let here : at ≡ place = cc in absurd (omega (arith, here, explained.0, within))
 
 -- where workers are busy, a seat that has nothing in hand is the driver's
 pub free_driver : (view : EnvView) (seat : ℕ) → IsInHand view seat Free → (1 ≤ seat → is_free view.history seat ≡ false) → seat ≡ 0

@@ -1,5 +1,5 @@
 -- What a cause rules out may not come where the cause holds.
--- Cited by `explain_log`.
+-- Cited by `explain_log`, `explain_prefix`.
 use Rattle.std.proofs.Common.{◌≡◌, ℕ, ◌≤◌, true, false, leb, List, refl, sym, subst, ◌∙◌, Option, Some, None, arith}
 use Rattle.std.proofs.lemmas.Bool.{and_parts, false_from_ne_true, leb-true, ne_eqb, true≢false}
 use Rattle.std.proofs.lemmas.Option.{same_Some}

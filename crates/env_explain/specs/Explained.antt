@@ -58,6 +58,13 @@ IsExplained script log (explanations.Unfinished place seat cause) =
 IsExplained script log (explanations.AtWork place busy) =
     (place ≡ length log) × (is_finished script log ≡ true) × (busy.items ≡ at_work script log) × (2 ≤ length busy.items)
 
+-- nothing is said of what is left to be done at the log's end: it is legal, or an entry of it is barred
+abbrev pub SaysNothingOfTheEnd : Explanation → Type 0
+SaysNothingOfTheEnd explanations.Legal = Unit {0}
+SaysNothingOfTheEnd (explanations.Barred place cause) = Unit {0}
+SaysNothingOfTheEnd (explanations.Unfinished place seat cause) = ⊥
+SaysNothingOfTheEnd (explanations.AtWork place busy) = ⊥
+
 -- the entry that is named is allowed at the place at which the log is illegal
 abbrev pub NamesAllowed : Plan → List Entry → Explanation → Type 0
 NamesAllowed script log explanations.Legal = Unit {0}

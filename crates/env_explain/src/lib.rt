@@ -5,4 +5,4 @@
 mod explain;
 mod logs;
 
-pub use logs::explain_log;
+pub use logs::{explain_log, explain_prefix};

@@ -2,11 +2,11 @@ ghost use Rattle.std.specs.Prelude.{◌≡◌, ◌↔◌, IfOk};
 ghost use Rattle.script_model.specs.Laws.Sound.{IsSound};
 ghost use Rattle.hist_model.specs.Legal.{IsLegal};
 ghost use Rattle.hist_model.specs.Script.{IsWhole};
-ghost use Rattle.env_check.specs.Verdicts.{verdict_of};
-ghost use Rattle.env_explain.specs.Explained.{IsExplained, NamesAllowed, RulesOut, verdict_told};
+ghost use Rattle.env_check.specs.Verdicts.{prefix_verdict_of, verdict_of};
+ghost use Rattle.env_explain.specs.Explained.{IsExplained, NamesAllowed, RulesOut, SaysNothingOfTheEnd, verdict_told};
 
 use crate::explain::{explain, explain_end};
-use env_check::{Verdict, check_log, follow_all};
+use env_check::{Verdict, check_log, check_prefix, follow_all};
 use log_replay::Replay;
 use next_entry::Explanation;
 use std::alloc::{AllocError, Global};
@@ -27,6 +27,31 @@ pub fn explain_log(
     ensures ruled_out { IfOk result (λ told. RulesOut script.now log.now.items told) }
 {
     let verdict = check_log(alloc, script, log)?;
+    match verdict {
+        Verdict::Legal => Ok(Explanation::Legal),
+        Verdict::Illegal { place } => {
+            let told = explain_at(alloc, script, log, place)?;
+            Ok(told)
+        }
+    }
+}
+
+/// Judges the beginning of a log as `check_prefix` does, and says why it is illegal, as `explain_log` does: whatever is left to be
+/// done at its end is no fault of it. The error is out of memory.
+pub fn explain_prefix(
+    alloc: Global,
+    script: &Script,
+    log: &Rows<Entry>,
+) -> Result<Explanation, AllocError>
+    requires { IsSound script.now }
+    ensures verdict { IfOk result (λ told. verdict_told told ≡ prefix_verdict_of script.now log.now.items) }
+    ensures legal { IfOk result (λ told. (told ≡ Explanation.Legal) ↔ IsLegal script.now log.now.items) }
+    ensures open_end { IfOk result SaysNothingOfTheEnd }
+    ensures cause { IfOk result (λ told. IsExplained script.now log.now.items told) }
+    ensures named { IfOk result (λ told. NamesAllowed script.now log.now.items told) }
+    ensures ruled_out { IfOk result (λ told. RulesOut script.now log.now.items told) }
+{
+    let verdict = check_prefix(alloc, script, log)?;
     match verdict {
         Verdict::Legal => Ok(Explanation::Legal),
         Verdict::Illegal { place } => {
