@@ -1,15 +1,13 @@
--- What an explanation says of the verdict that it is of, and what a line is meant to be.
--- Cited by `meant_at`, `why`.
-use Rattle.std.proofs.Common.{◌≡◌, ◌≤◌, ℕ, false, List, length, refl, sym, ◌∙◌, Option, Some, None, IfSome}
+-- What an explanation says of the verdict that it is of.
+-- Cited by `why`.
+use Rattle.std.proofs.Common.{◌≡◌, ◌≤◌, ℕ, Bool, List, length, refl, sym, ◌∙◌, Some, None}
 use Rattle.task_base.specs.Plan.{Plan}
 use Rattle.task_base.specs.declared.entry.Entry.{Entry}
 use Rattle.next_entry.specs.declared.cause.Explanation.{Explanation}
 use Rattle.next_entry.specs.declared.cause.Explanation.TheVariants as explanations
 use Rattle.env_check.specs.declared.verdict.Verdict.TheVariants.{Legal, Illegal}
 use Rattle.env_explain.specs.Explained.{verdict_told}
-use Rattle.env_check.specs.Verdicts.{verdict_of}
-use Rattle.entry_lines.specs.Spelling.{IsMeant}
-use Rattle.app_modes.specs.Explained.{IsMeantBy, place_told}
+use Rattle.app_modes.specs.Explained.{place_told}
 use Rattle.app_modes.specs.Judged.{verdict_on}
 use Rattle.app_modes.proofs.Verdicts.{place_within}
 
@@ -26,12 +24,6 @@ legal_told (explanations.Unfinished at seat cause) is = absurd cc
 legal_told (explanations.AtWork at busy) is = absurd cc
 
 -- the place is within the log, or its length
-pub told_within : (script : Plan) (log : List Entry) (told : Explanation) (place : ℕ) → verdict_told told ≡ verdict_of script log
+pub told_within : (prefix : Bool) (script : Plan) (log : List Entry) (told : Explanation) (place : ℕ) → verdict_told told ≡ verdict_on prefix script log
     → place_told told ≡ Some place → place ≤ length log
-unfolding verdict_on
-told_within script log told place verdict is = place_within false script log place (sym verdict ∙ illegal_told told place is)
-
-pub meant_by : (line : List ℕ) (meant : Option Entry) → IfSome meant (IsMeant line) → (meant ≡ None → (e : Entry) → IsMeant line e → ⊥)
-    → (there : Option (List ℕ)) → there ≡ Some line → IsMeantBy there meant
-meant_by line None some none there is = rw is (none refl)
-meant_by line (Some e) some none there is = rw is some
+told_within prefix script log told place verdict is = place_within prefix script log place (sym verdict ∙ illegal_told told place is)

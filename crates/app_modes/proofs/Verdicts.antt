@@ -1,22 +1,19 @@
 -- What a verdict on a log says of the text that the log has.
--- Cited by `wrong_line`, `why`, `judge_log`, `Explained`.
+-- Cited by `why`, `judge_log`, `Explained`.
 use Rattle.std.proofs.Common.{rules, tests, ◌≡◌, ◌≤◌, ◌+◌, ℕ, Bool, true, false, List, [], ◌∷◌, ◌++◌, length, refl}
-use Rattle.std.proofs.Common.{ap, inl, length-append, Option, Some, None, arith}
+use Rattle.std.proofs.Common.{ap, length-append, Option, Some, None, arith}
 use Rattle.task_base.specs.Plan.{Plan}
 use Rattle.task_base.specs.declared.entry.Entry.{Entry}
 use Rattle.log_model.specs.declared.version.Version.{Version}
 use Rattle.log_model.specs.declared.version.Version.TheVariants.{One, Two}
-use Rattle.log_model.specs.LogText.{lines_before, line_of, text_from, log_lines, head_of, end_of, text_in}
+use Rattle.log_model.specs.LogText.{lines_before, line_of, text_from, log_lines, head_of, end_of, version_of}
 use Rattle.log_model.proofs.Laws.LogLines.{line_words}
 use Rattle.hist_model.specs.Legal.{first_illegal}
 use Rattle.hist_model.specs.Script.{is_whole}
 use Rattle.hist_model.proofs.Laws.Legal.{first_illegal_some}
 use Rattle.env_check.specs.declared.verdict.Verdict.TheVariants.{Illegal}
 use Rattle.env_check.specs.Verdicts.{prefix_verdict_at, prefix_verdict_of, verdict_at, verdict_of}
-use Rattle.task_base.specs.declared.rows.Rows.{Rows}
-use Rattle.app_modes.specs.declared.judged.Judged.{Judged}
-use Rattle.app_modes.specs.declared.judged.Judged.TheVariants.{Right, Wrong}
-use Rattle.app_modes.specs.Judged.{IsFoundAt, IsJudged, verdict_on}
+use Rattle.app_modes.specs.Judged.{IsTextOf, verdict_on}
 
 -- ---- places
 
@@ -52,24 +49,20 @@ entries_from place [] = omega arith
 entries_from place (e ∷ log) =
     omega (arith, entries_from (place + 1) log, length-append (line_of place e) (text_from (place + 1) log), length-append (line_words place e) (10 ∷ []))
 
-pub few_entries : (version : Version) (text : List ℕ) (log : List Entry) → text_in version log ≡ text → length log ≤ length text
+pub few_entries : (prefix : Bool) (text : List ℕ) (log : List Entry) (cut : Option ℕ) → IsTextOf prefix text log cut → length log ≤ length text
 unfolding log_lines
-few_entries version text log same =
-    let behind : List ℕ = end_of version (length log) in
-    omega (arith, entries_from 0 log, length-append (head_of version) (text_from 0 log ++ behind), length-append (text_from 0 log) behind, ap length same)
+few_entries false text log cut of =
+    let behind : List ℕ = end_of of.is.0 (length log) in
+    omega (arith, entries_from 0 log, length-append (head_of of.is.0) (text_from 0 log ++ behind), length-append (text_from 0 log) behind, ap length of.is.1)
+few_entries true text log cut of = omega (
+  arith,
+  entries_from 0 log,
+  length-append (head_of (version_of text)) (text_from 0 log ++ of.is.rest),
+  length-append (text_from 0 log) of.is.rest,
+  ap length of.is.same,
+)
 
 -- at most one line stands before those of the entries
 pub one_before : (version : Version) → lines_before version ≤ 1
 one_before One = omega arith
 one_before Two = omega arith
-
--- ---- what was checked
-
--- what is found of the text of a right log
-pub found_right : (prefix : Bool) (script : Plan) (text : List ℕ) (judged : Judged) (log : Rows Entry) → judged ≡ Right log → IsJudged prefix script text judged
-    → IsFoundAt prefix script text None
-found_right prefix script text judged log is found = let right = rw is at found in inl (log.items, right.0, rw right.1 refl)
-
-pub found_wrong : (prefix : Bool) (script : Plan) (text : List ℕ) (judged : Judged) (line : ℕ) → judged ≡ Wrong line → IsJudged prefix script text judged
-    → IsFoundAt prefix script text (Some line)
-found_wrong prefix script text judged line is found = rw is at found

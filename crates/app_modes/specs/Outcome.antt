@@ -24,6 +24,7 @@ use Rattle.command_line.specs.declared.words.Command.{Command}
 use Rattle.command_line.specs.declared.words.Command.TheVariants.{Run, Simulate, Check, Explain, Reply, Trace, Nest, Lint, Generate, Bench}
 use Rattle.command_line.specs.declared.options.Favour.{Favour}
 use Rattle.command_line.specs.declared.options.Favour.TheVariants as favours
+use Rattle.command_line.specs.declared.options.Wide.{Wide}
 use Rattle.app_streams.specs.Parts.{script_part, part_behind}
 use Rattle.app_streams.specs.Ends.{Ends, Failed}
 use Rattle.app_streams.specs.Taken.{IsReadToEnd, OfBytes, OfTaken}
@@ -37,6 +38,8 @@ use Rattle.app_modes.specs.Linted.{IsSaid, lint_said}
 use Rattle.app_modes.specs.Totals.{summary_text}
 use Rattle.run_summary.specs.Summary.{generated_totals}
 use Rattle.task_script.specs.Generated.{generated}
+use Rattle.wide_script.specs.Wide.{wide}
+use Rattle.wide_script.specs.declared.parts.Parts.{Parts}
 use Rattle.simulation.specs.Simulated.{simulated}
 use Rattle.simulation.specs.declared.lots.Lots.{Lots}
 
@@ -120,13 +123,22 @@ refusal_of None bytes = None
 refusal_of (Some (Run step json shake)) bytes = script_refusal bytes
 refusal_of (Some (Simulate seed favour step json)) bytes = script_refusal bytes
 refusal_of (Some (Check prefix)) bytes = script_refusal (script_part bytes)
-refusal_of (Some (Explain json)) bytes = script_refusal (script_part bytes)
+refusal_of (Some (Explain json prefix)) bytes = script_refusal (script_part bytes)
 refusal_of (Some Reply) bytes = reply_refusal (script_read (script_part bytes)) (part_behind bytes)
 refusal_of (Some (Trace full prefix)) bytes = script_refusal (script_part bytes)
 refusal_of (Some Nest) bytes = option_map (λ at. BadNest at.0 at.1) (nest_fault bytes)
 refusal_of (Some (Lint input)) bytes = None
-refusal_of (Some (Generate number size)) bytes = None
+refusal_of (Some (Generate number size wide)) bytes = None
 refusal_of (Some (Bench number size work)) bytes = None
+
+-- what a wide script is to have, as the words say it
+abbrev pub parts_of : Wide → Parts
+parts_of asked = record { jobs = asked.jobs; main = asked.main; delays = asked.delays; scopes = asked.scopes; shutdown = asked.shutdown }
+
+-- the script that `gen` makes: a wide one where that is asked for
+abbrev pub made : ℕ → ℕ → Option Wide → Plan
+made number size None = generated number size
+made number size (Some asked) = wide number size (parts_of asked)
 
 -- what a command does, where its clock tells these readings: this holds of the status that it ends with where no write fails,
 -- and of the text that it writes
@@ -135,12 +147,12 @@ Does None told source Holds = ⊥
 Does (Some (Run step json shake)) told source Holds = OfTaken source (λ bytes. HasRun bytes json (readings_of step told) (Holds 0))
 Does (Some (Simulate seed favour step json)) told source Holds = OfTaken source (λ bytes. HasSimulated bytes seed favour step json (Holds 0))
 Does (Some (Check prefix)) told source Holds = OfTaken source (λ bytes. HasChecked prefix bytes Holds)
-Does (Some (Explain json)) told source Holds = OfTaken source (λ bytes. HasExplained json bytes Holds)
+Does (Some (Explain json prefix)) told source Holds = OfTaken source (λ bytes. HasExplained json prefix bytes Holds)
 Does (Some Reply) told source Holds = OfTaken source (λ bytes. HasReplied bytes told (Holds 0))
 Does (Some (Trace full prefix)) told source Holds = OfTaken source (λ bytes. HasTraced full prefix bytes Holds)
 Does (Some Nest) told source Holds = OfTaken source (λ bytes. HasNested bytes (Holds 0))
 Does (Some (Lint input)) told source Holds = OfTaken source (λ bytes. IsSaid (lint_said input bytes) Holds)
-Does (Some (Generate number size)) told source Holds = Holds 0 (canonical (generated number size))
+Does (Some (Generate number size wide)) told source Holds = Holds 0 (canonical (made number size wide))
 Does (Some (Bench number size work)) told source Holds = Holds 0 (summary_text (generated_totals number size))
 
 -- the whole text was written, and the status is the one that goes with it

@@ -77,12 +77,14 @@ pub fn execute<R: Threads + Wait + Sync + rt::Clock, S: Source, K: Sink, C: Cloc
             json,
         } => common(simulate_script(alloc, seed, favour, step, json, source, sink)),
         Command::Check { prefix } => common(judge(alloc, prefix, source, sink)),
-        Command::Explain { json } => common(explain(alloc, json, source, sink)),
+        Command::Explain { json, prefix } => { common(explain(alloc, json, prefix, source, sink)) }
         Command::Reply => run_replies(rt, alloc, source, sink, clock, gate),
         Command::Trace { full, prefix } => trace(alloc, full, prefix, source, sink),
         Command::Nest => run_nest_script(alloc, source, sink),
         Command::Lint { input } => lint(alloc, input, source, sink),
-        Command::Generate { number, size } => common(write_generated(alloc, number, size, sink)),
+        Command::Generate { number, size, wide } => {
+            common(write_generated(alloc, number, size, wide, sink))
+        }
         Command::Bench { number, size, work } => {
             common(run_generated(rt, alloc, number, size, work, sink, gate))
         }

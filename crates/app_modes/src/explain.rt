@@ -1,26 +1,29 @@
 //! The mode `explain`.
-ghost use Rattle.std.specs.Prelude.{◌≡◌, ◌≢◌, ◌≤◌, ◌++◌, ℕ, List, Option, Some, Err, IfOk, IfErr, length, option_map, slice_get};
+ghost use Rattle.std.specs.Prelude.{◌≡◌, ◌≢◌, ◌≤◌, ◌++◌, ℕ, List, Option, Some, Err, IfOk, IfErr, length};
 ghost use Rattle.task_base.specs.declared.limits.TheConstants.{MOST_BYTES};
 ghost use Rattle.task_base.specs.Fault.{status_of};
 ghost use Rattle.script_model.specs.Laws.Sound.{IsSound};
-ghost use Rattle.run_log.specs.TextLines.{IsBadLine, text_lines};
-ghost use Rattle.app_modes.specs.Explained.{IsMeantBy, IsSaidAt, IsSaidOfBad, place_told, said_of};
+ghost use Rattle.log_model.specs.LogText.{version_of};
+ghost use Rattle.log_mistakes.specs.Mistakes.{mistake_at};
+ghost use Rattle.run_log.specs.TextLines.{IsBadLine};
+ghost use Rattle.app_modes.specs.Explained.{IsExplanation, IsSaidAt, place_told, said_of, said_of_bad};
 ghost use Rattle.app_modes.specs.Judged.{verdict_text};
 ghost use Rattle.command_line.specs.declared.words.Command.TheVariants.{Explain};
 ghost use Rattle.app_streams.specs.Ends.{ends};
 ghost use Rattle.app_streams.specs.Taken.{TookMore, TookWithin};
 ghost use Rattle.app_modes.specs.Outcome.{RunsTo};
 
-use crate::check::{verdict_text, write_said};
+use crate::check::{cut_text, verdict_text, write_said};
+use crate::judged::{Taken, take_text};
 use app_streams::{parts_of, script_of, take_all};
-use entry_lines::meant;
-use env_explain::explain_log;
+use env_explain::{explain_log, explain_prefix};
 use env_io::{Sink, Source};
-use explain_text::{bad_line_json, bad_line_text, told_json, told_text};
+use explain_text::{mistake_json, mistake_text, told_json, told_text};
+use log_mistakes::mistake_at;
 use next_entry::Explanation;
-use run_log::{LogFault, lines_before, read_log, version_of};
+use run_log::{lines_before, version_of};
 use std::alloc::{AllocError, Global};
-use task_base::{Entry, Fault, Script};
+use task_base::{Entry, Fault, Rows, Script};
 
 /// What is said of the text of a log.
 #[derive(Drop)]
@@ -31,14 +34,15 @@ struct Said {
 }
 
 /// Reads a script from the source, to its end, and the log behind it, and writes what `judge` writes, and behind it why the
-/// log is illegal, where it is: in words, or in JSON.
+/// log is illegal, where it is: in words, or in JSON. Where a prefix is asked for it explains the beginning of a log.
 pub fn explain<S: Source, K: Sink>(
     alloc: Global,
     json: bool,
+    prefix: bool,
     source: &mut S,
     sink: &mut K,
 ) -> Result<(), Fault>
-    ensures outcome { (told : ℕ → Option ℕ) → RunsTo (Some (Explain json)) told
+    ensures outcome { (told : ℕ → Option ℕ) → RunsTo (Some (Explain json prefix)) told
         (ends (S.left source.old) (S.left source.new) (S.faults source.old) (S.faults source.new))
         (ends (K.holds sink.old) (K.holds sink.new) (K.faults sink.old) (K.faults sink.new)) result }
     ensures sink_kept { IfErr result (λ fault. status_of fault ≢ 1 → status_of fault ≢ 5 → sink.new ≡ sink.old) }
@@ -50,19 +54,25 @@ pub fn explain<S: Source, K: Sink>(
     let bytes = take_all(alloc, source)?;
     let (text, log) = parts_of(&bytes);
     let script = script_of(alloc, text)?;
-    match all_said(alloc, json, &script, log) {
+    match all_said(alloc, json, prefix, &script, log) {
         Ok(said) => write_said(sink, said.line, &said.text),
         Err(error) => Err(Fault::NoMemory(error)),
     }
 }
 
-/// All that is written of a text. The error is want of memory.
-fn all_said(alloc: Global, json: bool, script: &Script, text: &[u8]) -> Result<Said, AllocError>
+/// All that is written of a text. The error is out of memory.
+fn all_said(
+    alloc: Global,
+    json: bool,
+    prefix: bool,
+    script: &Script,
+    text: &[u8],
+) -> Result<Said, AllocError>
     requires plan { IsSound script.now }
     requires short { length text.now ≤ MOST_BYTES }
-    ensures { IfOk result (λ all. (said : List ℕ) × IsSaidAt json script.now text.now all.line said × (all.text.items ≡ verdict_text all.line ++ said)) }
+    ensures { IfOk result (λ all. (said : List ℕ) × IsSaidAt json prefix script.now text.now all.line said × (all.text.items ≡ verdict_text all.line ++ said)) }
 {
-    let said = why(alloc, json, script, text)?;
+    let said = why(alloc, json, prefix, script, text)?;
     let mut all = Vec::new(alloc);
     all.extend_from_slice(&verdict_text(said.line))?;
     all.extend_from_slice(&said.text)?;
@@ -72,29 +82,32 @@ fn all_said(alloc: Global, json: bool, script: &Script, text: &[u8]) -> Result<S
     })
 }
 
-/// What is said behind the verdict on a text. The error is want of memory.
-fn why(alloc: Global, json: bool, script: &Script, text: &[u8]) -> Result<Said, AllocError>
+/// What is said behind the verdict on a text. The error is out of memory.
+fn why(
+    alloc: Global,
+    json: bool,
+    prefix: bool,
+    script: &Script,
+    text: &[u8],
+) -> Result<Said, AllocError>
     requires plan { IsSound script.now }
     requires short { length text.now ≤ MOST_BYTES }
-    ensures { IfOk result (λ said. IsSaidAt json script.now text.now said.line said.text.items) }
+    ensures { IfOk result (λ said. IsSaidAt json prefix script.now text.now said.line said.text.items) }
 {
-    let log = match read_log(alloc, text) {
-        Ok(log) => log,
-        Err(LogFault::Bad { line }) => {
+    let (log, cut) = match take_text(alloc, prefix, text)? {
+        Taken::Log { log, cut } => (log, cut),
+        Taken::Bad { line } => {
             let text = said_of_bad(alloc, json, text, line)?;
             return Ok(Said {
                 line: Some(line),
                 text,
             });
         }
-        Err(LogFault::Memory(error)) => return Err(error),
     };
-    let told = explain_log(alloc, script, &log)?;
+    let told = told_on(alloc, prefix, script, &log)?;
     let Some(place) = place_told(&told) else {
-        return Ok(Said {
-            line: None,
-            text: Vec::new(alloc),
-        });
+        let text = bytes_of(alloc, &cut_text(json, None, cut))?;
+        return Ok(Said { line: None, text });
     };
     let line = place + 1 + lines_before(version_of(text));
     let text = said_of(alloc, json, line, log.as_slice(), &told)?;
@@ -102,6 +115,24 @@ fn why(alloc: Global, json: bool, script: &Script, text: &[u8]) -> Result<Said, 
         line: Some(line),
         text,
     })
+}
+
+/// The explanation of the verdict on a whole log, or on the prefix of one. The error is out of memory.
+#[tactic(auto, unfolding(crate::specs::Judged::verdict_on))]
+fn told_on(
+    alloc: Global,
+    prefix: bool,
+    script: &Script,
+    log: &Rows<Entry>,
+) -> Result<Explanation, AllocError>
+    requires { IsSound script.now }
+    ensures { IfOk result (IsExplanation prefix script.now log.now.items) }
+{
+    if prefix {
+        explain_prefix(alloc, script, log)
+    } else {
+        explain_log(alloc, script, log)
+    }
 }
 
 /// The place that an explanation is of, if the log is not that of a whole run.
@@ -133,35 +164,18 @@ fn said_of(
     }
 }
 
-/// What is said of a line that is none of a log at its place. The error is want of memory.
+/// What is said of a line that is none of a log at its place. The error is out of memory.
 fn said_of_bad(alloc: Global, json: bool, text: &[u8], line: u32) -> Result<Vec<u8>, AllocError>
     requires { IsBadLine text.now line }
-    ensures { IfOk result (λ said. IsSaidOfBad json text.now (Some line) said.items) }
+    ensures { IfOk result (λ said. said.items ≡ said_of_bad json (version_of text.now) line (mistake_at text.now line)) }
 {
-    let meant = meant_at(text, line as usize - 1);
+    let mistake = mistake_at(alloc, text, line)?;
     let place = line - 1 - lines_before(version_of(text));
     if json {
-        bad_line_json(alloc, line, place, meant)
+        mistake_json(alloc, line, place, &mistake)
     } else {
-        bytes_of(alloc, &bad_line_text(line, place, meant))
+        bytes_of(alloc, &mistake_text(line, place, &mistake))
     }
-}
-
-/// The entry that a line of the text is meant to be, counted from 0, if one is.
-fn meant_at(text: &[u8], number: usize) -> Option<Entry>
-    ensures { IsMeantBy (slice_get (text_lines text.now) number) result }
-{
-    match line_at(text, number) {
-        Some(line) => meant(line),
-        None => None,
-    }
-}
-
-/// The line of a text, counted from 0.
-fn line_at(text: &[u8], number: usize) -> Option<&[u8]>
-    ensures { option_map (λ line. line.now) result ≡ slice_get (text_lines text.now) number }
-{
-    text.split_inclusive(|byte| *byte == b'\n').nth(number)
 }
 
 /// A copy of the bytes. The error is want of memory.

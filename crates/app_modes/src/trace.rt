@@ -14,7 +14,7 @@ use std::alloc::Global;
 use task_base::Fault;
 
 /// Reads a script from the source, to its end, and the log behind it, and writes the trace of the log, or the full one, where it
-/// is that of a whole run of the script, or where a prefix is asked for, that of the beginning of one. Else it writes nothing:
+/// is that of a whole run of the script, or where a prefix is asked for, that of the beginning of one, where a line that is cut off is left out. Else it writes nothing:
 /// `NotTraced` has the line at which it is found not to be.
 pub fn trace<S: Source, K: Sink>(
     alloc: Global,
@@ -38,11 +38,11 @@ pub fn trace<S: Source, K: Sink>(
     let (text, log) = parts_of(&bytes);
     let script = script_of(alloc, text)?;
     match judge_log(alloc, prefix, &script, log) {
-        Ok(Judged::Right(log)) => match write_events(alloc, sink, full, &script, &log) {
+        Ok(Judged::Right { log, .. }) => match write_events(alloc, sink, full, &script, &log) {
             Ok(()) => Ok(()),
             Err(fault) => Err(Failure::Common(fault)),
         },
-        Ok(Judged::Wrong { line }) => Err(Failure::NotTraced { line }),
+        Ok(Judged::Wrong { line, .. }) => Err(Failure::NotTraced { line }),
         Err(error) => Err(Failure::Common(Fault::NoMemory(error))),
     }
 }

@@ -25,7 +25,7 @@ record IsOfJudge (command : Option Command) : Type 0 where
 
 of_judge : (command : Option Command) → IsJudge command → IsOfJudge command
 of_judge (Some (Check prefix)) judges = record { done = inr refl; takes = tt }
-of_judge (Some (Explain json)) judges = record { done = inr refl; takes = tt }
+of_judge (Some (Explain json prefix)) judges = record { done = inr refl; takes = tt }
 of_judge (Some (Trace full prefix)) judges = record { done = inr refl; takes = tt }
 of_judge command judges = absurd judges
 
@@ -35,7 +35,7 @@ of_lint command lints = absurd lints
 
 verdict_judges : (command : Option Command) → WritesVerdict command → IsJudge command
 verdict_judges (Some (Check prefix)) writes = tt
-verdict_judges (Some (Explain json)) writes = tt
+verdict_judges (Some (Explain json prefix)) writes = tt
 verdict_judges command writes = absurd writes
 
 trace_judges : (command : Option Command) → IsTrace command → IsJudge command
@@ -59,7 +59,7 @@ taken Holds (Some (Run step json shake)) told source takes does =
 taken Holds (Some (Simulate seed favour step json)) told source takes does =
     of_told (Some (Simulate seed favour step json)) source does.bytes does.took (rw does.holds.reads refl)
 taken Holds (Some (Check prefix)) told source takes does = of_told (Some (Check prefix)) source does.bytes does.took (rw does.holds.reads refl)
-taken Holds (Some (Explain json)) told source takes does = of_told (Some (Explain json)) source does.bytes does.took (rw does.holds.reads refl)
+taken Holds (Some (Explain json prefix)) told source takes does = of_told (Some (Explain json prefix)) source does.bytes does.took (rw does.holds.reads refl)
 taken Holds (Some Reply) told source takes does =
     of_told (Some Reply) source does.bytes does.took (rw (does.holds.reads, does.holds.elaborates.said) refl)
 taken Holds (Some (Trace full prefix)) told source takes does = of_told (Some (Trace full prefix)) source does.bytes does.took (rw does.holds.found.reads refl)
@@ -100,8 +100,8 @@ pub judge_says : (command : Option Command) (told : ℕ → Option ℕ) (source 
     → IsJudge command → OfTaken source (λ bytes. SaysLegal (takes_prefix command) bytes status)
 judge_says (Some (Check prefix)) told source sink status does judges =
     record { bytes = does.bytes; took = does.took; holds = check_says prefix does.bytes sink status does.holds }
-judge_says (Some (Explain json)) told source sink status does judges =
-    record { bytes = does.bytes; took = does.took; holds = explain_says json does.bytes sink status does.holds }
+judge_says (Some (Explain json prefix)) told source sink status does judges =
+    record { bytes = does.bytes; took = does.took; holds = explain_says json prefix does.bytes sink status does.holds }
 judge_says (Some (Trace full prefix)) told source sink status does judges =
     record { bytes = does.bytes; took = does.took; holds = trace_says full prefix does.bytes sink status does.holds }
 judge_says command told source sink status does judges = absurd judges

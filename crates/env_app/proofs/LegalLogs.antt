@@ -2,7 +2,8 @@
 -- Cited by `Causes`.
 use Rattle.std.proofs.Common.{rules, tests, ◌≡◌, ℕ, Bool, true, false, List, refl}
 use Rattle.std.proofs.Common.{sym, ap, subst, ◌∙◌, inl, inr, Option, Some, None, arith}
-use Rattle.std.specs.Prelude.{is_none}
+use Rattle.std.specs.Prelude.{is_none, All}
+use Rattle.log_model.specs.Fits.{Fits}
 use Rattle.task_base.specs.Plan.{Plan}
 use Rattle.task_base.specs.declared.entry.Entry.{Entry}
 use Rattle.log_model.specs.declared.version.Version.{Version}
@@ -13,13 +14,13 @@ use Rattle.hist_model.specs.Script.{IsWhole, is_whole}
 use Rattle.hist_model.proofs.Laws.Fitting.Entries.{entries_fit}
 use Rattle.hist_model.proofs.Laws.Legal.{first_illegal_none}
 use Rattle.script_model.proofs.Laws.Sound.{reads_sound}
-use Rattle.run_log.proofs.LogLines.{bad_is_no_log}
+use Rattle.run_log.proofs.Beginnings.{begins_once}
 use Rattle.env_check.specs.declared.verdict.Verdict.{Verdict}
 use Rattle.env_check.specs.declared.verdict.Verdict.TheVariants.{Legal, Illegal}
 use Rattle.env_check.specs.Verdicts.{prefix_verdict_at, prefix_verdict_of, verdict_at, verdict_of}
 use Rattle.app_streams.specs.Parts.{part_behind, script_part}
 use Rattle.app_modes.specs.Explained.{HasExplained, IsSaidAt}
-use Rattle.app_modes.specs.Judged.{HasLegalLog, HasChecked, HasTraced, IsFoundAt, IsFoundIn, IsLegalLog, IsTraced, line_in, verdict_on, verdict_status}
+use Rattle.app_modes.specs.Judged.{HasLegalLog, HasChecked, HasTraced, IsFoundAt, IsFoundIn, IsLegalLog, IsTextFor, IsTraced, line_in, verdict_on, verdict_status}
 use Rattle.app_streams.specs.Ends.{Ends}
 use Rattle.app_modes.specs.Outcome.{IsWritten}
 
@@ -63,15 +64,23 @@ no_line version (Illegal place) is = absurd cc
 pub is_legal_log : (prefix : Bool) (bytes : List ℕ) → IsFoundIn prefix bytes None → HasLegalLog prefix bytes
 is_legal_log prefix bytes h = elim h.found [
   | inl found ↦
-      let judged = legal_from_verdict prefix h.script found.0 (no_line found.1.version _ found.2) in
+      let judged = legal_from_verdict prefix h.script found.0 (no_line (version_of (part_behind bytes)) _ found.2) in
       record {
         script = h.script;
         log = found.0;
         fits = found.1.fits;
-        is = record { reads = h.reads; version = found.1.version; same = found.1.same; legal = judged.0; whole = judged.1 };
+        is = record { reads = h.reads; cut = h.cut; text = found.1.is; legal = judged.0; whole = judged.1 };
       }
   | inr found ↦ let other : None ≡ Some found.0 = found.2 in absurd cc
 ]
+
+-- a text is that of one log alone, and begins that of one alone
+same_text : (prefix : Bool) (text : List ℕ) (log other : List Entry) (cut last : Option ℕ) → All Fits log → All Fits other → IsTextFor prefix text log cut
+    → IsTextFor prefix text other last → log ≡ other
+same_text false text log other cut last fits fit (this, is, none) (that, same, nothing) =
+    let versions : this ≡ that = sym (version_of-text_in this log) ∙ ap version_of (is ∙ sym same) ∙ version_of-text_in that other in
+    same_in that log other fits fit (subst (λ v. text_in v log ≡ text) versions is ∙ sym same)
+same_text true text log other cut last fits fit this that = begins_once text log other cut last fits fit this that
 
 -- where one is, there is none
 pub is_no_legal_log : (prefix : Bool) (bytes : List ℕ) (line : ℕ) → IsFoundIn prefix bytes (Some line) → (script : Plan) (log : List Entry)
@@ -80,16 +89,13 @@ is_no_legal_log prefix bytes line h script log there =
     let fits = entries_fit script log (reads_sound (script_part bytes) script there.reads) there.legal in
     elim h.found [
       | inl found ↦
-          let versions : found.1.version ≡ there.version =
-          sym (version_of-text_in found.1.version found.0) ∙ ap version_of (found.1.same ∙ sym there.same) ∙ version_of-text_in there.version log in
-          let same : found.0 ≡ log = same_in there.version found.0 log found.1.fits fits
-          (subst (λ v. text_in v found.0 ≡ part_behind bytes) versions found.1.same ∙ sym there.same) in
+          let same : found.0 ≡ log = same_text prefix (part_behind bytes) found.0 log h.cut there.cut found.1.fits fits found.1.is there.text in
           let of : h.script ≡ script = cc (h.reads, there.reads) in
           let legal = legal_verdict prefix script log there.legal there.whole in
           let verdict : verdict_on prefix h.script found.0 ≡ Legal = rw (of, same) legal in
-          let other : Some line ≡ None = found.2 ∙ ap (line_in found.1.version) verdict in
+          let other : Some line ≡ None = found.2 ∙ ap (line_in (version_of (part_behind bytes))) verdict in
           absurd cc
-      | inr found ↦ bad_is_no_log (part_behind bytes) found.0 found.1 there.version log fits there.same
+      | inr found ↦ found.1.none log there.cut (record { fits = fits; is = there.text })
     ]
 
 -- ---- what `check` and `trace` say with their status
@@ -109,27 +115,26 @@ says_of prefix bytes status (Some line) found is =
 pub check_says : (prefix : Bool) (bytes : List ℕ) (sink : Ends) (status : ℕ) → HasChecked prefix bytes (IsWritten sink status)
     → SaysLegal prefix bytes status
 check_says prefix bytes sink status h =
-    says_of prefix bytes status h.line (record { script = h.script; reads = h.reads; found = h.found }) h.holds.0
+    says_of prefix bytes status h.line (record { script = h.script; cut = h.cut; reads = h.reads; found = h.found }) h.holds.0
 
 -- what is said of a text goes with the line at which it is found wrong
-found_as_said : (json : Bool) (script : Plan) (text said : List ℕ) (line : Option ℕ) → IsSaidAt json script text line said
-    → IsFoundAt false script text line
-unfolding verdict_on
-found_as_said json script text said line (inl h) = inl (h.log, h.of, h.line_is)
-found_as_said json script text said line (inr h) = inr (h.bad, h.is, h.line_is)
+found_as_said : (json prefix : Bool) (script : Plan) (text said : List ℕ) (line : Option ℕ) → IsSaidAt json prefix script text line said
+    → (cut : Option ℕ) × IsFoundAt prefix script text line cut
+found_as_said json prefix script text said line (inl h) = (h.cut, inl (h.log, h.of, h.line_is))
+found_as_said json prefix script text said line (inr h) = (None, inr (h.bad, h.is, h.line_is))
 
-pub explain_says : (json : Bool) (bytes : List ℕ) (sink : Ends) (status : ℕ) → HasExplained json bytes (IsWritten sink status)
-    → SaysLegal false bytes status
-explain_says json bytes sink status h =
-    let found = found_as_said json h.script (part_behind bytes) h.said h.line h.found in
-    says_of false bytes status h.line (record { script = h.script; reads = h.reads; found = found }) h.holds.0
+pub explain_says : (json prefix : Bool) (bytes : List ℕ) (sink : Ends) (status : ℕ) → HasExplained json prefix bytes (IsWritten sink status)
+    → SaysLegal prefix bytes status
+explain_says json prefix bytes sink status h =
+    let found = found_as_said json prefix h.script (part_behind bytes) h.said h.line h.found in
+    says_of prefix bytes status h.line (record { script = h.script; cut = found.0; reads = h.reads; found = found.1 }) h.holds.0
 
-traced_status : (full : Bool) (script : Plan) (text : List ℕ) (sink : Ends) (status : ℕ) (line : Option ℕ)
-    → IsTraced full script text (IsWritten sink status) line → status ≡ verdict_status line
-traced_status full script text sink status None traced = traced.2.0
-traced_status full script text sink status (Some line) traced = traced.0
+traced_status : (full prefix : Bool) (script : Plan) (text : List ℕ) (sink : Ends) (status : ℕ) (line : Option ℕ)
+    → IsTraced full prefix script text (IsWritten sink status) line → status ≡ verdict_status line
+traced_status full prefix script text sink status None traced = traced.3.0
+traced_status full prefix script text sink status (Some line) traced = traced.0
 
 pub trace_says : (full prefix : Bool) (bytes : List ℕ) (sink : Ends) (status : ℕ) → HasTraced full prefix bytes (IsWritten sink status)
     → SaysLegal prefix bytes status
 trace_says full prefix bytes sink status h =
-    says_of prefix bytes status h.line h.found (traced_status full h.found.script (part_behind bytes) sink status h.line h.holds)
+    says_of prefix bytes status h.line h.found (traced_status full prefix h.found.script (part_behind bytes) sink status h.line h.holds)

@@ -19,12 +19,12 @@ IsDone None status = status ≡ 0
 IsDone (Some (Run step json shake)) status = status ≡ 0
 IsDone (Some (Simulate seed favour step json)) status = status ≡ 0
 IsDone (Some (Check prefix)) status = (status ≡ 0) ⊎ (status ≡ 1)
-IsDone (Some (Explain json)) status = (status ≡ 0) ⊎ (status ≡ 1)
+IsDone (Some (Explain json prefix)) status = (status ≡ 0) ⊎ (status ≡ 1)
 IsDone (Some Reply) status = status ≡ 0
 IsDone (Some (Trace full prefix)) status = (status ≡ 0) ⊎ (status ≡ 1)
 IsDone (Some Nest) status = status ≡ 0
 IsDone (Some (Lint input)) status = (status ≡ 0) ⊎ (status ≡ 1)
-IsDone (Some (Generate number size)) status = status ≡ 0
+IsDone (Some (Generate number size wide)) status = status ≡ 0
 IsDone (Some (Bench number size work)) status = status ≡ 0
 
 -- the status is a verdict that is written: of a log that is not legal, or of an input that is none

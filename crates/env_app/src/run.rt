@@ -2,12 +2,12 @@ ghost use Rattle.std.specs.Prelude.{◌≡◌, ◌≢◌, ◌⊎◌, ℕ, List, 
 ghost use Rattle.task_base.specs.Plan.{Plan};
 ghost use Rattle.task_base.specs.declared.entry.Entry.{Entry};
 ghost use Rattle.script_model.specs.Canonical.{canonical};
-ghost use Rattle.task_script.specs.Generated.{generated};
 ghost use Rattle.run_summary.specs.Summary.{generated_totals};
 ghost use Rattle.env_io.specs.Bytes.{Gains, Rose};
 ghost use Rattle.command_line.specs.declared.words.Command.TheVariants.{Run, Simulate, Check, Explain, Reply, Trace, Nest, Lint, Generate, Bench};
 ghost use Rattle.command_line.specs.declared.options.Favour.{Favour};
 ghost use Rattle.command_line.specs.declared.options.Shake.{Shake};
+ghost use Rattle.command_line.specs.declared.options.Wide.{Wide};
 ghost use Rattle.command_line.specs.declared.words.Linted.{Linted};
 ghost use Rattle.command_line.specs.declared.words.Linted.TheVariants as linted;
 ghost use Rattle.command_line.specs.CommandLine.{IsJudge, ReadsClock, TakesInput, WritesJson, command_of, takes_prefix};
@@ -22,7 +22,7 @@ ghost use Rattle.script_model.specs.Grammar.{first_fault};
 ghost use Rattle.app_streams.specs.Ends.{ends};
 ghost use Rattle.app_streams.specs.Taken.{OfTaken};
 ghost use Rattle.app_streams.specs.Written.{WroteAll, WroteFront};
-ghost use Rattle.app_modes.specs.Outcome.{HasNested, HasReplied, HasRun, HasSimulated, readings_of};
+ghost use Rattle.app_modes.specs.Outcome.{HasNested, HasReplied, HasRun, HasSimulated, made, readings_of};
 ghost use Rattle.env_app.specs.Statuses.{IsEnd, IsVerdictOf, HasCause};
 
 use crate::notes::tell;
@@ -36,7 +36,8 @@ use std::thread::Threads;
 /// Does what the words ask for, and answers the exit status (this project's own rule).
 ///
 /// The command is `taskenv MODE [--step N] [--json] [--prefix] [--number N] [--size N] [--replies] [--nest] [--full] [--seed N]
-/// [--favour WORD] [--jump] [--shake N] [--work N]`, the program's name first.
+/// [--favour WORD] [--jump] [--shake N] [--work N] [--wide] [--no-jobs] [--no-main] [--no-delays] [--no-scopes] [--no-shutdown]`, the
+/// program's name first.
 /// The modes are:
 ///
 /// - `run` reads a script from the source, to its end, runs it, and writes the run's log to the sink, as text or with
@@ -58,7 +59,8 @@ use std::thread::Threads;
 /// - `nest` reads a nest script from the source, to its end, runs it, and writes its log.
 /// - `lint` reads a script from the source, to its end, or with `--replies` what `reply` reads, or with `--nest` what `nest` reads, and
 ///   writes why it is none, in one line, where it is none, which is status 1.
-/// - `gen` writes the script that is made from `--number`, of `--size` tasks, and reads nothing.
+/// - `gen` writes the script that is made from `--number`, of `--size` tasks, and reads nothing. With `--wide` it has everything that a
+///   script may have, but for what the flags leave out.
 /// - `bench` runs that script, where each task of the pool works `--work` nanoseconds, and writes what the log of the run adds up
 ///   to. It reads nothing.
 ///
@@ -105,15 +107,16 @@ pub fn run_words<
 
     // `check` answers 0 or 1 by the line at which the log behind the script is found wrong, and writes that line; `trace` writes
     // the log's trace under 0, with `--full` the full one, and nothing under 1. 0 comes only where the log is a legal, whole one of the script, whose numbers
-    // fit, and 1 only where there is none, whatever its numbers are. With `--prefix` nothing is asked of whole.
+    // fit, and 1 only where there is none, whatever its numbers are. With `--prefix` nothing is asked of whole, and the beginning of a log's text
+    // will do.
     ensures verdict { (prefix : Bool) → command_of (map string_bytes words.now) ≡ Some (Check prefix) → (result ≡ 0) ⊎ (result ≡ 1)
         → OfTaken (ends (S.left source.old) (S.left source.new) (S.faults source.old) (S.faults source.new))
         (λ bytes. HasChecked prefix bytes (λ status text. (result ≡ status) × WroteAll (K.holds sink.old) (K.holds sink.new) text)) }
     // `explain` writes what `check` writes, and behind it an explanation of the verdict: a cause that holds, and with most of them
-    // an entry that would be allowed there.
-    ensures explained { (json : Bool) → command_of (map string_bytes words.now) ≡ Some (Explain json) → (result ≡ 0) ⊎ (result ≡ 1)
+    // an entry that would be allowed there; or where the text is that of no log, which mistake its first bad line has.
+    ensures explained { (json prefix : Bool) → command_of (map string_bytes words.now) ≡ Some (Explain json prefix) → (result ≡ 0) ⊎ (result ≡ 1)
         → OfTaken (ends (S.left source.old) (S.left source.new) (S.faults source.old) (S.faults source.new))
-        (λ bytes. HasExplained json bytes (λ status text. (result ≡ status) × WroteAll (K.holds sink.old) (K.holds sink.new) text)) }
+        (λ bytes. HasExplained json prefix bytes (λ status text. (result ≡ status) × WroteAll (K.holds sink.old) (K.holds sink.new) text)) }
     ensures traced { (full prefix : Bool) → command_of (map string_bytes words.now) ≡ Some (Trace full prefix) → (result ≡ 0) ⊎ (result ≡ 1)
         → OfTaken (ends (S.left source.old) (S.left source.new) (S.faults source.old) (S.faults source.new))
         (λ bytes. HasTraced full prefix bytes (λ status text. (result ≡ status) × WroteAll (K.holds sink.old) (K.holds sink.new) text)) }
@@ -145,8 +148,8 @@ pub fn run_words<
         (λ bytes. HasNested bytes (WroteAll (K.holds sink.old) (K.holds sink.new))) }
 
     // `gen` writes the script of its number and size, and `bench` what every run of that script adds up to.
-    ensures generated { (number size : ℕ) → command_of (map string_bytes words.now) ≡ Some (Generate number size) → result ≡ 0
-        → WroteAll (K.holds sink.old) (K.holds sink.new) (canonical (generated number size)) }
+    ensures generated { (number size : ℕ) (wide : Option Wide) → command_of (map string_bytes words.now) ≡ Some (Generate number size wide)
+        → result ≡ 0 → WroteAll (K.holds sink.old) (K.holds sink.new) (canonical (made number size wide)) }
     ensures totals { (number size work : ℕ) → command_of (map string_bytes words.now) ≡ Some (Bench number size work) → result ≡ 0
         → WroteAll (K.holds sink.old) (K.holds sink.new) (summary_text (generated_totals number size)) }
 

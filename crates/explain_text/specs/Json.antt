@@ -114,8 +114,3 @@ told_json line log explanations.Legal = []
 told_json line log (explanations.Barred place cause) = cause_object line place (seat_of (slice_get log place)) cause []
 told_json line log (explanations.Unfinished place seat cause) = cause_object line place seat cause (codes ",\"unfinished\":true")
 told_json line log (explanations.AtWork place busy) = at_work_object line busy.items
-
--- what is said of a line that is none of a log at its place, and of the entry that is meant there, if one is
-abbrev pub bad_line_json : ℕ → ℕ → Option Entry → List ℕ
-bad_line_json line place None = object_of line (codes "no_line") []
-bad_line_json line place (Some e) = object_of line (codes "no_line") (entry_key place e)

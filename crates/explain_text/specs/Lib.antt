@@ -1,2 +1,3 @@
 pub mod Plain
 pub mod Json
+pub mod Mistakes

@@ -97,8 +97,3 @@ told_text log explanations.Legal = []
 told_text log (explanations.Barred place cause) = cause_line place (seat_of (slice_get log place)) cause
 told_text log (explanations.Unfinished place seat cause) = codes "unfinished: " ++ cause_line place seat cause
 told_text log (explanations.AtWork place busy) = at_work_line busy.items
-
--- what is said of a line that is none of a log at its place, and of the entry that is meant there, if one is
-abbrev pub bad_line_text : ℕ → ℕ → Option Entry → List ℕ
-bad_line_text line place None = around (codes "no log has at its place such a line as line ") line (codes "\n")
-bad_line_text line place (Some e) = around (codes "line ") line (codes " should be: ") ++ line_of place e

@@ -1,6 +1,6 @@
 ghost use Rattle.std.specs.Prelude.{◌≡◌, ◌++◌, if◌then◌else◌, codes, decimal, IfOk, OnOk};
 ghost use Rattle.next_entry.specs.Causes.{named_by};
-ghost use Rattle.explain_text.specs.Json.{at_work_object, bad_line_json, bar_key, busy_object, busy_objects, cause_keys, cause_name, cause_object, edge_key, entry_key, named_key, told_json};
+ghost use Rattle.explain_text.specs.Json.{at_work_object, bar_key, busy_object, busy_objects, cause_keys, cause_name, cause_object, edge_key, entry_key, named_key, told_json};
 
 use crate::plain::{named_by, seat_at};
 use itoa::Buffer;
@@ -29,26 +29,6 @@ pub fn told_json(
         }
         Explanation::AtWork { busy, .. } => at_work_object(alloc, line, busy),
     }
-}
-
-/// What is said of a line, counted from 1, that is none of a log at its place, and of the entry that is meant there, if one is:
-/// as such an object. The error is want of memory.
-pub fn bad_line_json(
-    alloc: Global,
-    line: u32,
-    place: Place,
-    meant: Option<Entry>,
-) -> Result<Vec<u8>, AllocError>
-    ensures { IfOk result (λ text. text.items ≡ bad_line_json line place meant) }
-{
-    let mut text = Vec::new(alloc);
-    add_number(&mut text, b"{\"line\":", line)?;
-    text.extend_from_slice(b",\"cause\":\"no_line\"")?;
-    if let Some(entry) = meant {
-        add_entry(alloc, &mut text, place, &entry)?;
-    }
-    text.extend_from_slice(b"}\n")?;
-    Ok(text)
 }
 
 /// The object of a cause that holds of a seat at a place. The error is want of memory.
@@ -114,7 +94,7 @@ fn add_object(text: &mut Vec<u8>, busy: &Busy) -> Result<(), AllocError>
 }
 
 /// Adds words and a number behind them. The error is want of memory.
-fn add_number(text: &mut Vec<u8>, words: &[u8], number: u32) -> Result<(), AllocError>
+pub(crate) fn add_number(text: &mut Vec<u8>, words: &[u8], number: u32) -> Result<(), AllocError>
     ensures { OnOk result (text.new.items ≡ text.old.items ++ words.now ++ decimal number) }
 {
     text.extend_from_slice(words)?;
@@ -224,7 +204,7 @@ fn add_named(
 }
 
 /// Adds an entry at its place. The error is want of memory.
-fn add_entry(
+pub(crate) fn add_entry(
     alloc: Global,
     text: &mut Vec<u8>,
     place: Place,

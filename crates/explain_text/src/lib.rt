@@ -4,7 +4,9 @@
 #![tactic(auto)]
 
 mod json;
+mod mistakes;
 mod plain;
 
-pub use json::{bad_line_json, told_json};
-pub use plain::{bad_line_text, told_text};
+pub use json::told_json;
+pub use mistakes::{mistake_json, mistake_text};
+pub use plain::told_text;

@@ -1,6 +1,6 @@
 ghost use Rattle.std.specs.Prelude.{◌≡◌, ◌+◌, ◌≤◌, ◌++◌, [], if◌then◌else◌, codes, decimal, flat_map, length, slice_get};
 ghost use Rattle.next_entry.specs.Causes.{named_by};
-ghost use Rattle.explain_text.specs.Plain.{around, at_work_line, bad_line_text, bar_words, busy_words, cause_line, cause_words, edge_words, more_words, seat_of, told_text};
+ghost use Rattle.explain_text.specs.Plain.{around, at_work_line, bar_words, busy_words, cause_line, cause_words, edge_words, more_words, seat_of, told_text};
 
 use itoa::Buffer;
 use line_text::{Line, add, add_decimal};
@@ -30,26 +30,6 @@ pub fn told_text(log: &[Entry], told: &Explanation) -> Line
         Explanation::AtWork { busy, .. } => add_at_work(&mut line, busy),
     }
     line
-}
-
-/// What is said of a line, counted from 1, that is none of a log at its place, and of the entry that is meant there, if one is.
-pub fn bad_line_text(line: u32, place: Place, meant: Option<Entry>) -> Line
-    ensures { result.items ≡ bad_line_text line place meant }
-{
-    let mut text = Line::new();
-    match meant {
-        None => add_one(
-            &mut text,
-            b"no log has at its place such a line as line ",
-            line,
-            b"\n",
-        ),
-        Some(entry) => {
-            add_one(&mut text, b"line ", line, b" should be: ");
-            add(&mut text, &entry_lines::line(place, &entry));
-        }
-    }
-    text
 }
 
 /// The seat of the entry at a place, or 0 where there is none.

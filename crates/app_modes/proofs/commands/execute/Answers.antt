@@ -15,7 +15,7 @@ returns-in-Check-clause-outcome g c =
 
 pub returns-in-Explain-clause-outcome : goal.returns-in-Explain-clause-outcome
 returns-in-Explain-clause-outcome g c =
-    ends_in_common _ (Explain c.in-Explain.json) _ _ _ c.explain.result _
+    ends_in_common _ (Explain c.in-Explain.json c.in-Explain.prefix) _ _ _ c.explain.result _
     (sym c.in-Ok-Some.ensures.command ∙ c.in-Ok-Some.field-0-is ∙ ap Some c.in-Explain.is) c.common-in-Explain.ensures c.explain.ensures.outcome
 
 pub returns-in-Trace-clause-outcome : goal.returns-in-Trace-clause-outcome
@@ -35,7 +35,7 @@ returns-in-Lint-clause-outcome g c =
 
 pub returns-in-Generate-clause-outcome : goal.returns-in-Generate-clause-outcome
 returns-in-Generate-clause-outcome g c =
-    ends_in_common _ (Generate c.in-Generate.number c.in-Generate.size) _ _ _ c.write_generated.result _
+    ends_in_common _ (Generate c.in-Generate.number c.in-Generate.size c.in-Generate.wide) _ _ _ c.write_generated.result _
     (sym c.in-Ok-Some.ensures.command ∙ c.in-Ok-Some.field-0-is ∙ ap Some c.in-Generate.is) c.common-in-Generate.ensures
     (λ told. c.write_generated.ensures.outcome told _)
 

@@ -14,7 +14,7 @@ returns-in-Ok-clause-outcome g c told =
     let log = c.parts_of.ensures.behind ∙ ap part_behind c.deref.ensures.value in
     let all = c.in-Ok.ensures in
     let said = c.in-Ok.said in
-    said_ends (Explain c.args.json) told _ _ c.in_ok-bytes.bytes.items (verdict_text said.line ++ all.0) said.line c.write_said.result tt took
+    said_ends (Explain c.args.json c.args.prefix) told _ _ c.in_ok-bytes.bytes.items (verdict_text said.line ++ all.0) said.line c.write_said.result tt took
     (λ Holds holds. record {
       bytes = c.in_ok-bytes.bytes.items;
       took = took;
@@ -23,7 +23,7 @@ returns-in-Ok-clause-outcome g c told =
         line = said.line;
         said = all.0;
         reads = subst (λ (t : List ℕ). Reads t c.in_ok-script.script) text c.in_ok-script.ensures.read;
-        found = subst (λ (t : List ℕ). IsSaidAt c.args.json c.in_ok-script.script t said.line all.0) log all.1;
+        found = subst (λ (t : List ℕ). IsSaidAt c.args.json c.args.prefix c.in_ok-script.script t said.line all.0) log all.1;
         holds = holds;
       };
     })

@@ -17,8 +17,9 @@ returns-in-Ok-Wrong-clause-outcome g c told =
     let judged = rw c.in-Ok-Wrong.field-0-is at c.in-Ok-Wrong.ensures in
     let found : IsFoundIn c.args.prefix bytes line = record {
       script = script;
+      cut = c.in-Ok-Wrong.field-0-1;
       reads = subst (λ (text : List ℕ). Reads text script) (c.parts_of.ensures.script ∙ ap script_part c.deref.ensures.value) c.in_ok-script.ensures.read;
-      found = subst (λ (text : List ℕ). IsFoundAt c.args.prefix script text line) (c.parts_of.ensures.behind ∙ ap part_behind c.deref.ensures.value) judged;
+      found = subst (λ (text : List ℕ). IsFoundAt c.args.prefix script text line c.in-Ok-Wrong.field-0-1) (c.parts_of.ensures.behind ∙ ap part_behind c.deref.ensures.value) judged;
     } in (
       tt,
       took.end,
@@ -32,15 +33,16 @@ returns-in-Ok-clause-outcome g c told =
     let took = c.in_ok-bytes.ensures.whole in
     let script = c.in_ok-script.script in
     let log = c.in-Ok-Right.log.items in
+    let cut = c.in-Ok-Right.field-0-1 in
     let judged = rw c.in-Ok-Right.field-0-is at c.in-Ok-Right.ensures in
     let reads = subst (λ (text : List ℕ). Reads text script) (c.parts_of.ensures.script ∙ ap script_part c.deref.ensures.value) c.in_ok-script.ensures.read in
-    let of = subst (λ (text : List ℕ). IsTextOf text log) (c.parts_of.ensures.behind ∙ ap part_behind c.deref.ensures.value) judged.0 in (
+    let of = subst (λ (text : List ℕ). IsTextOf c.args.prefix text log cut) (c.parts_of.ensures.behind ∙ ap part_behind c.deref.ensures.value) judged.0 in (
       refl,
       λ takes. took.end,
       record {
         bytes = bytes;
         took = took;
-        holds = traced c.args.full c.args.prefix bytes script log _ reads of judged.1 (refl, c.in-Ok.ensures.written);
+        holds = traced c.args.full c.args.prefix bytes script log cut _ reads of judged.1 (refl, c.in-Ok.ensures.written);
       },
     )
 
@@ -50,9 +52,10 @@ returns-in-Ok-Right-clause-outcome g c told =
     let took = c.in_ok-bytes.ensures.whole in
     let script = c.in_ok-script.script in
     let log = c.in-Ok-Right.log.items in
+    let cut = c.in-Ok-Right.field-0-1 in
     let judged = rw c.in-Ok-Right.field-0-is at c.in-Ok-Right.ensures in
     let reads = subst (λ (text : List ℕ). Reads text script) (c.parts_of.ensures.script ∙ ap script_part c.deref.ensures.value) c.in_ok-script.ensures.read in
-    let of = subst (λ (text : List ℕ). IsTextOf text log) (c.parts_of.ensures.behind ∙ ap part_behind c.deref.ensures.value) judged.0 in
+    let of = subst (λ (text : List ℕ). IsTextOf c.args.prefix text log cut) (c.parts_of.ensures.behind ∙ ap part_behind c.deref.ensures.value) judged.0 in
     let put = c.in-Err-write_events.ensures in
     ⊎_elim
     (λ (is : c.in-Err-write_events.fault ≡ WriteFault). rw is (
@@ -62,7 +65,7 @@ returns-in-Ok-Right-clause-outcome g c told =
       record {
         bytes = bytes;
         took = took;
-        holds = traced c.args.full c.args.prefix bytes script log _ reads of judged.1 (put.cut (ap Err is));
+        holds = traced c.args.full c.args.prefix bytes script log cut _ reads of judged.1 (put.cut (ap Err is));
       },
     ))
     (λ (is : c.in-Err-write_events.fault ≡ NoMemory alloc_error). rw is tt)

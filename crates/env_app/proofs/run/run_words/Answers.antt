@@ -34,3 +34,7 @@ returns-in-Err-clause-no_legal_log g c judges one =
     c.in-Err.ensures.took_more c.in-Err.ensures.took_within in
     let says = judge_says _ _ _ (ends _ _ 0 0) _ (cause.done (inr is_one)) judges in
     record { bytes = says.bytes; took = says.took; holds = says.holds.not_legal is_one }
+
+pub returns-in-Err-clause-explained : goal.returns-in-Err-clause-explained
+returns-in-Err-clause-explained g c json prefix explains status =
+    let cause = returns-in-Err-clause-cause g c in rw explains at (cause.done status)
