@@ -1,5 +1,5 @@
 -- What the machines ask, by what fits a call.
--- Cited by 18 functions of `LiveCore`, `Made`.
+-- Cited by 18 functions of `LiveCore`, `Made`, `Scopes`.
 use Rattle.std.proofs.Common.{◌≡◌, ℕ, suc, ◌<◌, ◌≤◌, ◌^◌, Bool, true, false, eqb, inl, inr, List, [], ◌∷◌, ◌++◌, length, refl, sym, ap, ◌∙◌, Option, Some}
 use Rattle.std.proofs.Common.{None, arith}
 use Rattle.std.specs.Prelude.{◌&&◌, ◌||◌, is_none, is_some, min, max, nat_le, nat_lt, not, slice_get, unwrap_or}
@@ -68,11 +68,11 @@ either_false true b h = absurd cc
 either_false false b h = (refl, h)
 
 -- the accepted tasks, of the pool and of the main queues, don't have it
-record IsNotAccepted (past : List Entry) (t : ℕ) : Type 0 where
-  by_pool : count (λ p. eqb p.task t) (posts past) ≡ 0
-  by_main : count (λ p. eqb p.task t) (main_posts past) ≡ 0
+pub record IsNotAccepted (past : List Entry) (t : ℕ) : Type 0 where
+  pub by_pool : count (λ p. eqb p.task t) (posts past) ≡ 0
+  pub by_main : count (λ p. eqb p.task t) (main_posts past) ≡ 0
 
-not_accepted : (plan : Plan) (past : List Entry) (t : ℕ) → IsLegal plan past → was_posted past t ≡ false → IsNotAccepted past t
+pub not_accepted : (plan : Plan) (past : List Entry) (t : ℕ) → IsLegal plan past → was_posted past t ≡ false → IsNotAccepted past t
 unfolding posts main_posts fold_past
 not_accepted plan past t legal = entry_induction plan (λ front. was_posted front t ≡ false → IsNotAccepted front t)
     (λ fresh. record { by_pool = refl; by_main = refl }) next past legal

@@ -1,5 +1,5 @@
 -- What may come in an open plan: the driver's entries, by what fits a call.
--- Cited by 17 functions of `LiveCore`, `Asks`.
+-- Cited by 17 functions of `LiveCore`, `Asks`, `Fits`, `Posted`.
 use Rattle.std.proofs.Common.{◌≡◌, ℕ, ◌≤◌, Bool, true, false, cond, eqb, List, [], ◌∷◌, ◌++◌, length, refl, sym, ap, ◌∙◌, Option, Some, None}
 use Rattle.std.specs.Prelude.{is_some, not}
 use Rattle.std.proofs.Math.Bool.{or-true}

@@ -1,5 +1,5 @@
 -- What a call gives: the entry that it makes, or why it makes none.
-use Rattle.std.specs.Prelude.{◌≡◌, ◌≢◌, true, false, List, length, Some, None, Result, Ok, Err}
+use Rattle.std.specs.Prelude.{◌≡◌, ◌≢◌, ◌≤◌, true, false, List, length, Some, None, Result, Ok, Err}
 use Rattle.task_base.specs.Plan.{Plan}
 use Rattle.task_base.specs.Entries.{next}
 use Rattle.task_base.specs.declared.entry.Entry.{Entry}
@@ -24,13 +24,14 @@ use Rattle.live_core.specs.declared.unmade.Unmade.{Unmade}
 use Rattle.live_core.specs.declared.unmade.Unmade.TheVariants.{Misuse, Full, Nothing, Over, NotYet as NotYetBy, Blocked}
 
 -- the entry's kind is one that the call is for, with what the call names; a post has the task that is handed out, and a tick
--- the moment that the reading becomes. What else stands in it, the rules tell
+-- the moment that the reading becomes. An item is taken by this call where a worker takes it: the driver's call names the
+-- job. What else stands in it, the rules tell
 abbrev pub IsMadeBy : Plan → List Entry → Call → Kind → Type 0
 IsMadeBy plan past (calls.Post seat r d) (kinds.Post task runner delay ok) = (spare_task plan past ≡ Some task) × (runner ≡ r) × (delay ≡ d)
 IsMadeBy plan past (calls.Main seat q d) (kinds.Main task queue delay ok) = (spare_task plan past ≡ Some task) × (queue ≡ q) × (delay ≡ d)
 IsMadeBy plan past (calls.Tick reading) (kinds.Tick now) = now ≡ moment_behind (now_of past) reading
 IsMadeBy plan past (calls.Take seat) (kinds.Take task runner found) = Unit {0}
-IsMadeBy plan past (calls.Take seat) (kinds.JobTake job id item) = Unit {0}
+IsMadeBy plan past (calls.Take seat) (kinds.JobTake job id item) = 1 ≤ seat
 IsMadeBy plan past (calls.End seat) (kinds.End task left) = Unit {0}
 IsMadeBy plan past (calls.Enter seat s) (kinds.Enter task scope) = scope ≡ s
 IsMadeBy plan past (calls.Leave seat) (kinds.Leave task) = Unit {0}

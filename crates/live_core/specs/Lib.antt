@@ -6,3 +6,4 @@ pub mod StandsFor
 pub mod Answers
 pub mod Making
 pub mod Histories
+pub mod Waits

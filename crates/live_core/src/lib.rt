@@ -12,6 +12,6 @@ mod live;
 mod unmade;
 
 pub use call::Call;
-pub use laws::live_theorem;
+pub use laws::{calls_are_exact, live_theorem};
 pub use live::LiveCore;
 pub use unmade::{OpenError, Unmade};

@@ -13,6 +13,7 @@ mod jobs;
 mod main_tasks;
 mod posts;
 mod seats;
+mod work;
 
 use crate::books::Books;
 use crate::call::Call;

@@ -37,7 +37,7 @@ returns-in-Item c = λ plan past can.
     let fit = and_parts (nat_le 1 c.args.seat && nat_lt c.args.seat plan.workers) (is_free past c.args.seat) can.may.fit in
     let worker = (and_parts (nat_le 1 c.args.seat) (nat_lt c.args.seat plan.workers) fit.0).0 in
     pool_moved plan past _ c.args.self.now (kinds.JobTake c.in-Item.job c.in-Item.id c.in-Item.item) _ can.stands refl refl
-    (record { scope = tt; job = tt; task = tt }) tt
+    (record { scope = tt; job = tt; task = tt }) (leb-true 1 c.args.seat worker)
     (item_may plan past c.args.seat c.in-Item.job c.in-Item.id c.in-Item.item can.stands.opened can.stands.legal worker (below can) fit.1 going
     (c.in-Item.ensures.answer plan past (can_take can)))
     (c.in-Item.ensures.stands plan past (can_take can))
