@@ -1,26 +1,27 @@
--- A call leaves the core standing for some past.
+-- A call leaves the roster standing for some past, and so does a rest.
 -- Cited by `play.rt`.
-use Rattle.std.proofs.Common.{List}
+use Rattle.std.proofs.Common.{List, ℕ}
 use Rattle.std.specs.Prelude.{Result, Ok, Err}
-use Rattle.task_base.specs.Entries.{next}
 use Rattle.task_base.specs.Plan.{Plan}
 use Rattle.task_base.specs.declared.entry.Entry.{Entry}
 use Rattle.task_base.specs.declared.entry.Kind.{Kind}
-use Rattle.live_core.specs.Answers.{Gives}
-use Rattle.live_core.specs.Calls.{seat_of}
-use Rattle.live_core.specs.StandsFor.{StandsFor}
+use Rattle.live_core.specs.Histories.{with_answer}
 use Rattle.live_core.specs.declared.call.Call.{Call}
-use Rattle.live_core.specs.declared.live.LiveCore.{LiveCore}
 use Rattle.live_core.specs.declared.unmade.Unmade.{Unmade}
-use Rattle.live_core.specs.declared.unmade.Unmade.TheVariants.{Misuse, Full, Nothing, Over, NotYet as NotYetBy, Blocked}
+use Rattle.live_roster.specs.Answers.{CallGives, RestGives}
+use Rattle.live_roster.specs.StandsFor.{StandsFor}
+use Rattle.live_roster.specs.declared.rest.Unrested.{Unrested}
+use Rattle.live_roster.specs.declared.rest.Unrested.TheVariants.{Misuse, HasCome}
+use Rattle.live_roster.specs.declared.roster.LiveRoster.{LiveRoster}
+use Rattle.live_roster.specs.declared.wake.Wake.{Wake}
 use Rattle.live_rows.specs.Stands.{Stands}
 
-pub stands_after : (plan : Plan) (past : List Entry) (call : Call) (before after : LiveCore) (answer : Result Kind Unmade)
-    → StandsFor plan past before → Gives plan past call before after answer → Stands after
-stands_after plan past call before after (Ok kind) stands gives = (plan, next past (seat_of call) kind, gives.stands)
-stands_after plan past call before after (Err Misuse) stands gives = (plan, past, rw gives.kept stands)
-stands_after plan past call before after (Err Full) stands gives = (plan, past, rw gives.kept stands)
-stands_after plan past call before after (Err Nothing) stands gives = (plan, past, gives.stands)
-stands_after plan past call before after (Err Over) stands gives = (plan, past, gives.stands)
-stands_after plan past call before after (Err (NotYetBy not_yet)) stands gives = (plan, past, gives.stands)
-stands_after plan past call before after (Err (Blocked blocked)) stands gives = (plan, past, gives.stands)
+pub stands_called : (plan : Plan) (past : List Entry) (by_seat : ℕ) (call : Call) (before after : LiveRoster) (answer : Result Kind Unmade)
+    (wake : Wake) → CallGives plan past by_seat call before after answer wake → Stands after
+stands_called plan past by_seat call before after answer wake gives = (plan, with_answer past call answer, gives.roused.stands)
+
+pub stands_rested : (plan : Plan) (past : List Entry) (call : Call) (before after : LiveRoster) (answer : Result ℕ Unrested) (wake : Wake)
+    → StandsFor plan past before → RestGives plan past call before after answer wake → Stands after
+stands_rested plan past call before after (Ok seat) wake stands gives = (plan, past, gives.3.stands)
+stands_rested plan past call before after (Err HasCome) wake stands gives = (plan, past, gives.2.stands)
+stands_rested plan past call before after (Err Misuse) wake stands gives = (plan, past, rw gives.1 stands)

@@ -1,10 +1,10 @@
--- What is known of a core between two calls.
+-- What is known of a roster between two calls.
 use Rattle.std.specs.Prelude.{List}
 use Rattle.task_base.specs.Plan.{Plan}
 use Rattle.task_base.specs.declared.entry.Entry.{Entry}
-use Rattle.live_core.specs.StandsFor.{StandsFor}
-use Rattle.live_core.specs.declared.live.LiveCore.{LiveCore}
+use Rattle.live_roster.specs.StandsFor.{StandsFor}
+use Rattle.live_roster.specs.declared.roster.LiveRoster.{LiveRoster}
 
--- the core stands for a past of an open plan
-abbrev pub Stands : LiveCore → Type 0
-Stands live = (plan : Plan) × (past : List Entry) × StandsFor plan past live
+-- the roster stands for a past of an open plan
+abbrev pub Stands : LiveRoster → Type 0
+Stands roster = (plan : Plan) × (past : List Entry) × StandsFor plan past roster

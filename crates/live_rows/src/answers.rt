@@ -1,6 +1,7 @@
 //! Answers as words.
 use entry_lines::line;
 use live_core::Unmade;
+use live_roster::{Rest, Unrested, Wake};
 use std::alloc::{AllocError, Global};
 use task_base::{Entry, Kind, SeatNo};
 
@@ -36,5 +37,27 @@ pub fn answer_words(
     match answer {
         Ok(kind) => entry_words(alloc, seat, kind),
         Err(why) => unmade_words(alloc, why),
+    }
+}
+
+/// Whether a seat rests, in the words of a row.
+pub fn rest_words(answer: Result<Rest, Unrested>) -> &'static str {
+    match answer {
+        Ok(_) => "rests",
+        Err(Unrested::Misuse) => "misuse",
+        Err(Unrested::HasCome) => "has come",
+    }
+}
+
+/// Who is woken, in the words that a row has behind those of the answer.
+pub fn wake_words(alloc: Global, wake: Wake) -> Result<String, AllocError> {
+    match wake {
+        Wake::Nobody => Ok(String::new(alloc)),
+        Wake::One(woken) => {
+            let seat = woken.seat();
+            woken.spend();
+            format!(in alloc; ", wakes {seat}")
+        }
+        Wake::Everyone => String::from_str(alloc, ", wakes everyone"),
     }
 }

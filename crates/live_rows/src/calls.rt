@@ -1,12 +1,38 @@
 //! Calls by their words.
 use live_core::Call;
 use std::str::FromStr;
+use task_base::SeatNo;
 use value_words::{fence_named, policy_named, priority_named, scope_named, vote_named};
 
-/// The call of a line, and the answer that is wanted of it, if it has both.
-pub fn asked(line: &str) -> Option<(Call, &str)> {
-    let (call, answer) = line.split_once(" -> ")?;
-    Some((call_of(call)?, answer))
+/// What a line asks of a roster.
+#[derive(Clone, Copy, Debug)]
+pub enum Ask {
+    /// A call, by the thread of a seat.
+    Call { by: SeatNo, call: Call },
+    /// The call's seat rests for it.
+    Rest { call: Call },
+}
+
+/// What a line asks, and the answer that is wanted of it, if it has both.
+pub fn asked(line: &str) -> Option<(Ask, &str)> {
+    let (words, answer) = line.split_once(" -> ")?;
+    Some((ask_of(words)?, answer))
+}
+
+/// What these words ask, if they do: a call, by the thread of its own seat unless another seat is named before it, or a rest.
+fn ask_of(words: &str) -> Option<Ask> {
+    if let Some(words) = words.strip_prefix("rest ") {
+        let call = call_of(words)?;
+        return Some(Ask::Rest { call });
+    }
+    if let Some(words) = words.strip_prefix("by ") {
+        let (seat, words) = words.split_once(' ')?;
+        let (by, call) = (number(seat)?, call_of(words)?);
+        return Some(Ask::Call { by, call });
+    }
+    let call = call_of(words)?;
+    let by = call.seat();
+    Some(Ask::Call { by, call })
 }
 
 /// The call that these words make, if they make one: the word of the entry that it asks for, the seat that makes it, where that

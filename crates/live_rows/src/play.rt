@@ -3,14 +3,14 @@ ghost use Rattle.std.specs.Prelude.{IfOk};
 ghost use Rattle.script_model.specs.Laws.Sound.{IsSound};
 ghost use Rattle.live_rows.specs.Stands.{Stands};
 
-use crate::answers::answer_words;
-use crate::calls::asked;
+use crate::answers::{answer_words, rest_words, wake_words};
+use crate::calls::{Ask, asked};
 use anyhow::{Context, Error, Result, bail, ensure};
-use live_core::{Call, LiveCore, Unmade};
+use live_roster::LiveRoster;
 use row_table::{Row, unless_same};
 use std::alloc::{AllocError, Global};
 use std::str;
-use task_base::{Kind, MOST_BYTES, Script};
+use task_base::{MOST_BYTES, Script};
 use task_script::{ScriptFault, read_script};
 
 /// What came of a row.
@@ -64,12 +64,12 @@ fn script_of(alloc: Global, plan: &str) -> Result<Script>
     }
 }
 
-/// Opens a core, and makes the calls on it. Where a note is wanted, that is to be why it is not opened.
+/// Opens a roster, and makes the calls on it. Where a note is wanted, that is to be why it is not opened.
 fn unless_opened(alloc: Global, script: Script, note: &str, calls: &str) -> Result<Option<String>>
     requires { IsSound script }
 {
-    let got = match LiveCore::open(alloc, script) {
-        Ok(live) if note.is_empty() => return unless_answered(alloc, live, calls),
+    let got = match LiveRoster::open(alloc, script) {
+        Ok(roster) if note.is_empty() => return unless_answered(alloc, roster, calls),
         Ok(_) => String::new(alloc),
         Err(error) => format!(in alloc; "{error}")?,
     };
@@ -78,16 +78,16 @@ fn unless_opened(alloc: Global, script: Script, note: &str, calls: &str) -> Resu
 
 /// Makes the calls of these lines, and tells which first has another answer than the one that is wanted of it. Lines are counted
 /// from 1. The error is a line that has no call, or no answer.
-fn unless_answered(alloc: Global, mut live: LiveCore, lines: &str) -> Result<Option<String>>
-    requires { Stands live }
+fn unless_answered(alloc: Global, mut roster: LiveRoster, lines: &str) -> Result<Option<String>>
+    requires { Stands roster }
 {
     let mut number = 0u64;
     for line in lines.lines() {
         number = number.saturating_add(1);
-        let Some((call, wanted)) = asked(line) else {
+        let Some((ask, wanted)) = asked(line) else {
             bail!("line {number}: no call with an answer");
         };
-        let got = answer_words(alloc, call.seat(), answer(&mut live, call))?;
+        let got = got_words(alloc, &mut roster, ask)?;
         if got.as_str() != wanted {
             return Ok(Some(format!(in alloc; "line {number}: wanted {wanted:?}, got {got:?}")?));
         }
@@ -95,11 +95,24 @@ fn unless_answered(alloc: Global, mut live: LiveCore, lines: &str) -> Result<Opt
     Ok(None)
 }
 
-/// The core's answer to a call.
-#[tactic(auto, using(crate::proofs::Stands::stands_after))]
-fn answer(live: &mut LiveCore, call: Call) -> Result<Kind, Unmade>
-    requires { Stands live.old }
-    ensures { Stands live.new }
+/// What came of what a line asks, in words: the answer, and who is woken.
+#[tactic(auto, using(crate::proofs::Stands::stands_called, crate::proofs::Stands::stands_rested))]
+fn got_words(alloc: Global, roster: &mut LiveRoster, ask: Ask) -> Result<String, AllocError>
+    requires { Stands roster.old }
+    ensures { Stands roster.new }
 {
-    live.call(call)
+    match ask {
+        Ask::Call { by, call } => {
+            let (answer, wake) = roster.call(by, call);
+            let woken = wake_words(alloc, wake)?;
+            let words = answer_words(alloc, call.seat(), answer)?;
+            format!(in alloc; "{words}{woken}")
+        }
+        Ask::Rest { call } => {
+            let (answer, wake) = roster.rest(call);
+            let woken = wake_words(alloc, wake)?;
+            let words = rest_words(answer);
+            format!(in alloc; "{words}{woken}")
+        }
+    }
 }
