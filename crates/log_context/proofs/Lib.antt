@@ -1,0 +1,3 @@
+pub mod LastSeen
+pub mod Standing
+pub mod Worked
