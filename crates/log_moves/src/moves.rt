@@ -1,0 +1,91 @@
+ghost use Rattle.std.specs.Prelude.{◌≡◌, ◌∷◌, ◌++◌, [], IfOk, IfSome, is_none};
+ghost use Rattle.script_model.specs.Laws.Sound.{IsSound};
+ghost use Rattle.hist_model.specs.Legal.{is_legal};
+ghost use Rattle.log_moves.specs.Moves.{IsAfter, IsBefore};
+
+use env_check::follow_all;
+use log_replay::Replay;
+use std::alloc::{AllocError, Global};
+use task_base::{Entry, Script};
+
+/// How many places are tried at most, on each side of an entry's own.
+pub const REACH: usize = 64;
+/// After more entries than these no other place is tried, since each try follows them all.
+pub const MOST_BEFORE: usize = 65_536;
+
+/// Before which entry of the past this one might have come: the nearest one, of the last `REACH`. The error is out of memory.
+pub fn place_before(
+    alloc: Global,
+    script: &Script,
+    past: &[Entry],
+    entry: Entry,
+) -> Result<Option<usize>, AllocError>
+    requires { IsSound script.now }
+    ensures { IfOk result (λ found. IfSome found (IsBefore script.now past.now entry)) }
+{
+    if past.len() > MOST_BEFORE {
+        return Ok(None);
+    }
+    for back in 0..REACH.min(past.len()) {
+        let place = past.len() - 1 - back;
+        if is_legal_with(alloc, script, &past[..place], entry)? {
+            return Ok(Some(place));
+        }
+    }
+    Ok(None)
+}
+
+/// After which of the entries that follow it, counted from 0, this one might have come: the nearest one, of the first `REACH`. The
+/// error is out of memory.
+pub fn place_after(
+    alloc: Global,
+    script: &Script,
+    past: &[Entry],
+    entry: Entry,
+    rest: &[Entry],
+) -> Result<Option<usize>, AllocError>
+    requires { IsSound script.now }
+    ensures { IfOk result (λ found. IfSome found (IsAfter script.now past.now entry rest.now)) }
+{
+    if past.len() > MOST_BEFORE {
+        return Ok(None);
+    }
+    let mut log = Vec::new(alloc);
+    log.extend_from_slice(past)?;
+    for n in 0..REACH.min(rest.len()) {
+        log.push(rest[n])?;
+        if is_legal_with(alloc, script, &log, entry)? {
+            return Ok(Some(n));
+        }
+    }
+    Ok(None)
+}
+
+/// Whether these entries and this one after them are legal. The error is out of memory.
+fn is_legal_with(
+    alloc: Global,
+    script: &Script,
+    front: &[Entry],
+    entry: Entry,
+) -> Result<bool, AllocError>
+    requires { IsSound script.now }
+    ensures { IfOk result (λ legal. legal ≡ is_legal script.now (front.now ++ entry ∷ [])) }
+{
+    let mut log = Vec::new(alloc);
+    log.extend_from_slice(front)?;
+    log.push(entry)?;
+    let mut replay = Replay::open(alloc, script)?;
+    let stop = follow_all(&mut replay, script, &log);
+    replay.discard();
+    Ok(is_nowhere(stop))
+}
+
+/// Whether there is no place.
+fn is_nowhere(place: Option<u32>) -> bool
+    ensures { result ≡ is_none place }
+{
+    match place {
+        None => true,
+        Some(_) => false,
+    }
+}
