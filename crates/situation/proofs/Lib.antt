@@ -1,0 +1,13 @@
+pub mod Line
+pub mod Choice
+pub mod Declared
+pub mod Cells
+pub mod Same
+pub mod Ways
+pub mod Coming
+pub mod Told
+pub mod Onward
+pub mod Futures
+pub mod Counts
+pub mod Worked
+pub mod Listed
