@@ -17,50 +17,40 @@ NUMBERS = {
 }
 # Where two entries differ in several numbers, the first of these says most.
 MOST_TELLING = ("R", "Q", "J", "T")
-LETTERS = {"seat": "S", "task": "T", "job": "J", "line": "L"}
+LETTERS = {"seat": "S", "task": "T", "job": "J", "line": "L", "total": "N"}
 ENTRY = re.compile(r"\d+ \d+ ([a-z]+)((?: (?:\d+|-|[a-z_]+))*)")
 VERSION = b"taskenv log 2\n"
 TOTAL = re.compile(rb"(?:^|\n)total \d+\n\Z")
 UNFINISHED = "unfinished: "
 
-# What is said of a run: its cause, which is empty where it is legal; and what was judged, with what `explain` says of that.
-Finding = namedtuple("Finding", "cause judged is_beginning explanation")
+# What is said of a run: its cause, which is empty where it is legal; whether it was judged as a beginning; and what `explain` says.
+Finding = namedtuple("Finding", "cause is_beginning explanation")
 
 
 def finding(ask: Callable[[list[str], bytes, bytes], tuple[int, bytes]], script: bytes, played: Played) -> Finding:
     """What is to be said of a run. One that did not end well, or left no whole log, is judged as a beginning. `ask` runs the program
     with some words on a script and a log: its status, and what it writes."""
-    at = played.log.rfind(b"\n") + 1
-    log, half = played.log[:at], played.log[at:]
-    is_cut = log.startswith(VERSION) and not TOTAL.search(log)
-    if not played.log:
-        return Finding(f"{played.end or 'ended with status 0'}, and wrote no log", b"", True, b"")
-    fault = "the log ends within a line" if half else "the log ends without its total" if is_cut else ""
-    is_beginning = bool(half or is_cut)
-    judged = _with_total(log) if is_cut else log
-    status, said = ask(["check", "--prefix"] if is_beginning else ["explain"], script, judged)
-    if status == 1 and is_beginning:
-        said = ask(["explain"], script, judged)[1]
-    why = "" if status == 0 else _why(said.decode("latin-1"), judged)
+    log = played.log
+    if not log:
+        return Finding(f"{played.end or 'ended with status 0'}, and wrote no log", True, b"")
+    has_no_total = log.startswith(VERSION) and not TOTAL.search(log)
+    fault = "the log ends within a line" if not log.endswith(b"\n") else "the log ends without its total" if has_no_total else ""
+    is_beginning = bool(fault)
+    status, said = ask(["explain", "--prefix"] if is_beginning else ["explain"], script, log)
+    why = "" if status == 0 else _why(said.decode("latin-1"), log)
     if status == 1 and not is_beginning and played.end and why.startswith(UNFINISHED):
         status, why, is_beginning = 0, "", True
     if not played.end and not fault:
-        return Finding(why, judged, is_beginning, said)
+        return Finding(why, is_beginning, said)
     legal = "its log is legal and whole"
     if is_beginning:
-        legal = "what it wrote is legal as far as it goes" if judged else "no line of it is whole"
-    return Finding("; ".join(filter(None, [played.end or fault, why or legal])), judged, is_beginning, said)
-
-
-def _with_total(log: bytes) -> bytes:
-    """A beginning with the total that it would have, were it all."""
-    return log + b"total %d\n" % (log.count(b"\n") - 1)
+        legal = "what it wrote is legal as far as it goes" if b"\n" in log else "no line of it is whole"
+    return Finding("; ".join(filter(None, [played.end or fault, why or legal])), is_beginning, said)
 
 
 def _why(said: str, log: bytes) -> str:
-    """The sentence of `explain`, and what the log has on that line instead."""
-    verdict, _, sentence = said.partition("\n")
-    sentence = sentence.strip()
+    """The sentence of `explain`, which is its second line, and what the log has on that line instead."""
+    verdict, sentence = [line.strip() for line in [*said.split("\n"), ""][:2]]
     wanted = ENTRY.search(sentence)
     if sentence.startswith(UNFINISHED):
         return _lettered(sentence.partition(";")[0].partition(":")[0] + ": " + _unfinished(sentence[len(UNFINISHED) :]))
@@ -81,7 +71,7 @@ def _unfinished(sentence: str) -> str:
 def _lettered(sentence: str) -> str:
     """The sentence without numbers. Seat 0 is the driver in each run, so it stays."""
     sentence = re.sub(r"[:;] (?:at work|seats inside|what blocks it): \d+(; something may be taken)?", "", sentence)
-    sentence = re.sub(r"\b(seat|task|job|line) (\d+)", lambda it: f"{it[1]} {LETTERS[it[1]] if it[0] != 'seat 0' else 0}", sentence)
+    sentence = re.sub(r"\b(seat|task|job|line|total) (\d+)", lambda it: f"{it[1]} {LETTERS[it[1]] if it[0] != 'seat 0' else 0}", sentence)
     return re.sub(r"; something may be taken$", "", sentence)
 
 

@@ -1,6 +1,6 @@
 """The mode judge: plays scripts on another pool, again and again, and says why its logs are wrong, by their causes.
 
-Each run's log is judged by the program, with `explain`, or where the run did not end well with `check --prefix`."""
+Each run's log is judged by the program, with `explain`, or where the run left no whole log with `explain --prefix`."""
 from __future__ import annotations
 
 import json
@@ -12,6 +12,8 @@ from collections.abc import Callable, Iterable, Iterator
 
 import causes
 import inputs
+import page
+import picture
 import running
 import shrinking
 from causes import Finding
@@ -22,6 +24,8 @@ from runs import STOPPED, WRITE_FAULT, Over, Shown, Stopped, is_written, many, p
 SOME_FAILED, NOTHING_JUDGED = 1, 2
 # What holds where no option says it.
 DEFAULTS = {"--runs": "100", "--timeout": "20", "--keep": "judged"}
+# How many bytes of a log are drawn at most.
+MOST_DRAWN = 1 << 20
 # By what the name of a log may go on after that of its script.
 PARTING = (".", "-", "_")
 
@@ -127,8 +131,7 @@ class Judging(Shown):
 
     def ask(self, words: list[str], script: bytes, log: bytes | None = None) -> tuple[int, bytes]:
         """Runs the program on a script, or on a script and a log: its status, and what it writes."""
-        parted = script if log is None else script + (b"" if script.endswith(b"\n") else b"\n") + b"%%\n" + log
-        status, said = running.ask([self.file, *words], parted, 1, is_apart=True)
+        status, said = running.ask([self.file, *words], script if log is None else _joined(script, log), 1, is_apart=True)
         # What stops this call may stop a program that is just being started, too.
         if status not in (0, 1) and self.stopped.wait(0.5):
             raise Stopped
@@ -202,10 +205,10 @@ class Judging(Shown):
         """Keeps the first failure of a group in a folder of its own."""
         case = group.first
         files = {"script.task": case.script.text, "log": case.played.log, "explanation": case.found.explanation}
-        if case.found.is_beginning and case.found.judged:
-            files["beginning"] = case.found.judged
         if case.played.said:
             files["said"] = case.played.said
+        if drawn := self._picture(case):
+            files["picture.html"] = drawn
         try:
             group.folder = _new_folder(self.keep)
             for name, data in {**files, "how": self._how(group, case).encode("utf-8", "backslashreplace")}.items():
@@ -214,11 +217,20 @@ class Judging(Shown):
             self.clear()
             say(f"the first failure can't be kept: {error.filename or self.keep}: {error.strerror}")
 
+    def _picture(self, case: Case) -> bytes:
+        """The page of the mode picture, of a log that is not too long for one."""
+        if not 0 < len(case.played.log) <= MOST_DRAWN:
+            return b""
+        try:
+            told = picture.stories([(case.name, _joined(case.script.text, case.played.log))], self.ask)
+        except (CannotJudge, Stopped):
+            return b""
+        return page.page(told) if told else b""
+
     def _how(self, group: Group, case: Case) -> str:
         """How the failure came to be, and how to judge it again."""
         it = shlex.quote(os.path.abspath(self.launcher))
-        log = "beginning" if case.found.is_beginning else "log"
-        check = "check --prefix" if case.found.is_beginning else "check"
+        prefix = " --prefix" if case.found.is_beginning else ""
         lines = [f"cause: {group.cause}", f"script: {case.script.name}, kept here as script.task"]
         if self.logs is not None:
             lines.append(f"log: {os.path.join(self.logs, case.name)}, kept here as log")
@@ -227,11 +239,9 @@ class Judging(Shown):
             lines.append(f"it {case.played.end or 'ended with status 0'}")
         if case.played.said:
             lines.append("what else it said is kept here as said")
-        if log == "beginning" and case.found.judged:
-            lines.append("beginning: the whole lines of the log, with their total where that was missing, as they were judged")
-        if case.found.judged:
+        if case.played.log:
             lines += ["", "To judge it again, in this folder:", ""]
-            lines += [f"  {it} {check} script.task {log}", f"  {it} explain script.task {log}"]
+            lines += [f"  {it} {mode}{prefix} script.task log" for mode in ("check", "explain")]
         return "\n".join(lines) + "\n"
 
     # ---- shrinking
@@ -264,7 +274,7 @@ class Judging(Shown):
         return self._json() if self.is_json else self._text()
 
     def _text(self) -> str:
-        """A line that counts, and one for each group."""
+        """A line that counts, and one for each group, with what `explain` says of its first failure besides why."""
         what = "log" if self.logs is not None else "run"
         stopped = f"stopped after {self.count:,} of {many(self.total, what)}\n" if self.count < self.total else ""
         if not self.count:
@@ -276,6 +286,8 @@ class Judging(Shown):
         for group in self._sorted():
             kept = f" (the first, {group.first.name}, in {group.folder})" if group.folder else f" (the first: {group.first.name})"
             text += f"  {group.count:{width},}  {group.cause}{kept}\n"
+            context = group.first.found.explanation.decode("latin-1").splitlines()[2:]
+            text += "".join(f"{'':{width + 6}}{line}\n" for line in context)
         for group in filter(lambda it: it.shrunk, self._sorted()):
             text += f"\n{group.shrunk.says()}"
         return text
@@ -302,6 +314,11 @@ def script_of(name: str, scripts: list[Script]) -> Script | None:
         if is_so_called and (found is None or len(begin) > len(found[0])):
             found = begin, script
     return found[1] if found else None
+
+
+def _joined(script: bytes, log: bytes) -> bytes:
+    """A script with a log after it."""
+    return script + (b"" if script.endswith(b"\n") else b"\n") + b"%%\n" + log
 
 
 def _new_folder(parent: str) -> str:

@@ -173,20 +173,19 @@ def stories(data: list[tuple[str, bytes]], ask: Callable[[list[str], bytes], tup
             # Where a line is none of a log, no one has judged the entries before it.
             beginning = _beginning(log, faults[0].line)
             before = (script if script.endswith(b"\n") or not script else script + b"\n") + b"%%\n" + beginning
-            if ask(["check", "--prefix"], before)[0] == 1:
-                faults.append(_fault(ask(["explain"], before)[1]))
+            status, said = ask(["explain", "--prefix"], before)
+            if status == 1:
+                faults.append(_fault(said))
         told.append(Story(name, Script(script), log, faults))
     return told
 
 
 def _fault(said: bytes) -> Fault:
-    """What `explain` says of a wrong log."""
-    first, _, words = said.decode("latin-1").strip().partition("\n")
+    """What `explain` says of a wrong log: on its second line is why."""
+    first, words = [*said.decode("latin-1").strip().split("\n"), ""][:2]
     return Fault(int(first.split()[1]), words)
 
 
 def _beginning(log: bytes, line: int) -> bytes:
-    """The whole lines of the log before a line, as a log of their own."""
-    lines = [it + b"\n" for it in log.split(b"\n")[: line - 1]]
-    entries = [it for it in lines if it[:1].isdigit()]
-    return HEAD + b"".join(entries) + b"total %d\n" % len(entries) if log.startswith(HEAD) else b"".join(entries)
+    """The whole lines of the log before a line."""
+    return b"".join(it + b"\n" for it in log.split(b"\n")[: line - 1])

@@ -27,6 +27,12 @@ OPTIONS = {
     "--full": Option(None, None, "the events say all that the log and the script tell, with flows, marks and counters"),
     "--number": Option("N", (0, 2 ** 64 - 1), "what the script is made from, by default 0"),
     "--size": Option("N", (1, 8192), "how many tasks it has, by default 16"),
+    "--wide": Option(None, None, "a script with everything that a script may have"),
+    "--no-jobs": Option(None, None, "a wide script without jobs"),
+    "--no-main": Option(None, None, "one without main queues"),
+    "--no-delays": Option(None, None, "one without delays and ticks"),
+    "--no-scopes": Option(None, None, "one whose tasks don't block"),
+    "--no-shutdown": Option(None, None, "one without a shutdown"),
     "--work": Option("N", (0, 10 ** 9), "how many nanoseconds each task of the pool works, by default 0"),
     "--runs": Option("N", (1, 10 ** 6), "how often each script is played, by default 100"),
     "--jobs": Option("N", (1, 256), "how many runs go on at once, by default one for each processor"),
@@ -43,7 +49,8 @@ SAYS = {
 }
 # Which options do not go together, and which of a mode goes with another one alone.
 APART = (("--replies", "--nest"), ("--step", "--jump"), ("--seed", "--seeds"))
-NEEDED = {("run", "--seed"): "--shake", ("simulate", "--keep"): "--seeds"}
+LEAVES_OUT = ("--no-jobs", "--no-main", "--no-delays", "--no-scopes", "--no-shutdown")
+NEEDED = {("run", "--seed"): "--shake", ("simulate", "--keep"): "--seeds", **{("gen", option): "--wide" for option in LEAVES_OUT}}
 # So many seeds are run at most.
 MOST_SEEDS = 1_000_000
 # What a number counts, where it is a time.
@@ -73,7 +80,7 @@ MODES = {
                      RUNS, "{it} simulate --seeds 0..999 {at}/race.task"),
     "check": Mode(("SCRIPT", "LOG"), ("--prefix",), "reads a script and a log, and writes whether the rules allow that log",
                   JUDGES, "{it} check {at}/first_run.task {at}/first_run.log"),
-    "explain": Mode(("SCRIPT", "LOG"), ("--json",), "reads a script and a log, and writes why a wrong log is wrong",
+    "explain": Mode(("SCRIPT", "LOG"), ("--json", "--prefix"), "reads a script and a log, and writes why a wrong log is wrong",
                     JUDGES, "sed 's/end 0 5/end 0 6/' {at}/first_run.log | {it} explain {at}/first_run.task -"),
     "judge": Mode(("SCRIPT..", "-- COMMAND.."), ("--runs", "--jobs", "--timeout", "--keep", "--json", "--shrink", "--logs"),
                   "plays scripts on another pool, again and again, and writes why its logs are wrong",
@@ -89,7 +96,7 @@ MODES = {
                  RUNS, "{it} nest {at}/nested.nest"),
     "lint": Mode(("SCRIPT",), ("--replies", "--nest"), "reads a script, and writes which word of it is bad, and why",
                  "0 it is a script   1 it is none", "echo 'worker 2' | {it} lint"),
-    "gen": Mode((), ("--number", "--size"), "makes a script from a number, and writes it",
+    "gen": Mode((), ("--number", "--size", "--wide", *LEAVES_OUT), "makes a script from a number, and writes it",
                 MAKES, "{it} gen --size 2"),
     "bench": Mode((), ("--number", "--size", "--work"), "makes the script that gen makes, runs it, and writes what its log adds up to",
                   MAKES, "{it} bench --size 2"),
@@ -272,7 +279,7 @@ def _faults_of(parts: list[Part], mode: str | None) -> Iterator[str]:
     yield from (f"{one} and {other} do not go together" for one, other in APART if {one, other} <= seen)
     for (needing, option), needed in NEEDED.items():
         if needing == mode and option in seen and needed not in seen:
-            yield f"{mode} takes {option} with {needed} alone: {needed} {OPTIONS[needed].value}"
+            yield f"{mode} takes {option} with {needed} alone" + (f": {_with_value(needed)}" if OPTIONS[needed].value else "")
     if mode == "judge":
         yield from _faults_of_judge(parts, named[1:], seen)
     else:
