@@ -51,10 +51,18 @@ def cut_down(case, wrong):
     return lines
 
 
+def script_of(program, rng):
+    """A script of the whole language; one of four is a wide one of the program's own."""
+    if rng.random() < 0.75:
+        return random_script(rng)
+    words = ["gen", "--wide", "--number", str(rng.randrange(2**64)), "--size", str(rng.choice([1, 4, 16, 64]))]
+    return program.run(words + rng.sample(cases.LEFT_OUT, rng.choice([0, 0, 1, 2])), b"").output.decode().splitlines()
+
+
 def case_of(program, seed, number):
     """The input of this number."""
     rng = random.Random(f"{seed} {number}")
-    kind, lines, choices = rng.choice(cases.KINDS), random_script(rng), rng.random()
+    kind, lines, choices = rng.choice(cases.KINDS), script_of(program, rng), rng.random()
     return kind(program, lines, lambda: random.Random(choices))
 
 

@@ -9,6 +9,7 @@ from scripts import spelled_anew, text_of
 
 MARK = b"%%\n"
 FAVOURS = ("driver", "workers", "none")
+LEFT_OUT = ("--no-jobs", "--no-main", "--no-delays", "--no-scopes", "--no-shutdown")
 BYTES = b" \t\r\n;#%-0123456789abc\x00\x80\xff"
 
 
