@@ -1,0 +1,4 @@
+pub mod EventWords
+pub mod EventLines
+pub mod Latest
+mod Worked
