@@ -1,0 +1,11 @@
+pub mod Places
+pub mod Own
+pub mod Times
+pub mod Ruled
+pub mod Linked
+pub mod Steps
+pub mod Tried
+pub mod Turned
+pub mod Merged
+pub mod Seated
+pub mod Worked

@@ -1,0 +1,9 @@
+use Rattle.order_search.proofs.Merged.{arranged_other}
+use Rattle.order_search.proofs.orders.arrange.Goals as goal
+
+pub search-requires-clause-task : goal.search-requires-clause-task
+search-requires-clause-task c = c.in_ok-tries.ensures.task c.args.prefix
+
+pub returns : goal.returns
+returns c = arranged_other c.args.script.now c.args.prefix c.in_ok-tries.tries.events.items c.args.seen.now c.in_ok-found.found c.in_ok-tries.ensures.own
+    c.in_ok-found.ensures

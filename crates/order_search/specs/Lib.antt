@@ -1,0 +1,5 @@
+pub mod Arranged
+pub mod Places
+pub mod Seats
+pub mod Walk
+pub mod Search
