@@ -9,4 +9,4 @@ mod plain;
 
 pub use json::told_json;
 pub use mistakes::{mistake_json, mistake_text};
-pub use plain::told_text;
+pub use plain::{cause_text, told_text};

@@ -32,6 +32,17 @@ pub fn told_text(log: &[Entry], told: &Explanation) -> Line
     line
 }
 
+/// What stands against an entry of a seat at a place, and the entry that may come there instead, if one is named: one line of at most
+/// 256 bytes.
+pub fn cause_text(place: Place, seat: SeatNo, cause: &Cause) -> Line
+    ensures items { result.items ≡ cause_line place seat cause.now }
+    ensures short { length result.items ≤ 256 }
+{
+    let mut line = Line::new();
+    add_cause(&mut line, place, seat, cause);
+    line
+}
+
 /// The seat of the entry at a place, or 0 where there is none.
 pub(crate) fn seat_at(log: &[Entry], place: Place) -> SeatNo
     ensures { result ≡ seat_of (slice_get log.now place) }
@@ -122,7 +133,8 @@ fn add_short(line: &mut Line, number: u32)
 /// Adds the cause, and the entry that it names.
 fn add_cause(line: &mut Line, place: Place, seat: SeatNo, cause: &Cause)
     requires { length line.old.items ≤ 12 }
-    ensures { line.new.items ≡ line.old.items ++ cause_line place seat cause.now }
+    ensures items { line.new.items ≡ line.old.items ++ cause_line place seat cause.now }
+    ensures short { length line.new.items ≤ 256 }
 {
     add_words(line, seat, cause);
     match named_by(cause) {
