@@ -1,0 +1,3 @@
+pub mod Answers
+pub mod Bad
+pub mod Said

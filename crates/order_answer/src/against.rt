@@ -1,0 +1,109 @@
+ghost use Rattle.std.specs.Prelude.{◌≡◌, ℕ, ◌++◌, ◌<◌, ◌≤◌, ◌^◌, [], List, length, IfOk, OnOk};
+ghost use Rattle.std.specs.Option.{option_to_list};
+ghost use Rattle.task_base.specs.declared.limits.TheConstants.{MOST_WORKERS};
+ghost use Rattle.script_model.specs.Laws.Sound.{IsSound};
+ghost use Rattle.hist_model.specs.Legal.{IsLegal};
+ghost use Rattle.order_model.specs.Orders.{entries_of};
+ghost use Rattle.order_answer.specs.Said.{AreAgainst, IsAgainst, next_events, next_of};
+
+use crate::said::log_of;
+use env_explain::explain_log;
+use explain_text::told_text;
+use order_explain::stuck_at;
+use order_model::Event;
+use order_text::stuck_text;
+use std::alloc::{AllocError, Global};
+use task_base::{Place, Script, SeatNo};
+
+/// Adds what stands against going on after these events: of the next event of each seat that has one left, or else what is left to be
+/// done. The error is out of memory.
+pub(crate) fn add_against(
+    alloc: Global,
+    said: &mut Vec<u8>,
+    script: &Script,
+    events: &[Event],
+    rest: &[Event],
+) -> Result<(), AllocError>
+    requires plan { IsSound script.now }
+    requires legal { IsLegal script.now (entries_of events.now) }
+    requires few { length events.now < 2 ^ 32 }
+    ensures { OnOk result ((lines : List ℕ) × IsAgainst script.now events.now rest.now lines × (said.new.items ≡ said.old.items ++ lines)) }
+{
+    if rest.is_empty() {
+        add_end(alloc, said, script, events)
+    } else {
+        let next = next_events(alloc, script.workers, rest)?;
+        add_each(alloc, said, script, events, rest, &next)
+    }
+}
+
+/// Adds what is left to be done after all events. The error is out of memory.
+fn add_end(
+    alloc: Global,
+    said: &mut Vec<u8>,
+    script: &Script,
+    events: &[Event],
+) -> Result<(), AllocError>
+    requires plan { IsSound script.now }
+    ensures { OnOk result ((lines : List ℕ) × IsAgainst script.now events.now [] lines × (said.new.items ≡ said.old.items ++ lines)) }
+{
+    let log = log_of(alloc, events)?;
+    let told = explain_log(alloc, script, &log)?;
+    said.extend_from_slice(&told_text(log.as_slice(), &told))
+}
+
+/// Adds what stands against each of these. The error is out of memory.
+fn add_each(
+    alloc: Global,
+    said: &mut Vec<u8>,
+    script: &Script,
+    events: &[Event],
+    rest: &[Event],
+    next: &[Event],
+) -> Result<(), AllocError>
+    requires plan { IsSound script.now }
+    requires legal { IsLegal script.now (entries_of events.now) }
+    requires few { length events.now < 2 ^ 32 }
+    ensures { OnOk result ((lines : List ℕ) × AreAgainst script.now events.now rest.now next.now lines × (said.new.items ≡ said.old.items ++ lines)) }
+{
+    for event in next {
+        let stuck = stuck_at(alloc, script, events, rest, event)?;
+        stuck_text(said, events.len() as Place, event, &stuck)?;
+    }
+    Ok(())
+}
+
+/// Of each seat the first of these events, in the order of the seats. The error is out of memory.
+fn next_events(alloc: Global, workers: u32, rest: &[Event]) -> Result<Vec<Event>, AllocError>
+    requires { workers ≤ MOST_WORKERS }
+    ensures { IfOk result (λ next. next.items ≡ next_events workers rest.now) }
+{
+    let mut next = Vec::new(alloc);
+    for seat in 0..workers + 1 {
+        push_some(&mut next, next_of(rest, seat))?;
+    }
+    Ok(next)
+}
+
+/// Adds an event, if there is one. The error is out of memory.
+fn push_some(events: &mut Vec<Event>, event: Option<Event>) -> Result<(), AllocError>
+    ensures { OnOk result (events.new.items ≡ events.old.items ++ option_to_list event) }
+{
+    match event {
+        None => {}
+        Some(event) => events.push(event)?,
+    }
+    Ok(())
+}
+
+/// The first of these events that is of this seat.
+fn next_of(rest: &[Event], seat: SeatNo) -> Option<Event>
+    ensures { result ≡ next_of seat rest.now }
+{
+    for event in rest {
+        if event.entry.seat == seat {
+            return Some(*event);
+        }
+    }
+    None
+}
