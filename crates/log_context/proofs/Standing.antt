@@ -1,14 +1,15 @@
 -- Each entry that a fact shows stands in the log at its place.
--- Cited by `context_of`.
+-- Cited by `context_at_end`, `context_of`.
 use Rattle.std.proofs.Common.{◌≡◌, ℕ, Bool, true, false, List, [], ◌∷◌, ◌++◌, append-nil, append_assoc, flat_map, length, subst}
 use Rattle.std.proofs.Common.{Option, Some, None, IfSome}
-use Rattle.std.proofs.lemmas.List.Elements.{All-append, All-cons, All-nil}
+use Rattle.std.proofs.lemmas.List.Elements.{All-append, All-cons, All-from_recursion, All-nil, recursion_from_All}
 use Rattle.std.specs.List.{range_with_len}
 use Rattle.std.specs.Option.{option_map, option_or, option_to_list}
-use Rattle.std.specs.Prelude.{◌==◌, All, if◌then◌else◌, option_and_then, slice_get}
-use Rattle.list_laws.proofs.Elements.{slice_get-end}
+use Rattle.std.specs.Prelude.{◌==◌, ◌&&◌, All, if◌then◌else◌, nat_lt, option_and_then, slice_get}
+use Rattle.list_laws.proofs.Elements.{AllByRecursion-map, slice_get-end}
 use Rattle.list_laws.proofs.Places.{slice_get-more}
 use Rattle.list_laws.specs.Lists.{keep}
+use Rattle.task_base.specs.Groups.{group_of, is_best_effort}
 use Rattle.task_base.specs.Plan.{Plan}
 use Rattle.task_base.specs.declared.entry.Entry.{Entry}
 use Rattle.task_base.specs.declared.entry.Kind.{Kind}
@@ -16,25 +17,35 @@ use Rattle.task_base.specs.declared.entry.Kind.TheVariants as kinds
 use Rattle.task_base.specs.declared.script.Runner.{Runner}
 use Rattle.task_base.specs.declared.script.RunnerKind.{RunnerKind}
 use Rattle.task_base.specs.declared.script.RunnerKind.TheVariants as runners
+use Rattle.task_traits.specs.declared.traits.Priority.{Priority}
 use Rattle.task_model.specs.Capacity.{priority_of}
 use Rattle.task_model.specs.Past.{fold_past, fold_past_from}
-use Rattle.log_context.specs.Context.{StandsIn, at_work, context_of, itself, limits, told_of, works_on}
+use Rattle.log_context.specs.Context.{StandsIn, at_work, context_of, itself, limits, rooms, told_of, waited_for, works_on}
 use Rattle.log_context.specs.declared.context.TheConstants.{SEATS_SHOWN}
+use Rattle.log_context.specs.declared.context.Waits.{Waits}
+use Rattle.log_context.specs.declared.context.Waits.TheVariants as waits
 use Rattle.log_context.specs.Marks.{is_marked}
 use Rattle.log_context.specs.Posts.{posted, taken}
 use Rattle.log_context.specs.Queues.{closed, fence, queue_of, voted_off}
+use Rattle.log_context.specs.Rooms.{best_of, counted_by, first_room, limit_of, room, second_room}
 use Rattle.log_context.specs.Seats.{busy, elsewhere, ended_or_taken, starts_work}
 use Rattle.log_context.specs.Seen.{last_marked, seen_after, stands_as, tells}
 use Rattle.log_context.specs.Sources.{behaves, due_by, forbids, holds_back, is_of_parallel, left_by, only_seat, only_seat_of, priorities_by, ripens}
 use Rattle.log_context.specs.Sources.{sequence, stopped, task_of_take}
+use Rattle.log_context.specs.Sought.{known_after, known_in, known_of, posts_sought, role_of}
 use Rattle.log_context.specs.declared.fact.Fact.{Fact}
 use Rattle.log_context.specs.declared.fact.Fact.TheVariants as facts
+use Rattle.log_context.specs.declared.fact.Limit.{Limit}
+use Rattle.log_context.specs.declared.fact.Limit.TheVariants as limit_kinds
 use Rattle.log_context.specs.declared.fact.Role.{Role}
 use Rattle.log_context.specs.declared.fact.Role.TheVariants as roles
 use Rattle.log_context.specs.declared.mark.Mark.{Mark}
 use Rattle.log_context.specs.declared.mark.Mark.TheVariants as marks
 use Rattle.log_context.specs.declared.mark.Plain.TheVariants as plains
 use Rattle.log_context.specs.declared.seen.Seen.{Seen}
+use Rattle.log_context.specs.declared.sought.Sought.{Sought}
+use Rattle.log_context.specs.declared.sought.Sought.TheVariants as sorts
+use Rattle.log_context.specs.declared.sought.TheConstants.{MOST_SEARCHED, TASKS_SHOWN}
 
 -- what was seen stands there
 abbrev IsThere : List Entry → Seen → Type 0
@@ -188,13 +199,13 @@ add log None rest is all = all
 add log (Some x) rest is all = All-cons (StandsIn log) x rest is all
 
 -- what stands in the past stands in the log that goes on
+further : (past : List Entry) (e : Entry) (fact : Fact) → StandsIn past fact → StandsIn (past ++ e ∷ []) fact
+further past e (facts.Stands role place there) stands = slice_get-more past (e ∷ []) place there stands
+further past e fact stands = tt
+
 up : (past : List Entry) (e : Entry) (o : Option Fact) → IfSome o (StandsIn past) → IfSome o (StandsIn (past ++ e ∷ []))
 up past e None is = tt
-up past e (Some f) is = by_fact f is
-  where
-    by_fact : (x : Fact) → StandsIn past x → StandsIn (past ++ e ∷ []) x
-    by_fact (facts.Stands role place there) stands = slice_get-more past (e ∷ []) place there stands
-    by_fact x stands = tt
+up past e (Some f) is = further past e f is
 
 told_stands : (script : Plan) (past : List Entry) (e : Entry) (named : Option Kind) → All (StandsIn (past ++ e ∷ [])) (told_of script past e named)
 told_stands script past e named =
@@ -231,18 +242,82 @@ at_work_stands past = of_seats (range_with_len 0 SEATS_SHOWN)
     of_seats (seat ∷ seats) = add past (busy roles.Works past seat) (flat_map (works_on past) seats)
         (told_kept past roles.Works (marks.Work seat) _) (of_seats seats)
 
--- each entry that is shown stands at its place, the one that may not come among them
-pub all_stand : (script : Plan) (past : List Entry) (e : Entry) (named : Option Kind) (waits : Bool)
-    → All (StandsIn (past ++ e ∷ [])) (context_of script past e named waits)
-all_stand script past e named waits =
-    let log : List Entry = past ++ e ∷ [] in
-    All-append (StandsIn log) (told_of script past e named) _ (told_stands script past e named) (by_waits waits)
-  where
-    seats_up : (seats : List ℕ) → All (StandsIn (past ++ e ∷ [])) (flat_map (works_on past) seats)
-    seats_up [] = All-nil (StandsIn (past ++ e ∷ []))
-    seats_up (seat ∷ seats) = add (past ++ e ∷ []) (busy roles.Works past seat) (flat_map (works_on past) seats)
-        (up past e (busy roles.Works past seat) (told_kept past roles.Works (marks.Work seat) _)) (seats_up seats)
+-- what holds of each of a list, and has a consequence
+carried : (P Q : Fact → Type 0) (xs : List Fact) → ((x : Fact) → P x → Q x) → All P xs → All Q xs
+carried P Q xs f all = All-from_recursion Q xs (AllByRecursion-map P Q xs f (recursion_from_All P xs all))
 
-    by_waits : (w : Bool) → All (StandsIn (past ++ e ∷ [])) (if w then limits script ∷ at_work past else [])
-    by_waits true = All-cons (StandsIn (past ++ e ∷ [])) (limits script) (at_work past) tt (seats_up (range_with_len 0 SEATS_SHOWN))
-    by_waits false = All-nil (StandsIn (past ++ e ∷ []))
+-- the posts that are looked for
+known_after_stand : (script : Plan) (past : List Entry) (sought : Sought) (before : List Entry) (known : List Fact) (e : Entry)
+    → All (StandsIn before) known → All (StandsIn (before ++ e ∷ [])) (known_after script past sought before known e)
+known_after_stand script past sought before known e all = by_test (nat_lt (length known) TASKS_SHOWN && posts_sought script past sought e.kind)
+  where
+    more : All (StandsIn (before ++ e ∷ [])) known
+    more = carried (StandsIn before) (StandsIn (before ++ e ∷ [])) known (further before e) all
+
+    by_test : (b : Bool) → All (StandsIn (before ++ e ∷ [])) (if b then known ++ facts.Stands (role_of sought) (length before) e ∷ [] else known)
+    by_test true = All-append (StandsIn (before ++ e ∷ [])) known _ more
+        (All-cons (StandsIn (before ++ e ∷ [])) (facts.Stands (role_of sought) (length before) e) [] (slice_get-end before e)
+        (All-nil (StandsIn (before ++ e ∷ []))))
+    by_test false = more
+
+known_from_stand : (script : Plan) (past : List Entry) (sought : Sought) (before : List Entry) (known : List Fact) (rest : List Entry)
+    → All (StandsIn before) known → All (StandsIn (before ++ rest)) (fold_past_from (known_after script past sought) before known rest)
+known_from_stand script past sought before known [] all = rw (append-nil before) all
+known_from_stand script past sought before known (e ∷ rest) all =
+    subst (λ (l : List Entry). All (StandsIn l) (fold_past_from (known_after script past sought) (before ++ e ∷ [])
+    (known_after script past sought before known e) rest)) (append_assoc before (e ∷ []) rest)
+    (known_from_stand script past sought (before ++ e ∷ []) (known_after script past sought before known e) rest
+    (known_after_stand script past sought before known e all))
+
+known_stand : (script : Plan) (past : List Entry) (sought : Sought) → All (StandsIn past) (known_of script past sought)
+unfolding known_in fold_past
+known_stand script past sought = by_length (nat_lt MOST_SEARCHED (length past))
+  where
+    by_length : (b : Bool) → All (StandsIn past) (if b then [] else known_in script past sought past)
+    by_length true = All-nil (StandsIn past)
+    by_length false = known_from_stand script past sought [] [] past (All-nil (StandsIn []))
+
+-- what runs by the limits is no entry
+rooms_stand : (script : Plan) (past : List Entry) (kind : Kind) → All (StandsIn past) (rooms script past kind)
+rooms_stand script past kind =
+    All-append (StandsIn past) (flat_map option_to_list (first_room script past kind ∷ second_room script past kind ∷ Some (limits script) ∷ [])) _
+    (add past (first_room script past kind) _ (first (counted_by script past kind))
+    (add past (second_room script past kind) _ (second (counted_by script past kind))
+    (All-cons (StandsIn past) (limits script) [] tt (All-nil (StandsIn past)))))
+    (at_work_stands past)
+  where
+    is_none : (limit : Limit) → StandsIn past (room script past limit)
+    is_none limit_kinds.Foreground = tt
+    is_none limit_kinds.BestEffort = tt
+    is_none limit_kinds.Background = tt
+
+    first : (o : Option Priority) → IfSome (option_map (λ p. room script past (limit_of (group_of script p))) o) (StandsIn past)
+    first None = tt
+    first (Some p) = is_none (limit_of (group_of script p))
+
+    of_best : (o : Option Limit) → IfSome (option_map (room script past) o) (StandsIn past)
+    of_best None = tt
+    of_best (Some limit) = is_none limit
+
+    second : (o : Option Priority) → IfSome (option_and_then (λ p. option_map (room script past) (best_of (group_of script p) (is_best_effort p))) o)
+        (StandsIn past)
+    second None = tt
+    second (Some p) = of_best (best_of (group_of script p) (is_best_effort p))
+
+-- what an entry waits for
+waited_stand : (script : Plan) (past : List Entry) (kind : Kind) (w : Waits) → All (StandsIn past) (waited_for script past kind w)
+waited_stand script past kind waits.Nothing = All-nil (StandsIn past)
+waited_stand script past kind waits.Room = rooms_stand script past kind
+waited_stand script past kind waits.Work = at_work_stands past
+waited_stand script past kind waits.Idle =
+    All-append (StandsIn past) (known_of script past sorts.Waiting) _ (known_stand script past sorts.Waiting) (at_work_stands past)
+waited_stand script past kind waits.Shutdown =
+    All-append (StandsIn past) (known_of script past sorts.Blocking) _ (known_stand script past sorts.Blocking) (at_work_stands past)
+
+-- each entry that is shown stands at its place, the one that may not come among them
+pub all_stand : (script : Plan) (past : List Entry) (e : Entry) (named : Option Kind) (w : Waits)
+    → All (StandsIn (past ++ e ∷ [])) (context_of script past e named w)
+all_stand script past e named w =
+    let log : List Entry = past ++ e ∷ [] in
+    All-append (StandsIn log) (told_of script past e named) _ (told_stands script past e named)
+    (carried (StandsIn past) (StandsIn log) (waited_for script past e.kind w) (further past e) (waited_stand script past e.kind w))

@@ -6,6 +6,7 @@ use Rattle.task_base.specs.Entries.{entry_by as by}
 use Rattle.task_base.specs.declared.entry.Entry.{Entry}
 use Rattle.task_base.specs.declared.entry.Kind.TheVariants as kinds
 use Rattle.task_base.specs.declared.policy.Policy.TheVariants as policies
+use Rattle.task_base.specs.declared.step.Scope.TheVariants as scopes
 use Rattle.task_base.specs.declared.script.FenceAt.TheVariants as fences
 use Rattle.task_base.specs.declared.script.Runner.{Runner}
 use Rattle.task_base.specs.declared.script.RunnerKind.{RunnerKind}
@@ -13,15 +14,19 @@ use Rattle.task_base.specs.declared.script.RunnerKind.TheVariants as runners
 use Rattle.task_traits.specs.declared.traits.Behaviour.TheVariants as behaviours
 use Rattle.task_traits.specs.declared.traits.Priority.{Priority}
 use Rattle.task_traits.specs.declared.traits.Priority.TheVariants as priorities
-use Rattle.task_model.specs.Capacity.{priority_of}
+use Rattle.task_model.specs.Capacity.{best_capacity, best_load, capacity, load, open_scope, priority_of, taken_with}
 use Rattle.task_model.specs.Past.{fold_past}
 use Rattle.task_model.specs.Phase.{phase_of}
 use Rattle.task_model.specs.Policies.{policy_of}
-use Rattle.task_model.specs.Posts.{posts}
+use Rattle.task_model.specs.Posts.{is_ended, is_taken, posts}
+use Rattle.task_model.specs.Seats.{holding, running}
 use Rattle.task_model.specs.Time.{now_of, tick_from}
-use Rattle.log_context.specs.Context.{at_work, context_of, told_of}
+use Rattle.log_context.specs.Context.{context_of, told_of}
 use Rattle.log_context.specs.Seen.{last_marked}
-use Rattle.log_context.specs.declared.fact.Fact.TheVariants.{Behaves, Limits, Priorities, Single, Stands, Unposted}
+use Rattle.log_context.specs.Sought.{known_in}
+use Rattle.log_context.specs.declared.context.Waits.TheVariants as waits
+use Rattle.log_context.specs.declared.fact.Fact.TheVariants.{Behaves, Limits, Priorities, Room, Single, Stands, Unposted}
+use Rattle.log_context.specs.declared.fact.Limit.TheVariants as limit_kinds
 use Rattle.log_context.specs.declared.fact.Role.TheVariants as roles
 
 abbrev runner_of : RunnerKind → Priority → Runner
@@ -30,7 +35,14 @@ runner_of kind priority = record {
   traits = record { priority = priority; behaviour = behaviours.SkipOnShutdown; may_block = false };
 }
 
--- three workers; a sequenced runner, a parallel best-effort one, and one of seat 3 alone
+-- a runner whose tasks shutdown waits for
+abbrev blocking : Runner
+blocking = record {
+  kind = runners.Sequenced;
+  traits = record { priority = priorities.UserVisible; behaviour = behaviours.BlockShutdown; may_block = false };
+}
+
+-- three workers; a sequenced runner, a parallel best-effort one, one of seat 3 alone, and one of block tasks
 abbrev script : Plan
 script = record {
   workers = 3;
@@ -39,7 +51,7 @@ script = record {
   background = 0;
   threshold = 10;
   runners = runner_of runners.Sequenced priorities.UserVisible ∷ runner_of runners.Parallel priorities.BestEffort
-      ∷ runner_of (runners.Single 3) priorities.UserBlocking ∷ [];
+      ∷ runner_of (runners.Single 3) priorities.UserBlocking ∷ blocking ∷ [];
   queues = record { class = 0; voters = 1 } ∷ [];
   tasks = [] ∷ [] ∷ [] ∷ [] ∷ [];
   jobs = [];
@@ -54,11 +66,11 @@ held = by 0 (kinds.Policy policies.Nothing) ∷ by 0 (kinds.Post 0 0 0 true) ∷
 abbrev freed : List Entry
 freed = held ++ by 0 (kinds.Policy policies.All) ∷ []
 
-abbrev running : List Entry
-running = freed ++ by 1 (kinds.Take 0 0 0) ∷ []
+abbrev one_runs : List Entry
+one_runs = freed ++ by 1 (kinds.Take 0 0 0) ∷ []
 
 abbrev ended : List Entry
-ended = running ++ by 1 (kinds.End 0 5) ∷ []
+ended = one_runs ++ by 1 (kinds.End 0 5) ∷ []
 
 -- the policy holds it back
 held_back : told_of script held (by 1 (kinds.Take 0 0 0)) None
@@ -75,7 +87,7 @@ unfolding last_marked fold_past policy_of phase_of priority_of posts now_of tick
 task_due = refl
 
 -- the sequence runs on another seat
-sequence_runs : told_of script running (by 2 (kinds.Take 1 0 0)) None
+sequence_runs : told_of script one_runs (by 2 (kinds.Take 1 0 0)) None
     ≡ Stands roles.Itself 5 (by 2 (kinds.Take 1 0 0)) ∷ Stands roles.Posted 2 (by 0 (kinds.Post 1 0 0 true))
     ∷ Stands roles.Runs 4 (by 1 (kinds.Take 0 0 0)) ∷ []
 unfolding last_marked fold_past policy_of phase_of priority_of posts now_of tick_from
@@ -96,7 +108,7 @@ unfolding last_marked fold_past policy_of phase_of priority_of posts now_of tick
 taken_twice = refl
 
 -- a task ends on a seat that has not taken it
-another_seat : told_of script running (by 2 (kinds.End 0 5)) None
+another_seat : told_of script one_runs (by 2 (kinds.End 0 5)) None
     ≡ Stands roles.Itself 5 (by 2 (kinds.End 0 5)) ∷ Stands roles.Elsewhere 4 (by 1 (kinds.Take 0 0 0)) ∷ []
 unfolding last_marked fold_past policy_of phase_of priority_of posts now_of tick_from
 another_seat = refl
@@ -141,8 +153,42 @@ fenced : told_of script (by 0 (kinds.Fence 0 fences.Start) ∷ by 0 (kinds.Main 
 unfolding last_marked fold_past policy_of phase_of priority_of posts now_of tick_from
 fenced = refl
 
--- the driver is not idle while a task runs
-not_idle : context_of script running (by 0 kinds.Idle) None true
-    ≡ Stands roles.Itself 5 (by 0 kinds.Idle) ∷ Limits 2 1 0 ∷ Stands roles.Works 4 (by 1 (kinds.Take 0 0 0)) ∷ []
-unfolding last_marked fold_past policy_of phase_of priority_of posts now_of tick_from
+-- the driver is not idle while a task runs, and another one waits
+not_idle : context_of script one_runs (by 0 kinds.Idle) None waits.Idle
+    ≡ Stands roles.Itself 5 (by 0 kinds.Idle) ∷ Stands roles.Waiting 2 (by 0 (kinds.Post 1 0 0 true)) ∷ Stands roles.Works 4 (by 1 (kinds.Take 0 0 0)) ∷ []
+unfolding last_marked fold_past policy_of phase_of priority_of posts now_of tick_from known_in is_taken
 not_idle = refl
+
+-- a task is delayed, and so does not wait yet
+not_ripe : context_of script (by 0 (kinds.Post 0 0 7 true) ∷ by 0 (kinds.Post 1 1 0 true) ∷ []) (by 0 kinds.Idle) None waits.Idle
+    ≡ Stands roles.Itself 2 (by 0 kinds.Idle) ∷ Stands roles.Waiting 1 (by 0 (kinds.Post 1 1 0 true)) ∷ []
+unfolding last_marked fold_past policy_of phase_of priority_of posts now_of tick_from known_in is_taken
+not_ripe = refl
+
+-- a best-effort task, while another one runs
+abbrev best_running : List Entry
+best_running = by 0 (kinds.Post 0 1 0 true) ∷ by 0 (kinds.Post 2 1 0 true) ∷ by 1 (kinds.Take 0 1 0) ∷ []
+
+no_room : context_of script best_running (by 2 (kinds.Take 2 1 0)) None waits.Room
+    ≡ Stands roles.Itself 3 (by 2 (kinds.Take 2 1 0)) ∷ Stands roles.Posted 1 (by 0 (kinds.Post 2 1 0 true))
+    ∷ Room limit_kinds.Foreground 1 2 ∷ Room limit_kinds.BestEffort 1 1 ∷ Limits 2 1 0 ∷ Stands roles.Works 2 (by 1 (kinds.Take 0 1 0)) ∷ []
+unfolding last_marked fold_past policy_of phase_of priority_of posts now_of tick_from load capacity best_load best_capacity running holding taken_with open_scope
+no_room = refl
+
+-- with a scope that will block one more may run
+more_room : context_of script (best_running ++ by 1 (kinds.Enter 0 scopes.Will) ∷ []) (by 2 (kinds.Take 2 1 1)) None waits.Room
+    ≡ Stands roles.Itself 4 (by 2 (kinds.Take 2 1 1)) ∷ Stands roles.Posted 1 (by 0 (kinds.Post 2 1 0 true))
+    ∷ Room limit_kinds.Foreground 1 3 ∷ Room limit_kinds.BestEffort 1 2 ∷ Limits 2 1 0 ∷ Stands roles.Works 2 (by 1 (kinds.Take 0 1 0)) ∷ []
+unfolding last_marked fold_past policy_of phase_of priority_of posts now_of tick_from load capacity best_load best_capacity running holding taken_with open_scope
+more_room = refl
+
+-- a skip task that runs blocks the end of shutdown, and so does a block task that waits; a skip task that waits does not
+abbrev stopping : List Entry
+stopping = by 0 (kinds.Post 0 0 0 true) ∷ by 0 (kinds.Post 1 0 0 true) ∷ by 0 (kinds.Post 2 3 0 true) ∷ by 1 (kinds.Take 0 0 0)
+    ∷ by 0 kinds.Shutdown ∷ []
+
+blocked : context_of script stopping (by 0 kinds.Done) None waits.Shutdown
+    ≡ Stands roles.Itself 5 (by 0 kinds.Done) ∷ Stands roles.Blocks 0 (by 0 (kinds.Post 0 0 0 true)) ∷ Stands roles.Blocks 2 (by 0 (kinds.Post 2 3 0 true))
+    ∷ Stands roles.Works 3 (by 1 (kinds.Take 0 0 0)) ∷ []
+unfolding last_marked fold_past policy_of phase_of priority_of posts now_of tick_from known_in is_taken is_ended
+blocked = refl

@@ -1,5 +1,5 @@
 -- What is said of an entry that may not come, besides why.
-use Rattle.std.specs.Prelude.{◌≡◌, ℕ, Bool, if◌then◌else◌, List, [], ◌∷◌, ◌++◌, flat_map, length, slice_get, Option, Some}
+use Rattle.std.specs.Prelude.{◌≡◌, ℕ, List, [], ◌∷◌, ◌++◌, flat_map, length, slice_get, Option, Some}
 use Rattle.std.specs.List.{range_with_len}
 use Rattle.std.specs.Option.{option_to_list}
 use Rattle.task_base.specs.Plan.{Plan}
@@ -7,12 +7,18 @@ use Rattle.task_base.specs.declared.entry.Entry.{Entry}
 use Rattle.task_base.specs.declared.entry.Kind.{Kind}
 use Rattle.log_context.specs.Posts.{posted, taken}
 use Rattle.log_context.specs.Queues.{closed, fence, voted_off}
+use Rattle.log_context.specs.Rooms.{first_room, second_room}
 use Rattle.log_context.specs.Seats.{busy, elsewhere}
+use Rattle.log_context.specs.Sought.{known_of}
 use Rattle.log_context.specs.Sources.{behaves, due, held, left, only_seat, priorities, ripens, sequence, shut, stopped}
 use Rattle.log_context.specs.declared.context.TheConstants.{SEATS_SHOWN}
+use Rattle.log_context.specs.declared.context.Waits.{Waits}
+use Rattle.log_context.specs.declared.context.Waits.TheVariants as waits
 use Rattle.log_context.specs.declared.fact.Fact.{Fact}
 use Rattle.log_context.specs.declared.fact.Fact.TheVariants as facts
 use Rattle.log_context.specs.declared.fact.Role.TheVariants as roles
+use Rattle.log_context.specs.declared.sought.Sought.{Sought}
+use Rattle.log_context.specs.declared.sought.Sought.TheVariants as sorts
 
 -- the entry itself, at its place
 abbrev pub itself : List Entry → Entry → Fact
@@ -53,9 +59,26 @@ told_of script past e named = flat_map option_to_list (
     ∷ fence past e.kind
     ∷ [])
 
--- the same, and where it waits for others, or they leave no room, the limits, and who is at work
-abbrev pub context_of : Plan → List Entry → Entry → Option Kind → Bool → List Fact
-context_of script past e named waits = told_of script past e named ++ (if waits then limits script ∷ at_work past else [])
+-- how much work of the group of what an entry takes runs and may, the limits, and who is at work
+abbrev pub rooms : Plan → List Entry → Kind → List Fact
+rooms script past kind =
+    flat_map option_to_list (first_room script past kind ∷ second_room script past kind ∷ Some (limits script) ∷ []) ++ at_work past
+
+-- the first posts of the tasks that are waited for, and who is at work
+abbrev pub tasks : Plan → List Entry → Sought → List Fact
+tasks script past sought = known_of script past sought ++ at_work past
+
+-- what an entry waits for
+abbrev pub waited_for : Plan → List Entry → Kind → Waits → List Fact
+waited_for script past kind waits.Nothing = []
+waited_for script past kind waits.Room = rooms script past kind
+waited_for script past kind waits.Work = at_work past
+waited_for script past kind waits.Idle = tasks script past sorts.Waiting
+waited_for script past kind waits.Shutdown = tasks script past sorts.Blocking
+
+-- what there is to be said of it, and what it waits for
+abbrev pub context_of : Plan → List Entry → Entry → Option Kind → Waits → List Fact
+context_of script past e named waits = told_of script past e named ++ waited_for script past e.kind waits
 
 -- an entry that a fact shows stands in the log at its place
 abbrev pub StandsIn : List Entry → Fact → Type 0

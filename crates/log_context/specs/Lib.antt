@@ -4,4 +4,7 @@ pub mod Posts
 pub mod Seats
 pub mod Sources
 pub mod Queues
+pub mod Sought
+pub mod Work
+pub mod Rooms
 pub mod Context

@@ -1,5 +1,5 @@
 -- What a seat is at work with, and where a task is.
-use Rattle.std.specs.Prelude.{ℕ, ◌==◌, Bool, true, false, not, List, Option, Some, None}
+use Rattle.std.specs.Prelude.{ℕ, ◌==◌, Bool, true, false, not, List, Option, None}
 use Rattle.std.specs.Option.{option_or}
 use Rattle.list_laws.specs.Lists.{holds_of, keep}
 use Rattle.task_base.specs.declared.entry.Entry.{Entry}

@@ -1,6 +1,6 @@
 -- What is said of the task, or of the job, that an entry takes.
-use Rattle.std.specs.Prelude.{ℕ, ◌==◌, Bool, true, false, not, ◌||◌, ◌&&◌, if◌then◌else◌, List, slice_get, Option, Some, None, is_none, option_and_then}
-use Rattle.std.specs.Option.{option_map, option_map_or}
+use Rattle.std.specs.Prelude.{ℕ, ◌==◌, Bool, false, not, ◌&&◌, if◌then◌else◌, List, slice_get, Option, Some, None, is_none, option_and_then}
+use Rattle.std.specs.Option.{option_map}
 use Rattle.list_laws.specs.Lists.{holds_of, keep}
 use Rattle.task_base.specs.Plan.{Plan}
 use Rattle.task_base.specs.Runners.{is_parallel}

@@ -41,6 +41,21 @@ pub enum Role {
     After,
     /// Its seat is at work since, which leaves no room for the entry, or for which the driver waits.
     Works,
+    /// It posted a task that waits to be taken, for which the driver waits.
+    Waiting,
+    /// It posted a task that blocks the end of shutdown, for which the driver waits.
+    Blocks,
+}
+
+/// Which limit leaves room for work, or none.
+#[derive(Clone, Copy, Debug)]
+pub enum Limit {
+    /// That of all work of the foreground.
+    Foreground,
+    /// That of best-effort work of the foreground.
+    BestEffort,
+    /// That of the background.
+    Background,
 }
 
 /// What the log or the script has to do with an entry that may not come.
@@ -68,11 +83,18 @@ pub enum Fact {
         best: RunnerId,
         higher: Priority,
     },
-    /// So much work may run at once: of the foreground, best-effort work there, and of the background.
+    /// How much work may run at once: of the foreground, best-effort work there, and of the background.
     Limits {
         foreground: u32,
         best_effort: u32,
         background: u32,
+    },
+    /// How many workers run work of this limit, and how many may: as many as the script says, and one more for each that runs such
+    /// work and is blocked.
+    Room {
+        limit: Limit,
+        running: u64,
+        most: u64,
     },
     /// Shutdown does this with tasks of the runner.
     Behaves {

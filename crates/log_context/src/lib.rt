@@ -7,9 +7,14 @@ mod fact;
 mod mark;
 mod posts;
 mod queues;
+mod rooms;
+mod scopes;
 mod seats;
 mod seen;
+mod sought;
 mod sources;
+mod work;
 
-pub use context::{SEATS_SHOWN, context_at_end, context_of};
-pub use fact::{Fact, Role};
+pub use context::{SEATS_SHOWN, Waits, context_at_end, context_of, push_some};
+pub use fact::{Fact, Limit, Role};
+pub use sought::{MOST_SEARCHED, TASKS_SHOWN};

@@ -4,4 +4,4 @@
 
 mod told;
 
-pub use told::facts_of;
+pub use told::{FACTS_SHOWN, facts_of};

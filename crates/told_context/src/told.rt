@@ -1,16 +1,20 @@
-ghost use Rattle.std.specs.Prelude.{◌≡◌, ◌+◌, ◌<◌, ◌^◌, ◌++◌, IfOk, IfSome, OnOk, length, slice_get};
-ghost use Rattle.std.specs.Option.{option_to_list};
+ghost use Rattle.std.specs.Prelude.{◌≡◌, ◌+◌, ◌<◌, ◌^◌, All, IfOk, IfSome, Some, length, slice_get, take};
 ghost use Rattle.script_model.specs.Laws.Sound.{IsSound};
 ghost use Rattle.next_entry.specs.Causes.{named_by};
-ghost use Rattle.told_context.specs.Told.{IsContext, IsContextAt, earlier, later, standing, waits};
+ghost use Rattle.log_context.specs.Context.{StandsIn, at_work};
+ghost use Rattle.told_context.specs.Told.{IsContext, IsContextAt, IsContextOf, earlier, later, standing, waits_by, waits_for};
+ghost use Rattle.told_context.specs.declared.told.TheConstants.{FACTS_SHOWN};
 
-use log_context::{Fact, Role, context_at_end, context_of};
+use log_context::{Fact, Role, Waits, context_at_end, context_of, push_some};
 use log_moves::{place_after, place_before};
 use next_entry::{Bar, Cause, Explanation};
 use std::alloc::{AllocError, Global};
 use task_base::{Entry, Kind, Script};
 
-/// What is to be said of a log besides what was told of it. The error is out of memory.
+/// How many facts are told of a log at most, among them where else the entry might have come.
+pub const FACTS_SHOWN: usize = 10;
+
+/// What is to be said of a log besides what was told of it, at most `FACTS_SHOWN` facts. The error is out of memory.
 pub fn facts_of(
     alloc: Global,
     script: &Script,
@@ -19,16 +23,28 @@ pub fn facts_of(
 ) -> Result<Vec<Fact>, AllocError>
     requires plan { IsSound script.now }
     requires few { length log.now < 2 ^ 32 }
-    ensures { IfOk result (λ facts. IsContext script.now log.now told.now facts.items) }
+    ensures context { IfOk result (λ facts. IsContext script.now log.now told.now facts.items) }
+    ensures stand { IfOk result (λ facts. All (StandsIn log.now) facts.items) }
 {
     match told {
         Explanation::Legal => Ok(Vec::new(alloc)),
         Explanation::Barred { place, cause } => {
             facts_at(alloc, script, log, *place as usize, cause)
         }
-        Explanation::Unfinished { .. } => context_at_end(alloc, log),
-        Explanation::AtWork { .. } => context_at_end(alloc, log),
+        Explanation::Unfinished { .. } => facts_at_end(alloc, log),
+        Explanation::AtWork { .. } => facts_at_end(alloc, log),
     }
+}
+
+/// Who is at work at the log's end. The error is out of memory.
+fn facts_at_end(alloc: Global, log: &[Entry]) -> Result<Vec<Fact>, AllocError>
+    requires few { length log.now < 2 ^ 32 }
+    ensures exact { IfOk result (λ facts. facts.items ≡ take FACTS_SHOWN (at_work log.now)) }
+    ensures stand { IfOk result (λ facts. All (StandsIn log.now) facts.items) }
+{
+    let known = context_at_end(alloc, log)?;
+    let facts = first_of(alloc, &known, FACTS_SHOWN)?;
+    Ok(facts)
 }
 
 /// What is to be said of the entry at a place, which may not come there for this cause. The error is out of memory.
@@ -41,17 +57,59 @@ fn facts_at(
 ) -> Result<Vec<Fact>, AllocError>
     requires plan { IsSound script.now }
     requires few { length log.now < 2 ^ 32 }
-    ensures { IfOk result (λ facts. IsContextAt script.now log.now place cause.now (slice_get log.now place) facts.items) }
+    ensures context { IfOk result (λ facts. IsContextAt script.now log.now place cause.now (slice_get log.now place) facts.items) }
+    ensures stand { IfOk result (λ facts. All (StandsIn log.now) facts.items) }
 {
-    let Some(entry) = log.get(place) else {
-        return Ok(Vec::new(alloc));
-    };
+    match log.get(place) {
+        None => Ok(Vec::new(alloc)),
+        Some(entry) => facts_there(alloc, script, log, place, cause, *entry),
+    }
+}
+
+/// What is to be said of this entry, which stands at the place. The error is out of memory.
+fn facts_there(
+    alloc: Global,
+    script: &Script,
+    log: &[Entry],
+    place: usize,
+    cause: &Cause,
+    entry: Entry,
+) -> Result<Vec<Fact>, AllocError>
+    requires plan { IsSound script.now }
+    requires few { length log.now < 2 ^ 32 }
+    requires place { place < length log.now }
+    requires there { slice_get log.now place ≡ Some entry }
+    ensures context { IfOk result (λ facts. IsContextOf script.now log.now place cause.now entry facts.items) }
+    ensures stand { IfOk result (λ facts. All (StandsIn log.now) facts.items) }
+{
     let past = &log[..place];
-    let mut facts = context_of(alloc, script, past, entry, named_by(cause), waits(cause))?;
-    let before = place_before(alloc, script, past, *entry)?;
-    let after = place_after(alloc, script, past, *entry, &log[place + 1..])?;
+    let known = context_of(
+        alloc,
+        script,
+        past,
+        &entry,
+        named_by(cause),
+        waits_for(cause),
+    )?;
+    let before = place_before(alloc, script, past, entry)?;
+    let after = place_after(alloc, script, past, entry, &log[place + 1..])?;
+    let mut facts = first_of(alloc, &known, FACTS_SHOWN - 2)?;
     push_some(&mut facts, earlier(log, before))?;
     push_some(&mut facts, later(log, place, after))?;
+    Ok(facts)
+}
+
+/// The first facts of a list, at most this many. The error is out of memory.
+#[tactic(auto, using(std::proofs::lemmas::List::take_all))]
+fn first_of(alloc: Global, known: &[Fact], most: usize) -> Result<Vec<Fact>, AllocError>
+    ensures { IfOk result (λ facts. facts.items ≡ take most known.now) }
+{
+    let mut facts = Vec::new(alloc);
+    if known.len() <= most {
+        facts.extend_from_slice(known)?;
+    } else {
+        facts.extend_from_slice(&known[..most])?;
+    }
     Ok(facts)
 }
 
@@ -63,7 +121,7 @@ fn earlier(log: &[Entry], place: Option<usize>) -> Option<Fact>
     standing(Role::Before, log, place?)
 }
 
-/// That the entry at a place would have been allowed after so many of those that follow it, and one more.
+/// That the entry at a place would have been allowed after the one of those that follow it which has this number, from 0.
 fn later(log: &[Entry], place: usize, count: Option<usize>) -> Option<Fact>
     requires few { length log.now < 2 ^ 32 }
     requires place { place < length log.now }
@@ -88,17 +146,6 @@ fn standing(role: Role, log: &[Entry], place: usize) -> Option<Fact>
     }
 }
 
-/// Adds a fact, if there is one. The error is out of memory.
-fn push_some(facts: &mut Vec<Fact>, fact: Option<Fact>) -> Result<(), AllocError>
-    ensures { OnOk result (facts.new.items ≡ facts.old.items ++ option_to_list fact) }
-{
-    match fact {
-        None => {}
-        Some(fact) => facts.push(fact)?,
-    }
-    Ok(())
-}
-
 /// The entry that a cause names.
 fn named_by(cause: &Cause) -> Option<Kind>
     ensures { result ≡ named_by cause.now }
@@ -110,13 +157,26 @@ fn named_by(cause: &Cause) -> Option<Kind>
     }
 }
 
-/// Whether what others do is the cause.
-fn waits(cause: &Cause) -> bool
-    ensures { result ≡ waits cause.now }
+/// What an entry waits for, by its cause.
+fn waits_for(cause: &Cause) -> Waits
+    ensures { result ≡ waits_for cause.now }
 {
     match *cause {
-        Cause::NoSource { bar } => matches!(bar, Bar::Full | Bar::Limit),
-        Cause::NotIdle { .. } | Cause::Inside { .. } | Cause::Blocked { .. } => true,
-        _ => false,
+        Cause::NoSource { bar } => waits_by(bar),
+        Cause::NotIdle { .. } => Waits::Idle,
+        Cause::Inside { .. } => Waits::Work,
+        Cause::Blocked { .. } => Waits::Shutdown,
+        _ => Waits::Nothing,
+    }
+}
+
+/// What an entry waits for, by what is against its source.
+fn waits_by(bar: Bar) -> Waits
+    ensures { result ≡ waits_by bar }
+{
+    match bar {
+        Bar::Full => Waits::Work,
+        Bar::Limit => Waits::Room,
+        _ => Waits::Nothing,
     }
 }
