@@ -1,6 +1,6 @@
 -- What an explanation says of the verdict that it is of.
 -- Cited by `why`.
-use Rattle.std.proofs.Common.{◌≡◌, ◌≤◌, ℕ, Bool, List, length, refl, sym, ◌∙◌, Some, None}
+use Rattle.std.proofs.Common.{◌≡◌, ◌≤◌, ◌++◌, ℕ, Bool, true, false, List, append-nil, length, refl, sym, ◌∙◌, Option, Some, None}
 use Rattle.task_base.specs.Plan.{Plan}
 use Rattle.task_base.specs.declared.entry.Entry.{Entry}
 use Rattle.next_entry.specs.declared.cause.Explanation.{Explanation}
@@ -8,8 +8,13 @@ use Rattle.next_entry.specs.declared.cause.Explanation.TheVariants as explanatio
 use Rattle.env_check.specs.declared.verdict.Verdict.TheVariants.{Legal, Illegal}
 use Rattle.env_explain.specs.Explained.{verdict_told}
 use Rattle.app_modes.specs.Explained.{place_told}
-use Rattle.app_modes.specs.Judged.{verdict_on}
+use Rattle.app_modes.specs.Judged.{cut_text, verdict_on}
 use Rattle.app_modes.proofs.Verdicts.{place_within}
+
+-- beside a line that is wrong nothing is said of one that was left out
+pub no_cut : (json : Bool) (line : ℕ) (cut : Option ℕ) (said : List ℕ) → said ≡ said ++ cut_text json (Some line) cut
+no_cut true line cut said = sym (append-nil said)
+no_cut false line cut said = sym (append-nil said)
 
 pub illegal_told : (told : Explanation) (place : ℕ) → place_told told ≡ Some place → verdict_told told ≡ Illegal place
 illegal_told explanations.Legal place is = absurd cc

@@ -1,3 +1,4 @@
+pub mod Arranged
 pub mod Verdicts
 pub mod Explained
 pub mod Outcomes

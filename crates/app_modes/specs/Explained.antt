@@ -13,6 +13,10 @@ use Rattle.env_explain.specs.Explained.{IsExplained, NamesAllowed, RulesOut, Say
 use Rattle.explain_text.specs.Json.{told_json}
 use Rattle.explain_text.specs.Mistakes.{mistake_json, mistake_text}
 use Rattle.explain_text.specs.Plain.{told_text}
+use Rattle.context_text.specs.Json.{with_context}
+use Rattle.context_text.specs.Plain.{with_lines}
+use Rattle.log_context.specs.declared.fact.Fact.{Fact}
+use Rattle.told_context.specs.Told.{IsContext}
 use Rattle.app_streams.specs.Parts.{script_part, part_behind}
 use Rattle.app_modes.specs.Judged.{IsBadText, IsTextOf, cut_text, line_in, verdict_on, verdict_status, verdict_text}
 
@@ -23,11 +27,11 @@ place_told (Barred place cause) = Some place
 place_told (Unfinished place seat cause) = Some place
 place_told (AtWork place busy) = Some place
 
--- what is said of a log that is found wrong at this line, or nowhere, in words or in JSON
-abbrev pub said_of : Bool → Option ℕ → List Entry → Explanation → List ℕ
-said_of json None log told = []
-said_of false (Some line) log told = told_text log told
-said_of true (Some line) log told = told_json line log told
+-- what is said of a log that is found wrong at this line, or nowhere, in words or in JSON: why, and these facts
+abbrev pub said_of : Bool → Option ℕ → List Entry → Explanation → List Fact → List ℕ
+said_of json None log told facts = []
+said_of false (Some line) log told facts = with_lines (told_text log told) facts
+said_of true (Some line) log told facts = with_context (told_json line log told) facts
 
 -- what is said of a line that is none of a log at its place, in a text of this version, by its mistake
 abbrev pub said_of_bad : Bool → Version → ℕ → Mistake → List ℕ
@@ -44,7 +48,7 @@ pub record IsExplanation (prefix : Bool) (script : Plan) (log : List Entry) (tol
   pub ruled_out : RulesOut script log told
 
 -- the text is that of a log, or begins it where that will do, at this line the log is found to be no legal, whole one, or no legal one,
--- or nowhere, and an explanation of that is said, or which line was left out
+-- or nowhere, and an explanation of that is said, with what the log and the script have to do with it, or which line was left out
 pub record IsSaidOfLog (json prefix : Bool) (script : Plan) (text : List ℕ) (line : Option ℕ) (said : List ℕ) : Type 0 where
   pub log : List Entry
   pub cut : Option ℕ
@@ -52,7 +56,9 @@ pub record IsSaidOfLog (json prefix : Bool) (script : Plan) (text : List ℕ) (l
   pub told : Explanation
   pub is : IsExplanation prefix script log told
   pub line_is : line ≡ line_in (version_of text) (verdict_on prefix script log)
-  pub said_is : said ≡ said_of json line log told ++ cut_text json line cut
+  pub facts : List Fact
+  pub context : IsContext script log told facts
+  pub said_is : said ≡ said_of json line log told facts ++ cut_text json line cut
 
 -- the text is that of no log, by this line, and the mistake of that line is said
 pub record IsSaidOfBad (json prefix : Bool) (text : List ℕ) (line : Option ℕ) (said : List ℕ) : Type 0 where

@@ -1,3 +1,4 @@
+pub mod Arranged
 pub mod Failures
 pub mod Judged
 pub mod Explained

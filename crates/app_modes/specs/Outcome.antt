@@ -21,7 +21,7 @@ use Rattle.nested_loop.specs.NestText.{nest_text}
 use Rattle.nested_loop.specs.Nest.{IsLegalNest}
 use Rattle.nested_loop.specs.declared.event.Event.{Event}
 use Rattle.command_line.specs.declared.words.Command.{Command}
-use Rattle.command_line.specs.declared.words.Command.TheVariants.{Run, Simulate, Check, Explain, Reply, Trace, Nest, Lint, Generate, Bench}
+use Rattle.command_line.specs.declared.words.Command.TheVariants.{Run, Simulate, Check, Explain, Arrange, Reply, Trace, Nest, Lint, Generate, Bench}
 use Rattle.command_line.specs.declared.options.Favour.{Favour}
 use Rattle.command_line.specs.declared.options.Favour.TheVariants as favours
 use Rattle.command_line.specs.declared.options.Wide.{Wide}
@@ -30,8 +30,9 @@ use Rattle.app_streams.specs.Ends.{Ends, Failed}
 use Rattle.app_streams.specs.Taken.{IsReadToEnd, OfBytes, OfTaken}
 use Rattle.app_streams.specs.Written.{WroteAll, WroteFront, output_of}
 use Rattle.app_modes.specs.declared.failure.Failure.{Failure}
-use Rattle.app_modes.specs.declared.failure.Failure.TheVariants.{Common, Linted, NotTraced, BadReplies, BadNest}
-use Rattle.command_line.specs.CommandLine.{IsLint, IsTrace, TakesInput, WritesVerdict, takes_prefix}
+use Rattle.app_modes.specs.declared.failure.Failure.TheVariants.{Common, Linted, NoOrder, GaveUp, BadEvents, NotTraced, BadReplies, BadNest}
+use Rattle.command_line.specs.CommandLine.{IsArrange, IsLint, IsTrace, TakesInput, WritesVerdict, takes_prefix}
+use Rattle.app_modes.specs.Arranged.{HasArranged, HasBadEvents}
 use Rattle.app_modes.specs.Judged.{HasChecked, HasTraced, IsFoundIn}
 use Rattle.app_modes.specs.Explained.{HasExplained}
 use Rattle.app_modes.specs.Linted.{IsSaid, lint_said}
@@ -124,6 +125,7 @@ refusal_of (Some (Run step json shake)) bytes = script_refusal bytes
 refusal_of (Some (Simulate seed favour step json)) bytes = script_refusal bytes
 refusal_of (Some (Check prefix)) bytes = script_refusal (script_part bytes)
 refusal_of (Some (Explain json prefix)) bytes = script_refusal (script_part bytes)
+refusal_of (Some (Arrange prefix most)) bytes = script_refusal (script_part bytes)
 refusal_of (Some Reply) bytes = reply_refusal (script_read (script_part bytes)) (part_behind bytes)
 refusal_of (Some (Trace full prefix)) bytes = script_refusal (script_part bytes)
 refusal_of (Some Nest) bytes = option_map (λ at. BadNest at.0 at.1) (nest_fault bytes)
@@ -148,6 +150,7 @@ Does (Some (Run step json shake)) told source Holds = OfTaken source (λ bytes. 
 Does (Some (Simulate seed favour step json)) told source Holds = OfTaken source (λ bytes. HasSimulated bytes seed favour step json (Holds 0))
 Does (Some (Check prefix)) told source Holds = OfTaken source (λ bytes. HasChecked prefix bytes Holds)
 Does (Some (Explain json prefix)) told source Holds = OfTaken source (λ bytes. HasExplained json prefix bytes Holds)
+Does (Some (Arrange prefix most)) told source Holds = OfTaken source (λ bytes. HasArranged prefix bytes Holds)
 Does (Some Reply) told source Holds = OfTaken source (λ bytes. HasReplied bytes told (Holds 0))
 Does (Some (Trace full prefix)) told source Holds = OfTaken source (λ bytes. HasTraced full prefix bytes Holds)
 Does (Some Nest) told source Holds = OfTaken source (λ bytes. HasNested bytes (Holds 0))
@@ -198,6 +201,10 @@ abbrev pub EndsIn : Option Command → (ℕ → Option ℕ) → Ends → Ends �
 EndsIn command told source sink (Ok done) = RunsTo command told source sink (Ok done)
 EndsIn command told source sink (Err (Common fault)) = RunsTo command told source sink (Err fault)
 EndsIn command told source sink (Err Linted) = IsLint command × IsReadToEnd source × Does command told source (IsWritten sink 1)
+EndsIn command told source sink (Err NoOrder) = IsArrange command × IsReadToEnd source × Does command told source (IsWritten sink 1)
+EndsIn command told source sink (Err GaveUp) = IsArrange command × IsReadToEnd source × Does command told source (IsWritten sink 8)
+EndsIn command told source sink (Err (BadEvents bad)) =
+    IsArrange command × IsReadToEnd source × Does command told source (IsWritten sink 3) × OfTaken source (λ bytes. HasBadEvents bytes bad)
 EndsIn command told source sink (Err (NotTraced line)) =
     IsTrace command × IsReadToEnd source × Does command told source (IsWritten sink 1)
     × OfTaken source (λ bytes. IsFoundIn (takes_prefix command) bytes (Some line))

@@ -6,6 +6,7 @@ ghost use Rattle.app_streams.specs.Ends.{ends};
 ghost use Rattle.app_streams.specs.Taken.{TookMore, TookWithin};
 ghost use Rattle.app_modes.specs.Outcome.{in_common, EndsIn};
 
+use crate::arrange::arrange;
 use crate::bench::run_generated;
 use crate::check::judge;
 use crate::explain::explain;
@@ -78,6 +79,7 @@ pub fn execute<R: Threads + Wait + Sync + rt::Clock, S: Source, K: Sink, C: Cloc
         } => common(simulate_script(alloc, seed, favour, step, json, source, sink)),
         Command::Check { prefix } => common(judge(alloc, prefix, source, sink)),
         Command::Explain { json, prefix } => { common(explain(alloc, json, prefix, source, sink)) }
+        Command::Arrange { prefix, most } => arrange(alloc, prefix, most, source, sink),
         Command::Reply => run_replies(rt, alloc, source, sink, clock, gate),
         Command::Trace { full, prefix } => trace(alloc, full, prefix, source, sink),
         Command::Nest => run_nest_script(alloc, source, sink),

@@ -16,14 +16,17 @@ ghost use Rattle.app_modes.specs.Outcome.{RunsTo};
 use crate::check::{cut_text, verdict_text, write_said};
 use crate::judged::{Taken, take_text};
 use app_streams::{parts_of, script_of, take_all};
+use context_text::{with_context, with_lines};
 use env_explain::{explain_log, explain_prefix};
 use env_io::{Sink, Source};
 use explain_text::{mistake_json, mistake_text, told_json, told_text};
+use log_context::Fact;
 use log_mistakes::mistake_at;
 use next_entry::Explanation;
 use run_log::{lines_before, version_of};
 use std::alloc::{AllocError, Global};
 use task_base::{Entry, Fault, Rows, Script};
+use told_context::facts_of;
 
 /// What is said of the text of a log.
 #[derive(Drop)]
@@ -33,8 +36,8 @@ struct Said {
     text: Vec<u8>,
 }
 
-/// Reads a script from the source, to its end, and the log behind it, and writes what `judge` writes, and behind it why the
-/// log is illegal, where it is: in words, or in JSON. Where a prefix is asked for it explains the beginning of a log.
+/// Reads a script from the source, to its end, and the log after it, and writes what `judge` writes, and after it why the
+/// log is illegal, where it is, and which of its entries matter: in words, or in JSON. Where a prefix is asked for it explains the beginning of a log.
 pub fn explain<S: Source, K: Sink>(
     alloc: Global,
     json: bool,
@@ -110,7 +113,8 @@ fn why(
         return Ok(Said { line: None, text });
     };
     let line = place + 1 + lines_before(version_of(text));
-    let text = said_of(alloc, json, line, log.as_slice(), &told)?;
+    let facts = facts_of(alloc, script, log.as_slice(), &told)?;
+    let text = said_of(alloc, json, line, log.as_slice(), &told, &facts)?;
     Ok(Said {
         line: Some(line),
         text,
@@ -147,20 +151,22 @@ fn place_told(told: &Explanation) -> Option<u32>
     }
 }
 
-/// What is said of a log that is found wrong at a line. The error is want of memory.
+/// What is said of a log that is found wrong at a line: why, and what the log and the script have to do with it. The error is out of
+/// memory.
 fn said_of(
     alloc: Global,
     json: bool,
     line: u32,
     log: &[Entry],
     told: &Explanation,
+    facts: &[Fact],
 ) -> Result<Vec<u8>, AllocError>
-    ensures { IfOk result (λ text. text.items ≡ said_of json (Some line) log.now told.now) }
+    ensures { IfOk result (λ text. text.items ≡ said_of json (Some line) log.now told.now facts.now) }
 {
     if json {
-        told_json(alloc, line, log, told)
+        with_context(alloc, &told_json(alloc, line, log, told)?, facts)
     } else {
-        bytes_of(alloc, &told_text(log, told))
+        with_lines(alloc, &told_text(log, told), facts)
     }
 }
 

@@ -4,6 +4,7 @@ ghost use Rattle.app_modes.specs.Failures.{failure_note, failure_status, is_verd
 
 use line_text::Line;
 use nested_loop::NestFault;
+use order_answer::BadEvents;
 use task_base::Fault;
 use task_reply::ReplyFault;
 
@@ -14,6 +15,12 @@ pub enum Failure {
     Common(Fault),
     /// In `lint`: the input is none, which is said by then.
     Linted,
+    /// In `arrange`: there is no order, which is said by then.
+    NoOrder,
+    /// In `arrange`: the search took as many steps as it may, which is said by then.
+    GaveUp,
+    /// In `arrange`: what stands after the script are no events which its seats may have seen.
+    BadEvents(BadEvents),
     /// In `trace`: the log is not that of a run of the script, whole or with `--prefix` begun; `line` counts from 1.
     NotTraced { line: u32 },
     /// In `reply`: a reply line breaks a rule. `line` counts from 1, behind the line `%%`.
@@ -31,36 +38,41 @@ impl From<Fault> for Failure {
 }
 
 impl Failure {
-    /// The exit status, from 1 to 7.
+    /// The exit status, from 1 to 8.
     pub fn status(&self) -> u8
         ensures status { result ≡ failure_status self.now }
         ensures above { 1 ≤ result }
     {
         match self {
             Failure::Common(fault) => fault.status(),
-            Failure::Linted | Failure::NotTraced { .. } => 1,
-            Failure::BadReplies { .. } | Failure::BadNest { .. } => 3,
+            Failure::Linted | Failure::NoOrder | Failure::NotTraced { .. } => 1,
+            Failure::GaveUp => 8,
+            Failure::BadEvents(_) | Failure::BadReplies { .. } | Failure::BadNest { .. } => 3,
         }
     }
 
-    /// Whether it is a verdict, which is written: that a log is not legal, or that an input is none.
+    /// Whether it is a verdict, which is written: that a log is not legal, that an input is none, or that no order was found.
     pub fn is_verdict(&self) -> bool
         ensures { result ≡ is_verdict self.now }
     {
         matches!(
             self,
-            Failure::Common(Fault::NotLegal { .. }) | Failure::Linted
+            Failure::Common(Fault::NotLegal { .. })
+                | Failure::Linted
+                | Failure::NoOrder
+                | Failure::GaveUp
         )
     }
 
     /// What is told of the failure, without a line feed. It takes no memory.
     pub fn note(&self) -> Line
         ensures note { result.items ≡ failure_note self.now }
-        ensures short { length result.items ≤ 100 }
+        ensures short { length result.items ≤ 110 }
     {
         match *self {
             Failure::Common(ref fault) => fault.note(),
-            Failure::Linted => Line::new(),
+            Failure::Linted | Failure::NoOrder | Failure::GaveUp => Line::new(),
+            Failure::BadEvents(bad) => bad.note(),
             Failure::NotTraced { line } => Fault::NotLegal { line }.note(),
             Failure::BadReplies { line, reason } => ReplyFault::Bad { line, reason }.note(),
             Failure::BadNest { line, reason } => NestFault::Bad { line, reason }.note(),

@@ -63,6 +63,7 @@ options_same f g same =
       same (codes "no-delays"),
       same (codes "no-scopes"),
       same (codes "no-shutdown"),
+      same (codes "most"),
     ) refl
 
 -- words that it takes are the command that its matches make

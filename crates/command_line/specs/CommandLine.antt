@@ -7,13 +7,13 @@ use Rattle.clap.specs.Kinds.{Kinds}
 use Rattle.clap.specs.Faults.{fault_of}
 use Rattle.clap.specs.declared.builder.action.ArgAction.TheVariants.{SetTrue}
 use Rattle.command_line.specs.declared.words.Command.{Command}
-use Rattle.command_line.specs.declared.words.Command.TheVariants.{Run, Simulate, Check, Explain, Reply, Trace, Nest, Lint, Generate, Bench}
+use Rattle.command_line.specs.declared.words.Command.TheVariants.{Run, Simulate, Check, Explain, Arrange, Reply, Trace, Nest, Lint, Generate, Bench}
 use Rattle.command_line.specs.declared.words.Linted.TheVariants as linted
 use Rattle.command_line.specs.declared.words.Mode.{Mode}
 use Rattle.command_line.specs.declared.words.Mode.TheVariants as modes
-use Rattle.command_line.specs.declared.options.TheConstants.{MOST_SIZE, MOST_WORK}
+use Rattle.command_line.specs.declared.options.TheConstants.{MOST_SIZE, MOST_STEPS, MOST_WORK}
 use Rattle.command_line.specs.Options.{◌>>=◌, Options, IsShake, everything, favour_given, is_bare, options_by}
-use Rattle.command_line.specs.Options.{pace_given, seed_given, shake_given, size_given, step_given, wide_given, work_given}
+use Rattle.command_line.specs.Options.{pace_given, seed_given, shake_given, size_given, step_given, steps_given, wide_given, work_given}
 
 -- ---- the command, as clap has commands
 
@@ -52,10 +52,12 @@ arguments =
     ∷ flag_argument (codes "no-delays")
     ∷ flag_argument (codes "no-scopes")
     ∷ flag_argument (codes "no-shutdown")
+    ∷ value_argument (codes "most")
     ∷ []
 
 -- `taskenv MODE [--step N] [--json] [--prefix] [--number N] [--size N] [--replies] [--nest] [--full] [--seed N] [--favour WORD] [--jump]
--- [--shake N] [--work N] [--wide] [--no-jobs] [--no-main] [--no-delays] [--no-scopes] [--no-shutdown]` (this project's own)
+-- [--shake N] [--work N] [--wide] [--no-jobs] [--no-main] [--no-delays] [--no-scopes] [--no-shutdown]
+-- [--most N]` (this project's own)
 abbrev pub taskenv : App
 taskenv = fold with_rule (new_app (codes "taskenv")) arguments
 
@@ -68,16 +70,18 @@ mode_named word =
     else (if is_word word (codes "simulate") then Some modes.Simulate
     else (if is_word word (codes "check") then Some modes.Check
     else (if is_word word (codes "explain") then Some modes.Explain
+    else (if is_word word (codes "arrange") then Some modes.Arrange
     else (if is_word word (codes "reply") then Some modes.Reply
     else (if is_word word (codes "trace") then Some modes.Trace
     else (if is_word word (codes "nest") then Some modes.Nest
     else (if is_word word (codes "lint") then Some modes.Lint
     else (if is_word word (codes "gen") then Some modes.Generate
     else (if is_word word (codes "bench") then Some modes.Bench
-    else None)))))))))
+    else None))))))))))
 
 -- the options that the mode does not take: `run` takes `--step`, `--json`, `--shake` and `--seed`, `simulate` takes `--seed`, `--favour`,
--- `--step`, `--jump` and `--json`, `check` takes `--prefix`, `explain` takes `--json` and `--prefix`, `trace` takes `--full` and `--prefix`, `lint` takes
+-- `--step`, `--jump` and `--json`, `check` takes `--prefix`, `explain` takes `--json` and `--prefix`,
+-- `arrange` takes `--prefix` and `--most`, `trace` takes `--full` and `--prefix`, `lint` takes
 -- `--replies` and `--nest`, `gen` takes `--number`, `--size`, `--wide` and the flags that leave something out,
 -- `bench` takes `--number`, `--size` and `--work`, and the others take none (this project's own rule)
 abbrev pub others_than : Mode → Options → Options
@@ -85,6 +89,7 @@ others_than modes.Run o = record o { step = None; json = false; shake = None; se
 others_than modes.Simulate o = record o { seed = None; favour = None; step = None; jump = false; json = false }
 others_than modes.Check o = record o { prefix = false }
 others_than modes.Explain o = record o { json = false; prefix = false }
+others_than modes.Arrange o = record o { prefix = false; most = None }
 others_than modes.Reply o = o
 others_than modes.Trace o = record o { full = false; prefix = false }
 others_than modes.Nest o = o
@@ -108,6 +113,12 @@ simulate_with o = do
   favour ← favour_given o.favour
   step ← pace_given o.step o.jump
   Some (Simulate seed favour step o.json)
+
+-- the command of the mode `arrange`
+abbrev pub arrange_with : Options → Option Command
+arrange_with o = do
+  most ← steps_given o.most
+  Some (Arrange o.prefix most)
 
 -- the command of the mode `lint`, whose two flags are not both there (this project's own rule)
 abbrev pub lint_with : Bool → Bool → Option Command
@@ -138,6 +149,7 @@ command_with modes.Run o = run_with o
 command_with modes.Simulate o = simulate_with o
 command_with modes.Check o = Some (Check o.prefix)
 command_with modes.Explain o = Some (Explain o.json o.prefix)
+command_with modes.Arrange o = arrange_with o
 command_with modes.Reply o = Some Reply
 command_with modes.Trace o = Some (Trace o.full o.prefix)
 command_with modes.Nest o = Some Nest
@@ -166,13 +178,14 @@ command_unless (kind ∷ kinds) rows = None
 unfoldable pub command_of : List (List ℕ) → Option Command
 command_of words = command_unless (fault_of taskenv words) (matches_of taskenv words)
 
--- the numbers of a command are in their ranges: a script that is to be made has from 1 to 8,192 tasks, those of the pool work
+-- the numbers of a command are in their ranges: a search takes from 1 to 10^12 steps at most, a script that is to be made has from 1 to 8,192 tasks, those of the pool work
 -- at most 1,000,000,000 nanoseconds each, and a run that is shaken pauses from 1 to 1,000,000 microseconds at most
 abbrev pub IsInRange : Command → Type 0
 IsInRange (Run step json shake) = IsShake shake
 IsInRange (Simulate seed favour step json) = Unit {0}
 IsInRange (Check prefix) = Unit {0}
 IsInRange (Explain json prefix) = Unit {0}
+IsInRange (Arrange prefix most) = (1 ≤ most) × (most ≤ MOST_STEPS)
 IsInRange Reply = Unit {0}
 IsInRange (Trace full prefix) = Unit {0}
 IsInRange Nest = Unit {0}
@@ -180,7 +193,7 @@ IsInRange (Lint input) = Unit {0}
 IsInRange (Generate number size wide) = (1 ≤ size) × (size ≤ MOST_SIZE)
 IsInRange (Bench number size work) = (1 ≤ size) × (size ≤ MOST_SIZE) × (work ≤ MOST_WORK)
 
--- the command reads the source: a script, behind which `check`, `explain` and `trace` have a log and `reply` has replies, or a nest
+-- the command reads the source: a script, after which `check`, `explain` and `trace` have a log, `arrange` has events and `reply` has replies, or a nest
 -- script; `lint` any of the scripts and replies
 abbrev pub TakesInput : Option Command → Type 0
 TakesInput None = ⊥
@@ -188,6 +201,7 @@ TakesInput (Some (Run step json shake)) = Unit {0}
 TakesInput (Some (Simulate seed favour step json)) = Unit {0}
 TakesInput (Some (Check prefix)) = Unit {0}
 TakesInput (Some (Explain json prefix)) = Unit {0}
+TakesInput (Some (Arrange prefix most)) = Unit {0}
 TakesInput (Some Reply) = Unit {0}
 TakesInput (Some (Trace full prefix)) = Unit {0}
 TakesInput (Some Nest) = Unit {0}
@@ -203,6 +217,7 @@ ReadsClock (Some (Run (Some step) json shake)) = ⊥
 ReadsClock (Some (Simulate seed favour step json)) = ⊥
 ReadsClock (Some (Check prefix)) = ⊥
 ReadsClock (Some (Explain json prefix)) = ⊥
+ReadsClock (Some (Arrange prefix most)) = ⊥
 ReadsClock (Some Reply) = Unit {0}
 ReadsClock (Some (Trace full prefix)) = ⊥
 ReadsClock (Some Nest) = ⊥
@@ -219,6 +234,7 @@ WritesJson (Some (Simulate seed favour step true)) = Unit {0}
 WritesJson (Some (Simulate seed favour step false)) = ⊥
 WritesJson (Some (Check prefix)) = ⊥
 WritesJson (Some (Explain json prefix)) = ⊥
+WritesJson (Some (Arrange prefix most)) = ⊥
 WritesJson (Some Reply) = ⊥
 WritesJson (Some (Trace full prefix)) = ⊥
 WritesJson (Some Nest) = ⊥
@@ -233,6 +249,7 @@ IsJudge (Some (Run step json shake)) = ⊥
 IsJudge (Some (Simulate seed favour step json)) = ⊥
 IsJudge (Some (Check prefix)) = Unit {0}
 IsJudge (Some (Explain json prefix)) = Unit {0}
+IsJudge (Some (Arrange prefix most)) = ⊥
 IsJudge (Some Reply) = ⊥
 IsJudge (Some (Trace full prefix)) = Unit {0}
 IsJudge (Some Nest) = ⊥
@@ -247,6 +264,7 @@ WritesVerdict (Some (Run step json shake)) = ⊥
 WritesVerdict (Some (Simulate seed favour step json)) = ⊥
 WritesVerdict (Some (Check prefix)) = Unit {0}
 WritesVerdict (Some (Explain json prefix)) = Unit {0}
+WritesVerdict (Some (Arrange prefix most)) = ⊥
 WritesVerdict (Some Reply) = ⊥
 WritesVerdict (Some (Trace full prefix)) = ⊥
 WritesVerdict (Some Nest) = ⊥
@@ -263,6 +281,11 @@ IsLint command = ⊥
 abbrev pub IsTrace : Option Command → Type 0
 IsTrace (Some (Trace full prefix)) = Unit {0}
 IsTrace command = ⊥
+
+-- the command looks for an order of events
+abbrev pub IsArrange : Option Command → Type 0
+IsArrange (Some (Arrange prefix most)) = Unit {0}
+IsArrange command = ⊥
 
 -- the command takes a log as legal that ends before the script is done
 abbrev pub takes_prefix : Option Command → Bool

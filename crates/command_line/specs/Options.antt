@@ -9,7 +9,7 @@ use Rattle.command_line.specs.declared.options.Favour.TheVariants as favours
 use Rattle.command_line.specs.declared.options.Given.{Given}
 use Rattle.command_line.specs.declared.options.Shake.{Shake}
 use Rattle.command_line.specs.declared.options.Wide.{Wide}
-use Rattle.command_line.specs.declared.options.TheConstants.{USUAL_SIZE, MOST_SIZE, MOST_SHAKE, MOST_WORK}
+use Rattle.command_line.specs.declared.options.TheConstants.{USUAL_SIZE, USUAL_STEPS, MOST_SIZE, MOST_SHAKE, MOST_STEPS, MOST_WORK}
 
 infixl 10 ◌>>=◌
 -- the second, made of the value of the first, if there is one
@@ -36,6 +36,7 @@ pub record Options : Type 0 where
   pub work : Option (List ℕ)
   pub wide : Bool
   pub parts : Wide
+  pub most : Option (List ℕ)
 
 -- the same, with the words behind the references
 abbrev pub options_of : Given → Options
@@ -55,6 +56,7 @@ options_of g = record {
   work = option_map (λ s. s.now) g.work;
   wide = g.wide;
   parts = g.parts;
+  most = option_map (λ s. s.now) g.most;
 }
 
 -- none of the options is there that have no value
@@ -64,6 +66,7 @@ has_no_flag o = not (o.json || o.prefix || o.replies || o.nest || o.full || o.ju
 -- none of those is there whose value is a number
 abbrev pub has_no_number : Options → Bool
 has_no_number o = is_none o.step && is_none o.number && is_none o.size && is_none o.seed && is_none o.shake && is_none o.work
+    && is_none o.most
 
 -- all that a wide script may have
 abbrev pub everything : Wide
@@ -110,6 +113,7 @@ options_by word_at = record {
   work = word_at (codes "work");
   wide = is_set (word_at (codes "wide"));
   parts = parts_by word_at;
+  most = word_at (codes "most");
 }
 
 -- ---- the values of their words
@@ -145,6 +149,11 @@ size_given (Some word) = number_named 1 MOST_SIZE word
 abbrev pub work_given : Option (List ℕ) → Option ℕ
 work_given None = Some 0
 work_given (Some word) = number_named 0 MOST_WORK word
+
+-- how many steps a search for an order takes at most: the usual number where that is left out
+abbrev pub steps_given : Option (List ℕ) → Option ℕ
+steps_given None = Some USUAL_STEPS
+steps_given (Some word) = number_named 1 MOST_STEPS word
 
 -- how a run is shaken, by the most microseconds of a pause and a seed: not at all where both are left out. A seed alone is wrong
 -- (this project's own rule)

@@ -4,5 +4,7 @@
 mod options;
 mod words;
 
-pub use options::{Favour, MOST_SHAKE, MOST_SIZE, MOST_WORK, Shake, USUAL_SIZE, Wide};
+pub use options::{
+    Favour, MOST_SHAKE, MOST_SIZE, MOST_STEPS, MOST_WORK, Shake, USUAL_SIZE, USUAL_STEPS, Wide,
+};
 pub use words::{Command, Linted, command_of};

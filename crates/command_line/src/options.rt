@@ -1,7 +1,7 @@
 ghost use Rattle.std.specs.Prelude.{◌≡◌, ◌≤◌, ◌&&◌, nat_le, decimal, option_map, IfSome};
 ghost use Rattle.script_model.specs.Words.{is_word};
 ghost use Rattle.command_line.specs.Options.{IsShake, favour_given, favour_named, has_all, has_no_flag, has_no_number, is_bare, is_set, number_named};
-ghost use Rattle.command_line.specs.Options.{options_of, pace_given, seed_given, shake_given, size_given, step_given, wide_given, work_given};
+ghost use Rattle.command_line.specs.Options.{options_of, pace_given, seed_given, shake_given, size_given, step_given, steps_given, wide_given, work_given};
 
 use itoa::Buffer;
 use task_base::MOST_MICROSECONDS;
@@ -17,6 +17,12 @@ pub const MOST_SHAKE: u64 = 1_000_000;
 
 /// The most nanoseconds that each task of the pool works in a benchmark.
 pub const MOST_WORK: u64 = 1_000_000_000;
+
+/// The most steps of a search for an order.
+pub const MOST_STEPS: u64 = 1_000_000_000_000;
+
+/// How many steps it takes at most where nothing is said.
+pub const USUAL_STEPS: u64 = 10_000_000;
 
 /// How a run is shaken (this project's own).
 #[derive(Clone, Copy, Debug, PartialEq, Eq)]
@@ -71,6 +77,7 @@ pub(crate) struct Given<'a> {
     pub(crate) work: Option<&'a str>,
     pub(crate) wide: bool,
     pub(crate) parts: Wide,
+    pub(crate) most: Option<&'a str>,
 }
 
 /// Whether no option is there.
@@ -101,6 +108,7 @@ fn has_no_number(given: Given<'_>) -> bool
         && given.seed.is_none()
         && given.shake.is_none()
         && given.work.is_none()
+        && given.most.is_none()
 }
 
 /// Whether nothing is left out.
@@ -160,6 +168,18 @@ pub(crate) fn work_given(word: Option<&str>) -> Option<u64>
     match word {
         Some(word) => number_named(0, MOST_WORK, word),
         None => Some(0),
+    }
+}
+
+/// How many steps a search for an order takes at most. It may be left out.
+pub(crate) fn steps_given(word: Option<&str>) -> Option<u64>
+    ensures steps { result ≡ steps_given (option_map (λ s. s.now) word.entry) }
+    ensures some { IfSome result (λ steps. 1 ≤ steps) }
+    ensures few { IfSome result (λ steps. steps ≤ MOST_STEPS) }
+{
+    match word {
+        Some(word) => number_named(1, MOST_STEPS, word),
+        None => Some(USUAL_STEPS),
     }
 }
 

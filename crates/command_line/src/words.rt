@@ -4,12 +4,12 @@ ghost use Rattle.clap.specs.Simple.{app_of, with_rule};
 ghost use Rattle.clap.specs.Values.{kind_of};
 ghost use Rattle.clap.specs.Walk.{rule_of};
 ghost use Rattle.command_line.specs.Options.{options_by, options_of, parts_by};
-ghost use Rattle.command_line.specs.CommandLine.{IsInRange, bench_with, command_by, command_of, command_with, flag_argument, lint_with};
+ghost use Rattle.command_line.specs.CommandLine.{IsInRange, arrange_with, bench_with, command_by, command_of, command_with, flag_argument, lint_with};
 ghost use Rattle.command_line.specs.CommandLine.{generate_with, mode_argument, mode_named, others_than, run_with, simulate_with, taskenv, value_argument};
 
 use crate::options::{
     Favour, Given, Shake, Wide, favour_given, is_bare, is_set, pace_given, seed_given, shake_given,
-    size_given, step_given, wide_given, work_given,
+    size_given, step_given, steps_given, wide_given, work_given,
 };
 use clap::error::ErrorKind;
 use clap::{Arg, ArgAction, ArgMatches};
@@ -49,6 +49,13 @@ pub enum Command {
         json: bool,
         /// Whether the log may also end before the script is done.
         prefix: bool,
+    },
+    /// Looks for an order of what each seat saw of a run of a script, and writes the log that it makes.
+    Arrange {
+        /// Whether the log may also end before the script is done.
+        prefix: bool,
+        /// How many steps the search takes at most: 1 to 1,000,000,000,000.
+        most: u64,
     },
     /// Runs a script whose tasks post the replies after it, and writes the log of the run.
     Reply,
@@ -104,6 +111,7 @@ enum Mode {
     Simulate,
     Check,
     Explain,
+    Arrange,
     Reply,
     Trace,
     Nest,
@@ -154,6 +162,7 @@ fn given_in<'a>(matches: &ArgMatches<'a>) -> Given<'a>
         work: matches.get_str("work"),
         wide: is_set(matches.get_str("wide")),
         parts: parts_in(matches),
+        most: matches.get_str("most"),
     }
 }
 
@@ -171,7 +180,8 @@ fn parts_in(matches: &ArgMatches<'_>) -> Wide
 }
 
 /// The command `taskenv MODE [--step N] [--json] [--prefix] [--number N] [--size N] [--replies] [--nest] [--full] [--seed N]
-/// [--favour WORD] [--jump] [--shake N] [--work N] [--wide] [--no-jobs] [--no-main] [--no-delays] [--no-scopes] [--no-shutdown]`.
+/// [--favour WORD] [--jump] [--shake N] [--work N] [--wide] [--no-jobs] [--no-main] [--no-delays] [--no-scopes] [--no-shutdown]
+/// [--most N]`.
 fn taskenv<'a>(alloc: Global) -> Result<clap::Command<'a>, AllocError>
     ensures { IfOk result (λ command. app_of command ≡ taskenv) }
 {
@@ -194,7 +204,8 @@ fn taskenv<'a>(alloc: Global) -> Result<clap::Command<'a>, AllocError>
     let command = with_argument(command, flag_argument(alloc, "no-main"))?;
     let command = with_argument(command, flag_argument(alloc, "no-delays"))?;
     let command = with_argument(command, flag_argument(alloc, "no-scopes"))?;
-    with_argument(command, flag_argument(alloc, "no-shutdown"))
+    let command = with_argument(command, flag_argument(alloc, "no-shutdown"))?;
+    with_argument(command, value_argument(alloc, "most"))
 }
 
 /// The command with one argument more.
@@ -253,6 +264,7 @@ fn mode_named(word: &str) -> Option<Mode>
         "simulate" => Some(Mode::Simulate),
         "check" => Some(Mode::Check),
         "explain" => Some(Mode::Explain),
+        "arrange" => Some(Mode::Arrange),
         "reply" => Some(Mode::Reply),
         "trace" => Some(Mode::Trace),
         "nest" => Some(Mode::Nest),
@@ -290,6 +302,11 @@ fn others_than<'a>(mode: Mode, given: Given<'a>) -> Given<'a>
         Mode::Explain => Given {
             json: false,
             prefix: false,
+            ..given
+        },
+        Mode::Arrange => Given {
+            prefix: false,
+            most: None,
             ..given
         },
         Mode::Reply | Mode::Nest => given,
@@ -340,6 +357,7 @@ fn command_with(mode: Mode, given: Given<'_>) -> Option<Command>
             json: given.json,
             prefix: given.prefix,
         }),
+        Mode::Arrange => arrange_with(given),
         Mode::Reply => Some(Command::Reply),
         Mode::Trace => Some(Command::Trace {
             full: given.full,
@@ -374,6 +392,17 @@ fn simulate_with(given: Given<'_>) -> Option<Command>
         favour: favour_given(given.favour)?,
         step: pace_given(given.step, given.jump)?,
         json: given.json,
+    })
+}
+
+/// The command of the mode `arrange`.
+fn arrange_with(given: Given<'_>) -> Option<Command>
+    ensures command { result ≡ arrange_with (options_of given.entry) }
+    ensures in_range { IfSome result IsInRange }
+{
+    Some(Command::Arrange {
+        prefix: given.prefix,
+        most: steps_given(given.most)?,
     })
 }
 

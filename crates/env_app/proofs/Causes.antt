@@ -1,13 +1,13 @@
 -- The status of a failure that ends a command has its cause.
 -- Cited by `run_words`.
-use Rattle.std.proofs.Common.{rules, tests, ◌≡◌, ◌≢◌, ℕ, List, refl, subst, inr, Option, Some, None}
+use Rattle.std.proofs.Common.{rules, tests, ◌≡◌, ◌≢◌, ℕ, List, refl, subst, inl, inr, Option, Some, None}
 use Rattle.std.specs.Prelude.{Result, Err}
 use Rattle.task_base.specs.declared.fault.Fault.TheVariants.{NotLegal, BadWords, BadScript, ReadFault, WriteFault, NoMemory, TooLarge}
 use Rattle.app_modes.specs.declared.failure.Failure.{Failure}
-use Rattle.app_modes.specs.declared.failure.Failure.TheVariants.{Common, Linted, NotTraced, BadReplies, BadNest}
+use Rattle.app_modes.specs.declared.failure.Failure.TheVariants.{Common, Linted, NoOrder, GaveUp, BadEvents, NotTraced, BadReplies, BadNest}
 use Rattle.command_line.specs.declared.words.Command.{Command}
-use Rattle.command_line.specs.declared.words.Command.TheVariants.{Run, Simulate, Check, Explain, Reply, Trace, Nest, Lint}
-use Rattle.command_line.specs.CommandLine.{IsJudge, IsLint, IsTrace, TakesInput, WritesVerdict, takes_prefix}
+use Rattle.command_line.specs.declared.words.Command.TheVariants.{Run, Simulate, Check, Explain, Arrange, Reply, Trace, Nest, Lint}
+use Rattle.command_line.specs.CommandLine.{IsArrange, IsJudge, IsLint, IsTrace, TakesInput, WritesVerdict, takes_prefix}
 use Rattle.app_modes.specs.Failures.{failure_status}
 use Rattle.app_streams.specs.Ends.{Ends, IsSteady}
 use Rattle.app_streams.specs.Taken.{IsWithin, OfBytes, OfTaken, TookAll, TookMore, TookWithin}
@@ -32,6 +32,18 @@ of_judge command judges = absurd judges
 of_lint : (command : Option Command) → IsLint command → IsOfJudge command
 of_lint (Some (Lint input)) lints = record { done = inr refl; takes = tt }
 of_lint command lints = absurd lints
+
+-- what is known of a command that looks for an order
+record IsOfArrange (command : Option Command) : Type 0 where
+  -- 1, 3 and 8 say that it did its work
+  pub none : IsDone command 1
+  pub bad : IsDone command 3
+  pub gave_up : IsDone command 8
+  pub takes : TakesInput command
+
+of_arrange : (command : Option Command) → IsArrange command → IsOfArrange command
+of_arrange (Some (Arrange prefix most)) arranges = record { none = inr (inl refl); bad = inr (inr (inl refl)); gave_up = inr (inr (inr refl)); takes = tt }
+of_arrange command arranges = absurd arranges
 
 verdict_judges : (command : Option Command) → WritesVerdict command → IsJudge command
 verdict_judges (Some (Check prefix)) writes = tt
@@ -60,6 +72,8 @@ taken Holds (Some (Simulate seed favour step json)) told source takes does =
     of_told (Some (Simulate seed favour step json)) source does.bytes does.took (rw does.holds.reads refl)
 taken Holds (Some (Check prefix)) told source takes does = of_told (Some (Check prefix)) source does.bytes does.took (rw does.holds.reads refl)
 taken Holds (Some (Explain json prefix)) told source takes does = of_told (Some (Explain json prefix)) source does.bytes does.took (rw does.holds.reads refl)
+taken Holds (Some (Arrange prefix most)) told source takes does =
+    of_told (Some (Arrange prefix most)) source does.bytes does.took (rw does.holds.reads refl)
 taken Holds (Some Reply) told source takes does =
     of_told (Some Reply) source does.bytes does.took (rw (does.holds.reads, does.holds.elaborates.said) refl)
 taken Holds (Some (Trace full prefix)) told source takes does = of_told (Some (Trace full prefix)) source does.bytes does.took (rw does.holds.found.reads refl)
@@ -81,6 +95,12 @@ cause_of_failure command told source sink (NotTraced line) runs source_steady si
     let bytes = taken _ command told source of.takes runs.2 in search (rules, tests)
 cause_of_failure command told source sink Linted runs source_steady sink_steady more within =
     let of = of_lint command runs.0 in let bytes = taken _ command told source of.takes runs.2 in search (rules, tests)
+cause_of_failure command told source sink NoOrder runs source_steady sink_steady more within =
+    let of = of_arrange command runs.0 in let bytes = taken _ command told source of.takes runs.2 in search (rules, tests)
+cause_of_failure command told source sink GaveUp runs source_steady sink_steady more within =
+    let of = of_arrange command runs.0 in let bytes = taken _ command told source of.takes runs.2 in search (rules, tests)
+cause_of_failure command told source sink (BadEvents bad) runs source_steady sink_steady more within =
+    let of = of_arrange command runs.0 in let bytes = taken _ command told source of.takes runs.2 in search (rules, tests)
 cause_of_failure command told source sink (Common (NotLegal line)) runs source_steady sink_steady more within =
     let judges = verdict_judges command runs.0 in let of = of_judge command judges in
     let bytes = taken _ command told source of.takes runs.2 in search (rules, tests)

@@ -3,23 +3,26 @@ use Rattle.std.specs.Prelude.{◌≡◌, ◌≢◌, ◌⊎◌, ◌<◌, ◌≤�
 use Rattle.task_base.specs.declared.limits.TheConstants.{MOST_BYTES}
 use Rattle.task_base.specs.declared.fault.Fault.TheVariants.{NotLegal, BadScript}
 use Rattle.command_line.specs.declared.words.Command.{Command}
-use Rattle.command_line.specs.declared.words.Command.TheVariants.{Run, Simulate, Check, Explain, Reply, Trace, Nest, Lint, Generate, Bench}
+use Rattle.command_line.specs.declared.words.Command.TheVariants.{Run, Simulate, Check, Explain, Arrange, Reply, Trace, Nest, Lint, Generate, Bench}
 use Rattle.app_streams.specs.Ends.{Ends, Failed, IsSteady}
 use Rattle.app_streams.specs.Taken.{IsReadToEnd, OfBytes, IsWithin, TookMore, TookWithin, OfTaken}
 use Rattle.app_modes.specs.declared.failure.Failure.{Failure}
-use Rattle.app_modes.specs.declared.failure.Failure.TheVariants.{Common, Linted, NotTraced, BadReplies, BadNest}
+use Rattle.app_modes.specs.declared.failure.Failure.TheVariants.{Common, Linted, NoOrder, GaveUp, BadEvents, NotTraced, BadReplies, BadNest}
 use Rattle.app_modes.specs.Failures.{failure_status}
-use Rattle.command_line.specs.CommandLine.{IsJudge, IsLint, IsTrace, TakesInput, WritesVerdict, takes_prefix}
+use Rattle.command_line.specs.CommandLine.{IsArrange, IsJudge, IsLint, IsTrace, TakesInput, WritesVerdict, takes_prefix}
+use Rattle.app_modes.specs.Arranged.{HasBadEvents}
 use Rattle.app_modes.specs.Judged.{IsFoundIn}
 use Rattle.app_modes.specs.Outcome.{Does, IsRefused, IsWritten, IsCutOff, refusal_of}
 
--- the status says that the command did its work: 0, and 1 too where a log is judged, or an input
+-- the status says that the command did its work: 0, and 1 too where a log is judged, or an input, or an order is looked for; then also 8,
+-- where the search gave up, and 3, where there are no events to be ordered
 abbrev pub IsDone : Option Command → ℕ → Type 0
 IsDone None status = status ≡ 0
 IsDone (Some (Run step json shake)) status = status ≡ 0
 IsDone (Some (Simulate seed favour step json)) status = status ≡ 0
 IsDone (Some (Check prefix)) status = (status ≡ 0) ⊎ (status ≡ 1)
 IsDone (Some (Explain json prefix)) status = (status ≡ 0) ⊎ (status ≡ 1)
+IsDone (Some (Arrange prefix most)) status = (status ≡ 0) ⊎ (status ≡ 1) ⊎ (status ≡ 3) ⊎ (status ≡ 8)
 IsDone (Some Reply) status = status ≡ 0
 IsDone (Some (Trace full prefix)) status = (status ≡ 0) ⊎ (status ≡ 1)
 IsDone (Some Nest) status = status ≡ 0
@@ -27,16 +30,19 @@ IsDone (Some (Lint input)) status = (status ≡ 0) ⊎ (status ≡ 1)
 IsDone (Some (Generate number size wide)) status = status ≡ 0
 IsDone (Some (Bench number size work)) status = status ≡ 0
 
--- the status is a verdict that is written: of a log that is not legal, or of an input that is none
+-- the status is a verdict that is written: of a log that is not legal, of an input that is none, or that no order was found
 abbrev pub IsVerdictOf : Option Command → ℕ → Type 0
-IsVerdictOf command status = (status ≡ 1) × (WritesVerdict command ⊎ IsLint command)
+IsVerdictOf command status =
+    ((status ≡ 1) × (WritesVerdict command ⊎ IsLint command)) ⊎ (((status ≡ 1) ⊎ (status ≡ 8)) × IsArrange command)
 
 -- each status has its cause
 pub record HasCause (command : Option Command) (told : ℕ → Option ℕ) (source sink : Ends) (status : ℕ) : Type 0 where
-  -- nothing above 7 is answered
-  pub known : status ≤ 7
-  -- 1 comes only where a log is judged, or an input
-  pub judged : status ≡ 1 → IsJudge command ⊎ IsLint command
+  -- nothing above 8 is answered
+  pub known : status ≤ 8
+  -- 1 comes only where a log is judged, or an input, or an order is looked for
+  pub judged : status ≡ 1 → IsJudge command ⊎ IsLint command ⊎ IsArrange command
+  -- 8 comes only where an order is looked for, the source was read to its end, and the whole of what goes with it was written
+  pub gave_up : status ≡ 8 → IsArrange command × IsReadToEnd source × Does command told source (IsWritten sink status)
   -- 2 comes only where the words are no command
   pub bad_words : status ≡ 2 → command ≡ None
   -- and where they are none, nothing but 2 and want of memory comes
@@ -48,7 +54,8 @@ pub record HasCause (command : Option Command) (told : ℕ → Option ℕ) (sour
   -- under 0 and 1 the whole of what the command writes was written, and this status goes with it
   pub done : (status ≡ 0) ⊎ (status ≡ 1) → Does command told source (IsWritten sink status)
   -- 3 comes only where the bytes, within the limit, are refused
-  pub bad_input : status ≡ 3 → OfTaken source (λ bytes. IsSome (refusal_of command bytes))
+  -- or where an order is looked for of what are no events
+  pub bad_input : status ≡ 3 → OfTaken source (λ bytes. IsSome (refusal_of command bytes)) ⊎ (IsArrange command × Does command told source (IsWritten sink 3))
   -- and where they are, nothing but 3, a failed source and want of memory comes
   pub refused : TakesInput command → OfBytes source (λ bytes. IsWithin bytes → IsSome (refusal_of command bytes) → (status ≡ 3) ⊎ (status ≡ 4) ⊎ (status ≡ 6))
   -- 4 comes only where the source failed
@@ -77,6 +84,9 @@ IsFailureOf command (Common (NotLegal line)) = WritesVerdict command
 IsFailureOf command (Common (BadScript line reason)) = command ≢ Some Nest
 IsFailureOf command (Common fault) = Unit {0}
 IsFailureOf command Linted = IsLint command
+IsFailureOf command NoOrder = IsArrange command
+IsFailureOf command GaveUp = IsArrange command
+IsFailureOf command (BadEvents bad) = IsArrange command
 IsFailureOf command (NotTraced line) = IsTrace command
 IsFailureOf command (BadReplies line reason) = command ≡ Some Reply
 IsFailureOf command (BadNest line reason) = command ≡ Some Nest
@@ -87,6 +97,9 @@ abbrev pub IsOfBytes : Option Command → Ends → Failure → Type 0
 IsOfBytes command source (Common (BadScript line reason)) = IsRefused command source (Common (BadScript line reason))
 IsOfBytes command source (Common fault) = Unit {0}
 IsOfBytes command source Linted = Unit {0}
+IsOfBytes command source NoOrder = Unit {0}
+IsOfBytes command source GaveUp = Unit {0}
+IsOfBytes command source (BadEvents bad) = OfTaken source (λ bytes. HasBadEvents bytes bad)
 IsOfBytes command source (NotTraced line) = OfTaken source (λ bytes. IsFoundIn (takes_prefix command) bytes (Some line))
 IsOfBytes command source (BadReplies line reason) = IsRefused command source (BadReplies line reason)
 IsOfBytes command source (BadNest line reason) = IsRefused command source (BadNest line reason)

@@ -4,7 +4,7 @@ ghost use Rattle.task_base.specs.declared.entry.Entry.{Entry};
 ghost use Rattle.script_model.specs.Canonical.{canonical};
 ghost use Rattle.run_summary.specs.Summary.{generated_totals};
 ghost use Rattle.env_io.specs.Bytes.{Gains, Rose};
-ghost use Rattle.command_line.specs.declared.words.Command.TheVariants.{Run, Simulate, Check, Explain, Reply, Trace, Nest, Lint, Generate, Bench};
+ghost use Rattle.command_line.specs.declared.words.Command.TheVariants.{Run, Simulate, Check, Explain, Arrange, Reply, Trace, Nest, Lint, Generate, Bench};
 ghost use Rattle.command_line.specs.declared.options.Favour.{Favour};
 ghost use Rattle.command_line.specs.declared.options.Shake.{Shake};
 ghost use Rattle.command_line.specs.declared.options.Wide.{Wide};
@@ -13,6 +13,7 @@ ghost use Rattle.command_line.specs.declared.words.Linted.TheVariants as linted;
 ghost use Rattle.command_line.specs.CommandLine.{IsJudge, ReadsClock, TakesInput, WritesJson, command_of, takes_prefix};
 ghost use Rattle.app_modes.specs.declared.failure.Failure.{Failure};
 ghost use Rattle.app_modes.specs.Failures.{note_line};
+ghost use Rattle.app_modes.specs.Arranged.{HasArranged};
 ghost use Rattle.app_modes.specs.Judged.{HasChecked, HasLegalLog, HasTraced, IsLegalLog};
 ghost use Rattle.app_modes.specs.Explained.{HasExplained};
 ghost use Rattle.app_modes.specs.Linted.{IsSaid, lint_said};
@@ -36,8 +37,8 @@ use std::thread::Threads;
 /// Does what the words ask for, and answers the exit status (this project's own rule).
 ///
 /// The command is `taskenv MODE [--step N] [--json] [--prefix] [--number N] [--size N] [--replies] [--nest] [--full] [--seed N]
-/// [--favour WORD] [--jump] [--shake N] [--work N] [--wide] [--no-jobs] [--no-main] [--no-delays] [--no-scopes] [--no-shutdown]`, the
-/// program's name first.
+/// [--favour WORD] [--jump] [--shake N] [--work N] [--wide] [--no-jobs] [--no-main] [--no-delays] [--no-scopes] [--no-shutdown] [--most N]`,
+/// the program's name first.
 /// The modes are:
 ///
 /// - `run` reads a script from the source, to its end, runs it, and writes the run's log to the sink, as text or with
@@ -51,6 +52,9 @@ use std::thread::Threads;
 ///   whole run of the script, which is status 0, or at which line it is not, which is status 1. With `--prefix` the log may
 ///   also end before the script is done.
 /// - `explain` does what `check` does, and writes behind the line at which a log is wrong why, in words or with `--json` in JSON.
+/// - `arrange` reads a script, the line `%%` and what each seat saw from the source, to its end, and writes the log of an order of it that
+///   may have come, which is status 0; or that there is none, which is status 1, or that `--most` steps found none, which is status 8,
+///   and how far an order goes. Where the text is that of no events which seats of the script may have seen, that is status 3. With `--prefix` the log may also end before the script is done.
 /// - `reply` reads a script, the line `%%` and replies from the source, to its end, and does what `run` does of the script
 ///   whose tasks post their replies.
 /// - `trace` reads what `check` reads, and writes the log as trace events, which is status 0, where it is that of a whole
@@ -64,8 +68,8 @@ use std::thread::Threads;
 /// - `bench` runs that script, where each task of the pool works `--work` nanoseconds, and writes what the log of the run adds up
 ///   to. It reads nothing.
 ///
-/// A status above 0 is that of a `Failure`, whose note goes to the notes, but for the verdict of `check`, `explain` and `lint`. Want of
-/// memory comes before the first entry of a run, or with `--json` and in `trace` before the first byte is written. The gate
+/// A status above 0 is that of a `Failure`, whose note goes to the notes, but for the verdict of `check`, `explain`, `arrange` and `lint`.
+/// Out of memory comes before the first entry of a run, or with `--json` and in `trace` before the first byte is written. The gate
 /// is called between each take of a task of the pool and the task's first step, while no turn is held. The clock is read by
 /// `run` and `reply` alone, once for each tick, or with `--step` not at all: its readings are then N, 2N, 3N and so on, in
 /// microseconds. Pauses and work go by the system's own clock.
@@ -117,6 +121,12 @@ pub fn run_words<
     ensures explained { (json prefix : Bool) → command_of (map string_bytes words.now) ≡ Some (Explain json prefix) → (result ≡ 0) ⊎ (result ≡ 1)
         → OfTaken (ends (S.left source.old) (S.left source.new) (S.faults source.old) (S.faults source.new))
         (λ bytes. HasExplained json prefix bytes (λ status text. (result ≡ status) × WroteAll (K.holds sink.old) (K.holds sink.new) text)) }
+    // `arrange` writes the log of an order of the events behind the script, with 0; 1 comes only where there is none, and 8 where none
+    // was found.
+    ensures arranged { (prefix : Bool) (most : ℕ) → command_of (map string_bytes words.now) ≡ Some (Arrange prefix most)
+        → (result ≡ 0) ⊎ (result ≡ 1) ⊎ (result ≡ 8)
+        → OfTaken (ends (S.left source.old) (S.left source.new) (S.faults source.old) (S.faults source.new))
+        (λ bytes. HasArranged prefix bytes (λ status text. (result ≡ status) × WroteAll (K.holds sink.old) (K.holds sink.new) text)) }
     ensures traced { (full prefix : Bool) → command_of (map string_bytes words.now) ≡ Some (Trace full prefix) → (result ≡ 0) ⊎ (result ≡ 1)
         → OfTaken (ends (S.left source.old) (S.left source.new) (S.faults source.old) (S.faults source.new))
         (λ bytes. HasTraced full prefix bytes (λ status text. (result ≡ status) × WroteAll (K.holds sink.old) (K.holds sink.new) text)) }

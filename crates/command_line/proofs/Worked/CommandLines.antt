@@ -3,7 +3,7 @@ use Rattle.std.proofs.Common.{◌≡◌, ℕ, true, false, List, [], ◌∷◌, 
 use Rattle.std.specs.Fmt.{digits}
 use Rattle.clap.proofs.OnLiterals.{clap_on_literals}
 use Rattle.command_line.specs.declared.words.Command.{Command}
-use Rattle.command_line.specs.declared.words.Command.TheVariants.{Run, Simulate, Check, Explain, Reply, Trace, Nest, Lint, Generate, Bench}
+use Rattle.command_line.specs.declared.words.Command.TheVariants.{Run, Simulate, Check, Explain, Arrange, Reply, Trace, Nest, Lint, Generate, Bench}
 use Rattle.command_line.specs.declared.options.Favour.TheVariants as favours
 use Rattle.command_line.specs.declared.words.Linted.TheVariants as linted
 use Rattle.command_line.specs.Options.{everything, number_named}
@@ -41,6 +41,9 @@ commands =
     ∷ good (codes "explain" ∷ codes "--json" ∷ []) (Explain true false)
     ∷ good (codes "explain" ∷ codes "--prefix" ∷ []) (Explain false true)
     ∷ good (codes "--prefix" ∷ codes "explain" ∷ codes "--json" ∷ []) (Explain true true)  -- before the mode
+    ∷ good (codes "arrange" ∷ []) (Arrange false 10000000)
+    ∷ good (codes "arrange" ∷ codes "--prefix" ∷ codes "--most" ∷ codes "1" ∷ []) (Arrange true 1)
+    ∷ good (codes "--most=1000000000000" ∷ codes "arrange" ∷ []) (Arrange false 1000000000000)  -- the most
     ∷ good (codes "reply" ∷ []) Reply
     ∷ good (codes "trace" ∷ []) (Trace false false)
     ∷ good (codes "trace" ∷ codes "--full" ∷ []) (Trace true false)
@@ -304,6 +307,10 @@ others_newer_options =
     ∷ bad (codes "gen" ∷ codes "--seed" ∷ codes "3" ∷ [])
     ∷ bad (codes "bench" ∷ codes "--seed" ∷ codes "3" ∷ [])
     ∷ bad (codes "bench" ∷ codes "--shake" ∷ codes "5" ∷ [])
+    ∷ bad (codes "check" ∷ codes "--most" ∷ codes "5" ∷ [])
+    ∷ bad (codes "arrange" ∷ codes "--json" ∷ [])
+    ∷ bad (codes "arrange" ∷ codes "--most" ∷ codes "0" ∷ [])
+    ∷ bad (codes "arrange" ∷ codes "--most" ∷ codes "1000000000001" ∷ [])  -- one more than the greatest
     ∷ []
 
 others_newer_options_right : AreRight others_newer_options

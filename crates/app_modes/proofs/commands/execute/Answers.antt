@@ -1,5 +1,5 @@
 use Rattle.std.proofs.Common.{Some, ap, sym, ◌∙◌}
-use Rattle.command_line.specs.declared.words.Command.TheVariants.{Simulate, Check, Explain, Trace, Nest, Lint, Generate, Bench}
+use Rattle.command_line.specs.declared.words.Command.TheVariants.{Simulate, Check, Explain, Arrange, Trace, Nest, Lint, Generate, Bench}
 use Rattle.app_modes.proofs.Outcomes.{ends_asked, ends_in_common}
 use Rattle.app_modes.proofs.commands.execute.Goals as goal
 
@@ -17,6 +17,11 @@ pub returns-in-Explain-clause-outcome : goal.returns-in-Explain-clause-outcome
 returns-in-Explain-clause-outcome g c =
     ends_in_common _ (Explain c.in-Explain.json c.in-Explain.prefix) _ _ _ c.explain.result _
     (sym c.in-Ok-Some.ensures.command ∙ c.in-Ok-Some.field-0-is ∙ ap Some c.in-Explain.is) c.common-in-Explain.ensures c.explain.ensures.outcome
+
+pub returns-in-Arrange-clause-outcome : goal.returns-in-Arrange-clause-outcome
+returns-in-Arrange-clause-outcome g c =
+    ends_asked _ (Arrange c.in-Arrange.prefix c.in-Arrange.most) _ _ _ _
+    (sym c.in-Ok-Some.ensures.command ∙ c.in-Ok-Some.field-0-is ∙ ap Some c.in-Arrange.is) c.arrange.ensures.outcome
 
 pub returns-in-Trace-clause-outcome : goal.returns-in-Trace-clause-outcome
 returns-in-Trace-clause-outcome g c =

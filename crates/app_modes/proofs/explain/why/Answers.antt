@@ -1,5 +1,7 @@
-use Rattle.std.proofs.Common.{arith, sym, ◌∙◌}
-use Rattle.app_modes.proofs.Explained.{told_within}
+use Rattle.std.proofs.Common.{arith, inl, sym, refl, ◌≡◌, ◌∙◌}
+use Rattle.app_modes.specs.Judged.{IsTextOf, verdict_on}
+use Rattle.env_check.specs.declared.verdict.Verdict.TheVariants.{Illegal}
+use Rattle.app_modes.proofs.Explained.{illegal_told, no_cut, told_within}
 use Rattle.app_modes.proofs.Verdicts.{few_entries, one_before}
 use Rattle.app_modes.proofs.explain.why.Goals as goal
 
@@ -14,3 +16,28 @@ overflow_add-line-2 c =
     let place = told_within c.args.prefix _ _ c.in_ok-told.told c.in-Some.place c.in_ok-told.ensures.verdict (sym c.place_told.ensures ∙ c.in-Some.is) in
     let few = few_entries _ _ c.in-Log.log.items c.in-Log.cut (rw c.in-Log.is at c.in_ok-log.ensures) in
     omega (arith, place, few, c.requires.short, c.lines_before.ensures, one_before c.version_of.result)
+
+pub facts_of-requires-clause-few : goal.facts_of-requires-clause-few
+facts_of-requires-clause-few c =
+    let few = few_entries _ _ c.in-Log.log.items c.in-Log.cut (rw c.in-Log.is at c.in_ok-log.ensures) in
+    rw c.as_slice.ensures (omega (arith, few, c.requires.short))
+
+pub returns : goal.returns
+returns c =
+    let log = c.in-Log.log.items in
+    let told = c.in_ok-told.told in
+    let facts = c.in_ok-facts.facts.items in
+    let of : IsTextOf c.args.prefix c.args.text.now log c.in-Log.cut = rw c.in-Log.is at c.in_ok-log.ensures in
+    let verdict : verdict_on c.args.prefix c.args.script.now log ≡ Illegal c.in-Some.place =
+    sym c.in_ok-told.ensures.verdict ∙ illegal_told told c.in-Some.place (sym c.place_told.ensures ∙ c.in-Some.is) in
+    inl (record {
+      log = log;
+      cut = c.in-Log.cut;
+      of = of;
+      told = told;
+      is = c.in_ok-told.ensures;
+      line_is = rw (verdict, c.lines_before.ensures, c.version_of.ensures) refl;
+      facts = facts;
+      context = rw c.as_slice.ensures at c.in_ok-facts.ensures.context;
+      said_is = c.in_ok-text-2.ensures ∙ rw (c.as_slice-2.ensures, c.deref-2.ensures.value) (no_cut c.args.json _ c.in-Log.cut _);
+    })

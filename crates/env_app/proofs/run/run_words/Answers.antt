@@ -1,4 +1,4 @@
-use Rattle.std.proofs.Common.{◌∙◌, inr, sym}
+use Rattle.std.proofs.Common.{◌∙◌, inl, inr, sym}
 use Rattle.app_streams.specs.Ends.{ends}
 use Rattle.env_app.proofs.Failures.{is_end, no_verdict}
 use Rattle.env_app.proofs.Causes.{cause_of_failure, judge_says}
@@ -38,3 +38,11 @@ returns-in-Err-clause-no_legal_log g c judges one =
 pub returns-in-Err-clause-explained : goal.returns-in-Err-clause-explained
 returns-in-Err-clause-explained g c json prefix explains status =
     let cause = returns-in-Err-clause-cause g c in rw explains at (cause.done status)
+
+pub returns-in-Err-clause-arranged : goal.returns-in-Err-clause-arranged
+returns-in-Err-clause-arranged g c prefix most arranges status =
+    let cause = returns-in-Err-clause-cause g c in
+    elim status [
+      | inl zero ↦ rw arranges at (cause.done (inl zero))
+      | inr other ↦ elim other [ inl one ↦ rw arranges at (cause.done (inr one)) | inr eight ↦ rw arranges at (cause.gave_up eight).2 ]
+    ]
