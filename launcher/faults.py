@@ -47,6 +47,8 @@ MOST_VALUE = 18446744073709551615
 
 def lines(note: str, mode: str, parts_known: bool, data: bytes, lint: Callable[[list[str], bytes], tuple[int, bytes]]) -> list[str]:
     """What is said behind the program's note of status 3. `data` was its input, and `lint` runs the mode of that name on bytes."""
+    if note.startswith("bad events"):
+        return of_events(note, parted(data)[1])
     fault = Fault(note, mode, parts_known, data)
     fault.ask(lint)
     of_line, of_word = (next(filter(None, (trap(fault) for trap in traps)), None) for traps in (LINE_TRAPS[fault.language], WORD_TRAPS))
@@ -134,6 +136,22 @@ class Fault:
         return forms.get(name) or forms.get(self.command)
 
 
+def of_events(note: str, events: bytes) -> list[str]:
+    """What is said of a bad line of what each seat saw: why, and the line."""
+    _, where, *why = note.strip().split(": ")
+    line = next(islice(io.BytesIO(events), int(where.split()[-1]) - 1, None), b"").decode("latin-1")
+    words = line.split()
+    if not why and not line.endswith("\n"):
+        why = ["it has no line feed at its end, so it may be cut off"]
+    elif not why and line.endswith("\r\n"):
+        why = ["it ends in CR LF; the lines of events end in LF alone"]
+    elif not why and words[:1] and (words[0] in ("taskenv", "total") or len(words) > 2 and words[0].isdigit() and words[1].isdigit()):
+        why = ["that is a line of a log; an event has no place before its seat, and events have no first line and no total"]
+    said = why[0] if why else "that is no event: the form is [FROM TO] SEAT WORD ARGUMENTS, where [FROM TO] may be left out"
+    quoted = _shown(line.rstrip("\r\n"))
+    return [f"events {where}: {said}"] + ([f"  {quoted[:WIDTH]}{'..' * (len(quoted) > WIDTH)}"] if quoted.strip() else [])
+
+
 def _shown(text: str) -> str:
     """The text, with each byte in hexadecimal that is no visible one, no blank and no tab."""
     return "".join(it if it == "\t" or " " <= it <= "~" else f"\\x{ord(it):02x}" for it in text)
@@ -152,7 +170,7 @@ def _encoding(fault: Fault) -> str | None:
 
 def _parting_line(fault: Fault) -> str | None:
     if fault.line == "%%":
-        return "a script alone has no line %%: check, explain, trace and reply read what stands after it"
+        return "a script alone has no line %%: check, explain, arrange, trace and reply read what stands after it"
     if "%" in fault.line and not fault.line.strip("%" + BLANKS):
         return "the line between the parts is exactly %%, without a blank"
     return f"line {fault.number} ran into %%: the script needs a line feed at its end" if fault.line.endswith("%%") else None
@@ -163,13 +181,16 @@ def _other_part(fault: Fault) -> str | None:
     words = fault.words
     is_entry = len(words) > 2 and words[0].isdigit() and words[1].isdigit() and words[2].isalpha()
     is_total = len(words) == 2 and words[0] == "total" and words[1].isdigit()
-    if is_entry or is_total or fault.line.startswith(("taskenv log ", "[[")):
+    is_timed = len(words) > 3 and words[0][:1] == "[" and words[0][1:].isdigit() and words[1][-1:] == "]"
+    if is_timed or len(words) > 1 and words[0].isdigit() and words[1].isalpha():
+        sort, part, modes, readers = "event", "events", ("arrange",), "the mode arrange reads"
+    elif is_entry or is_total or fault.line.startswith(("taskenv log ", "[[")):
         sort, part, modes, readers = "log line", "log", ("check", "explain", "trace"), "check, explain and trace read"
     elif fault.command == "reply":
         sort, part, modes, readers = "reply", "replies", ("reply",), "the mode reply reads"
     else:
         return None
-    said = f"line {fault.number} looks like a {sort}: "
+    said = f"line {fault.number} looks like a{'n' * (sort == 'event')} {sort}: "
     if fault.mode not in modes:
         return said + f"{readers} such lines, after a script"
     if fault.parts_known:

@@ -9,10 +9,12 @@ from running import say
 # One byte more than the program takes: with so many it says `too large`.
 MOST = 33_554_433
 # What fills the place of a file.
-WHAT = {"SCRIPT": "a script", "NEST": "a nest script", "LOG": "a log", "REPLIES": "replies"}
-MISSING = {"LOG": "a log is missing", "REPLIES": "replies are missing"}
+WHAT = {"SCRIPT": "a script", "NEST": "a nest script", "LOG": "a log", "REPLIES": "replies", "EVENTS": "events"}
+MISSING = {"LOG": "a log is missing", "REPLIES": "replies are missing", "EVENTS": "events are missing"}
 # Of what the words in a log are made that are no numbers.
 LETTERS = set("abcdefghijklmnopqrstuvwxyz_-")
+# How events begin, which no log does, nor one in JSON: with two times in brackets, or with a seat and a word.
+EVENTS = rb"\[[^][,\s]+ [^][,\s]+\]|\d+ [a-z]"
 
 
 class BadInput(Exception):
@@ -135,10 +137,19 @@ def _is_cut(part: bytes) -> bool:
     return b"%%" in part and any(line in (b"%%", b"%%\r") for line in part.split(b"\n"))
 
 
+def is_events(log: bytes) -> bool:
+    """Whether this is no log, but what each seat saw."""
+    import re
+
+    return bool(re.match(EVENTS, log))
+
+
 def log_text(name: str, log: bytes) -> bytes:
     """The text of a log that `run --json` wrote; any other one as it is."""
     if not log.lstrip().startswith(b"["):
         return log
+    if is_events(log):
+        raise BadInput(f"{name} is no log, but what each seat saw: the mode arrange makes a log of it")
     import json
 
     try:

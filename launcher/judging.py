@@ -1,6 +1,7 @@
 """The mode judge: plays scripts on another pool, again and again, and says why its logs are wrong, by their causes.
 
-Each run's log is judged by the program, with `explain`, or where the run left no whole log with `explain --prefix`."""
+Each run's log is judged by the program, with `explain`, or where the run left no whole log with `explain --prefix`. What each seat saw,
+where a run left that in place of a log, is judged with `arrange`."""
 from __future__ import annotations
 
 import json
@@ -71,6 +72,13 @@ class Group:
             self.first, self.order = case, order
 
 
+def usual_steps(events: bytes) -> str:
+    """How many steps a search takes at most where nothing is said. A step that goes back costs a replay of what was placed, so of more
+    events there are fewer: a search that finds nothing ends within some ten seconds."""
+    count = events.count(b"\n")
+    return str(2 * count + 1_000 + 100_000_000 // max(count, 1))
+
+
 class Judging(Shown):
     """A call of the mode."""
 
@@ -78,7 +86,7 @@ class Judging(Shown):
         super().__init__()
         values = {**DEFAULTS, "--jobs": str(processors()), **request.options}
         self.runs, self.jobs, self.seconds = (int(values[name]) for name in ("--runs", "--jobs", "--timeout"))
-        self.keep, self.logs = values["--keep"], values.get("--logs")
+        self.keep, self.logs, self.most = values["--keep"], values.get("--logs"), values.get("--most")
         self.is_json, self.is_shrunk = "--json" in values, "--shrink" in values
         self.command, self.files = Command(request.command, self.seconds), request.files
         self.file, self.launcher = file, launcher
@@ -129,20 +137,24 @@ class Judging(Shown):
 
     # ---- the program
 
-    def ask(self, words: list[str], script: bytes, log: bytes | None = None) -> tuple[int, bytes]:
-        """Runs the program on a script, or on a script and a log: its status, and what it writes."""
-        status, said = running.ask([self.file, *words], script if log is None else _joined(script, log), 1, is_apart=True)
+    def ask(self, words: list[str], script: bytes, log: bytes | None = None, also: tuple = (), stream: int = 1) -> tuple[int, bytes]:
+        """Runs the program on a script, or on a script and a log: its status, which is 0, 1 or one of some more, and what it writes to a
+        stream."""
+        words = [*words, *(["--most", self.most or usual_steps(log or b"")] if words[0] == "arrange" else [])]
+        status, said = running.ask([self.file, *words], script if log is None else _joined(script, log), stream, is_apart=True)
+        is_known = status in (0, 1, *also)
         # What stops this call may stop a program that is just being started, too.
-        if status not in (0, 1) and self.stopped.wait(0.5):
+        if not is_known and self.stopped.wait(0.5):
             raise Stopped
-        if status not in (0, 1):
+        if not is_known:
             raise CannotJudge(f"nothing more can be judged: {words[0]} of the program ended with status {status}")
         return status, said
 
     def found(self, script: bytes, played: Played) -> Finding:
         """What is found of a run. A log may be one in JSON, as `run --json` writes it."""
         try:
-            played = played._replace(log=inputs.log_text("the log", played.log))
+            if not inputs.is_events(played.log):
+                played = played._replace(log=inputs.log_text("the log", played.log))
         except inputs.BadInput:
             pass
         return causes.finding(self.ask, script, played)
@@ -204,7 +216,7 @@ class Judging(Shown):
     def _keep(self, group: Group) -> None:
         """Keeps the first failure of a group in a folder of its own."""
         case = group.first
-        files = {"script.task": case.script.text, "log": case.played.log, "explanation": case.found.explanation}
+        files = {"script.task": case.script.text, _kept_as(case): case.played.log, "explanation": case.found.explanation}
         if case.played.said:
             files["said"] = case.played.said
         if drawn := self._picture(case):
@@ -218,11 +230,12 @@ class Judging(Shown):
             say(f"the first failure can't be kept: {error.filename or self.keep}: {error.strerror}")
 
     def _picture(self, case: Case) -> bytes:
-        """The page of the mode picture, of a log that is not too long for one."""
-        if not 0 < len(case.played.log) <= MOST_DRAWN:
+        """The page of the mode picture, of a log that is not too long for one: of events the longest beginning that there is."""
+        log = case.found.drawn if case.found.is_of_events else case.played.log
+        if not 0 < len(log) <= MOST_DRAWN:
             return b""
         try:
-            told = picture.stories([(case.name, _joined(case.script.text, case.played.log))], self.ask)
+            told = picture.stories([(case.name, _joined(case.script.text, log))], self.ask)
         except (CannotJudge, Stopped):
             return b""
         return page.page(told) if told else b""
@@ -233,7 +246,7 @@ class Judging(Shown):
         prefix = " --prefix" if case.found.is_beginning else ""
         lines = [f"cause: {group.cause}", f"script: {case.script.name}, kept here as script.task"]
         if self.logs is not None:
-            lines.append(f"log: {os.path.join(self.logs, case.name)}, kept here as log")
+            lines.append(f"log: {os.path.join(self.logs, case.name)}, kept here as {_kept_as(case)}")
         else:
             lines += [f"run: {case.name} of {self.runs}", f"command: {shlex.join(self.command.words)}", f"called in: {os.getcwd()}"]
             lines.append(f"it {case.played.end or 'ended with status 0'}")
@@ -241,7 +254,12 @@ class Judging(Shown):
             lines.append("what else it said is kept here as said")
         if case.played.log:
             lines += ["", "To judge it again, in this folder:", ""]
-            lines += [f"  {it} {mode}{prefix} script.task log" for mode in ("check", "explain")]
+            if not case.found.is_of_events:
+                lines += [f"  {it} {mode}{prefix} script.task log" for mode in ("check", "explain")]
+            elif case.played.log.endswith(b"\n"):
+                lines.append(f"  {it} arrange{prefix} script.task events")
+            else:
+                lines.append(f"  sed '$d' events | {it} arrange{prefix} script.task -")
         return "\n".join(lines) + "\n"
 
     # ---- shrinking
@@ -251,7 +269,7 @@ class Judging(Shown):
         group.shrunk = shrunk = shrinking.Shrinking(self, group.first, group.cause, group.count / self.count).done()
         if group.folder and shrunk.text:
             try:
-                files = {"task": shrunk.text, "log": shrunk.case.played.log, "explanation": shrunk.case.found.explanation}
+                files = {"task": shrunk.text, _kept_as(shrunk.case): shrunk.case.played.log, "explanation": shrunk.case.found.explanation}
                 for name, data in files.items():
                     write_file(os.path.join(group.folder, f"shrunk.{name}"), data)
             except OSError as error:
@@ -274,7 +292,7 @@ class Judging(Shown):
         return self._json() if self.is_json else self._text()
 
     def _text(self) -> str:
-        """A line that counts, and one for each group, with what `explain` says of its first failure besides why."""
+        """A line that counts, and one for each group."""
         what = "log" if self.logs is not None else "run"
         stopped = f"stopped after {self.count:,} of {many(self.total, what)}\n" if self.count < self.total else ""
         if not self.count:
@@ -286,8 +304,6 @@ class Judging(Shown):
         for group in self._sorted():
             kept = f" (the first, {group.first.name}, in {group.folder})" if group.folder else f" (the first: {group.first.name})"
             text += f"  {group.count:{width},}  {group.cause}{kept}\n"
-            context = group.first.found.explanation.decode("latin-1").splitlines()[2:]
-            text += "".join(f"{'':{width + 6}}{line}\n" for line in context)
         for group in filter(lambda it: it.shrunk, self._sorted()):
             text += f"\n{group.shrunk.says()}"
         return text
@@ -297,7 +313,7 @@ class Judging(Shown):
         for group in self._sorted():
             case = group.first
             told = {"count": group.count, "cause": group.cause, "first": case.name, "script": case.script.name, "end": case.played.end,
-                    "explanation": case.found.explanation.decode("latin-1").splitlines(), "kept": group.folder}
+                    "explanation": causes.told(case.found), "kept": group.folder}
             groups.append({**told, **({"shrunk": group.shrunk.as_json()} if group.shrunk else {})})
         whole = {"count": self.count, "legal": self.count - self.failed, "failed": self.failed, "stopped": self.stopped.is_set()}
         return json.dumps({**whole, "groups": groups}, separators=(",", ":")) + "\n"
@@ -314,6 +330,11 @@ def script_of(name: str, scripts: list[Script]) -> Script | None:
         if is_so_called and (found is None or len(begin) > len(found[0])):
             found = begin, script
     return found[1] if found else None
+
+
+def _kept_as(case: Case) -> str:
+    """The name of the file in which what a run wrote is kept."""
+    return "events" if case.found.is_of_events else "log"
 
 
 def _joined(script: bytes, log: bytes) -> bytes:

@@ -24,6 +24,7 @@ OPTIONS = {
     "--prefix": Option(None, None, "a log is right too where the run isn't over"),
     "--replies": Option(None, None, "reads a script and replies"),
     "--nest": Option(None, None, "reads a nest script"),
+    "--most": Option("N", (1, 10 ** 12), "how many steps the search takes at most, by default 10,000,000"),
     "--full": Option(None, None, "the events say all that the log and the script tell, with flows, marks and counters"),
     "--number": Option("N", (0, 2 ** 64 - 1), "what the script is made from, by default 0"),
     "--size": Option("N", (1, 8192), "how many tasks it has, by default 16"),
@@ -46,6 +47,7 @@ SAYS = {
     ("run", "--seed"): "what the pauses are drawn from, by default 0; with --shake alone",
     ("simulate", "--step"): "ticks read N, 2N, 3N and so on, in microseconds",
     ("simulate", "--keep"): "the new folder in which each different log is kept; with --seeds alone",
+    ("arrange", "--prefix"): "an order is right too where the run isn't over",
 }
 # Which options do not go together, and which of a mode goes with another one alone.
 APART = (("--replies", "--nest"), ("--step", "--jump"), ("--seed", "--seeds"))
@@ -82,7 +84,11 @@ MODES = {
                   JUDGES, "{it} check {at}/first_run.task {at}/first_run.log"),
     "explain": Mode(("SCRIPT", "LOG"), ("--json", "--prefix"), "reads a script and a log, and writes why a wrong log is wrong",
                     JUDGES, "sed 's/end 0 5/end 0 6/' {at}/first_run.log | {it} explain {at}/first_run.task -"),
-    "judge": Mode(("SCRIPT..", "-- COMMAND.."), ("--runs", "--jobs", "--timeout", "--keep", "--json", "--shrink", "--logs"),
+    "arrange": Mode(("SCRIPT", "EVENTS"), ("--prefix", "--most"),
+                    "reads a script and what each seat saw, and writes a log of it in an order that the rules allow",
+                    "0 the log was written   1 there is no such order   3 the script or an event is bad   8 none was found so far",
+                    "{it} arrange {at}/own_pool/one_runner.task {at}/own_pool/one_runner.events"),
+    "judge": Mode(("SCRIPT..", "-- COMMAND.."), ("--runs", "--jobs", "--timeout", "--keep", "--json", "--shrink", "--logs", "--most"),
                   "plays scripts on another pool, again and again, and writes why its logs are wrong",
                   "0 each log is legal and whole   1 some log is not, or some run failed   2 nothing was judged",
                   "{it} judge --runs 20 {at}/own_pool/one_runner.task -- ./own_pool"),
@@ -103,9 +109,9 @@ MODES = {
 }
 # What is said of the words of the mode judge.
 JUDGED = """Without SCRIPT it reads nothing; the word - is standard input. COMMAND reads the script from its standard input, and writes the
-log to its standard output, or to the files that {script} and {log} stand for in it. With --logs there is no COMMAND: of one
-SCRIPT each file DIR/*.log is a log; of several, those are the logs of NAME.task that are called NAME.log, or NAME, one of the
-signs . - _, and more up to .log.
+log to its standard output, or to the files that {script} and {log} stand for in it. In place of a log it may write what each seat
+saw, as arrange reads it. With --logs there is no COMMAND: of one SCRIPT each file DIR/*.log is a log; of several, those are the
+logs of NAME.task that are called NAME.log, or NAME, one of the signs . - _, and more up to .log.
 """
 # Among so many names in a folder a near one is looked for.
 MOST_LOOKED_AT = 1000
@@ -251,7 +257,8 @@ Modes
 Words of the launcher, before the mode
 {_table({**LAUNCHER, **others}.items())}
 Exit statuses
-  0 done   1 check, explain, trace, picture, judge: a log is wrong; lint: the script is bad   3 the script is bad
+  0 done   1 check, explain, trace, picture, judge: a log is wrong; arrange: there is no order; lint: the script is bad
+  3 the script is bad   8 arrange: none was found so far
   {STATUSES}
 
 Examples

@@ -11,6 +11,7 @@ SCRIPT = "workers 1\nrunner 0 parallel user_visible skip\ntask 0 add 5\npost 0 0
 LOG = "taskenv log 2\n0 0 post 0 0 0 ok\n1 1 take 0 0 0\n2 1 end 0 5\n3 0 idle\ntotal 4\n"
 BEGUN = "taskenv log 2\n0 0 post 0 0 0 ok\ntotal 1\n"
 REPLIES = "reply 1 0 runner 0\n"
+EVENTS = "[7 9] 1 take 0 0 0\n[0 3] 0 post 0 0 0 ok\n[3 9] 0 idle\n1 end 0 5\n"
 
 
 def case_each_mode(room: str, home: str, program: str) -> bool:
@@ -24,6 +25,8 @@ def case_each_mode(room: str, home: str, program: str) -> bool:
     cases += [("simulate", SCRIPT, None), ("simulate --seed 5 --favour=driver --json", SCRIPT, None), ("simulate --jump", "walk", None)]
     cases += [("check", SCRIPT, LOG), ("check", SCRIPT, wrong), ("check", SCRIPT + "walk", LOG), ("check", "", "")]
     cases += [("check --prefix", SCRIPT, BEGUN), ("explain", SCRIPT, wrong), ("trace", SCRIPT, LOG)]
+    cases += [("arrange", SCRIPT, EVENTS), ("arrange --prefix --most 9", SCRIPT, "0 post 0 0 0 ok\n"), ("arrange", SCRIPT, LOG)]
+    cases += [("arrange", SCRIPT, EVENTS.replace("end 0 5", "end 0 6")), ("arrange", SCRIPT + "walk", EVENTS)]
     for words, script, behind in cases:
         for script in script, script.rstrip("\n"):
             ends = "" if not script or script.endswith("\n") else "\n"

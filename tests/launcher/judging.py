@@ -16,6 +16,18 @@ LOG = (
     "taskenv log 2\n0 0 post 0 0 0 ok\n1 0 post 1 0 0 ok\n2 1 take 0 0 0\n3 1 end 0 5\n4 1 take 1 0 5\n5 1 end 1 6\n6 0 idle\ntotal 7\n"
 )
 TAKE = "the best source of seat S is taken by: take T R FOUND; the log has another FOUND"
+EVENTS = (
+    "[0 15] 0 post 0 0 0 ok\n[10 25] 0 post 1 0 0 ok\n[60 75] 0 idle\n"
+    "[20 35] 1 take 0 0 0\n[30 45] 1 end 0 5\n[40 55] 1 take 1 0 5\n[50 65] 1 end 1 6\n"
+)
+NO_ORDER = """no order
+4 of 7 events can be arranged
+saw: [60 75] 0 idle
+  by its times this came before it: [40 55] 1 take 1 0 0
+saw: [40 55] 1 take 1 0 0
+  the best source of seat 1 is taken by: 4 1 take 1 0 5
+"""
+DRAWN = "picture.html"
 POOLS = os.path.join(os.path.dirname(os.path.abspath(__file__)), "pools.py")
 
 
@@ -38,7 +50,10 @@ def case_grouped(room: str, home: str, program: str) -> bool:
     kept = {name: pool.read(f"judged/1/{name}") for name in pool.kept("1")}
     drawn = kept.pop("picture.html")
     wrong = LOG.replace("take 1 0 5", "take 1 0 0").replace("end 1 6", "end 1 1")
-    told = "illegal 6\nthe best source of seat 1 is taken by: 4 1 take 1 0 5\n"
+    told = (
+        "illegal 6\nthe best source of seat 1 is taken by: 4 1 take 1 0 5\nthe line is: 4 1 take 1 0 0\n"
+        "it was posted by: 1 0 post 1 0 0 ok\nthe value that is found there was left by: 3 1 end 0 5\n"
+    )
     how = f"""cause: {TAKE}
 script: script.task, kept here as script.task
 run: run 3 of 10
@@ -144,6 +159,68 @@ def case_logs(room: str, home: str, program: str) -> bool:
     os.mkdir(os.path.join(pool.folder, "none"))
     none = pool.clone.call("judge", "--logs", "none", "script.task", cwd=pool.folder)
     return two.status == 1 and json.loads(two.output) == whole and none.is_refused("none has no *.log of a script", status=2)
+
+
+def case_events(room: str, home: str, program: str) -> bool:
+    """what each seat saw is judged by arrange, in place of a log; the first failure is kept with the answer, and judged again"""
+    pool = Pool(room, home, program)
+    for way in "seen-right", "seen-right {script} {log}":
+        if not says(pool.judged("--runs", "2", "script.task", pool=way), 0, "2 runs: all legal\n"):
+            return False
+    called = pool.judged("--runs", "2", "--jobs", "1", "--most", "1000", "script.task", pool="seen-loses")
+    cause = f"no order: {TAKE.replace('the log has', 'the seat saw')}"
+    if not says(called, 1, f"2 runs, 2 not legal, for 1 cause\n  2  {cause} (the first, run 1, in judged/1)\n"):
+        return False
+    kept = {name: pool.read(f"judged/1/{name}") for name in pool.kept("1")}
+    wrong = EVENTS.replace("take 1 0 5", "take 1 0 0").replace("end 1 6", "end 1 1")
+    told = NO_ORDER + "".join(LOG.splitlines(keepends=True)[:5])
+    if sorted(kept) != ["events", "explanation", "how", DRAWN, "script.task"] or (kept["events"], kept["explanation"]) != (wrong, told):
+        raise AssertionError(str(kept))
+    if "the best source of seat 1 is taken by" not in kept[DRAWN] or "arrange script.task events\n" not in kept["how"]:
+        raise AssertionError(kept["how"])
+    found = pool.judged("--runs", "1", "--json", "script.task", pool="seen-loses")
+    group = json.loads(found.output)["groups"][0]
+    return pool.ran_again("judged/1") == [told] and group["explanation"] == NO_ORDER.splitlines() and group["cause"] == cause
+
+
+def case_events_ends(room: str, home: str, program: str) -> bool:
+    """a run that leaves events and hangs, dies, fails, stops early, or leaves half of them or bad ones, is a failure, with its cause"""
+    pool = Pool(room, home, program)
+    legal = "its events are legal as far as they go"
+    idle = "no order: the pool is not idle; the seat saw idle"
+    causes = {
+        "hangs": f"had not ended after 1 s; {legal}",
+        "dies": f"was ended by signal 9 (SIGKILL); {legal}",
+        "fails": "ended with status 3; its events are those of a legal and whole log",
+        "short": "unfinished: the script wants of the driver",
+        "half": f"the events end within a line; {idle}",
+        "bad": "bad events: line L: FROM is after TO",
+    }
+    for number, (way, cause) in enumerate(causes.items(), 1):
+        called = pool.judged("--runs", "1", "--timeout", "1" if way == "hangs" else "20", "script.task", pool=f"seen-{way}")
+        text = f"1 run, 1 not legal, for 1 cause\n  1  {cause} (the first, run 1, in judged/{number})\n"
+        if called.status != 1 or not called.output.decode().startswith(text) or called.notes:
+            raise AssertionError(f"{way}: {called.status} {called.output} {called.notes}")
+        again = pool.ran_again(f"judged/{number}")
+        wanted = {"short": "no order\n6 of 6", "half": "no order\n5 of 6", "bad": ""}.get(way, "taskenv log 2\n")
+        if len(again) != 1 or not again[0].startswith(wanted):
+            raise AssertionError(f"{way}: {again}")
+    return True
+
+
+def case_events_given_up(room: str, home: str, program: str) -> bool:
+    """where arrange gives up that is a cause of its own; logs of a folder may be events too, and its shrunk script has them"""
+    pool = Pool(room, home, program)
+    cause = "gave up: whether there is an order is not known"
+    called = pool.judged("--runs", "1", "--most", "1", "script.task", pool="seen-loses")
+    if called.status != 1 or f"  1  {cause} (" not in called.output.decode():
+        raise AssertionError(called.output)
+    for name, text in ("script-1.log", EVENTS), ("script-2.log", LOG):
+        pool.clone.write(os.path.join(pool.folder, "logs", name), text)
+    folder = pool.clone.call("judge", "--logs", "logs", "script.task", cwd=pool.folder)
+    shrunk = pool.judged("--runs", "1", "--shrink", "script.task", pool="seen-loses")
+    is_kept = {"shrunk.task", "shrunk.events", "shrunk.explanation"} <= set(pool.kept("2"))
+    return says(folder, 0, "2 logs: all legal\n") and b"shrunk from 7 lines to" in shrunk.output and is_kept
 
 
 def case_shrunk(room: str, home: str, program: str) -> bool:

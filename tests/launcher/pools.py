@@ -2,7 +2,8 @@
 
     python3 pools.py WAY [SCRIPT LOG]
 
-Without files it reads the script from standard input, and writes the log to standard output."""
+Without files it reads the script from standard input, and writes the log to standard output. With `seen-` before WAY it writes what each
+seat saw, in place of a log: seat by seat, with two times of a clock."""
 import os
 import signal
 import sys
@@ -29,8 +30,16 @@ def log_of(script, way):
     return ["taskenv log 2", *(f"{place} {line}" for place, line in enumerate(lines)), f"total {len(lines)}"]
 
 
+def events_of(lines):
+    """What each seat saw of a log, each event with two times, of which those of neighbours overlap."""
+    entries = [line.split(" ", 1) for line in lines if line[0].isdigit()]
+    timed = [f"[{10 * int(place)} {10 * int(place) + 15}] {entry}" for place, entry in entries]
+    return sorted(timed, key=lambda event: event.split("] ")[1][0])
+
+
 def main(way, script="/dev/stdin", log="/dev/stdout"):
     """Plays once, in that way."""
+    is_seen, way = way.startswith("seen-"), way.replace("seen-", "", 1)
     if way == "nothing":
         return 0
     if way == "refuses":
@@ -46,6 +55,11 @@ def main(way, script="/dev/stdin", log="/dev/stdout"):
     with open(log, "w") as it:
         if way in ("hangs", "dies"):
             lines = lines[:4]
+        elif way == "short":
+            lines = lines[:-2]
+        lines = events_of(lines) if is_seen else lines
+        if way == "bad":
+            lines[1] = "[30 20] 0 post 1 0 0 ok"
         text = "\n".join(lines) + "\n"
         it.write(text[:-9] if way == "half" else text)
         it.flush()
