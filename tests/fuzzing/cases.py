@@ -125,17 +125,34 @@ class EditedLog(Case):
         if found < line or edit in logs.EXACT and found != line:
             raise Wrong(f"an edit is not found: {edit.__name__}", f"line {line}, {told.output}\n{log.decode()}")
         if found:
-            self.judge_explanation(lines, log, told.output, edited[: found - version])
+            self.judge_explanation(lines, log, told.output, edited, found - version)
 
-    def judge_explanation(self, lines, log, verdict, before):
+    def judge_explanation(self, lines, log, verdict, edited, place):
         told = self.program.run(["explain"], text_of(lines) + MARK + log)
-        first, reason = told.output.splitlines(keepends=True)
-        if first != verdict or len(reason) > 256:
+        first, reason, *facts = told.output.splitlines(keepends=True)
+        before = edited[:place]
+        if first != verdict or len(reason) > 256 or len(facts) > 10:
             raise Wrong("another verdict, or a long explanation", f"{verdict}, {told.output}")
+        for fact in facts:
+            self.judge_fact(lines, edited, place, fact.decode())
         named = re.search(rb": (\d+ \d+ [a-z].*\n)$", reason)
         if named and not reason.startswith(b"line "):
             begun = "".join(line + "\n" for line in before).encode() + named[1]
             want(self.program.run(["check", "--prefix"], text_of(lines) + MARK + begun), 0, b"legal\n")
+
+
+    def judge_fact(self, lines, edited, place, fact):
+        """An entry that is shown stands in the log; where it says that the bad one would have been allowed, it would."""
+        words, _, shown = fact.rstrip("\n").rpartition(": ")
+        if not re.fullmatch(r"\d+ \d+ [a-z].*", shown):
+            return
+        if shown not in edited:
+            raise Wrong("an entry is shown that is none of the log", fact)
+        other = edited.index(shown)
+        moved = {"it would have been allowed before": edited[:other], "it would have been allowed after": edited[:place] + edited[place + 1 : other + 1]}
+        if words in moved:
+            begun = "".join(f"{n} {line.split(' ', 1)[1]}\n" for n, line in enumerate([*moved[words], edited[place]]))
+            want(self.program.run(["check", "--prefix"], text_of(lines) + MARK + begun.encode()), 0, b"legal\n")
 
 
 class DamagedScript(Case):

@@ -54,7 +54,7 @@ def look_at(told):
         raise Wrong("a reason of another name", told.notes)
     if told.status in SILENT and told.output:
         raise Wrong(f"output under status {told.status}", clipped(told.output))
-    if told.status == 1 and not re.fullmatch(rb"illegal [1-9]\d*\n([^\n]+\n)?|line [1-9]\d*, word [1-9]\d*: [^\n]+\n", told.output):
+    if told.status == 1 and not re.fullmatch(rb"illegal [1-9]\d*\n([^\n]+\n){0,11}|line [1-9]\d*, word [1-9]\d*: [^\n]+\n", told.output):
         raise Wrong("a verdict of another form", clipped(told.output))
 
 
