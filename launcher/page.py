@@ -10,7 +10,7 @@ from html import escape
 from picture import Span, Story
 
 # The sizes of a drawing: of its margins, its rows, and its columns, which are narrower where there are many.
-LEFT, TOP, ROW, BAR, CURVE = 92, 62, 54, 26, 46
+LEFT, TOP, ROW, BAR, CURVE, TITLE = 92, 62, 54, 26, 46, 24
 WIDEST, NARROWEST, WIDTH = 56, 5, 1280
 # How wide a letter is.
 LETTER = 6.4
@@ -18,17 +18,13 @@ LETTER = 6.4
 SIGNS = {"tick": "t", "policy": "p", "reprio": "r", "fence": "f", "unfence": "u", "vote": "v", "rank": "k", "close": "c", "mainnone": "n",
          "startjob": "j", "cancel": "x", "cancelled": "x", "joined": "j", "idle": "i", "shutdown": "s", "done": "d"}
 
-STYLE = """
+# The colours, and the style of a drawing; then that of the page around it.
+DRAWN = """
 :root { color-scheme: light dark; --paper: #fff; --ink: #1b1b1b; --faint: #6b6b6b; --line: #c9c9c9; --task: #bcd7f5; --item: #f6dfa4;
   --main: #cdebc8; --scope: #8d6bb8; --band: #ececf4; --bad: #b00020; --flow: #5577aa; }
 @media (prefers-color-scheme: dark) { :root { --paper: #17181a; --ink: #ececec; --faint: #a5a5a5; --line: #4a4a4a; --task: #27507c;
   --item: #6d5516; --main: #2c5c33; --scope: #b79be0; --band: #26262f; --bad: #ff8a94; --flow: #88aadd; } }
-body { margin: 1.2em; background: var(--paper); color: var(--ink); font: 15px/1.45 system-ui, sans-serif; } h1 { font-size: 1.3em; }
-h2 { font-size: 1.1em; margin: 1.4em 0 .3em; } code, pre, td { font-family: ui-monospace, monospace; font-size: 13px; }
-.scroll { overflow-x: auto; border: 1px solid var(--line); } svg { display: block; font: 11px system-ui, sans-serif; fill: var(--ink); }
-.wrong { border: 2px solid var(--bad); border-left-width: 10px; padding: .4em .8em; } .wrong b::before { content: "\\2716\\a0"; }
-#said { display: block; position: sticky; bottom: 0; min-height: 4.4em; margin: .8em 0; padding: .4em .8em; white-space: pre-wrap;
-  background: var(--band); border: 1px solid var(--line); font: 13px/1.4 ui-monospace, monospace; } .task rect { fill: var(--task); }
+svg { display: block; font: 11px system-ui, sans-serif; fill: var(--ink); } .task rect { fill: var(--task); }
 .main rect { fill: var(--main); } .item rect { fill: var(--item); } .bar { stroke: var(--ink); stroke-width: .8; }
 .main .inner { fill: none; stroke: var(--ink); stroke-width: .8; } .scope rect { fill: url(#dots); stroke: var(--scope); }
 .item .over { fill: url(#stripes); } .differs .bar { stroke-width: 2.4; stroke-dasharray: 5 3; } .row { stroke: var(--line); }
@@ -38,6 +34,14 @@ h2 { font-size: 1.1em; margin: 1.4em 0 .3em; } code, pre, td { font-family: ui-m
 .waiting { fill: none; stroke: var(--ink); stroke-width: 1.6; }
 .running { fill: none; stroke: var(--flow); stroke-width: 1.6; stroke-dasharray: 5 3; }
 .parts { stroke: var(--ink); stroke-width: 2; stroke-dasharray: 8 4; }
+"""
+STYLE = DRAWN + """
+body { margin: 1.2em; background: var(--paper); color: var(--ink); font: 15px/1.45 system-ui, sans-serif; } h1 { font-size: 1.3em; }
+h2 { font-size: 1.1em; margin: 1.4em 0 .3em; } code, pre, td { font-family: ui-monospace, monospace; font-size: 13px; }
+.scroll { overflow-x: auto; border: 1px solid var(--line); }
+.wrong { border: 2px solid var(--bad); border-left-width: 10px; padding: .4em .8em; } .wrong b::before { content: "\\2716\\a0"; }
+#said { display: block; position: sticky; bottom: 0; min-height: 4.4em; margin: .8em 0; padding: .4em .8em; white-space: pre-wrap;
+  background: var(--band); border: 1px solid var(--line); font: 13px/1.4 ui-monospace, monospace; }
 [tabindex]:focus { outline: 3px solid var(--ink); outline-offset: 1px; } table { border-collapse: collapse; }
 td, th { padding: 0 .9em 0 0; text-align: left; vertical-align: top; } tr.other td:first-child::before { content: "\\2260\\a0"; }
 @media print { :root { --paper: #fff; --ink: #000; --faint: #444; --line: #999; --task: #dce9f8; --item: #f8ecc8; --main: #e2f3df;
@@ -89,8 +93,19 @@ def _verdict(story: Story) -> Iterator[str]:
     if not story.faults:
         yield f"<p>legal: {story.count} entries</p>"
     for fault in story.faults:
-        line = f"<br><code>{escape(story.bad_line)}</code>" if story.bad_line is not None and fault is story.faults[-1] else ""
-        yield f'<p class="wrong"><b>illegal</b>, at line {fault.line} of the log: {escape(fault.words)}{line}</p>'
+        lines = "".join(f"<br><code>{escape(line)}</code>" for line in fault.more)
+        yield f'<p class="wrong"><b>illegal</b>, at line {fault.line} of the log: {escape(fault.words)}{lines}</p>'
+
+
+def drawing(story: Story, title: str) -> str:
+    """The drawing of one log as a file of its own, for a document."""
+    drawn = Drawing(story, story.count + 1, set(), None)
+    inside = drawn.svg().replace("<svg ", f'<svg xmlns="http://www.w3.org/2000/svg" y="{TITLE}" ', 1)
+    width, height = f"{drawn.right + 20:.0f}", drawn.height + TITLE
+    head = f'<svg xmlns="http://www.w3.org/2000/svg" width="{width}" height="{height}" viewBox="0 0 {width} {height}">'
+    paper = '<rect width="100%" height="100%" fill="var(--paper)"/>'
+    words = f'<text x="4" y="16" font-size="13" font-weight="bold">{escape(title)}</text>'
+    return f"{head}<style>{DRAWN}</style>{paper}{words}{inside}</svg>\n"
 
 
 # ---- two logs
@@ -301,8 +316,7 @@ class Drawing:
         """The place at which the log is wrong."""
         if self.story.faults:
             x, fault = self._x(None), self.story.faults[-1]
-            line = f"\nlog: {self.story.bad_line}" if self.story.bad_line else ""
-            says = escape(f"illegal, at line {fault.line} of the log: {fault.words}{line}")
+            says = escape("\n".join([f"illegal, at line {fault.line} of the log: {fault.words}", *fault.more]))
             yield (f'<g tabindex="0" role="img" aria-label="{says}"><rect class="bad" x="{x:.1f}" y="{TOP - 2}" '
                    f'width="{self.step:.1f}" height="{self.base - TOP}"/>'
                    f'<text class="badword" x="{x + self.step:.1f}" y="{TOP - 22}" text-anchor="end">✖ illegal</text></g>')

@@ -13,8 +13,8 @@ Entry = namedtuple("Entry", "place seat word rest text line")
 # What stands on a seat for some places: its sort, its names from the longest to the shortest, where it begins and ends, and the entries
 # that it is made of. Where it has no end in the log it goes on to the end of what is drawn.
 Span = namedtuple("Span", "sort key names seat begin end entries")
-# What is said of a wrong log: its line, counted from 1, and why.
-Fault = namedtuple("Fault", "line words")
+# What is said of a wrong log: its line, counted from 1, why, and what it is and which entries matter, a line each.
+Fault = namedtuple("Fault", "line words more")
 
 HEAD = b"taskenv log 2\n"
 # The lines of a script that each of its entries comes from: the first word of the line, by that of the entry.
@@ -94,7 +94,6 @@ class Story:
         lines = text.decode("latin-1").split("\n")
         skipped = 1 if text.startswith(HEAD) else 0
         until = min((fault.line for fault in faults), default=len(lines)) - 1
-        self.bad_line = lines[until] if faults and until < len(lines) else None
         self.entries = list(self._entries(line for line in lines[skipped:until] if line[:1].isdigit()))
         self.count = len(self.entries)
         self.seats = max([script.workers, *(entry.seat for entry in self.entries)]) + 1
@@ -168,22 +167,25 @@ def stories(data: list[tuple[str, bytes]], ask: Callable[[list[str], bytes], tup
         status, said = ask(["explain"], parts)
         if status not in (0, 1):
             return None
-        faults = [_fault(said)] if status else []
+        faults = [_fault(said, log)] if status else []
         if faults:
             # Where a line is none of a log, no one has judged the entries before it.
             beginning = _beginning(log, faults[0].line)
             before = (script if script.endswith(b"\n") or not script else script + b"\n") + b"%%\n" + beginning
             status, said = ask(["explain", "--prefix"], before)
             if status == 1:
-                faults.append(_fault(said))
+                faults.append(_fault(said, log))
         told.append(Story(name, Script(script), log, faults))
     return told
 
 
-def _fault(said: bytes) -> Fault:
-    """What `explain` says of a wrong log: on its second line is why."""
-    first, words = [*said.decode("latin-1").strip().split("\n"), ""][:2]
-    return Fault(int(first.split()[1]), words)
+def _fault(said: bytes, log: bytes) -> Fault:
+    """What `explain` says of a wrong log: on its second line why, and then which entries matter. Of a line that is none of a log it says
+    no more than why, so the line itself is added."""
+    first, words, *more = said.decode("latin-1").strip().split("\n")
+    line = int(first.split()[1])
+    lines = log.decode("latin-1").split("\n")[line - 1: line]
+    return Fault(line, words, more or [f"the line is: {it}" for it in lines if it])
 
 
 def _beginning(log: bytes, line: int) -> bytes:

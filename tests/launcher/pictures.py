@@ -69,11 +69,13 @@ def case_illegal(room: str, home: str, program: str) -> bool:
     gallery.write("bad.log", log_of(LINES).replace("6 1 end 0 5", "6 1 end 0 6"))
     called = gallery.call("picture", "a.task", "bad.log")
     page = called.output.decode()
-    words = "illegal, at line 8 of the log: seat 1 runs task 0, and may go on by: 6 1 end 0 5\nlog: 6 1 end 0 6"
+    why, *more = gallery.call("explain", "a.task", "bad.log").output.decode().splitlines()[1:]
+    words = "\n".join([f"illegal, at line 8 of the log: {why}", *more])
     is_marked = gallery.said(called)[-1] == words and 'class="bad"' in page and "✖ illegal" in page
-    explained = gallery.call("explain", "a.task", "bad.log").output.decode().splitlines()[1]
+    is_told = more == ["the line is: 6 1 end 0 6", "this seat is at work since: 4 1 take 0 0 0"]
+    is_shown = all(f"<code>{line}</code>" in page for line in more) and why in page
     ends = "7 0 idle" not in page and "task 0 on seat 1, from place 4 on, and does not end" in page
-    return called.status == 1 and is_marked and explained in page and ends
+    return called.status == 1 and is_marked and is_told and is_shown and ends
 
 
 def case_no_line(room: str, home: str, program: str) -> bool:
@@ -83,7 +85,8 @@ def case_no_line(room: str, home: str, program: str) -> bool:
     gallery.write("both.log", log_of(LINES).replace("12 0 shutdown", "12 0 shut down").replace("6 1 end 0 5", "6 1 end 0 6"))
     late, both = (gallery.call("picture", "a.task", name) for name in ("late.log", "both.log"))
     one, two = (re.findall(r"illegal</b>, at line (\d+)", it.output.decode()) for it in (late, both))
-    return (late.status, both.status, one, two) == (1, 1, ["14"], ["14", "8"]) and "11 0 joined" in late.output.decode()
+    is_quoted = "<code>the line is: 12 0 shut down</code>" in late.output.decode()
+    return (late.status, both.status, one, two) == (1, 1, ["14"], ["14", "8"]) and is_quoted and "11 0 joined" in late.output.decode()
 
 
 def case_cut(room: str, home: str, program: str) -> bool:
