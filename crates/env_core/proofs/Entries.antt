@@ -2,7 +2,8 @@
 -- Cited by 27 functions of `Env`.
 use Rattle.env_core.proofs.Bodies.{bodies_kept}
 use Rattle.env_core.proofs.Driver.{driver_moves, driver_waits, is_counted}
-use Rattle.env_core.proofs.Wanted.{is_plain, plain_allowed, wanted_by_script}
+use Rattle.call_laws.proofs.Plain.{is_plain}
+use Rattle.env_core.proofs.Wanted.{plain_allowed, wanted_by_script}
 use Rattle.env_core.proofs.Declared.{main_post_is_sound, named, post_is_sound, queue_declared, runner_declared}
 use Rattle.env_core.specs.Calls.{IsWantedNext}
 use Rattle.env_core.specs.Drawer.{AreBodies, empties}

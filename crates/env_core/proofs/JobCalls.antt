@@ -1,7 +1,8 @@
 -- The calls on jobs: what the pool asks, what its answers say, and when an entry may come.
 -- Cited by 6 functions of `Env`.
 use Rattle.env_core.proofs.Driver.{driver_goes_in, holder_waits}
-use Rattle.env_core.proofs.JobEntries.{IsOpenJob, holds_item, job_declared, job_step_allowed, job_take_allowed, named_job}
+use Rattle.call_laws.proofs.Jobs.{IsOpenJob}
+use Rattle.env_core.proofs.JobEntries.{holds_item, job_declared, job_step_allowed, job_take_allowed, named_job}
 use Rattle.hist_model.proofs.Laws.Wants.{driver_holds_nothing}
 use Rattle.env_core.proofs.Starts.{job_is_new}
 use Rattle.env_core.proofs.Wanted.{wanted_by_script}
@@ -11,21 +12,18 @@ use Rattle.env_core.specs.Jobs.{CanEndItem, held_by}
 use Rattle.env_core.specs.Ledger.{MayEnter}
 use Rattle.env_core.specs.Views.{EnvView}
 use Rattle.env_core.specs.declared.agenda.Shift.TheVariants as shifts
-use Rattle.pool_core.specs.JobCalls.{CanJoin, CanPostJob, CanStep, KnowsJob, entering, joined_of}
+use Rattle.pool_core.specs.JobCalls.{CanJoin, CanPostJob, CanStep, KnowsJob, joined_of}
 use Rattle.pool_core.specs.declared.pool.Pool.{Pool}
-use Rattle.pool_laws.proofs.Jobs.Numbers.{free_id_is_first}
 use Rattle.sequence_manager.specs.declared.manager.Manager.{Manager}
-use Rattle.std.proofs.Common.{Bool, List, None, Option, Some, ap, cond, false, length, refl, sym, true, ℕ, ◌∙◌, ◌≡◌}
+use Rattle.std.proofs.Common.{Bool, List, None, Option, Some, cond, false, length, refl, sym, true, ℕ, ◌≡◌}
 use Rattle.std.proofs.lemmas.Option.{none-some, same_Some}
-use Rattle.std.specs.Option.{option_map}
 use Rattle.task_base.specs.Plan.{Plan}
 use Rattle.task_base.specs.declared.entry.Entry.{Entry}
-use Rattle.task_base.specs.declared.entry.JobReply.{JobReply}
 use Rattle.task_base.specs.declared.entry.Kind.{Kind}
 use Rattle.task_base.specs.declared.entry.Kind.TheVariants as kinds
 use Rattle.task_base.specs.declared.step.Step.{Step}
 use Rattle.task_body.specs.Passes.{PassView}
-use Rattle.task_model.specs.Jobs.{claimed, free_id, is_empty, may_enter, reply_of}
+use Rattle.task_model.specs.Jobs.{claimed, is_empty, reply_of}
 use Rattle.task_model.specs.Sources.{leaves, next_item}
 
 -- What the pool asks.
@@ -59,28 +57,6 @@ module _ {X : Type 0} {bodies : List (Option X)} {whole rest : X → List Step} 
 
 -- What the pool's answers say.
 
--- who asked to go in, and got an item
-pub has_got : (script : Plan) (past : List Entry) (job id item : ℕ) → ◌≡◌ {A = Option (ℕ × ℕ)} (Some (id, item)) (entering script past job)
-    → IsOpenJob script past job id item
-has_got script past job id item h = by_may_enter (may_enter script past job) (free_id script past job) refl refl h
-  where
-    by_may_enter : (b : Bool) (o : Option ℕ) → may_enter script past job ≡ b → free_id script past job ≡ o
-        → ◌≡◌ {A = Option (ℕ × ℕ)} (Some (id, item)) (cond b (option_map (λ n. (n, claimed past job)) o) None) → IsOpenJob script past job id item
-    by_may_enter true (Some n) may free k =
-        let same : ◌≡◌ {A = ℕ × ℕ} (id, item) (n, claimed past job) = same_Some _ _ k in
-        record { may = may; id_is = free ∙ ap Some (sym (ap (λ (p : ℕ × ℕ). p.0) same)); item_is = ap (λ (p : ℕ × ℕ). p.1) same }
-    by_may_enter true None may free k = absurd (none-some _ (sym k))
-    by_may_enter false o may free k = absurd (none-some _ (sym k))
-
--- who got nothing may not go in: some number is always free
-pub has_got_none : (script : Plan) (past : List Entry) (job : ℕ) → None ≡ entering script past job → may_enter script past job ≡ false
-has_got_none script past job h = by_may_enter (may_enter script past job) (free_id_is_first script past job).0 (free_id_is_first script past job).1 h
-  where
-    by_may_enter : (b : Bool) (n : ℕ) → free_id script past job ≡ Some n
-        → ◌≡◌ {A = Option (ℕ × ℕ)} None (cond b (option_map (λ n. (n, claimed past job)) (free_id script past job)) None) → b ≡ false
-    by_may_enter false n free k = refl
-    by_may_enter true n free k = absurd (none-some {A = ℕ × ℕ} (n, claimed past job) (k ∙ ap (λ o. option_map (λ m. (m, claimed past job)) o) free))
-
 -- who goes on does not leave, and has the least unclaimed item; who does not go on leaves
 pub goes_on : (script : Plan) (past : List Entry) (seat job item : ℕ) → Some item ≡ next_item script past seat job
     → (leaves script past seat job ≡ false) × (item ≡ claimed past job)
@@ -96,15 +72,6 @@ has_to_leave script past seat job h = by_leaves (leaves script past seat job) h
     by_leaves : (b : Bool) → None ≡ cond b None (Some (claimed past job)) → b ≡ true
     by_leaves true k = refl
     by_leaves false k = absurd (none-some (claimed past job) k)
-
--- a reply to a join comes where nobody is inside
-pub joined_is : (script : Plan) (past : List Entry) (job : ℕ) (reply : JobReply) → joined_of script past job ≡ Some reply
-    → (is_empty script past job ≡ true) × (reply_of script past job ≡ Some reply)
-joined_is script past job reply h = by_empty (is_empty script past job) h
-  where
-    by_empty : (b : Bool) → cond b (reply_of script past job) None ≡ Some reply → (b ≡ true) × (reply_of script past job ≡ Some reply)
-    by_empty true k = (refl, k)
-    by_empty false k = absurd (none-some reply k)
 
 -- where a join gets no reply and nobody is inside, there is none
 pub unanswered_is : (script : Plan) (past : List Entry) (job : ℕ) → joined_of script past job ≡ None → is_empty script past job ≡ true

@@ -1,5 +1,6 @@
 -- The entries of jobs: which job the script names in one, and what the rules ask of it besides; and that a join goes on.
 -- Cited by `Env::job_post`, `Env::try_cancelled`, `Env::try_joined`, `JobCalls`.
+use Rattle.call_laws.proofs.Jobs.{IsOpenJob}
 use Rattle.hist_model.proofs.Laws.BySound.{current_is_one}
 use Rattle.env_core.proofs.Wanted.{driver_allowed, wanted_by_script}
 use Rattle.env_core.specs.Calls.{IsWantedNext}
@@ -36,7 +37,7 @@ use Rattle.task_base.specs.declared.entry.Kind.{Kind}
 use Rattle.task_base.specs.declared.entry.JobReply.{JobReply}
 use Rattle.task_base.specs.declared.script.Action.{Action}
 use Rattle.task_model.proofs.Growth.{is_cancelled_push}
-use Rattle.task_model.specs.Jobs.{cancels, cap_of, claimed, concurrency, done, free_id, is_cancelled, is_empty, is_finished_job}
+use Rattle.task_model.specs.Jobs.{cancels, cap_of, claimed, concurrency, done, is_cancelled, is_empty, is_finished_job}
 use Rattle.task_model.specs.Jobs.{is_job_accepted, items_of, job_post_of, job_sum, may_enter, reply_of}
 use Rattle.task_model.specs.Refusal.{is_job_forbidden}
 use Rattle.task_model.specs.Sources.{best_of, next_item}
@@ -97,12 +98,6 @@ job_post_allowed view seat job ok wanted reply = driver_allowed view seat (kinds
     says : (refused : Bool) → is_reply refused (not refused) ≡ true
     says true = refl
     says false = refl
-
--- a job that may be entered, with the least number that nobody inside has and the least unclaimed item
-pub record IsOpenJob (script : Plan) (past : List Entry) (job id item : ℕ) : Type 0 where
-  pub may : may_enter script past job ≡ true
-  pub id_is : free_id script past job ≡ Some id
-  pub item_is : item ≡ claimed past job
 
 -- the driver goes into such a job
 pub job_take_allowed : (view : EnvView) (seat job id item : ℕ) → IsWantedNext view seat (kinds.JobTake job id item)

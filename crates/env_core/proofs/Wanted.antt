@@ -2,7 +2,9 @@
 -- Cited by 8 functions of `Env`, `Acts`, `Declared`, `Entries`, `JobCalls`, `JobEntries`, `Taking`, `log_replay`.
 use Rattle.hist_model.proofs.Laws.Progress.Pump.{none_open}
 use Rattle.hist_model.proofs.Laws.Wants.{by_next, driver_holds_nothing, driver_runs_nothing}
-use Rattle.env_core.proofs.Plans.{free_where_none_runs, runs_as}
+use Rattle.call_laws.proofs.Idle.{free_where_none_runs}
+use Rattle.call_laws.proofs.Plain.{is_plain, plain_may_come}
+use Rattle.env_core.proofs.Plans.{runs_as}
 use Rattle.env_core.specs.Calls.{CanEnd, CanEndMain, IsFreeWorker, IsIdle, IsNextAct, IsWantedNext, act_of, entry_of, lets_in}
 use Rattle.env_core.specs.Views.{EnvView}
 use Rattle.hist_model.proofs.Laws.OneThing.{wanted_by}
@@ -11,7 +13,7 @@ use Rattle.hist_model.proofs.Laws.Own.{acts_done_own, holding_own, running_own}
 use Rattle.hist_model.specs.Allowed.{IsAllowed, by_script, by_task, enters, is_reply, may_come, same_scope}
 use Rattle.hist_model.specs.Legal.{IsLegal}
 use Rattle.hist_model.specs.Open.{IsClosed}
-use Rattle.hist_model.specs.Script.{is_finished, is_wanted, wants}
+use Rattle.hist_model.specs.Script.{is_finished, wants}
 use Rattle.hist_model.specs.Views.{own_entries}
 use Rattle.list_laws.proofs.Elements.{AllByRecursion-map}
 use Rattle.list_laws.proofs.Options.{AllByRecursion-not_any}
@@ -40,7 +42,7 @@ use Rattle.task_model.specs.Phase.{phase_of}
 use Rattle.task_model.specs.Cells.{main_cell_of}
 use Rattle.task_model.specs.MainQueues.{Front, chosen_of}
 use Rattle.task_model.specs.Refusal.{is_closed, is_refused}
-use Rattle.task_model.specs.Seats.{Running, next_act, running, steps_of, worker_seats}
+use Rattle.task_model.specs.Seats.{Running, is_free, next_act, running, steps_of, worker_seats}
 use Rattle.task_model.specs.Sources.{best_of}
 use Rattle.task_model.specs.Time.{now_of}
 use Rattle.task_base.specs.declared.entry.Kind.TheVariants as kinds
@@ -101,35 +103,7 @@ main_post_allowed view seat task queue delay ok closed next reply = driver_allow
     (main_may_come view.script view.history seat task queue delay ok closed
     (rw (wanted_by_script view seat (kinds.Main task queue delay ok) next) refl) reply)
 
--- whether the rules ask no more of such an entry of the driver than that the script wants it
-abbrev pub is_plain : Kind → Bool
-is_plain (kinds.Policy policy) = true
-is_plain (kinds.Reprio runner priority) = true
-is_plain (kinds.Fence queue at) = true
-is_plain (kinds.Unfence queue) = true
-is_plain (kinds.Vote queue voter on) = true
-is_plain (kinds.Rank queue class) = true
-is_plain (kinds.Close queue) = true
-is_plain kinds.Shutdown = true
-is_plain (kinds.JobCancel job) = true
-is_plain kind = false
-
--- it may come where the script wants it
-plain_may_come : (script : Plan) (past : List Entry) (seat : ℕ) (kind : Kind) → is_plain kind ≡ true → by_script script past seat kind ≡ true
-    → may_come script past seat kind ≡ true
-unfolding may_come
-plain_may_come script past seat (kinds.Policy policy) is by = by
-plain_may_come script past seat (kinds.Reprio runner priority) is by = by
-plain_may_come script past seat (kinds.Fence queue at) is by = by
-plain_may_come script past seat (kinds.Unfence queue) is by = by
-plain_may_come script past seat (kinds.Vote queue voter on) is by = by
-plain_may_come script past seat (kinds.Rank queue class) is by = by
-plain_may_come script past seat (kinds.Close queue) is by = by
-plain_may_come script past seat kinds.Shutdown is by = by
-plain_may_come script past seat (kinds.JobCancel job) is by = by
-plain_may_come script past seat kind is by = absurd cc
-
--- so it is allowed
+-- a plain entry is allowed where it is wanted
 pub plain_allowed : (view : EnvView) (seat : ℕ) (kind : Kind) → IsWantedNext view seat kind → is_plain kind ≡ true
     → IsAllowed view.script view.history (record { seat = seat; kind = kind })
 plain_allowed view seat kind next is = driver_allowed view seat kind next.driver
@@ -219,13 +193,16 @@ unfolding may_come
 idle_allowed view seat closed legal next idle = driver_allowed view seat kinds.Idle next.driver
     (rw (
       wanted_by_script view seat kinds.Idle next,
-      free_is_quiet view.script view.history (λ s known. free_where_none_runs view.script view.history s legal
-          (driver_runs_nothing view.script view.history seat kinds.Idle closed legal (wanted_by_script view seat kinds.Idle next))
-          (driver_holds_nothing view.script view.history seat kinds.Idle closed legal (wanted_by_script view seat kinds.Idle next))
-          (omega (arith, known)) idle.0),
+      free_is_quiet view.script view.history (λ s known. free_where_none_runs view.script view.history s legal is_free_driver (omega (arith, known)) idle.0),
       none_ready,
     ) refl)
   where
+    is_free_driver : is_free view.history 0 ≡ true
+    is_free_driver = rw (
+      driver_runs_nothing view.script view.history seat kinds.Idle closed legal (wanted_by_script view seat kinds.Idle next),
+      driver_holds_nothing view.script view.history seat kinds.Idle closed legal (wanted_by_script view seat kinds.Idle next),
+    ) refl
+
     none_ready : list_all (λ worker. is_none (best_of view.script view.history worker)) (worker_seats view.script) ≡ true
     none_ready = list_all-from_recursion _ _ (AllByRecursion-map _ _ (worker_seats view.script)
         (λ worker none. no_best (best_of view.script view.history worker) none)

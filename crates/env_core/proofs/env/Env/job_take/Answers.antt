@@ -1,5 +1,6 @@
 use Rattle.env_core.proofs.Entries.{holds_at_pool, holds_still}
-use Rattle.env_core.proofs.JobCalls.{can_join, has_got, has_got_none, may_go_in}
+use Rattle.call_laws.proofs.Jobs.{has_got, has_got_none}
+use Rattle.env_core.proofs.JobCalls.{can_join, may_go_in}
 use Rattle.env_core.proofs.Own.{pass_is_own}
 use Rattle.env_core.specs.Calls.{IsWantedNext}
 use Rattle.pool_core.specs.StandsFor.{StandsFor}

@@ -1,5 +1,6 @@
 use Rattle.env_core.proofs.Entries.{counts, holds_at_pool, pool_still}
-use Rattle.env_core.proofs.JobCalls.{joined_is, knows_job, unanswered_is}
+use Rattle.call_laws.proofs.Jobs.{joined_is}
+use Rattle.env_core.proofs.JobCalls.{knows_job, unanswered_is}
 use Rattle.env_core.proofs.JobEntries.{join_may_go_in, joined_allowed}
 use Rattle.env_core.specs.Calls.{IsWantedNext}
 use Rattle.std.proofs.Common.{ap, refl, sym, ◌∙◌}
