@@ -2,7 +2,7 @@ ghost use Rattle.std.specs.Prelude.{◌≡◌, ◌↔◌, IsTrue};
 
 use task_base::Kind;
 
-/// Whether the two kinds are one.
+/// Whether the two kinds are one: the same kind of entry, with the same values.
 pub fn same_kind(a: &Kind, b: &Kind) -> bool
     ensures { IsTrue result ↔ (a.now ≡ b.now) }
 {

@@ -7,4 +7,5 @@ mod kinds;
 mod replay;
 
 pub use follow::reading_of;
+pub use kinds::same_kind;
 pub use replay::{Replay, discard};
