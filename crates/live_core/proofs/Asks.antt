@@ -1,13 +1,15 @@
 -- What the machines ask, by what fits a call.
 -- Cited by 18 functions of `LiveCore`, `Made`, `Scopes`.
-use Rattle.std.proofs.Common.{◌≡◌, ℕ, suc, ◌<◌, ◌≤◌, ◌^◌, Bool, true, false, eqb, inl, inr, List, [], ◌∷◌, ◌++◌, length, refl, sym, ap, ◌∙◌, Option, Some}
+use Rattle.std.proofs.Common.{◌≡◌, ℕ, suc, ◌<◌, ◌≤◌, ◌^◌, Bool, true, false, eqb, inl, inr, List, [], ◌∷◌, ◌++◌, length, refl, sym, ap, subst, ◌∙◌}
+use Rattle.std.proofs.Common.{Option, Some}
 use Rattle.std.proofs.Common.{None, arith}
 use Rattle.std.specs.Prelude.{◌&&◌, ◌||◌, is_none, is_some, min, max, nat_le, nat_lt, not, slice_get, unwrap_or}
 use Rattle.std.specs.Option.{option_map}
-use Rattle.std.proofs.lemmas.Bool.{and_parts, cases_lt, eqb-false, leb-true, not-true}
+use Rattle.std.proofs.lemmas.Bool.{and_from, and_parts, cases_lt, cond-false, eqb-false, leb-true, lt-ltb, not-true}
 use Rattle.std.proofs.lemmas.Option.{slice_get_within}
 use Rattle.list_laws.proofs.Counts.{count-append}
 use Rattle.list_laws.proofs.Finds.{none_found}
+use Rattle.list_laws.proofs.Values.{eqb-same, some-injective}
 use Rattle.list_laws.specs.Lists.{count}
 use Rattle.task_base.specs.Plan.{Plan}
 use Rattle.task_base.specs.declared.entry.Entry.{Entry}
@@ -31,18 +33,18 @@ use Rattle.hist_model.proofs.Laws.OpenPlans.{phase_own}
 use Rattle.pool_laws.specs.Posts.{main_post_of, post_of}
 use Rattle.hist_model.proofs.Laws.JobEntries.{none_is}
 use Rattle.hist_model.proofs.Laws.Legal.{entry_induction}
-use Rattle.hist_model.specs.Allowed.{may_come}
+use Rattle.hist_model.specs.Allowed.{by_own_step, may_come, may_post}
 use Rattle.hist_model.specs.Legal.{IsLegal}
-use Rattle.hist_model.specs.Open.{is_before, is_done, is_in_order, is_kept, posts_task, was_posted}
+use Rattle.hist_model.specs.Open.{is_before, is_done, is_in_order, is_kept, is_post_within, is_poster, posts_task, was_posted}
 use Rattle.hist_model.specs.Views.{own_entries}
 use Rattle.pool_core.specs.Calls.{CanPost, CanTake, CanTick, IsInPhase, KnowsRunner}
 use Rattle.pool_core.specs.JobCalls.{CanJoin, CanPostJob, KnowsJob}
 use Rattle.sequence_manager.specs.Calls.{CanFence, CanPost as MainCanPost, CanTake as MainCanTake, CanRank, CanTick as MainCanTick, CanVote, HasQueue}
 use Rattle.live_core.proofs.Entered.{found_first, posted_push}
+use Rattle.live_core.proofs.Posting.{any_main_reply, any_reply, new_post, post_declared}
 use Rattle.live_core.proofs.Serving.{job_own}
-use Rattle.live_core.specs.Calls.{hands_out, is_driving, is_posting, is_spare, job_fits, spare_task}
+use Rattle.live_core.specs.Calls.{hands_out, is_driving, is_posting, is_spare, job_fits, spare_task, task_of}
 use Rattle.live_core.specs.Making.{CanMake}
-use Rattle.live_core.specs.StandsFor.{StandsFor}
 use Rattle.live_core.specs.declared.books.TheConstants.{MOST_ENTRIES}
 use Rattle.live_core.specs.declared.call.Call.{Call}
 use Rattle.live_core.specs.declared.call.Call.TheVariants as calls
@@ -89,14 +91,34 @@ not_accepted plan past t legal = entry_induction plan (λ front. was_posted fron
               ∙ none_of (λ p. eqb p.task t) (main_posts front) (main_posted_by front e.kind) none.by_main (not_main_accepted_by front t e.kind parts.1);
         }
 
--- the task that is handed out is declared, and new
-pub record IsSpare (plan : Plan) (past : List Entry) (task : ℕ) : Type 0 where
-  pub first : spare_task plan past ≡ Some task
+-- the task of a post that may be made: it is declared, and new
+pub record IsPosting (plan : Plan) (past : List Entry) (seat task : ℕ) (kind : Kind) : Type 0 where
+  pub may : may_post plan past seat task kind ≡ true
   pub there : task < length plan.tasks
-  pub free : is_kept plan task ≡ false
-  pub fresh : was_posted past task ≡ false
   pub not_accepted : post_of past task ≡ None
   pub not_main_accepted : main_post_of past task ≡ None
+
+is_posting_new : (plan : Plan) (past : List Entry) (seat task : ℕ) (kind : Kind) → IsLegal plan past → posts_task task kind ≡ true
+    → may_post plan past seat task kind ≡ true → IsPosting plan past seat task kind
+is_posting_new plan past seat task kind legal its may =
+    let new = new_post plan past seat task kind may in
+    let none = not_accepted plan past task legal new.fresh in
+    record {
+      may = may;
+      there = post_declared plan task kind its new.within;
+      not_accepted = none_found (λ p. eqb p.task task) (posts past) none.by_pool;
+      not_main_accepted = none_found (λ p. eqb p.task task) (main_posts past) none.by_main;
+    }
+
+-- a task that is handed out may be posted by who may post
+spare_may : (plan : Plan) (past : List Entry) (seat task : ℕ) (kind : Kind) → spare_task plan past ≡ Some task → is_poster plan past seat ≡ true
+    → (task < length plan.tasks → is_post_within plan kind ≡ true) → may_post plan past seat task kind ≡ true
+spare_may plan past seat task kind is poster within =
+    let found = found_first (is_spare plan past) 0 (length plan.tasks) task is in
+    let parts = and_parts (not (is_kept plan task)) (not (was_posted past task)) found.passes in
+    and_from (is_post_within plan kind && not (was_posted past task)) _
+    (and_from (is_post_within plan kind) (not (was_posted past task)) (within (omega (arith, found.high))) parts.1)
+    (cond-false (is_kept plan task) (by_own_step plan past seat kind) (is_poster plan past seat) (not-true (is_kept plan task) parts.0) ∙ poster)
 
 running_now : (phase : Phase) → is_before phase ≡ true → phase ≡ phases.Running
 running_now phases.Running h = refl
@@ -207,23 +229,6 @@ module _ {plan : Plan} {past : List Entry} {live : LiveCore} where
       → MainCanTick plan past live.main now
   main_can_tick can tick = record { stands = can.stands.main; few = few can; later = tick.later; fits = tick.fits }
 
-  -- ---- posts
-
-  pub spare_is : {task : ℕ} → StandsFor plan past live → spare_task plan past ≡ Some task → IsSpare plan past task
-  spare_is {task = task} stands is =
-      let found = found_first (is_spare plan past) 0 (length plan.tasks) task is in
-      let parts = and_parts (not (is_kept plan task)) (not (was_posted past task)) found.passes in
-      let fresh = not-true (was_posted past task) parts.1 in
-      let none = not_accepted plan past task stands.legal fresh in
-      record {
-        first = is;
-        there = omega (arith, found.high);
-        free = not-true (is_kept plan task) parts.0;
-        fresh = fresh;
-        not_accepted = none_found (λ p. eqb p.task task) (posts past) none.by_pool;
-        not_main_accepted = none_found (λ p. eqb p.task task) (main_posts past) none.by_main;
-      }
-
   -- ---- jobs
 
   -- the job of a call that names one is declared, and the call comes in its order
@@ -272,39 +277,78 @@ module _ {plan : Plan} {past : List Entry} {live : LiveCore} where
   -- ---- posts
 
   -- a task is left for a post that may be made
-  pub one_left : {call : Call} → CanMake plan past call live → hands_out call ≡ true → is_none (spare_task plan past) ≡ false
-  one_left can posts = not_both (eqb (length past) MOST_ENTRIES) _ (is_none (spare_task plan past)) can.may.roomy posts
+  one_left : {call : Call} → CanMake plan past call live → hands_out call ≡ true → is_none (spare_task plan past) ≡ false
+  one_left can hands = not_both (eqb (length past) MOST_ENTRIES) _ (is_none (spare_task plan past)) can.may.roomy hands
 
-  pub can_post : {seat runner delay place task : ℕ} → CanMake plan past (calls.Post seat runner delay) live → place ≡ live.books.entries
-      → spare_task plan past ≡ Some task → CanPost plan past live.pool place task runner delay
-  can_post {seat = seat} {runner = runner} {delay = delay} can place_is is =
-      let spare = spare_is can.stands is in
+  -- so there is one, named or handed out
+  pub has_task : {seat runner delay : ℕ} {named : Option ℕ} → CanMake plan past (calls.Post seat named runner delay) live → (told : Option ℕ)
+      → told ≡ task_of plan past named → is_some told ≡ true
+  has_task {named = Some task} can told is = rw is refl
+  has_task {named = None} can told is = some_of told (ap is_none is ∙ one_left can refl)
+
+  pub has_main_task : {seat queue delay : ℕ} {named : Option ℕ} → CanMake plan past (calls.Main seat named queue delay) live → (told : Option ℕ)
+      → told ≡ task_of plan past named → is_some told ≡ true
+  has_main_task {named = Some task} can told is = rw is refl
+  has_main_task {named = None} can told is = some_of told (ap is_none is ∙ one_left can refl)
+
+  pub is_posting_it : {seat runner delay task : ℕ} {named : Option ℕ} (ok : Bool) → CanMake plan past (calls.Post seat named runner delay) live
+      → task_of plan past named ≡ Some task → IsPosting plan past seat task (kinds.Post task runner delay ok)
+  is_posting_it {seat = seat} {runner = runner} {delay = delay} {task = task} {named = Some it} ok can is =
+      is_posting_new plan past seat task (kinds.Post task runner delay ok) can.stands.legal (eqb-same task)
+      (subst (λ t. may_post plan past seat t (kinds.Post t runner delay ok) ≡ true) (some-injective is)
+      (any_reply plan past seat it runner delay ok true ∙ (and_parts (nat_le seat plan.workers) _ can.may.fit).1))
+  is_posting_it {seat = seat} {runner = runner} {delay = delay} {task = task} {named = None} ok can is =
       let fit = and_parts (is_posting plan past seat && nat_lt runner (length plan.runners)) (nat_le delay MOST_MICROSECONDS) can.may.fit in
+      let front = and_parts (is_posting plan past seat) (nat_lt runner (length plan.runners)) fit.0 in
+      is_posting_new plan past seat task (kinds.Post task runner delay ok) can.stands.legal (eqb-same task)
+      (spare_may plan past seat task (kinds.Post task runner delay ok) is (and_parts (nat_le seat plan.workers) (is_poster plan past seat) front.0).1
+      (λ less. rw (lt-ltb task (length plan.tasks) less, front.1, fit.1) refl))
+
+  pub is_posting_main : {seat queue delay task : ℕ} {named : Option ℕ} (ok : Bool) → CanMake plan past (calls.Main seat named queue delay) live
+      → task_of plan past named ≡ Some task → IsPosting plan past seat task (kinds.Main task queue delay ok)
+  is_posting_main {seat = seat} {queue = queue} {delay = delay} {task = task} {named = Some it} ok can is =
+      is_posting_new plan past seat task (kinds.Main task queue delay ok) can.stands.legal (eqb-same task)
+      (subst (λ t. may_post plan past seat t (kinds.Main t queue delay ok) ≡ true) (some-injective is)
+      (any_main_reply plan past seat it queue delay ok true ∙ (and_parts (nat_le seat plan.workers) _ can.may.fit).1))
+  is_posting_main {seat = seat} {queue = queue} {delay = delay} {task = task} {named = None} ok can is =
+      let fit = and_parts (is_posting plan past seat && nat_lt queue (length plan.queues)) (nat_le delay MOST_MICROSECONDS) can.may.fit in
+      let front = and_parts (is_posting plan past seat) (nat_lt queue (length plan.queues)) fit.0 in
+      is_posting_new plan past seat task (kinds.Main task queue delay ok) can.stands.legal (eqb-same task)
+      (spare_may plan past seat task (kinds.Main task queue delay ok) is (and_parts (nat_le seat plan.workers) (is_poster plan past seat) front.0).1
+      (λ less. rw (lt-ltb task (length plan.tasks) less, front.1, fit.1) refl))
+
+  pub can_post : {seat runner delay place task : ℕ} {named : Option ℕ} → CanMake plan past (calls.Post seat named runner delay) live
+      → place ≡ live.books.entries → task_of plan past named ≡ Some task → CanPost plan past live.pool place task runner delay
+  can_post {runner = runner} {delay = delay} {task = task} can place_is is =
+      let posting = is_posting_it true can is in
+      let within = and_parts (nat_lt task (length plan.tasks) && nat_lt runner (length plan.runners)) (nat_le delay MOST_MICROSECONDS)
+      (new_post plan past _ task (kinds.Post task runner delay true) posting.may).within in
       record {
         stands = can.stands.pool;
         place_is = place_is ∙ can.stands.books.entries;
-        runner_declared = there (and_parts (is_posting plan past seat) _ fit.0).1;
-        task_declared = spare.there;
-        is_new = spare.not_accepted;
-        delay_fits = leb-true delay MOST_MICROSECONDS fit.1;
+        runner_declared = there (and_parts (nat_lt task (length plan.tasks)) (nat_lt runner (length plan.runners)) within.0).1;
+        task_declared = posting.there;
+        is_new = posting.not_accepted;
+        delay_fits = leb-true delay MOST_MICROSECONDS within.1;
       }
 
-  pub can_main_post : {seat queue delay place task : ℕ} → CanMake plan past (calls.Main seat queue delay) live → place ≡ live.books.entries
-      → spare_task plan past ≡ Some task → MainCanPost plan past live.main place task queue delay
-  can_main_post {seat = seat} {queue = queue} {delay = delay} can place_is is =
-      let spare = spare_is can.stands is in
-      let fit = and_parts (is_posting plan past seat && nat_lt queue (length plan.queues)) (nat_le delay MOST_MICROSECONDS) can.may.fit in
+  pub can_main_post : {seat queue delay place task : ℕ} {named : Option ℕ} → CanMake plan past (calls.Main seat named queue delay) live
+      → place ≡ live.books.entries → task_of plan past named ≡ Some task → MainCanPost plan past live.main place task queue delay
+  can_main_post {queue = queue} {delay = delay} {task = task} can place_is is =
+      let posting = is_posting_main true can is in
+      let within = and_parts (nat_lt task (length plan.tasks) && nat_lt queue (length plan.queues)) (nat_le delay MOST_MICROSECONDS)
+      (new_post plan past _ task (kinds.Main task queue delay true) posting.may).within in
       record {
         stands = can.stands.main;
         place_is = place_is ∙ can.stands.books.entries;
         few = few can;
         posted = inr (record {
           opened = can.stands.opened;
-          task_declared = spare.there;
-          queue_declared = there (and_parts (is_posting plan past seat) _ fit.0).1;
+          task_declared = posting.there;
+          queue_declared = there (and_parts (nat_lt task (length plan.tasks)) (nat_lt queue (length plan.queues)) within.0).1;
         });
-        is_new = spare.not_main_accepted;
-        delay_fits = leb-true delay MOST_MICROSECONDS fit.1;
+        is_new = posting.not_main_accepted;
+        delay_fits = leb-true delay MOST_MICROSECONDS within.1;
       }
 
   -- ---- what seats do
@@ -322,10 +366,6 @@ module _ {plan : Plan} {past : List Entry} {live : LiveCore} where
         free = none_is (running past seat) free.0;
         holds_nothing = none_is (holding past seat) free.1;
       }
-
-  -- so it is for who is told of it
-  pub is_left : {call : Call} → CanMake plan past call live → hands_out call ≡ true → (told : Option ℕ) → told ≡ spare_task plan past → is_some told ≡ true
-  is_left can posts told is = some_of told (ap is_none is ∙ one_left can posts)
 
   -- the driver, which takes a main task, runs none
   pub can_main_take : CanMake plan past calls.MainTake live → MainCanTake plan past live.main

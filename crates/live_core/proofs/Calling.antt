@@ -1,6 +1,6 @@
 -- What every list of calls gives.
 -- Cited by `live_theorem`.
-use Rattle.std.proofs.Common.{◌≡◌, List, [], ◌∷◌, Ok, Err, Result}
+use Rattle.std.proofs.Common.{List, [], ◌∷◌, Ok, Err, Result}
 use Rattle.task_base.specs.Plan.{Plan}
 use Rattle.task_base.specs.declared.entry.Entry.{Entry}
 use Rattle.task_base.specs.declared.entry.Kind.{Kind}

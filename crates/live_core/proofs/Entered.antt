@@ -1,12 +1,12 @@
 -- One more entry in the books: each table says what the longer past says.
--- Cited by `Books::enter`, `Books::spare_task`, `LiveCore::end`, `LiveCore::main_end`, `guest_runner`, `Asks`, `Fits`.
-use Rattle.std.proofs.Common.{◌≡◌, ℕ, zero, suc, ◌+◌, ◌<◌, ◌≤◌, Bool, true, false, cond, eqb, List, [], ◌∷◌, ◌++◌, ◌^◌, get_or, length, refl, sym, ap, ◌∙◌}
+-- Cited by `Books::enter`, `Books::open`, `Books::spare_task`, `LiveCore::end`, `LiveCore::main_end`, `guest_runner`, `Asks`, `Fits`.
+use Rattle.std.proofs.Common.{◌≡◌, ℕ, zero, suc, ◌+◌, ◌<◌, ◌≤◌, Bool, true, false, cond, eqb, List, [], ◌∷◌, ◌++◌, get_or, length, refl, sym, ap, ◌∙◌}
 use Rattle.std.proofs.Common.{Option, Some, None, arith, ◌⊎◌, inl, inr, ⊎_elim}
-use Rattle.std.specs.Prelude.{◌&&◌, ◌||◌, is_some, not, slice_get, slice_set}
+use Rattle.std.specs.Prelude.{◌&&◌, ◌||◌, is_some, not, slice_set}
 use Rattle.std.specs.List.{find, range_with_len}
 use Rattle.std.specs.Option.{option_map}
-use Rattle.std.proofs.Math.Bool.{and-false, and-true, or-false, or-true}
-use Rattle.std.proofs.lemmas.Bool.{both_ways, cases_eq, cases_lt, ne_eqb}
+use Rattle.std.proofs.Math.Bool.{or-false, or-true}
+use Rattle.std.proofs.lemmas.Bool.{cases_eq, cases_lt, ne_eqb}
 use Rattle.std.proofs.lemmas.Option.{none-some, slice_get-get_or}
 use Rattle.list_laws.proofs.Values.{eqb-same, some-injective}
 use Rattle.task_base.specs.Plan.{Plan}
@@ -20,11 +20,11 @@ use Rattle.task_model.specs.Jobs.{JobPosted, cancels, is_cancelled, job_post_aft
 use Rattle.task_model.specs.Seats.{Holding, Running, holding, holding_after, running, running_after}
 use Rattle.sequence_manager.proofs.Tables.{table_same, table_set}
 use Rattle.sequence_manager.specs.Queues.{IsTable}
-use Rattle.live_core.specs.Books.{CanEnter, HandsOut, IsHandedOut, StandFor, NamesJob, NamesScope, at_seat, fresh_mark, holds_after, item_of, jobs_after}
-use Rattle.live_core.specs.Books.{mark_at, mark_of, next_after, runs_after, scopes_after, work_of}
+use Rattle.live_core.specs.Books.{IsFirstUnmarked, IsNextOut, NamesJob, NamesScope, NamesTask, at_seat, fresh_mark, holds_after, is_unmarked}
+use Rattle.live_core.specs.Books.{item_of, jobs_after}
+use Rattle.live_core.specs.Books.{mark_at, mark_of, posted_after, runs_after, scopes_after, work_of}
 use Rattle.hist_model.specs.Open.{is_kept, posts_task, was_posted}
 use Rattle.live_core.specs.Calls.{is_spare, spare_task}
-use Rattle.live_core.specs.declared.books.Books.{Books}
 use Rattle.live_core.specs.declared.books.JobMark.{JobMark}
 use Rattle.live_core.specs.declared.books.Seat.{Seat}
 
@@ -221,74 +221,58 @@ none_in_range test start zero fails = refl
 none_in_range test start (suc count) fails = rw (fails start (omega arith) (omega arith))
     (none_in_range test (start + 1) count (λ n low high. fails n (omega (arith, low)) (omega (arith, high))))
 
--- a post of the task that is handed out next moves the place after it
-task_posted : (plan : Plan) (past : List Entry) (seat : ℕ) (kind : Kind) (place task : ℕ) → IsHandedOut plan past place → spare_task plan past ≡ Some task
-    → ((t : ℕ) → posts_task t kind ≡ eqb task t) → IsHandedOut plan (next past seat kind) (task + 1)
-task_posted plan past seat kind place task out is posts = record { within = omega (arith, first.high); before = before; beyond = beyond }
-  where
-    first : IsFirstIn (is_spare plan past) 0 (length plan.tasks) task
-    first = found_first (is_spare plan past) 0 (length plan.tasks) task is
+-- ---- posted tasks
 
-    posted : was_posted (next past seat kind) task ≡ true
-    posted = posted_push past seat kind task ∙ rw (posts task, eqb-same task) (or-true (was_posted past task))
+mark_posted : (past : List Entry) (seat : ℕ) (kind : Kind) (task count : ℕ) (posted : List Bool) → IsTable (was_posted past) count posted → task < count
+    → ((t : ℕ) → posts_task t kind ≡ eqb task t) → IsTable (was_posted (next past seat kind)) count (slice_set posted task true)
+mark_posted past seat kind task count posted table there posts =
+    table_set (was_posted past) (was_posted (next past seat kind)) count posted task true table there
+    (λ other within apart. sym (posted_push past seat kind other
+    ∙ rw (posts other, ne_eqb task other (λ same. apart (sym same))) (or-false (was_posted past other))))
+    (sym (posted_push past seat kind task ∙ rw (posts task, eqb-same task) (or-true (was_posted past task))))
 
-    before : (t : ℕ) → t < task + 1 → is_spare plan (next past seat kind) t ≡ false
-    before t less = ⊎_elim (λ (same : t ≡ task). rw (same, posted) (and-false (not (is_kept plan task))))
-        (λ apart. spare_no_more plan past seat kind t (first.others t (omega arith) (omega (arith, less, apart)))) (cases_eq t task)
-
-    reached : place ≤ task
-    reached = elim (cases_lt task place) [
-      | inl less ↦ absurd (both_ways (is_spare plan past task) (out.before task less) first.passes)
-      | inr low ↦ low
-    ]
-
-    beyond : (t : ℕ) → task + 1 ≤ t → was_posted (next past seat kind) t ≡ false
-    beyond t low = posted_push past seat kind t
-        ∙ rw (posts t, ne_eqb task t (λ same. omega (arith, same, low)), out.beyond t (omega (arith, low, reached))) refl
-
-pub handed_on : (plan : Plan) (past : List Entry) (seat : ℕ) (kind : Kind) (place : ℕ) → IsHandedOut plan past place → HandsOut plan past kind
-    → IsHandedOut plan (next past seat kind) (next_after place kind)
-handed_on plan past seat (kinds.Post task runner delay ok) place out is =
-    task_posted plan past seat (kinds.Post task runner delay ok) place task out is (λ t. refl)
-handed_on plan past seat (kinds.Main task queue delay ok) place out is =
-    task_posted plan past seat (kinds.Main task queue delay ok) place task out is (λ t. refl)
-handed_on plan past seat kind place out is = record {
-  within = out.within;
-  before = λ t less. spare_no_more plan past seat kind t (out.before t less);
-  beyond = λ t low. posted_push past seat kind t ∙ rw (out.beyond t low) refl;
-}
-
--- the place after an entry can be counted
-pub next_fits : (plan : Plan) (past : List Entry) (books : Books) (seat : ℕ) (kind : Kind) → CanEnter plan past books seat kind
-    → next_after books.next kind < 2 ^ 32
-next_fits plan past books seat kind can = omega (arith, (handed_on plan past seat kind books.next can.stand.out can.task).within, can.stand.few_tasks)
+pub posted_entered : (past : List Entry) (seat : ℕ) (kind : Kind) (count : ℕ) (posted : List Bool) → IsTable (was_posted past) count posted
+    → NamesTask count kind → IsTable (was_posted (next past seat kind)) count (posted_after posted kind)
+posted_entered past seat (kinds.Post task runner delay ok) count posted table there =
+    mark_posted past seat (kinds.Post task runner delay ok) task count posted table there (λ t. refl)
+posted_entered past seat (kinds.Main task queue delay ok) count posted table there =
+    mark_posted past seat (kinds.Main task queue delay ok) task count posted table there (λ t. refl)
+posted_entered past seat kind count posted table there = table_same (was_posted past) (was_posted (next past seat kind)) count posted
+    (λ t within. sym (posted_push past seat kind t ∙ or-false (was_posted past t))) table
 
 -- ---- which task is handed out
 
--- from where on none was posted, a task is spare unless a step posts it
-spare_at : (plan : Plan) (past : List Entry) (books : Books) (task : ℕ) (kept : Bool) → StandFor plan past books → books.next ≤ task
-    → task < length plan.tasks → slice_get books.kept.items task ≡ Some kept → is_spare plan past task ≡ not kept
-spare_at plan past books task kept stand low there is =
-    rw (some-injective (sym (stand.kept.each task there) ∙ is), stand.out.beyond task low) (and-true (not kept))
+-- the first task from a place on that no step posts and that was not posted, where before that place none may be handed out
+pub next_out : (plan : Plan) (past : List Entry) (kept posted : List Bool) (start place : ℕ) → ((t : ℕ) → t < start → is_spare plan past t ≡ false)
+    → IsTable (is_kept plan) (length plan.tasks) kept → IsTable (was_posted past) (length plan.tasks) posted
+    → IsFirstUnmarked kept posted start place → IsNextOut plan past place
+next_out plan past kept posted start place none keeps posts first = record {
+  within = omega (arith, first.high, keeps.all);
+  before = λ t less. elim (cases_lt t start) [
+    | inl out ↦ none t out
+    | inr from ↦ sym (same t (omega (arith, less, first.high, keeps.all))) ∙ first.marked t from less
+  ];
+  spare = λ there. sym (same place there) ∙ first.unmarked (omega (arith, there, keeps.all));
+}
+  where
+    same : (t : ℕ) → t < length plan.tasks → is_unmarked kept posted t ≡ is_spare plan past t
+    same t there = rw (
+      table_get (is_kept plan) (length plan.tasks) kept t false keeps there,
+      table_get (was_posted past) (length plan.tasks) posted t false posts there,
+    ) refl
 
--- the first one from there that no step posts is handed out
-pub first_spare : (plan : Plan) (past : List Entry) (books : Books) (task : ℕ) → StandFor plan past books → books.next ≤ task
-    → task < length books.kept.items → slice_get books.kept.items task ≡ Some false
-    → ((n : ℕ) → books.next ≤ n → n < task → slice_get books.kept.items n ≡ Some true) → Some task ≡ spare_task plan past
-first_spare plan past books task stand low there is kept =
-    sym (first_found (is_spare plan past) 0 (length plan.tasks) task (omega arith) (omega (arith, there, stand.kept.all))
-    (spare_at plan past books task false stand low (omega (arith, there, stand.kept.all)) is)
-    (λ n at less. elim (cases_lt n books.next) [
-      | inl out ↦ stand.out.before n out
-      | inr from ↦ spare_at plan past books n true stand from (omega (arith, less, there, stand.kept.all)) (kept n from less)
-    ]))
+-- so it is after an entry
+pub out_entered : (plan : Plan) (past : List Entry) (seat : ℕ) (kind : Kind) (kept posted : List Bool) (start place : ℕ) → IsNextOut plan past start
+    → IsTable (is_kept plan) (length plan.tasks) kept → IsTable (was_posted (next past seat kind)) (length plan.tasks) posted
+    → IsFirstUnmarked kept posted start place → IsNextOut plan (next past seat kind) place
+out_entered plan past seat kind kept posted start place out keeps posts first = next_out plan (next past seat kind) kept posted start place
+    (λ t less. spare_no_more plan past seat kind t (out.before t less)) keeps posts first
 
--- and where steps post all from there on, none
-pub none_spare : (plan : Plan) (past : List Entry) (books : Books) → StandFor plan past books
-    → ((n : ℕ) → books.next ≤ n → n < length books.kept.items → slice_get books.kept.items n ≡ Some true) → None ≡ spare_task plan past
-none_spare plan past books stand kept =
-    sym (none_in_range (is_spare plan past) 0 (length plan.tasks) (λ n at less. elim (cases_lt n books.next) [
-      | inl out ↦ stand.out.before n out
-      | inr from ↦ spare_at plan past books n true stand from (omega (arith, less))
-          (kept n from (omega (arith, less, stand.kept.all)))
-    ]))
+-- the task that is handed out
+pub spare_is_next : (plan : Plan) (past : List Entry) (place : ℕ) → IsNextOut plan past place → place < length plan.tasks → Some place ≡ spare_task plan past
+spare_is_next plan past place out there = sym (first_found (is_spare plan past) 0 (length plan.tasks) place (omega arith) (omega (arith, there))
+    (out.spare there) (λ n low less. out.before n less))
+
+pub none_is_next : (plan : Plan) (past : List Entry) (place : ℕ) → IsNextOut plan past place → length plan.tasks ≤ place → None ≡ spare_task plan past
+none_is_next plan past place out beyond =
+    sym (none_in_range (is_spare plan past) 0 (length plan.tasks) (λ n low less. out.before n (omega (arith, less, beyond))))

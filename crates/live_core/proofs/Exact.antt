@@ -1,6 +1,6 @@
 -- What may come of a call, the call makes, unless there is no room.
 -- Cited by `laws.rt`.
-use Rattle.std.proofs.Common.{◌≡◌, true, false, List, length, ap, sym, ◌∙◌, Result, Ok, Err, ◌⊎◌, inl, inr, ⊎_elim}
+use Rattle.std.proofs.Common.{◌≡◌, None, true, false, List, length, ap, sym, ◌∙◌, Result, Ok, Err, ◌⊎◌, inl, inr, ⊎_elim}
 use Rattle.std.specs.Prelude.{◌&&◌, ◌==◌, is_none, nat_le}
 use Rattle.std.proofs.lemmas.Bool.{and_parts, both_ways, eqb-true, false_from_ne_true, or_cases}
 use Rattle.std.proofs.lemmas.Option.{same_Some}
@@ -44,10 +44,10 @@ one_entry_of_a_call plan past call a b opened legal made_a made_b may_a may_b =
 not_spent : (plan : Plan) (past : List Entry) (call : Call) (kind : Kind) → IsMadeBy plan past call kind
     → (hands_out call && is_none (spare_task plan past)) ≡ true
     → ⊥
-not_spent plan past (calls.Post seat r d) (kinds.Post task runner delay ok) made none = both_ways (is_none (spare_task plan past)) (ap is_none made.0) none
-not_spent plan past (calls.Main seat q d) (kinds.Main task queue delay ok) made none = both_ways (is_none (spare_task plan past)) (ap is_none made.0) none
-not_spent plan past (calls.Post seat r d) kind made none = absurd made
-not_spent plan past (calls.Main seat q d) kind made none = absurd made
+not_spent plan past (calls.Post seat None r d) (kinds.Post task runner delay ok) made none = both_ways (is_none (spare_task plan past)) (ap is_none made.0) none
+not_spent plan past (calls.Main seat None q d) (kinds.Main task queue delay ok) made none = both_ways (is_none (spare_task plan past)) (ap is_none made.0) none
+not_spent plan past (calls.Post seat None r d) kind made none = absurd made
+not_spent plan past (calls.Main seat None q d) kind made none = absurd made
 not_spent plan past call kind made none = absurd cc
 
 pub makes_what_may_come : (plan : Plan) (past : List Entry) (call : Call) (before after : LiveCore) (answer : Result Kind Unmade) (kind : Kind)

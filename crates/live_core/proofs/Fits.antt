@@ -1,16 +1,18 @@
 -- What may come of a call: only where the call fits and lacks nothing, and one kind alone.
 -- Cited by `Exact`.
-use Rattle.std.proofs.Common.{◌≡◌, ℕ, ◌+◌, ◌<◌, Bool, true, false, cond, eqb, length, List, [], ◌∷◌, refl, sym, ap, subst, ◌∙◌, Option, Some, None}
+use Rattle.std.proofs.Common.{◌≡◌, ℕ, ◌+◌, ◌<◌, Bool, true, false, cond, eqb, length, List, [], ◌∷◌, refl, sym, ap, ◌∙◌, Option, Some, None}
 use Rattle.std.proofs.Common.{inl, inr, ⊎_elim, arith}
 use Rattle.std.specs.Prelude.{◌&&◌, ◌||◌, filter, is_none, is_some, nat_le, nat_lt, not}
 use Rattle.std.specs.List.{list_all, list_any}
 use Rattle.std.specs.Option.{option_map}
-use Rattle.std.proofs.lemmas.Bool.{and_from, and_parts, both_ways, cases_lt, eq-eqb, eqb-true, false≢true, le-leb, lt-ltb, not-true}
-use Rattle.std.proofs.lemmas.Bool.{not_from_false, or_cases, true≢false}
+use Rattle.std.proofs.lemmas.Bool.{and_from, and_parts, both_ways, cases_lt, cond-false, eq-eqb, eqb-true, false≢true, le-leb, lt-ltb, not-true}
+use Rattle.std.proofs.lemmas.Bool.{not_from_false, true≢false}
 use Rattle.std.proofs.lemmas.Option.{none-some}
 use Rattle.list_laws.proofs.Places.{count_none}
 use Rattle.list_laws.proofs.Ranges.{AllByRecursion-range, range_all_at}
 use Rattle.list_laws.proofs.Tests.{list_any_none}
+use Rattle.list_laws.proofs.Values.{some-injective}
+use Rattle.list_laws.proofs.Values.{some-injective}
 use Rattle.list_laws.specs.Lists.{holds_of, least}
 use Rattle.script_model.specs.Draft.{may_block_on}
 use Rattle.task_base.specs.Plan.{Plan}
@@ -31,11 +33,10 @@ use Rattle.task_model.specs.Seats.{Holding, Running, acts_done, holding, is_free
 use Rattle.task_model.specs.Sources.{best_of}
 use Rattle.task_model.specs.Time.{now_of}
 use Rattle.hist_model.proofs.Laws.Choice.{found}
-use Rattle.hist_model.proofs.Laws.Consistent.{legal_is_consistent}
 use Rattle.hist_model.proofs.Laws.HoldsApart.{legal_holds_apart}
 use Rattle.hist_model.proofs.Laws.JobEntries.{entering_is, job_step_is, join_is, none_is}
 use Rattle.hist_model.proofs.Laws.OneThing.{job_step_holds, served_by, served_free}
-use Rattle.hist_model.proofs.Laws.Open.{open_finished, open_posts}
+use Rattle.hist_model.proofs.Laws.Open.{open_finished}
 use Rattle.hist_model.proofs.Laws.OpenPlans.{phase_own}
 use Rattle.hist_model.proofs.Laws.Rising.{opens_as_running}
 use Rattle.hist_model.proofs.Laws.Takes.{IsReadyWorker, by_driver, job_take_is, ready_worker}
@@ -52,10 +53,11 @@ use Rattle.pool_core.specs.Calls.{is_any_ready, is_working, running_tasks}
 use Rattle.pool_core.specs.JobCalls.{joined_of}
 use Rattle.live_core.proofs.Entered.{found_first}
 use Rattle.live_core.proofs.Posted.{cancelled_was_posted, job_declared}
+use Rattle.live_core.proofs.Posting.{any_main_reply, any_reply, is_free_post, new_post, new_post_known, runs_known}
 use Rattle.live_core.proofs.Scopes.{main_is_closed}
 use Rattle.live_core.proofs.Serving.{job_own}
 use Rattle.live_core.specs.Answers.{IsMadeBy, LacksFor}
-use Rattle.live_core.specs.Calls.{fits, is_driving, is_posting, is_spare, is_taker, seat_of, spare_task}
+use Rattle.live_core.specs.Calls.{fits, is_driving, is_posting, is_spare, is_taker, seat_of, spare_task, task_of}
 use Rattle.live_core.specs.declared.call.Call.{Call}
 use Rattle.live_core.specs.declared.call.Call.TheVariants as calls
 use Rattle.live_core.specs.declared.unmade.Unmade.{Unmade}
@@ -64,22 +66,6 @@ use Rattle.live_core.specs.declared.unmade.Unmade.TheVariants as unmade
 -- ---- what a call that may come has at hand
 
 module _ (plan : Plan) (past : List Entry) (opened : IsOpen plan) (legal : IsLegal plan past) where
-  -- who runs or holds something is a seat of the plan
-  runs_known : (seat : ℕ) (w : Running) → running past seat ≡ Some w → nat_le seat plan.workers ≡ true
-  runs_known seat w runs = le-leb seat plan.workers ((legal_is_consistent plan past legal w.is_main).runs seat w runs refl).can.known
-
-  poster_known : (seat : ℕ) → is_poster plan past seat ≡ true → nat_le seat plan.workers ≡ true
-  poster_known seat posts = ⊎_elim
-      (λ front. ⊎_elim (λ driver. le-leb seat plan.workers (omega (arith, eqb-true seat 0 driver)))
-      (λ guest. le-leb seat plan.workers (omega (arith, eqb-true seat plan.workers (and_parts plan.is_open (eqb seat plan.workers) guest).1)))
-      (or_cases (eqb seat 0) (is_guest plan seat) front))
-      (λ runs. by_running (running past seat) refl runs)
-      (or_cases (eqb seat 0 || is_guest plan seat) (is_some (running past seat)) posts)
-    where
-      by_running : (o : Option Running) → running past seat ≡ o → is_some o ≡ true → nat_le seat plan.workers ≡ true
-      by_running None is h = absurd cc
-      by_running (Some w) is h = runs_known seat w is
-
   -- the driver of an open plan enters what is no tick while it does nothing, before shutdown is done
   record Drives (kind : Kind) : Type 0 where
     driving : is_driving past ≡ true
@@ -138,30 +124,35 @@ module _ (plan : Plan) (past : List Entry) (opened : IsOpen plan) (legal : IsLeg
 
   pub comes_fit : (call : Call) (kind : Kind) → IsMadeBy plan past call kind → may_come plan past (seat_of call) kind ≡ true → fits plan past call ≡ true
   unfolding may_come
-  comes_fit (calls.Post seat r d) (kinds.Post task runner delay ok) made may =
-      let posted = open_posts plan past seat task (kinds.Post task runner delay ok) opened (and_parts _ _ may).0 in
-      let within = and_parts (nat_lt task (length plan.tasks) && nat_lt runner (length plan.runners)) (nat_le delay MOST_MICROSECONDS) posted.within in
+  comes_fit (calls.Post seat (Some it) r d) (kinds.Post task runner delay ok) made may =
+      let posted = is_free_post plan past seat task (kinds.Post task runner delay ok) opened (and_parts _ _ may).0 in
+      let known = new_post_known plan past seat task (kinds.Post task runner delay ok) legal (new_post plan past seat task _ posted) in
+      rw (some-injective made.0, ← made.1, ← made.2) (and_from (nat_le seat plan.workers) _ known (any_reply plan past seat task runner delay true ok ∙ posted))
+  comes_fit (calls.Post seat None r d) (kinds.Post task runner delay ok) made may =
+      let posted = is_free_post plan past seat task (kinds.Post task runner delay ok) opened (and_parts _ _ may).0 in
+      let new = new_post plan past seat task (kinds.Post task runner delay ok) posted in
+      let within = and_parts (nat_lt task (length plan.tasks) && nat_lt runner (length plan.runners)) (nat_le delay MOST_MICROSECONDS) new.within in
       let runner_there = (and_parts (nat_lt task (length plan.tasks)) (nat_lt runner (length plan.runners)) within.0).1 in
-      let poster : is_poster plan past seat ≡ true = subst
-      (λ b. cond b (by_own_step plan past seat (kinds.Post task runner delay ok)) (is_poster plan past seat) ≡ true)
-      (spare_is_free task made.0) posted.poster in
-      and_from _ (nat_le d MOST_MICROSECONDS)
-      (and_from (is_posting plan past seat) (nat_lt r (length plan.runners))
-      (and_from (nat_le seat plan.workers) (is_poster plan past seat) (poster_known seat poster) poster)
-      (ap (λ x. nat_lt x (length plan.runners)) (sym made.1) ∙ runner_there))
-      (ap (λ x. nat_le x MOST_MICROSECONDS) (sym made.2) ∙ within.1)
-  comes_fit (calls.Main seat q d) (kinds.Main task queue delay ok) made may =
-      let posted = open_posts plan past seat task (kinds.Main task queue delay ok) opened (and_parts _ _ may).0 in
-      let within = and_parts (nat_lt task (length plan.tasks) && nat_lt queue (length plan.queues)) (nat_le delay MOST_MICROSECONDS) posted.within in
+      let poster : is_poster plan past seat ≡ true =
+      sym (cond-false (is_kept plan task) (by_own_step plan past seat (kinds.Post task runner delay ok)) (is_poster plan past seat) (spare_is_free task made.0))
+      ∙ new.poster in
+      rw (← made.1, ← made.2) (and_from _ (nat_le delay MOST_MICROSECONDS) (and_from (is_posting plan past seat) (nat_lt runner (length plan.runners))
+      (and_from (nat_le seat plan.workers) (is_poster plan past seat) (new_post_known plan past seat task _ legal new) poster) runner_there) within.1)
+  comes_fit (calls.Main seat (Some it) q d) (kinds.Main task queue delay ok) made may =
+      let posted = is_free_post plan past seat task (kinds.Main task queue delay ok) opened (and_parts _ _ may).0 in
+      let known = new_post_known plan past seat task (kinds.Main task queue delay ok) legal (new_post plan past seat task _ posted) in
+      rw (some-injective made.0, ← made.1, ← made.2)
+      (and_from (nat_le seat plan.workers) _ known (any_main_reply plan past seat task queue delay true ok ∙ posted))
+  comes_fit (calls.Main seat None q d) (kinds.Main task queue delay ok) made may =
+      let posted = is_free_post plan past seat task (kinds.Main task queue delay ok) opened (and_parts _ _ may).0 in
+      let new = new_post plan past seat task (kinds.Main task queue delay ok) posted in
+      let within = and_parts (nat_lt task (length plan.tasks) && nat_lt queue (length plan.queues)) (nat_le delay MOST_MICROSECONDS) new.within in
       let queue_there = (and_parts (nat_lt task (length plan.tasks)) (nat_lt queue (length plan.queues)) within.0).1 in
-      let poster : is_poster plan past seat ≡ true = subst
-      (λ b. cond b (by_own_step plan past seat (kinds.Main task queue delay ok)) (is_poster plan past seat) ≡ true)
-      (spare_is_free task made.0) posted.poster in
-      and_from _ (nat_le d MOST_MICROSECONDS)
-      (and_from (is_posting plan past seat) (nat_lt q (length plan.queues))
-      (and_from (nat_le seat plan.workers) (is_poster plan past seat) (poster_known seat poster) poster)
-      (ap (λ x. nat_lt x (length plan.queues)) (sym made.1) ∙ queue_there))
-      (ap (λ x. nat_le x MOST_MICROSECONDS) (sym made.2) ∙ within.1)
+      let poster : is_poster plan past seat ≡ true =
+      sym (cond-false (is_kept plan task) (by_own_step plan past seat (kinds.Main task queue delay ok)) (is_poster plan past seat) (spare_is_free task made.0))
+      ∙ new.poster in
+      rw (← made.1, ← made.2) (and_from _ (nat_le delay MOST_MICROSECONDS) (and_from (is_posting plan past seat) (nat_lt queue (length plan.queues))
+      (and_from (nat_le seat plan.workers) (is_poster plan past seat) (new_post_known plan past seat task _ legal new) poster) queue_there) within.1)
   comes_fit (calls.Tick reading) (kinds.Tick now) made may = going (kinds.Tick now)
       (and_parts (by_script plan past 0 (kinds.Tick now)) _ (and_parts _ _ may).0).0
   comes_fit (calls.Take seat) (kinds.Take task runner value) made may = taker seat
@@ -174,7 +165,7 @@ module _ (plan : Plan) (past : List Entry) (opened : IsOpen plan) (legal : IsLeg
       let parts = and_parts (not w.value.is_main && eqb w.value.task task) (has_done plan past seat left w.value) w.passes in
       let pool = (and_parts (not w.value.is_main) (eqb w.value.task task) parts.0).0 in
       let closed = acted_closed seat w.value (and_parts (has_acted plan past seat w.value) _ parts.1).0 in
-      and_from (nat_le seat plan.workers) _ (runs_known seat w.value w.is) (rw w.is (and_from (not w.value.is_main) _ pool closed))
+      and_from (nat_le seat plan.workers) _ (runs_known plan past seat w.value legal w.is) (rw w.is (and_from (not w.value.is_main) _ pool closed))
   comes_fit (calls.Enter seat s) (kinds.Enter task scope) made may =
       let opens = and_parts _ (is_none (open_scope past task))
       (ap (λ o. cond o (may_open_scope plan past seat task) (by_task plan past seat (kinds.Enter task scope))) (sym opened) ∙ may) in
@@ -182,7 +173,7 @@ module _ (plan : Plan) (past : List Entry) (opened : IsOpen plan) (legal : IsLeg
       let parts = and_parts (eqb w.value.task task && not w.value.is_main) (may_block_on plan.runners w.value.home) w.passes in
       let front = and_parts (eqb w.value.task task) (not w.value.is_main) parts.0 in
       let closed : is_none (open_scope past w.value.task) ≡ true = ap (λ t. is_none (open_scope past t)) (eqb-true w.value.task task front.0) ∙ opens.1 in
-      and_from (nat_le seat plan.workers) _ (runs_known seat w.value w.is)
+      and_from (nat_le seat plan.workers) _ (runs_known plan past seat w.value legal w.is)
       (rw w.is (and_from (not w.value.is_main && may_block_on plan.runners w.value.home) _ (and_from (not w.value.is_main) _ front.1 parts.1) closed))
   comes_fit (calls.Leave seat) (kinds.Leave task) made may =
       let closes = and_parts _ (is_some (open_scope past task))
@@ -190,7 +181,7 @@ module _ (plan : Plan) (past : List Entry) (opened : IsOpen plan) (legal : IsLeg
       let w = found (λ (x : Running). eqb x.task task) (running past seat) closes.0 in
       let inside : is_some (open_scope past w.value.task) ≡ true = ap (λ t. is_some (open_scope past t)) (eqb-true w.value.task task w.passes) ∙ closes.1 in
       let pool = not_from_false w.value.is_main (main_is_closed plan past seat w.value opened legal w.is inside) in
-      and_from (nat_le seat plan.workers) _ (runs_known seat w.value w.is) (rw w.is (and_from (not w.value.is_main) _ pool inside))
+      and_from (nat_le seat plan.workers) _ (runs_known plan past seat w.value legal w.is) (rw w.is (and_from (not w.value.is_main) _ pool inside))
   comes_fit (calls.Policy p) (kinds.Policy policy) made may = driven (kinds.Policy policy) refl may (λ order. refl)
   comes_fit (calls.Reprio r p) (kinds.Reprio runner priority) made may =
       driven (kinds.Reprio runner priority) refl may (λ order. ap (λ x. nat_lt x (length plan.runners)) (sym made.0) ∙ order)
@@ -340,8 +331,8 @@ module _ (plan : Plan) (past : List Entry) (opened : IsOpen plan) (legal : IsLeg
 
   -- the kind that may come of the call, if one does
   abbrev the_kind : Call → Option Kind
-  the_kind (calls.Post seat r d) = option_map (λ t. kinds.Post t r d (not (is_refused plan past r d))) (spare_task plan past)
-  the_kind (calls.Main seat q d) = option_map (λ t. kinds.Main t q d (not (is_closed past q))) (spare_task plan past)
+  the_kind (calls.Post seat named r d) = option_map (λ t. kinds.Post t r d (not (is_refused plan past r d))) (task_of plan past named)
+  the_kind (calls.Main seat named q d) = option_map (λ t. kinds.Main t q d (not (is_closed past q))) (task_of plan past named)
   the_kind (calls.Tick reading) = Some (kinds.Tick (moment_behind (now_of past) reading))
   the_kind (calls.Take seat) = way_on plan past seat
   the_kind (calls.End seat) = option_map (λ w. kinds.End w.task (after (steps_of plan w.task) w.found)) (running past seat)
@@ -368,10 +359,10 @@ module _ (plan : Plan) (past : List Entry) (opened : IsOpen plan) (legal : IsLeg
 
   pub is_the_kind : (call : Call) (kind : Kind) → IsMadeBy plan past call kind → may_come plan past (seat_of call) kind ≡ true → the_kind call ≡ Some kind
   unfolding may_come
-  is_the_kind (calls.Post seat r d) (kinds.Post task runner delay ok) made may =
+  is_the_kind (calls.Post seat named r d) (kinds.Post task runner delay ok) made may =
       let reply = reply_is (is_refused plan past runner delay) ok (and_parts _ (is_reply (is_refused plan past runner delay) ok) may).1 in
       rw (made.0, ← made.1, ← made.2, reply) refl
-  is_the_kind (calls.Main seat q d) (kinds.Main task queue delay ok) made may =
+  is_the_kind (calls.Main seat named q d) (kinds.Main task queue delay ok) made may =
       let reply = reply_is (is_closed past queue) ok (and_parts _ (is_reply (is_closed past queue) ok) may).1 in
       rw (made.0, ← made.1, ← made.2, reply) refl
   is_the_kind (calls.Tick reading) (kinds.Tick now) made may = ap (λ x. Some (kinds.Tick x)) (sym made)

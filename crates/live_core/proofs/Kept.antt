@@ -20,7 +20,7 @@ use Rattle.task_traits.specs.declared.phase.Phase.TheVariants as phases
 use Rattle.hist_model.specs.Open.{is_kept, step_posts, was_posted}
 use Rattle.sequence_manager.proofs.Tables.{table_same, table_set}
 use Rattle.sequence_manager.specs.Queues.{IsTable}
-use Rattle.live_core.specs.Books.{IsHandedOut, at_seat, fresh_mark, idle, mark_of, mark_step, marked, marked_by}
+use Rattle.live_core.specs.Books.{at_seat, fresh_mark, idle, mark_of, mark_step, marked, marked_by}
 
 -- a list of one value is the table that says it everywhere
 pub repeats : {A : Type 0} (f : ℕ → A) (count : ℕ) (x : A) → ((i : ℕ) → x ≡ f i) → IsTable f count (replicate count x)
@@ -47,13 +47,9 @@ pub jobs_at_start : (count : ℕ) → IsTable (mark_of []) count (replicate coun
 unfolding job_post_of is_cancelled fold_past
 jobs_at_start count = repeats (mark_of []) count fresh_mark (λ job. refl)
 
-pub out_at_start : (plan : Plan) → IsHandedOut plan [] 0
+pub posted_at_start : (count made : ℕ) (posted : List Bool) → made ≡ count → posted ≡ replicate made false → IsTable (was_posted []) count posted
 unfolding was_posted
-out_at_start plan = record {
-  within = omega arith;
-  before = λ task less. absurd (omega (arith, less));
-  beyond = λ task low. refl;
-}
+posted_at_start count made posted same is = rw (is, same) (repeats (was_posted []) count false (λ task. refl))
 
 pub phase_at_start : phases.Running ≡ phase_of []
 unfolding phase_of
@@ -96,6 +92,11 @@ tasks_noted (made ∷ tasks) f count kept table =
     (λ t within. or_assoc (f t) (list_any (step_posts t) made) (list_any (λ xs. list_any (step_posts t) xs) tasks))
     (tasks_noted tasks (λ t. f t || list_any (step_posts t) made) count (marked made kept) (steps_noted made f count kept table))
 
-pub kept_noted : (plan : Plan) → IsTable (is_kept plan) (length plan.tasks) (marked_by plan.tasks (replicate (length plan.tasks) false))
-kept_noted plan = tasks_noted plan.tasks (λ t. false) (length plan.tasks) (replicate (length plan.tasks) false)
+all_noted : (plan : Plan) → IsTable (is_kept plan) (length plan.tasks) (marked_by plan.tasks (replicate (length plan.tasks) false))
+all_noted plan = tasks_noted plan.tasks (λ t. false) (length plan.tasks) (replicate (length plan.tasks) false)
     (repeats (λ t. false) (length plan.tasks) false (λ t. refl))
+
+-- so of a list that was made of the plan's tasks
+pub kept_noted : (plan : Plan) (tasks : List (List Step)) (kept : List Bool) → tasks ≡ plan.tasks
+    → kept ≡ marked_by tasks (replicate (length tasks) false) → IsTable (is_kept plan) (length plan.tasks) kept
+kept_noted plan tasks kept same is = rw (is, same) (all_noted plan)

@@ -11,6 +11,7 @@ pub mod Made
 pub mod May
 pub mod Moved
 pub mod Posted
+pub mod Posting
 pub mod Quiet
 pub mod Scopes
 pub mod Serving

@@ -1,6 +1,6 @@
 -- A call that has moved the machines: its entry may be put into the books, and the core stands for the longer past.
 -- Cited by `LiveCore::call`.
-use Rattle.std.proofs.Common.{◌≤◌, List, refl, arith}
+use Rattle.std.proofs.Common.{◌≤◌, List, None, Some, refl, arith}
 use Rattle.std.specs.Prelude.{◌&&◌, nat_le, nat_lt}
 use Rattle.std.proofs.lemmas.Bool.{and_parts, le-leb, leb-true}
 use Rattle.task_base.specs.Plan.{Plan}
@@ -22,10 +22,12 @@ use Rattle.live_core.specs.declared.live.LiveCore.{LiveCore}
 
 -- the seat of a call that may be made is one of the plan's
 known_seat : (plan : Plan) (past : List Entry) (live : LiveCore) (call : Call) → CanMake plan past call live → seat_of call ≤ plan.workers
-known_seat plan past live (calls.Post seat runner delay) can =
+known_seat plan past live (calls.Post seat (Some task) runner delay) can = leb-true seat plan.workers (and_parts _ _ can.may.fit).0
+known_seat plan past live (calls.Post seat None runner delay) can =
     let parts = and_parts (is_posting plan past seat && nat_lt runner _) (nat_le delay MOST_MICROSECONDS) can.may.fit in
     leb-true seat plan.workers (and_parts (nat_le seat plan.workers) (is_poster plan past seat) (and_parts (is_posting plan past seat) _ parts.0).0).0
-known_seat plan past live (calls.Main seat queue delay) can =
+known_seat plan past live (calls.Main seat (Some task) queue delay) can = leb-true seat plan.workers (and_parts _ _ can.may.fit).0
+known_seat plan past live (calls.Main seat None queue delay) can =
     let parts = and_parts (is_posting plan past seat && nat_lt queue _) (nat_le delay MOST_MICROSECONDS) can.may.fit in
     leb-true seat plan.workers (and_parts (nat_le seat plan.workers) (is_poster plan past seat) (and_parts (is_posting plan past seat) _ parts.0).0).0
 known_seat plan past live (calls.Take seat) can = omega (arith, below can)

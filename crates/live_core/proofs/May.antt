@@ -1,10 +1,10 @@
 -- When each entry may come in an open plan, by what fits its call and what the machines answer.
 -- Cited by 25 functions of `LiveCore`.
-use Rattle.std.proofs.Common.{◌≡◌, ℕ, ◌<◌, ◌≤◌, Bool, true, false, List, refl, Option, Some, None, arith, length}
-use Rattle.std.specs.Prelude.{◌&&◌, is_none, is_some, nat_le, nat_lt, not}
+use Rattle.std.proofs.Common.{◌≡◌, ℕ, ◌<◌, ◌≤◌, Bool, true, false, List, refl, Option, Some, None, arith}
+use Rattle.std.specs.Prelude.{◌&&◌, is_none, is_some, nat_le, not}
 use Rattle.std.specs.List.{list_all}
 use Rattle.std.proofs.Math.Bool.{or-true}
-use Rattle.std.proofs.lemmas.Bool.{eq-eqb, le-leb, lt-ltb, ne_eqb}
+use Rattle.std.proofs.lemmas.Bool.{and_from, eq-eqb, le-leb, ne_eqb}
 use Rattle.list_laws.proofs.Values.{eqb-same}
 use Rattle.list_laws.specs.Lists.{holds_of}
 use Rattle.script_model.specs.Draft.{may_block_on}
@@ -15,7 +15,7 @@ use Rattle.task_base.specs.declared.entry.JobReply.{JobReply}
 use Rattle.task_base.specs.declared.entry.JobReply.TheVariants as replies
 use Rattle.task_base.specs.declared.entry.Kind.{Kind}
 use Rattle.task_base.specs.declared.entry.Kind.TheVariants as kinds
-use Rattle.task_base.specs.declared.limits.TheConstants.{LAST_MOMENT, MOST_MICROSECONDS}
+use Rattle.task_base.specs.declared.limits.TheConstants.{LAST_MOMENT}
 use Rattle.task_base.specs.declared.step.Scope.{Scope}
 use Rattle.task_model.specs.Blockers.{blockers_of}
 use Rattle.task_model.specs.Capacity.{open_scope}
@@ -30,9 +30,10 @@ use Rattle.task_model.specs.Time.{now_of}
 use Rattle.hist_model.proofs.Laws.Open.{open_finished}
 use Rattle.hist_model.proofs.Laws.OpenPlans.{phase_own}
 use Rattle.hist_model.proofs.Laws.Progress.Pump.{none_open}
-use Rattle.hist_model.specs.Allowed.{by_script, is_job, is_ready_worker, is_reply, may_come, same_number, same_reply}
+use Rattle.hist_model.specs.Allowed.{by_script, is_job, is_posted_by, is_ready_worker, is_reply, may_come, may_post, same_number, same_reply}
 use Rattle.hist_model.specs.Legal.{IsLegal}
-use Rattle.hist_model.specs.Open.{IsOpen, is_done, is_kept, is_poster, was_posted}
+use Rattle.hist_model.specs.Open.{IsOpen, is_done}
+use Rattle.live_core.proofs.Posting.{freely}
 use Rattle.pool_core.specs.Calls.{IsEntered, IsTaken}
 
 -- a reply by the rule
@@ -130,19 +131,19 @@ done_may plan past by started none = rw (by, started, none) refl
 
 -- ---- posts
 
-pub post_may : (plan : Plan) (past : List Entry) (seat task runner delay : ℕ) (ok : Bool) → IsOpen plan → task < length plan.tasks
-    → nat_lt runner (length plan.runners) ≡ true → nat_le delay MOST_MICROSECONDS ≡ true → was_posted past task ≡ false → is_kept plan task ≡ false
-    → is_poster plan past seat ≡ true → ok ≡ not (is_refused plan past runner delay) → may_come plan past seat (kinds.Post task runner delay ok) ≡ true
+pub post_may : (plan : Plan) (past : List Entry) (seat task runner delay : ℕ) (ok : Bool) → IsOpen plan
+    → may_post plan past seat task (kinds.Post task runner delay ok) ≡ true → ok ≡ not (is_refused plan past runner delay)
+    → may_come plan past seat (kinds.Post task runner delay ok) ≡ true
 unfolding may_come
-post_may plan past seat task runner delay ok opened there runner_there within fresh free poster reply =
-    rw (poster, opened, lt-ltb task (length plan.tasks) there, runner_there, within, fresh, free, reply) (says (is_refused plan past runner delay))
+post_may plan past seat task runner delay ok opened may reply = and_from (is_posted_by plan past seat task (kinds.Post task runner delay ok)) _
+    (freely plan past seat task (kinds.Post task runner delay ok) opened may) (rw reply (says (is_refused plan past runner delay)))
 
-pub main_post_may : (plan : Plan) (past : List Entry) (seat task queue delay : ℕ) (ok : Bool) → IsOpen plan → task < length plan.tasks
-    → nat_lt queue (length plan.queues) ≡ true → nat_le delay MOST_MICROSECONDS ≡ true → was_posted past task ≡ false → is_kept plan task ≡ false
-    → is_poster plan past seat ≡ true → ok ≡ not (is_closed past queue) → may_come plan past seat (kinds.Main task queue delay ok) ≡ true
+pub main_post_may : (plan : Plan) (past : List Entry) (seat task queue delay : ℕ) (ok : Bool) → IsOpen plan
+    → may_post plan past seat task (kinds.Main task queue delay ok) ≡ true → ok ≡ not (is_closed past queue)
+    → may_come plan past seat (kinds.Main task queue delay ok) ≡ true
 unfolding may_come
-main_post_may plan past seat task queue delay ok opened there queue_there within fresh free poster reply =
-    rw (poster, opened, lt-ltb task (length plan.tasks) there, queue_there, within, fresh, free, reply) (says (is_closed past queue))
+main_post_may plan past seat task queue delay ok opened may reply = and_from (is_posted_by plan past seat task (kinds.Main task queue delay ok)) _
+    (freely plan past seat task (kinds.Main task queue delay ok) opened may) (rw reply (says (is_closed past queue)))
 
 -- ---- workers
 

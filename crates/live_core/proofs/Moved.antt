@@ -20,7 +20,7 @@ use Rattle.sequence_manager.specs.Queues.{IsTable}
 use Rattle.sequence_manager.specs.StandsFor.{StandsFor as MainStandsFor}
 use Rattle.sequence_manager.specs.declared.manager.Manager.{Manager}
 use Rattle.live_core.specs.Answers.{IsMadeBy}
-use Rattle.live_core.specs.Books.{HandsOut, NamesJob, NamesScope}
+use Rattle.live_core.specs.Books.{NamesJob, NamesScope, NamesTask}
 use Rattle.live_core.specs.Calls.{seat_of}
 use Rattle.live_core.specs.Making.{HasMoved}
 use Rattle.live_core.specs.StandsFor.{StandsFor, cell_at}
@@ -37,7 +37,7 @@ cells_stay past seat kind count cells still table = table_same (cell_at past) (c
 pub record IsNamed (plan : Plan) (past : List Entry) (kind : Kind) : Type 0 where
   pub scope : NamesScope (length plan.tasks) kind
   pub job : NamesJob (length plan.jobs) kind
-  pub task : HandsOut plan past kind
+  pub task : NamesTask (length plan.tasks) kind
 
 -- both machines have moved
 pub both_moved : (plan : Plan) (past : List Entry) (call : Call) (before : LiveCore) (kind : Kind) (pool : Pool) (main : Manager)

@@ -15,7 +15,7 @@ use Rattle.hist_model.specs.Moments.{moment_behind}
 use Rattle.hist_model.specs.Open.{is_done}
 use Rattle.pool_core.specs.Calls.{is_any_ready, running_tasks}
 use Rattle.pool_core.specs.JobCalls.{joined_of}
-use Rattle.live_core.specs.Calls.{fits, is_full, seat_of, spare_task}
+use Rattle.live_core.specs.Calls.{fits, is_full, seat_of, task_of}
 use Rattle.live_core.specs.StandsFor.{StandsFor}
 use Rattle.live_core.specs.declared.call.Call.{Call}
 use Rattle.live_core.specs.declared.call.Call.TheVariants as calls
@@ -23,12 +23,12 @@ use Rattle.live_core.specs.declared.live.LiveCore.{LiveCore}
 use Rattle.live_core.specs.declared.unmade.Unmade.{Unmade}
 use Rattle.live_core.specs.declared.unmade.Unmade.TheVariants.{Misuse, Full, Nothing, Over, NotYet as NotYetBy, Blocked}
 
--- the entry's kind is one that the call is for, with what the call names; a post has the task that is handed out, and a tick
--- the moment that the reading becomes. An item is taken by this call where a worker takes it: the driver's call names the
+-- the entry's kind is one that the call is for, with what the call names; a post has the task that it names, or else the one that is
+-- handed out, and a tick the moment that the reading becomes. An item is taken by this call where a worker takes it: the driver's call names the
 -- job. What else stands in it, the rules tell
 abbrev pub IsMadeBy : Plan → List Entry → Call → Kind → Type 0
-IsMadeBy plan past (calls.Post seat r d) (kinds.Post task runner delay ok) = (spare_task plan past ≡ Some task) × (runner ≡ r) × (delay ≡ d)
-IsMadeBy plan past (calls.Main seat q d) (kinds.Main task queue delay ok) = (spare_task plan past ≡ Some task) × (queue ≡ q) × (delay ≡ d)
+IsMadeBy plan past (calls.Post seat named r d) (kinds.Post task runner delay ok) = (task_of plan past named ≡ Some task) × (runner ≡ r) × (delay ≡ d)
+IsMadeBy plan past (calls.Main seat named q d) (kinds.Main task queue delay ok) = (task_of plan past named ≡ Some task) × (queue ≡ q) × (delay ≡ d)
 IsMadeBy plan past (calls.Tick reading) (kinds.Tick now) = now ≡ moment_behind (now_of past) reading
 IsMadeBy plan past (calls.Take seat) (kinds.Take task runner found) = Unit {0}
 IsMadeBy plan past (calls.Take seat) (kinds.JobTake job id item) = 1 ≤ seat

@@ -1,5 +1,5 @@
 -- What the books tell of a plan and a past.
-use Rattle.std.specs.Prelude.{◌≡◌, ℕ, ◌+◌, ◌<◌, ◌≤◌, Bool, true, false, List, length, fold, get_or, slice_set, Option, Some, None, is_some}
+use Rattle.std.specs.Prelude.{◌≡◌, ℕ, ◌+◌, ◌<◌, ◌≤◌, Bool, true, false, not, ◌&&◌, List, length, fold, get_or, slice_set, Option, Some, None, is_some}
 use Rattle.std.specs.Option.{option_map}
 use Rattle.task_base.specs.Plan.{Plan, opened}
 use Rattle.task_base.specs.declared.entry.Entry.{Entry}
@@ -14,7 +14,7 @@ use Rattle.task_model.specs.Phase.{phase_of}
 use Rattle.task_model.specs.Seats.{Holding, Running, holding, running}
 use Rattle.hist_model.specs.Open.{is_kept, was_posted}
 use Rattle.sequence_manager.specs.Queues.{IsTable}
-use Rattle.live_core.specs.Calls.{is_spare, spare_task}
+use Rattle.live_core.specs.Calls.{is_spare}
 use Rattle.live_core.specs.declared.books.Books.{Books}
 use Rattle.live_core.specs.declared.books.Item.{Item}
 use Rattle.live_core.specs.declared.books.JobMark.{JobMark}
@@ -39,11 +39,11 @@ at_seat past seat = record { runs = option_map work_of (running past seat); hold
 abbrev pub mark_of : List Entry → ℕ → JobMark
 mark_of past job = record { posted = is_some (job_post_of past job); cancelled = is_cancelled past job }
 
--- before this place nothing is spare, and from it on nothing was posted
-pub record IsHandedOut (plan : Plan) (past : List Entry) (place : ℕ) : Type 0 where
+-- this is the first task that may be handed out, or their number where none may
+pub record IsNextOut (plan : Plan) (past : List Entry) (place : ℕ) : Type 0 where
   pub within : place ≤ length plan.tasks
   pub before : (task : ℕ) → task < place → is_spare plan past task ≡ false
-  pub beyond : (task : ℕ) → place ≤ task → was_posted past task ≡ false
+  pub spare : place < length plan.tasks → is_spare plan past place ≡ true
 
 -- the books are those of the plan and the past
 pub record StandFor (plan : Plan) (past : List Entry) (books : Books) : Type 0 where
@@ -57,7 +57,8 @@ pub record StandFor (plan : Plan) (past : List Entry) (books : Books) : Type 0 w
   pub few : length past ≤ MOST_ENTRIES
   pub few_tasks : length plan.tasks ≤ MOST_TASKS
   pub kept : IsTable (is_kept plan) (length plan.tasks) books.kept.items
-  pub out : IsHandedOut plan past books.next
+  pub posted : IsTable (was_posted past) (length plan.tasks) books.posted.items
+  pub out : IsNextOut plan past books.next
 
 -- ---- what an entry does to them
 
@@ -73,11 +74,11 @@ NamesJob count (kinds.JobPost job ok) = job < count
 NamesJob count (kinds.JobCancel job) = job < count
 NamesJob count kind = Unit {0}
 
--- the task that the entry posts is the one that is handed out next
-abbrev pub HandsOut : Plan → List Entry → Kind → Type 0
-HandsOut plan past (kinds.Post task runner delay ok) = spare_task plan past ≡ Some task
-HandsOut plan past (kinds.Main task queue delay ok) = spare_task plan past ≡ Some task
-HandsOut plan past kind = Unit {0}
+-- the task that the entry posts is one of so many
+abbrev pub NamesTask : ℕ → Kind → Type 0
+NamesTask count (kinds.Post task runner delay ok) = task < count
+NamesTask count (kinds.Main task queue delay ok) = task < count
+NamesTask count kind = Unit {0}
 
 -- the entry may be put into the books: there is room for it, and what it names is declared
 pub record CanEnter (plan : Plan) (past : List Entry) (books : Books) (seat : ℕ) (kind : Kind) : Type 0 where
@@ -86,7 +87,7 @@ pub record CanEnter (plan : Plan) (past : List Entry) (books : Books) (seat : �
   pub roomy : length past < MOST_ENTRIES
   pub scope : NamesScope (length plan.tasks) kind
   pub job : NamesJob (length plan.jobs) kind
-  pub task : HandsOut plan past kind
+  pub task : NamesTask (length plan.tasks) kind
 
 -- what a seat does after an entry of its own
 abbrev pub runs_after : Option Work → Kind → Option Work
@@ -124,11 +125,22 @@ jobs_after jobs (kinds.JobPost job ok) = slice_set jobs job (record (mark_at job
 jobs_after jobs (kinds.JobCancel job) = slice_set jobs job (record (mark_at jobs job) { cancelled = true })
 jobs_after jobs kind = jobs
 
--- from which task on none was posted, after an entry
-abbrev pub next_after : ℕ → Kind → ℕ
-next_after now (kinds.Post task runner delay ok) = task + 1
-next_after now (kinds.Main task queue delay ok) = task + 1
-next_after now kind = now
+-- the posted tasks after an entry
+abbrev pub posted_after : List Bool → Kind → List Bool
+posted_after posted (kinds.Post task runner delay ok) = slice_set posted task true
+posted_after posted (kinds.Main task queue delay ok) = slice_set posted task true
+posted_after posted kind = posted
+
+-- the place has no mark in either list
+abbrev pub is_unmarked : List Bool → List Bool → ℕ → Bool
+is_unmarked kept posted place = not (get_or kept place false) && not (get_or posted place false)
+
+-- the first place without a mark, from this one on, or the number of places
+pub record IsFirstUnmarked (kept posted : List Bool) (start place : ℕ) : Type 0 where
+  pub low : start ≤ place
+  pub high : place ≤ length kept
+  pub marked : (n : ℕ) → start ≤ n → n < place → is_unmarked kept posted n ≡ false
+  pub unmarked : place < length kept → is_unmarked kept posted place ≡ true
 
 -- ---- the tasks that steps post
 

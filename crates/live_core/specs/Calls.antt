@@ -1,8 +1,10 @@
 -- Which calls may come after a past of an open plan (this project's own rules).
-use Rattle.std.specs.Prelude.{ℕ, ◌==◌, Bool, true, false, not, ◌&&◌, ◌||◌, nat_lt, nat_le, List, length, Option, is_none, is_some}
+use Rattle.std.specs.Prelude.{ℕ, ◌==◌, Bool, true, false, not, ◌&&◌, ◌||◌, nat_lt, nat_le, List, length, Option, Some, None, is_none, is_some}
 use Rattle.std.specs.List.{find, range_with_len}
 use Rattle.task_base.specs.Plan.{Plan}
 use Rattle.task_base.specs.declared.entry.Entry.{Entry}
+use Rattle.task_base.specs.declared.entry.Kind.{Kind}
+use Rattle.task_base.specs.declared.entry.Kind.TheVariants as kinds
 use Rattle.task_base.specs.declared.limits.TheConstants.{MOST_MICROSECONDS}
 use Rattle.list_laws.specs.Lists.{holds_of}
 use Rattle.script_model.specs.Draft.{is_voter, may_block_on}
@@ -10,6 +12,7 @@ use Rattle.task_model.specs.Capacity.{open_scope}
 use Rattle.task_model.specs.Jobs.{is_cancelled, job_post_of}
 use Rattle.task_model.specs.Phase.{is_started, phase_of}
 use Rattle.task_model.specs.Seats.{holding, is_free, running}
+use Rattle.hist_model.specs.Allowed.{may_post}
 use Rattle.hist_model.specs.Open.{is_before, is_done, is_kept, is_poster, was_posted}
 use Rattle.live_core.specs.declared.books.TheConstants.{MOST_ENTRIES}
 use Rattle.live_core.specs.declared.call.Call.{Call}
@@ -17,8 +20,8 @@ use Rattle.live_core.specs.declared.call.Call.TheVariants as calls
 
 -- the seat that makes the call: where it names none, the driver
 abbrev pub seat_of : Call → ℕ
-seat_of (calls.Post seat runner delay) = seat
-seat_of (calls.Main seat queue delay) = seat
+seat_of (calls.Post seat named runner delay) = seat
+seat_of (calls.Main seat named queue delay) = seat
 seat_of (calls.Take seat) = seat
 seat_of (calls.End seat) = seat
 seat_of (calls.Enter seat scope) = seat
@@ -36,10 +39,15 @@ is_spare plan past task = not (is_kept plan task) && not (was_posted past task)
 abbrev pub spare_task : Plan → List Entry → Option ℕ
 spare_task plan past = find (is_spare plan past) (range_with_len 0 (length plan.tasks))
 
+-- the task that a post is of: the one that it names, or else the one that is handed out next
+abbrev pub task_of : Plan → List Entry → Option ℕ → Option ℕ
+task_of plan past (Some task) = Some task
+task_of plan past None = spare_task plan past
+
 -- the call hands out a task
 abbrev pub hands_out : Call → Bool
-hands_out (calls.Post seat runner delay) = true
-hands_out (calls.Main seat queue delay) = true
+hands_out (calls.Post seat named runner delay) = is_none named
+hands_out (calls.Main seat named queue delay) = is_none named
 hands_out call = false
 
 -- there is no room for the entry of the call
@@ -51,6 +59,11 @@ is_full plan past call = length past == MOST_ENTRIES || (hands_out call && is_no
 -- there is the seat, and it may post
 abbrev pub is_posting : Plan → List Entry → ℕ → Bool
 is_posting plan past seat = nat_le seat plan.workers && is_poster plan past seat
+
+-- there is the seat, and it may post this task by this entry: one that is declared and was not posted; where steps of the
+-- plan post it, the seat runs a task that has such a step
+abbrev pub is_posting_it : Plan → List Entry → ℕ → ℕ → Kind → Bool
+is_posting_it plan past seat task kind = nat_le seat plan.workers && may_post plan past seat task kind
 
 -- the seat is a worker's that does nothing, and not the guest's
 abbrev pub is_taker : Plan → List Entry → ℕ → Bool
@@ -111,8 +124,10 @@ names plan past call = true
 
 -- ---- whether the call may be made: its seat is at what the call is for, and what it names is declared
 abbrev pub fits : Plan → List Entry → Call → Bool
-fits plan past (calls.Post seat runner delay) = is_posting plan past seat && nat_lt runner (length plan.runners) && nat_le delay MOST_MICROSECONDS
-fits plan past (calls.Main seat queue delay) = is_posting plan past seat && nat_lt queue (length plan.queues) && nat_le delay MOST_MICROSECONDS
+fits plan past (calls.Post seat None runner delay) = is_posting plan past seat && nat_lt runner (length plan.runners) && nat_le delay MOST_MICROSECONDS
+fits plan past (calls.Post seat (Some task) runner delay) = is_posting_it plan past seat task (kinds.Post task runner delay true)
+fits plan past (calls.Main seat None queue delay) = is_posting plan past seat && nat_lt queue (length plan.queues) && nat_le delay MOST_MICROSECONDS
+fits plan past (calls.Main seat (Some task) queue delay) = is_posting_it plan past seat task (kinds.Main task queue delay true)
 fits plan past (calls.Tick reading) = not (is_done (phase_of past))
 fits plan past (calls.Take seat) = is_taker plan past seat
 fits plan past (calls.End seat) = may_end plan past seat

@@ -9,7 +9,7 @@ use Rattle.pool_core.specs.StandsFor.{StandsFor as PoolStandsFor}
 use Rattle.sequence_manager.specs.Queues.{IsTable}
 use Rattle.sequence_manager.specs.StandsFor.{StandsFor as MainStandsFor}
 use Rattle.live_core.specs.Answers.{IsMadeBy, LacksFor, MayBeMade}
-use Rattle.live_core.specs.Books.{HandsOut, NamesJob, NamesScope}
+use Rattle.live_core.specs.Books.{NamesJob, NamesScope, NamesTask}
 use Rattle.live_core.specs.Calls.{seat_of}
 use Rattle.live_core.specs.StandsFor.{StandsFor, cell_at}
 use Rattle.live_core.specs.declared.call.Call.{Call}
@@ -31,7 +31,7 @@ pub record HasMoved (plan : Plan) (past : List Entry) (call : Call) (before afte
   pub books : after.books ≡ before.books
   pub scope : NamesScope (length plan.tasks) kind
   pub job : NamesJob (length plan.jobs) kind
-  pub task : HandsOut plan past kind
+  pub task : NamesTask (length plan.tasks) kind
 
 -- what it lacks for an entry, and nothing has moved
 pub record HasNotMoved (plan : Plan) (past : List Entry) (call : Call) (after : LiveCore) (why : Unmade) : Type 0 where

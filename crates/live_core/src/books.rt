@@ -5,13 +5,14 @@ ghost use Rattle.task_base.specs.Entries.{next};
 ghost use Rattle.hist_model.specs.Open.{is_done};
 ghost use Rattle.script_model.specs.Laws.Sound.{IsSound};
 ghost use Rattle.task_model.specs.Phase.{phase_after};
-ghost use Rattle.live_core.specs.Books.{CanEnter, NamesJob, NamesScope, StandFor, holds_after, jobs_after, next_after, runs_after, scopes_after};
-ghost use Rattle.live_core.specs.Calls.{is_full, spare_task};
+ghost use Rattle.live_core.specs.Books.{CanEnter, NamesJob, NamesScope, NamesTask, StandFor, holds_after, jobs_after, posted_after, runs_after, scopes_after};
+ghost use Rattle.live_core.specs.Calls.{is_full, spare_task, task_of};
 
 mod fitting;
+mod posting;
 mod tables;
 
-use crate::books::tables::{fresh_jobs, fresh_scopes, fresh_seats, kept_tasks};
+use crate::books::tables::{first_unmarked, fresh_jobs, fresh_seats, kept_tasks, no_marks};
 use crate::call::Call;
 use std::alloc::{AllocError, Global};
 use task_base::{JobId, Kind, Phase, Place, Script, SeatNo, TaskId};
@@ -56,7 +57,9 @@ pub(crate) struct Books {
     script: Script,
     /// Whether a step of some task posts the task, which is handed out to nobody then.
     kept: Vec<bool>,
-    /// From here on no task was posted.
+    /// Whether the task was posted.
+    posted: Vec<bool>,
+    /// The first task that is neither, or how many tasks there are.
     next: TaskId,
     seats: Vec<Seat>,
     /// Whether the task has a blocking scope open.
@@ -76,12 +79,15 @@ impl Books {
     {
         let kept = kept_tasks(alloc, script.tasks.as_slice())?;
         let seats = fresh_seats(alloc, script.workers as usize + 1)?;
-        let scopes = fresh_scopes(alloc, script.tasks.len())?;
+        let posted = no_marks(alloc, script.tasks.len())?;
+        let scopes = no_marks(alloc, script.tasks.len())?;
         let jobs = fresh_jobs(alloc, script.jobs.len())?;
+        let next = first_unmarked(kept.as_slice(), posted.as_slice(), 0);
         Ok(Books {
             script,
             kept,
-            next: 0,
+            posted,
+            next,
             seats,
             scopes,
             jobs,
@@ -116,13 +122,22 @@ impl Books {
         requires { (plan : Plan) × (past : List Entry) × StandFor plan past self.now }
         ensures { (plan : Plan) (past : List Entry) → StandFor plan past self.now → result ≡ spare_task plan past }
     {
-        let count = self.kept.len() as TaskId;
-        for task in self.next..count {
-            if !self.kept[task as usize] {
-                return Some(task);
-            }
+        if (self.next as usize) < self.kept.len() {
+            Some(self.next)
+        } else {
+            None
         }
-        None
+    }
+
+    /// The task that a post is of: the one that it names, or else the one that is handed out next, if one is left.
+    pub(crate) fn task_of(&self, named: Option<TaskId>) -> Option<TaskId>
+        requires { (plan : Plan) × (past : List Entry) × StandFor plan past self.now }
+        ensures { (plan : Plan) (past : List Entry) → StandFor plan past self.now → result ≡ task_of plan past named }
+    {
+        match named {
+            Some(task) => Some(task),
+            None => self.spare_task(),
+        }
     }
 
     /// Whether there is no room for the entry of a call.
@@ -134,7 +149,9 @@ impl Books {
             return true;
         }
         match call {
-            Call::Post { .. } | Call::Main { .. } => self.spare_task().is_none(),
+            Call::Post { task: None, .. } | Call::Main { task: None, .. } => self
+                .spare_task()
+                .is_none(),
             _ => false,
         }
     }
@@ -150,7 +167,8 @@ impl Books {
         mark_scope(&mut self.scopes, kind);
         mark_job(&mut self.jobs, kind);
         self.phase = phase_after(self.phase, kind);
-        self.next = next_after(self.next, kind);
+        mark_task(&mut self.posted, kind);
+        self.next = first_unmarked(self.kept.as_slice(), self.posted.as_slice(), self.next);
         self.entries += 1;
     }
 }
@@ -240,13 +258,13 @@ fn phase_after(now: Phase, kind: Kind) -> Phase
     }
 }
 
-// From which task on none was posted.
-fn next_after(now: TaskId, kind: Kind) -> TaskId
-    requires { next_after now kind < 2 ^ 32 }
-    ensures { result ≡ next_after now kind }
+// Notes the task that an entry posts.
+fn mark_task(posted: &mut Vec<bool>, kind: Kind)
+    requires { NamesTask (length posted.old.items) kind }
+    ensures { posted.new.items ≡ posted_after posted.old.items kind }
 {
     match kind {
-        Kind::Post { task, .. } | Kind::Main { task, .. } => task + 1,
-        _ => now,
+        Kind::Post { task, .. } | Kind::Main { task, .. } => posted[task as usize] = true,
+        _ => {}
     }
 }

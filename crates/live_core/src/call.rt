@@ -1,22 +1,25 @@
 ghost use Rattle.std.specs.Prelude.{◌≡◌};
 ghost use Rattle.live_core.specs.Calls.{seat_of};
 
-use task_base::{FenceAt, JobId, Policy, Priority, QueueId, RunnerId, Scope, SeatNo};
+use task_base::{FenceAt, JobId, Policy, Priority, QueueId, RunnerId, Scope, SeatNo, TaskId};
 
 /// One call of a live environment: what a seat asks for (the notions are Chromium's of `base/task`, the calls this project's
 /// own). Seat 0 is the driver, the seats from 1 on are workers, and the last one is the guest, under which all is posted that
 /// comes from threads of no seat. Moments and delays are in microseconds.
 #[derive(Clone, Copy, Debug)]
 pub enum Call {
-    /// The driver, the guest, or a seat that runs a task posts a new task to a runner. The entry names the task.
+    /// The driver, the guest, or a seat that runs a task posts a task to a runner: the one that is named, or else a new one,
+    /// which the entry names. A task that steps of the plan post is posted by name, while its seat runs a task with such a step.
     Post {
         seat: SeatNo,
+        task: Option<TaskId>,
         runner: RunnerId,
         delay: u64,
     },
     /// The same to a main queue.
     Main {
         seat: SeatNo,
+        task: Option<TaskId>,
         queue: QueueId,
         delay: u64,
     },

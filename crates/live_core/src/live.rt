@@ -97,10 +97,16 @@ impl LiveCore {
         match call {
             Call::Post {
                 seat,
+                task,
                 runner,
                 delay,
-            } => self.post(seat, runner, delay),
-            Call::Main { seat, queue, delay } => self.main_post(seat, queue, delay),
+            } => self.post(seat, task, runner, delay),
+            Call::Main {
+                seat,
+                task,
+                queue,
+                delay,
+            } => self.main_post(seat, task, queue, delay),
             Call::Tick { reading } => self.tick(reading),
             Call::Take { seat } => self.take(seat),
             Call::End { seat } => self.end(seat),

@@ -9,7 +9,7 @@ pub enum Unmade {
     /// The call is not one that its seat may make now, or names what is not declared. Nothing was changed.
     #[error("this call may not be made now")]
     Misuse,
-    /// All tasks were handed out, or as many entries made as can be counted. Nothing was changed.
+    /// No task is left to be handed out, or as many entries were made as can be counted. Nothing was changed.
     #[error("there is no room left")]
     Full,
     /// There is nothing that the seat may take now.

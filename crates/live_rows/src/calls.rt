@@ -47,6 +47,9 @@ fn call_of(text: &str) -> Option<Call> {
         (Some(first), Some(second), Some(third), None) => {
             call_with_three(word, first, second, third)
         }
+        (Some(seat), Some(task), Some(home), Some(delay)) if words.next().is_none() => {
+            post_named(word, seat, task, home, delay)
+        }
         _ => None,
     }
 }
@@ -120,21 +123,50 @@ fn call_with_three(word: &str, first: &str, second: &str, third: &str) -> Option
     match word {
         "post" => {
             let (seat, runner, delay) = (number(first)?, number(second)?, number(third)?);
+            let task = None;
             Some(Call::Post {
                 seat,
+                task,
                 runner,
                 delay,
             })
         }
         "main" => {
             let (seat, queue, delay) = (number(first)?, number(second)?, number(third)?);
-            Some(Call::Main { seat, queue, delay })
+            let task = None;
+            Some(Call::Main {
+                seat,
+                task,
+                queue,
+                delay,
+            })
         }
         "vote" => {
             let (queue, voter) = (number(first)?, number(second)?);
             let on = vote_named(third.as_bytes())?;
             Some(Call::Vote { queue, voter, on })
         }
+        _ => None,
+    }
+}
+
+/// The post of a task that is named.
+fn post_named(word: &str, seat: &str, task: &str, home: &str, delay: &str) -> Option<Call> {
+    let (seat, task) = (number(seat)?, Some(number(task)?));
+    let (home, delay) = (number(home)?, number(delay)?);
+    match word {
+        "post" => Some(Call::Post {
+            seat,
+            task,
+            runner: home,
+            delay,
+        }),
+        "main" => Some(Call::Main {
+            seat,
+            task,
+            queue: home,
+            delay,
+        }),
         _ => None,
     }
 }

@@ -9,7 +9,7 @@ ghost use Rattle.live_core.specs.Calls.{fits, is_driving, is_posting, is_taker, 
 
 use crate::books::{Books, Item, JobMark, Seat, Work};
 use crate::call::Call;
-use task_base::{JobId, MOST_MICROSECONDS, Phase, QueueId, RunnerId, SeatNo};
+use task_base::{Phase, QueueId, RunnerId, SeatNo, TaskId};
 
 // Which calls may come.
 impl Books {
@@ -21,12 +21,16 @@ impl Books {
         match call {
             Call::Post {
                 seat,
+                task,
                 runner,
                 delay,
-            } => self.is_posting(seat) && self.has_runner(runner) && delay <= MOST_MICROSECONDS,
-            Call::Main { seat, queue, delay } => {
-                self.is_posting(seat) && self.has_queue(queue) && delay <= MOST_MICROSECONDS
-            }
+            } => self.may_post(seat, task, runner, delay),
+            Call::Main {
+                seat,
+                task,
+                queue,
+                delay,
+            } => self.may_main_post(seat, task, queue, delay),
             Call::Tick { .. } => !self.is_done(),
             Call::Take { seat } => self.is_taker(seat),
             Call::End { seat } => self.may_end(seat),
@@ -62,8 +66,8 @@ impl Books {
         self.seat(seat)?.holds
     }
 
-    // Whether there is the seat, and it may post.
-    fn is_posting(&self, seat: SeatNo) -> bool
+    /// Whether there is the seat, and it may post.
+    pub(super) fn is_posting(&self, seat: SeatNo) -> bool
         ensures { (plan : Plan) (past : List Entry) → StandFor plan past self.now → result ≡ is_posting plan past seat }
     {
         match self.seat(seat) {
@@ -175,13 +179,19 @@ impl Books {
         }
     }
 
-    fn has_runner(&self, runner: RunnerId) -> bool
+    pub(super) fn has_task(&self, task: TaskId) -> bool
+        ensures { result ≡ nat_lt task (length self.now.script.tasks) }
+    {
+        (task as usize) < self.script.tasks.len()
+    }
+
+    pub(super) fn has_runner(&self, runner: RunnerId) -> bool
         ensures { result ≡ nat_lt runner (length self.now.script.runners) }
     {
         (runner as usize) < self.script.runners.len()
     }
 
-    fn has_queue(&self, queue: QueueId) -> bool
+    pub(super) fn has_queue(&self, queue: QueueId) -> bool
         ensures { result ≡ nat_lt queue (length self.now.script.queues) }
     {
         (queue as usize) < self.script.queues.len()

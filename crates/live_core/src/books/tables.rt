@@ -1,9 +1,10 @@
-ghost use Rattle.std.specs.Prelude.{◌≡◌, length, replicate, false, IfOk};
-ghost use Rattle.live_core.specs.Books.{fresh_mark, idle, mark_step, marked, marked_by};
+ghost use Rattle.std.specs.Prelude.{◌≡◌, ◌≤◌, length, replicate, false, IfOk};
+ghost use Rattle.task_base.specs.declared.limits.TheConstants.{MOST_TASKS};
+ghost use Rattle.live_core.specs.Books.{IsFirstUnmarked, fresh_mark, idle, mark_step, marked, marked_by};
 
 use crate::books::{JobMark, Seat};
 use std::alloc::{AllocError, Global};
-use task_base::{Step, Task};
+use task_base::{Step, Task, TaskId};
 
 /// That none of so many seats does anything. The error is out of memory.
 pub(super) fn fresh_seats(alloc: Global, count: usize) -> Result<Vec<Seat>, AllocError>
@@ -16,9 +17,9 @@ pub(super) fn fresh_seats(alloc: Global, count: usize) -> Result<Vec<Seat>, Allo
     vec![in alloc; idle; count]
 }
 
-/// That none of so many tasks has a scope open. The error is out of memory.
-pub(super) fn fresh_scopes(alloc: Global, count: usize) -> Result<Vec<bool>, AllocError>
-    ensures { IfOk result (λ scopes. scopes.items ≡ replicate count false) }
+/// No mark at any of that many tasks. The error is out of memory.
+pub(super) fn no_marks(alloc: Global, count: usize) -> Result<Vec<bool>, AllocError>
+    ensures { IfOk result (λ marks. marks.items ≡ replicate count false) }
 {
     vec![in alloc; false; count]
 }
@@ -66,4 +67,20 @@ fn mark_step(kept: &mut Vec<bool>, step: &Step)
         }
         _ => {}
     }
+}
+
+/// The first task that has no mark in either list, from this one on, or how many tasks there are.
+pub(super) fn first_unmarked(kept: &[bool], posted: &[bool], start: TaskId) -> TaskId
+    requires there { start ≤ length kept.now }
+    requires alike { length posted.now ≡ length kept.now }
+    requires few { length kept.now ≤ MOST_TASKS }
+    ensures { IsFirstUnmarked kept.now posted.now start result }
+{
+    let count = kept.len() as TaskId;
+    for task in start..count {
+        if !kept[task as usize] && !posted[task as usize] {
+            return task;
+        }
+    }
+    count
 }

@@ -1,18 +1,19 @@
-use Rattle.std.proofs.Common.{arith, ap, sym, ◌+◌, ◌∙◌}
+use Rattle.std.proofs.Common.{arith, ap, length, subst, sym, ◌+◌, ◌∙◌}
 use Rattle.std.proofs.lemmas.Grind.{length_at_push}
-use Rattle.task_base.specs.Entries.{entry_by}
+use Rattle.task_base.specs.Entries.{entry_by, next}
 use Rattle.task_model.proofs.Growth.{phase_of_push}
 use Rattle.task_model.specs.Phase.{phase_after}
-use Rattle.live_core.proofs.Entered.{handed_on, jobs_entered, next_fits, no_other_scope, scopes_entered, seat_after, seats_entered, table_get}
+use Rattle.hist_model.specs.Open.{was_posted}
+use Rattle.sequence_manager.specs.Queues.{IsTable}
+use Rattle.live_core.proofs.Entered.{jobs_entered, no_other_scope, out_entered, posted_entered, scopes_entered, seat_after, seats_entered, table_get}
 use Rattle.live_core.proofs.books.Books.enter.Goals as goal
-
-pub next_after-self-requires : goal.next_after-self-requires
-next_after-self-requires c = next_fits _ _ _ _ _ c.requires.2
 
 pub returns-clause-stands : goal.returns-clause-stands
 returns-clause-stands c = λ plan past can.
     let stand = can.stand in
     let long = (length_at_push past (entry_by c.args.seat c.args.kind)).1 in
+    let posted = subst (IsTable (was_posted (next past c.args.seat c.args.kind)) (length plan.tasks)) (sym c.mark_task.ensures)
+    (posted_entered past c.args.seat c.args.kind _ _ stand.posted can.task) in
     record {
       plan_is = stand.plan_is;
       seats = seats_entered past c.args.seat c.args.kind (plan.workers + 1) c.args.self.now.seats.items c.after.result stand.seats (omega (arith, can.known))
@@ -27,5 +28,7 @@ returns-clause-stands c = λ plan past can.
       few = omega (arith, can.roomy, long);
       few_tasks = stand.few_tasks;
       kept = stand.kept;
-      out = rw c.next_after-self.ensures (handed_on plan past c.args.seat c.args.kind _ stand.out can.task);
+      posted = posted;
+      out = out_entered plan past c.args.seat c.args.kind c.as_slice.result.now c.as_slice-2.result.now _ _ stand.out
+          (rw c.as_slice.ensures.value stand.kept) (rw c.as_slice-2.ensures.value posted) c.first_unmarked-self.ensures;
     }

@@ -11,3 +11,10 @@ returns-in-JobStep c = λ plan past stand.
 pub returns-then-is_driving : goal.returns-then-is_driving
 returns-then-is_driving c = λ plan past stand.
     let driving = sym (c.is_driving.ensures plan past stand) ∙ c.if-is_driving.true in let named = c.names.ensures plan past stand in grind arith
+
+pub returns-in-MainEnd : goal.returns-in-MainEnd
+returns-in-MainEnd c = λ plan past stand. rw c.in-MainEnd.is (c.may_end_main.ensures plan past stand)
+
+pub returns-else-is_driving : goal.returns-else-is_driving
+returns-else-is_driving c = λ plan past stand.
+    let driving = sym (c.is_driving.ensures plan past stand) ∙ c.if-is_driving.false in grind arith
