@@ -5,7 +5,6 @@ pub mod Entered
 pub mod Exact
 pub mod Fits
 pub mod Fitting
-pub mod JobAnswers
 pub mod Kept
 pub mod Made
 pub mod May
@@ -16,3 +15,4 @@ pub mod Quiet
 pub mod Scopes
 pub mod Serving
 pub mod Works
+mod Worked

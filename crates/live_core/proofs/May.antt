@@ -13,7 +13,6 @@ use Rattle.task_base.specs.Steps.{after}
 use Rattle.task_base.specs.declared.entry.Entry.{Entry}
 use Rattle.task_base.specs.declared.entry.JobReply.{JobReply}
 use Rattle.task_base.specs.declared.entry.JobReply.TheVariants as replies
-use Rattle.task_base.specs.declared.entry.Kind.{Kind}
 use Rattle.task_base.specs.declared.entry.Kind.TheVariants as kinds
 use Rattle.task_base.specs.declared.limits.TheConstants.{LAST_MOMENT}
 use Rattle.task_base.specs.declared.step.Scope.{Scope}
@@ -42,32 +41,6 @@ says true = refl
 says false = refl
 
 -- ---- the driver
-
--- the kinds of which the rules ask no more than that the driver may enter them
-abbrev pub is_plain : Kind → Bool
-is_plain (kinds.Policy policy) = true
-is_plain (kinds.Reprio runner priority) = true
-is_plain (kinds.Fence queue at) = true
-is_plain (kinds.Unfence queue) = true
-is_plain (kinds.Vote queue voter on) = true
-is_plain (kinds.Rank queue class) = true
-is_plain (kinds.Close queue) = true
-is_plain (kinds.JobCancel job) = true
-is_plain kinds.Shutdown = true
-is_plain kind = false
-
-pub plain_may : (plan : Plan) (past : List Entry) (kind : Kind) → is_plain kind ≡ true → by_script plan past 0 kind ≡ true → may_come plan past 0 kind ≡ true
-unfolding may_come
-plain_may plan past (kinds.Policy policy) is by = by
-plain_may plan past (kinds.Reprio runner priority) is by = by
-plain_may plan past (kinds.Fence queue at) is by = by
-plain_may plan past (kinds.Unfence queue) is by = by
-plain_may plan past (kinds.Vote queue voter on) is by = by
-plain_may plan past (kinds.Rank queue class) is by = by
-plain_may plan past (kinds.Close queue) is by = by
-plain_may plan past (kinds.JobCancel job) is by = by
-plain_may plan past kinds.Shutdown is by = by
-plain_may plan past kind is by = absurd cc
 
 pub tick_may : (plan : Plan) (past : List Entry) (now : ℕ) → by_script plan past 0 (kinds.Tick now) ≡ true → now_of past ≤ now → now ≤ LAST_MOMENT
     → may_come plan past 0 (kinds.Tick now) ≡ true

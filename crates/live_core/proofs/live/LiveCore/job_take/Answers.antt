@@ -2,7 +2,7 @@ use Rattle.std.proofs.Common.{refl}
 use Rattle.std.proofs.lemmas.Bool.{and_parts}
 use Rattle.task_base.specs.declared.entry.Kind.TheVariants as kinds
 use Rattle.live_core.proofs.Asks.{can_join}
-use Rattle.live_core.proofs.JobAnswers.{has_got, has_got_none}
+use Rattle.call_laws.proofs.Jobs.{has_got, has_got_none}
 use Rattle.live_core.proofs.May.{job_take_may}
 use Rattle.live_core.proofs.Moved.{pool_moved, still_stands}
 use Rattle.live_core.proofs.Serving.{served}

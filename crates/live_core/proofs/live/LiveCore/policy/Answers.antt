@@ -1,7 +1,7 @@
 use Rattle.std.proofs.Common.{refl}
 use Rattle.std.proofs.lemmas.Bool.{and_parts}
 use Rattle.task_base.specs.declared.entry.Kind.TheVariants as kinds
-use Rattle.live_core.proofs.May.{plain_may}
+use Rattle.call_laws.proofs.Plain.{plain_may_come}
 use Rattle.live_core.proofs.Moved.{pool_moved}
 use Rattle.live_core.proofs.Serving.{served}
 use Rattle.live_core.proofs.live.LiveCore.policy.Goals as goal
@@ -11,5 +11,5 @@ returns c = λ plan past can.
     let kind = kinds.Policy c.args.policy in
     let fit = and_parts _ _ can.may.fit in
     pool_moved plan past _ c.args.self.now kind _ can.stands refl refl (record { scope = tt; job = tt; task = tt }) refl
-    (plain_may plan past kind refl (served plan past kind can.stands.opened can.stands.legal fit.0 refl))
+    (plain_may_come plan past 0 kind refl (served plan past kind can.stands.opened can.stands.legal fit.0 refl))
     (c.policy.ensures plan past 0 can.stands.pool)

@@ -1,5 +1,5 @@
 use Rattle.live_core.proofs.Asks.{knows_runner}
-use Rattle.live_core.proofs.May.{plain_may}
+use Rattle.call_laws.proofs.Plain.{plain_may_come}
 use Rattle.live_core.proofs.Moved.{pool_moved}
 use Rattle.live_core.proofs.Serving.{served}
 use Rattle.std.proofs.Common.{refl}
@@ -15,5 +15,5 @@ returns c = λ plan past can.
     let kind = kinds.Reprio c.args.runner c.args.priority in
     let fit = and_parts _ _ can.may.fit in
     pool_moved plan past _ c.args.self.now kind _ can.stands refl refl (record { scope = tt; job = tt; task = tt }) (refl, refl)
-    (plain_may plan past kind refl (served plan past kind can.stands.opened can.stands.legal fit.0 fit.1))
+    (plain_may_come plan past 0 kind refl (served plan past kind can.stands.opened can.stands.legal fit.0 fit.1))
     (c.reprio.ensures plan past 0 (knows_runner can))

@@ -2,7 +2,7 @@ use Rattle.std.proofs.Common.{refl}
 use Rattle.std.proofs.lemmas.Bool.{and_parts}
 use Rattle.task_base.specs.declared.entry.Kind.TheVariants as kinds
 use Rattle.live_core.proofs.Asks.{join_in_order, may_join}
-use Rattle.live_core.proofs.JobAnswers.{joined_is}
+use Rattle.call_laws.proofs.Jobs.{joined_is}
 use Rattle.live_core.proofs.May.{joined_may}
 use Rattle.live_core.proofs.Moved.{none_moved}
 use Rattle.live_core.proofs.Serving.{served}

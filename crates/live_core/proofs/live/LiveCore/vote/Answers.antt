@@ -1,5 +1,5 @@
 use Rattle.live_core.proofs.Asks.{can_vote}
-use Rattle.live_core.proofs.May.{plain_may}
+use Rattle.call_laws.proofs.Plain.{plain_may_come}
 use Rattle.live_core.proofs.Moved.{main_moved}
 use Rattle.live_core.proofs.Serving.{served}
 use Rattle.std.proofs.Common.{refl}
@@ -15,5 +15,5 @@ returns c = λ plan past can.
     let kind = kinds.Vote c.args.queue c.args.voter c.args.on in
     let fit = and_parts _ _ can.may.fit in
     main_moved plan past _ c.args.self.now kind _ can.stands refl refl (record { scope = tt; job = tt; task = tt }) (refl, refl, refl)
-    (plain_may plan past kind refl (served plan past kind can.stands.opened can.stands.legal fit.0 fit.1))
+    (plain_may_come plan past 0 kind refl (served plan past kind can.stands.opened can.stands.legal fit.0 fit.1))
     (c.vote.ensures plan past 0 (can_vote can))
