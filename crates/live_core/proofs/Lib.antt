@@ -2,6 +2,7 @@ pub mod Asks
 pub mod AtStart
 pub mod Calling
 pub mod Entered
+pub mod Every
 pub mod Exact
 pub mod Fits
 pub mod Fitting

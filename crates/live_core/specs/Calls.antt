@@ -1,5 +1,5 @@
 -- Which calls may come after a past of an open plan (this project's own rules).
-use Rattle.std.specs.Prelude.{ℕ, ◌==◌, Bool, true, false, not, ◌&&◌, ◌||◌, nat_lt, nat_le, List, length, Option, Some, None, is_none, is_some}
+use Rattle.std.specs.Prelude.{ℕ, ◌==◌, Bool, true, false, not, ◌&&◌, ◌||◌, nat_lt, nat_le, if◌then◌else◌, List, length, Option, Some, None, is_none, is_some}
 use Rattle.std.specs.List.{find, range_with_len}
 use Rattle.task_base.specs.Plan.{Plan}
 use Rattle.task_base.specs.declared.entry.Entry.{Entry}
@@ -28,6 +28,35 @@ seat_of (calls.Enter seat scope) = seat
 seat_of (calls.Leave seat) = seat
 seat_of (calls.JobStep seat) = seat
 seat_of call = 0
+
+-- the call that an entry of this seat and kind is of; it names the task that is posted
+abbrev pub call_of : ℕ → Kind → Call
+call_of seat (kinds.Post task runner delay ok) = calls.Post seat (Some task) runner delay
+call_of seat (kinds.Main task queue delay ok) = calls.Main seat (Some task) queue delay
+call_of seat (kinds.Tick now) = calls.Tick now
+call_of seat (kinds.Take task runner found) = calls.Take seat
+call_of seat (kinds.End task left) = calls.End seat
+call_of seat (kinds.Enter task scope) = calls.Enter seat scope
+call_of seat (kinds.Leave task) = calls.Leave seat
+call_of seat (kinds.Policy policy) = calls.Policy policy
+call_of seat (kinds.Reprio runner priority) = calls.Reprio runner priority
+call_of seat (kinds.Fence queue at) = calls.Fence queue at
+call_of seat (kinds.Unfence queue) = calls.Unfence queue
+call_of seat (kinds.Vote queue voter on) = calls.Vote queue voter on
+call_of seat (kinds.Rank queue class) = calls.Rank queue class
+call_of seat (kinds.Close queue) = calls.Close queue
+call_of seat (kinds.MainTake task queue found) = calls.MainTake
+call_of seat (kinds.MainEnd task left) = calls.MainEnd
+call_of seat kinds.MainNone = calls.MainTake
+call_of seat (kinds.JobPost job ok) = calls.JobPost job
+call_of seat (kinds.JobTake job id item) = if seat == 0 then calls.JobTake job else calls.Take seat
+call_of seat (kinds.JobStep job id item value goes_on) = calls.JobStep seat
+call_of seat (kinds.JobCancel job) = calls.JobCancel job
+call_of seat (kinds.Cancelled job) = calls.Cancelled job
+call_of seat (kinds.Joined job reply) = calls.Joined job
+call_of seat kinds.Idle = calls.Idle
+call_of seat kinds.Shutdown = calls.Shutdown
+call_of seat kinds.Done = calls.Done
 
 -- ---- room
 

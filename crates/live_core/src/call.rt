@@ -1,7 +1,7 @@
-ghost use Rattle.std.specs.Prelude.{◌≡◌};
-ghost use Rattle.live_core.specs.Calls.{seat_of};
+ghost use Rattle.std.specs.Prelude.{◌≡◌, ◌==◌, if◌then◌else◌};
+ghost use Rattle.live_core.specs.Calls.{call_of, seat_of};
 
-use task_base::{FenceAt, JobId, Policy, Priority, QueueId, RunnerId, Scope, SeatNo, TaskId};
+use task_base::{FenceAt, JobId, Kind, Policy, Priority, QueueId, RunnerId, Scope, SeatNo, TaskId};
 
 /// One call of a live environment: what a seat asks for (the notions are Chromium's of `base/task`, the calls this project's
 /// own). Seat 0 is the driver, the seats from 1 on are workers, and the last one is the guest, under which all is posted that
@@ -128,5 +128,69 @@ impl Call {
             | Call::JobStep { seat } => seat,
             _ => 0,
         }
+    }
+
+    /// The call that an entry of this seat and kind is of. Where the entry may come, the call makes it (`calls_are_exact`).
+    pub fn of_entry(seat: SeatNo, kind: Kind) -> Call
+        ensures { result ≡ call_of seat kind }
+    {
+        match kind {
+            Kind::Post {
+                task,
+                runner,
+                delay,
+                ..
+            } => Call::Post {
+                seat,
+                task: Some(task),
+                runner,
+                delay,
+            },
+            Kind::Main {
+                task,
+                queue,
+                delay,
+                ..
+            } => Call::Main {
+                seat,
+                task: Some(task),
+                queue,
+                delay,
+            },
+            Kind::Tick { now } => Call::Tick { reading: now },
+            Kind::Take { .. } => Call::Take { seat },
+            Kind::End { .. } => Call::End { seat },
+            Kind::Enter { scope, .. } => Call::Enter { seat, scope },
+            Kind::Leave { .. } => Call::Leave { seat },
+            Kind::Policy { policy } => Call::Policy { policy },
+            Kind::Reprio { runner, priority } => Call::Reprio { runner, priority },
+            Kind::Fence { queue, at } => Call::Fence { queue, at },
+            Kind::Unfence { queue } => Call::Unfence { queue },
+            Kind::Vote { queue, voter, on } => Call::Vote { queue, voter, on },
+            Kind::Rank { queue, class } => Call::Rank { queue, class },
+            Kind::Close { queue } => Call::Close { queue },
+            Kind::MainTake { .. } | Kind::MainNone => Call::MainTake,
+            Kind::MainEnd { .. } => Call::MainEnd,
+            Kind::JobPost { job, .. } => Call::JobPost { job },
+            Kind::JobTake { job, .. } => job_take_of(seat, job),
+            Kind::JobStep { .. } => Call::JobStep { seat },
+            Kind::JobCancel { job } => Call::JobCancel { job },
+            Kind::Cancelled { job } => Call::Cancelled { job },
+            Kind::Joined { job, .. } => Call::Joined { job },
+            Kind::Idle => Call::Idle,
+            Kind::Shutdown => Call::Shutdown,
+            Kind::Done => Call::Done,
+        }
+    }
+}
+
+// The call by which a seat goes into a job.
+fn job_take_of(seat: SeatNo, job: JobId) -> Call
+    ensures { result ≡ if seat == 0 then Call.JobTake job else Call.Take seat }
+{
+    if seat == 0 {
+        Call::JobTake { job }
+    } else {
+        Call::Take { seat }
     }
 }

@@ -9,7 +9,8 @@ use Rattle.live_core.proofs.books.Books.is_posting_it.Goals.{then-not-is_within-
 pub index-requires : goal.index-requires
 index-requires c =
     let stand = c.requires.stands.2 in
-    omega (arith, stand.posted.all, post_declared c.requires.stands.0 c.args.task c.args.kind c.requires.posts (sym (c.is_within.ensures c.requires.stands.0 c.requires.stands.1 stand) ∙ c.if-not-is_within.false))
+    let within = sym (c.is_within.ensures c.requires.stands.0 c.requires.stands.1 stand) ∙ c.if-not-is_within.false in
+    omega (arith, stand.posted.all, post_declared c.requires.stands.0 c.args.task c.args.kind c.requires.posts within)
 
 pub returns-then-not-is_within : goal.returns-then-not-is_within
 returns-then-not-is_within c = λ plan past stand. elim c.then-not-is_within.branch [
@@ -17,16 +18,17 @@ returns-then-not-is_within c = λ plan past stand. elim c.then-not-is_within.bra
       rw (sym (c.is_within.ensures plan past stand) ∙ w.if-not-is_within.true) (sym (and-false _))
   | then-not-is_within-via-else-not-is_within+then-index w ↦
       let within = sym (c.is_within.ensures plan past stand) ∙ w.if-not-is_within.false in
+      let there = post_declared plan c.args.task c.args.kind c.requires.posts within in
       let posted : was_posted past c.args.task ≡ true =
-      sym (table_get (was_posted past) _ c.args.self.now.posted.items c.args.task _ stand.posted (post_declared plan c.args.task c.args.kind c.requires.posts within))
-      ∙ sym w.index.ensures ∙ w.if-index.true in
+      sym (table_get (was_posted past) _ c.args.self.now.posted.items c.args.task _ stand.posted there) ∙ sym w.index.ensures ∙ w.if-index.true in
       rw (within, posted) (sym (and-false _))
 ]
 
 pub index-requires-2 : goal.index-requires-2
 index-requires-2 c =
     let stand = c.requires.stands.2 in
-    omega (arith, stand.kept.all, post_declared c.requires.stands.0 c.args.task c.args.kind c.requires.posts (sym (c.is_within.ensures c.requires.stands.0 c.requires.stands.1 stand) ∙ c.if-not-is_within.false))
+    let within = sym (c.is_within.ensures c.requires.stands.0 c.requires.stands.1 stand) ∙ c.if-not-is_within.false in
+    omega (arith, stand.kept.all, post_declared c.requires.stands.0 c.args.task c.args.kind c.requires.posts within)
 
 pub returns-then-index-2 : goal.returns-then-index-2
 returns-then-index-2 c = λ plan past stand.
