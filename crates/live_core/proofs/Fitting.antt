@@ -1,12 +1,18 @@
 -- What the books tell of a seat, and what is asked of it, are the same.
 -- Cited by 9 functions of `Books`.
-use Rattle.std.proofs.Common.{◌≡◌, ℕ, Bool, true, false, cond, List, refl, ap, Option, Some, None}
+use Rattle.std.proofs.Common.{◌≡◌, ℕ, ◌+◌, Bool, true, false, cond, List, refl, sym, ap, ◌∙◌, Option, Some, None}
 use Rattle.std.specs.Prelude.{◌&&◌, is_none, is_some, not}
+use Rattle.std.specs.List.{list_all}
 use Rattle.std.specs.Option.{option_map}
+use Rattle.std.proofs.lemmas.List.Folds.{list_all-map}
+use Rattle.list_laws.proofs.Tests.{list_all_congr}
 use Rattle.list_laws.specs.Lists.{holds_of}
+use Rattle.task_base.specs.Plan.{Plan}
 use Rattle.task_base.specs.declared.entry.Entry.{Entry}
-use Rattle.task_model.specs.Seats.{Running, holding, is_free, running}
-use Rattle.live_core.specs.Books.{at_seat, item_of, work_of}
+use Rattle.task_model.specs.Seats.{Running, all_seats, holding, is_free, is_quiet, running}
+use Rattle.sequence_manager.proofs.Tables.{table_is}
+use Rattle.sequence_manager.specs.Queues.{IsTable}
+use Rattle.live_core.specs.Books.{at_seat, idle, is_idle, item_of, work_of}
 use Rattle.live_core.specs.declared.books.Seat.{Seat}
 use Rattle.live_core.specs.declared.books.Work.{Work}
 
@@ -26,21 +32,31 @@ pub mapped_is_some : {A B : Type 0} (f : A → B) (o : Option A) → is_some (op
 mapped_is_some f None = refl
 mapped_is_some f (Some x) = refl
 
+mapped_is_none : {A B : Type 0} (f : A → B) (o : Option A) → is_none (option_map f o) ≡ is_none o
+mapped_is_none f None = refl
+mapped_is_none f (Some x) = refl
+
 pub is_some_there : {A B : Type 0} (f : A → B) (there : Bool) (o : Option A) → is_some (cond there (option_map f o) None) ≡ (there && is_some o)
 is_some_there f true o = mapped_is_some f o
 is_some_there f false o = refl
 
 -- ---- seats
 
--- the seat that is found is free where nothing runs there and nothing is held
-pub free_there : (past : List Entry) (seat : ℕ) (found : Seat) → at_seat past seat ≡ found
-    → is_free past seat ≡ (not (is_some found.runs) && not (is_some found.holds))
-free_there past seat found same = rw (← same) (rw (
-  mapped_is_some work_of (running past seat),
-  mapped_is_some item_of (holding past seat),
-  not_some (running past seat),
-  not_some (holding past seat),
-) refl)
+-- what the books tell of a seat that is free
+idle_as_free : (past : List Entry) (seat : ℕ) → is_idle (at_seat past seat) ≡ is_free past seat
+idle_as_free past seat = rw (mapped_is_none work_of (running past seat), mapped_is_none item_of (holding past seat)) refl
+
+-- the seat that is found is free where it does nothing
+pub free_there : (past : List Entry) (seat : ℕ) (found : Seat) → at_seat past seat ≡ found → is_idle found ≡ is_free past seat
+free_there past seat found same = ap is_idle (sym same) ∙ idle_as_free past seat
+
+-- none of them does anything where all is quiet
+pub all_quiet : (plan : Plan) (past : List Entry) (seats : List Seat) → IsTable (at_seat past) (plan.workers + 1) seats
+    → list_all is_idle seats ≡ is_quiet plan past
+unfolding is_quiet
+all_quiet plan past seats table = ap (list_all is_idle) (table_is (at_seat past) (plan.workers + 1) seats idle table)
+    ∙ list_all-map is_idle (at_seat past) (all_seats plan)
+    ∙ list_all_congr (λ seat. is_idle (at_seat past seat)) (is_free past) (all_seats plan) (idle_as_free past)
 
 -- the task that is found runs there
 abbrev running_of : Work → Running

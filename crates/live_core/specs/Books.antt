@@ -1,5 +1,5 @@
 -- What the books tell of a plan and a past.
-use Rattle.std.specs.Prelude.{◌≡◌, ℕ, ◌+◌, ◌<◌, ◌≤◌, Bool, true, false, not, ◌&&◌, List, length, fold, get_or, slice_set, Option, Some, None, is_some}
+use Rattle.std.specs.Prelude.{◌≡◌, ℕ, ◌+◌, ◌<◌, ◌≤◌, Bool, true, false, not, ◌&&◌, List, length, fold, get_or, slice_set, Option, Some, None, is_none, is_some}
 use Rattle.std.specs.Option.{option_map}
 use Rattle.task_base.specs.Plan.{Plan, opened}
 use Rattle.task_base.specs.declared.entry.Entry.{Entry}
@@ -34,6 +34,10 @@ item_of h = record { job = h.job; id = h.id; item = h.item }
 -- what the seat does
 abbrev pub at_seat : List Entry → ℕ → Seat
 at_seat past seat = record { runs = option_map work_of (running past seat); holds = option_map item_of (holding past seat) }
+
+-- the seat runs no task and holds no item
+abbrev pub is_idle : Seat → Bool
+is_idle seat = is_none seat.runs && is_none seat.holds
 
 -- what was done with the job
 abbrev pub mark_of : List Entry → ℕ → JobMark

@@ -5,7 +5,7 @@ ghost use Rattle.task_base.specs.Entries.{next};
 ghost use Rattle.hist_model.specs.Open.{is_done};
 ghost use Rattle.script_model.specs.Laws.Sound.{IsSound};
 ghost use Rattle.task_model.specs.Phase.{phase_after};
-ghost use Rattle.live_core.specs.Books.{CanEnter, NamesJob, NamesScope, NamesTask, StandFor, holds_after, jobs_after, posted_after, runs_after, scopes_after};
+ghost use Rattle.live_core.specs.Books.{CanEnter, NamesJob, NamesScope, NamesTask, StandFor, holds_after, is_idle, jobs_after, posted_after, runs_after, scopes_after};
 ghost use Rattle.live_core.specs.Calls.{is_full, spare_task, task_of};
 
 mod fitting;
@@ -174,6 +174,13 @@ impl Books {
 }
 
 impl Seat {
+    /// Whether the seat runs no task and holds no item.
+    fn is_idle(&self) -> bool
+        ensures { result ≡ is_idle self.now }
+    {
+        self.runs.is_none() && self.holds.is_none()
+    }
+
     // What the seat does after an entry of its own.
     fn after(self, kind: Kind) -> Seat
         ensures { result ≡ record { runs = runs_after self.runs kind; holds = holds_after self.holds kind } }

@@ -1,10 +1,11 @@
 ghost use Rattle.std.specs.Prelude.{◌≡◌, ℕ, ◌&&◌, nat_lt, nat_le, if◌then◌else◌, length, List, Some, None, is_some};
+ghost use Rattle.std.specs.List.{list_all};
 ghost use Rattle.task_base.specs.Plan.{Plan};
 ghost use Rattle.task_base.specs.declared.entry.Entry.{Entry};
 ghost use Rattle.script_model.specs.Draft.{is_voter, may_block_on};
 ghost use Rattle.task_model.specs.Capacity.{open_scope};
-ghost use Rattle.task_model.specs.Seats.{is_free};
-ghost use Rattle.live_core.specs.Books.{StandFor, at_seat, mark_of};
+ghost use Rattle.task_model.specs.Seats.{is_free, is_quiet};
+ghost use Rattle.live_core.specs.Books.{StandFor, at_seat, is_idle, mark_of};
 ghost use Rattle.live_core.specs.Calls.{fits, is_driving, is_posting, is_taker, job_fits, may_close, may_end, may_end_main, may_open, names};
 
 use crate::books::{Books, Item, JobMark, Seat, Work};
@@ -88,9 +89,16 @@ impl Books {
         ensures { (plan : Plan) (past : List Entry) → StandFor plan past self.now → result ≡ (nat_le seat plan.workers && is_free past seat) }
     {
         match self.seat(seat) {
-            Some(at) => at.runs.is_none() && at.holds.is_none(),
+            Some(at) => at.is_idle(),
             None => false,
         }
+    }
+
+    /// Whether no seat runs a task, and none holds an item.
+    pub(crate) fn is_quiet(&self) -> bool
+        ensures { (plan : Plan) (past : List Entry) → StandFor plan past self.now → result ≡ is_quiet plan past }
+    {
+        are_idle(self.seats.as_slice())
     }
 
     // Whether the seat runs a task of the pool that has no scope open.
@@ -214,6 +222,13 @@ impl Books {
             None => false,
         }
     }
+}
+
+// Whether none of these seats does anything.
+fn are_idle(seats: &[Seat]) -> bool
+    ensures { result ≡ list_all is_idle seats.now }
+{
+    seats.iter().all(|seat| seat.is_idle())
 }
 
 // Whether a call on a job that is declared comes in its order.

@@ -3,6 +3,7 @@ ghost use Rattle.task_base.specs.Plan.{Plan};
 ghost use Rattle.task_base.specs.declared.entry.Entry.{Entry};
 ghost use Rattle.task_model.specs.Jobs.{is_empty, may_enter};
 ghost use Rattle.task_model.specs.Phase.{phase_of};
+ghost use Rattle.task_model.specs.Seats.{is_quiet};
 ghost use Rattle.task_model.specs.Sources.{best_of};
 ghost use Rattle.hist_model.specs.Open.{is_done};
 ghost use Rattle.pool_core.specs.Calls.{is_any_ready, is_own};
@@ -30,6 +31,13 @@ impl LiveCore {
         ensures { (plan : Plan) (past : List Entry) → StandsFor plan past self.now → result ≡ is_done (phase_of past) }
     {
         self.books.is_done()
+    }
+
+    /// Whether nobody runs a task or holds an item: no worker, nor the driver.
+    pub fn is_quiet(&self) -> bool
+        ensures { (plan : Plan) (past : List Entry) → StandsFor plan past self.now → result ≡ is_quiet plan past }
+    {
+        self.books.is_quiet()
     }
 
     /// Whether there is a source that some worker may take now, be it at work or not.
