@@ -1,5 +1,6 @@
 -- One more entry in the books: each table says what the longer past says.
--- Cited by `Books::enter`, `Books::open`, `Books::spare_task`, `LiveCore::end`, `LiveCore::main_end`, `guest_runner`, `Asks`, `Fits`.
+-- Cited by `Books::enter`, `Books::is_posting_it`, `Books::open`, `Books::spare_task`, `LiveCore::end`, `LiveCore::main_end`,
+-- `guest_runner`, `Asks`, `Fits`.
 use Rattle.std.proofs.Common.{◌≡◌, ℕ, zero, suc, ◌+◌, ◌<◌, ◌≤◌, Bool, true, false, cond, eqb, List, [], ◌∷◌, ◌++◌, get_or, length, refl, sym, ap, ◌∙◌}
 use Rattle.std.proofs.Common.{Option, Some, None, arith, ◌⊎◌, inl, inr, ⊎_elim}
 use Rattle.std.specs.Prelude.{◌&&◌, ◌||◌, is_some, not, slice_set}

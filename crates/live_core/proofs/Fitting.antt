@@ -1,5 +1,5 @@
 -- What the books tell of a seat, and what is asked of it, are the same.
--- Cited by 9 functions of `Books`.
+-- Cited by 11 functions of `Books`.
 use Rattle.std.proofs.Common.{◌≡◌, ℕ, ◌+◌, Bool, true, false, cond, List, refl, sym, ap, ◌∙◌, Option, Some, None}
 use Rattle.std.specs.Prelude.{◌&&◌, is_none, is_some, not}
 use Rattle.std.specs.List.{list_all}

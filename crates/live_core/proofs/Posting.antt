@@ -1,5 +1,5 @@
 -- What may be posted in an open plan, whatever the reply is; and that what may be posted is declared and new.
--- Cited by `Asks`, `Fits`, `May`.
+-- Cited by `Books::is_posting_it`, `Asks`, `Fits`, `May`.
 use Rattle.std.proofs.Common.{◌≡◌, ℕ, ◌<◌, Bool, true, false, cond, List, length, refl, sym, ap, subst, ◌∙◌, Option, Some, None, ⊎_elim, arith}
 use Rattle.std.specs.Prelude.{◌&&◌, ◌||◌, ◌==◌, is_some, nat_le, nat_lt, not}
 use Rattle.std.specs.List.{list_any}
