@@ -24,11 +24,11 @@ reads_on = (refl, refl)
 
 -- a script's last seat takes tasks; that of an open plan is the guest's
 takes_last : IsOfScriptAlone (record plain {
-      workers = 1;
-      runners = runner_of Parallel UserVisible SkipOnShutdown false ∷ [];
-      tasks = (steps.Add 1 ∷ []) ∷ [];
-      actions = actions.Post 0 0 0 ∷ actions.Flush ∷ [];
-    })
+  workers = 1;
+  runners = runner_of Parallel UserVisible SkipOnShutdown false ∷ [];
+  tasks = (steps.Add 1 ∷ []) ∷ [];
+  actions = actions.Post 0 0 0 ∷ actions.Flush ∷ [];
+})
     (by 0 (kinds.Post 0 0 0 true) ∷ by 1 (kinds.Take 0 0 0) ∷ []) 1
 unfolding judge
 takes_last = (refl, refl)
