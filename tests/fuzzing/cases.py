@@ -135,6 +135,8 @@ class EditedLog(Case):
             raise Wrong("another verdict, or a long explanation", f"{verdict}, {told.output}")
         for fact in facts:
             self.judge_fact(lines, edited, place, fact.decode())
+        if reason.startswith(b"the pool is not idle") and reason.endswith(b"taken\n") and len(facts) < 8 and not any(b" taken by: " in it for it in facts):
+            raise Wrong("no seat is named that may take", told.output)
         named = re.search(rb": (\d+ \d+ [a-z].*\n)$", reason)
         if named and not reason.startswith(b"line "):
             begun = "".join(line + "\n" for line in before).encode() + named[1]
@@ -142,9 +144,14 @@ class EditedLog(Case):
 
 
     def judge_fact(self, lines, edited, place, fact):
-        """An entry that is shown stands in the log; where it says that the bad one would have been allowed, it would."""
+        """An entry that is shown stands in the log, or may come in place of the bad one, where it says so; where it says that the bad
+        one would have been allowed, it would."""
         words, _, shown = fact.rstrip("\n").rpartition(": ")
         if not re.fullmatch(r"\d+ \d+ [a-z].*", shown):
+            return
+        if words == "it may be taken by":
+            begun = "".join(f"{line}\n" for line in [*edited[:place], shown])
+            want(self.program.run(["check", "--prefix"], text_of(lines) + MARK + begun.encode()), 0, b"legal\n")
             return
         if shown not in edited:
             raise Wrong("an entry is shown that is none of the log", fact)

@@ -6,7 +6,7 @@ use Rattle.task_base.specs.Entries.{entry_by as by}
 use Rattle.task_base.specs.declared.entry.Kind.TheVariants as kinds
 use Rattle.task_traits.specs.declared.traits.Behaviour.TheVariants as behaviours
 use Rattle.task_traits.specs.declared.traits.Priority.TheVariants as priorities
-use Rattle.log_context.specs.declared.fact.Fact.TheVariants.{Behaves, Limits, Priorities, Room, Single, Stands, Unposted}
+use Rattle.log_context.specs.declared.fact.Fact.TheVariants.{Behaves, Limits, MayTake, Priorities, Room, Single, Stands, Unposted}
 use Rattle.log_context.specs.declared.fact.Limit.TheVariants as limits
 use Rattle.log_context.specs.declared.fact.Role.TheVariants as roles
 use Rattle.context_text.specs.Json.{fact_object, with_context}
@@ -45,6 +45,10 @@ behaves : fact_line (Behaves 4 behaviours.BlockShutdown) ≡ codes "runner 4 has
 unfolding digits
 behaves = refl
 
+may_be_taken : fact_line (MayTake 4 (by 2 (kinds.JobTake 0 1 3))) ≡ codes "it may be taken by: 4 2 jobtake 0 1 3\n"
+unfolding digits
+may_be_taken = refl
+
 after_the_cause : with_lines (codes "nothing may be taken by seat 1\n") (Room limits.Foreground 2 2 ∷ Limits 2 1 0 ∷ [])
     ≡ codes "nothing may be taken by seat 1\nwork of the foreground: 2 of 2 run\nthe limits are: foreground 2, of which best_effort 1, background 0\n"
 unfolding digits
@@ -53,6 +57,10 @@ after_the_cause = refl
 taken_object : fact_object (Stands roles.Taken 5 (by 2 (kinds.Take 0 0 0))) ≡ codes "{\"fact\":\"taken\",\"entry\":[5,2,\"take\",0,0,0]}"
 unfolding digits
 taken_object = refl
+
+may_take_object : fact_object (MayTake 2 (by 1 (kinds.Take 0 0 0))) ≡ codes "{\"fact\":\"may_take\",\"entry\":[2,1,\"take\",0,0,0]}"
+unfolding digits
+may_take_object = refl
 
 priorities_object : fact_object (Priorities 1 priorities.BestEffort 0 priorities.UserVisible)
     ≡ codes "{\"fact\":\"priorities\",\"runner\":1,\"priority\":\"best_effort\",\"best\":0,\"higher\":\"user_visible\"}"

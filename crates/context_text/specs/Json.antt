@@ -47,9 +47,9 @@ limit_name limits.Background = codes "background"
 abbrev pub word_key : List ℕ → List ℕ → List ℕ
 word_key key word = key ++ word ++ codes "\""
 
--- the object of an entry that is this to the one that may not come
-abbrev pub entry_object : Role → ℕ → Entry → List ℕ
-entry_object role place e = word_key (codes "{\"fact\":\"") (role_name role) ++ codes ",\"entry\":" ++ json_of place e ++ codes "}"
+-- the object of an entry that is this to the one that may not come, as a word
+abbrev pub entry_object : List ℕ → ℕ → Entry → List ℕ
+entry_object name place e = word_key (codes "{\"fact\":\"") name ++ codes ",\"entry\":" ++ json_of place e ++ codes "}"
 
 -- the object of a task that is not posted
 abbrev pub unposted_object : ℕ → List ℕ
@@ -84,13 +84,14 @@ behaves_object runner behaviour =
 
 -- the object of a fact
 abbrev pub fact_object : Fact → List ℕ
-fact_object (facts.Stands role place e) = entry_object role place e
+fact_object (facts.Stands role place e) = entry_object (role_name role) place e
 fact_object (facts.Unposted task) = unposted_object task
 fact_object (facts.Single runner seat) = single_object runner seat
 fact_object (facts.Priorities runner priority best higher) = priorities_object runner priority best higher
 fact_object (facts.Limits foreground best_effort background) = limits_object foreground best_effort background
 fact_object (facts.Room limit running most) = room_object limit running most
 fact_object (facts.Behaves runner behaviour) = behaves_object runner behaviour
+fact_object (facts.MayTake place e) = entry_object (codes "may_take") place e
 
 -- the same after others
 abbrev pub next_object : Fact → List ℕ

@@ -90,6 +90,7 @@ fact_line (facts.Priorities runner priority best higher) = priorities_line runne
 fact_line (facts.Limits foreground best_effort background) = limits_line foreground best_effort background
 fact_line (facts.Room limit running most) = room_line limit running most
 fact_line (facts.Behaves runner behaviour) = behaves_line runner behaviour
+fact_line (facts.MayTake place e) = codes "it may be taken by: " ++ line_of place e
 
 -- what was told of a log, and after it a line for each fact
 abbrev pub with_lines : List ℕ → List Fact → List ℕ

@@ -46,7 +46,9 @@ fn add_object(alloc: Global, text: &mut Vec<u8>, fact: &Fact) -> Result<(), Allo
     ensures { OnOk result (text.new.items ≡ text.old.items ++ fact_object fact.now) }
 {
     match *fact {
-        Fact::Stands { role, place, entry } => add_entry(alloc, text, role, place, &entry),
+        Fact::Stands { role, place, entry } => {
+            add_entry(alloc, text, role_name(role), place, &entry)
+        }
         Fact::Unposted { task } => add_unposted(text, task),
         Fact::Single { runner, seat } => add_single(text, runner, seat),
         Fact::Priorities {
@@ -66,6 +68,7 @@ fn add_object(alloc: Global, text: &mut Vec<u8>, fact: &Fact) -> Result<(), Allo
             most,
         } => add_room(text, limit, running, most),
         Fact::Behaves { runner, behaviour } => add_behaves(text, runner, behaviour),
+        Fact::MayTake { place, entry } => add_entry(alloc, text, b"may_take", place, &entry),
     }
 }
 
@@ -136,17 +139,17 @@ fn add_behaves(text: &mut Vec<u8>, runner: RunnerId, behaviour: Behaviour) -> Re
     add_worded(text, before, runner, b",\"behaviour\":\"", word, b"\"}")
 }
 
-/// Adds the object of an entry that is this to the one that may not come. The error is out of memory.
+/// Adds the object of an entry that is this to the one that may not come, as a word. The error is out of memory.
 fn add_entry(
     alloc: Global,
     text: &mut Vec<u8>,
-    role: Role,
+    name: &[u8],
     place: Place,
     entry: &Entry,
 ) -> Result<(), AllocError>
-    ensures { OnOk result (text.new.items ≡ text.old.items ++ entry_object role place entry.now) }
+    ensures { OnOk result (text.new.items ≡ text.old.items ++ entry_object name.now place entry.now) }
 {
-    add_word(text, b"{\"fact\":\"", role_name(role))?;
+    add_word(text, b"{\"fact\":\"", name)?;
     text.extend_from_slice(b",\"entry\":")?;
     let row = json_row(alloc, u64::from(place), entry)?;
     text.extend_from_slice(row.as_bytes())?;

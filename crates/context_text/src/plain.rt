@@ -1,11 +1,12 @@
 ghost use Rattle.std.specs.Prelude.{◌≡◌, ◌++◌, flat_map, IfOk, OnOk};
+ghost use Rattle.log_model.specs.LogText.{line_of};
 ghost use Rattle.context_text.specs.Plain.{around, around_two, behaves_line, fact_line, limit_words, limits_line, priorities_line, role_words};
 ghost use Rattle.context_text.specs.Plain.{room_line, single_line, unposted_line, with_lines, worded};
 
 use itoa::Buffer;
 use log_context::{Fact, Limit, Role};
 use std::alloc::{AllocError, Global};
-use task_base::{Behaviour, Priority, RunnerId, SeatNo, TaskId};
+use task_base::{Behaviour, Entry, Place, Priority, RunnerId, SeatNo, TaskId};
 use value_words::{behaviour_word, priority_word};
 
 /// What was told of a log, and after it a line for each fact. The error is out of memory.
@@ -33,10 +34,7 @@ fn add_fact(text: &mut Vec<u8>, fact: &Fact) -> Result<(), AllocError>
     ensures { OnOk result (text.new.items ≡ text.old.items ++ fact_line fact.now) }
 {
     match *fact {
-        Fact::Stands { role, place, entry } => {
-            text.extend_from_slice(role_words(role))?;
-            text.extend_from_slice(&entry_lines::line(place, &entry))
-        }
+        Fact::Stands { role, place, entry } => add_entry(text, role_words(role), place, &entry),
         Fact::Unposted { task } => add_unposted(text, task),
         Fact::Single { runner, seat } => add_single(text, runner, seat),
         Fact::Priorities {
@@ -56,7 +54,21 @@ fn add_fact(text: &mut Vec<u8>, fact: &Fact) -> Result<(), AllocError>
             most,
         } => add_room(text, limit, running, most),
         Fact::Behaves { runner, behaviour } => add_behaves(text, runner, behaviour),
+        Fact::MayTake { place, entry } => add_entry(text, b"it may be taken by: ", place, &entry),
     }
+}
+
+/// Adds an entry's line, after these words. The error is out of memory.
+fn add_entry(
+    text: &mut Vec<u8>,
+    words: &[u8],
+    place: Place,
+    entry: &Entry,
+) -> Result<(), AllocError>
+    ensures { OnOk result (text.new.items ≡ text.old.items ++ words.now ++ line_of place entry.now) }
+{
+    text.extend_from_slice(words)?;
+    text.extend_from_slice(&entry_lines::line(place, entry))
 }
 
 /// Adds the line of a task that is not posted. The error is out of memory.

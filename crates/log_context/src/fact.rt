@@ -101,4 +101,9 @@ pub enum Fact {
         runner: RunnerId,
         behaviour: Behaviour,
     },
+    /// In its place this entry may come, by which a seat takes what waits. No past tells it: it is asked of a replay.
+    MayTake {
+        place: Place,
+        entry: Entry,
+    },
 }

@@ -1,1 +1,3 @@
+pub mod FirstTakers
 pub mod Standing
+pub mod Taking

@@ -2,16 +2,16 @@
 -- Cited by `facts_there`.
 use Rattle.std.proofs.Common.{◌≡◌, ℕ, ◌+◌, zero, suc, List, [], ◌∷◌, ◌++◌, Option, Some, None, IfSome, get_or, refl, take, ◌∙◌}
 use Rattle.std.proofs.lemmas.List.Elements.{All-append, All-cons, All-nil}
-use Rattle.std.proofs.lemmas.Option.{none-some, same_Some}
+use Rattle.std.proofs.lemmas.Option.{none-some}
 use Rattle.std.specs.Option.{option_map, option_to_list}
-use Rattle.std.specs.Prelude.{All, option_and_then, slice_get}
+use Rattle.std.specs.Prelude.{All, slice_get}
 use Rattle.task_base.specs.declared.entry.Entry.{Entry}
 use Rattle.log_context.specs.Context.{StandsIn}
 use Rattle.log_context.specs.declared.fact.Fact.{Fact}
 use Rattle.log_context.specs.declared.fact.Fact.TheVariants as facts
 use Rattle.log_context.specs.declared.fact.Role.{Role}
 use Rattle.log_context.specs.declared.fact.Role.TheVariants as roles
-use Rattle.told_context.specs.Told.{earlier, later, standing}
+use Rattle.told_context.specs.Told.{earlier, later, may_take, standing}
 
 -- what stands in the log up to an entry, that among it, stands in the whole log
 stands_on : (log : List Entry) (place p : ℕ) (e x : Entry) → slice_get log place ≡ Some e → slice_get (take place log ++ e ∷ []) p ≡ Some x
@@ -53,3 +53,8 @@ all_with log known (Some fact) all is = All-append (StandsIn log) known (fact �
 pub all_stand_on : (log : List Entry) (place : ℕ) (e : Entry) (known : List Fact) → slice_get log place ≡ Some e
     → All (StandsIn (take place log ++ e ∷ [])) known → All (StandsIn log) known
 all_stand_on log place e known there all = λ k d below. fact_stands_on log place e there (get_or known k d) (all k d below)
+
+-- of what may be taken nothing is said to stand in the log
+pub may_take_stand : (log : List Entry) (place : ℕ) (takers : List Entry) → All (StandsIn log) (may_take place takers)
+may_take_stand log place [] = All-nil (StandsIn log)
+may_take_stand log place (e ∷ takers) = All-cons (StandsIn log) (facts.MayTake place e) (may_take place takers) tt (may_take_stand log place takers)

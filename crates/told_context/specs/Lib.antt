@@ -1,1 +1,2 @@
+pub mod Takers
 pub mod Told

@@ -1,7 +1,9 @@
 //! What is to be said of an illegal log besides why: what the past and the script have to do with the entry that may not come, and
-//! where else in the log it might have come.
+//! where else in the log it might have come; and which seats may take what the driver waits for.
 #![tactic(auto)]
 
+mod takers;
 mod told;
 
+pub use takers::TAKERS_SHOWN;
 pub use told::{FACTS_SHOWN, facts_of};

@@ -1,10 +1,11 @@
-ghost use Rattle.std.specs.Prelude.{◌≡◌, ◌+◌, ◌<◌, ◌^◌, All, IfOk, IfSome, Some, length, slice_get, take};
+ghost use Rattle.std.specs.Prelude.{◌≡◌, ◌+◌, ◌<◌, ◌^◌, [], ◌∷◌, ◌++◌, All, IfOk, IfSome, OnOk, Some, length, slice_get, take};
 ghost use Rattle.script_model.specs.Laws.Sound.{IsSound};
 ghost use Rattle.next_entry.specs.Causes.{named_by};
 ghost use Rattle.log_context.specs.Context.{StandsIn, at_work};
-ghost use Rattle.told_context.specs.Told.{IsContext, IsContextAt, IsContextOf, earlier, later, standing, waits_by, waits_for};
+ghost use Rattle.told_context.specs.Told.{IsContext, IsContextAt, IsContextOf, earlier, known_at, later, may_take, standing, takers_for, waits_by, waits_for};
 ghost use Rattle.told_context.specs.declared.told.TheConstants.{FACTS_SHOWN};
 
+use crate::takers::takers_of;
 use log_context::{Fact, Role, Waits, context_at_end, context_of, push_some};
 use log_moves::{place_after, place_before};
 use next_entry::{Bar, Cause, Explanation};
@@ -83,7 +84,32 @@ fn facts_there(
     ensures stand { IfOk result (λ facts. All (StandsIn log.now) facts.items) }
 {
     let past = &log[..place];
-    let known = context_of(
+    let known = known_at(alloc, script, past, place, cause, entry)?;
+    let before = place_before(alloc, script, past, entry)?;
+    let after = place_after(alloc, script, past, entry, &log[place + 1..])?;
+    let mut facts = first_of(alloc, &known, FACTS_SHOWN - 2)?;
+    push_some(&mut facts, earlier(log, before))?;
+    push_some(&mut facts, later(log, place, after))?;
+    Ok(facts)
+}
+
+/// What the past and the script have to do with this entry, which may not come after it at the place, and by which entries what is
+/// waited for may be taken there. The error is out of memory.
+fn known_at(
+    alloc: Global,
+    script: &Script,
+    past: &[Entry],
+    place: usize,
+    cause: &Cause,
+    entry: Entry,
+) -> Result<Vec<Fact>, AllocError>
+    requires plan { IsSound script.now }
+    requires few { length past.now < 2 ^ 32 }
+    requires place { place < 2 ^ 32 }
+    ensures exact { IfOk result (λ known. known.items ≡ known_at script.now past.now place cause.now entry) }
+    ensures stand { IfOk result (λ known. All (StandsIn (past.now ++ entry ∷ [])) known.items) }
+{
+    let mut known = context_of(
         alloc,
         script,
         past,
@@ -91,12 +117,40 @@ fn facts_there(
         named_by(cause),
         waits_for(cause),
     )?;
-    let before = place_before(alloc, script, past, entry)?;
-    let after = place_after(alloc, script, past, entry, &log[place + 1..])?;
-    let mut facts = first_of(alloc, &known, FACTS_SHOWN - 2)?;
-    push_some(&mut facts, earlier(log, before))?;
-    push_some(&mut facts, later(log, place, after))?;
-    Ok(facts)
+    let takers = takers_for(alloc, script, past, cause)?;
+    add_takers(&mut known, place, &takers)?;
+    Ok(known)
+}
+
+/// The entries by which seats may take what the driver waits for, where the cause is that something may be taken. The error is
+/// out of memory.
+fn takers_for(
+    alloc: Global,
+    script: &Script,
+    past: &[Entry],
+    cause: &Cause,
+) -> Result<Vec<Entry>, AllocError>
+    requires { IsSound script.now }
+    ensures { IfOk result (λ takers. takers.items ≡ takers_for script.now past.now cause.now) }
+{
+    match *cause {
+        Cause::NotIdle { ready: true, .. } => takers_of(alloc, script, past),
+        _ => Ok(Vec::new(alloc)),
+    }
+}
+
+/// Adds that in place of the entry at a place these may come. The error is out of memory.
+fn add_takers(facts: &mut Vec<Fact>, place: usize, takers: &[Entry]) -> Result<(), AllocError>
+    requires { place < 2 ^ 32 }
+    ensures { OnOk result (facts.new.items ≡ facts.old.items ++ may_take place takers.now) }
+{
+    for taker in takers {
+        facts.push(Fact::MayTake {
+            place: place as u32,
+            entry: *taker,
+        })?;
+    }
+    Ok(())
 }
 
 /// The first facts of a list, at most this many. The error is out of memory.
