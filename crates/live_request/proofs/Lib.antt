@@ -1,0 +1,5 @@
+pub mod Actions
+pub mod Answering
+pub mod Asking
+pub mod Hearing
+pub mod Worked
