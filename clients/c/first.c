@@ -1,0 +1,43 @@
+/* One environment, one task, one shutdown, and what each request is answered. */
+#include "taskenv.h"
+
+#include <inttypes.h>
+#include <stdio.h>
+#include <stdlib.h>
+#include <string.h>
+
+static const char plan[] = "workers 2\nrunner 0 sequenced user_visible block\ntask 0 add 1\ntask 1 add 1\n";
+
+/* Asks, by the thread of the call's seat, and prints the answer. */
+static void ask(unsigned char *core, const char *what, uint32_t call, uint32_t seat)
+{
+    struct live_request request = {call, 0, seat, seat, LIVE_NONE, 0, 0, 0, 0};
+    struct live_answer answer;
+    live_call(core, &request, &answer);
+    printf("%-8s status %" PRIu32 " kind %" PRIu32 " ok %" PRIu32 " value %" PRIu64, what, answer.status, answer.kind, answer.ok, answer.value);
+    if (answer.task != LIVE_NONE)
+        printf(" task %" PRIu32, answer.task);
+    printf("%s\n", answer.wake == LIVE_EVERYONE ? ", wakes everyone" : answer.wake == LIVE_ONE ? ", wakes one" : "");
+}
+
+int main(void)
+{
+    unsigned char *core = aligned_alloc(16, (live_size() + 15) / 16 * 16);
+    struct live_opened opened;
+    if (!core || live_open(core, (const unsigned char *)plan, strlen(plan), &opened) != LIVE_OPENED)
+        return 1;
+    ask(core, "post", LIVE_POST, 0);
+    ask(core, "post", LIVE_POST, 2);
+    ask(core, "take", LIVE_TAKE, 1);
+    ask(core, "take", LIVE_TAKE, 2);
+    ask(core, "end", LIVE_END, 1);
+    ask(core, "shutdown", LIVE_SHUTDOWN, 0);
+    ask(core, "done", LIVE_DONE, 0);
+    ask(core, "take", LIVE_TAKE, 1);
+    ask(core, "end", LIVE_END, 1);
+    ask(core, "done", LIVE_DONE, 0);
+    ask(core, "take", LIVE_TAKE, 1);
+    live_close(core);
+    free(core);
+    return 0;
+}
