@@ -1,12 +1,14 @@
-"""Builds the program: with its proof, by `rt`, or without it, of a copy of its sources, to be kept.
+"""Builds the program: with its proof, by `rt`, or without it, of a copy of its sources, to be kept; and the library that C links.
 
 `rt try` writes the whole program as one LLVM module, of which the kit's compiler and linker make the program. Where another kit
 leaves no such file, or lacks one of these tools, an empty file is kept in its place, and `rt try` builds and runs the program at each
 call."""
 from __future__ import annotations
 
+import glob
 import os
 import re
+import shlex
 import shutil
 
 import programs
@@ -19,6 +21,8 @@ KEPT = 8
 # What a build takes on four processors: without a proof in seconds, with it in minutes.
 SECONDS = 120
 MINUTES = 40
+LIBRARY_MINUTES = 15
+ARCHIVE = "libtaskenv.a"
 TARGET = "x86_64-unknown-linux-gnu"
 # What is to be done where nothing can be written.
 ELSEWHERE = "set XDG_CACHE_HOME to a folder that can be written"
@@ -140,12 +144,45 @@ def prove(home: str) -> None:
                 os.remove(file)
 
 
-def _proved_so_far(sizes: dict[str, int], work: Work) -> tuple[int, str]:
+def library(home: str, folder: str) -> None:
+    """Proves all that C and C++ link, and writes it to a folder: one archive that needs no other, and the headers."""
+    rt, made, sizes = _rt(), os.path.join(home, "crates/live_c/out"), programs.sizes(home, "live_c")
+    kit, folder = os.path.dirname(os.path.dirname(os.path.realpath(rt))), os.path.abspath(folder or os.path.join(home, "out/library"))
+    with Work([made], COPIED) as work:
+        say(f"proving the library, {len(sizes)} crates: some {LIBRARY_MINUTES} minutes on four processors, if none of them is proved yet")
+        work.begin(lambda: _proved_so_far(sizes, work, LIBRARY_MINUTES))
+        for command in [rt, "all", "check", "--jobs", str(_lanes())], [rt, "lib"]:
+            if work.call(command, os.path.join(home, "crates/live_c")) != 0:
+                raise work.failure()
+        os.makedirs(folder, exist_ok=True)
+        archive = os.path.join(folder, ARCHIVE)
+        _merge(work, kit, [os.path.join(made, "liblive_c.a"), f"{kit}/c/liblibc_c.a"], archive)
+        headers = sorted(glob.glob(os.path.join(glob.escape(home), "clients/*/*.h")) + glob.glob(os.path.join(glob.escape(home), "clients/*/*.hpp")))
+        for header in headers:
+            shutil.copyfile(header, os.path.join(folder, os.path.basename(header)))
+    say(f"{archive} needs no other archive: cc -I {shlex.quote(folder)} PROGRAM.c {shlex.quote(archive)}")
+
+
+def _merge(work: Work, kit: str, archives: list[str], merged: str) -> None:
+    """Makes one archive of some. It is there once it is whole."""
+    # What the archiver is told has no room for signs that a path may have, so it works on links of plain names.
+    for place, archive in enumerate(archives):
+        os.symlink(archive, work.path(f"{place}.a"))
+    with open(work.path("merge"), "w+", encoding="ascii") as told:
+        told.write("create whole.a\n" + "".join(f"addlib {place}.a\n" for place in range(len(archives))) + "save\nend\n")
+        told.seek(0)
+        if work.call([f"{kit}/toolchain/bin/llvm-ar", "-M"], work.path("."), streams=(told, None)) != 0:
+            raise work.failure()
+    shutil.copyfile(work.path("whole.a"), merged + ".new")
+    os.replace(merged + ".new", merged)
+
+
+def _proved_so_far(sizes: dict[str, int], work: Work, all_minutes: int = MINUTES) -> tuple[int, str]:
     """How many crates are proved, and that in words. How long the rest takes is told from the sizes of their sources."""
     done = sizes.keys() & set(re.findall(r"(?m)^== (\w+)$", work.log().decode("utf-8", "replace")))
     share = sum(sizes[crate] for crate in done) / sum(sizes.values())
     minutes = work.seconds() / 60
-    left = minutes * (1 - share) / share if share else MINUTES
+    left = minutes * (1 - share) / share if share else all_minutes
     return len(done), f"{len(done)} of {len(sizes)} crates proved after {minutes:.0f} min, some {left:.0f} min left"
 
 

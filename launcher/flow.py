@@ -38,6 +38,8 @@ def main(launcher: str, arguments: list[str], home: str) -> int:
 
 
 def _answer(request: words.Request, launcher: str, home: str) -> int:
+    if request.library is not None:
+        return _library(request, home)
     is_alone = not request.words
     if request.prove and (is_alone or not request.fault):
         _building("prove", home)
@@ -64,6 +66,16 @@ def _answer(request: words.Request, launcher: str, home: str) -> int:
         # What is said behind a run changes nothing of it.
         say(f"no more can be said of it: {type(error).__name__}: {error}")
     return ran.status
+
+
+def _library(request: words.Request, home: str) -> int:
+    """Makes the library, which takes no program."""
+    if request.fault:
+        running.write(2, b"bad words\n")
+        say(words.bad_words_line(request))
+        return BAD_WORDS
+    _building("library", home, request.library)
+    return 0
 
 
 def _judge(program: Program, request: words.Request, launcher: str, _home: str) -> int:

@@ -50,9 +50,9 @@ def newest(home: str) -> int:
     return max(listed, *(entry.stat().st_mtime_ns for files in read for entry in files))
 
 
-def sizes(home: str) -> dict[str, int]:
-    """The crates that are proved, lowest first, each with the size of its sources."""
-    return {crate: sum(entry.stat().st_size for entry in _files(home, crate, "src")) for crate in crates(home)}
+def sizes(home: str, top: str = "taskenv") -> dict[str, int]:
+    """The crates that are proved for one of them, lowest first, each with the size of its sources."""
+    return {crate: sum(entry.stat().st_size for entry in _files(home, crate, "src")) for crate in crates(home, top)}
 
 
 def folders(home: str) -> list[str]:
@@ -82,18 +82,20 @@ def name_of(found: dict[str, bytes]) -> str:
     return f"taskenv-{total.hexdigest()}"
 
 
-def crates(home: str) -> dict[str, str]:
-    """The crates that the program is made of, lowest first, each with its line in `crates.txt`."""
-    needed, found, file = {"taskenv"}, {}, os.path.join(home, "crates.txt")
+def crates(home: str, top: str = "taskenv") -> dict[str, str]:
+    """The crates that one is made of, by default the program, lowest first, each with its line in `crates.txt`."""
+    needed, found, file = {top}, {}, os.path.join(home, "crates.txt")
     with open(file, encoding="utf-8") as it:
         lines = it.readlines()
     for line in reversed(lines):
-        name, _, below = line.partition(":")
+        head, _, below = line.partition(":")
+        # A static library says so after its name.
+        name = head.partition(" ")[0]
         if name in needed:
             needed.update(below.split())
             found[name] = line
     if not found:
-        raise CannotBuild(f"nothing was run, since the repository is not whole: {file} has no crate taskenv")
+        raise CannotBuild(f"nothing was run, since the repository is not whole: {file} has no crate {top}")
     return dict(reversed(list(found.items())))
 
 

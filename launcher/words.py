@@ -64,6 +64,9 @@ LAUNCHER = {
     "--unproved": "runs the program that is built without a proof, also where the proved one is there",
     "--time": "writes the time of the mode to standard error",
 }
+# What it takes alone.
+LIBRARY = "--library"
+LIBRARY_SAYS = "proves what C and C++ link, and writes the archive and its headers to DIR, by default out/library; alone"
 HELP = ("-h", "--help")
 ASKS_VERSION = ("-V", "--version")
 
@@ -117,10 +120,11 @@ logs of NAME.task that are called NAME.log, or NAME, one of the signs . - _, and
 MOST_LOOKED_AT = 1000
 STATUSES = "2 bad words   4 read fault   5 write fault   6 no memory   7 too large   125 not built   130 the build was stopped"
 
-# What the words ask for: a text to answer with, what they ask of the launcher, the mode if one is named, the words that the program
-# gets, the files after the mode, what is wrong, if anything is, and of the mode judge its command and its options with their values.
+# What the words ask for: a text to answer with, what they ask of the launcher, the folder of the library if it is asked for (empty where
+# none is named), the mode if one is named, the words that the program gets, the files after the mode, what is wrong, if anything is, and
+# of the mode judge its command and its options with their values.
 # Where something is wrong the program gets all words, and refuses them.
-Request = namedtuple("Request", "answer prove unproved timed mode words files fault command options")
+Request = namedtuple("Request", "answer prove unproved timed library mode words files fault command options")
 
 # A part of the command line: its sort, the words that it is, and of an option its name and its value, if it has one.
 Part = namedtuple("Part", "sort words name value")
@@ -138,7 +142,8 @@ def read(arguments: list[str], launcher_name: str, home: str) -> Request:
     answer = _answer_to(parts, mode, launcher_name, home)
     command = [part.name for part in parts if part.sort == "command"]
     options = {part.name: part.value for part in parts if part.sort == "option"}
-    return Request(answer, *(name in given for name in LAUNCHER), mode, words, files, fault, command, options)
+    library = next((part.value for part in parts if part.sort == "library"), None)
+    return Request(answer, *(name in given for name in LAUNCHER), library, mode, words, files, fault, command, options)
 
 
 def bad_words_line(request: Request) -> str:
@@ -165,6 +170,9 @@ def _parts_of(arguments: list[str]) -> Iterator[Part]:
             has_ended = True
         elif word in LAUNCHER and mode is None:
             yield Part("launcher", [word], word, None)
+        elif word.partition("=")[0] == LIBRARY and mode is None:
+            rest = [words.pop(0)] if word == LIBRARY and words and not _is_option(words[0]) else []
+            yield Part("library", [word, *rest], LIBRARY, rest[0] if rest else word.partition("=")[2])
         else:
             name, equals, value = word.partition("=")
             is_apart = not equals and name in OPTIONS and OPTIONS[name].value and words and not _is_option(words[0])
@@ -255,7 +263,7 @@ def _help(places: dict[str, str]) -> str:
 Modes
 {_table((_usage(name, True), mode.says) for name, mode in MODES.items())}
 Words of the launcher, before the mode
-{_table({**LAUNCHER, **others}.items())}
+{_table({**LAUNCHER, f"{LIBRARY} [DIR]": LIBRARY_SAYS, **others}.items())}
 Exit statuses
   0 done   1 check, explain, trace, picture, judge: a log is wrong; arrange: there is no order; lint: the script is bad
   3 the script is bad   8 arrange: none was found so far
@@ -272,6 +280,9 @@ docs/formats.md has the script, the log and the rest.
 
 def _faults_of(parts: list[Part], mode: str | None) -> Iterator[str]:
     """What is wrong with the words, the first thing first."""
+    if any(part.sort == "library" for part in parts):
+        yield from (f"{LIBRARY} stands alone, so without {it}" for it in _words_beside_library(parts))
+        return
     named = [part.name for part in parts if part.sort in ("mode", "file")]
     named = named[1:] if named[:1] == ["help"] else named
     if named and not mode:
@@ -291,6 +302,12 @@ def _faults_of(parts: list[Part], mode: str | None) -> Iterator[str]:
         yield from _faults_of_judge(parts, named[1:], seen)
     else:
         yield from _faults_of_files(named[1:], mode, files_of(mode, seen))
+
+
+def _words_beside_library(parts: list[Part]) -> list[str]:
+    """All words but the first that asks for the library."""
+    place = next(place for place, part in enumerate(parts) if part.sort == "library")
+    return [part.words[0] for part in parts[:place] + parts[place + 1 :]]
 
 
 def _faults_of_judge(parts: list[Part], scripts: list[str], seen: set[str]) -> Iterator[str]:
@@ -320,7 +337,7 @@ def _any_of(names: Iterable[str], joined_by: str = "or") -> str:
 def _fault_of_mode(word: str) -> str:
     if os.path.isfile(word):
         return f"{word} is a file: a mode stands before it, {_any_of(MODES)}"
-    near = nearest(word, [*MODES, *LAUNCHER, HELP[-1], ASKS_VERSION[-1]])
+    near = nearest(word, [*MODES, *LAUNCHER, LIBRARY, HELP[-1], ASKS_VERSION[-1]])
     return f'"{word}" is no mode: ' + (f"did you mean {near}?" if near else _any_of(MODES))
 
 
@@ -331,10 +348,10 @@ def _taken_by(mode: str) -> str:
 
 def _faults_of_option(part: Part, mode: str | None, seen: set[str]) -> Iterator[str]:
     name, value, taken = part.name, part.value, MODES[mode].options if mode else OPTIONS
-    if name in LAUNCHER and value is None:
+    if name in (*LAUNCHER, LIBRARY) and value is None:
         yield f"{name} stands before the mode: {name} {mode}"
-    elif name not in (*OPTIONS, *LAUNCHER, *HELP, *ASKS_VERSION):
-        near = nearest(name, [*taken, *LAUNCHER, HELP[-1], ASKS_VERSION[-1]])
+    elif name not in (*OPTIONS, *LAUNCHER, LIBRARY, *HELP, *ASKS_VERSION):
+        near = nearest(name, [*taken, *LAUNCHER, LIBRARY, HELP[-1], ASKS_VERSION[-1]])
         yield f"{name} is no option: " + (f"did you mean {near}?" if near else _taken_by(mode) if mode else "--help shows them")
     elif name in OPTIONS and name not in taken:
         yield f"{_taken_by(mode)}, and {'' if taken else 'so '}no {name}"

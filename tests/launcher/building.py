@@ -63,6 +63,23 @@ def case_not_proved(room: str, home: str, program: str) -> bool:
     return called.status == 125 and "crates/taskenv/out/build.log" in called.lines[-1] and not os.path.exists(proved)
 
 
+def case_library(room: str, home: str, program: str) -> bool:
+    """--library proves what C links, and writes one archive with its headers; it stands alone"""
+    clone = Clone(room, home, program)
+    clone.write("crates.txt", "low:\nlive_c staticlib: low\n")
+    clone.write("clients/c/taskenv.h", "a header")
+    made, named = clone.call("--library"), clone.call("--library", os.path.join(room, "made of it"))
+    folders = os.path.join(clone.folder, "out/library"), os.path.join(room, "made of it")
+    are_there = all(sorted(os.listdir(folder)) == ["libtaskenv.a", "taskenv.h"] for folder in folders)
+    with open(os.path.join(folders[1], "libtaskenv.a"), encoding="utf-8") as it:
+        is_whole = it.read() == "the environment\nthe heap\n"
+    is_said = made.lines[0].startswith("taskenv: proving the library, 2 crates") and "libtaskenv.a needs no other archive" in named.lines[-1]
+    refused = clone.call("--prove", "--library")
+    is_alone = refused.status == 2 and "stands alone" in refused.lines[-1] and len(clone.calls()) == 4
+    clone.does("fails")
+    return (made.status, named.status) == (0, 0) and are_there and is_whole and is_said and is_alone and clone.call("--library").status == 125
+
+
 def case_no_rt(room: str, home: str, program: str) -> bool:
     """where no rt is on the path it is status 125"""
     clone = Clone(room, home, program)
