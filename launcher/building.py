@@ -157,8 +157,7 @@ def library(home: str, folder: str) -> None:
         os.makedirs(folder, exist_ok=True)
         archive = os.path.join(folder, ARCHIVE)
         _merge(work, kit, [os.path.join(made, "liblive_c.a"), f"{kit}/c/liblibc_c.a"], archive)
-        headers = sorted(glob.glob(os.path.join(glob.escape(home), "clients/*/*.h")) + glob.glob(os.path.join(glob.escape(home), "clients/*/*.hpp")))
-        for header in headers:
+        for header in glob.glob(os.path.join(glob.escape(home), "clients/*/*.h*")):
             shutil.copyfile(header, os.path.join(folder, os.path.basename(header)))
     say(f"{archive} needs no other archive: cc -I {shlex.quote(folder)} PROGRAM.c {shlex.quote(archive)}")
 

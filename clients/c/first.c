@@ -14,7 +14,8 @@ static void ask(unsigned char *core, const char *what, uint32_t call, uint32_t s
     struct live_request request = {call, 0, seat, seat, LIVE_NONE, 0, 0, 0, 0};
     struct live_answer answer;
     live_call(core, &request, &answer);
-    printf("%-8s status %" PRIu32 " kind %" PRIu32 " ok %" PRIu32 " value %" PRIu64, what, answer.status, answer.kind, answer.ok, answer.value);
+    printf("%-8s status %" PRIu32 " kind %" PRIu32, what, answer.status, answer.kind);
+    printf(" ok %" PRIu32 " value %" PRIu64, answer.ok, answer.value);
     if (answer.task != LIVE_NONE)
         printf(" task %" PRIu32, answer.task);
     printf("%s\n", answer.wake == LIVE_EVERYONE ? ", wakes everyone" : answer.wake == LIVE_ONE ? ", wakes one" : "");
