@@ -158,7 +158,7 @@ struct live_request {
                        and done are waited for; the driver rests for the last one that it asked to */
     uint32_t by;    /* the seat whose thread makes the call, which is awake from then on; a rest is the call's own seat's */
     uint32_t seat;  /* the call's seat, of post, main, take, end, enter, leave, job_step: else it is the driver's */
-    uint32_t task;  /* post, main: LIVE_NONE; a task that is named is a misuse so far */
+    uint32_t task;  /* post, main: LIVE_NONE, and the core hands out a task; or the task that is posted, which was not before */
     uint32_t place; /* the runner, queue or job */
     uint32_t word;  /* the scope, policy, priority or fence; the number of a voter or a class */
     uint32_t on;    /* of a vote: 1 is on, 0 is off */

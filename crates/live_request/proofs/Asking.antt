@@ -1,6 +1,7 @@
 -- The request for a call asks it.
 -- Cited by `laws.rt`.
-use Rattle.std.proofs.Common.{◌≡◌, ℕ, true, false, refl, Some}
+use Rattle.std.proofs.Common.{◌≡◌, ℕ, true, false, refl, Some, None}
+use Rattle.std.proofs.lemmas.Bool.{not-true}
 use Rattle.task_traits.specs.declared.traits.Priority.TheVariants.{BestEffort, UserVisible, UserBlocking}
 use Rattle.task_base.specs.declared.policy.Policy.TheVariants.{All, Foreground, Nothing}
 use Rattle.task_base.specs.declared.script.FenceAt.TheVariants.{Now, Start}
@@ -12,8 +13,10 @@ use Rattle.live_request.specs.Requests.{call_of}
 
 -- its call
 pub call_asked : (by_seat : ℕ) (call : Call) → is_within call ≡ true → call_of (request_for by_seat call) ≡ Some call
-call_asked by_seat (calls.Post seat runner delay) within = refl
-call_asked by_seat (calls.Main seat queue delay) within = refl
+call_asked by_seat (calls.Post seat None runner delay) within = refl
+call_asked by_seat (calls.Post seat (Some task) runner delay) within = rw (not-true _ within) refl
+call_asked by_seat (calls.Main seat None queue delay) within = refl
+call_asked by_seat (calls.Main seat (Some task) queue delay) within = rw (not-true _ within) refl
 call_asked by_seat (calls.Tick reading) within = refl
 call_asked by_seat (calls.Take seat) within = refl
 call_asked by_seat (calls.End seat) within = refl

@@ -1,4 +1,3 @@
-pub mod Actions
 pub mod Answering
 pub mod Asking
 pub mod Hearing

@@ -16,8 +16,12 @@ use Rattle.live_request.specs.declared.request.Ask.TheVariants as asks
 -- ---- what is asked
 
 asks_post : ask_of (record { call = 1; rests = 0; by = 1; seat = 2; task = 4294967295; place = 3; word = 7; on = 7; time = 9 }) ≡ Some (asks.Make 1
-    (calls.Post 2 3 9))
+    (calls.Post 2 None 3 9))
 asks_post = refl
+
+asks_named : ask_of (record { call = 2; rests = 0; by = 1; seat = 2; task = 0; place = 3; word = 7; on = 7; time = 9 }) ≡ Some (asks.Make 1
+    (calls.Main 2 (Some 0) 3 9))
+asks_named = refl
 
 asks_take : ask_of (record { call = 4; rests = 0; by = 1; seat = 1; task = 7; place = 7; word = 7; on = 7; time = 7 }) ≡ Some (asks.Make 1 (calls.Take 1))
 asks_take = refl
@@ -43,9 +47,6 @@ beyond_calls = refl
 
 beyond_rests : ask_of (record { call = 23; rests = 2; by = 0; seat = 0; task = 4294967295; place = 0; word = 0; on = 0; time = 0 }) ≡ None
 beyond_rests = refl
-
-named_task : ask_of (record { call = 1; rests = 0; by = 0; seat = 0; task = 0; place = 0; word = 0; on = 0; time = 0 }) ≡ None
-named_task = refl
 
 beyond_policies : ask_of (record { call = 8; rests = 0; by = 0; seat = 0; task = 4294967295; place = 0; word = 3; on = 0; time = 0 }) ≡ None
 beyond_policies = refl

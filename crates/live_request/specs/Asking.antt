@@ -1,13 +1,15 @@
 -- A request for each call.
-use Rattle.std.specs.Prelude.{ℕ, Bool, true, nat_le}
+use Rattle.std.specs.Prelude.{ℕ, ◌==◌, Bool, true, not, nat_le, Option, Some, None}
 use Rattle.live_core.specs.declared.call.Call.{Call}
 use Rattle.live_core.specs.declared.call.Call.TheVariants as calls
 use Rattle.live_request.specs.Named.{code_of_fence, code_of_flag, code_of_policy, code_of_priority, code_of_scope}
 use Rattle.live_request.specs.declared.codes.TheConstants as codes
 use Rattle.live_request.specs.declared.request.Request.{Request}
 
--- the numbers of the call that a core keeps in 8 bits have no more
+-- the numbers of the call that a core keeps in 8 bits have no more, and no task has the number that names none
 abbrev pub is_within : Call → Bool
+is_within (calls.Post seat (Some task) runner delay) = not (task == codes.NO_TASK)
+is_within (calls.Main seat (Some task) queue delay) = not (task == codes.NO_TASK)
 is_within (calls.Vote queue voter on) = nat_le voter 255
 is_within (calls.Rank queue class) = nat_le class 255
 is_within call = true
@@ -16,10 +18,17 @@ is_within call = true
 abbrev pub asking : ℕ → ℕ → Request
 asking by_seat call = record { call = call; rests = 0; by = by_seat; seat = 0; task = codes.NO_TASK; place = 0; word = 0; on = 0; time = 0 }
 
+-- the task that is named, or the number that names none
+abbrev pub code_of_named : Option ℕ → ℕ
+code_of_named (Some task) = task
+code_of_named None = codes.NO_TASK
+
 -- a request for this call, by the thread of this seat
 abbrev pub request_for : ℕ → Call → Request
-request_for by_seat (calls.Post seat runner delay) = record (asking by_seat codes.POST) { seat = seat; place = runner; time = delay }
-request_for by_seat (calls.Main seat queue delay) = record (asking by_seat codes.MAIN) { seat = seat; place = queue; time = delay }
+request_for by_seat (calls.Post seat named runner delay) =
+    record (asking by_seat codes.POST) { seat = seat; task = code_of_named named; place = runner; time = delay }
+request_for by_seat (calls.Main seat named queue delay) =
+    record (asking by_seat codes.MAIN) { seat = seat; task = code_of_named named; place = queue; time = delay }
 request_for by_seat (calls.Tick reading) = record (asking by_seat codes.TICK) { time = reading }
 request_for by_seat (calls.Take seat) = record (asking by_seat codes.TAKE) { seat = seat }
 request_for by_seat (calls.End seat) = record (asking by_seat codes.END) { seat = seat }

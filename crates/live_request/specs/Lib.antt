@@ -6,6 +6,5 @@ pub mod Told
 pub mod Heard
 pub mod StandsFor
 pub mod Answers
-pub mod ActionLine
 pub mod Opening
 pub mod Slots

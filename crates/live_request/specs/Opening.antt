@@ -5,7 +5,7 @@ use Rattle.task_base.specs.declared.limits.TheConstants.{MOST_BYTES}
 use Rattle.script_model.specs.Grammar.{Reads, first_fault}
 use Rattle.live_core.specs.Opening.{guest_runner}
 use Rattle.live_roster.specs.declared.note.Note.TheVariants as notes_of
-use Rattle.live_request.specs.ActionLine.{action_line}
+use Rattle.plan_text.specs.ActionLine.{action_line}
 use Rattle.live_request.specs.StandsFor.{StandsFor}
 use Rattle.live_request.specs.declared.codes.TheConstants as codes
 use Rattle.live_request.specs.declared.live.Live.{Live}

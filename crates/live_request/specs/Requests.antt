@@ -1,5 +1,5 @@
 -- Which call a request makes.
-use Rattle.std.specs.Prelude.{ℕ, ◌==◌, not, nat_le, if◌then◌else◌, Option, Some, None, option_and_then}
+use Rattle.std.specs.Prelude.{ℕ, ◌==◌, nat_le, if◌then◌else◌, Option, Some, None, option_and_then}
 use Rattle.std.specs.Option.{option_map, option_or}
 use Rattle.live_core.specs.declared.call.Call.{Call}
 use Rattle.live_core.specs.declared.call.Call.TheVariants as calls
@@ -13,13 +13,16 @@ use Rattle.live_request.specs.declared.request.Request.{Request}
 abbrev pub byte_of : ℕ → Option ℕ
 byte_of number = if nat_le number 255 then Some number else None
 
--- a post, which names no task: the environment hands one out
+-- the task that a post names, if it names one
+abbrev pub named_by : Request → Option ℕ
+named_by r = if r.task == codes.NO_TASK then None else Some r.task
+
+-- a post, of the task that it names, or else of one that the environment hands out
 abbrev pub post_call : Request → Option Call
 post_call r =
-    if not (r.task == codes.NO_TASK) then None
-    else (if r.call == codes.POST then Some (calls.Post r.seat r.place r.time)
-    else (if r.call == codes.MAIN then Some (calls.Main r.seat r.place r.time)
-    else None))
+    if r.call == codes.POST then Some (calls.Post r.seat (named_by r) r.place r.time)
+    else (if r.call == codes.MAIN then Some (calls.Main r.seat (named_by r) r.place r.time)
+    else None)
 
 -- a call that says its seat, beside the posts
 abbrev pub seat_call : Request → Option Call

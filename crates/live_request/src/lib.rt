@@ -4,7 +4,6 @@
 //! request that makes none is a misuse, which changes nothing.
 #![tactic(auto)]
 
-mod action_line;
 mod answer;
 pub mod codes;
 mod laws;

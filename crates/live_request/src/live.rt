@@ -5,13 +5,13 @@ ghost use Rattle.live_request.specs.Answers.{IsAnswered};
 ghost use Rattle.live_request.specs.Opening.{ComesOf};
 ghost use Rattle.live_request.specs.StandsFor.{StandsFor};
 
-use crate::action_line::action_line;
 use crate::answer::Answer;
 use crate::codes;
 use crate::opened::Unopened;
 use crate::request::{Ask, Request};
 use live_core::OpenError;
 use live_roster::LiveRoster;
+use plan_text::action_line;
 use std::alloc::Global;
 use task_base::{MOST_BYTES, Script};
 use task_script::{ScriptFault, read_script};

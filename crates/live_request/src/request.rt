@@ -1,11 +1,11 @@
 ghost use Rattle.std.specs.Prelude.{◌≡◌};
-ghost use Rattle.live_request.specs.Requests.{ask_of, call_of, driver_call, job_call, post_call, queue_call, seat_call};
+ghost use Rattle.live_request.specs.Requests.{ask_of, call_of, driver_call, job_call, named_by, post_call, queue_call, seat_call};
 
 use crate::codes;
 use crate::named::{fence_of, flag_of, policy_of, priority_of, scope_of};
 use live_core::Call;
 use std::convert::TryFrom;
-use task_base::SeatNo;
+use task_base::{SeatNo, TaskId};
 
 /// What C asks of a live environment. `codes` has the numbers.
 #[repr(C)]
@@ -65,22 +65,33 @@ impl Request {
             .or(self.driver_call())
     }
 
-    // A post, which names no task: the environment hands one out.
+    // The task that a post names, if it names one.
+    fn named(&self) -> Option<TaskId>
+        ensures { result ≡ named_by self.now }
+    {
+        if self.task == codes::NO_TASK {
+            None
+        } else {
+            Some(self.task)
+        }
+    }
+
+    // A post, of the task that it names, or else of one that the environment hands out.
     fn post_call(&self) -> Option<Call>
         ensures { result ≡ post_call self.now }
     {
-        if self.task != codes::NO_TASK {
-            return None;
-        }
-        let (seat, place, delay) = (self.seat, self.place, self.time);
+        let (seat, task) = (self.seat, self.named());
+        let (place, delay) = (self.place, self.time);
         match self.call {
             codes::POST => Some(Call::Post {
                 seat,
+                task,
                 runner: place,
                 delay,
             }),
             codes::MAIN => Some(Call::Main {
                 seat,
+                task,
                 queue: place,
                 delay,
             }),

@@ -1,7 +1,7 @@
 use Rattle.std.proofs.Common.{◌+◌, sym, ◌∙◌, ap, arith}
 use Rattle.std.specs.Option.{option_copied}
-use Rattle.live_request.proofs.Actions.{first_found, first_later, first_none, one_fewer}
-use Rattle.live_request.proofs.action_line.action_line.Goals as goal
+use Rattle.plan_text.proofs.Lines.{first_found, first_later, first_none, one_fewer}
+use Rattle.plan_text.proofs.actions.action_line.Goals as goal
 
 pub returns-then-is_action : goal.returns-then-is_action
 returns-then-is_action c =

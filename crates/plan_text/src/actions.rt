@@ -1,5 +1,5 @@
 ghost use Rattle.std.specs.Prelude.{◌≡◌, ◌≤◌, length};
-ghost use Rattle.live_request.specs.ActionLine.{action_line, is_action, is_declaring, says_nothing};
+ghost use Rattle.plan_text.specs.ActionLine.{action_line, is_action, is_declaring, says_nothing};
 
 use line_places::{Lines, command_of};
 

@@ -2,7 +2,7 @@
 -- Cited by `action_line`.
 use Rattle.std.proofs.Common.{◌≡◌, ℕ, ◌+◌, true, false, cond, List, [], ◌∷◌, length, drop, refl, ap, ◌∙◌, Some, None, arith}
 use Rattle.std.specs.Prelude.{slice_get}
-use Rattle.live_request.specs.ActionLine.{first_action, is_action}
+use Rattle.plan_text.specs.ActionLine.{first_action, is_action}
 
 -- where the first line is an action, its number
 pub first_found : (number : ℕ) (lines : List (List ℕ)) (line : List ℕ) → slice_get lines 0 ≡ Some line → is_action line ≡ true → first_action number lines ≡

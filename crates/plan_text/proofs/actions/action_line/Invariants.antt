@@ -1,6 +1,6 @@
 use Rattle.std.proofs.Common.{◌≡◌, ◌≤◌, length, ◌+◌}
-use Rattle.live_request.specs.ActionLine.{action_line, first_action}
-use Rattle.live_request.proofs.action_line.action_line.Given as goal
+use Rattle.plan_text.specs.ActionLine.{action_line, first_action}
+use Rattle.plan_text.proofs.actions.action_line.Given as goal
 
 abbrev pub invariant-loop-line : goal.invariant-loop-line
 invariant-loop-line l = (first_action (l.number + 1) l.lines ≡ action_line l.text) × (l.number + length l.lines ≤ length l.text + 1)

@@ -1,0 +1,2 @@
+-- Which lines of a text are actions.
+pub mod ActionLine
