@@ -1,0 +1,139 @@
+// The words of the client in C++: traits, options, and closures. taskenv.hpp is what programs include.
+#pragma once
+#include "taskenv.h"
+
+#include <algorithm>
+#include <atomic>
+#include <chrono>
+#include <cstddef>
+#include <cstdint>
+#include <exception>
+#include <functional>
+#include <memory>
+#include <stdexcept>
+#include <thread>
+#include <type_traits>
+#include <utility>
+#include <vector>
+
+namespace taskenv {
+
+using Microseconds = std::chrono::microseconds;
+
+enum class Priority : std::uint32_t { best_effort = LIVE_BEST_EFFORT, user_visible = LIVE_USER_VISIBLE, user_blocking = LIVE_USER_BLOCKING };
+
+// What shutdown does with a task: `continue_on_shutdown` and `skip_on_shutdown` don't start any more, and the former isn't waited for
+// where it runs; `block_shutdown` runs, and is waited for.
+enum class Behaviour : std::uint32_t { continue_on_shutdown, skip_on_shutdown, block_shutdown };
+
+// Which work of the pool may start: all, all but best effort, or none.
+enum class Policy : std::uint32_t { all = LIVE_ALL, foreground = LIVE_FOREGROUND, none = LIVE_NO_WORK };
+
+// Whether a scope may block, or will for certain.
+enum class Blocking : std::uint32_t { may_block = LIVE_MAY_BLOCK, will_block = LIVE_WILL_BLOCK };
+
+// Whether a fence holds back what is posted from now on, or also what waits.
+enum class FenceAt : std::uint32_t { now = LIVE_NOW, start = LIVE_START };
+
+enum class JobReply : std::uint32_t { refused = LIVE_REFUSED, done = LIVE_FINISHED, cancelled = LIVE_JOB_CANCELLED, stopped = LIVE_STOPPED };
+
+// What a task needs. Blocking scopes have an effect only where it may block.
+struct Traits {
+    Priority priority = Priority::user_blocking;
+    Behaviour behaviour = Behaviour::skip_on_shutdown;
+    bool may_block = false;
+};
+
+// A job that can be posted once: so many items, of which at most so many are worked on at once.
+struct JobOptions {
+    Priority priority = Priority::user_visible;
+    Behaviour behaviour = Behaviour::skip_on_shutdown;
+    std::uint32_t items = 0;
+    std::uint32_t most_at_once = 32;
+};
+
+// How many worker threads a machine gets unless it is said: one less than it has processors, but 3 at least.
+inline unsigned usual_worker_threads() {
+    const unsigned processors = std::thread::hardware_concurrency();
+    return std::clamp(processors, 4u, 64u) - 1;
+}
+
+// What there is room for. It is all taken at the beginning, so an environment does not grow.
+struct Options {
+    unsigned worker_threads = usual_worker_threads();  // 1 to 63
+    // How many tasks run at once, of all work in the foreground, and of best effort there; and in a background group of its own, or
+    // 0 where best effort has none. Of the first two, 0 is: as many as there are workers, and 2 of these.
+    unsigned foreground = 0, foreground_best_effort = 0, background = 0;
+    Microseconds may_block_threshold = std::chrono::seconds(1);  // how long a scope that may block is open before it counts
+    unsigned posts = 65536;                                      // how often something can be posted at all; 65,536 at most
+    unsigned sequenced_runners = 64;    // how many there are at once, of each behaviour, with and without `may_block`
+    unsigned single_thread_runners = 2;  // the same on each worker
+    unsigned main_queues = 8;            // how many can be made at all, beside the first one
+    unsigned voters = 4;                 // how many there are at once of each main queue; 16 at most
+    std::vector<JobOptions> jobs;        // each can be posted once
+    bool mock_time = false;              // a clock that only `fast_forward_by` moves
+    bool record = false;                 // whether all that happens is kept, for `TaskEnvironment::recording`
+    // What is done with an exception that leaves a task. Without it the program ends. It is called on the task's thread.
+    std::function<void(std::exception_ptr)> on_exception;
+};
+
+// The plan has no free runner, main queue or voter left.
+struct NoRoom : std::runtime_error {
+    using std::runtime_error::runtime_error;
+};
+
+// ---- closures
+
+// A function that runs at most once, and may own what can't be copied. It is null where it was made of a null function.
+class OnceClosure {
+public:
+    OnceClosure() = default;
+    OnceClosure(std::nullptr_t) {}
+    template <class F, class = std::enable_if_t<!std::is_same_v<std::decay_t<F>, OnceClosure>>>
+    OnceClosure(F&& function) {
+        if (!is_null(function)) body = std::make_unique<Body<std::decay_t<F>>>(std::forward<F>(function));
+    }
+    explicit operator bool() const { return body != nullptr; }
+    // Runs the function, and destroys it, on this thread. A null one is an empty run.
+    void run() {
+        if (const auto once = std::move(body)) once->run();
+    }
+    // Whether a function object is null, as a std::function or a pointer may be.
+    template <class F>
+    static bool is_null(const F& function) {
+        if constexpr (std::is_constructible_v<bool, const F&>) return !static_cast<bool>(function);
+        else return false;
+    }
+
+private:
+    struct Base {
+        virtual ~Base() = default;
+        virtual void run() = 0;
+    };
+    template <class F>
+    struct Body final : Base {
+        template <class G>
+        explicit Body(G&& given) : function(std::forward<G>(given)) {}
+        void run() override { function(); }
+        F function;
+    };
+    std::unique_ptr<Base> body;
+};
+
+// What the work of a job sees of the item that it is called for.
+class JobDelegate {
+public:
+    JobDelegate(const std::atomic<bool>& no_more, std::uint32_t its_id, std::uint32_t its_item) : yields(no_more), number(its_id), at(its_item) {}
+    std::uint32_t item() const { return at; }
+    // A number that nobody else has who works on the job at this moment, the least one that was free.
+    std::uint32_t id() const { return number; }
+    // Whether what is left of the item is not wanted any more: the job was cancelled, or is one that shutdown stops. (Whether the
+    // thread makes way for work of a higher priority, the core decides between items.)
+    bool should_yield() const { return yields; }
+
+private:
+    const std::atomic<bool>& yields;
+    const std::uint32_t number, at;
+};
+
+}  // namespace taskenv
