@@ -701,6 +701,9 @@ private:
         if (recorder) recorder->note(seat, entry);
         if (entry.kind != LIVE_DID_DONE) return;
         is_over = true;
+        // Nothing is waited for any more, so no moment counts.
+        while (!moments.empty()) moments.pop();
+        scope_moments.fill(never);
         time_changed.notify_all();
         for (auto& task : waiting)
             if (task) trash.add(std::move(task));

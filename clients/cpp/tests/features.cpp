@@ -182,6 +182,16 @@ void mock_time_moves_alone_by_hand() {
     EXPECT((seen == std::vector<std::pair<int, std::int64_t>>{{0, 0}, {1, 1000000}, {2, 2000000}, {3, 3000000}}));
 }
 
+void mock_time_ends_after_shutdown() {
+    Environment environment(mock());
+    bool ran = false;
+    environment.task_runner(skipping).post_delayed_task([&] { ran = true; }, 1s);
+    environment.main_task_runner().post_task([&] { ran = true; });
+    environment.shutdown();
+    environment.fast_forward_by(2s);
+    EXPECT(!ran && environment.now() == 2s);
+}
+
 void main_tasks_run_in_a_loop() {
     Environment environment;
     RunLoop loop(environment);
@@ -593,6 +603,7 @@ const std::vector<Test> tests = {
     {"delays_pass_in_real_time", delays_pass_in_real_time},
     {"delayed_tasks_cancel", delayed_tasks_cancel},
     {"mock_time_moves_alone_by_hand", mock_time_moves_alone_by_hand},
+    {"mock_time_ends_after_shutdown", mock_time_ends_after_shutdown},
     {"main_tasks_run_in_a_loop", main_tasks_run_in_a_loop},
     {"main_queues_have_classes_fences_and_voters", main_queues_have_classes_fences_and_voters},
     {"a_queue_that_shuts_down_drops_its_tasks", a_queue_that_shuts_down_drops_its_tasks},
