@@ -64,6 +64,7 @@ options_same f g same =
       same (codes "no-scopes"),
       same (codes "no-shutdown"),
       same (codes "most"),
+      same (codes "open"),
     ) refl
 
 -- words that it takes are the command that its matches make

@@ -7,7 +7,7 @@ use Rattle.clap.specs.Kinds.{Kinds}
 use Rattle.clap.specs.Faults.{fault_of}
 use Rattle.clap.specs.declared.builder.action.ArgAction.TheVariants.{SetTrue}
 use Rattle.command_line.specs.declared.words.Command.{Command}
-use Rattle.command_line.specs.declared.words.Command.TheVariants.{Run, Simulate, Check, Explain, Arrange, Reply, Trace, Nest, Lint, Generate, Bench}
+use Rattle.command_line.specs.declared.words.Command.TheVariants.{Run, Simulate, Check, CheckOpen, Explain, Arrange, Reply, Trace, Nest, Lint, Generate, Bench}
 use Rattle.command_line.specs.declared.words.Linted.TheVariants as linted
 use Rattle.command_line.specs.declared.words.Mode.{Mode}
 use Rattle.command_line.specs.declared.words.Mode.TheVariants as modes
@@ -53,11 +53,12 @@ arguments =
     ∷ flag_argument (codes "no-scopes")
     ∷ flag_argument (codes "no-shutdown")
     ∷ value_argument (codes "most")
+    ∷ flag_argument (codes "open")
     ∷ []
 
 -- `taskenv MODE [--step N] [--json] [--prefix] [--number N] [--size N] [--replies] [--nest] [--full] [--seed N] [--favour WORD] [--jump]
 -- [--shake N] [--work N] [--wide] [--no-jobs] [--no-main] [--no-delays] [--no-scopes] [--no-shutdown]
--- [--most N]` (this project's own)
+-- [--most N] [--open]` (this project's own)
 abbrev pub taskenv : App
 taskenv = fold with_rule (new_app (codes "taskenv")) arguments
 
@@ -80,14 +81,14 @@ mode_named word =
     else None))))))))))
 
 -- the options that the mode does not take: `run` takes `--step`, `--json`, `--shake` and `--seed`, `simulate` takes `--seed`, `--favour`,
--- `--step`, `--jump` and `--json`, `check` takes `--prefix`, `explain` takes `--json` and `--prefix`,
+-- `--step`, `--jump` and `--json`, `check` takes `--open` and `--prefix`, `explain` takes `--json` and `--prefix`,
 -- `arrange` takes `--prefix` and `--most`, `trace` takes `--full` and `--prefix`, `lint` takes
 -- `--replies` and `--nest`, `gen` takes `--number`, `--size`, `--wide` and the flags that leave something out,
 -- `bench` takes `--number`, `--size` and `--work`, and the others take none (this project's own rule)
 abbrev pub others_than : Mode → Options → Options
 others_than modes.Run o = record o { step = None; json = false; shake = None; seed = None }
 others_than modes.Simulate o = record o { seed = None; favour = None; step = None; jump = false; json = false }
-others_than modes.Check o = record o { prefix = false }
+others_than modes.Check o = record o { is_open = false; prefix = false }
 others_than modes.Explain o = record o { json = false; prefix = false }
 others_than modes.Arrange o = record o { prefix = false; most = None }
 others_than modes.Reply o = o
@@ -113,6 +114,11 @@ simulate_with o = do
   favour ← favour_given o.favour
   step ← pace_given o.step o.jump
   Some (Simulate seed favour step o.json)
+
+-- the command of the mode `check`
+abbrev pub check_with : Bool → Bool → Command
+check_with false prefix = Check prefix
+check_with true prefix = CheckOpen prefix
 
 -- the command of the mode `arrange`
 abbrev pub arrange_with : Options → Option Command
@@ -147,7 +153,7 @@ bench_with o = do
 abbrev pub command_with : Mode → Options → Option Command
 command_with modes.Run o = run_with o
 command_with modes.Simulate o = simulate_with o
-command_with modes.Check o = Some (Check o.prefix)
+command_with modes.Check o = Some (check_with o.is_open o.prefix)
 command_with modes.Explain o = Some (Explain o.json o.prefix)
 command_with modes.Arrange o = arrange_with o
 command_with modes.Reply o = Some Reply
@@ -184,6 +190,7 @@ abbrev pub IsInRange : Command → Type 0
 IsInRange (Run step json shake) = IsShake shake
 IsInRange (Simulate seed favour step json) = Unit {0}
 IsInRange (Check prefix) = Unit {0}
+IsInRange (CheckOpen prefix) = Unit {0}
 IsInRange (Explain json prefix) = Unit {0}
 IsInRange (Arrange prefix most) = (1 ≤ most) × (most ≤ MOST_STEPS)
 IsInRange Reply = Unit {0}
@@ -200,6 +207,7 @@ TakesInput None = ⊥
 TakesInput (Some (Run step json shake)) = Unit {0}
 TakesInput (Some (Simulate seed favour step json)) = Unit {0}
 TakesInput (Some (Check prefix)) = Unit {0}
+TakesInput (Some (CheckOpen prefix)) = Unit {0}
 TakesInput (Some (Explain json prefix)) = Unit {0}
 TakesInput (Some (Arrange prefix most)) = Unit {0}
 TakesInput (Some Reply) = Unit {0}
@@ -216,6 +224,7 @@ ReadsClock (Some (Run None json shake)) = Unit {0}
 ReadsClock (Some (Run (Some step) json shake)) = ⊥
 ReadsClock (Some (Simulate seed favour step json)) = ⊥
 ReadsClock (Some (Check prefix)) = ⊥
+ReadsClock (Some (CheckOpen prefix)) = ⊥
 ReadsClock (Some (Explain json prefix)) = ⊥
 ReadsClock (Some (Arrange prefix most)) = ⊥
 ReadsClock (Some Reply) = Unit {0}
@@ -233,6 +242,7 @@ WritesJson (Some (Run step false shake)) = ⊥
 WritesJson (Some (Simulate seed favour step true)) = Unit {0}
 WritesJson (Some (Simulate seed favour step false)) = ⊥
 WritesJson (Some (Check prefix)) = ⊥
+WritesJson (Some (CheckOpen prefix)) = ⊥
 WritesJson (Some (Explain json prefix)) = ⊥
 WritesJson (Some (Arrange prefix most)) = ⊥
 WritesJson (Some Reply) = ⊥
@@ -242,12 +252,13 @@ WritesJson (Some (Lint input)) = ⊥
 WritesJson (Some (Generate number size wide)) = ⊥
 WritesJson (Some (Bench number size work)) = ⊥
 
--- the command judges a log
+-- the command judges a log of a script
 abbrev pub IsJudge : Option Command → Type 0
 IsJudge None = ⊥
 IsJudge (Some (Run step json shake)) = ⊥
 IsJudge (Some (Simulate seed favour step json)) = ⊥
 IsJudge (Some (Check prefix)) = Unit {0}
+IsJudge (Some (CheckOpen prefix)) = ⊥
 IsJudge (Some (Explain json prefix)) = Unit {0}
 IsJudge (Some (Arrange prefix most)) = ⊥
 IsJudge (Some Reply) = ⊥
@@ -257,12 +268,18 @@ IsJudge (Some (Lint input)) = ⊥
 IsJudge (Some (Generate number size wide)) = ⊥
 IsJudge (Some (Bench number size work)) = ⊥
 
+-- the command judges a log of an open plan
+abbrev pub IsOpenJudge : Option Command → Type 0
+IsOpenJudge (Some (CheckOpen prefix)) = Unit {0}
+IsOpenJudge command = ⊥
+
 -- the command writes its verdict on a log
 abbrev pub WritesVerdict : Option Command → Type 0
 WritesVerdict None = ⊥
 WritesVerdict (Some (Run step json shake)) = ⊥
 WritesVerdict (Some (Simulate seed favour step json)) = ⊥
 WritesVerdict (Some (Check prefix)) = Unit {0}
+WritesVerdict (Some (CheckOpen prefix)) = Unit {0}
 WritesVerdict (Some (Explain json prefix)) = Unit {0}
 WritesVerdict (Some (Arrange prefix most)) = ⊥
 WritesVerdict (Some Reply) = ⊥
@@ -287,9 +304,10 @@ abbrev pub IsArrange : Option Command → Type 0
 IsArrange (Some (Arrange prefix most)) = Unit {0}
 IsArrange command = ⊥
 
--- the command takes a log as legal that ends before the script is done
+-- the command takes a log as legal that ends before the script is done, or where somebody is at work
 abbrev pub takes_prefix : Option Command → Bool
 takes_prefix (Some (Check prefix)) = prefix
+takes_prefix (Some (CheckOpen prefix)) = prefix
 takes_prefix (Some (Explain json prefix)) = prefix
 takes_prefix (Some (Trace full prefix)) = prefix
 takes_prefix command = false

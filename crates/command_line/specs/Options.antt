@@ -37,6 +37,7 @@ pub record Options : Type 0 where
   pub wide : Bool
   pub parts : Wide
   pub most : Option (List ℕ)
+  pub is_open : Bool
 
 -- the same, with the words behind the references
 abbrev pub options_of : Given → Options
@@ -57,11 +58,12 @@ options_of g = record {
   wide = g.wide;
   parts = g.parts;
   most = option_map (λ s. s.now) g.most;
+  is_open = g.is_open;
 }
 
 -- none of the options is there that have no value
 abbrev pub has_no_flag : Options → Bool
-has_no_flag o = not (o.json || o.prefix || o.replies || o.nest || o.full || o.jump || o.wide)
+has_no_flag o = not (o.json || o.prefix || o.replies || o.nest || o.full || o.jump || o.wide || o.is_open)
 
 -- none of those is there whose value is a number
 abbrev pub has_no_number : Options → Bool
@@ -114,6 +116,7 @@ options_by word_at = record {
   wide = is_set (word_at (codes "wide"));
   parts = parts_by word_at;
   most = word_at (codes "most");
+  is_open = is_set (word_at (codes "open"));
 }
 
 -- ---- the values of their words

@@ -78,6 +78,7 @@ pub(crate) struct Given<'a> {
     pub(crate) wide: bool,
     pub(crate) parts: Wide,
     pub(crate) most: Option<&'a str>,
+    pub(crate) is_open: bool,
 }
 
 /// Whether no option is there.
@@ -96,7 +97,8 @@ fn has_no_flag(given: Given<'_>) -> bool
         || given.nest
         || given.full
         || given.jump
-        || given.wide)
+        || given.wide
+        || given.is_open)
 }
 
 fn has_no_number(given: Given<'_>) -> bool

@@ -4,7 +4,7 @@ ghost use Rattle.clap.specs.Simple.{app_of, with_rule};
 ghost use Rattle.clap.specs.Values.{kind_of};
 ghost use Rattle.clap.specs.Walk.{rule_of};
 ghost use Rattle.command_line.specs.Options.{options_by, options_of, parts_by};
-ghost use Rattle.command_line.specs.CommandLine.{IsInRange, arrange_with, bench_with, command_by, command_of, command_with, flag_argument, lint_with};
+ghost use Rattle.command_line.specs.CommandLine.{IsInRange, arrange_with, bench_with, check_with, command_by, command_of, command_with, flag_argument, lint_with};
 ghost use Rattle.command_line.specs.CommandLine.{generate_with, mode_argument, mode_named, others_than, run_with, simulate_with, taskenv, value_argument};
 
 use crate::options::{
@@ -41,6 +41,11 @@ pub enum Command {
     /// Judges the log after a script.
     Check {
         /// Whether the log may also end before the script is done.
+        prefix: bool,
+    },
+    /// Judges the log of the open plan of the script before it.
+    CheckOpen {
+        /// Whether the log may also end where somebody is at work.
         prefix: bool,
     },
     /// Judges the log after a script, and says why it is illegal.
@@ -163,6 +168,7 @@ fn given_in<'a>(matches: &ArgMatches<'a>) -> Given<'a>
         wide: is_set(matches.get_str("wide")),
         parts: parts_in(matches),
         most: matches.get_str("most"),
+        is_open: is_set(matches.get_str("open")),
     }
 }
 
@@ -181,7 +187,7 @@ fn parts_in(matches: &ArgMatches<'_>) -> Wide
 
 /// The command `taskenv MODE [--step N] [--json] [--prefix] [--number N] [--size N] [--replies] [--nest] [--full] [--seed N]
 /// [--favour WORD] [--jump] [--shake N] [--work N] [--wide] [--no-jobs] [--no-main] [--no-delays] [--no-scopes] [--no-shutdown]
-/// [--most N]`.
+/// [--most N] [--open]`.
 fn taskenv<'a>(alloc: Global) -> Result<clap::Command<'a>, AllocError>
     ensures { IfOk result (λ command. app_of command ≡ taskenv) }
 {
@@ -205,7 +211,8 @@ fn taskenv<'a>(alloc: Global) -> Result<clap::Command<'a>, AllocError>
     let command = with_argument(command, flag_argument(alloc, "no-delays"))?;
     let command = with_argument(command, flag_argument(alloc, "no-scopes"))?;
     let command = with_argument(command, flag_argument(alloc, "no-shutdown"))?;
-    with_argument(command, value_argument(alloc, "most"))
+    let command = with_argument(command, value_argument(alloc, "most"))?;
+    with_argument(command, flag_argument(alloc, "open"))
 }
 
 /// The command with one argument more.
@@ -296,6 +303,7 @@ fn others_than<'a>(mode: Mode, given: Given<'a>) -> Given<'a>
             ..given
         },
         Mode::Check => Given {
+            is_open: false,
             prefix: false,
             ..given
         },
@@ -350,9 +358,7 @@ fn command_with(mode: Mode, given: Given<'_>) -> Option<Command>
     match mode {
         Mode::Run => run_with(given),
         Mode::Simulate => simulate_with(given),
-        Mode::Check => Some(Command::Check {
-            prefix: given.prefix,
-        }),
+        Mode::Check => Some(check_with(given.is_open, given.prefix)),
         Mode::Explain => Some(Command::Explain {
             json: given.json,
             prefix: given.prefix,
@@ -393,6 +399,18 @@ fn simulate_with(given: Given<'_>) -> Option<Command>
         step: pace_given(given.step, given.jump)?,
         json: given.json,
     })
+}
+
+/// The command of the mode `check`.
+fn check_with(is_open: bool, prefix: bool) -> Command
+    ensures command { result ≡ check_with is_open prefix }
+    ensures in_range { IsInRange result }
+{
+    if is_open {
+        Command::CheckOpen { prefix }
+    } else {
+        Command::Check { prefix }
+    }
 }
 
 /// The command of the mode `arrange`.

@@ -3,7 +3,7 @@ use Rattle.std.proofs.Common.{◌≡◌, ℕ, true, false, List, [], ◌∷◌, 
 use Rattle.std.specs.Fmt.{digits}
 use Rattle.clap.proofs.OnLiterals.{clap_on_literals}
 use Rattle.command_line.specs.declared.words.Command.{Command}
-use Rattle.command_line.specs.declared.words.Command.TheVariants.{Run, Simulate, Check, Explain, Arrange, Reply, Trace, Nest, Lint, Generate, Bench}
+use Rattle.command_line.specs.declared.words.Command.TheVariants.{Run, Simulate, Check, CheckOpen, Explain, Arrange, Reply, Trace, Nest, Lint, Generate, Bench}
 use Rattle.command_line.specs.declared.options.Favour.TheVariants as favours
 use Rattle.command_line.specs.declared.words.Linted.TheVariants as linted
 use Rattle.command_line.specs.Options.{everything, number_named}
@@ -37,6 +37,8 @@ commands =
     ∷ good (codes "check" ∷ []) (Check false)
     ∷ good (codes "check" ∷ codes "--prefix" ∷ []) (Check true)
     ∷ good (codes "--prefix" ∷ codes "check" ∷ []) (Check true)  -- before the mode
+    ∷ good (codes "check" ∷ codes "--open" ∷ []) (CheckOpen false)
+    ∷ good (codes "--open" ∷ codes "check" ∷ codes "--prefix" ∷ []) (CheckOpen true)
     ∷ good (codes "explain" ∷ []) (Explain false false)
     ∷ good (codes "explain" ∷ codes "--json" ∷ []) (Explain true false)
     ∷ good (codes "explain" ∷ codes "--prefix" ∷ []) (Explain false true)
@@ -311,6 +313,11 @@ others_newer_options =
     ∷ bad (codes "arrange" ∷ codes "--json" ∷ [])
     ∷ bad (codes "arrange" ∷ codes "--most" ∷ codes "0" ∷ [])
     ∷ bad (codes "arrange" ∷ codes "--most" ∷ codes "1000000000001" ∷ [])  -- one more than the greatest
+    ∷ bad (codes "run" ∷ codes "--open" ∷ [])
+    ∷ bad (codes "arrange" ∷ codes "--open" ∷ [])
+    ∷ bad (codes "trace" ∷ codes "--open" ∷ [])
+    ∷ bad (codes "lint" ∷ codes "--open" ∷ [])
+    ∷ bad (codes "bench" ∷ codes "--open" ∷ [])
     ∷ []
 
 others_newer_options_right : AreRight others_newer_options
@@ -321,6 +328,7 @@ abbrev bad_options : List Row
 bad_options =
     bad (codes "run" ∷ codes "--json" ∷ codes "--json" ∷ [])  -- twice
     ∷ bad (codes "check" ∷ codes "--prefix" ∷ codes "--prefix" ∷ [])  -- twice
+    ∷ bad (codes "check" ∷ codes "--open" ∷ codes "--open" ∷ [])  -- twice
     ∷ bad (codes "run" ∷ codes "--json=true" ∷ [])  -- a flag takes no value
     ∷ bad (codes "run" ∷ codes "--js" ∷ [])
     ∷ bad (codes "run" ∷ codes "-s" ∷ [])

@@ -25,4 +25,5 @@ returns c =
     let eighteenth = c.in_ok-command-18.ensures ∙ ap₂ with_rule seventeenth c.flag_argument-10.ensures.rule in
     let nineteenth = c.in_ok-command-19.ensures ∙ ap₂ with_rule eighteenth c.flag_argument-11.ensures.rule in
     let twentieth = c.in_ok-command-20.ensures ∙ ap₂ with_rule nineteenth c.flag_argument-12.ensures.rule in
-    IfOk-weaker c.with_argument-21.result _ _ (λ command is. is ∙ ap₂ with_rule twentieth c.value_argument-8.ensures.rule) c.with_argument-21.ensures
+    let last = c.in_ok-command-21.ensures ∙ ap₂ with_rule twentieth c.value_argument-8.ensures.rule in
+    IfOk-weaker c.with_argument-22.result _ _ (λ command is. is ∙ ap₂ with_rule last c.flag_argument-13.ensures.rule) c.with_argument-22.ensures
