@@ -1,0 +1,118 @@
+ghost use Rattle.std.specs.Prelude.{◌≡◌, ◌+◌, ◌==◌, ◌≤◌, ◌++◌, [], Some, None, IfOk, IfErr, codes, decimal, length};
+ghost use Rattle.std.specs.List.{slice_split};
+ghost use Rattle.task_base.specs.Plan.{opened};
+ghost use Rattle.task_base.specs.declared.limits.TheConstants.{MOST_BYTES};
+ghost use Rattle.script_model.specs.Laws.Sound.{IsSound};
+ghost use Rattle.live_core.specs.StandsFor.{StandsFor};
+ghost use Rattle.open_check.specs.Plans.{IsNoPlan, action_line, declares, is_action_line, plan_fault, plan_note};
+
+use line_text::{Line, add, add_decimal};
+use line_words::{Words, begins_comment};
+use live_core::{LiveCore, OpenError};
+use script_lines::without_return;
+use std::alloc::{AllocError, Global};
+use task_base::{RunnerId, Script};
+
+/// Why a script is not that of an open plan (this project's own).
+#[derive(Clone, Copy, Debug, PartialEq, Eq)]
+pub enum BadPlan {
+    /// It has actions, the first of them on this line, which counts from 1.
+    Action { line: u32 },
+    /// The runner is bound to the last seat, the guest's, which takes nothing.
+    GuestRunner { runner: RunnerId },
+}
+
+/// Why no open plan was made of a script.
+#[derive(Debug, Drop)]
+pub enum PlanFault {
+    /// The script is not that of one.
+    Bad(BadPlan),
+    /// Out of memory.
+    Memory(AllocError),
+}
+
+impl BadPlan {
+    /// What is told of it, without a line feed. It takes no memory.
+    pub fn note(&self) -> Line
+        ensures note { result.items ≡ plan_note self.now }
+        ensures short { length result.items ≤ 110 }
+    {
+        match *self {
+            BadPlan::Action { line } => noted(b"bad plan: line ", line, b" is an action"),
+            BadPlan::GuestRunner { runner } => {
+                noted(b"bad plan: runner ", runner, b" is bound to the last seat")
+            }
+        }
+    }
+}
+
+/// Words with a number between them.
+fn noted(before: &[u8], number: u32, after: &[u8]) -> Line
+    requires { length before.now + length after.now ≤ 60 }
+    ensures items { result.items ≡ (before.now ++ decimal number) ++ after.now }
+    ensures short { length result.items ≤ 80 }
+{
+    let mut note = Line::new();
+    add(&mut note, before);
+    add_decimal(&mut note, u64::from(number));
+    add(&mut note, after);
+    note
+}
+
+/// The environment of the open plan of a script, which was read from the text, before anything is done. The error is out of memory,
+/// or why the script is not that of an open plan.
+pub fn open_plan(alloc: Global, script: Script, text: &[u8]) -> Result<LiveCore, PlanFault>
+    requires sound { IsSound script }
+    requires short { length text.now ≤ MOST_BYTES }
+    ensures stands { IfOk result (λ live. StandsFor (opened script) [] live) }
+    ensures right { IfOk result (λ live. plan_fault script text.now ≡ None) }
+    ensures bad { IfErr result (IsNoPlan script text.now) }
+{
+    if !script.actions.is_empty() {
+        let line = action_line(text);
+        return Err(PlanFault::Bad(BadPlan::Action { line }));
+    }
+    match LiveCore::open(alloc, script) {
+        Ok(live) => Ok(live),
+        Err(OpenError::OutOfMemory(error)) => Err(PlanFault::Memory(error)),
+        Err(OpenError::GuestRunner { runner }) => {
+            Err(PlanFault::Bad(BadPlan::GuestRunner { runner }))
+        }
+    }
+}
+
+/// The number of the first line that says an action, or 0 where there is none.
+#[tactic(auto, unfolding(crate::specs::Plans::action_line))]
+fn action_line(text: &[u8]) -> u32
+    requires { length text.now ≤ MOST_BYTES }
+    ensures { result ≡ action_line text.now }
+{
+    let mut lines = text.split(|byte| *byte == b'\n');
+    match lines.position(|line| is_action_line(line)) {
+        None => 0,
+        Some(place) => place as u32 + 1,
+    }
+}
+
+/// Whether the line says an action: it has a word, and is no comment, no configuration and no declaration.
+fn is_action_line(line: &[u8]) -> bool
+    ensures { result ≡ is_action_line line.now }
+{
+    match Words::of(without_return(line)).next() {
+        None => false,
+        Some(name) => !begins_comment(name) && !declares(name),
+    }
+}
+
+/// Whether a line that begins with this word configures or declares.
+fn declares(name: &[u8]) -> bool
+    ensures { result ≡ declares name.now }
+{
+    name == b"workers".as_slice()
+        || name == b"groups".as_slice()
+        || name == b"threshold".as_slice()
+        || name == b"runner".as_slice()
+        || name == b"queue".as_slice()
+        || name == b"task".as_slice()
+        || name == b"job".as_slice()
+}
