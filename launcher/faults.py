@@ -49,6 +49,8 @@ def lines(note: str, mode: str, parts_known: bool, data: bytes, lint: Callable[[
     """What is said behind the program's note of status 3. `data` was its input, and `lint` runs the mode of that name on bytes."""
     if note.startswith("bad events"):
         return of_events(note, parted(data)[1])
+    if note.startswith("bad plan"):
+        return of_plan(note, parted(data)[0])
     fault = Fault(note, mode, parts_known, data)
     fault.ask(lint)
     of_line, of_word = (next(filter(None, (trap(fault) for trap in traps)), None) for traps in (LINE_TRAPS[fault.language], WORD_TRAPS))
@@ -134,6 +136,19 @@ class Fault:
                 first += self.words[first:].index(";") + 1
             name = self.words[first] if first < len(self.words) else name
         return forms.get(name) or forms.get(self.command)
+
+
+def of_plan(note: str, script: bytes) -> list[str]:
+    """What is said of a script that is not that of an open plan: which line it is, and the line."""
+    _, _, sort, number, *_ = note.split()
+    lines = [line.rstrip("\r") for line in script.decode("latin-1").split("\n")]
+    if sort == "line":
+        place, said = int(number), "with --open a script only declares, and the log says what was done"
+    else:
+        is_runner = [line.split()[:1] == ["runner"] for line in lines]
+        place = next(at for at, it in enumerate(is_runner, 1) if it and sum(is_runner[:at]) == int(number) + 1)
+        said = "with --open the last seat is the guest's, which takes nothing"
+    return [f"line {place}: {said}", f"  {_shown(lines[place - 1])[:WIDTH]}"]
 
 
 def of_events(note: str, events: bytes) -> list[str]:

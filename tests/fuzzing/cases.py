@@ -162,6 +162,59 @@ class EditedLog(Case):
             want(self.program.run(["check", "--prefix"], text_of(lines) + MARK + begun.encode()), 0, b"legal\n")
 
 
+class OpenLog(Case):
+    """The log of a simulated run is one of the open plan that its script declares, with one worker seat more, the guest's: up to the first
+    entry of the driver after shutdown is done that is no post. What the guest posts next is accepted or refused, and not both; and an
+    edited log is illegal at the edit or later, or legal."""
+
+    def judge(self, lines):
+        rng = self.choices()
+        plan, guest = logs.open_plan(lines)
+        if guest > 64:
+            return
+        log = self.run_good(self.simulate_words(rng)[0], lines)
+        entries = logs.entries_of(log)
+        late = logs.late_entry(entries)
+        expected = (0, b"legal\n") if late is None else (1, b"illegal %d\n" % (late + 2))
+        want(self.program.run(["check", "--open"], plan + MARK + log), *expected)
+        begun = entries[: rng.randint(0, len(entries) if late is None else late)]
+        want(self.program.run(["check", "--open", "--prefix"], plan + MARK + logs.text_of(begun)), 0, b"legal\n")
+        self.judge_guest(rng, plan, guest, begun)
+        busy = logs.busy_seats(entries)
+        for edit in rng.sample(logs.EXACT + logs.EARLIEST, 3):
+            places = [edit(rng, entries, place, busy) for place in range(len(begun))]
+            places = [edited for edited in places if edited]
+            if places:
+                edited, place = rng.choice(places)
+                self.judge_edit(plan, edited, place if late is None else min(place, late))
+
+    def judge_guest(self, rng, plan, guest, begun):
+        """The guest posts a task that is left, and takes none."""
+        declared = [line.split() for line in plan.decode().splitlines()]
+        kept = {word for line in declared if line[0] == "task" for place, word in enumerate(line) if line[place - 1] in ("post", "main")}
+        posted = {entry[2] for entry in begun if entry[1] in ("post", "main")}
+        left = [line[1] for line in declared if line[0] == "task" and line[1] not in kept | posted]
+        homes = [(word, line[1]) for line in declared for word, sort in (("post", "runner"), ("main", "queue")) if line[0] == sort]
+        if left and homes:
+            word, home = rng.choice(homes)
+            posts = [[str(guest), word, rng.choice(left), home, rng.choice(["0", "7"]), reply] for reply in ("ok", "no")]
+            told = [self.judged(plan, [*begun, post]) for post in posts]
+            if sorted(told) != [0, 1]:
+                raise Wrong("a post of the guest is both accepted and refused, or neither", f"{posts}, {told}")
+        for entry in begun:
+            if entry[1] in ("take", "jobtake") and self.judged(plan, [*begun, [str(guest), *entry[1:]]]) == 0:
+                raise Wrong("the guest takes something", entry)
+
+    def judged(self, plan, entries):
+        return self.program.run(["check", "--open", "--prefix"], plan + MARK + logs.text_of(entries)).status
+
+    def judge_edit(self, plan, edited, place):
+        log = "".join(line + "\n" for line in edited).encode()
+        told = self.program.run(["check", "--open"], plan + MARK + log)
+        if told.status not in (0, 1) or told.status == 1 and int(told.output.split()[1]) < place + 1:
+            raise Wrong("an open log is illegal before its edit", f"line {place + 1}, {told.output}\n{log.decode()}")
+
+
 class DamagedScript(Case):
     """Of a script with one bad line, this line is told, with its reason. Its lines are numbered, to know the bad one."""
 
@@ -254,4 +307,4 @@ class Words(Case):
         want(self.program.run(sum(words, bad), text_of(lines)), 2)
 
 
-KINDS = [GoodScript] * 4 + [Simulated] * 3 + [EditedLog] * 3 + [DamagedScript] * 3 + [AnyBytes] * 2 + [FullDevice, Words]
+KINDS = [GoodScript] * 4 + [Simulated] * 3 + [EditedLog] * 3 + [OpenLog] * 3 + [DamagedScript] * 3 + [AnyBytes] * 2 + [FullDevice, Words]

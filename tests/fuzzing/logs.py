@@ -37,6 +37,20 @@ def numbered(lines):
     return ["taskenv log 2", *lines, f"total {len(lines)}"]
 
 
+def open_plan(lines):
+    """The text of a script's declarations with one worker seat more, which is the guest's, and the number of that seat."""
+    words = [line.split() for line in lines]
+    guest = next((int(line[1]) for line in words if line[:1] == ["workers"]), 2) + 1
+    kept = [" ".join(line) for line in words if line and line[0] in ("groups", "threshold", "runner", "queue", "task", "job")]
+    return "".join(f"{line}\n" for line in [f"workers {guest}", *kept]).encode(), guest
+
+
+def late_entry(entries):
+    """The place of the driver's first entry after shutdown is done that is no post, if there is one."""
+    done = next((place for place, entry in enumerate(entries) if entry[1] == "done"), len(entries))
+    return next((place for place in range(done + 1, len(entries)) if entries[place][0] == "0" and entries[place][1] not in ("post", "main")), None)
+
+
 def busy_seats(entries):
     """The seats that run a task or hold an item, before each entry."""
     busy, before = set(), []
