@@ -47,7 +47,8 @@ made_it : (plan : Plan) (past : List Entry) (before after : LiveCore) (e : Entry
     → IsAllowed plan past (entry_by e.seat kind) × StandsFor plan (past ++ entry_by e.seat kind ∷ []) after
 made_it plan past before after e kind own made =
     let stands : StandsFor plan (past ++ entry_by e.seat kind ∷ []) after = rw own at made.stands in
-    ((and_parts (is_legal plan past) (is_allowed plan past (entry_by e.seat kind)) (sym (is_legal_push plan past (entry_by e.seat kind)) ∙ stands.legal)).1, stands)
+    let legal = sym (is_legal_push plan past (entry_by e.seat kind)) ∙ stands.legal in
+    ((and_parts (is_legal plan past) (is_allowed plan past (entry_by e.seat kind)) legal).1, stands)
 
 -- one that it does not make may not
 pub made_another : (plan : Plan) (past : List Entry) (before after : LiveCore) (e : Entry) (answer : Result Kind Unmade) → StandsFor plan past before
