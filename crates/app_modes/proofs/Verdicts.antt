@@ -1,5 +1,5 @@
 -- What a verdict on a log says of the text that the log has.
--- Cited by `why`, `judge_log`, `Explained`.
+-- Cited by `why`, `judge_log`, `find_open`, `Explained`, `Opened`.
 use Rattle.std.proofs.Common.{rules, tests, ◌≡◌, ◌≤◌, ◌+◌, ℕ, Bool, true, false, List, [], ◌∷◌, ◌++◌, length, refl}
 use Rattle.std.proofs.Common.{ap, length-append, Option, Some, None, arith}
 use Rattle.task_base.specs.Plan.{Plan}
@@ -18,7 +18,7 @@ use Rattle.app_modes.specs.Judged.{IsTextOf, verdict_on}
 -- ---- places
 
 -- a place of the log's first illegal entry is within the log
-illegal_within : (script : Plan) (log : List Entry) (at place : ℕ) → first_illegal script log ≡ Some at → Illegal at ≡ Illegal place → place ≤ length log
+pub illegal_within : (script : Plan) (log : List Entry) (at place : ℕ) → first_illegal script log ≡ Some at → Illegal at ≡ Illegal place → place ≤ length log
 illegal_within script log at place found is =
     let here = first_illegal_some script log at found in
     let same : at ≡ place = cc in

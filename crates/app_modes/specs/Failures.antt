@@ -2,12 +2,13 @@
 use Rattle.std.specs.Prelude.{ℕ, Bool, true, false, List, [], ◌++◌, codes}
 use Rattle.task_base.specs.Fault.{note_of, status_of}
 use Rattle.task_base.specs.declared.fault.Fault.TheVariants.{NotLegal}
+use Rattle.open_check.specs.Plans.{plan_note}
 use Rattle.order_answer.specs.Bad.{bad_note}
 use Rattle.task_reply.specs.Fault.{bad_replies_note}
 use Rattle.nested_loop.specs.NestReasons.{nest_note_of}
 use Rattle.nested_loop.specs.declared.fault.NestFault.TheVariants.{Bad}
 use Rattle.app_modes.specs.declared.failure.Failure.{Failure}
-use Rattle.app_modes.specs.declared.failure.Failure.TheVariants.{Common, Linted, NoOrder, GaveUp, BadEvents, NotTraced, BadReplies, BadNest}
+use Rattle.app_modes.specs.declared.failure.Failure.TheVariants.{Common, Linted, NoOrder, GaveUp, BadEvents, BadPlan, NotTraced, BadReplies, BadNest}
 
 -- the status that a failure ends a command with (this project's own rule)
 abbrev pub failure_status : Failure → ℕ
@@ -16,6 +17,7 @@ failure_status Linted = 1
 failure_status NoOrder = 1
 failure_status GaveUp = 8
 failure_status (BadEvents bad) = 3
+failure_status (BadPlan bad) = 3
 failure_status (NotTraced line) = 1
 failure_status (BadReplies line reason) = 3
 failure_status (BadNest line reason) = 3
@@ -27,6 +29,7 @@ failure_note Linted = []
 failure_note NoOrder = []
 failure_note GaveUp = []
 failure_note (BadEvents bad) = bad_note bad
+failure_note (BadPlan bad) = plan_note bad
 failure_note (NotTraced line) = note_of (NotLegal line)
 failure_note (BadReplies line reason) = bad_replies_note line reason
 failure_note (BadNest line reason) = nest_note_of (Bad line reason)

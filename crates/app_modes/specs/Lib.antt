@@ -1,6 +1,7 @@
 pub mod Arranged
 pub mod Failures
 pub mod Judged
+pub mod Opened
 pub mod Explained
 pub mod Linted
 pub mod Totals

@@ -13,6 +13,7 @@ use Rattle.log_model.specs.LogText.{log_text}
 use Rattle.hist_model.specs.Legal.{IsLegal}
 use Rattle.hist_model.specs.Script.{IsWhole}
 use Rattle.env_crew.specs.Driving.{HasMomentsOf}
+use Rattle.open_check.specs.Plans.{plan_fault}
 use Rattle.task_reply.specs.Elaborated.{IsElaboratedBy}
 use Rattle.task_reply.specs.Replies.{reply_fault}
 use Rattle.nested_loop.specs.Plan.{NestPlan}
@@ -21,7 +22,7 @@ use Rattle.nested_loop.specs.NestText.{nest_text}
 use Rattle.nested_loop.specs.Nest.{IsLegalNest}
 use Rattle.nested_loop.specs.declared.event.Event.{Event}
 use Rattle.command_line.specs.declared.words.Command.{Command}
-use Rattle.command_line.specs.declared.words.Command.TheVariants.{Run, Simulate, Check, Explain, Arrange, Reply, Trace, Nest, Lint, Generate, Bench}
+use Rattle.command_line.specs.declared.words.Command.TheVariants.{Run, Simulate, Check, CheckOpen, Explain, Arrange, Reply, Trace, Nest, Lint, Generate, Bench}
 use Rattle.command_line.specs.declared.options.Favour.{Favour}
 use Rattle.command_line.specs.declared.options.Favour.TheVariants as favours
 use Rattle.command_line.specs.declared.options.Wide.{Wide}
@@ -30,11 +31,12 @@ use Rattle.app_streams.specs.Ends.{Ends, Failed}
 use Rattle.app_streams.specs.Taken.{IsReadToEnd, OfBytes, OfTaken}
 use Rattle.app_streams.specs.Written.{WroteAll, WroteFront, output_of}
 use Rattle.app_modes.specs.declared.failure.Failure.{Failure}
-use Rattle.app_modes.specs.declared.failure.Failure.TheVariants.{Common, Linted, NoOrder, GaveUp, BadEvents, NotTraced, BadReplies, BadNest}
-use Rattle.command_line.specs.CommandLine.{IsArrange, IsLint, IsTrace, TakesInput, WritesVerdict, takes_prefix}
+use Rattle.app_modes.specs.declared.failure.Failure.TheVariants.{Common, Linted, NoOrder, GaveUp, BadEvents, BadPlan, NotTraced, BadReplies, BadNest}
+use Rattle.command_line.specs.CommandLine.{IsArrange, IsLint, IsOpenJudge, IsTrace, TakesInput, WritesVerdict, takes_prefix}
 use Rattle.app_modes.specs.Arranged.{HasArranged, HasBadEvents}
 use Rattle.app_modes.specs.Judged.{HasChecked, HasTraced, IsFoundIn}
 use Rattle.app_modes.specs.Explained.{HasExplained}
+use Rattle.app_modes.specs.Opened.{HasCheckedOpen}
 use Rattle.app_modes.specs.Linted.{IsSaid, lint_said}
 use Rattle.app_modes.specs.Totals.{summary_text}
 use Rattle.run_summary.specs.Summary.{generated_totals}
@@ -109,6 +111,12 @@ IsNoNest bytes (BadNest line reason) = nest_fault bytes ≡ Some (line, reason)
 IsNoNest bytes (Common (NoMemory error)) = Unit {0}
 IsNoNest bytes failure = ⊥
 
+-- the failure is why no open plan was made of a script that was read from this text
+abbrev pub IsNotOpened : Plan → List ℕ → Failure → Type 0
+IsNotOpened script text (BadPlan bad) = plan_fault script text ≡ Some bad
+IsNotOpened script text (Common (NoMemory error)) = Unit {0}
+IsNotOpened script text failure = ⊥
+
 -- what is wrong with bytes that are to be a script
 abbrev pub script_refusal : List ℕ → Option Failure
 script_refusal bytes = option_map (λ at. Common (BadScript at.0 at.1)) (first_fault bytes)
@@ -118,12 +126,18 @@ abbrev pub reply_refusal : Result Plan (ℕ × ℕ) → List ℕ → Option Fail
 reply_refusal (Err at) replies = Some (Common (BadScript at.0 at.1))
 reply_refusal (Ok script) replies = option_map (λ at. BadReplies at.0 at.1) (reply_fault script replies)
 
+-- what is wrong with a script that was read for an open plan, or with the bytes that are none
+abbrev pub plan_refusal : Result Plan (ℕ × ℕ) → List ℕ → Option Failure
+plan_refusal (Err at) text = Some (Common (BadScript at.0 at.1))
+plan_refusal (Ok script) text = option_map BadPlan (plan_fault script text)
+
 -- what is wrong with the bytes that come as the input of a command, if anything is
 abbrev pub refusal_of : Option Command → List ℕ → Option Failure
 refusal_of None bytes = None
 refusal_of (Some (Run step json shake)) bytes = script_refusal bytes
 refusal_of (Some (Simulate seed favour step json)) bytes = script_refusal bytes
 refusal_of (Some (Check prefix)) bytes = script_refusal (script_part bytes)
+refusal_of (Some (CheckOpen prefix)) bytes = plan_refusal (script_read (script_part bytes)) (script_part bytes)
 refusal_of (Some (Explain json prefix)) bytes = script_refusal (script_part bytes)
 refusal_of (Some (Arrange prefix most)) bytes = script_refusal (script_part bytes)
 refusal_of (Some Reply) bytes = reply_refusal (script_read (script_part bytes)) (part_behind bytes)
@@ -149,6 +163,7 @@ Does None told source Holds = ⊥
 Does (Some (Run step json shake)) told source Holds = OfTaken source (λ bytes. HasRun bytes json (readings_of step told) (Holds 0))
 Does (Some (Simulate seed favour step json)) told source Holds = OfTaken source (λ bytes. HasSimulated bytes seed favour step json (Holds 0))
 Does (Some (Check prefix)) told source Holds = OfTaken source (λ bytes. HasChecked prefix bytes Holds)
+Does (Some (CheckOpen prefix)) told source Holds = OfTaken source (λ bytes. HasCheckedOpen prefix bytes Holds)
 Does (Some (Explain json prefix)) told source Holds = OfTaken source (λ bytes. HasExplained json prefix bytes Holds)
 Does (Some (Arrange prefix most)) told source Holds = OfTaken source (λ bytes. HasArranged prefix bytes Holds)
 Does (Some Reply) told source Holds = OfTaken source (λ bytes. HasReplied bytes told (Holds 0))
@@ -205,6 +220,7 @@ EndsIn command told source sink (Err NoOrder) = IsArrange command × IsReadToEnd
 EndsIn command told source sink (Err GaveUp) = IsArrange command × IsReadToEnd source × Does command told source (IsWritten sink 8)
 EndsIn command told source sink (Err (BadEvents bad)) =
     IsArrange command × IsReadToEnd source × Does command told source (IsWritten sink 3) × OfTaken source (λ bytes. HasBadEvents bytes bad)
+EndsIn command told source sink (Err (BadPlan bad)) = IsOpenJudge command × IsRefused command source (BadPlan bad)
 EndsIn command told source sink (Err (NotTraced line)) =
     IsTrace command × IsReadToEnd source × Does command told source (IsWritten sink 1)
     × OfTaken source (λ bytes. IsFoundIn (takes_prefix command) bytes (Some line))

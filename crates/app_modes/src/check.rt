@@ -61,11 +61,11 @@ pub(crate) fn write_said<K: Sink>(sink: &mut K, line: Option<u32>, text: &[u8]) 
 
 /// What is found of the text of a log.
 #[derive(Clone, Copy)]
-struct Found {
+pub(crate) struct Found {
     /// The line at which it is no log of a whole run of the script, or of the beginning of one, if there is one.
-    line: Option<u32>,
+    pub(crate) line: Option<u32>,
     /// The line that was left out, if one was.
-    cut: Option<u32>,
+    pub(crate) cut: Option<u32>,
 }
 
 /// Finds whether the text is the log of a whole run of the script, or of the beginning of one. The error is out of memory.

@@ -4,16 +4,17 @@ ghost use Rattle.command_line.specs.CommandLine.{ReadsClock, TakesInput, WritesJ
 ghost use Rattle.app_modes.specs.Failures.{failure_status, is_verdict};
 ghost use Rattle.app_streams.specs.Ends.{ends};
 ghost use Rattle.app_streams.specs.Taken.{TookMore, TookWithin};
-ghost use Rattle.app_modes.specs.Outcome.{in_common, EndsIn};
+ghost use Rattle.app_modes.specs.Outcome.{EndsIn};
 
 use crate::arrange::arrange;
 use crate::bench::run_generated;
 use crate::check::judge;
 use crate::explain::explain;
-use crate::failure::Failure;
+use crate::failure::{Failure, common};
 use crate::generate::write_generated;
 use crate::lint::lint;
 use crate::nests::run_nest_script;
+use crate::open::judge_open;
 use crate::replies::run_replies;
 use crate::runs::run_script;
 use crate::simulate::simulate_script;
@@ -25,16 +26,6 @@ use std::rt;
 use std::sync::Wait;
 use std::thread::Threads;
 use task_base::Fault;
-
-/// The same end of a command, where any fault may be one.
-fn common(end: Result<(), Fault>) -> Result<(), Failure>
-    ensures { result ≡ in_common end }
-{
-    match end {
-        Ok(()) => Ok(()),
-        Err(fault) => Err(Failure::Common(fault)),
-    }
-}
 
 /// Does what the words ask for. The error says why the command did not end with status 0: where a log is judged and is not
 /// legal (`NotLegal`), the verdict is written by then.
@@ -78,6 +69,7 @@ pub fn execute<R: Threads + Wait + Sync + rt::Clock, S: Source, K: Sink, C: Cloc
             json,
         } => common(simulate_script(alloc, seed, favour, step, json, source, sink)),
         Command::Check { prefix } => common(judge(alloc, prefix, source, sink)),
+        Command::CheckOpen { prefix } => judge_open(alloc, prefix, source, sink),
         Command::Explain { json, prefix } => { common(explain(alloc, json, prefix, source, sink)) }
         Command::Arrange { prefix, most } => arrange(alloc, prefix, most, source, sink),
         Command::Reply => run_replies(rt, alloc, source, sink, clock, gate),

@@ -1,9 +1,11 @@
 ghost use Rattle.std.specs.Prelude.{◌≡◌, ◌≤◌, length};
 ghost use Rattle.app_modes.specs.declared.failure.Failure.TheVariants.{Common};
 ghost use Rattle.app_modes.specs.Failures.{failure_note, failure_status, is_verdict};
+ghost use Rattle.app_modes.specs.Outcome.{in_common};
 
 use line_text::Line;
 use nested_loop::NestFault;
+use open_check::BadPlan;
 use order_answer::BadEvents;
 use task_base::Fault;
 use task_reply::ReplyFault;
@@ -21,6 +23,8 @@ pub enum Failure {
     GaveUp,
     /// In `arrange`: what stands after the script are no events which its seats may have seen.
     BadEvents(BadEvents),
+    /// With `--open`: the script is not that of an open plan.
+    BadPlan(BadPlan),
     /// In `trace`: the log is not that of a run of the script, whole or with `--prefix` begun; `line` counts from 1.
     NotTraced { line: u32 },
     /// In `reply`: a reply line breaks a rule. `line` counts from 1, behind the line `%%`.
@@ -47,7 +51,8 @@ impl Failure {
             Failure::Common(fault) => fault.status(),
             Failure::Linted | Failure::NoOrder | Failure::NotTraced { .. } => 1,
             Failure::GaveUp => 8,
-            Failure::BadEvents(_) | Failure::BadReplies { .. } | Failure::BadNest { .. } => 3,
+            Failure::BadEvents(_) | Failure::BadPlan(_) => 3,
+            Failure::BadReplies { .. } | Failure::BadNest { .. } => 3,
         }
     }
 
@@ -73,9 +78,20 @@ impl Failure {
             Failure::Common(ref fault) => fault.note(),
             Failure::Linted | Failure::NoOrder | Failure::GaveUp => Line::new(),
             Failure::BadEvents(bad) => bad.note(),
+            Failure::BadPlan(bad) => bad.note(),
             Failure::NotTraced { line } => Fault::NotLegal { line }.note(),
             Failure::BadReplies { line, reason } => ReplyFault::Bad { line, reason }.note(),
             Failure::BadNest { line, reason } => NestFault::Bad { line, reason }.note(),
         }
+    }
+}
+
+/// The same end of a command, where any fault may be one.
+pub(crate) fn common(end: Result<(), Fault>) -> Result<(), Failure>
+    ensures { result ≡ in_common end }
+{
+    match end {
+        Ok(()) => Ok(()),
+        Err(fault) => Err(Failure::Common(fault)),
     }
 }

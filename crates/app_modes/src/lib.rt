@@ -17,6 +17,7 @@ mod generate;
 mod judged;
 mod lint;
 mod nests;
+mod open;
 mod replies;
 mod runs;
 mod simulate;

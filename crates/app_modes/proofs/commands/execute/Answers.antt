@@ -1,5 +1,5 @@
 use Rattle.std.proofs.Common.{Some, ap, sym, ◌∙◌}
-use Rattle.command_line.specs.declared.words.Command.TheVariants.{Simulate, Check, Explain, Arrange, Trace, Nest, Lint, Generate, Bench}
+use Rattle.command_line.specs.declared.words.Command.TheVariants.{Simulate, Check, CheckOpen, Explain, Arrange, Trace, Nest, Lint, Generate, Bench}
 use Rattle.app_modes.proofs.Outcomes.{ends_asked, ends_in_common}
 use Rattle.app_modes.proofs.commands.execute.Goals as goal
 
@@ -12,6 +12,11 @@ pub returns-in-Check-clause-outcome : goal.returns-in-Check-clause-outcome
 returns-in-Check-clause-outcome g c =
     ends_in_common _ (Check c.in-Check.prefix) _ _ _ c.judge.result _
     (sym c.in-Ok-Some.ensures.command ∙ c.in-Ok-Some.field-0-is ∙ ap Some c.in-Check.is) c.common-in-Check.ensures c.judge.ensures.outcome
+
+pub returns-in-CheckOpen-clause-outcome : goal.returns-in-CheckOpen-clause-outcome
+returns-in-CheckOpen-clause-outcome g c =
+    ends_asked _ (CheckOpen c.in-CheckOpen.prefix) _ _ _ _
+    (sym c.in-Ok-Some.ensures.command ∙ c.in-Ok-Some.field-0-is ∙ ap Some c.in-CheckOpen.is) c.judge_open.ensures.outcome
 
 pub returns-in-Explain-clause-outcome : goal.returns-in-Explain-clause-outcome
 returns-in-Explain-clause-outcome g c =
