@@ -1,19 +1,21 @@
 -- The status of a failure that ends a command has its cause.
 -- Cited by `run_words`.
 use Rattle.std.proofs.Common.{rules, tests, ◌≡◌, ◌≢◌, ℕ, List, refl, subst, inl, inr, Option, Some, None}
+use Rattle.std.specs.Prelude.{◌⊎◌}
 use Rattle.std.specs.Prelude.{Result, Err}
 use Rattle.task_base.specs.declared.fault.Fault.TheVariants.{NotLegal, BadWords, BadScript, ReadFault, WriteFault, NoMemory, TooLarge}
 use Rattle.app_modes.specs.declared.failure.Failure.{Failure}
-use Rattle.app_modes.specs.declared.failure.Failure.TheVariants.{Common, Linted, NoOrder, GaveUp, BadEvents, NotTraced, BadReplies, BadNest}
+use Rattle.app_modes.specs.declared.failure.Failure.TheVariants.{Common, Linted, NoOrder, GaveUp, BadEvents, BadPlan, NotTraced, BadReplies, BadNest}
 use Rattle.command_line.specs.declared.words.Command.{Command}
-use Rattle.command_line.specs.declared.words.Command.TheVariants.{Run, Simulate, Check, Explain, Arrange, Reply, Trace, Nest, Lint}
-use Rattle.command_line.specs.CommandLine.{IsArrange, IsJudge, IsLint, IsTrace, TakesInput, WritesVerdict, takes_prefix}
+use Rattle.command_line.specs.declared.words.Command.TheVariants.{Run, Simulate, Check, CheckOpen, Explain, Arrange, Reply, Trace, Nest, Lint}
+use Rattle.command_line.specs.CommandLine.{IsArrange, IsJudge, IsLint, IsOpenJudge, IsTrace, TakesInput, WritesVerdict, takes_prefix}
 use Rattle.app_modes.specs.Failures.{failure_status}
 use Rattle.app_streams.specs.Ends.{Ends, IsSteady}
 use Rattle.app_streams.specs.Taken.{IsWithin, OfBytes, OfTaken, TookAll, TookMore, TookWithin}
 use Rattle.app_modes.specs.Outcome.{Does, EndsIn, IsWritten, refusal_of}
 use Rattle.env_app.specs.Statuses.{HasCause, IsDone}
 use Rattle.env_app.proofs.LegalLogs.{SaysLegal, check_says, explain_says, trace_says}
+use Rattle.env_app.proofs.OpenLogs.{SaysLegalOpen, check_open_says}
 
 -- ---- what a command does
 
@@ -45,14 +47,24 @@ of_arrange : (command : Option Command) → IsArrange command → IsOfArrange co
 of_arrange (Some (Arrange prefix most)) arranges = record { none = inr (inl refl); bad = inr (inr (inl refl)); gave_up = inr (inr (inr refl)); takes = tt }
 of_arrange command arranges = absurd arranges
 
-verdict_judges : (command : Option Command) → WritesVerdict command → IsJudge command
-verdict_judges (Some (Check prefix)) writes = tt
-verdict_judges (Some (Explain json prefix)) writes = tt
-verdict_judges command writes = absurd writes
+-- and of one that writes its verdict on a log
+record IsOfVerdict (command : Option Command) : Type 0 where
+  judges : IsJudge command ⊎ (IsOpenJudge command ⊎ (IsLint command ⊎ IsArrange command))
+  of : IsOfJudge command
+
+of_verdict : (command : Option Command) → WritesVerdict command → IsOfVerdict command
+of_verdict (Some (Check prefix)) writes = record { judges = inl tt; of = record { done = inr refl; takes = tt } }
+of_verdict (Some (CheckOpen prefix)) writes = record { judges = inr (inl tt); of = record { done = inr refl; takes = tt } }
+of_verdict (Some (Explain json prefix)) writes = record { judges = inl tt; of = record { done = inr refl; takes = tt } }
+of_verdict command writes = absurd writes
 
 trace_judges : (command : Option Command) → IsTrace command → IsJudge command
 trace_judges (Some (Trace full prefix)) traces = tt
 trace_judges command traces = absurd traces
+
+open_takes : (command : Option Command) → IsOpenJudge command → TakesInput command
+open_takes (Some (CheckOpen prefix)) judges = tt
+open_takes command judges = absurd judges
 
 -- a command that reads the source does what it does with bytes, within the limit, that are not refused
 record IsTaken (command : Option Command) (bytes : List ℕ) : Type 0 where
@@ -71,6 +83,8 @@ taken Holds (Some (Run step json shake)) told source takes does =
 taken Holds (Some (Simulate seed favour step json)) told source takes does =
     of_told (Some (Simulate seed favour step json)) source does.bytes does.took (rw does.holds.reads refl)
 taken Holds (Some (Check prefix)) told source takes does = of_told (Some (Check prefix)) source does.bytes does.took (rw does.holds.reads refl)
+taken Holds (Some (CheckOpen prefix)) told source takes does =
+    of_told (Some (CheckOpen prefix)) source does.bytes does.took (rw (does.holds.reads, does.holds.plan) refl)
 taken Holds (Some (Explain json prefix)) told source takes does = of_told (Some (Explain json prefix)) source does.bytes does.took (rw does.holds.reads refl)
 taken Holds (Some (Arrange prefix most)) told source takes does =
     of_told (Some (Arrange prefix most)) source does.bytes does.took (rw does.holds.reads refl)
@@ -102,8 +116,10 @@ cause_of_failure command told source sink GaveUp runs source_steady sink_steady 
 cause_of_failure command told source sink (BadEvents bad) runs source_steady sink_steady more within =
     let of = of_arrange command runs.0 in let bytes = taken _ command told source of.takes runs.2 in search (rules, tests)
 cause_of_failure command told source sink (Common (NotLegal line)) runs source_steady sink_steady more within =
-    let judges = verdict_judges command runs.0 in let of = of_judge command judges in
+    let verdict = of_verdict command runs.0 in let judges = verdict.judges in let of = verdict.of in
     let bytes = taken _ command told source of.takes runs.2 in search (rules, tests)
+cause_of_failure command told source sink (BadPlan bad) runs source_steady sink_steady more within =
+    let takes = open_takes command runs.0 in search (rules, tests)
 cause_of_failure command told source sink (BadReplies line reason) runs source_steady sink_steady more within = search (rules, tests)
 cause_of_failure command told source sink (BadNest line reason) runs source_steady sink_steady more within = search (rules, tests)
 cause_of_failure command told source sink (Common (BadScript line reason)) runs source_steady sink_steady more within = search (rules, tests)
@@ -125,3 +141,10 @@ judge_says (Some (Explain json prefix)) told source sink status does judges =
 judge_says (Some (Trace full prefix)) told source sink status does judges =
     record { bytes = does.bytes; took = does.took; holds = trace_says full prefix does.bytes sink status does.holds }
 judge_says command told source sink status does judges = absurd judges
+
+-- and so that of one that judges a log of an open plan
+pub open_judge_says : (command : Option Command) (told : ℕ → Option ℕ) (source sink : Ends) (status : ℕ) → Does command told source (IsWritten sink status)
+    → IsOpenJudge command → OfTaken source (λ bytes. SaysLegalOpen (takes_prefix command) bytes status)
+open_judge_says (Some (CheckOpen prefix)) told source sink status does judges =
+    record { bytes = does.bytes; took = does.took; holds = check_open_says prefix does.bytes sink status does.holds }
+open_judge_says command told source sink status does judges = absurd judges

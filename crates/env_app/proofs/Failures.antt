@@ -5,7 +5,7 @@ use Rattle.std.specs.Prelude.{Err}
 use Rattle.task_base.specs.declared.fault.Fault.TheVariants.{NotLegal, BadScript}
 use Rattle.command_line.specs.declared.words.Command.{Command}
 use Rattle.app_modes.specs.declared.failure.Failure.{Failure}
-use Rattle.app_modes.specs.declared.failure.Failure.TheVariants.{Common, Linted, NoOrder, GaveUp, BadEvents, NotTraced, BadReplies, BadNest}
+use Rattle.app_modes.specs.declared.failure.Failure.TheVariants.{Common, Linted, NoOrder, GaveUp, BadEvents, BadPlan, NotTraced, BadReplies, BadNest}
 use Rattle.app_modes.specs.Failures.{is_verdict, failure_note, failure_status, note_line}
 use Rattle.app_streams.specs.Ends.{Ends}
 use Rattle.app_modes.specs.Outcome.{EndsIn}
@@ -41,6 +41,7 @@ is_end command told source sink failure status runs is = let of = is_of failure 
     is_of NoOrder runs = (runs.0, tt)
     is_of GaveUp runs = (runs.0, tt)
     is_of (BadEvents bad) runs = (runs.0, runs.3)
+    is_of (BadPlan bad) runs = runs
     is_of (NotTraced line) runs = (runs.0, runs.3)
     is_of (BadReplies line reason) runs = runs
     is_of (BadNest line reason) runs = runs

@@ -1,5 +1,5 @@
 -- Where a log is found right it is a legal one, and where it is found wrong there is none.
--- Cited by `Causes`.
+-- Cited by `Causes`, `OpenLogs`.
 use Rattle.std.proofs.Common.{rules, tests, ◌≡◌, ℕ, Bool, true, false, List, refl}
 use Rattle.std.proofs.Common.{sym, ap, subst, ◌∙◌, inl, inr, Option, Some, None, arith}
 use Rattle.std.specs.Prelude.{is_none, All}
@@ -26,7 +26,7 @@ use Rattle.app_modes.specs.Outcome.{IsWritten}
 
 -- ---- legal and whole
 
-none_from : (o : Option ℕ) → is_none o ≡ true → o ≡ None
+pub none_from : (o : Option ℕ) → is_none o ≡ true → o ≡ None
 none_from None is = refl
 none_from (Some place) is = absurd cc
 
@@ -56,7 +56,7 @@ legal_from_verdict true script log verdict = by_first_illegal (first_illegal scr
 
 -- ---- what was found
 
-no_line : (version : Version) (verdict : Verdict) → None ≡ line_in version verdict → verdict ≡ Legal
+pub no_line : (version : Version) (verdict : Verdict) → None ≡ line_in version verdict → verdict ≡ Legal
 no_line version Legal is = refl
 no_line version (Illegal place) is = absurd cc
 
@@ -75,7 +75,7 @@ is_legal_log prefix bytes h = elim h.found [
 ]
 
 -- a text is that of one log alone, and begins that of one alone
-same_text : (prefix : Bool) (text : List ℕ) (log other : List Entry) (cut last : Option ℕ) → All Fits log → All Fits other → IsTextFor prefix text log cut
+pub same_text : (prefix : Bool) (text : List ℕ) (log other : List Entry) (cut last : Option ℕ) → All Fits log → All Fits other → IsTextFor prefix text log cut
     → IsTextFor prefix text other last → log ≡ other
 same_text false text log other cut last fits fit (this, is, none) (that, same, nothing) =
     let versions : this ≡ that = sym (version_of-text_in this log) ∙ ap version_of (is ∙ sym same) ∙ version_of-text_in that other in

@@ -1,3 +1,4 @@
 pub mod Failures
 pub mod LegalLogs
+pub mod OpenLogs
 pub mod Causes

@@ -3,13 +3,13 @@ use Rattle.std.specs.Prelude.{◌≡◌, ◌≢◌, ◌⊎◌, ◌<◌, ◌≤�
 use Rattle.task_base.specs.declared.limits.TheConstants.{MOST_BYTES}
 use Rattle.task_base.specs.declared.fault.Fault.TheVariants.{NotLegal, BadScript}
 use Rattle.command_line.specs.declared.words.Command.{Command}
-use Rattle.command_line.specs.declared.words.Command.TheVariants.{Run, Simulate, Check, Explain, Arrange, Reply, Trace, Nest, Lint, Generate, Bench}
+use Rattle.command_line.specs.declared.words.Command.TheVariants.{Run, Simulate, Check, CheckOpen, Explain, Arrange, Reply, Trace, Nest, Lint, Generate, Bench}
 use Rattle.app_streams.specs.Ends.{Ends, Failed, IsSteady}
 use Rattle.app_streams.specs.Taken.{IsReadToEnd, OfBytes, IsWithin, TookMore, TookWithin, OfTaken}
 use Rattle.app_modes.specs.declared.failure.Failure.{Failure}
-use Rattle.app_modes.specs.declared.failure.Failure.TheVariants.{Common, Linted, NoOrder, GaveUp, BadEvents, NotTraced, BadReplies, BadNest}
+use Rattle.app_modes.specs.declared.failure.Failure.TheVariants.{Common, Linted, NoOrder, GaveUp, BadEvents, BadPlan, NotTraced, BadReplies, BadNest}
 use Rattle.app_modes.specs.Failures.{failure_status}
-use Rattle.command_line.specs.CommandLine.{IsArrange, IsJudge, IsLint, IsTrace, TakesInput, WritesVerdict, takes_prefix}
+use Rattle.command_line.specs.CommandLine.{IsArrange, IsJudge, IsLint, IsOpenJudge, IsTrace, TakesInput, WritesVerdict, takes_prefix}
 use Rattle.app_modes.specs.Arranged.{HasBadEvents}
 use Rattle.app_modes.specs.Judged.{IsFoundIn}
 use Rattle.app_modes.specs.Outcome.{Does, IsRefused, IsWritten, IsCutOff, refusal_of}
@@ -21,6 +21,7 @@ IsDone None status = status ≡ 0
 IsDone (Some (Run step json shake)) status = status ≡ 0
 IsDone (Some (Simulate seed favour step json)) status = status ≡ 0
 IsDone (Some (Check prefix)) status = (status ≡ 0) ⊎ (status ≡ 1)
+IsDone (Some (CheckOpen prefix)) status = (status ≡ 0) ⊎ (status ≡ 1)
 IsDone (Some (Explain json prefix)) status = (status ≡ 0) ⊎ (status ≡ 1)
 IsDone (Some (Arrange prefix most)) status = (status ≡ 0) ⊎ (status ≡ 1) ⊎ (status ≡ 3) ⊎ (status ≡ 8)
 IsDone (Some Reply) status = status ≡ 0
@@ -40,7 +41,7 @@ pub record HasCause (command : Option Command) (told : ℕ → Option ℕ) (sour
   -- nothing above 8 is answered
   pub known : status ≤ 8
   -- 1 comes only where a log is judged, or an input, or an order is looked for
-  pub judged : status ≡ 1 → IsJudge command ⊎ IsLint command ⊎ IsArrange command
+  pub judged : status ≡ 1 → IsJudge command ⊎ IsOpenJudge command ⊎ IsLint command ⊎ IsArrange command
   -- 8 comes only where an order is looked for, the source was read to its end, and the whole of what goes with it was written
   pub gave_up : status ≡ 8 → IsArrange command × IsReadToEnd source × Does command told source (IsWritten sink status)
   -- 2 comes only where the words are no command
@@ -87,6 +88,7 @@ IsFailureOf command Linted = IsLint command
 IsFailureOf command NoOrder = IsArrange command
 IsFailureOf command GaveUp = IsArrange command
 IsFailureOf command (BadEvents bad) = IsArrange command
+IsFailureOf command (BadPlan bad) = IsOpenJudge command
 IsFailureOf command (NotTraced line) = IsTrace command
 IsFailureOf command (BadReplies line reason) = command ≡ Some Reply
 IsFailureOf command (BadNest line reason) = command ≡ Some Nest
@@ -100,6 +102,7 @@ IsOfBytes command source Linted = Unit {0}
 IsOfBytes command source NoOrder = Unit {0}
 IsOfBytes command source GaveUp = Unit {0}
 IsOfBytes command source (BadEvents bad) = OfTaken source (λ bytes. HasBadEvents bytes bad)
+IsOfBytes command source (BadPlan bad) = IsRefused command source (BadPlan bad)
 IsOfBytes command source (NotTraced line) = OfTaken source (λ bytes. IsFoundIn (takes_prefix command) bytes (Some line))
 IsOfBytes command source (BadReplies line reason) = IsRefused command source (BadReplies line reason)
 IsOfBytes command source (BadNest line reason) = IsRefused command source (BadNest line reason)

@@ -4,18 +4,19 @@ ghost use Rattle.task_base.specs.declared.entry.Entry.{Entry};
 ghost use Rattle.script_model.specs.Canonical.{canonical};
 ghost use Rattle.run_summary.specs.Summary.{generated_totals};
 ghost use Rattle.env_io.specs.Bytes.{Gains, Rose};
-ghost use Rattle.command_line.specs.declared.words.Command.TheVariants.{Run, Simulate, Check, Explain, Arrange, Reply, Trace, Nest, Lint, Generate, Bench};
+ghost use Rattle.command_line.specs.declared.words.Command.TheVariants.{Run, Simulate, Check, CheckOpen, Explain, Arrange, Reply, Trace, Nest, Lint, Generate, Bench};
 ghost use Rattle.command_line.specs.declared.options.Favour.{Favour};
 ghost use Rattle.command_line.specs.declared.options.Shake.{Shake};
 ghost use Rattle.command_line.specs.declared.options.Wide.{Wide};
 ghost use Rattle.command_line.specs.declared.words.Linted.{Linted};
 ghost use Rattle.command_line.specs.declared.words.Linted.TheVariants as linted;
-ghost use Rattle.command_line.specs.CommandLine.{IsJudge, ReadsClock, TakesInput, WritesJson, command_of, takes_prefix};
+ghost use Rattle.command_line.specs.CommandLine.{IsJudge, IsOpenJudge, ReadsClock, TakesInput, WritesJson, command_of, takes_prefix};
 ghost use Rattle.app_modes.specs.declared.failure.Failure.{Failure};
 ghost use Rattle.app_modes.specs.Failures.{note_line};
 ghost use Rattle.app_modes.specs.Arranged.{HasArranged};
 ghost use Rattle.app_modes.specs.Judged.{HasChecked, HasLegalLog, HasTraced, IsLegalLog};
 ghost use Rattle.app_modes.specs.Explained.{HasExplained};
+ghost use Rattle.app_modes.specs.Opened.{HasCheckedOpen, HasLegalOpenLog, IsLegalOpenLog};
 ghost use Rattle.app_modes.specs.Linted.{IsSaid, lint_said};
 ghost use Rattle.app_modes.specs.Totals.{summary_text};
 ghost use Rattle.script_lint.specs.Lint.{fault_line};
@@ -37,7 +38,8 @@ use std::thread::Threads;
 /// Does what the words ask for, and answers the exit status (this project's own rule).
 ///
 /// The command is `taskenv MODE [--step N] [--json] [--prefix] [--number N] [--size N] [--replies] [--nest] [--full] [--seed N]
-/// [--favour WORD] [--jump] [--shake N] [--work N] [--wide] [--no-jobs] [--no-main] [--no-delays] [--no-scopes] [--no-shutdown] [--most N]`,
+/// [--favour WORD] [--jump] [--shake N] [--work N] [--wide] [--no-jobs] [--no-main] [--no-delays] [--no-scopes] [--no-shutdown] [--most N]
+/// [--open]`,
 /// the program's name first.
 /// The modes are:
 ///
@@ -50,7 +52,8 @@ use std::thread::Threads;
 ///   what `run` does of its log, which is the same whenever it is asked for.
 /// - `check` reads a script, the line `%%` and a log from the source, to its end, and writes whether the log is that of a
 ///   whole run of the script, which is status 0, or at which line it is not, which is status 1. With `--prefix` the log may
-///   also end before the script is done.
+///   also end before the script is done. With `--open` the script only declares, and the log is that of whatever an environment of its
+///   open plan did, at whose end nobody is at work, or with `--prefix` it may end anywhere; a script of no open plan is status 3.
 /// - `explain` does what `check` does, and writes behind the line at which a log is wrong why, in words or with `--json` in JSON.
 /// - `arrange` reads a script, the line `%%` and what each seat saw from the source, to its end, and writes the log of an order of it that
 ///   may have come, which is status 0; or that there is none, which is status 1, or that `--most` steps found none, which is status 8,
@@ -116,6 +119,17 @@ pub fn run_words<
     ensures verdict { (prefix : Bool) → command_of (map string_bytes words.now) ≡ Some (Check prefix) → (result ≡ 0) ⊎ (result ≡ 1)
         → OfTaken (ends (S.left source.old) (S.left source.new) (S.faults source.old) (S.faults source.new))
         (λ bytes. HasChecked prefix bytes (λ status text. (result ≡ status) × WroteAll (K.holds sink.old) (K.holds sink.new) text)) }
+    // `check --open` answers and writes the same of a log of the script's open plan. 0 comes only where the log is legal for the plan, its
+    // numbers fit, and nobody runs or holds anything at its end, and 1 only where there is none; with `--prefix` nothing is asked of its end.
+    ensures open_verdict { (prefix : Bool) → command_of (map string_bytes words.now) ≡ Some (CheckOpen prefix) → (result ≡ 0) ⊎ (result ≡ 1)
+        → OfTaken (ends (S.left source.old) (S.left source.new) (S.faults source.old) (S.faults source.new))
+        (λ bytes. HasCheckedOpen prefix bytes (λ status text. (result ≡ status) × WroteAll (K.holds sink.old) (K.holds sink.new) text)) }
+    ensures legal_open_log { IsOpenJudge (command_of (map string_bytes words.now)) → result ≡ 0
+        → OfTaken (ends (S.left source.old) (S.left source.new) (S.faults source.old) (S.faults source.new))
+        (HasLegalOpenLog (takes_prefix (command_of (map string_bytes words.now)))) }
+    ensures no_legal_open_log { IsOpenJudge (command_of (map string_bytes words.now)) → result ≡ 1
+        → OfTaken (ends (S.left source.old) (S.left source.new) (S.faults source.old) (S.faults source.new))
+        (λ bytes. (script : Plan) (log : List Entry) → ¬ IsLegalOpenLog (takes_prefix (command_of (map string_bytes words.now))) bytes script log) }
     // `explain` writes what `check` writes, and behind it an explanation of the verdict: a cause that holds, and with most of them
     // an entry that would be allowed there; or where the text is that of no log, which mistake its first bad line has.
     ensures explained { (json prefix : Bool) → command_of (map string_bytes words.now) ≡ Some (Explain json prefix) → (result ≡ 0) ⊎ (result ≡ 1)

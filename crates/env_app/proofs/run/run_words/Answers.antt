@@ -1,12 +1,17 @@
 use Rattle.std.proofs.Common.{◌∙◌, inl, inr, sym}
 use Rattle.app_streams.specs.Ends.{ends}
 use Rattle.env_app.proofs.Failures.{is_end, no_verdict}
-use Rattle.env_app.proofs.Causes.{cause_of_failure, judge_says}
+use Rattle.env_app.proofs.Causes.{cause_of_failure, judge_says, open_judge_says}
 use Rattle.env_app.proofs.run.run_words.Goals as goal
 
 pub returns-in-Ok-clause-legal_log : goal.returns-in-Ok-clause-legal_log
 returns-in-Ok-clause-legal_log g c judges zero =
     let says = judge_says _ _ _ (ends _ _ 0 0) 0 c.in-Ok.ensures.outcome.2 judges in
+    record { bytes = says.bytes; took = says.took; holds = says.holds.legal zero }
+
+pub returns-in-Ok-clause-legal_open_log : goal.returns-in-Ok-clause-legal_open_log
+returns-in-Ok-clause-legal_open_log g c judges zero =
+    let says = open_judge_says _ _ _ (ends _ _ 0 0) 0 c.in-Ok.ensures.outcome.2 judges in
     record { bytes = says.bytes; took = says.took; holds = says.holds.legal zero }
 
 pub returns-in-Err-clause-cause : goal.returns-in-Err-clause-cause
@@ -33,6 +38,14 @@ returns-in-Err-clause-no_legal_log g c judges one =
     let cause = cause_of_failure _ _ _ _ c.in-Err.failure c.in-Err.ensures.outcome c.in-Err.ensures.source_steady c.in-Err.ensures.sink_steady
     c.in-Err.ensures.took_more c.in-Err.ensures.took_within in
     let says = judge_says _ _ _ (ends _ _ 0 0) _ (cause.done (inr is_one)) judges in
+    record { bytes = says.bytes; took = says.took; holds = says.holds.not_legal is_one }
+
+pub returns-in-Err-clause-no_legal_open_log : goal.returns-in-Err-clause-no_legal_open_log
+returns-in-Err-clause-no_legal_open_log g c judges one =
+    let is_one = sym c.status.ensures.status ∙ one in
+    let cause = cause_of_failure _ _ _ _ c.in-Err.failure c.in-Err.ensures.outcome c.in-Err.ensures.source_steady c.in-Err.ensures.sink_steady
+    c.in-Err.ensures.took_more c.in-Err.ensures.took_within in
+    let says = open_judge_says _ _ _ (ends _ _ 0 0) _ (cause.done (inr is_one)) judges in
     record { bytes = says.bytes; took = says.took; holds = says.holds.not_legal is_one }
 
 pub returns-in-Err-clause-explained : goal.returns-in-Err-clause-explained
