@@ -1,15 +1,13 @@
-ghost use Rattle.std.specs.Prelude.{◌≡◌, ◌+◌, ◌==◌, ◌≤◌, ◌++◌, [], Some, None, IfOk, IfErr, codes, decimal, length};
-ghost use Rattle.std.specs.List.{slice_split};
+ghost use Rattle.std.specs.Prelude.{◌≡◌, ◌+◌, ◌≤◌, ◌++◌, [], Some, None, IfOk, IfErr, codes, decimal, length};
 ghost use Rattle.task_base.specs.Plan.{opened};
 ghost use Rattle.task_base.specs.declared.limits.TheConstants.{MOST_BYTES};
 ghost use Rattle.script_model.specs.Laws.Sound.{IsSound};
 ghost use Rattle.live_core.specs.StandsFor.{StandsFor};
-ghost use Rattle.open_check.specs.Plans.{IsNoPlan, action_line, declares, is_action_line, plan_fault, plan_note};
+ghost use Rattle.open_check.specs.Plans.{IsNoPlan, plan_fault, plan_note};
 
 use line_text::{Line, add, add_decimal};
-use line_words::{Words, begins_comment};
 use live_core::{LiveCore, OpenError};
-use script_lines::without_return;
+use plan_text::action_line;
 use std::alloc::{AllocError, Global};
 use task_base::{RunnerId, Script};
 
@@ -79,40 +77,4 @@ pub fn open_plan(alloc: Global, script: Script, text: &[u8]) -> Result<LiveCore,
             Err(PlanFault::Bad(BadPlan::GuestRunner { runner }))
         }
     }
-}
-
-/// The number of the first line that says an action, or 0 where there is none.
-#[tactic(auto, unfolding(crate::specs::Plans::action_line))]
-fn action_line(text: &[u8]) -> u32
-    requires { length text.now ≤ MOST_BYTES }
-    ensures { result ≡ action_line text.now }
-{
-    let mut lines = text.split(|byte| *byte == b'\n');
-    match lines.position(|line| is_action_line(line)) {
-        None => 0,
-        Some(place) => place as u32 + 1,
-    }
-}
-
-/// Whether the line says an action: it has a word, and is no comment, no configuration and no declaration.
-fn is_action_line(line: &[u8]) -> bool
-    ensures { result ≡ is_action_line line.now }
-{
-    match Words::of(without_return(line)).next() {
-        None => false,
-        Some(name) => !begins_comment(name) && !declares(name),
-    }
-}
-
-/// Whether a line that begins with this word configures or declares.
-fn declares(name: &[u8]) -> bool
-    ensures { result ≡ declares name.now }
-{
-    name == b"workers".as_slice()
-        || name == b"groups".as_slice()
-        || name == b"threshold".as_slice()
-        || name == b"runner".as_slice()
-        || name == b"queue".as_slice()
-        || name == b"task".as_slice()
-        || name == b"job".as_slice()
 }
