@@ -1,5 +1,5 @@
 -- When each entry may come in an open plan, by what fits its call and what the machines answer.
--- Cited by 25 functions of `LiveCore`.
+-- Cited by 16 functions of `LiveCore`.
 use Rattle.std.proofs.Common.{◌≡◌, ℕ, ◌<◌, ◌≤◌, Bool, true, false, List, refl, Option, Some, None, arith}
 use Rattle.std.specs.Prelude.{◌&&◌, is_none, is_some, nat_le, not}
 use Rattle.std.specs.List.{list_all}
