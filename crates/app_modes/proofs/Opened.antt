@@ -1,6 +1,6 @@
 -- A verdict on a log of an open plan, and how a command ends that wrote one.
 -- Cited by `find_open`, `judge_open`.
-use Rattle.std.proofs.Common.{rules, tests, ◌≡◌, ◌≢◌, ◌≤◌, ℕ, Bool, true, false, List, length, refl, ap, ◌∙◌, Option, Some, None}
+use Rattle.std.proofs.Common.{rules, tests, ◌≡◌, ◌≢◌, ◌≤◌, ℕ, Bool, true, false, List, length, refl, Option, Some, None}
 use Rattle.std.specs.Prelude.{IfErr, Result, Ok, Err}
 use Rattle.task_base.specs.Plan.{Plan, opened}
 use Rattle.task_base.specs.declared.entry.Entry.{Entry}

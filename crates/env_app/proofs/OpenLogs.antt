@@ -1,7 +1,7 @@
 -- The same of a log of an open plan.
 -- Cited by `Causes`.
 use Rattle.std.proofs.Common.{rules, tests, ◌≡◌, ℕ, Bool, true, false, List}
-use Rattle.std.proofs.Common.{sym, ap, subst, ◌∙◌, inl, inr, Option, Some, None, arith, refl}
+use Rattle.std.proofs.Common.{refl, sym, ap, ◌∙◌, inl, inr, Option, Some, None, arith}
 use Rattle.std.specs.Prelude.{is_none}
 use Rattle.task_base.specs.Plan.{Plan, opened}
 use Rattle.task_base.specs.declared.entry.Entry.{Entry}

@@ -1,5 +1,5 @@
 //! A log that is followed by the calls of its entries.
-ghost use Rattle.std.specs.Prelude.{◌≡◌, ◌<◌, [], List, length};
+ghost use Rattle.std.specs.Prelude.{◌<◌, [], List, length};
 ghost use Rattle.task_base.specs.Plan.{Plan};
 ghost use Rattle.task_base.specs.declared.entry.Entry.{Entry as AnyEntry};
 ghost use Rattle.live_core.specs.StandsFor.{StandsFor};

@@ -1,6 +1,4 @@
-use Rattle.std.proofs.Common.{ℕ, false, List, Some, ◌++◌, ap, refl, subst, ◌∙◌}
-use Rattle.std.specs.Prelude.{None}
-use Rattle.std.proofs.Common.{◌≡◌}
+use Rattle.std.proofs.Common.{◌≡◌, ℕ, false, List, None, ◌++◌, ap, refl, subst, ◌∙◌}
 use Rattle.script_model.specs.Grammar.{Reads}
 use Rattle.command_line.specs.declared.words.Command.TheVariants.{CheckOpen}
 use Rattle.open_check.specs.Plans.{plan_fault}
