@@ -1,4 +1,4 @@
-/* One environment, one task, one shutdown, and what each request is answered. */
+/* One environment, two tasks, one shutdown, and what each request is answered; and three plans that are refused. */
 #include "taskenv.h"
 
 #include <inttypes.h>
@@ -21,6 +21,15 @@ static void ask(unsigned char *core, const char *what, uint32_t call, uint32_t s
     printf("%s\n", answer.wake == LIVE_EVERYONE ? ", wakes everyone" : answer.wake == LIVE_ONE ? ", wakes one" : "");
 }
 
+/* Asks for a plan that is refused, and prints why, and in which line. */
+static void ask_for(unsigned char *core, const char *what, const char *text)
+{
+    struct live_opened opened;
+    uint32_t reason = live_open(core, (const unsigned char *)text, strlen(text), &opened);
+    printf("%-8s refused %" PRIu32 " line %" PRIu32 " number %" PRIu32 "\n", what, reason, opened.line, opened.number);
+    live_close(core);
+}
+
 int main(void)
 {
     unsigned char *core = aligned_alloc(16, (live_size() + 15) / 16 * 16);
@@ -39,6 +48,9 @@ int main(void)
     ask(core, "done", LIVE_DONE, 0);
     ask(core, "take", LIVE_TAKE, 1);
     live_close(core);
+    ask_for(core, "action", "# a comment\n\nrunner 0 parallel user_visible skip\ntask 0 add 1\r\npost 0 0 0\n");
+    ask_for(core, "no plan", "workers 1\nno\n");
+    ask_for(core, "guest", "workers 2\nrunner 0 single:2 user_visible skip\n");
     free(core);
     return 0;
 }

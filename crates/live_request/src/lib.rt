@@ -20,6 +20,3 @@ pub use live::Live;
 pub use opened::{Opened, Unopened};
 pub use request::{Ask, Request};
 pub use slot::Slot;
-
-#[cfg(test)]
-mod tests;
