@@ -275,9 +275,22 @@ def case_progress(room: str, home: str, program: str) -> bool:
     command = [os.path.join(pool.clone.folder, "taskenv"), "judge", "--runs", "3", "script.task", "--", sys.executable, POOLS, "right"]
     ended = subprocess.run(command, stdin=subprocess.DEVNULL, stdout=subprocess.PIPE, stderr=theirs, cwd=pool.folder, timeout=60)
     os.close(theirs)
-    shown = os.read(ours, 65536)
+    shown = _all_shown(ours)
     os.close(ours)
     return ended.stdout == b"3 runs: all legal\n" and b"3 of 3 runs, 0 not legal" in shown and shown.endswith(b" \r")
+
+
+def _all_shown(terminal: int) -> bytes:
+    """What was written to a terminal whose other side is closed. It may come in parts."""
+    shown = b""
+    while True:
+        try:
+            part = os.read(terminal, 65536)
+        except OSError:
+            return shown
+        if not part:
+            return shown
+        shown += part
 
 
 class Pool:
