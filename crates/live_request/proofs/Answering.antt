@@ -1,5 +1,5 @@
 -- What an environment answers is what the slot answers that it lies in; and both stand for some past again.
--- Cited by `Slot::call`, `laws.rt`, `tests.rt`.
+-- Cited by `Slot::call`, `laws.rt`.
 use Rattle.std.proofs.Common.{◌≡◌, ℕ, List, [], refl, Option, Some, None, Result, Ok, Err}
 use Rattle.std.specs.Prelude.{IfSome}
 use Rattle.std.specs.Result.{result_ok}
