@@ -18,10 +18,6 @@ using Lock = std::unique_lock<std::mutex>;
 // Makes what is done outside of the lock last a while. Else a script is posted before a worker is awake, and all runs are alike.
 void take_time() { std::this_thread::sleep_for(std::chrono::microseconds(50)); }
 
-Value after(const Step& step, Value value) {
-    return step.word == "add" ? value + step.first : step.word == "mul" ? value * step.first : step.first;
-}
-
 class Play {
     const Script script;
     const Bug bug;

@@ -22,6 +22,11 @@ struct Step {
 };
 using Body = std::vector<Step>;
 
+// What a computing step makes of a value.
+inline Value after(const Step& step, Value value) {
+    return step.word == "add" ? value + step.first : step.word == "mul" ? value * step.first : step.first;
+}
+
 struct Runner {
     bool is_parallel;
     unsigned only_seat;  // of a single-thread runner, else 0

@@ -13,10 +13,6 @@
 
 #include <iostream>
 
-Value after(const Step& step, Value value) {
-    return step.word == "add" ? value + step.first : step.word == "mul" ? value * step.first : step.first;
-}
-
 class Play {
     const Script script;
     SplitPool pool;
