@@ -151,7 +151,7 @@ enum live_priority { LIVE_BEST_EFFORT = 0, LIVE_USER_VISIBLE, LIVE_USER_BLOCKING
 enum live_fence { LIVE_NOW = 0, LIVE_START };
 enum live_reply { LIVE_REFUSED = 0, LIVE_FINISHED, LIVE_JOB_CANCELLED, LIVE_STOPPED };
 
-/* What is asked. What a call does not name is not looked at. */
+/* What is asked. What a call does not name is not looked at. A post always names something: with `task` left 0 it is task 0. */
 struct live_request {
     uint32_t call;  /* a live_call_code */
     uint32_t rests; /* 0: the call is made; 1: the call's seat rests until it would be answered. A take, idle, joined, cancelled

@@ -4,11 +4,11 @@
 //
 // Driver's calls. Some calls are the main thread's, and the core takes them only while the main thread runs no main task and no item
 // of a job: a new priority for a runner (which making one may need), the policy, all that is done to a main queue but posts (a queue
-// that is made, fences, votes, classes, closing), and the start and the cancel of a job. Any thread may ask for them. While the main
+// that is made, fences, votes, classes, closing), and the post and the cancel of a job. Any thread may ask for them. While the main
 // thread is at work they are kept in a list, in order, and made as soon as its task or item has ended.
 //
 // Misuse throws std::logic_error, and changes nothing: null closures, or calls on a thread that may not make them. `NoRoom` is thrown
-// where the plan has no free runner, main queue or voter left. A post answers false where it was refused, or where no number is left.
+// where the plan has no free runner, main queue, voter or job left. A post answers false where it was refused, or where no number is left.
 #pragma once
 #include "taskenv_host.hpp"
 
@@ -284,18 +284,14 @@ private:
     detail::HomeRef home;
 };
 
-// A job that was started.
+// A job that was posted.
 class JobHandle {
 public:
     JobHandle(std::shared_ptr<detail::Host> of, unsigned its_number) : host(std::move(of)), job(its_number) {}
     // The main thread, outside of its tasks, works on the job too, until it has its reply. Not after shutdown.
     JobReply join() const { return host->join_job(job); }
     // No further item is begun (a driver's call). The main thread, outside of its tasks, also waits until nobody works on the job.
-    void cancel() const {
-        host->require_driver();
-        host->cancel_job(job);
-        host->await(detail::request(LIVE_CANCELLED, 0, job));
-    }
+    void cancel() const { host->cancel_job_and_wait(job); }
     void cancel_and_detach() const { host->cancel_job(job); }
 
 private:
@@ -340,10 +336,10 @@ public:
     TaskRunner main_task_runner() { return main_queue().task_runner(); }
     bool post_task(Traits traits, OnceClosure closure) { return task_runner(traits).post_task(std::move(closure)); }
 
-    // Starts a job of the options: `work` is called once for each item, by several threads at once (a driver's call).
-    JobHandle start_job(unsigned job, std::function<void(JobDelegate&)> work) {
-        host->start_job(job, std::move(work));
-        return JobHandle(host, job);
+    // Posts a job of so many items: `work` is called once for each, by several threads at once, but by no more than `most_at_once` (a
+    // driver's call). It is the smallest job of the plan that has room for them, which is posted once. `may_block` has no effect.
+    JobHandle post_job(Traits traits, std::uint32_t items, std::function<void(JobDelegate&)> work, std::uint32_t most_at_once = most_inside_a_job) {
+        return JobHandle(host, host->post_job(traits, items, std::move(work), most_at_once));
     }
     // Says which work of the pool may start (a driver's call). From the start of shutdown on it has no effect.
     void set_policy(Policy policy) { host->drive(detail::request(LIVE_POLICY, 0, 0, std::uint32_t(policy))); }
@@ -355,6 +351,8 @@ public:
     }
     // Begins shutdown, and waits until all is done that blocks it. No task starts after that, and no post is accepted.
     void shutdown() { host->shutdown(); }
+    // Whether shutdown has begun: from any thread, as for a task that may end early.
+    bool has_shutdown_started() const { return host->has_shutdown_started(); }
 
     // Runs main tasks and waits for the pool, until neither has anything to do.
     void run_until_idle() {
@@ -378,9 +376,9 @@ public:
     Microseconds now() const { return Microseconds(host->now()); }
     // How often something can still be posted. (What is refused counts too.)
     unsigned posts_left() const { return host->posts_left(); }
-    // The plan, a line `%%`, and the log of all that happened so far: what `check --open` reads. With `Options::record`.
-    std::string recording() const { return host->recording(); }
-    // Called with the whole recording at the end, when nothing can happen any more.
+    // The plan, a line `%%`, and what is kept of what happened so far, from any thread. What threads note by themselves is told only at the end.
+    std::string recording() const { return host->recording(false); }
+    // Called with the whole recording, if there is one, at the end, when nothing can happen any more.
     std::function<void(const std::string&)> on_end_of_recording;
 
 private:
@@ -389,7 +387,7 @@ private:
         // Worker seats whose threads didn't start have nothing to do: nothing was posted.
         host->shutdown();
         for (auto& thread : threads) thread.join();
-        if (on_end_of_recording) on_end_of_recording(host->recording());
+        if (on_end_of_recording && host->is_recorded()) on_end_of_recording(host->recording(true));
         host->close();
     }
     const std::shared_ptr<detail::Host> host;

@@ -1,29 +1,26 @@
 // The host of the core: what the client in C++ does with threads, its lock, sleep and closures. Programs include taskenv.hpp, which
 // has what users hold; who wants to check the client reads this file, for all that could go wrong is here.
 //
-// First come small tools; then `Plan` (which runners there are), `Recorder` (the log) and `Host`, which has the core. Each call of the
-// core is made by `Host::Held::call`, which exists only while the lock is held. At its end, once the lock is free, those are woken whom
-// the answers named.
+// First come small tools; then `Plan` (which runners and jobs there are), and `Host`, which has the core. Each call of the core is made by
+// `Host::Held::call`, which exists only while the lock is held. At its end, once the lock is free, those are woken whom the answers named.
 //
-// What always holds. No closure runs, and none is destroyed, while the lock is held. A closure's task has its number from the core; it
+// What always holds. While the lock is held no closure runs, and none is destroyed; and nothing is thrown but std::bad_alloc, so who
+// hears of a misuse, as a handler of std::terminate, may ask for the recording. A closure's task has its number from the core; it
 // is run by the thread whose seat took that number, and is destroyed before that seat says that the task has ended. A thread sleeps
 // only where the core answered that its seat rests; the main thread also where it found no main task, and the service thread where no
 // moment has come.
 #pragma once
-#include "taskenv_words.hpp"
+#include "taskenv_recorder.hpp"
 
 #include <array>
-#include <atomic>
 #include <bitset>
 #include <condition_variable>
 #include <cstdio>
 #include <cstdlib>
 #include <initializer_list>
 #include <mutex>
-#include <new>
 #include <optional>
 #include <queue>
-#include <string>
 
 namespace taskenv {
 
@@ -80,6 +77,35 @@ public:
 
 private:
     std::vector<Slot> free;
+};
+
+// A job of the plan: its number, how many items it has, and on how many of them the pool works at once.
+struct JobSlot {
+    std::uint32_t job, items, most_at_once;
+};
+
+// The jobs of one priority and behaviour that were not posted. Each is handed out once.
+class JobsLeft {
+public:
+    void declare(JobSlot slot) {
+        const auto before = [](const JobSlot& one, const JobSlot& other) {
+            return one.most_at_once != other.most_at_once ? one.most_at_once > other.most_at_once : one.items < other.items;
+        };
+        left.insert(std::upper_bound(left.begin(), left.end(), slot, before), slot);
+    }
+    // Of those with room for so many items, and on which no more than so many work at once: one on which the most do, and of these
+    // the smallest one.
+    std::optional<JobSlot> take(std::uint32_t items, std::uint32_t most_at_once) {
+        const auto fits = [&](const JobSlot& slot) { return slot.items >= items && slot.most_at_once <= most_at_once; };
+        const auto found = std::find_if(left.begin(), left.end(), fits);
+        if (found == left.end()) return std::nullopt;
+        const JobSlot slot = *found;
+        left.erase(found);
+        return slot;
+    }
+
+private:
+    std::vector<JobSlot> left;
 };
 
 // Where tasks are posted: a runner, or a main queue. Each task that waits or runs holds its home, so a runner's slot comes free when
@@ -149,8 +175,8 @@ private:
 
 // ---- the plan
 
-// The plan of some options: its text (docs/formats.md), and where its runners lie. First come the parallel runners, one for each
-// traits; then the slots of sequenced runners; then those of each worker's single-thread runners. Slots have all three priorities
+// The plan of some options: its text (docs/formats.md), and where its runners and jobs lie. First come the parallel runners, one for
+// each traits; then the slots of sequenced runners; then those of each worker's single-thread runners. Slots have all three priorities
 // in turn. Each task has the step `add 1`, so it finds in its cell how many tasks of its sequence ended before it.
 class Plan {
 public:
@@ -168,14 +194,18 @@ public:
         for (unsigned queue = 0; queue <= options.main_queues; ++queue)
             line("queue " + std::to_string(queue) + " " + std::to_string(first_class) + " " + std::to_string(options.voters));
         for (unsigned task = 0; task < options.posts; ++task) line("task " + std::to_string(task) + " add 1");
-        for (unsigned job = 0; job < options.jobs.size(); ++job) declare(job, options.jobs[job]);
+        for (const JobSlots& slots_of_one : options.jobs) declare(slots_of_one);
     }
     static unsigned sort_of(Traits traits) { return unsigned(traits.behaviour) * 2 + traits.may_block; }
     static unsigned parallel_runner(Traits traits) { return unsigned(traits.priority) * sorts + sort_of(traits); }
 
+    static unsigned sort_of_job(Priority priority, Behaviour behaviour) { return unsigned(priority) * 3 + unsigned(behaviour); }
+
     const unsigned workers;
     std::string text;
     std::vector<Slots> sequenced, single;
+    std::array<JobsLeft, 9> jobs_left;  // a priority and a behaviour
+    std::uint32_t jobs = 0;
 
 private:
     void configure(const Options& options) {
@@ -192,9 +222,20 @@ private:
         const std::string traits = std::string(name(priority)) + " " + name(Behaviour(sort / 2)) + (sort % 2 ? " mayblock" : "");
         line("runner " + std::to_string(runners++) + " " + kind + " " + traits);
     }
-    void declare(unsigned job, const JobOptions& options) {
-        line("job " + std::to_string(job) + " " + name(options.priority) + " " + name(options.behaviour) + " " + std::to_string(options.items) + " " +
-             std::to_string(options.most_at_once));
+    // Jobs whose sizes double.
+    void declare(const JobSlots& some) {
+        require(1 <= some.least && some.least <= some.most, "the sizes of jobs go up, from 1 item or more");
+        require(some.of_each <= 256, "there is room for 256 jobs at most");
+        for (std::uint64_t items = some.least;; items *= 2) {
+            const std::uint32_t size = std::uint32_t(std::min<std::uint64_t>(items, some.most));
+            for (unsigned slot = 0; slot < some.of_each; ++slot) job(some, size);
+            if (size == some.most) return;
+        }
+    }
+    void job(const JobSlots& some, std::uint32_t items) {
+        jobs_left[sort_of_job(some.priority, some.behaviour)].declare({jobs, items, std::min(some.most_at_once, most_inside_a_job)});
+        const std::string numbers = std::to_string(items) + " " + std::to_string(some.most_at_once);
+        line("job " + std::to_string(jobs++) + " " + name(some.priority) + " " + name(some.behaviour) + " " + numbers);
     }
     void line(const std::string& words) { text += words + "\n"; }
     static const char* name(Priority priority) {
@@ -208,83 +249,17 @@ private:
     unsigned runners = 0;
 };
 
-// ---- the flight recorder
-
-// Keeps each entry, as the core's answers tell them, and writes them as a log (docs/formats.md, version 2).
-class Recorder {
-public:
-    // Where there is no memory for an entry, the log ends before it, and lacks its total, so that it is known as cut.
-    void note(std::uint32_t seat, const live_answer& entry) noexcept {
-        try {
-            if (!is_cut) entries.push_back({seat, entry});
-        } catch (const std::bad_alloc&) {
-            is_cut = true;
-        }
-    }
-    std::string text() const {
-        std::string log = "taskenv log 2\n";
-        for (std::size_t place = 0; place < entries.size(); ++place)
-            log += words(place, entries[place].seat) + " " + words_of(entries[place].what) + "\n";
-        return is_cut ? log : log + "total " + std::to_string(entries.size()) + "\n";
-    }
-
-private:
-    struct Entry {
-        std::uint32_t seat;
-        live_answer what;
-    };
-    static std::string word(const char* text) { return text; }
-    static std::string word(std::uint64_t number) { return std::to_string(number); }
-    template <class First, class... Rest>
-    static std::string words(First first, Rest... rest) {
-        return (word(first) + ... + (" " + word(rest)));
-    }
-    static std::string words_of(const live_answer& did) {
-        static constexpr const char* policies[] = {"all", "foreground", "none"};
-        static constexpr const char* priorities[] = {"best_effort", "user_visible", "user_blocking"};
-        static constexpr const char* replies[] = {"refused", "done", "cancelled", "stopped"};
-        const char* const ok = did.ok ? "ok" : "no";
-        switch (did.kind) {
-        case LIVE_DID_POST: return words("post", did.task, did.place, did.value, ok);
-        case LIVE_DID_MAIN: return words("main", did.task, did.place, did.value, ok);
-        case LIVE_DID_TICK: return words("tick", did.value);
-        case LIVE_DID_TAKE: return words("take", did.task, did.place, did.value);
-        case LIVE_DID_END: return words("end", did.task, did.value);
-        case LIVE_DID_ENTER: return words("block", did.task, did.word == LIVE_MAY_BLOCK ? "may" : "will");
-        case LIVE_DID_LEAVE: return words("unblock", did.task);
-        case LIVE_DID_POLICY: return words("policy", policies[did.word]);
-        case LIVE_DID_REPRIO: return words("reprio", did.place, priorities[did.word]);
-        case LIVE_DID_FENCE: return words("fence", did.place, did.word == LIVE_NOW ? "now" : "start");
-        case LIVE_DID_UNFENCE: return words("unfence", did.place);
-        case LIVE_DID_VOTE: return words("vote", did.place, did.word, did.ok ? "on" : "off");
-        case LIVE_DID_RANK: return words("rank", did.place, did.word);
-        case LIVE_DID_CLOSE: return words("close", did.place);
-        case LIVE_DID_MAIN_TAKE: return words("maintake", did.task, did.place, did.value);
-        case LIVE_DID_MAIN_END: return words("mainend", did.task, did.value);
-        case LIVE_DID_MAIN_NONE: return "mainnone";
-        case LIVE_DID_JOB_POST: return words("startjob", did.place, ok);
-        case LIVE_DID_JOB_TAKE: return words("jobtake", did.place, did.id, did.item);
-        case LIVE_DID_JOB_STEP: return words("jobstep", did.place, did.id, did.item, did.value) + (did.ok ? " " + word(did.next) : " -");
-        case LIVE_DID_JOB_CANCEL: return words("cancel", did.place);
-        case LIVE_DID_CANCELLED: return words("cancelled", did.place);
-        case LIVE_DID_JOINED: return words("joined", did.place, replies[did.word]) + (did.word == LIVE_FINISHED ? " " + word(did.value) : "");
-        case LIVE_DID_IDLE: return "idle";
-        case LIVE_DID_SHUTDOWN: return "shutdown";
-        case LIVE_DID_DONE: return "done";
-        default: return "?";
-        }
-    }
-    std::vector<Entry> entries;
-    bool is_cut = false;
-};
-
 // ---- the host of the core
 
+using JobWork = std::function<void(JobDelegate&)>;
+
+// A job of the plan, from its post on.
 struct Job {
-    Behaviour behaviour;
-    std::atomic<bool> yields{false};
-    bool is_posted = false;
-    std::function<void(JobDelegate&)> work;
+    Behaviour behaviour = Behaviour::block_shutdown;
+    std::uint32_t items = 0;          // that were asked for: those after them are empty runs
+    std::uint32_t left = 0;           // items of the plan's job that have not ended
+    JobWork work;                     // until nobody can enter any more
+    std::atomic<bool> yields{false};  // what is left of its items is not wanted any more
 };
 
 inline live_request request(live_call_code call, std::uint32_t seat = 0, std::uint32_t place = 0, std::uint32_t word = 0, std::uint64_t time = 0) {
@@ -296,10 +271,10 @@ class Host : public std::enable_shared_from_this<Host> {
 public:
     explicit Host(const Options& given)
         : options(given), plan(given), room(new Block[live_size() / sizeof(Block) + 1]), parkers(new Parker[plan.workers + 2]),
-          waiting(given.posts), moments(std::greater<>(), reserved(given.posts)), jobs(given.jobs.size()), free_voters(given.main_queues + 1) {
+          events(given.record.kind == Record::events ? new Events(plan.workers + 2) : nullptr), waiting(given.posts),
+          moments(std::greater<>(), reserved(given.posts)), jobs(plan.jobs), free_voters(given.main_queues + 1) {
         scope_moments.fill(never);
-        if (given.record) recorder = std::make_unique<Recorder>();
-        for (std::size_t job = 0; job < jobs.size(); ++job) jobs[job].behaviour = given.jobs[job].behaviour;
+        if (given.record.kind != Record::nothing && !events) recorder = std::make_unique<Recorder>(given.record);
         for (auto& voters : free_voters)
             for (unsigned voter = given.voters; voter > 0; --voter) voters.push_back(voter - 1);
         open();
@@ -311,10 +286,11 @@ public:
     // The lock, while it is held. At the end it is let go; then who was named is woken; and last, what never runs is destroyed.
     class Held {
     public:
-        explicit Held(Host& of) : host(of), lock(of.mutex) {}
+        explicit Held(Host& of) : host(of), begun(of.events ? of.events->now() : 0), lock(of.mutex) {}
         Held(const Held&) = delete;
         ~Held() {
             lock.unlock();
+            if (seen) host.events->note(seen_by, begun, *seen);
             for (std::size_t seat = 0; named.any(); named.reset(seat++))
                 if (named.test(seat)) host.parkers[seat].unpark();
         }
@@ -326,7 +302,7 @@ public:
             if (answer.wake == LIVE_ONE) named.set(answer.woken);
             if (answer.wake == LIVE_EVERYONE)
                 for (std::uint32_t seat = 0; seat < host.guest(); ++seat) named.set(seat);
-            if (answer.status == LIVE_MADE) host.enter(wanted.seat, answer, trash);
+            if (answer.status == LIVE_MADE) note(wanted.seat, answer);
             return answer;
         }
         // A call that is made, or is answered one of these. Any other answer comes only where this header breaks a rule of the core,
@@ -363,6 +339,18 @@ public:
         }
 
     private:
+        // Notes an entry. Calls that name no seat are the driver's, which is seat 0.
+        void note(std::uint32_t seat, const live_answer& entry) {
+            if (host.recorder) host.recorder->note(seat, entry);
+            if (host.events) see(seat, entry);
+            if (entry.kind == LIVE_DID_DONE) host.end(trash);
+        }
+        // Notes an event: at once where it is the driver's or the guest's; and that of this thread's worker once the lock is free.
+        void see(std::uint32_t seat, const live_answer& event) {
+            if (seat == 0 || seat == host.guest()) return host.events->note(seat, begun, event);
+            if (seen) host.events->note(seen_by, begun, *seen);
+            seen = event, seen_by = seat;
+        }
         void make(const live_request& wanted) {
             must(wanted);
             if (wanted.call == LIVE_CLOSE) host.sweep_queue(wanted.place, trash);
@@ -371,6 +359,9 @@ public:
         Host& host;
         Trash trash;
         std::bitset<66> named;
+        const std::uint64_t begun;        // of `events`: a time before all that comes
+        std::optional<live_answer> seen;  // what this thread's worker did, to be noted once the lock is free
+        std::uint32_t seen_by = 0;
         std::unique_lock<std::mutex> lock;
     };
 
@@ -416,28 +407,22 @@ public:
     HomeRef parallel_runner(Traits traits) { return home(Home::parallel, Plan::parallel_runner(traits)); }
     HomeRef sequenced_runner(Traits traits) {
         const HomeRef runner = home(Home::sequence, 0);
-        Held held(*this);
-        if (take_slot(held, *runner, plan.sequenced[Plan::sort_of(traits)], traits.priority)) return runner;
+        if (take_slot(*runner, plan.sequenced[Plan::sort_of(traits)], traits.priority)) return runner;
         throw NoRoom("taskenv: no sequenced runner of this behaviour is free");
     }
     // The workers have their turn: each next runner is the next one's that has a free slot.
     HomeRef single_thread_runner(Traits traits) {
         const HomeRef runner = home(Home::sequence, 0);
-        Held held(*this);
         for (unsigned tried = 0; tried < plan.workers; ++tried) {
             const unsigned worker = single_runners_made++ % plan.workers;
-            if (take_slot(held, *runner, plan.single[worker * Plan::sorts + Plan::sort_of(traits)], traits.priority)) return runner;
+            if (take_slot(*runner, plan.single[worker * Plan::sorts + Plan::sort_of(traits)], traits.priority)) return runner;
         }
         throw NoRoom("taskenv: no single-thread runner of this behaviour is free");
     }
     HomeRef main_queue(unsigned its_class) {
         require(its_class <= 7, "a main queue's class is 0 to 7");
         const HomeRef queue = home(Home::main_queue, 0);
-        Held held(*this);
-        if (main_queues_made == options.main_queues) throw NoRoom("taskenv: all main queues were made");
-        queue->number = main_queues_made + 1;  // 0 is the first one, which is there from the beginning
-        if (its_class != Plan::first_class) held.drive(request(LIVE_RANK, 0, queue->number, its_class));
-        ++main_queues_made;
+        if (!number_main_queue(*queue, its_class)) throw NoRoom("taskenv: all main queues were made");
         return queue;
     }
     void update_priority(Home& runner, Priority priority) {
@@ -472,13 +457,17 @@ public:
 
     // ---- jobs and scopes
 
-    void start_job(unsigned job, std::function<void(JobDelegate&)> work) {
+    // Posts a job, and answers its number.
+    unsigned post_job(Traits traits, std::uint32_t items, JobWork work, std::uint32_t most_at_once) {
         require(bool(work), "the work of a job is not null");
+        const auto slot = take_job(traits, items, most_at_once);
+        if (!slot) throw NoRoom("taskenv: no job of this priority and behaviour is left that has room for so many items");
         Held held(*this);
-        require(job < jobs.size() && !jobs[job].is_posted, "a job is one of the options', and is started once");
-        held.drive(request(LIVE_JOB_POST, 0, job));
-        jobs[job].is_posted = true;
-        jobs[job].work = std::move(work);
+        Job& job = jobs[slot->job];
+        job.behaviour = traits.behaviour, job.items = items, job.left = slot->items;
+        job.work = std::move(work);
+        held.drive(request(LIVE_JOB_POST, 0, slot->job));
+        return slot->job;
     }
     void cancel_job(unsigned job) {
         Held held(*this);
@@ -486,15 +475,28 @@ public:
         held.drive(request(LIVE_JOB_CANCEL, 0, job));
         jobs[job].yields = true;
     }
+    // The same, and waits until nobody is inside.
+    void cancel_job_and_wait(unsigned job) {
+        require_driver();
+        cancel_job(job);
+        await(request(LIVE_CANCELLED, 0, job));
+        JobWork dropped;  // is destroyed once the lock is free
+        Held held(*this);
+        if (!is_over) dropped.swap(jobs[job].work);
+    }
     JobReply join_job(unsigned job) {
         require_driver();
+        require(!is_done(), "no job is joined after shutdown");  // which only this thread does
         for (;;) {
             live_answer item{};
             {
+                JobWork dropped;  // nobody enters a job that has a reply
                 Held held(*this);
-                require(!is_over, "no job is joined after shutdown");
                 const live_answer did = held.must(request(LIVE_JOINED, 0, job), {LIVE_NOT_YET});
-                if (did.status == LIVE_MADE) return JobReply(did.word);
+                if (did.status == LIVE_MADE) {
+                    dropped.swap(jobs[job].work);
+                    return JobReply(did.word);
+                }
                 if (did.ready) item = held.must(request(LIVE_JOB_TAKE, 0, job));
                 else if (!held.rests(request(LIVE_JOINED, 0, job))) continue;
                 driver_works = did.ready;
@@ -504,16 +506,7 @@ public:
         }
     }
     // This thread's task opens a scope.
-    void open_scope(Blocking scope) {
-        Held held(*this);
-        const std::uint64_t now = scope == Blocking::may_block ? held.tick() : 0;
-        const live_answer did = held.call(request(LIVE_ENTER, current.seat, 0, std::uint32_t(scope)));
-        require(did.status == LIVE_MADE, "a task with a blocking scope has traits that say it may block");
-        if (scope == Blocking::will_block || is_over) return;
-        const std::uint64_t counts_from = now + std::uint64_t(options.may_block_threshold.count());
-        await_moment(counts_from);
-        scope_moments[current.seat] = counts_from;
-    }
+    void open_scope(Blocking scope) { require(opens_scope(scope), "a task with a blocking scope has traits that say it may block"); }
     void close_scope() {
         Held held(*this);
         held.must(request(LIVE_LEAVE, current.seat));
@@ -612,6 +605,7 @@ public:
         {
             Held held(*this);
             if (is_over) return;
+            has_begun_shutdown = true;
             held.must(request(LIVE_SHUTDOWN));
             for (Job& job : jobs)
                 if (job.behaviour != Behaviour::block_shutdown) job.yields = true;
@@ -656,10 +650,17 @@ public:
         Held held(*this);
         return main_is_poked;
     }
-    std::string recording() {
+    bool is_done() {
         Held held(*this);
-        require(recorder != nullptr, "nothing is recorded unless the options say so");
-        return plan.text + "%%\n" + recorder->text();
+        return is_over;
+    }
+    bool has_shutdown_started() const { return has_begun_shutdown; }
+    bool is_recorded() const { return recorder || events; }
+    // What threads note by themselves is told only at the end, when they have ended.
+    std::string recording(bool at_the_end) {
+        require(recorder || (events && at_the_end), "the options say that nothing is recorded, or that it is told at the end");
+        Held held(*this);
+        return plan.text + "%%\n" + (recorder ? recorder->text() : events->text());
     }
     static live_request vote(std::uint32_t queue, std::uint32_t voter, bool on) {
         live_request wanted = request(LIVE_VOTE, 0, queue, voter);
@@ -685,7 +686,7 @@ private:
         const auto* const text = reinterpret_cast<const unsigned char*>(plan.text.data());
         const std::uint32_t came = live_open(core(), text, plan.text.size(), &opened);
         if (came == LIVE_OUT_OF_MEMORY) throw std::bad_alloc();
-        if (!recorder) plan.text = {};  // nobody asks for it any more
+        if (!is_recorded()) plan.text = {};  // nobody asks for it any more
         if (came == LIVE_OPENED) return;
         const std::string where = "line " + std::to_string(opened.line) + ", reason " + std::to_string(opened.number);
         throw std::logic_error("taskenv: these options are no plan: " + where);
@@ -696,12 +697,9 @@ private:
     std::uint32_t own_seat() const { return current.host == this ? current.seat : is_main_thread() ? 0 : guest(); }
     // The seat under which this thread posts: a worker's only where it runs a task.
     std::uint32_t posting_seat() const { return own_seat() == 0 || (current.host == this && current.home) ? own_seat() : guest(); }
-    // Notes an entry. Calls that name no seat are the driver's, which is seat 0.
-    void enter(std::uint32_t seat, const live_answer& entry, Trash& trash) {
-        if (recorder) recorder->note(seat, entry);
-        if (entry.kind != LIVE_DID_DONE) return;
+    // Shutdown is done. Nothing is waited for any more, so no moment counts.
+    void end(Trash& trash) {
         is_over = true;
-        // Nothing is waited for any more, so no moment counts.
         while (!moments.empty()) moments.pop();
         scope_moments.fill(never);
         time_changed.notify_all();
@@ -713,7 +711,8 @@ private:
             if (task && task->home->sort == Home::main_queue && task->home->number == queue) trash.add(std::move(task));
     }
     // Gives a runner a free slot, whose priority becomes the wanted one; false where none is free.
-    static bool take_slot(Held& held, Home& runner, Slots& slots, Priority wanted) {
+    bool take_slot(Home& runner, Slots& slots, Priority wanted) {
+        Held held(*this);
         const auto slot = slots.take(wanted);
         if (!slot) return false;
         runner.slots = &slots, runner.slot = *slot, runner.number = slot->runner;
@@ -721,10 +720,33 @@ private:
         runner.slot.priority = wanted;
         return true;
     }
+    // Gives a main queue its number; false where all were made.
+    bool number_main_queue(Home& queue, unsigned its_class) {
+        Held held(*this);
+        if (main_queues_made == options.main_queues) return false;
+        queue.number = main_queues_made + 1;  // 0 is the first one, which is there from the beginning
+        if (its_class != Plan::first_class) held.drive(request(LIVE_RANK, 0, queue.number, its_class));
+        ++main_queues_made;
+        return true;
+    }
+    std::optional<JobSlot> take_job(Traits traits, std::uint32_t items, std::uint32_t most_at_once) {
+        Held held(*this);
+        return plan.jobs_left[Plan::sort_of_job(traits.priority, traits.behaviour)].take(items, most_at_once);
+    }
     // The next moment at which a delayed task is ripe, or a scope that may block comes to count.
     std::uint64_t next_moment() const {
         const std::uint64_t scope = *std::min_element(scope_moments.begin(), scope_moments.end());
         return moments.empty() ? scope : std::min(scope, moments.top());
+    }
+    bool opens_scope(Blocking scope) {
+        Held held(*this);
+        const std::uint64_t now = scope == Blocking::may_block ? held.tick() : 0;
+        if (held.call(request(LIVE_ENTER, current.seat, 0, std::uint32_t(scope))).status != LIVE_MADE) return false;
+        if (scope == Blocking::will_block || is_over) return true;
+        const std::uint64_t counts_from = now + std::uint64_t(options.may_block_threshold.count());
+        await_moment(counts_from);
+        scope_moments[current.seat] = counts_from;
+        return true;
     }
     // Has the service thread sleep no longer than to this moment, which is about to be noted.
     void await_moment(std::uint64_t moment) {
@@ -758,12 +780,16 @@ private:
     }
     void work_on_job(std::uint32_t seat, const live_answer& taken) {
         const Doing doing(this, seat, nullptr);
-        const Job& job = jobs[taken.place];
+        Job& job = jobs[taken.place];
         for (std::uint32_t item = taken.item;;) {
-            JobDelegate delegate(job.yields, taken.id, item);
-            guarded([&] { job.work(delegate); });
+            if (item < job.items) {
+                JobDelegate delegate(job.yields, taken.id, item);
+                guarded([&] { job.work(delegate); });
+            }
+            JobWork dropped;  // is destroyed once the lock is free
             Held held(*this);
             const live_answer did = held.must(request(LIVE_JOB_STEP, seat));
+            if (--job.left == 0) dropped.swap(job.work);
             item = did.next;
             if (did.ok) continue;
             if (seat == 0) held.free_driver();
@@ -778,8 +804,11 @@ private:
     const std::thread::id main_thread = std::this_thread::get_id();
     const std::chrono::steady_clock::time_point beginning = std::chrono::steady_clock::now();
 
+    const std::unique_ptr<Events> events;  // what it locks, it says itself
+    std::atomic<bool> has_begun_shutdown{false};
+
     std::mutex mutex;  // the lock. All below is looked at and changed under it
-    std::unique_ptr<Recorder> recorder;
+    std::unique_ptr<Recorder> recorder;  // it is there from the beginning, or never
     std::vector<std::unique_ptr<Task>> waiting;  // by number, from the post to the take
     std::uint32_t handed_out = 0;
     // The ripe moments of delayed tasks; and of each seat the moment when its scope comes to count, or never.
@@ -787,7 +816,8 @@ private:
     std::array<std::uint64_t, 66> scope_moments;
     std::vector<Job> jobs;
     std::vector<std::vector<std::uint32_t>> free_voters;  // of each main queue
-    unsigned main_queues_made = 0, single_runners_made = 0;
+    unsigned main_queues_made = 0;
+    std::atomic<unsigned> single_runners_made{0};
     std::atomic<std::uint64_t> mock_now{0};
 
     bool driver_works = false;       // it runs a main task, or an item of a job

@@ -44,12 +44,39 @@ struct Traits {
     bool may_block = false;
 };
 
-// A job that can be posted once: so many items, of which at most so many are worked on at once.
-struct JobOptions {
+// On how many items of a job the pool works at once, at most.
+inline constexpr std::uint32_t most_inside_a_job = 32;
+
+// Jobs of the plan, each of which can be posted once: so many of each size. The sizes double from the least one up to the most.
+struct JobSlots {
     Priority priority = Priority::user_visible;
     Behaviour behaviour = Behaviour::skip_on_shutdown;
-    std::uint32_t items = 0;
-    std::uint32_t most_at_once = 32;
+    std::uint32_t least = 16, most = 4096;           // items of the smallest jobs, and of the largest ones
+    unsigned of_each = 3;                            // how many there are of each size
+    std::uint32_t most_at_once = most_inside_a_job;  // on how many items of one threads work at once
+};
+
+// The jobs of a plan unless it is said: of each priority and behaviour 27, of 16 to 4,096 items. A plan has room for 256 jobs, with
+// 262,144 items in all.
+inline std::vector<JobSlots> usual_jobs() {
+    std::vector<JobSlots> all;
+    for (const Priority priority : {Priority::best_effort, Priority::user_visible, Priority::user_blocking})
+        for (const Behaviour behaviour : {Behaviour::continue_on_shutdown, Behaviour::skip_on_shutdown, Behaviour::block_shutdown})
+            all.push_back({priority, behaviour});
+    return all;
+}
+
+// What is kept of what happens (docs/embedding.md, "What is recorded").
+struct Record {
+    enum Kind { nothing, last_entries, all_entries, events };
+    static Record off() { return {nothing, 0}; }
+    // The last so many entries, in memory that is taken at the beginning.
+    static Record last(std::size_t entries) { return {last_entries, entries}; }
+    static Record all() { return {all_entries, 0}; }
+    // What each seat's thread saw, noted by itself, with times: for a judge that finds the order.
+    static Record by_thread() { return {events, 0}; }
+    Kind kind;
+    std::size_t entries;
 };
 
 // How many worker threads a machine gets unless it is said: one less than it has processors, but 3 at least.
@@ -70,14 +97,14 @@ struct Options {
     unsigned single_thread_runners = 2;  // the same on each worker
     unsigned main_queues = 8;            // how many can be made at all, beside the first one
     unsigned voters = 4;                 // how many there are at once of each main queue; 16 at most
-    std::vector<JobOptions> jobs;        // each can be posted once
+    std::vector<JobSlots> jobs = usual_jobs();  // each can be posted once; some 500 bytes each
     bool mock_time = false;              // a clock that only `fast_forward_by` moves
-    bool record = false;                 // whether all that happens is kept, for `TaskEnvironment::recording`
+    Record record = Record::off();       // what is kept of what happens, for `TaskEnvironment::recording`
     // What is done with an exception that leaves a task. Without it the program ends. It is called on the task's thread.
     std::function<void(std::exception_ptr)> on_exception;
 };
 
-// The plan has no free runner, main queue or voter left.
+// The plan has no free runner, main queue, voter or job left.
 struct NoRoom : std::runtime_error {
     using std::runtime_error::runtime_error;
 };

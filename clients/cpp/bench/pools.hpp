@@ -74,8 +74,8 @@ public:
         flat.post_task(std::move(function));
     }
     template <class Work>
-    void each(unsigned, Work work) {
-        environment.start_job(0, [&](taskenv::JobDelegate& delegate) { work(delegate.item()); }).join();
+    void each(unsigned items, Work work) {
+        environment.post_job(traits, items, [&](taskenv::JobDelegate& delegate) { work(delegate.item()); }).join();
     }
 
 private:
@@ -86,10 +86,8 @@ private:
         room.posts = posts;
         room.sequenced_runners = 1;
         room.single_thread_runners = room.main_queues = 0;
-        taskenv::JobOptions job;
-        job.items = items;
-        room.jobs.push_back(job);
-        room.record = records;
+        room.jobs = {{traits.priority, traits.behaviour, items, items, 1}};
+        room.record = records ? taskenv::Record::all() : taskenv::Record::off();
         return room;
     }
     taskenv::TaskEnvironment environment;

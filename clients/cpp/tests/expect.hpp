@@ -1,5 +1,10 @@
 // What the tests share: a condition that has to hold, a list of tests, and recordings that are kept for the judge.
+//
+// The environment variable RECORD says what small options record: all, threads, or nothing. KEEP is a folder for the recordings: plans
+// with logs are NAME.open, and plans with what threads noted by themselves are NAME.events.
 #pragma once
+#include "order.hpp"
+
 #include "../taskenv.hpp"
 
 #include <fstream>
@@ -38,17 +43,33 @@ struct Test {
     void (*run)();
 };
 
-// The folder for recordings, or none: the value of KEEP.
-inline std::string kept_folder() {
-    const char* const folder = std::getenv("KEEP");
-    return folder ? folder : "";
+inline std::string variable(const char* name) {
+    const char* const value = std::getenv(name);
+    return value ? value : "";
 }
 
-// Has an environment's recording written to the folder at its end.
-inline void keep(taskenv::TaskEnvironment& environment, const std::string& name) {
-    if (kept_folder().empty()) return;
-    environment.on_end_of_recording = [name](const std::string& recording) {
-        std::ofstream(kept_folder() + "/" + name + ".open") << recording;
+// What small options record.
+inline taskenv::Record wanted_record() {
+    const std::string wanted = variable("RECORD");
+    EXPECT(wanted.empty() || wanted == "all" || wanted == "threads");
+    return wanted == "all" ? taskenv::Record::all() : wanted == "threads" ? taskenv::Record::by_thread() : taskenv::Record::off();
+}
+
+// Writes a recording to the folder, if there is one.
+inline void write_kept(const std::string& name, const std::string& recording) {
+    if (const std::string folder = variable("KEEP"); !folder.empty()) std::ofstream(folder + "/" + name) << recording;
+}
+
+// Has an environment's recording kept at its end. This thread has just made it. Of what threads noted by themselves it is checked that
+// each seat's list is that of the order in which the core was called, and that no times are against it; and the log that comes of this
+// order is kept too.
+inline void keep(taskenv::TaskEnvironment& environment, const std::string& name, taskenv::Record record) {
+    environment.on_end_of_recording = [name, record, core = core_made_last](const std::string& recording) {
+        if (record.kind != taskenv::Record::events) return write_kept(name + ".open", recording);
+        write_kept(name + ".events", recording);
+        const std::optional<std::string> log = log_of_events(recording, order_of(core));
+        EXPECT(log);
+        write_kept(name + "-ordered.open", *log);
     };
 }
 
@@ -63,7 +84,7 @@ inline taskenv::Options small(unsigned worker_threads = 4) {
     options.sequenced_runners = 8;
     options.single_thread_runners = 1;
     options.main_queues = 4;
-    options.record = !kept_folder().empty();
+    options.record = wanted_record();
     return options;
 }
 
@@ -72,7 +93,7 @@ class Environment : public taskenv::TaskEnvironment {
 public:
     explicit Environment(const taskenv::Options& options = small()) : TaskEnvironment(options) {
         static unsigned made = 0;
-        keep(*this, running_test + "-" + std::to_string(made++));
+        keep(*this, running_test + "-" + std::to_string(made++), options.record);
     }
 };
 

@@ -452,32 +452,137 @@ void functions_are_bound_to_runners() {
     EXPECT(got == 3);
 }
 
-Options with_jobs(std::vector<JobOptions> jobs) {
-    Options options = small();
+Options with_jobs(std::vector<JobSlots> jobs, unsigned worker_threads = 4) {
+    Options options = small(worker_threads);
     options.jobs = std::move(jobs);
     return options;
 }
 
+// Slots of user-visible jobs that are skipped on shutdown.
+JobSlots slots(std::uint32_t least, std::uint32_t most, std::uint32_t most_at_once = 32) {
+    return {skipping.priority, skipping.behaviour, least, most, 1, most_at_once};
+}
+
 void jobs_do_each_item_once() {
-    Environment environment(with_jobs({{Priority::user_visible, Behaviour::skip_on_shutdown, 1000, 8}}));
+    Environment environment(with_jobs({slots(1000, 1000, 8)}));
     std::vector<std::atomic<int>> done(1000);
-    const JobHandle job = environment.start_job(0, [&](JobDelegate& delegate) {
+    const JobHandle job = environment.post_job(skipping, 1000, [&](JobDelegate& delegate) {
         EXPECT(delegate.id() < 8 && !delegate.should_yield());
         if (delegate.item() % 250 == 0) EXPECT(environment.post_task(skipping, [] {}));  // from within an item
         ++done[delegate.item()];
     });
     while (done[0] == 0) std::this_thread::yield();  // a worker does this one
-    EXPECT(job.join() == JobReply::done);
+    EXPECT(job.join() == JobReply::done && job.join() == JobReply::done);
     for (const auto& each : done) EXPECT(each == 1);
-    EXPECT(throws<std::logic_error>([&] { environment.start_job(0, [](JobDelegate&) {}); }));
-    EXPECT(throws<std::logic_error>([&] { environment.start_job(1, [](JobDelegate&) {}); }));
+    EXPECT(throws<NoRoom>([&] { environment.post_job(skipping, 1, [](JobDelegate&) {}); }));
+}
+
+// Posts a job and joins it: each of its items is done once, and there are no others.
+void do_all(Environment& environment, std::uint32_t items) {
+    std::vector<std::atomic<int>> done(items);
+    const auto work = [&](JobDelegate& delegate) { EXPECT(delegate.item() < items && ++done[delegate.item()] == 1); };
+    EXPECT(environment.post_job(skipping, items, work).join() == JobReply::done);
+    for (const auto& each : done) EXPECT(each == 1);
+}
+
+void jobs_have_any_number_of_items() {
+    // Each list takes all of the jobs of 8, 16, 32 and 64 items.
+    for (const std::vector<std::uint32_t>& counts :
+         std::vector<std::vector<std::uint32_t>>{{0, 1, 15, 63}, {7, 8, 9, 17}, {64, 32, 16, 8}, {16, 8, 1, 0}, {0, 0, 0, 0}, {33, 17, 9, 8}}) {
+        Environment environment(with_jobs({slots(8, 64)}));
+        EXPECT(throws<NoRoom>([&] { do_all(environment, 65); }));
+        for (const std::uint32_t items : counts) do_all(environment, items);
+        EXPECT(throws<NoRoom>([&] { do_all(environment, 0); }));
+    }
+    Environment environment(with_jobs({slots(65536, 65536), slots(65536, 65536)}));  // the largest ones
+    EXPECT(throws<NoRoom>([&] { do_all(environment, 65537); }));
+    do_all(environment, 65536);
+    do_all(environment, 65535);
+}
+
+// Which of the plan's jobs were posted, in order, as the log tells.
+std::vector<int> jobs_posted(const TaskEnvironment& environment) {
+    std::vector<int> posted;
+    const std::string log = environment.recording();
+    const std::string word = " startjob ";
+    for (std::size_t at = log.find(word); at != std::string::npos; at = log.find(word, at + 1))
+        posted.push_back(std::stoi(log.substr(at + word.size())));
+    return posted;
+}
+
+void a_job_is_the_smallest_that_fits() {
+    Options options = with_jobs({slots(3, 20), slots(10, 10, 2), {Priority::best_effort, Behaviour::block_shutdown, 5, 5, 2, 1}});
+    options.record = Record::all();
+    TaskEnvironment environment(options);  // jobs 0 to 3 have 3, 6, 12 and 20 items; 4 has 10, two at once; 5 and 6 have 5, one at once
+    keep(environment, running_test, options.record);
+    constexpr Traits late{Priority::best_effort, Behaviour::block_shutdown, true};
+    const auto post = [&](Traits traits, std::uint32_t items, std::uint32_t at_once) {
+        std::atomic<std::uint32_t> inside{0}, most{0};
+        const auto work = [&](JobDelegate& delegate) {
+            const std::uint32_t now = ++inside;
+            for (std::uint32_t before = most; before < now && !most.compare_exchange_weak(before, now);) {}
+            EXPECT(now <= at_once && delegate.id() < at_once);
+            std::this_thread::sleep_for(100us);
+            --inside;
+        };
+        EXPECT(environment.post_job(traits, items, work, at_once).join() == JobReply::done);
+    };
+    post(skipping, 7, 32), post(skipping, 6, 100), post(skipping, 6, 31);
+    EXPECT((jobs_posted(environment) == std::vector<int>{2, 1, 4}));  // no other job is one of 31 at most
+    EXPECT(throws<NoRoom>([&] { post(skipping, 1, 31); }));
+    post(late, 5, 1), post(late, 0, 32), post(skipping, 4, 32), post(skipping, 0, 32);
+    EXPECT((jobs_posted(environment) == std::vector<int>{2, 1, 4, 5, 6, 3, 0}));
+    for (const Traits& traits : {skipping, late, Traits()}) EXPECT(throws<NoRoom>([&] { post(traits, 0, 32); }));
+}
+
+void a_plan_has_usual_jobs() {
+    Environment environment;
+    std::atomic<unsigned> done{0};
+    std::vector<JobHandle> jobs;
+    for (const Priority priority : {Priority::best_effort, Priority::user_visible, Priority::user_blocking})
+        for (const Behaviour behaviour : {Behaviour::continue_on_shutdown, Behaviour::skip_on_shutdown, Behaviour::block_shutdown})
+            for (const std::uint32_t items : {1u, 16u, 17u, 4096u})
+                jobs.push_back(environment.post_job({priority, behaviour}, items, [&](JobDelegate&) { ++done; }));
+    environment.flush_for_testing();  // which waits for jobs, too
+    EXPECT(done == 9 * (1 + 16 + 17 + 4096));
+    for (const JobHandle& job : jobs) EXPECT(job.join() == JobReply::done);
+}
+
+void jobs_are_posted_from_everywhere() {
+    Environment environment;
+    std::atomic<int> done{0};
+    const auto post = [&](std::uint32_t items) { return environment.post_job(skipping, items, [&](JobDelegate&) { ++done; }); };
+    environment.main_task_runner().post_task([&] { post(10); });  // is posted at the end of this task
+    environment.post_task(skipping, [&] { post(20); });
+    std::thread([&] { post(30); }).join();
+    environment.post_job(skipping, 3, [&](JobDelegate& delegate) { post(delegate.item()); }).join();
+    environment.run_until_idle();
+    EXPECT(done == 10 + 20 + 30 + 0 + 1 + 2);
+}
+
+void jobs_let_go_of_their_work() {
+    auto owned = std::make_shared<int>(1);
+    {
+        Environment environment(with_jobs({slots(10, 10), slots(10, 10), slots(10, 10), slots(60000, 60000)}));
+        const auto work = [owned](JobDelegate&) {};
+        environment.post_job(skipping, 10, work);
+        environment.flush_for_testing();
+        for (int i = 0; i < 10000 && owned.use_count() > 2; ++i) std::this_thread::sleep_for(1ms);  // after its last item's end
+        EXPECT(owned.use_count() == 2);
+        environment.post_job(skipping, 3, work).join();
+        EXPECT(owned.use_count() == 2);
+        environment.set_policy(Policy::none);
+        environment.post_job(skipping, 60000, work).cancel();
+        EXPECT(owned.use_count() == 2);
+        environment.post_job(skipping, 10, work);
+    }
+    EXPECT(owned.use_count() == 1);
 }
 
 void jobs_cancel() {
-    constexpr JobOptions long_one{Priority::user_visible, Behaviour::skip_on_shutdown, 60000, 3};
-    Environment environment(with_jobs({long_one, {Priority::user_visible, Behaviour::skip_on_shutdown, 5, 3}}));
+    Environment environment(with_jobs({slots(60000, 60000, 3), slots(8, 8, 3)}));
     std::atomic<int> inside{0}, begun{0};
-    const JobHandle job = environment.start_job(0, [&](JobDelegate& delegate) {
+    const JobHandle job = environment.post_job(skipping, 50000, [&](JobDelegate& delegate) {
         ++inside, ++begun;
         while (!delegate.should_yield()) std::this_thread::yield();
         --inside;
@@ -486,20 +591,51 @@ void jobs_cancel() {
     job.cancel();
     EXPECT(inside == 0 && job.join() == JobReply::cancelled && begun == 3);
     environment.set_policy(Policy::none);
-    const JobHandle other = environment.start_job(1, [](JobDelegate&) { EXPECT(false); });
+    const JobHandle other = environment.post_job(skipping, 5, [](JobDelegate&) { EXPECT(false); });
     other.cancel_and_detach();
     EXPECT(other.join() == JobReply::cancelled);
 }
 
 void the_joining_thread_works_too() {
-    Environment environment(with_jobs({{Priority::best_effort, Behaviour::skip_on_shutdown, 10, 4}}));
+    Environment environment(with_jobs({{Priority::best_effort, Behaviour::skip_on_shutdown, 16, 16, 1, 4}}));
     environment.set_policy(Policy::none);  // no worker may help
     std::vector<int> items;
-    const JobHandle job = environment.start_job(0, [&](JobDelegate& delegate) {
+    const JobHandle job = environment.post_job({Priority::best_effort}, 10, [&](JobDelegate& delegate) {
         items.push_back(int(delegate.item()));
         environment.set_policy(Policy::none);  // kept until the job's last item
     });
-    EXPECT(job.join() == JobReply::done && items.size() == 10);
+    EXPECT(job.join() == JobReply::done && items.size() == 10 && std::is_sorted(items.begin(), items.end()));
+}
+
+void shutdown_comes_amid_jobs() {
+    for (const Behaviour behaviour : {Behaviour::continue_on_shutdown, Behaviour::skip_on_shutdown, Behaviour::block_shutdown}) {
+        const Traits traits{Priority::user_visible, behaviour};
+        std::atomic<int> begun{0}, ended{0};
+        auto owned = std::make_shared<int>(1);
+        {
+            Environment environment(with_jobs({{traits.priority, behaviour, 200, 200, 2}, slots(8, 8)}, 3));
+            environment.post_job(traits, 150, [&, owned](JobDelegate& delegate) {
+                EXPECT(delegate.item() < 150);
+                ++begun;
+                do std::this_thread::sleep_for(1ms);
+                while (behaviour != Behaviour::block_shutdown && !delegate.should_yield());
+                EXPECT(delegate.should_yield() == (behaviour != Behaviour::block_shutdown));
+                ++ended;
+            });
+            while (begun < 3) std::this_thread::yield();
+            environment.post_task({Priority::user_blocking, Behaviour::block_shutdown}, [&] {
+                while (!environment.has_shutdown_started()) std::this_thread::yield();
+                environment.post_job(skipping, 3, [owned](JobDelegate&) { EXPECT(false); });  // is refused
+            });
+            EXPECT(!environment.has_shutdown_started());
+            environment.shutdown();
+            EXPECT(environment.has_shutdown_started());
+            if (behaviour == Behaviour::skip_on_shutdown) EXPECT(begun == ended && begun < 150);
+            if (behaviour == Behaviour::block_shutdown) EXPECT(ended == 150);
+            environment.post_job(traits, 3, [owned](JobDelegate&) { EXPECT(false); });
+        }
+        EXPECT(begun == ended && (begun < 150) == (behaviour != Behaviour::block_shutdown) && owned.use_count() == 1);
+    }
 }
 
 void shutdown_waits_skips_and_refuses() {
@@ -539,35 +675,66 @@ void exceptions_go_to_the_handler() {
             if (std::string(error.what()) == "mine") ++caught;
         }
     };
-    options.jobs = {{Priority::user_visible, Behaviour::skip_on_shutdown, 3, 3}};
     Environment environment(options);
     environment.post_task(skipping, [] { throw std::runtime_error("mine"); });
     environment.main_task_runner().post_task([] { throw std::runtime_error("mine"); });
     environment.run_until_idle();
     EXPECT(caught == 2);
-    EXPECT(environment.start_job(0, [](JobDelegate&) { throw std::runtime_error("mine"); }).join() == JobReply::done && caught == 5);
+    EXPECT(environment.post_job(skipping, 3, [](JobDelegate&) { throw std::runtime_error("mine"); }).join() == JobReply::done && caught == 5);
+}
+
+// What a recording has after its plan.
+std::string log_of(const std::string& recording) { return recording.substr(recording.find("%%\n") + 3); }
+
+// A run that is the same each time: its one worker is at work only while the main thread waits.
+std::string recording_of_a_run(Record record) {
+    Options options = small(1);
+    options.posts = 16;
+    options.mock_time = true;
+    options.record = record;
+    std::string last, amid;
+    {
+        TaskEnvironment environment(options);
+        environment.on_end_of_recording = [&](const std::string& recording) { last = recording; };
+        const TaskRunner sequence = environment.sequenced_task_runner(skipping);
+        for (int i = 0; i < 3; ++i) {
+            sequence.post_task([&] { environment.main_task_runner().post_delayed_task([] {}, 1ms); });
+            environment.flush_for_testing();
+        }
+        environment.run_until_idle();
+        if (record.kind != Record::nothing) amid = log_of(environment.recording());
+    }
+    // What is said amid it is its beginning.
+    if (record.kind == Record::all_entries) EXPECT(log_of(last).substr(0, amid.rfind("total")) == amid.substr(0, amid.rfind("total")));
+    return last;
 }
 
 void what_happens_is_recorded() {
-    Options options = small(1);
-    options.posts = 2;
-    options.record = true;
-    options.mock_time = true;
-    std::string last;
-    {
-        Environment environment(options);
-        environment.on_end_of_recording = [&](const std::string& recording) { last = recording; };
-        environment.sequenced_task_runner(skipping).post_task([] {});
-        environment.flush_for_testing();
-        EXPECT(environment.recording().substr(0, 10) == "workers 2\n");
-    }
-    const std::string log = last.substr(last.find("%%\n"));
-    const std::string begin = "%%\ntaskenv log 2\n0 0 post 0 ", end = " shutdown\n";
+    const std::string recording = recording_of_a_run(Record::all()), log = log_of(recording);
+    EXPECT(recording.substr(0, 10) == "workers 2\n" && log == log_of(recording_of_a_run(Record::all())));
+    const std::string begin = "taskenv log 2\n0 0 post 0 ", end = " 0 shutdown\n";
     EXPECT(log.substr(0, begin.size()) == begin && log.find(" 1 take 0 ") != std::string::npos && log.find(" 1 end 0 1\n") != std::string::npos);
     EXPECT(log.find(end) != std::string::npos && log.find(" done\ntotal ") != std::string::npos);
-    Options quiet = small();
-    quiet.record = false;
-    EXPECT(throws<std::logic_error>([&] { TaskEnvironment(quiet).recording(); }));
+    EXPECT(recording_of_a_run(Record::off()).empty());
+    EXPECT(throws<std::logic_error>([&] { TaskEnvironment(small()).recording(); }) == (wanted_record().kind != Record::all_entries));
+}
+
+void the_last_entries_are_kept() {
+    const std::string recording = recording_of_a_run(Record::all()), log = log_of(recording);
+    const std::string plan = recording.substr(0, recording.size() - log.size());
+    std::vector<std::string> lines;
+    std::istringstream in(log);
+    for (std::string line; std::getline(in, line);) lines.push_back(line + "\n");
+    const std::size_t count = lines.size() - 2;  // without the first line and the total
+    EXPECT(lines.back() == "total " + std::to_string(count) + "\n");
+    write_kept("last-all.open", recording);
+    for (const std::size_t last : {std::size_t(0), std::size_t(1), std::size_t(7), count - 1, count, count + 1, std::size_t(1000)}) {
+        const std::string told = recording_of_a_run(Record::last(last));
+        std::string wanted = "taskenv last " + std::to_string(last) + " of " + std::to_string(count) + " entries\n";
+        for (std::size_t line = count - std::min(last, count); line < count; ++line) wanted += lines[line + 1];
+        EXPECT(told == plan + (last < count ? wanted : log));
+        write_kept("last-" + std::to_string(last) + (last < count ? ".refused" : ".open"), told);
+    }
 }
 
 void two_environments_live_side_by_side() {
@@ -617,11 +784,18 @@ const std::vector<Test> tests = {
     {"weak_pointers_cancel", weak_pointers_cancel},
     {"functions_are_bound_to_runners", functions_are_bound_to_runners},
     {"jobs_do_each_item_once", jobs_do_each_item_once},
+    {"jobs_have_any_number_of_items", jobs_have_any_number_of_items},
+    {"a_job_is_the_smallest_that_fits", a_job_is_the_smallest_that_fits},
+    {"a_plan_has_usual_jobs", a_plan_has_usual_jobs},
+    {"jobs_are_posted_from_everywhere", jobs_are_posted_from_everywhere},
+    {"jobs_let_go_of_their_work", jobs_let_go_of_their_work},
     {"jobs_cancel", jobs_cancel},
     {"the_joining_thread_works_too", the_joining_thread_works_too},
+    {"shutdown_comes_amid_jobs", shutdown_comes_amid_jobs},
     {"shutdown_waits_skips_and_refuses", shutdown_waits_skips_and_refuses},
     {"exceptions_go_to_the_handler", exceptions_go_to_the_handler},
     {"what_happens_is_recorded", what_happens_is_recorded},
+    {"the_last_entries_are_kept", the_last_entries_are_kept},
     {"two_environments_live_side_by_side", two_environments_live_side_by_side},
 };
 

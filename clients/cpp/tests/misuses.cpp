@@ -33,9 +33,7 @@ int status_of_child(const Call& call) {
 }
 
 void null_closures() {
-    Options options = small();
-    options.jobs.resize(1);
-    Environment environment(options);
+    Environment environment;
     const TaskRunner runner = environment.task_runner();
     void (*const no_function)() = nullptr;
     EXPECT(is_misuse([&] { runner.post_task(nullptr); }));
@@ -44,10 +42,10 @@ void null_closures() {
     EXPECT(is_misuse([&] { runner.post_delayed_task(OnceClosure(), 1s); }));
     EXPECT(is_misuse([&] { runner.post_task_and_reply_with_result(no_function, [] {}); }));
     EXPECT(is_misuse([&] { runner.post_task_and_reply_with_result([] {}, no_function); }));
-    EXPECT(is_misuse([&] { environment.start_job(0, nullptr); }));
+    EXPECT(is_misuse([&] { environment.post_job(skipping, 1, nullptr); }));
     OneShotTimer timer;
     EXPECT(is_misuse([&] { timer.start(1s, nullptr); }));
-    EXPECT(environment.posts_left() == options.posts);
+    EXPECT(environment.posts_left() == small().posts);
 }
 
 void null_runners() {
@@ -66,10 +64,8 @@ void null_runners() {
 }
 
 void calls_on_other_threads() {
-    Options options = small();
-    options.jobs.resize(1);
-    Environment environment(options);
-    const JobHandle job = environment.start_job(0, [](JobDelegate&) {});
+    Environment environment;
+    const JobHandle job = environment.post_job(skipping, 1, [](JobDelegate&) {});
     const auto all_misused = [&] {
         EXPECT(is_misuse([&] { environment.shutdown(); }));
         EXPECT(is_misuse([&] { environment.flush_for_testing(); }));
@@ -99,6 +95,23 @@ void options_that_are_no_plan() {
     Options many_voters = small();
     many_voters.voters = 17;
     EXPECT(is_misuse([&] { Environment environment(many_voters); }));
+    // Jobs: no item, the most below the least, more than the plan has room for, of one and in all, and nobody or too many at work.
+    const auto slots = [](std::uint32_t least, std::uint32_t most, unsigned of_each, std::uint32_t most_at_once) {
+        return JobSlots{Priority::user_visible, Behaviour::skip_on_shutdown, least, most, of_each, most_at_once};
+    };
+    for (const JobSlots& no_slots :
+         {slots(0, 8, 1, 32), slots(9, 8, 1, 32), slots(1, 65537, 1, 32), slots(1, UINT32_MAX, 1, 32), slots(1, 1, 257, 32),
+          slots(1, 1, UINT32_MAX, 32), slots(65536, 65536, 5, 32), slots(8, 8, 1, 0), slots(8, 8, 1, 65)}) {
+        Options options = small();
+        options.jobs = {no_slots};
+        EXPECT(is_misuse([&] { Environment environment(options); }));
+    }
+    Options full = small();
+    full.jobs = {slots(65536, 65536, 4, 64), slots(1, 1, 0, 1)};  // this is as many items as there is room for
+    EXPECT(Environment(full).post_job(skipping, 1, [](JobDelegate&) {}).join() == JobReply::done);
+    Options ring = small();
+    ring.record = Record::last(SIZE_MAX);
+    EXPECT(is_misuse([&] { Environment environment(ring); }));
     Environment environment;
     EXPECT(is_misuse([&] { environment.main_queue(8); }));
     EXPECT(is_misuse([&] { environment.main_queue().set_class(8); }));
@@ -149,9 +162,7 @@ void posts_after_shutdown() {
     DelayedTaskHandle handle;
     std::function<void()> quit;
     {
-        Options options = small();
-        options.jobs.resize(2);
-        Environment environment(options);
+        Environment environment;
         parallel = environment.task_runner(blocking), sequence = environment.sequenced_task_runner(blocking), main = environment.main_task_runner();
         queue = environment.main_queue(1);
         handle = parallel.post_delayed_task([owned] {}, 1h);
@@ -159,7 +170,7 @@ void posts_after_shutdown() {
         environment.shutdown();
         EXPECT(refuses(parallel) && refuses(sequence) && refuses(main) && !handle.cancel());
         std::thread([&] { EXPECT(refuses(parallel) && refuses(sequence) && refuses(main)); }).join();
-        job = environment.start_job(0, [owned](JobDelegate&) {});
+        job = environment.post_job(skipping, 1, [owned](JobDelegate&) {});
         EXPECT(is_misuse([&] { job->join(); }));
         job->cancel();
         environment.flush_for_testing();
@@ -316,9 +327,62 @@ void exceptions_without_a_handler_end_the_program() {
 #endif
 }
 
+#ifndef IS_SANITIZED
+// What a handler of std::terminate finds in the last 4 entries, where an environment has done five tasks and this comes then.
+std::string last_of_a_crash(void (*crash)(TaskEnvironment&)) {
+    static TaskEnvironment* crashes = nullptr;
+    static std::string written_to;
+    char file[] = "/tmp/taskenv-XXXXXX";
+    const int opened = mkstemp(file);
+    EXPECT(opened >= 0 && close(opened) == 0);
+    written_to = file;
+    const int status = status_of_child([crash] {
+        Options options = small(1);
+        options.record = Record::last(4);
+        TaskEnvironment environment(options);
+        crashes = &environment;
+        std::set_terminate([] {
+            std::ofstream(written_to) << crashes->recording();
+            _exit(7);
+        });
+        for (int i = 0; i < 5; ++i) environment.post_task(skipping, [] {}), environment.flush_for_testing();
+        crash(environment);
+        return 0;
+    });
+    EXPECT(status == 7);
+    std::stringstream told;
+    told << std::ifstream(file).rdbuf();
+    std::remove(file);
+    return told.str().substr(told.str().find("%%\n") + 3);
+}
+#endif
+
+void the_last_entries_tell_of_a_crash() {
+#ifndef IS_SANITIZED
+    // The fifth task, what the main thread waited for, and the sixth: it was taken, and did not end.
+    EXPECT(last_of_a_crash([](TaskEnvironment& environment) {
+        environment.post_task(skipping, [] { throw 1; });
+        environment.flush_for_testing();
+    }) == "taskenv last 4 of 22 entries\n18 1 end 4 1\n19 0 idle\n20 0 post 5 8 0 ok\n21 1 take 5 8 0\n");
+    // Misuses that nobody catches.
+    const std::string idle = "taskenv last 4 of 20 entries\n16 0 post 4 8 0 ok\n17 1 take 4 8 0\n18 1 end 4 1\n19 0 idle\n";
+    EXPECT(last_of_a_crash([](TaskEnvironment& environment) { environment.post_job(skipping, 65536, [](JobDelegate&) {}); }) == idle);
+    EXPECT(last_of_a_crash([](TaskEnvironment& environment) { environment.post_task(skipping, nullptr); }) == idle);
+    EXPECT(last_of_a_crash([](TaskEnvironment& environment) {
+        std::vector<MainQueue> queues;
+        for (;;) queues.push_back(environment.main_queue(3));
+    }) == idle);
+    EXPECT(last_of_a_crash([](TaskEnvironment& environment) {
+        std::vector<TaskRunner> runners;
+        for (;;) runners.push_back(environment.single_thread_task_runner({Priority::best_effort}));
+    }) == idle);
+#endif
+}
+
 const std::vector<Test> tests = {
     {"no_memory_to_open", no_memory_to_open},  // first: what it forks has one thread
     {"exceptions_without_a_handler_end_the_program", exceptions_without_a_handler_end_the_program},
+    {"the_last_entries_tell_of_a_crash", the_last_entries_tell_of_a_crash},
     {"null_closures", null_closures},
     {"null_runners", null_runners},
     {"calls_on_other_threads", calls_on_other_threads},

@@ -1,6 +1,6 @@
 // Random work for an environment, from many threads at once: random FIRST LAST plays the seeds from FIRST to LAST. What comes of a
 // seed depends on the threads too. Of each it is checked that sequences run singly and in order, that each accepted closure ran at
-// most once and was destroyed once, and that none that was refused ran. With KEEP each recording is kept for the judge.
+// most once and was destroyed once, and that none that was refused ran. Recordings are kept as in the other tests.
 #include "expect.hpp"
 
 #include <random>
@@ -68,7 +68,7 @@ public:
         {
             TaskEnvironment made(options);
             environment = &made;
-            keep(made, "random-" + std::to_string(seed));
+            keep(made, "random-" + std::to_string(seed), options.record);
             const MainQueue queues_made[] = {made.main_queue(), made.main_queue(dice.below(8)), made.main_queue(dice.below(8))};
             queues.assign(std::begin(queues_made), std::end(queues_made));
             for (unsigned lane = 0; lane < 6; ++lane) lanes.push_back(new_lane(dice));
@@ -83,8 +83,7 @@ public:
                 });
             const bool waits = dice.one_in(2);  // or shuts down while they post
             for (unsigned turn = 0; waits ? at_work > 0 : turn < 20; ++turn) drive();
-            for (unsigned job = 0; job < options.jobs.size(); ++job)
-                if (dice.one_in(2)) drive();
+            for (unsigned turn = dice.below(4); turn > 0; --turn) drive();
             made.shutdown();
             for (auto& thread : threads) thread.join();
             EXPECT(!made.post_task({Priority::user_blocking, Behaviour::block_shutdown}, [] {}));
@@ -105,7 +104,7 @@ public:
         case 1: return cancel(own);
         case 2: return environment->set_policy(own.one_in(3) ? Policy(own.below(3)) : Policy::all);
         case 3: return change_queue(own);
-        case 4: return start_job(own);
+        case 4: return post_job(own);
         case 5: return update_priority(own);
         default: return post(own, depth - 1);
         }
@@ -124,9 +123,11 @@ private:
         options.posts = dice.one_in(4) ? 300 : 20000;
         options.sequenced_runners = 4;
         options.single_thread_runners = 1;
-        for (unsigned job = 0; job < 5; ++job)
-            options.jobs.push_back({Priority(dice.below(3)), Behaviour(dice.below(3)), dice.below(200), 1 + dice.below(6)});
-        options.record = !kept_folder().empty();
+        for (JobSlots& slots : options.jobs) {
+            slots.least = 1 + dice.below(20), slots.most = 100 + dice.below(200);
+            slots.most_at_once = 1 + dice.below(6), slots.of_each = 1;
+        }
+        options.record = wanted_record();
         return options;
     }
     LaneRef new_lane(Dice& own) {
@@ -203,17 +204,18 @@ private:
         if (voter && own.one_in(2)) voters.push_back(std::make_unique<Voter>(std::move(*voter))), voter.reset();
         if (!voters.empty() && own.one_in(2)) voters.pop_back();
     }
-    void start_job(Dice& own) {
-        const unsigned job = own.below(unsigned(options.jobs.size()));
+    void post_job(Dice& own) {
+        const std::uint32_t items = own.below(200);
         try {
-            const JobHandle handle = environment->start_job(job, [](JobDelegate& delegate) {
+            const JobHandle handle = environment->post_job(own.traits(), items, [items](JobDelegate& delegate) {
+                EXPECT(delegate.item() < items);
                 if (delegate.item() % 7 == 0 && !delegate.should_yield()) std::this_thread::yield();
             });
             if (own.one_in(3)) handle.cancel_and_detach();
             std::lock_guard<std::mutex> lock(mutex);
             jobs.push_back(handle);
-        } catch (const std::logic_error&) {
-            // It was started before.
+        } catch (const NoRoom&) {
+            // All that have so many items were posted before.
         }
     }
     void update_priority(Dice& own) {

@@ -1,7 +1,7 @@
 //! The options of an environment.
 
 use crate::environment::Environment;
-use crate::words::{JobTraits, OpenError};
+use crate::words::{Behaviour, JobSlots, OpenError, Priority, Record};
 use std::any::Any;
 use std::sync::Arc;
 use std::thread;
@@ -29,9 +29,9 @@ pub(crate) struct Options {
     pub(crate) single_thread_runners: u32,
     pub(crate) main_queues: u32,
     pub(crate) voters: u32,
-    pub(crate) jobs: Vec<JobTraits>,
+    pub(crate) jobs: Vec<JobSlots>,
     pub(crate) has_mock_clock: bool,
-    pub(crate) records: bool,
+    pub(crate) record: Record,
     pub(crate) on_panic: Option<OnPanic>,
 }
 
@@ -50,9 +50,9 @@ impl Builder {
                 single_thread_runners: 2,
                 main_queues: 8,
                 voters: 4,
-                jobs: Vec::new(),
+                jobs: usual_jobs(),
                 has_mock_clock: false,
-                records: false,
+                record: Record::Off,
                 on_panic: None,
             },
         }
@@ -105,9 +105,10 @@ impl Builder {
         self.options.voters = count;
         self
     }
-    /// Declares one more job. They are numbered from 0, and [`Handle::take_job`](crate::Handle::take_job) gives each out, once.
-    pub fn job(mut self, traits: JobTraits) -> Builder {
-        self.options.jobs.push(traits);
+    /// Which jobs can be posted, each of them once: 256 at most, with 262,144 items in all. Unless it is said, [`JobSlots::of`] each
+    /// priority and behaviour.
+    pub fn jobs(mut self, slots: impl IntoIterator<Item = JobSlots>) -> Builder {
+        self.options.jobs = slots.into_iter().collect();
         self
     }
     /// Has time pass only by [`Environment::fast_forward_by`].
@@ -115,9 +116,9 @@ impl Builder {
         self.options.has_mock_clock = true;
         self
     }
-    /// Keeps all that happens, for [`Handle::recording`](crate::Handle::recording).
-    pub fn record(mut self) -> Builder {
-        self.options.records = true;
+    /// What is kept of what happens, for [`Handle::recording`](crate::Handle::recording). Unless it is said, nothing.
+    pub fn record(mut self, record: Record) -> Builder {
+        self.options.record = record;
         self
     }
     /// Has this called, on the task's thread, with what a task or an item of a job panicked with. Without it the process ends. A
@@ -130,6 +131,12 @@ impl Builder {
     pub fn open(self) -> Result<Environment, OpenError> {
         Environment::open(self.options)
     }
+}
+
+fn usual_jobs() -> Vec<JobSlots> {
+    let priorities = [Priority::BestEffort, Priority::UserVisible, Priority::UserBlocking];
+    let behaviours = [Behaviour::ContinueOnShutdown, Behaviour::SkipOnShutdown, Behaviour::BlockShutdown];
+    priorities.into_iter().flat_map(|priority| behaviours.map(|behaviour| JobSlots::of(priority, behaviour))).collect()
 }
 
 /// The longest delay or threshold, some 11 days: longer ones are as this one.

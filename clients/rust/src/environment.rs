@@ -3,11 +3,11 @@
 use crate::abi::{Call, Request};
 use crate::builder::{Builder, Options, microseconds};
 use crate::host::{Home, Host, Sort};
-use crate::job::Job;
+use crate::job::{Job, JobHandle, JobItem};
 use crate::main_queue::{MainQueue, require_class};
 use crate::runner::Runner;
 use crate::sequence::Sequence;
-use crate::words::{NoRoom, OpenError, Policy, Refused, Traits};
+use crate::words::{JobTraits, NoRoom, OpenError, Policy, Refused, Traits};
 use std::marker::PhantomData;
 use std::ops::Deref;
 use std::process::abort;
@@ -35,7 +35,7 @@ pub struct Environment {
 /// What any thread may ask an environment for. Clones are of the same one. It may outlive its environment: then all posts are refused.
 ///
 /// Some calls are the main thread's, and the core takes them only while the main thread runs no main task and no item of a job: a new
-/// priority for a runner (which making one may need), the policy, all that is done to a main queue but posts, and the start and the
+/// priority for a runner (which making one may need), the policy, all that is done to a main queue but posts, and the post and the
 /// cancel of a job. Any thread may ask for these **driver's calls**. While the main thread is at work they are kept in a list, in
 /// order, and made as soon as its task or item has ended. Once shutdown is done they have no effect.
 #[derive(Clone)]
@@ -84,9 +84,14 @@ impl Handle {
         require_class(class);
         self.host.make_main_queue(class).map(MainQueue::new)
     }
-    /// The job that was declared as this one, from 0, if there is one and nobody has taken it before.
-    pub fn take_job(&self, number: u32) -> Option<Job> {
-        self.host.take_job(number).then(|| Job::new(Arc::clone(&self.host), number))
+    /// A job, to be posted: the smallest one of the plan that has this priority and behaviour, room for so many items, and no more
+    /// threads that work on it at once. Each can be posted once.
+    pub fn take_job(&self, traits: JobTraits) -> Result<Job, NoRoom> {
+        self.host.take_job(&traits).map(|slot| Job::new(Arc::clone(&self.host), slot, traits.items))
+    }
+    /// Takes a job and starts it: see [`Job::start`]. This is a driver's call.
+    pub fn post_job(&self, traits: JobTraits, work: impl Fn(&JobItem<'_>) + Send + Sync + 'static) -> Result<JobHandle, NoRoom> {
+        self.take_job(traits).map(|job| job.start(work))
     }
     /// Says which work of the pool may start. From the start of shutdown on it has no effect. This is a driver's call.
     pub fn set_policy(&self, policy: Policy) {
@@ -100,8 +105,12 @@ impl Handle {
     pub fn posts_left(&self) -> u32 {
         self.host.posts_left()
     }
-    /// The plan, a line `%%`, and the log of all that happened so far: what `check --open` reads. There is none without
-    /// [`Builder::record`].
+    /// Whether shutdown has begun, as for a task that may end early.
+    pub fn has_shutdown_started(&self) -> bool {
+        self.host.has_shutdown_started()
+    }
+    /// The plan, a line `%%`, and the log of all that happened so far: what `check --open` reads. Of [`Record::Last`](crate::Record)
+    /// it is no log once entries were dropped. There is none without [`Builder::record`].
     pub fn recording(&self) -> Option<String> {
         self.host.recording()
     }

@@ -5,9 +5,9 @@ use crate::builder::{OnPanic, Options};
 use crate::current::{Current, this_thread};
 use crate::held::{Held, Parker, Trash, Wakes};
 use crate::job::Work;
-use crate::plan::{FIRST_CLASS, Plan, Slots};
+use crate::plan::{FIRST_CLASS, JobSlot, JobsLeft, Plan, Slots};
 use crate::recorder::Recorder;
-use crate::words::{Behaviour, NoRoom, OpenError, Priority, Refused, Scope, Traits};
+use crate::words::{Behaviour, JobTraits, NoRoom, OpenError, Priority, Refused, Scope, Traits};
 use std::cmp::Reverse;
 use std::collections::BinaryHeap;
 use std::panic::{AssertUnwindSafe, catch_unwind};
@@ -54,18 +54,22 @@ pub(crate) struct Task {
     pub(crate) home: Arc<Home>,
 }
 
-/// What of a job is looked at without the lock.
-pub(crate) struct JobSigns {
+/// A job of the plan that was posted.
+pub(crate) struct PostedJob {
+    /// Until nobody can enter any more.
+    pub(crate) work: Option<Work>,
+    /// How many items of the plan's job have not ended.
+    pub(crate) left: u32,
     behaviour: Behaviour,
-    /// What is left of its items is not wanted any more.
-    pub(crate) yields: AtomicBool,
 }
 
 /// See the module.
 pub(crate) struct Host {
     options: Options,
     plan_text: String,
-    pub(crate) jobs: Vec<JobSigns>,
+    /// Of each job of the plan: what is left of its items is not wanted any more.
+    pub(crate) yields: Vec<AtomicBool>,
+    has_begun_shutdown: AtomicBool,
     /// Of each seat.
     pub(crate) parkers: Vec<Parker>,
     main_thread: u64,
@@ -92,9 +96,9 @@ pub(crate) struct State {
     /// The ripe moments of delayed tasks; and of each seat the moment when its scope comes to count, or never.
     moments: BinaryHeap<Reverse<u64>>,
     scope_moments: Vec<u64>,
-    /// Of each job, from its start on.
-    pub(crate) works: Vec<Option<Work>>,
-    jobs_taken: Vec<bool>,
+    jobs_left: JobsLeft,
+    /// By number, from the post on.
+    pub(crate) jobs: Vec<Option<PostedJob>>,
     /// Of each main queue.
     free_voters: Vec<Vec<u32>>,
     main_queues_made: u32,
@@ -110,19 +114,20 @@ pub(crate) struct State {
 
 impl State {
     /// That of an environment of which nothing was asked yet.
-    fn new(core: Core, slots: Vec<Slots>, priorities: Vec<Priority>, seats: usize, options: &Options) -> State {
+    fn new(core: Core, plan: Plan, recorder: Option<Recorder>, seats: usize, options: &Options) -> State {
+        let Plan { slots, priorities, jobs_left, jobs, .. } = plan;
         let voters: Vec<u32> = (0..options.voters).rev().collect();
         State {
             core: Some(core),
-            recorder: options.records.then(Recorder::default),
+            recorder,
             waiting: (0..options.posts).map(|_| None).collect(),
             handed_out: 0,
             slots,
             priorities,
             moments: BinaryHeap::with_capacity(options.posts as usize),
             scope_moments: vec![NEVER; seats],
-            works: options.jobs.iter().map(|_| None).collect(),
-            jobs_taken: vec![false; options.jobs.len()],
+            jobs_left,
+            jobs: (0..jobs).map(|_| None).collect(),
             free_voters: vec![voters; options.main_queues as usize + 1],
             main_queues_made: 0,
             single_runners_made: 0,
@@ -131,6 +136,20 @@ impl State {
             main_is_poked: false,
             is_over: false,
         }
+    }
+    /// The work of a job, for a seat that is inside.
+    pub(crate) fn work_of(&self, job: u32) -> Option<Work> {
+        self.jobs[job as usize].as_ref()?.work.clone()
+    }
+    /// An item of the job has ended. Answers its work, to be dropped once the lock is free, where it was the last one.
+    pub(crate) fn end_item(&mut self, job: u32) -> Option<Work> {
+        let job = self.jobs[job as usize].as_mut()?;
+        job.left -= 1;
+        job.work.take_if(|_| job.left == 0)
+    }
+    /// Nobody enters the job any more. Answers its work, to be dropped once the lock is free.
+    pub(crate) fn end_job(&mut self, job: u32) -> Option<Work> {
+        self.jobs[job as usize].as_mut()?.work.take()
     }
     pub(crate) fn note_priority(&mut self, runner: u32, priority: Priority) {
         self.priorities[runner as usize] = priority;
@@ -157,12 +176,15 @@ impl Host {
         if options.worker_threads == 0 {
             return Err(OpenError::NoWorkers);
         }
-        let Plan { text, slots, priorities } = Plan::of(&options);
+        let mut plan = Plan::of(&options);
+        let text = std::mem::take(&mut plan.text);
         let core = Core::open(&text).map_err(|refusal| error_of(&refusal, &text))?;
+        let recorder = Recorder::new(options.record)?;
         let seats = options.worker_threads as usize + 2;
         Ok(Host {
             plan_text: text,
-            jobs: options.jobs.iter().map(|job| JobSigns { behaviour: job.behaviour, yields: AtomicBool::new(false) }).collect(),
+            yields: (0..plan.jobs).map(|_| AtomicBool::new(false)).collect(),
+            has_begun_shutdown: AtomicBool::new(false),
             parkers: (0..seats).map(|_| Parker::default()).collect(),
             main_thread: this_thread(),
             beginning: Instant::now(),
@@ -170,7 +192,7 @@ impl Host {
             on_panic: options.on_panic.take(),
             main_changed: Condvar::new(),
             time_changed: Condvar::new(),
-            state: Mutex::new(State::new(core, slots, priorities, seats, &options)),
+            state: Mutex::new(State::new(core, plan, recorder, seats, &options)),
             options,
         })
     }
@@ -316,29 +338,37 @@ impl Host {
 
     // ---- jobs and scopes
 
-    /// Whether there is such a job, and nobody took it before.
-    pub(crate) fn take_job(&self, job: u32) -> bool {
-        self.lock().jobs_taken.get_mut(job as usize).is_some_and(|taken| !std::mem::replace(taken, true))
+    pub(crate) fn take_job(&self, wanted: &JobTraits) -> Result<JobSlot, NoRoom> {
+        self.lock().jobs_left.take(wanted).ok_or(NoRoom::Jobs)
+    }
+    pub(crate) fn give_back_job(&self, slot: JobSlot) {
+        self.lock().jobs_left.add(slot);
     }
     /// Once shutdown is done the job isn't posted, and the work is dropped here, when the lock is free.
-    pub(crate) fn start_job(&self, job: u32, work: Work) {
+    pub(crate) fn post_job(&self, slot: JobSlot, work: Work) {
         let mut held = self.hold();
         if !held.state.is_over {
-            held.state.works[job as usize] = Some(work);
-            held.drive(Request::of(Call::JobPost).place(job));
+            let JobTraits { items, behaviour, .. } = slot.traits;
+            held.state.jobs[slot.number as usize] = Some(PostedJob { work: Some(work), left: items, behaviour });
+            held.drive(Request::of(Call::JobPost).place(slot.number));
         }
     }
     pub(crate) fn cancel_job(&self, job: u32) {
         let mut held = self.hold();
         if !held.state.is_over {
             held.drive(Request::of(Call::JobCancel).place(job));
-            self.jobs[job as usize].yields.store(true, Ordering::Relaxed);
+            self.yields[job as usize].store(true, Ordering::Relaxed);
         }
     }
     /// Shutdown begins: what is left of items whose job it stops is not wanted any more.
-    pub(crate) fn tell_jobs_of_shutdown(&self) {
-        let stopped = self.jobs.iter().filter(|job| job.behaviour != Behaviour::BlockShutdown);
-        stopped.for_each(|job| job.yields.store(true, Ordering::Relaxed));
+    pub(crate) fn tell_of_shutdown(&self, state: &State) {
+        self.has_begun_shutdown.store(true, Ordering::Relaxed);
+        let is_stopped = |job: &Option<PostedJob>| job.as_ref().is_some_and(|job| job.behaviour != Behaviour::BlockShutdown);
+        let stopped = self.yields.iter().zip(&state.jobs).filter(|(_, job)| is_stopped(job));
+        stopped.for_each(|(yields, _)| yields.store(true, Ordering::Relaxed));
+    }
+    pub(crate) fn has_shutdown_started(&self) -> bool {
+        self.has_begun_shutdown.load(Ordering::Relaxed)
     }
     /// This thread's task opens a scope. Answers whether its traits say that it may.
     pub(crate) fn open_scope(&self, seat: u32, scope: Scope) -> bool {

@@ -1,8 +1,10 @@
-//! Jobs: so many items, which several threads take one by one. They are declared with their items in advance, each is posted once.
+//! Jobs: so many items, which several threads take one by one. Each is a job of the plan that has room for them, which is posted once.
+//! Where the plan's job has more items, those after the last one that was asked for are empty runs.
 
-use crate::abi::{Call, Request, reply};
+use crate::abi::reply;
 use crate::environment::Environment;
 use crate::host::Host;
+use crate::plan::JobSlot;
 use crate::words::JobReply;
 use std::process::abort;
 use std::sync::Arc;
@@ -32,19 +34,25 @@ impl JobItem<'_> {
     }
 }
 
-/// What a job does with each item.
+/// What a job does with each item, and how many there are.
 #[derive(Clone)]
-pub(crate) enum Work {
+pub(crate) struct Work {
+    function: Function,
+    pub(crate) items: u32,
+}
+
+#[derive(Clone)]
+enum Function {
     Owned(Arc<dyn Fn(&JobItem<'_>) + Send + Sync>),
     Borrowed(Borrowed),
 }
 
 impl Work {
     pub(crate) fn call(&self, item: &JobItem<'_>) {
-        match self {
-            Work::Owned(work) => work(item),
+        match &self.function {
+            Function::Owned(work) => work(item),
             // SAFETY: `Job::run` says why what is borrowed is there.
-            Work::Borrowed(borrowed) => unsafe { (borrowed.call)(borrowed.work, item) },
+            Function::Borrowed(borrowed) => unsafe { (borrowed.call)(borrowed.work, item) },
         }
     }
 }
@@ -70,15 +78,30 @@ impl Borrowed {
     }
 }
 
-/// A job that has not been posted: [`Handle::take_job`](crate::Handle::take_job) gives each out once.
+/// A job that has not been posted: [`Handle::take_job`](crate::Handle::take_job) makes it. Where it is dropped, the plan's job can be
+/// taken again.
 pub struct Job {
     host: Arc<Host>,
-    number: u32,
+    slot: JobSlot,
+    items: u32,
+    is_posted: bool,
+}
+
+impl Drop for Job {
+    fn drop(&mut self) {
+        if !self.is_posted {
+            self.host.give_back_job(self.slot);
+        }
+    }
 }
 
 impl Job {
-    pub(crate) fn new(host: Arc<Host>, number: u32) -> Job {
-        Job { host, number }
+    pub(crate) fn new(host: Arc<Host>, slot: JobSlot, items: u32) -> Job {
+        Job { host, slot, items, is_posted: false }
+    }
+    fn post(&mut self, function: Function) {
+        self.is_posted = true;
+        self.host.post_job(self.slot, Work { function, items: self.items });
     }
 
     /// Does all items, and returns when nobody works on the job any more. The work is called once for each item, by several threads
@@ -87,40 +110,38 @@ impl Job {
     /// ```
     /// # use taskenv::{Environment, JobReply, JobTraits};
     /// # use std::sync::atomic::{AtomicU64, Ordering};
-    /// let environment = Environment::builder().job(JobTraits::of_items(100)).open()?;
+    /// let environment = Environment::builder().open()?;
     /// let (numbers, sum) = ((0..100).collect::<Vec<u64>>(), AtomicU64::new(0));
-    /// if let Some(job) = environment.take_job(0) {
-    ///     let reply = job.run(&environment, |item| {
-    ///         sum.fetch_add(numbers[item.index()], Ordering::Relaxed);
-    ///     });
-    ///     assert_eq!((reply, sum.into_inner()), (JobReply::Done, 4950));
-    /// }
-    /// # Ok::<(), taskenv::OpenError>(())
+    /// let reply = environment.take_job(JobTraits::of_items(100))?.run(&environment, |item| {
+    ///     sum.fetch_add(numbers[item.index()], Ordering::Relaxed);
+    /// });
+    /// assert_eq!((reply, sum.into_inner()), (JobReply::Done, 4950));
+    /// # Ok::<(), Box<dyn std::error::Error>>(())
     /// ```
     ///
     /// # Panics
     /// Where a main task runs it, or the environment is another one.
-    pub fn run(self, environment: &Environment, work: impl Fn(&JobItem<'_>) + Sync) -> JobReply {
+    pub fn run(mut self, environment: &Environment, work: impl Fn(&JobItem<'_>) + Sync) -> JobReply {
         require_same(&self.host, environment);
         self.host.require_driver();
         // Why what is borrowed is there whenever it is called. Only a seat calls it that the core counts as inside the job, which
         // it is from its take of an item to the step by which it leaves. That the job is joined, the core says only where nobody is
         // inside, and with a reply after which nobody enters: all items are done, or it was refused, cancelled or stopped
         // (docs/model.md, "Jobs"). No reply comes where shutdown was done before, since only this thread, which is here, ends one:
-        // there the job wasn't posted. Then the work is taken from the table. No panic leaves this function earlier: those of items
+        // there the job wasn't posted. By then the work is gone from the table. No panic leaves this function earlier: those of items
         // are caught, and where another one came, `guard` would end the process.
         let guard = AbortOnUnwind;
-        self.host.start_job(self.number, Work::Borrowed(Borrowed::of(&work)));
-        let reply = self.host.join_job(self.number);
-        self.host.lock().works[self.number as usize] = None;
+        self.post(Function::Borrowed(Borrowed::of(&work)));
+        let reply = self.host.join_job(self.slot.number);
         std::mem::forget(guard);
         reply.unwrap_or(JobReply::Refused)
     }
 
-    /// Starts the job: the work is called once for each item, by several threads at once. This is a driver's call.
-    pub fn start(self, work: impl Fn(&JobItem<'_>) + Send + Sync + 'static) -> JobHandle {
-        self.host.start_job(self.number, Work::Owned(Arc::new(work)));
-        JobHandle { host: self.host, number: self.number }
+    /// Starts the job: the work is called once for each item, by several threads at once. This is a driver's call. The work is dropped
+    /// when the last item has ended, or the job is joined, or cancelled and waited for, and at the latest with the environment.
+    pub fn start(mut self, work: impl Fn(&JobItem<'_>) + Send + Sync + 'static) -> JobHandle {
+        self.post(Function::Owned(Arc::new(work)));
+        JobHandle { host: Arc::clone(&self.host), number: self.slot.number }
     }
 }
 
@@ -133,7 +154,7 @@ impl Drop for AbortOnUnwind {
     }
 }
 
-/// A job that was started.
+/// A job that was posted.
 #[derive(Clone)]
 pub struct JobHandle {
     host: Arc<Host>,
@@ -159,9 +180,7 @@ impl JobHandle {
     /// Where a main task calls it, or the environment is another one.
     pub fn cancel_and_wait(&self, environment: &Environment) {
         require_same(&self.host, environment);
-        self.host.require_driver();
-        self.host.cancel_job(self.number);
-        self.host.await_entry(Request::of(Call::Cancelled).place(self.number));
+        self.host.cancel_job_and_wait(self.number);
     }
 }
 

@@ -25,7 +25,8 @@
 //!   shuts down. What other threads may ask for is in its [`Handle`].
 //! - [`Runner`]s are what closures are posted to: parallel, sequenced, on a single thread, or a [`MainQueue`]'s. A [`Sequence`] is one
 //!   with a state that each task borrows.
-//! - [`blocking`] says that a task blocks, so that another one may run meanwhile. A [`Job`] has items that several threads take.
+//! - [`blocking`] says that a task blocks, so that another one may run meanwhile. A [`Job`] has as many items as one asks for, which
+//!   several threads take. [`Record`] says what is kept of what happens.
 //! - [`RunLoop`], [`Environment::run_until_idle`], [`Environment::flush`] and a mock clock are the main thread's.
 //!
 //! # What always holds
@@ -39,7 +40,8 @@
 //!
 //! It needs nothing but the standard library and the core. The environment variable `TASKENV_LIBRARY` names the folder with the core,
 //! `libtaskenv.a`, which `./taskenv --library` makes. `cargo test` writes each test's recording to the folder that `TASKENV_LOGS` names,
-//! if it is set, as `check --open` reads it; `TASKENV_SEEDS` says how many random programs there are.
+//! if it is set: logs to `NAME.open`, as `check --open` reads them, and last entries, which it refuses, to `NAME.refused`.
+//! `TASKENV_SEEDS` says how many random programs there are.
 //!
 //! # How to read it
 //!
@@ -72,4 +74,7 @@ pub use job::{Job, JobHandle, JobItem};
 pub use main_queue::{MainQueue, Voter};
 pub use runner::{DelayedTask, Runner};
 pub use sequence::Sequence;
-pub use words::{Behaviour, FenceAt, JobReply, JobTraits, NoRoom, OpenError, Policy, Priority, Refused, Scope, Traits};
+pub use words::{
+    Behaviour, FenceAt, JobReply, JobSlots, JobTraits, MOST_INSIDE_A_JOB, NoRoom, OpenError, Policy, Priority, Record,
+};
+pub use words::{Refused, Scope, Traits};

@@ -1,11 +1,12 @@
-//! The plan of some options: its text (docs/formats.md), and where its runners lie.
+//! The plan of some options: its text (docs/formats.md), and where its runners and jobs lie.
 //!
 //! First come the parallel runners, one for each traits; then the slots of sequenced runners; then those of each worker's
 //! single-thread runners. Slots have all three priorities in turn. Each task has the step `add 1`, so it finds in its cell how many
 //! tasks of its sequence ended before it.
 
 use crate::builder::Options;
-use crate::words::{Behaviour, JobTraits, Priority, Traits};
+use crate::words::{Behaviour, JobSlots, JobTraits, MOST_INSIDE_A_JOB, Priority, Traits};
+use std::cmp::Reverse;
 
 /// How many sorts of slots there are: a behaviour, and whether it may block.
 const SORTS: usize = 6;
@@ -31,6 +32,45 @@ impl Slots {
     }
 }
 
+/// A job of the plan: its number, and what it is declared with.
+#[derive(Clone, Copy)]
+pub(crate) struct JobSlot {
+    pub(crate) number: u32,
+    pub(crate) traits: JobTraits,
+}
+
+impl JobSlot {
+    /// On how many of its items threads work at once.
+    fn at_once(&self) -> u32 {
+        self.traits.most_at_once.min(MOST_INSIDE_A_JOB)
+    }
+}
+
+/// The jobs that were not handed out. The first ones are those on which the most threads work at once, and of these the smallest.
+#[derive(Default)]
+pub(crate) struct JobsLeft {
+    left: Vec<JobSlot>,
+}
+
+impl JobsLeft {
+    /// Takes the first one that has this priority and behaviour, room for so many items, and no more threads at once.
+    pub(crate) fn take(&mut self, wanted: &JobTraits) -> Option<JobSlot> {
+        let fits = |slot: &JobSlot| {
+            let JobTraits { priority, behaviour, items, .. } = slot.traits;
+            (priority, behaviour) == (wanted.priority, wanted.behaviour)
+                && items >= wanted.items
+                && slot.at_once() <= wanted.most_at_once
+        };
+        self.left.iter().position(fits).map(|found| self.left.remove(found))
+    }
+    /// Notes a job that was not handed out, or not posted.
+    pub(crate) fn add(&mut self, slot: JobSlot) {
+        let key = |slot: &JobSlot| (Reverse(slot.at_once()), slot.traits.items, slot.number);
+        let place = self.left.partition_point(|other| key(other) < key(&slot));
+        self.left.insert(place, slot);
+    }
+}
+
 /// A plan.
 #[derive(Default)]
 pub(crate) struct Plan {
@@ -39,6 +79,9 @@ pub(crate) struct Plan {
     pub(crate) slots: Vec<Slots>,
     /// Of each runner.
     pub(crate) priorities: Vec<Priority>,
+    pub(crate) jobs_left: JobsLeft,
+    /// How many jobs there are.
+    pub(crate) jobs: u32,
 }
 
 impl Plan {
@@ -60,7 +103,7 @@ impl Plan {
             plan.line(format_args!("queue {queue} {FIRST_CLASS} {}", options.voters));
         }
         (0..options.posts.min(65_537)).for_each(|task| plan.line(format_args!("task {task} add 1")));
-        (0..).zip(&options.jobs).for_each(|(job, traits)| plan.job(job, traits));
+        options.jobs.iter().for_each(|slots| plan.declare_jobs(slots));
         plan
     }
 
@@ -99,9 +142,24 @@ impl Plan {
         self.line(format_args!("runner {number} {kind} {} {}{may_block}", priority_word(priority), behaviour_word(behaviour)));
         self.priorities.push(priority);
     }
-    fn job(&mut self, number: u32, job: &JobTraits) {
-        let (priority, behaviour) = (priority_word(job.priority), behaviour_word(job.behaviour));
-        self.line(format_args!("job {number} {priority} {behaviour} {} {}", job.items, job.most_at_once));
+    /// Jobs whose sizes double.
+    fn declare_jobs(&mut self, slots: &JobSlots) {
+        let JobSlots { priority, behaviour, most_at_once, .. } = *slots;
+        let mut items = slots.least.max(1).min(slots.most);
+        loop {
+            (0..slots.of_each.min(257)).for_each(|_| self.job(JobTraits { priority, behaviour, items, most_at_once }));
+            if items == slots.most {
+                return;
+            }
+            items = items.saturating_mul(2).min(slots.most);
+        }
+    }
+    fn job(&mut self, traits: JobTraits) {
+        let (number, JobTraits { items, most_at_once, .. }) = (self.jobs, traits);
+        let (priority, behaviour) = (priority_word(traits.priority), behaviour_word(traits.behaviour));
+        self.line(format_args!("job {number} {priority} {behaviour} {items} {most_at_once}"));
+        self.jobs_left.add(JobSlot { number, traits });
+        self.jobs += 1;
     }
     fn line(&mut self, words: std::fmt::Arguments<'_>) {
         self.text += &format!("{words}\n");

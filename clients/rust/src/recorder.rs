@@ -1,29 +1,60 @@
-//! The flight recorder: keeps each entry, as the core's answers tell them, and writes them as a log (docs/formats.md, version 2).
+//! The flight recorder: keeps the entries, all of them or the last ones, as the core's answers tell them, and writes them as a log
+//! (docs/formats.md, version 2).
 
 use crate::abi::{Answer, kind, reply};
+use crate::words::{OpenError, Record};
+use std::iter;
 
-#[derive(Default)]
 pub(crate) struct Recorder {
+    keeps_all: bool,
+    /// Where not all are kept, a ring: each place lies at its remainder.
     entries: Vec<(u32, Answer)>,
+    noted: usize,
     /// There was no memory for an entry: the log ends before it, and lacks its total, so that it is known as cut.
     is_cut: bool,
 }
 
 impl Recorder {
-    pub(crate) fn note(&mut self, seat: u32, entry: Answer) {
-        self.is_cut |= self.entries.try_reserve(1).is_err();
-        if !self.is_cut {
-            self.entries.push((seat, entry));
+    /// One that keeps what is wanted. It takes the memory for its ring.
+    pub(crate) fn new(record: Record) -> Result<Option<Recorder>, OpenError> {
+        let mut entries = Vec::new();
+        if let Record::Last(count) = record {
+            entries.try_reserve_exact(count).map_err(|_| OpenError::OutOfMemory)?;
+            entries.extend(iter::repeat_n((0, Answer::default()), count));
         }
+        let recorder = Recorder { keeps_all: record == Record::All, entries, noted: 0, is_cut: false };
+        Ok(Some(recorder).filter(|_| record != Record::Off))
     }
 
+    pub(crate) fn note(&mut self, seat: u32, entry: Answer) {
+        if self.keeps_all {
+            self.is_cut |= self.entries.try_reserve(1).is_err();
+            if self.is_cut {
+                return;
+            }
+            self.entries.push((seat, entry));
+        } else if !self.entries.is_empty() {
+            let place = self.noted % self.entries.len();
+            self.entries[place] = (seat, entry);
+        }
+        self.noted += 1;
+    }
+
+    /// A log. Where entries were dropped it is none: the first line says so, the others keep their places, and there is no total.
     pub(crate) fn text(&self) -> String {
-        let mut log = String::from("taskenv log 2\n");
-        for (place, (seat, entry)) in self.entries.iter().enumerate() {
+        let (first, noted) = (self.noted.saturating_sub(self.entries.len()), self.noted);
+        let is_whole = first == 0;
+        let mut log = if is_whole {
+            String::from("taskenv log 2\n")
+        } else {
+            format!("taskenv last {} of {noted} entries\n", noted - first)
+        };
+        for place in first..noted {
+            let (seat, entry) = &self.entries[place % self.entries.len()];
             log += &format!("{place} {seat} {}\n", words_of(entry));
         }
-        if !self.is_cut {
-            log += &format!("total {}\n", self.entries.len());
+        if is_whole && !self.is_cut {
+            log += &format!("total {noted}\n");
         }
         log
     }

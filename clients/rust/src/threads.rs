@@ -35,7 +35,7 @@ impl Host {
                     }
                 }
                 (_, kind::JOB_TAKE) => {
-                    let work = held.state.works[did.place as usize].clone();
+                    let work = held.state.work_of(did.place);
                     drop(held);
                     self.work_on_job(seat, &did, work);
                 }
@@ -69,18 +69,21 @@ impl Host {
     /// Works on a job from the item that was taken on, until the core has this seat leave.
     fn work_on_job(&self, seat: u32, taken: &Answer, work: Option<Work>) {
         let _doing = Doing::new(self, seat, None);
-        let yields = &self.jobs[taken.place as usize].yields;
+        let yields = &self.yields[taken.place as usize];
         let mut item = taken.item;
         loop {
-            if let Some(work) = &work {
+            if let Some(work) = work.as_ref().filter(|work| item < work.items) {
                 self.guarded(|| work.call(&JobItem { index: item, worker: taken.id, yields }));
             }
             let mut held = self.hold();
             let did = held.must(Request::of(Call::JobStep).seat(seat), &[]);
+            let last = held.state.end_item(taken.place);
             if did.ok == 0 {
                 if seat == 0 {
                     held.free_driver();
                 }
+                drop(held);
+                self.guarded(|| drop((last, work)));
                 return;
             }
             item = did.next;
@@ -186,6 +189,16 @@ impl Host {
             }
         }
     }
+    /// Cancels a job, and waits until nobody is inside.
+    pub(crate) fn cancel_job_and_wait(&self, job: u32) {
+        self.require_driver();
+        self.cancel_job(job);
+        self.await_entry(Request::of(Call::Cancelled).place(job));
+        let mut state = self.lock();
+        let work = if state.is_over { None } else { state.end_job(job) };
+        drop(state);
+        self.guarded(|| drop(work));
+    }
     /// The main thread works on the job too, until it has its reply. There is none once shutdown is done.
     pub(crate) fn join_job(&self, job: u32) -> Option<JobReply> {
         self.require_driver();
@@ -197,11 +210,14 @@ impl Host {
             }
             let did = held.must(joined, &[status::NOT_YET]);
             if did.status == status::MADE {
+                let work = held.state.end_job(job); // nobody enters a job that has a reply
+                drop(held);
+                self.guarded(|| drop(work));
                 return Some(reply_of(did.word));
             }
             if did.ready != 0 {
                 let item = held.must(Request::of(Call::JobTake).place(job), &[]);
-                let work = held.state.works[job as usize].clone();
+                let work = held.state.work_of(job);
                 held.state.driver_works = true;
                 drop(held);
                 self.work_on_job(0, &item, work);
@@ -219,17 +235,17 @@ impl Host {
             return;
         }
         held.must(Request::of(Call::Shutdown), &[]);
+        self.tell_of_shutdown(&held.state);
         drop(held);
-        self.tell_jobs_of_shutdown();
         self.await_entry(Request::of(Call::Done));
     }
     /// All threads have ended: the core is closed, and what jobs own is destroyed.
     pub(crate) fn close(&self) {
         let mut held = self.hold();
         let core = held.state.core.take();
-        let works = std::mem::take(&mut held.state.works);
+        let jobs = std::mem::take(&mut held.state.jobs);
         drop(held);
         drop(core);
-        self.guarded(|| drop(works));
+        self.guarded(|| drop(jobs));
     }
 }

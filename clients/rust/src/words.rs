@@ -109,7 +109,10 @@ impl Default for Traits {
     }
 }
 
-/// A job that can be posted once, as it is declared to the [`Builder`](crate::Builder).
+/// On how many items of a job the pool works at once, at most.
+pub const MOST_INSIDE_A_JOB: u32 = 32;
+
+/// What a job needs.
 #[derive(Clone, Copy, Debug, PartialEq, Eq, Hash)]
 pub struct JobTraits {
     /// How important it is.
@@ -118,15 +121,52 @@ pub struct JobTraits {
     pub behaviour: Behaviour,
     /// How many items it has, 65,536 at most.
     pub items: u32,
-    /// On how many of them threads work at once, 1 to 64. (The pool's own bound is 32.)
+    /// On how many of them threads may work at once.
     pub most_at_once: u32,
 }
 
 impl JobTraits {
-    /// A job of so many items, which is user visible, is skipped on shutdown, and is worked on by 32 threads at most.
+    /// A job of so many items, which is user visible, is skipped on shutdown, and is worked on by as many threads as the pool lets.
     pub const fn of_items(items: u32) -> JobTraits {
-        JobTraits { priority: Priority::UserVisible, behaviour: Behaviour::SkipOnShutdown, items, most_at_once: 32 }
+        let (priority, behaviour) = (Priority::UserVisible, Behaviour::SkipOnShutdown);
+        JobTraits { priority, behaviour, items, most_at_once: MOST_INSIDE_A_JOB }
     }
+}
+
+/// Jobs of the plan, each of which can be posted once: so many of each size. The sizes double from the least one up to the most.
+#[derive(Clone, Copy, Debug, PartialEq, Eq, Hash)]
+pub struct JobSlots {
+    /// How important they are.
+    pub priority: Priority,
+    /// What shutdown does with them.
+    pub behaviour: Behaviour,
+    /// How many items the smallest ones have, 1 at least.
+    pub least: u32,
+    /// How many items the largest ones have, 65,536 at most.
+    pub most: u32,
+    /// How many there are of each size.
+    pub of_each: u32,
+    /// On how many items of one threads work at once, 1 to 64. (The pool's own bound is 32.)
+    pub most_at_once: u32,
+}
+
+impl JobSlots {
+    /// Jobs of 16 to 4,096 items, 3 of each size, which are worked on by as many threads as the pool lets: 27 in all.
+    pub const fn of(priority: Priority, behaviour: Behaviour) -> JobSlots {
+        JobSlots { priority, behaviour, least: 16, most: 4096, of_each: 3, most_at_once: MOST_INSIDE_A_JOB }
+    }
+}
+
+/// What is kept of what happens.
+#[derive(Clone, Copy, Debug, Default, PartialEq, Eq, Hash)]
+pub enum Record {
+    /// Nothing.
+    #[default]
+    Off,
+    /// The last so many entries, in memory that is taken at the beginning.
+    Last(usize),
+    /// All entries.
+    All,
 }
 
 /// Why a post was refused. The closure is gone: it was destroyed on the posting thread.
@@ -152,7 +192,7 @@ impl fmt::Display for Refused {
 
 impl Error for Refused {}
 
-/// The plan has no free runner, main queue or voter left.
+/// The plan has no free runner, main queue, voter or job left.
 #[derive(Clone, Copy, Debug, PartialEq, Eq, Hash)]
 pub enum NoRoom {
     /// All sequenced runners of the behaviour are in use.
@@ -163,6 +203,8 @@ pub enum NoRoom {
     MainQueues,
     /// All voters of the main queue are in use.
     Voters,
+    /// All jobs of the priority and behaviour, with room for so many items and so few threads, were posted.
+    Jobs,
 }
 
 impl fmt::Display for NoRoom {
@@ -172,6 +214,7 @@ impl fmt::Display for NoRoom {
             NoRoom::SingleThreadRunners => "no single-thread runner of this behaviour is free",
             NoRoom::MainQueues => "all main queues were made",
             NoRoom::Voters => "the main queue has no free voter",
+            NoRoom::Jobs => "no job of this priority and behaviour is left that has room for so many items",
         })
     }
 }
@@ -181,7 +224,8 @@ impl Error for NoRoom {}
 /// Why an environment was not opened.
 #[derive(Debug)]
 pub enum OpenError {
-    /// There is no memory for the core. (Where the standard library finds none, the process ends, as it does elsewhere.)
+    /// There is no memory for the core, or for the entries that are kept. (Where the standard library finds none, the process ends,
+    /// as it does elsewhere.)
     OutOfMemory,
     /// There is no worker thread.
     NoWorkers,

@@ -1,13 +1,15 @@
 //! One test for each feature.
 
-use crate::{BLOCKS, Gate, SKIPS, Seen, open, panics, small, until};
+use crate::{BLOCKS, Gate, Kept, SKIPS, Seen, open, open_as, panics, slots, small, until};
 use std::rc::Rc;
 use std::sync::atomic::{AtomicU64, AtomicUsize, Ordering::SeqCst};
-use std::sync::{Arc, Mutex};
+use std::sync::{Arc, Mutex, OnceLock};
 use std::thread;
 use std::time::{Duration, Instant};
-use taskenv::{Behaviour, Environment, FenceAt, Handle, JobReply, JobTraits, NoRoom, Policy, Priority, Refused, RunLoop};
-use taskenv::{Runner, Scope, Sequence, Traits, blocking};
+use taskenv::{
+    Behaviour, Environment, FenceAt, Handle, JobReply, JobSlots, JobTraits, NoRoom, Policy, Priority, Record, Refused,
+};
+use taskenv::{RunLoop, Runner, Scope, Sequence, Traits, blocking};
 
 const MILLISECOND: Duration = Duration::from_millis(1);
 const SECOND: Duration = Duration::from_secs(1);
@@ -501,9 +503,11 @@ fn scopes_answer_and_close() {
 
 #[test]
 fn jobs_borrow_and_do_each_item_once() {
-    let environment = open(small(4).job(JobTraits { most_at_once: 8, ..JobTraits::of_items(1000) }));
-    let job = environment.take_job(0).unwrap();
-    assert!(environment.take_job(0).is_none() && environment.take_job(1).is_none());
+    let environment = open(small(4).jobs([slots(1000, 1000, 8)]));
+    let job = environment.take_job(JobTraits::of_items(1000)).unwrap();
+    assert_eq!(environment.take_job(JobTraits::of_items(1)).err(), Some(NoRoom::Jobs));
+    drop(job); // it wasn't posted
+    let job = environment.take_job(JobTraits::of_items(1000)).unwrap();
     let done: Vec<AtomicUsize> = (0..1000).map(|_| AtomicUsize::new(0)).collect();
     let not_shared = Rc::new(5); // what the caller has need not be `Send`
     let handle = environment.handle();
@@ -517,42 +521,210 @@ fn jobs_borrow_and_do_each_item_once() {
     assert_eq!((reply, *not_shared), (JobReply::Done, 5));
     assert!(done.into_iter().all(|count| count.into_inner() == 1));
     environment.flush();
+    assert_eq!(environment.take_job(JobTraits::of_items(1)).err(), Some(NoRoom::Jobs));
+}
+
+/// Runs a job of so many items, or finds no room: each item is done once, and there are no others.
+fn does_all(environment: &Environment, items: u32) -> bool {
+    let Ok(job) = environment.take_job(JobTraits::of_items(items)) else { return false };
+    let done: Vec<AtomicUsize> = (0..items).map(|_| AtomicUsize::new(0)).collect();
+    let reply = job.run(environment, |item| _ = done[item.index()].fetch_add(1, SeqCst));
+    assert!(reply == JobReply::Done && done.into_iter().all(|count| count.into_inner() == 1));
+    true
+}
+
+#[test]
+fn jobs_have_any_number_of_items() {
+    // Each list takes all of the jobs of 8, 16, 32 and 64 items.
+    let lists = [[0, 1, 15, 63], [7, 8, 9, 17], [64, 32, 16, 8], [16, 8, 1, 0], [0, 0, 0, 0], [33, 17, 9, 8]];
+    for counts in lists {
+        let environment = open(small(4).jobs([slots(8, 64, 32)]));
+        assert!(!does_all(&environment, 65) && counts.into_iter().all(|items| does_all(&environment, items)));
+        assert!(!does_all(&environment, 0));
+    }
+    let environment = open(small(4).jobs([slots(65_536, 65_536, 32); 2])); // the largest ones
+    assert!(!does_all(&environment, 65_537) && does_all(&environment, 65_536) && does_all(&environment, 65_535));
+}
+
+/// Which of the plan's jobs were posted, in order, as the log tells.
+fn jobs_posted(environment: &Environment) -> Vec<u32> {
+    let log = environment.recording().unwrap();
+    log.lines()
+        .filter_map(|line| line.split_once(" startjob "))
+        .map(|(_, job)| job.split(' ').next().unwrap().parse().unwrap())
+        .collect()
+}
+
+#[test]
+fn a_job_is_the_smallest_that_fits() {
+    let late = JobTraits { priority: Priority::BestEffort, behaviour: Behaviour::BlockShutdown, items: 5, most_at_once: 1 };
+    let late_ones = JobSlots { least: 5, most: 5, of_each: 2, most_at_once: 1, ..JobSlots::of(late.priority, late.behaviour) };
+    // Jobs 0 to 3 have 3, 6, 12 and 20 items; 4 has 10, two at once; 5 and 6 have 5, one at once.
+    let environment = small(4).jobs([slots(3, 20, 64), slots(10, 10, 2), late_ones]).record(Record::All).open().unwrap();
+    let post = |traits: JobTraits| {
+        let (inside, seen) = (AtomicUsize::new(0), AtomicUsize::new(0));
+        let reply = environment.take_job(traits)?.run(&environment, |item| {
+            let now = inside.fetch_add(1, SeqCst) + 1;
+            assert!(now <= traits.most_at_once as usize && item.worker() < traits.most_at_once as usize);
+            thread::sleep(Duration::from_micros(100));
+            inside.fetch_sub(1, SeqCst);
+            seen.fetch_add(1, SeqCst);
+        });
+        assert_eq!((reply, seen.into_inner()), (JobReply::Done, traits.items as usize));
+        Ok::<(), NoRoom>(())
+    };
+    let usual = |items, most_at_once| JobTraits { most_at_once, ..JobTraits::of_items(items) };
+    for traits in [usual(7, 32), usual(6, 100), usual(6, 31)] {
+        post(traits).unwrap();
+    }
+    assert_eq!(jobs_posted(&environment), [2, 1, 4]);
+    assert_eq!(post(usual(1, 31)), Err(NoRoom::Jobs)); // no other job is one of 31 at most
+    for traits in [late, JobTraits { items: 0, most_at_once: 32, ..late }, usual(4, 32), usual(0, 32)] {
+        post(traits).unwrap();
+    }
+    assert_eq!(jobs_posted(&environment), [2, 1, 4, 5, 6, 3, 0]);
+    for traits in [usual(0, 32), late, JobTraits { priority: Priority::UserBlocking, ..usual(0, 32) }] {
+        assert_eq!(post(traits), Err(NoRoom::Jobs));
+    }
+}
+
+#[test]
+fn a_plan_has_usual_jobs() {
+    let (environment, done) = (open(small(4)), Arc::new(AtomicUsize::new(0)));
+    let mut jobs = Vec::new();
+    for priority in [Priority::BestEffort, Priority::UserVisible, Priority::UserBlocking] {
+        for behaviour in [Behaviour::ContinueOnShutdown, Behaviour::SkipOnShutdown, Behaviour::BlockShutdown] {
+            for items in [1, 16, 17, 4096] {
+                let (traits, done) = (JobTraits { priority, behaviour, ..JobTraits::of_items(items) }, Arc::clone(&done));
+                jobs.push(environment.post_job(traits, move |_| _ = done.fetch_add(1, SeqCst)).unwrap());
+            }
+        }
+    }
+    environment.flush(); // which waits for jobs, too
+    assert_eq!(done.load(SeqCst), 9 * (1 + 16 + 17 + 4096));
+    assert!(jobs.iter().all(|job| job.join(&environment) == Some(JobReply::Done)));
+}
+
+#[test]
+fn jobs_are_posted_from_everywhere() {
+    let (environment, done) = (open(small(4)), Arc::new(AtomicUsize::new(0)));
+    let (handle, counts) = (environment.handle().clone(), Arc::clone(&done));
+    let post = move |items: u32| {
+        let counts = Arc::clone(&counts);
+        handle.post_job(JobTraits::of_items(items), move |_| _ = counts.fetch_add(1, SeqCst)).unwrap()
+    };
+    let (one, two, three) = (post.clone(), post.clone(), post.clone());
+    environment.main_runner().post(move || drop(one(10))).unwrap(); // is posted at the end of this task
+    environment.post(SKIPS, move || drop(two(20))).unwrap();
+    thread::scope(|scope| _ = scope.spawn(|| drop(post(30))));
+    environment.post_job(JobTraits::of_items(3), move |item| drop(three(item.index() as u32))).unwrap().join(&environment);
+    environment.run_until_idle();
+    assert_eq!(done.load(SeqCst), 10 + 20 + 30 + 1 + 2);
+}
+
+#[test]
+fn jobs_let_go_of_their_work() {
+    let owned = Arc::new(());
+    let environment = open(small(4).jobs([slots(10, 10, 32), slots(10, 10, 32), slots(10, 10, 32), slots(60_000, 60_000, 32)]));
+    let post = |items| {
+        let held = Arc::clone(&owned);
+        environment.post_job(JobTraits::of_items(items), move |_| _ = &held).unwrap()
+    };
+    drop(post(10));
+    until(|| Arc::strong_count(&owned) == 1); // after its last item's end
+    post(3).join(&environment);
+    until(|| Arc::strong_count(&owned) == 1);
+    environment.set_policy(Policy::None);
+    post(60_000).cancel_and_wait(&environment);
+    assert_eq!(Arc::strong_count(&owned), 1);
+    drop(post(10));
+    drop(environment);
+    assert_eq!(Arc::strong_count(&owned), 1);
 }
 
 #[test]
 fn jobs_cancel() {
-    let three = JobTraits { most_at_once: 3, ..JobTraits::of_items(60_000) };
-    let environment = open(small(4).job(three).job(JobTraits::of_items(5)));
+    let environment = open(small(4).jobs([slots(60_000, 60_000, 3), slots(8, 8, 3)]));
     let counts = Arc::new((AtomicUsize::new(0), AtomicUsize::new(0)));
     let (inside, begun) = (Arc::clone(&counts), Arc::clone(&counts));
-    let job = environment.take_job(0).unwrap().start(move |item| {
+    let work = move |item: &taskenv::JobItem<'_>| {
         inside.0.fetch_add(1, SeqCst);
         inside.1.fetch_add(1, SeqCst);
         while !item.should_yield() {
             thread::yield_now();
         }
         inside.0.fetch_sub(1, SeqCst);
-    });
+    };
+    let job = environment.post_job(JobTraits::of_items(50_000), work).unwrap();
     until(|| begun.1.load(SeqCst) == 3);
     job.cancel_and_wait(&environment);
     assert_eq!((counts.0.load(SeqCst), job.join(&environment)), (0, Some(JobReply::Cancelled)));
+    assert_eq!(counts.1.load(SeqCst), 3);
     environment.set_policy(Policy::None);
-    let other = environment.take_job(1).unwrap().start(|_| unreachable!());
+    let other = environment.post_job(JobTraits::of_items(5), |_| unreachable!()).unwrap();
     other.cancel();
     assert_eq!(other.join(&environment), Some(JobReply::Cancelled));
 }
 
 #[test]
 fn the_joining_thread_works_too() {
-    let environment = open(small(2).job(JobTraits { most_at_once: 4, ..JobTraits::of_items(10) }));
+    let environment = open(small(2).jobs([slots(16, 16, 4)]));
     environment.set_policy(Policy::None); // no worker may help
     let (here, items, handle) = (thread::current().id(), Mutex::new(Vec::new()), environment.handle());
-    let reply = environment.take_job(0).unwrap().run(&environment, |item| {
+    let reply = environment.take_job(JobTraits::of_items(10)).unwrap().run(&environment, |item| {
         assert_eq!(thread::current().id(), here);
         items.lock().unwrap().push(item.index());
         handle.set_policy(Policy::None); // kept until the job's last item
     });
     assert_eq!((reply, items.into_inner().unwrap()), (JobReply::Done, (0..10).collect()));
+}
+
+/// Shuts down amid a job of 150 items. Answers how many were begun.
+fn shut_down_amid_a_job(environment: Kept, traits: JobTraits, owned: &Arc<()>) -> usize {
+    let counts = Arc::new([AtomicUsize::new(0), AtomicUsize::new(0)]);
+    let both = || [counts[0].load(SeqCst), counts[1].load(SeqCst)];
+    let (work, held, must_end) = (Arc::clone(&counts), Arc::clone(owned), traits.behaviour == Behaviour::BlockShutdown);
+    let begin = move |item: &taskenv::JobItem<'_>| {
+        assert!(item.index() < 150 && Arc::strong_count(&held) > 1);
+        work[0].fetch_add(1, SeqCst);
+        thread::sleep(MILLISECOND);
+        while !must_end && !item.should_yield() {
+            thread::sleep(MILLISECOND);
+        }
+        assert_eq!(item.should_yield(), !must_end);
+        work[1].fetch_add(1, SeqCst);
+    };
+    environment.post_job(traits, begin).unwrap();
+    until(|| both()[0] >= 3);
+    let (handle, held) = (environment.handle().clone(), Arc::clone(owned));
+    let late = move || {
+        until(|| handle.has_shutdown_started());
+        let refused = handle.post_job(JobTraits::of_items(3), move |_| unreachable!("{held:?}")); // though there is room
+        assert!(refused.is_ok());
+    };
+    environment.post(BLOCKS.priority(Priority::UserBlocking), late).unwrap();
+    assert!(!environment.has_shutdown_started());
+    environment.shutdown();
+    assert!(environment.has_shutdown_started());
+    assert!(both()[0] == both()[1] || traits.behaviour == Behaviour::ContinueOnShutdown);
+    assert_eq!(environment.post_job(traits, |_| unreachable!()).unwrap().join(&environment), None);
+    drop(environment);
+    assert_eq!(both()[0], both()[1]);
+    both()[0]
+}
+
+#[test]
+fn shutdown_comes_amid_jobs() {
+    let owned = Arc::new(());
+    for behaviour in [Behaviour::ContinueOnShutdown, Behaviour::SkipOnShutdown, Behaviour::BlockShutdown] {
+        let traits = JobTraits { behaviour, ..JobTraits::of_items(150) };
+        let some = JobSlots { least: 200, most: 200, of_each: 2, ..JobSlots::of(traits.priority, behaviour) };
+        let name = format!("shutdown_comes_amid_jobs-{behaviour:?}");
+        let environment = open_as(small(3).jobs([some, slots(8, 8, 32)]), &name);
+        let begun = shut_down_amid_a_job(environment, traits, &owned);
+        assert_eq!(begun < 150, behaviour != Behaviour::BlockShutdown);
+        assert_eq!(Arc::strong_count(&owned), 1);
+    }
 }
 
 #[test]
@@ -602,7 +774,7 @@ fn panics_go_to_the_handler() {
     let (seen, caught) = (Seen::default(), Seen::default());
     let catches = caught.clone();
     let handler = move |panic: Box<dyn std::any::Any + Send>| catches.see(u64::from(panic.downcast_ref() == Some(&"mine")));
-    let environment = open(small(2).on_panic(handler).job(JobTraits::of_items(3)));
+    let environment = open(small(2).on_panic(handler));
     let sequence = environment.sequence(SKIPS, 0).unwrap();
     sequence
         .post(|state| {
@@ -615,13 +787,14 @@ fn panics_go_to_the_handler() {
     environment.main_runner().post(|| panic!("mine")).unwrap();
     environment.run_until_idle();
     assert_eq!((caught.take(), seen.take()), (vec![1, 1], vec![7]));
-    let reply = environment.take_job(0).unwrap().run(&environment, |_| panic!("mine"));
+    let reply = environment.take_job(JobTraits::of_items(3)).unwrap().run(&environment, |_| panic!("mine"));
     assert_eq!((reply, caught.take()), (JobReply::Done, vec![1, 1, 1]));
 }
 
 #[test]
 fn what_happens_is_recorded() {
-    let environment = Environment::builder().worker_threads(1).posts(2).mock_clock().record().open().unwrap();
+    let builder = Environment::builder().worker_threads(1).posts(2).jobs([slots(5, 9, 4)]).mock_clock();
+    let environment = builder.record(Record::All).open().unwrap();
     let handle: Handle = environment.handle().clone();
     environment.sequenced_runner(SKIPS).unwrap().post(|| {}).unwrap();
     environment.flush();
@@ -629,7 +802,9 @@ fn what_happens_is_recorded() {
     let recording = handle.recording().unwrap();
     let (plan, log) = recording.split_once("%%\n").unwrap();
     assert!(plan.starts_with("workers 2\ngroups 1 1 0\nthreshold 1000000\nrunner 0 parallel best_effort continue\n"));
-    assert!(plan.ends_with("queue 8 3 4\ntask 0 add 1\ntask 1 add 1\n"));
+    assert!(
+        plan.ends_with("queue 8 3 4\ntask 0 add 1\ntask 1 add 1\njob 0 user_visible skip 5 4\njob 1 user_visible skip 9 4\n")
+    );
     let places: Vec<&str> = log.lines().filter(|line| !line.starts_with("0 ")).collect();
     assert!(log.starts_with("taskenv log 2\n0 0 post 0 ") && log.contains(" 1 take 0 ") && log.contains(" 1 end 0 1\n"), "{log}");
     assert!(
@@ -641,7 +816,7 @@ fn what_happens_is_recorded() {
 
 #[test]
 fn each_entry_is_recorded_by_its_seat() {
-    let environment = small(1).mock_clock().record().open().unwrap();
+    let environment = small(1).mock_clock().record(Record::All).open().unwrap();
     environment.set_policy(Policy::None);
     let handle = environment.handle();
     thread::scope(|scope| {
@@ -669,6 +844,58 @@ fn each_entry_is_recorded_by_its_seat() {
         .map(|line| format!("{}|", line.strip_prefix("0 ").unwrap_or(line)))
         .collect();
     assert_eq!(told, expected);
+}
+
+/// A run that is the same each time: its one worker is at work only while the main thread waits.
+fn recording_of_a_run(record: Record) -> String {
+    let environment = small(1).posts(16).mock_clock().record(record).open().unwrap();
+    let handle = environment.handle().clone();
+    let sequence = environment.sequenced_runner(SKIPS).unwrap();
+    for _ in 0..3 {
+        let main = environment.main_runner();
+        sequence.post(move || _ = main.post_delayed(|| {}, MILLISECOND).unwrap()).unwrap();
+        environment.flush();
+    }
+    environment.run_until_idle();
+    drop(environment);
+    handle.recording().unwrap()
+}
+
+#[test]
+fn the_last_entries_are_kept() {
+    let whole = recording_of_a_run(Record::All);
+    let (plan, log) = whole.split_once("%%\n").unwrap();
+    let lines: Vec<&str> = log.lines().collect();
+    let entries = &lines[1..lines.len() - 1];
+    let count = entries.len();
+    assert_eq!(lines[count + 1], format!("total {count}"));
+    for last in [0, 1, 7, count - 1, count, count + 1, 1000] {
+        let told = recording_of_a_run(Record::Last(last));
+        let mut tail = format!("{plan}%%\ntaskenv last {last} of {count} entries\n");
+        entries[count - last.min(count)..].iter().for_each(|line| tail += &format!("{line}\n"));
+        assert_eq!(told, if last < count { tail } else { whole.clone() });
+        if let Some(folder) = std::env::var_os("TASKENV_LOGS") {
+            let ending = if last < count { "refused" } else { "open" };
+            std::fs::write(std::path::Path::new(&folder).join(format!("last-{last}.{ending}")), told).unwrap();
+        }
+    }
+}
+
+#[test]
+fn the_last_entries_tell_of_a_panic() {
+    let (handle, told) = (Arc::new(OnceLock::<Handle>::new()), Arc::new(Mutex::new(String::new())));
+    let (asks, tells) = (Arc::clone(&handle), Arc::clone(&told));
+    let handler = move |_| *tells.lock().unwrap() = asks.get().unwrap().recording().unwrap(); // the lock is free
+    let environment = small(1).record(Record::Last(4)).on_panic(handler).open().unwrap();
+    handle.set(environment.handle().clone()).ok().unwrap();
+    for number in 0..6 {
+        environment.post(SKIPS, move || assert!(number < 5)).unwrap();
+        environment.flush();
+    }
+    // The fifth task, what the main thread waited for, and the sixth: it was taken, and had not ended.
+    let told = told.lock().unwrap();
+    let (_, log) = told.split_once("%%\n").unwrap();
+    assert_eq!(log, "taskenv last 4 of 22 entries\n18 1 end 4 1\n19 0 idle\n20 0 post 5 8 0 ok\n21 1 take 5 8 0\n");
 }
 
 #[test]
@@ -708,6 +935,7 @@ fn handles_may_be_sent() {
     may_be_sent::<taskenv::MainQueue>();
     may_be_sent::<taskenv::Voter>();
     may_be_sent::<taskenv::Job>();
+    may_be_sent::<JobSlots>();
     may_be_sent::<taskenv::JobHandle>();
     may_be_sent::<taskenv::DelayedTask>();
     may_be_sent::<taskenv::Quit>();

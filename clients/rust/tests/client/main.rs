@@ -11,7 +11,7 @@ use std::path::Path;
 use std::sync::atomic::{AtomicU32, Ordering};
 use std::sync::{Arc, Condvar, Mutex};
 use std::time::{Duration, Instant};
-use taskenv::{Behaviour, Builder, Environment, Handle, Priority, Traits};
+use taskenv::{Behaviour, Builder, Environment, Handle, JobSlots, JobTraits, Priority, Record, Traits};
 
 /// Usual traits.
 pub const SKIPS: Traits = Traits::new().priority(Priority::UserVisible);
@@ -22,6 +22,12 @@ pub const BLOCKS: Traits = SKIPS.behaviour(Behaviour::BlockShutdown).may_block()
 pub fn small(worker_threads: u32) -> Builder {
     let builder = Environment::builder().worker_threads(worker_threads).posts(2048);
     builder.sequenced_runners(8).single_thread_runners(1).main_queues(4)
+}
+
+/// Jobs like those of `JobTraits::of_items`: one of each size, from the least up to the most, which double.
+pub fn slots(least: u32, most: u32, most_at_once: u32) -> JobSlots {
+    let JobTraits { priority, behaviour, .. } = JobTraits::of_items(0);
+    JobSlots { priority, behaviour, least, most, of_each: 1, most_at_once }
 }
 
 /// An environment whose recording is kept at its end, if `TASKENV_LOGS` says so.
@@ -39,7 +45,7 @@ pub fn open(builder: Builder) -> Kept {
 
 /// The same with this name in place of the test's.
 pub fn open_as(builder: Builder, name: &str) -> Kept {
-    let builder = if std::env::var_os("TASKENV_LOGS").is_some() { builder.record() } else { builder };
+    let builder = if std::env::var_os("TASKENV_LOGS").is_some() { builder.record(Record::All) } else { builder };
     let environment = builder.open().unwrap();
     Kept { handle: environment.handle().clone(), environment: Some(environment), name: name.to_owned() }
 }

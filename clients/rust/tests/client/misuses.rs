@@ -1,6 +1,6 @@
 //! Misuse: what types can't refuse is refused, or has no effect, and breaks nothing.
 
-use crate::{BLOCKS, SKIPS, Seen, open, panics, small, until};
+use crate::{BLOCKS, SKIPS, Seen, open, panics, slots, small, until};
 use std::cell::RefCell;
 use std::process::{Command, Output};
 use std::rc::Rc;
@@ -8,7 +8,9 @@ use std::sync::Arc;
 use std::sync::atomic::{AtomicUsize, Ordering::SeqCst};
 use std::thread;
 use std::time::Duration;
-use taskenv::{Behaviour, Environment, FenceAt, Handle, JobReply, JobTraits, NoRoom, OpenError, Policy, Priority, Refused};
+use taskenv::{
+    Behaviour, Environment, FenceAt, Handle, JobReply, JobSlots, JobTraits, NoRoom, OpenError, Policy, Priority, Record, Refused,
+};
 use taskenv::{RunLoop, Runner, Traits};
 
 const SECOND: Duration = Duration::from_secs(1);
@@ -28,7 +30,7 @@ fn refuses(runner: &Runner, why: Refused) -> bool {
 
 #[test]
 fn posts_after_shutdown() {
-    let environment = open(small(2).job(JobTraits::of_items(3)).job(JobTraits::of_items(3)).job(JobTraits::of_items(3)));
+    let (environment, three) = (open(small(2)), JobTraits::of_items(3));
     let handle: Handle = environment.handle().clone();
     let sequence = handle.sequence(BLOCKS, 0).unwrap();
     let runners = [handle.runner(BLOCKS), sequence.runner().clone(), handle.main_runner()];
@@ -41,9 +43,9 @@ fn posts_after_shutdown() {
     assert!(all_refuse() && Arc::strong_count(&owned) == 1 && !delayed.cancel() && !delayed.is_waiting());
     thread::scope(|scope| scope.spawn(|| assert!(all_refuse())).join()).unwrap();
 
-    let reply = handle.take_job(0).unwrap().run(&environment, |_| unreachable!());
+    let reply = handle.take_job(three).unwrap().run(&environment, |_| unreachable!());
     assert_eq!(reply, JobReply::Refused);
-    let job = handle.take_job(1).unwrap().start(|_| unreachable!());
+    let job = handle.post_job(three, |_| unreachable!()).unwrap();
     assert_eq!(job.join(&environment), None);
     job.cancel_and_wait(&environment);
     quit.quit();
@@ -61,7 +63,8 @@ fn posts_after_shutdown() {
     handle.make_main_queue(0).unwrap().set_class(3);
     handle.set_policy(Policy::None);
     sequence.runner().update_priority(Priority::BestEffort);
-    handle.take_job(2).unwrap().start(|_| unreachable!()).cancel();
+    handle.post_job(three, |_| unreachable!()).unwrap().cancel();
+    drop(handle.take_job(three));
     job.cancel();
     quit.quit();
     assert!(!sequence.runner().runs_tasks_in_current_sequence());
@@ -220,8 +223,10 @@ fn options_that_are_no_plan() {
         small(2).limits(2, 3),
         small(2).background(65),
         small(2).voters(17),
-        small(2).job(JobTraits::of_items(65_537)),
-        small(2).job(JobTraits { most_at_once: 65, ..JobTraits::of_items(1) }),
+        small(2).jobs([slots(1, 65_537, 32)]),
+        small(2).jobs([slots(1, u32::MAX, 32)]),
+        small(2).jobs([slots(1, 1, 65)]),
+        small(2).jobs([slots(1, 1, 0)]),
     ];
     let too_many = [
         small(2).posts(65_537),
@@ -230,6 +235,9 @@ fn options_that_are_no_plan() {
         small(2).single_thread_runners(u32::MAX),
         small(2).main_queues(256),
         small(2).main_queues(u32::MAX),
+        small(2).jobs([JobSlots { of_each: 257, ..slots(1, 1, 1) }]),
+        small(2).jobs([JobSlots { of_each: u32::MAX, ..slots(1, 1, 1) }]),
+        small(2).jobs([slots(65_536, 65_536, 1); 5]),
     ];
     for (reason, all) in [(5, Vec::from(out_of_range)), (14, Vec::from(too_many))] {
         for builder in all {
@@ -243,9 +251,16 @@ fn options_that_are_no_plan() {
 }
 
 #[test]
+fn there_is_no_memory_for_a_ring() {
+    for entries in [usize::MAX, usize::MAX / 128] {
+        assert!(matches!(small(2).record(Record::Last(entries)).open(), Err(OpenError::OutOfMemory)));
+    }
+}
+
+#[test]
 fn calls_that_panic() {
-    let (one, two) = (open(small(2).job(JobTraits::of_items(1)).job(JobTraits::of_items(1))), open(small(2)));
-    let (first, second) = (one.take_job(0).unwrap(), one.take_job(1).unwrap().start(|_| {}));
+    let (one, two, job) = (open(small(2)), open(small(2)), JobTraits::of_items(1));
+    let (first, second) = (one.take_job(job).unwrap(), one.post_job(job, |_| {}).unwrap());
     assert!(panics(|| _ = first.run(&two, |_| {})));
     assert!(panics(|| _ = second.join(&two)));
     assert!(panics(|| second.cancel_and_wait(&two)));
@@ -261,7 +276,7 @@ fn calls_that_panic() {
 fn main_tasks_do_not_wait_for_themselves() {
     thread_local!(static HERE: RefCell<Option<Rc<Environment>>> = const { RefCell::new(None) });
     let job = JobTraits::of_items(1);
-    let environment = Rc::new(small(2).mock_clock().job(job).job(job).on_panic(|_| unreachable!()).open().unwrap());
+    let environment = Rc::new(small(2).mock_clock().on_panic(|_| unreachable!()).open().unwrap());
     HERE.set(Some(Rc::clone(&environment)));
     let seen = Seen::default();
     let sees = seen.clone();
@@ -272,8 +287,8 @@ fn main_tasks_do_not_wait_for_themselves() {
         assert!(panics(|| here.fast_forward_by(SECOND)));
         assert!(panics(|| here.shutdown()));
         assert!(panics(|| RunLoop::new(&here).run()));
-        assert!(panics(|| _ = here.take_job(0).unwrap().run(&here, |_| unreachable!())));
-        let job = here.take_job(1).unwrap().start(|_| {}); // kept to the end of this task
+        assert!(panics(|| _ = here.take_job(job).unwrap().run(&here, |_| unreachable!())));
+        let job = here.post_job(job, |_| {}).unwrap(); // kept to the end of this task
         assert!(panics(|| _ = job.join(&here)));
         assert!(panics(|| job.cancel_and_wait(&here)));
         sees.see(1);
@@ -369,8 +384,8 @@ mod children {
     #[test]
     #[ignore = "run by another test"]
     fn an_item_panics() {
-        let environment = small(2).job(JobTraits::of_items(1)).open().unwrap();
-        environment.take_job(0).unwrap().run(&environment, |_| panic!("of an_item_panics"));
+        let environment = small(2).open().unwrap();
+        environment.take_job(JobTraits::of_items(1)).unwrap().run(&environment, |_| panic!("of an_item_panics"));
     }
     #[test]
     #[ignore = "run by another test"]

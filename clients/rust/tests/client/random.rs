@@ -7,7 +7,9 @@ use std::sync::atomic::{AtomicU32, AtomicU64, Ordering::SeqCst};
 use std::sync::{Arc, Mutex};
 use std::thread;
 use std::time::Duration;
-use taskenv::{Behaviour, DelayedTask, Environment, FenceAt, Handle, Job, JobHandle, JobReply, JobTraits, MainQueue, Policy};
+use taskenv::{
+    Behaviour, DelayedTask, Environment, FenceAt, Handle, JobHandle, JobReply, JobSlots, JobTraits, MainQueue, Policy,
+};
 use taskenv::{Priority, Refused, Runner, Scope, Sequence, Traits, Voter, blocking};
 
 const PRIORITIES: [Priority; 3] = [Priority::BestEffort, Priority::UserVisible, Priority::UserBlocking];
@@ -34,6 +36,11 @@ impl Random {
         let traits = Traits::new().priority(*self.of(&PRIORITIES)).behaviour(*self.of(&BEHAVIOURS));
         if self.below(2) == 0 { traits.may_block() } else { traits }
     }
+    /// A job. Its sort has room for so many items, but maybe not for so few threads.
+    fn job(&mut self) -> JobTraits {
+        let Traits { priority, behaviour, .. } = self.traits();
+        JobTraits { priority, behaviour, items: self.below(32) as u32, most_at_once: 1 + self.below(4) as u32 }
+    }
     fn pause(&mut self) {
         thread::sleep(Duration::from_micros(self.below(300)));
     }
@@ -59,7 +66,6 @@ struct World {
     lists: Vec<Sequence<HashMap<u64, u64>>>,
     queues: Vec<MainQueue>,
     voters: Vec<Voter>,
-    jobs: Mutex<Vec<Job>>,
     started: Mutex<Vec<JobHandle>>,
     delayed: Mutex<Vec<DelayedTask>>,
     told: Mutex<Vec<Arc<Told>>>,
@@ -87,7 +93,6 @@ impl World {
             lists: (0..3).map(|_| environment.sequence(random.traits(), HashMap::new()).unwrap()).collect(),
             voters: queues.iter().map(|queue| queue.create_voter().unwrap()).collect(),
             queues,
-            jobs: Mutex::new((0..3).map(|job| environment.take_job(job).unwrap()).collect()),
             started: Mutex::default(),
             delayed: Mutex::default(),
             told: Mutex::default(),
@@ -139,7 +144,7 @@ impl World {
             15..=16 => self.reply(random),
             17 => self.use_new_runner(random),
             18..=19 => self.change_queue(random),
-            20 => self.start_job(),
+            20 => self.post_job(random),
             21 if random.below(3) == 0 => _ = self.started.lock().unwrap().pop().map(|job| job.cancel()),
             _ => random.pause(),
         }
@@ -178,10 +183,15 @@ impl World {
             _ => queue.set_class(random.below(8) as u32),
         }
     }
-    fn start_job(self: &Arc<World>) {
-        let Some(job) = self.jobs.lock().unwrap().pop() else { return };
-        let job = job.start(|item| thread::sleep(Duration::from_micros(item.index() as u64 * 10)));
-        self.started.lock().unwrap().push(job);
+    fn post_job(self: &Arc<World>, random: &mut Random) {
+        let traits = random.job();
+        let job = self.handle.post_job(traits, move |item| {
+            assert!(item.index() < traits.items as usize);
+            thread::sleep(Duration::from_micros(item.index() as u64 * 10));
+        });
+        if let Ok(job) = job {
+            self.started.lock().unwrap().push(job);
+        }
     }
 
     /// Once the environment is gone.
@@ -214,8 +224,9 @@ fn join(environment: &Kept, world: &Arc<World>, random: &mut Random) {
         _ = started.and_then(|job| job.join(environment));
         return;
     }
-    let Some(job) = world.jobs.lock().unwrap().pop() else { return };
-    let done: Vec<AtomicU32> = (0..30).map(|_| AtomicU32::new(0)).collect();
+    let traits = random.job();
+    let Ok(job) = environment.take_job(traits) else { return };
+    let done: Vec<AtomicU32> = (0..traits.items).map(|_| AtomicU32::new(0)).collect();
     let reply = job.run(environment, |item| _ = done[item.index()].fetch_add(1, SeqCst));
     let all = u32::from(reply == JobReply::Done);
     assert!(done.iter().all(|count| count.load(SeqCst) == all));
@@ -227,11 +238,17 @@ fn play(seed: u64) {
     let builder = small(1 + random.below(5) as u32).posts(700).may_block_threshold(Duration::from_millis(1));
     let builder = if is_mock { builder.mock_clock() } else { builder };
     let builder = if random.below(2) == 0 { builder.limits(2, 1).background(random.below(3) as u32) } else { builder };
-    let builder = (0..3).fold(builder, |builder, number| {
-        let (priority, behaviour) = (*random.of(&PRIORITIES), BEHAVIOURS[number]);
-        builder.job(JobTraits { priority, behaviour, items: 30, most_at_once: 1 + number as u32 })
-    });
-    let environment = open_as(builder, &format!("random-{seed}"));
+    let sorts = PRIORITIES.iter().flat_map(|&priority| BEHAVIOURS.map(|behaviour| JobSlots::of(priority, behaviour)));
+    let slots: Vec<JobSlots> = sorts
+        .map(|slots| JobSlots {
+            least: 1 + random.below(9) as u32,
+            most: 31,
+            of_each: 1,
+            most_at_once: 1 + random.below(4) as u32,
+            ..slots
+        })
+        .collect();
+    let environment = open_as(builder.jobs(slots), &format!("random-{seed}"));
     let world = Arc::new(World::new(&environment, &mut random));
     thread::scope(|scope| {
         for thread in 0..3 {
