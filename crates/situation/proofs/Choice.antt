@@ -55,7 +55,7 @@ use Rattle.situation.specs.Situation.{counts_from}
 use Rattle.situation.specs.Same.{SameWork}
 
 -- an open scope counts once its moment has come
-counts_by_moment : (script : Plan) (past : List Entry) (o : OpenScope) → scope_counts script past o ≡ nat_le (counts_from script past o) (now_of past)
+pub counts_by_moment : (script : Plan) (past : List Entry) (o : OpenScope) → scope_counts script past o ≡ nat_le (counts_from script past o) (now_of past)
 counts_by_moment script past o = by_scope o.scope refl
   where
     by_test : (b : Bool) → nat_le (o.since + script.threshold) (now_of past) ≡ b → b ≡ nat_le (cond b 0 (o.since + script.threshold)) (now_of past)
@@ -204,7 +204,7 @@ pub record Alike (c d : Candidate) : Type 0 where
   pub seat_is : c.seat ≡ d.seat
 
 -- the key of what waits is that of the first of its source in the line
-key_is_first : (script : Plan) (past : List Entry) → IsLegal script past → (source : TaskSource) (c : Candidate) → source_waiting script past source ≡ Some c
+pub key_is_first : (script : Plan) (past : List Entry) → IsLegal script past → (source : TaskSource) (c : Candidate) → source_waiting script past source ≡ Some c
     → (x : Standing) × (first_at script past source ≡ Some x) × (c.key ≡ standing_key x)
 unfolding may_enter
 key_is_first script past legal (Sequence s) c is =

@@ -14,7 +14,6 @@ use Rattle.task_base.specs.declared.entry.Kind.{Kind}
 use Rattle.task_base.specs.declared.entry.Kind.TheVariants as kinds
 use Rattle.list_laws.proofs.Ranges.{AllByRecursion-range}
 use Rattle.script_model.specs.Laws.Sound.{IsSound}
-use Rattle.task_model.specs.Time.{now_of}
 use Rattle.task_model.specs.Seats.{all_seats}
 use Rattle.hist_model.specs.Allowed.{is_allowed, IsAllowed, may_come}
 use Rattle.hist_model.specs.Legal.{IsLegal}
@@ -38,7 +37,7 @@ as_long f g (x ∷ xs) all = length-append (f x) (flat_map f xs) ∙ ap (λ n. n
 
 -- ---- kinds at a moment
 
-told_at : (moment : ℕ) (kind : Kind) → without_items (at_moment moment kind) ≡ at_moment moment (without_items kind)
+pub told_at : (moment : ℕ) (kind : Kind) → without_items (at_moment moment kind) ≡ at_moment moment (without_items kind)
 told_at moment (kinds.Joined job (Finished sum)) = refl
 told_at moment (kinds.Joined job reply) = refl
 told_at moment kind = refl
@@ -56,20 +55,20 @@ back_at moment kind like is = refl
 
 -- ---- what is allowed
 
-abbrev at_moment_of : Plan → (ℕ → ℕ) → List Entry → ℕ → Kind → Entry
-at_moment_of script tick past seat way = record { seat = seat; kind = at_moment (tick (now_of past)) way }
+abbrev at_moment_of : Plan → (Situation → ℕ) → List Entry → ℕ → Kind → Entry
+at_moment_of script tick past seat way = record { seat = seat; kind = at_moment (tick (situation_of script past)) way }
 
-allowed_like : (script : Plan) (tick : ℕ → ℕ) (past other : List Entry) → IsSound script → is_pool_script script ≡ true → IsLegal script past
+allowed_like : (script : Plan) (tick : Situation → ℕ) (past other : List Entry) → IsSound script → is_pool_script script ≡ true → IsLegal script past
     → IsLegal script other → situation_of script past ≡ situation_of script other → (seat : ℕ) (a b : Kind) → way_on script other seat ≡ Some b
     → is_allowed script past (at_moment_of script tick past seat a) ≡ true → is_allowed script other (at_moment_of script tick other seat b) ≡ true
 allowed_like script tick past other sound pool legal legal_other same seat a b is_b allowed =
-    let parts = and_parts (leb seat script.workers) (may_come script past seat (at_moment (tick (now_of past)) a)) allowed in
-    let like = decides_coming script past other sound pool legal legal_other same seat (at_moment (tick (now_of past)) a)
+    let parts = and_parts (leb seat script.workers) (may_come script past seat (at_moment (tick (situation_of script past)) a)) allowed in
+    let like = decides_coming script past other sound pool legal legal_other same seat (at_moment (tick (situation_of script past)) a)
     (leb-true seat script.workers parts.0) parts.1 in
     let way : b ≡ but_moment like.0 = same_Some b (but_moment like.0) (sym is_b ∙ way_is script other seat like.0 sound.closed legal_other like.2) in
-    let now : now_of past ≡ now_of other = ap (λ (s : Situation). s.now) same in
-    let kind : at_moment (tick (now_of other)) b ≡ like.0 = ap (λ n. at_moment (tick n) b) (sym now) ∙ ap (at_moment (tick (now_of past))) way
-    ∙ back_at (tick (now_of past)) a like.0 like.1 in
+    let kind : at_moment (tick (situation_of script other)) b ≡ like.0 = ap (λ z. at_moment (tick z) b) (sym same)
+    ∙ ap (at_moment (tick (situation_of script past))) way
+    ∙ back_at (tick (situation_of script past)) a like.0 like.1 in
     and_from _ _ parts.0 (ap (may_come script other seat) kind ∙ like.2)
 
 -- ---- as many
@@ -78,7 +77,7 @@ allowed_like script tick past other sound pool legal legal_other same seat a b i
 abbrev at_end : Bool → List (List Entry)
 at_end b = cond b ([] ∷ []) []
 
-pub as_many : (script : Plan) (tick : ℕ → ℕ) (n : ℕ) (past other : List Entry) → IsSound script → is_pool_script script ≡ true → IsLegal script past
+pub as_many : (script : Plan) (tick : Situation → ℕ) (n : ℕ) (past other : List Entry) → IsSound script → is_pool_script script ≡ true → IsLegal script past
     → IsLegal script other → situation_of script past ≡ situation_of script other → length (futures script tick n past) ≡ length (futures script tick n other)
 as_many script tick zero past other sound pool legal legal_other same =
     ap (λ b. length (at_end b)) (decides_whole script past other sound pool legal legal_other same)
@@ -98,7 +97,8 @@ as_many script tick (suc n) past other sound pool legal legal_other same =
     at_seat later seat = by_ways (way_on script past seat) (way_on script other seat) refl refl
         (decides_way script past other sound pool legal legal_other same seat)
       where
-        by_allowed : (a b : Kind) → without_items (at_moment (tick (now_of past)) a) ≡ without_items (at_moment (tick (now_of other)) b) → (p q : Bool)
+        by_allowed : (a b : Kind)
+            → without_items (at_moment (tick (situation_of script past)) a) ≡ without_items (at_moment (tick (situation_of script other)) b) → (p q : Bool)
             → is_allowed script past (at_moment_of script tick past seat a) ≡ p → is_allowed script other (at_moment_of script tick other seat b) ≡ q → p ≡ q
             → length (beginning_with (cond p (Some (at_moment_of script tick past seat a)) None) (λ e. futures script tick n (past ++ e ∷ [])))
             ≡ length (beginning_with (cond q (Some (at_moment_of script tick other seat b)) None) (λ e. futures script tick n (other ++ e ∷ [])))
@@ -121,10 +121,10 @@ as_many script tick (suc n) past other sound pool legal legal_other same =
         by_ways (Some a) (Some b) is_x is_y alike =
             let told : without_items a ≡ without_items b =
             same_Some _ _ (sym (ap (option_map without_items) is_x) ∙ alike ∙ ap (option_map without_items) is_y) in
-            let now : now_of past ≡ now_of other = ap (λ (s : Situation). s.now) same in
             rw (is_x, is_y) (by_allowed a b
-            (told_at (tick (now_of past)) a ∙ ap (at_moment (tick (now_of past))) told ∙ ap (λ m. at_moment (tick m) (without_items b)) now
-            ∙ sym (told_at (tick (now_of other)) b))
+            (told_at (tick (situation_of script past)) a ∙ ap (at_moment (tick (situation_of script past))) told
+            ∙ ap (λ z. at_moment (tick z) (without_items b)) same
+            ∙ sym (told_at (tick (situation_of script other)) b))
             (is_allowed script past (at_moment_of script tick past seat a)) (is_allowed script other (at_moment_of script tick other seat b)) refl refl
             (both_true _ _ (allowed_like script tick past other sound pool legal legal_other same seat a b is_y)
             (allowed_like script tick other past sound pool legal_other legal (sym same) seat b a is_x)))

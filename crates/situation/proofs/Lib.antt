@@ -10,4 +10,6 @@ pub mod Onward
 pub mod Futures
 pub mod Counts
 pub mod Worked
+pub mod WorkedNumbers
 pub mod Listed
+pub mod Once

@@ -318,6 +318,16 @@ order_same script past other a b same w x y z is_w is_x is_y is_z =
     order_alike stands_before waiter_of (waits_at script a) (waits_at script b) (standing script past) (standing script other) (ranks_key standing_key)
     (standing_rises script past) (standing_rises script other) same w x y z is_w is_x is_y is_z
 
+-- what is found of a list as it is seen
+pub found_map : {A B : Type 0} (f : A → B) (test : B → Bool) (xs : List A) → option_map f (find (λ x. test (f x)) xs) ≡ find test (map f xs)
+found_map f test [] = refl
+found_map {A = A} {B = B} f test (x ∷ xs) = by_test (test (f x)) (found_map f test xs)
+  where
+    by_test : (b : Bool) → option_map f (find (λ z. test (f z)) xs) ≡ find test (map f xs)
+        → option_map f (cond b (Some x) (find (λ z. test (f z)) xs)) ≡ cond b (Some (f x)) (find test (map f xs))
+    by_test true rest = refl
+    by_test false rest = rest
+
 -- and who stands first of a source in one stands first of it in the other
 pub first_same : (script : Plan) (past other : List Entry) (source : TaskSource) → line_of script past ≡ line_of script other
     → option_map waiter_of (first_at script past source) ≡ option_map waiter_of (first_at script other source)
@@ -325,12 +335,3 @@ unfolding line_of
 first_same script past other source same =
     found_map waiter_of (waits_at script source) (standing script past) ∙ ap (find (waits_at script source)) same
     ∙ sym (found_map waiter_of (waits_at script source) (standing script other))
-  where
-    found_map : {A B : Type 0} (f : A → B) (test : B → Bool) (xs : List A) → option_map f (find (λ x. test (f x)) xs) ≡ find test (map f xs)
-    found_map f test [] = refl
-    found_map {A = A} {B = B} f test (x ∷ xs) = by_test (test (f x)) (found_map f test xs)
-      where
-        by_test : (b : Bool) → option_map f (find (λ z. test (f z)) xs) ≡ find test (map f xs)
-            → option_map f (cond b (Some x) (find (λ z. test (f z)) xs)) ≡ cond b (Some (f x)) (find test (map f xs))
-        by_test true rest = refl
-        by_test false rest = rest

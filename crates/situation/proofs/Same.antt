@@ -35,7 +35,7 @@ range_same f g start (suc len) i same from to =
 
 -- ---- what is left of some actions
 
-left_within : (xs : List Action) (own : List Entry) → length (agenda_from xs own).actions ≤ length xs
+pub left_within : (xs : List Action) (own : List Entry) → length (agenda_from xs own).actions ≤ length xs
 left_within [] own = omega arith
 left_within (x ∷ rest) own = by_part (behind_action x own) (left_within rest)
   where

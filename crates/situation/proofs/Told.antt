@@ -18,6 +18,7 @@ use Rattle.task_model.specs.Capacity.{priority_after}
 use Rattle.task_model.specs.Jobs.{cancels, claims}
 use Rattle.hist_model.specs.Script.{is_joined, is_main_end, is_main_none}
 use Rattle.situation.specs.Alike.{without_items}
+use Rattle.situation.specs.Onward.{job_after}
 
 -- a notion of kinds that tells no item from another
 abbrev pub Tells : {A : Type 0} → (Kind → A) → Type 0
@@ -79,14 +80,7 @@ main_ends_told = same_told is_main_end (by_jobs is_main_end (λ j i n. refl) (λ
 pub main_none_told : (kind like : Kind) → without_items kind ≡ without_items like → is_main_none kind ≡ is_main_none like
 main_none_told = same_told is_main_none (by_jobs is_main_none (λ j i n. refl) (λ j i n v k. refl) (λ j s. refl))
 
--- the job that a seat is inside after an entry of its own
-abbrev job_after : Option ℕ → Kind → Option ℕ
-job_after now (kinds.JobTake job id item) = Some job
-job_after now (kinds.JobStep job id item value (Some next)) = Some job
-job_after now (kinds.JobStep job id item value None) = None
-job_after now kind = now
-
-job_of_holding : (o : Option Holding) (kind : Kind) → option_map (λ h. h.job) (holding_after o kind) ≡ job_after (option_map (λ (h : Holding). h.job) o) kind
+pub job_of_holding : (o : Option Holding) (kind : Kind) → option_map (λ h. h.job) (holding_after o kind) ≡ job_after (option_map (λ (h : Holding). h.job) o) kind
 job_of_holding o (kinds.JobTake job id item) = refl
 job_of_holding o (kinds.JobStep job id item value (Some next)) = refl
 job_of_holding o (kinds.JobStep job id item value None) = refl

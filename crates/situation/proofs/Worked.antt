@@ -27,7 +27,7 @@ unfolding fold_past now_of tick_from posts is_taken is_ended phase_of policy_of 
 situation_at script log = situation_of script log
 
 -- what is found of the script that a text is
-abbrev of_text : {A : Type 0} → List ℕ → (Plan → A) → Option A
+abbrev pub of_text : {A : Type 0} → List ℕ → (Plan → A) → Option A
 of_text {A = A} text look = elim (read text) as (λ _. Option A) [ Ok script ↦ Some (look script) | Err fault ↦ None ]
 
 -- two legal logs of one script come to one situation
@@ -39,7 +39,7 @@ record AlikeAfter (text : List ℕ) (log other : List Entry) : Type 0 where
 -- ---- logs that come to one situation
 
 -- two tasks of a parallel runner: in which order they ran, and where, is forgotten
-abbrev two_tasks : List ℕ
+abbrev pub two_tasks : List ℕ
 two_tasks = codes "workers 2\nrunner 0 parallel user_visible skip\ntask 0 add 1\ntask 1 add 2\npost 0 0 0\npost 1 0 0\nflush\n"
 
 the_order_of_ends_is_forgotten : AlikeAfter two_tasks

@@ -5,3 +5,4 @@ pub mod Declared
 pub mod Alike
 pub mod Futures
 pub mod Counts
+pub mod Onward

@@ -5,7 +5,9 @@
 #![tactic(auto)]
 
 mod decides;
+mod logs;
 mod moves;
 
 pub use decides::the_situation_decides_what_may_come;
+pub use logs::{each_going_is_listed_once, each_whole_log_is_listed_once};
 pub use moves::{futures_are_the_whole_logs, the_situation_moves_on};

@@ -31,6 +31,7 @@ use Rattle.hist_model.proofs.Laws.Agenda.{agenda_push}
 use Rattle.hist_model.proofs.Laws.Own.{own_entries_push}
 use Rattle.situation.specs.Alike.{without_items}
 use Rattle.situation.specs.Situation.{agenda_after_past, progress, progress_of_first, job_now, job_reply}
+use Rattle.situation.specs.Onward.{reply_after}
 use Rattle.situation.specs.Same.{SameWork}
 use Rattle.situation.proofs.Told.{same_told, by_jobs, now_told, phase_told, policy_told, priority_told, running_told, acts_told, cancels_told, claims_told}
 use Rattle.situation.proofs.Told.{joins_told, main_ends_told, main_none_told, held_told}
@@ -84,6 +85,21 @@ agendas_on a b same e f alike = by_actions a.actions b.actions same.left same.ma
     by_actions xs ys is made =
         subst (λ zs. SameAgenda (next_agenda xs a.made e) (next_agenda zs b.made f)) is
         (agenda_told xs a.made b.made e f (made ∙ ap (λ zs. progress_of_first zs b.made) (sym is)) alike)
+
+-- the reply to a job's post, one entry on
+pub reply_push : (past : List Entry) (e : Entry) (j : ℕ) → job_reply (past ++ e ∷ []) j ≡ reply_after j (job_reply past j) e.kind
+reply_push past e j = ap (option_map (λ (p : JobPosted). p.ok)) (job_post_of_push past e j) ∙ of_post (job_post_of past j) e.kind
+  where
+    first : (ok b : Bool)
+        → option_map (λ (p : JobPosted). p.ok) (cond b (Some (record { place = length past; ok = ok })) None) ≡ cond b (Some ok) None
+    first ok true = refl
+    first ok false = refl
+
+    of_post : (o : Option JobPosted) (kind : Kind)
+        → option_map (λ p. p.ok) (job_post_after j past o kind) ≡ reply_after j (option_map (λ p. p.ok) o) kind
+    of_post None (kinds.JobPost job ok) = first ok (eqb job j)
+    of_post None kind = refl
+    of_post (Some p) kind = refl
 
 module _ (script : Plan) (past other : List Entry) (same : SameWork script past other) (e f : Entry) (seat : e.seat ≡ f.seat)
     (alike : without_items e.kind ≡ without_items f.kind) where
@@ -180,28 +196,10 @@ module _ (script : Plan) (past other : List Entry) (same : SameWork script past 
 
   -- ---- jobs
 
-  reply_after : ℕ → Option Bool → Kind → Option Bool
-  reply_after j None (kinds.JobPost job ok) = cond (eqb job j) (Some ok) None
-  reply_after j now kind = now
-
   pub replies_on : (j : ℕ) → job_reply (past ++ e ∷ []) j ≡ job_reply (other ++ f ∷ []) j
-  unfolding reply_after
-  replies_on j = ap (option_map (λ (p : JobPosted). p.ok)) (job_post_of_push past e j) ∙ of_post past (job_post_of past j) e.kind
-      ∙ ap (λ o. reply_after j o e.kind) (same.replies j)
-      ∙ same_told (reply_after j (job_reply other j)) (told (job_reply other j)) e.kind f.kind alike
-      ∙ sym (of_post other (job_post_of other j) f.kind) ∙ ap (option_map (λ (p : JobPosted). p.ok)) (sym (job_post_of_push other f j))
+  replies_on j = reply_push past e j ∙ ap (λ o. reply_after j o e.kind) (same.replies j)
+      ∙ same_told (reply_after j (job_reply other j)) (told (job_reply other j)) e.kind f.kind alike ∙ sym (reply_push other f j)
     where
-      first : (before : List Entry) (ok b : Bool)
-          → option_map (λ (p : JobPosted). p.ok) (cond b (Some (record { place = length before; ok = ok })) None) ≡ cond b (Some ok) None
-      first before ok true = refl
-      first before ok false = refl
-
-      of_post : (before : List Entry) (o : Option JobPosted) (kind : Kind)
-          → option_map (λ p. p.ok) (job_post_after j before o kind) ≡ reply_after j (option_map (λ p. p.ok) o) kind
-      of_post before None (kinds.JobPost job ok) = first before ok (eqb job j)
-      of_post before None kind = refl
-      of_post before (Some p) kind = refl
-
       told : (o : Option Bool) (kind : Kind) → reply_after j o kind ≡ reply_after j o (without_items kind)
       told None (kinds.Joined job (Finished sum)) = refl
       told None (kinds.Joined job reply) = refl

@@ -30,7 +30,8 @@ use Rattle.pool_laws.specs.Keys.{becomes_ripe, ripe_behind, ready_behind, arrivi
 use Rattle.pool_laws.proofs.Keys.Arrivals.{ranks_ripens, posts_differ}
 use Rattle.situation.specs.Line.{Standing, TaskStands, JobStands, Waiter, Task, OfJob, comers, joining_by, is_job_open, still_stands, standing, waiter_of}
 use Rattle.situation.specs.Line.{line_of}
-use Rattle.situation.specs.Situation.{Unripe, is_unripe, without_place, unripe_of, job_reply}
+use Rattle.situation.specs.Situation.{is_unripe, without_place, unripe_of, job_reply}
+use Rattle.situation.specs.Onward.{task_stays, stays, waiter_of_unripe, coming}
 use Rattle.situation.proofs.Line.{comers_push}
 
 -- ---- what is forbidden stays forbidden
@@ -48,16 +49,6 @@ still_forbidden : (past : List Entry) (e : Entry) (b : Behaviour) → forbids (p
 still_forbidden past e b h = ap (λ p. forbids p b) (phase_of_push past e) ∙ forbids_rises (phase_of past) e.kind b h
 
 -- ---- who stays
-
--- a task that stays where it is: the entry doesn't take it, and the phase after it doesn't forbid it
-abbrev pub task_stays : Plan → Phase → Kind → ℕ → ℕ → ℕ → Bool
-task_stays script phase kind task home delay = not (takes task kind) && not (forbids phase (effective_at script home delay))
-
--- who stays in the line at an entry, by the phase and the claims after it
-abbrev pub stays : Plan → Phase → (ℕ → ℕ) → Kind → Waiter → Bool
-stays script phase claims_of kind (Task task home delay) = task_stays script phase kind task home delay
-stays script phase claims_of kind (OfJob j) = not (cancels j kind) && not (forbids phase (behaviour_of_job script j)) && nat_lt (claims_of j)
-    (items_of script j)
 
 module _ (script : Plan) (past : List Entry) (e : Entry) where
   pub may_start_push : (p : Posted) → may_start script (past ++ e ∷ []) p
@@ -129,18 +120,6 @@ module _ (script : Plan) (past : List Entry) (e : Entry) where
           ∙ sym (filter-filter (λ x. keeps (waiter_of x)) (still_stands script past) (comers past))
 
 -- ---- the newcomers
-
-abbrev pub waiter_of_unripe : Unripe → Waiter
-waiter_of_unripe u = Task u.task u.home u.delay
-
--- by the kind of the entry, the phase after it, which jobs are open after it, the replies that jobs had before it, and the tasks
--- that were not ripe
-abbrev pub coming : Plan → Phase → (ℕ → Bool) → (ℕ → Option Bool) → List Unripe → Kind → List Waiter
-coming script phase opened replied unripe (kinds.Post task runner delay true) =
-    cond (nat_lt 0 delay) [] (cond (not (forbids phase (effective_at script runner delay))) (Task task runner delay ∷ []) [])
-coming script phase opened replied unripe (kinds.JobPost job ok) = cond (is_none (replied job) && ok) (cond (opened job) (OfJob job ∷ []) []) []
-coming script phase opened replied unripe (kinds.Tick now) = map waiter_of_unripe (filter (λ u. nat_le u.ripe now) unripe)
-coming script phase opened replied unripe kind = []
 
 module _ (script : Plan) (past : List Entry) (e : Entry) where
   -- a task that becomes ripe may start after the tick where it might before

@@ -32,6 +32,7 @@ use Rattle.hist_model.proofs.Laws.Rising.{legal_rises}
 use Rattle.hist_model.proofs.Laws.Starts.{takes_fresh}
 use Rattle.situation.specs.Alike.{without_items}
 use Rattle.situation.specs.Situation.{counts_from, scope_now, is_pool_action, is_pool_script}
+use Rattle.situation.specs.Onward.{from_after, once_come}
 use Rattle.situation.specs.Same.{SameWork}
 use Rattle.std.proofs.lemmas.Bool.{eq-eqb}
 use Rattle.situation.proofs.Told.{same_told, by_jobs, takes_told}
@@ -66,23 +67,12 @@ none_main_taken script past sound pool = entry_induction script (λ before. (t :
 
 -- ---- from when a scope counts
 
--- a moment from which a scope counts, at a later moment: 0 once it has come
-abbrev at_moment : ℕ → ℕ → ℕ
-at_moment now from = cond (nat_le from now) 0 from
-
 -- the moment from which the open scope of a task counts, if it has one
 abbrev pub scope_from : Plan → List Entry → ℕ → Option ℕ
 scope_from script past t = option_map (counts_from script past) (open_scope past t)
 
--- after an entry, with the moments before and after it
-abbrev from_after : Plan → ℕ → ℕ → ℕ → Option ℕ → Kind → Option ℕ
-from_after script before now t o (kinds.Enter task scope) =
-    cond (eqb task t) (Some (cond (has_come scope (before + script.threshold) now) 0 (before + script.threshold))) (option_map (at_moment now) o)
-from_after script before now t o (kinds.Leave task) = cond (eqb task t) None (option_map (at_moment now) o)
-from_after script before now t o kind = option_map (at_moment now) o
-
 module _ (script : Plan) (past : List Entry) (e : Entry) (rises : now_of past ≤ now_of (past ++ e ∷ [])) where
-  counts_later : (o : OpenScope) → counts_from script (past ++ e ∷ []) o ≡ at_moment (now_of (past ++ e ∷ [])) (counts_from script past o)
+  counts_later : (o : OpenScope) → counts_from script (past ++ e ∷ []) o ≡ once_come (now_of (past ++ e ∷ [])) (counts_from script past o)
   counts_later o = by_scope o.scope refl
     where
       due : ℕ
@@ -96,15 +86,15 @@ module _ (script : Plan) (past : List Entry) (e : Entry) (rises : now_of past �
       by_test true is =
           rw (le-leb due now (omega (arith, leb-true due (now_of past) is, rises)), le-leb 0 now (omega arith)) refl
 
-      by_scope : (scope : Scope) → o.scope ≡ scope → counts_from script (past ++ e ∷ []) o ≡ at_moment now (counts_from script past o)
+      by_scope : (scope : Scope) → o.scope ≡ scope → counts_from script (past ++ e ∷ []) o ≡ once_come now (counts_from script past o)
       by_scope Will is = rw (is, le-leb 0 now (omega arith)) refl
       by_scope May is = rw is (by_test (nat_le due (now_of past)) refl)
 
-  scope_push : (t : ℕ) → scope_from script (past ++ e ∷ []) t ≡ from_after script (now_of past) (now_of (past ++ e ∷ [])) t (scope_from script past t) e.kind
+  pub scope_push : (t : ℕ) → scope_from script (past ++ e ∷ []) t ≡ from_after script (now_of past) (now_of (past ++ e ∷ [])) t (scope_from script past t) e.kind
   scope_push t = ap (option_map (counts_from script (past ++ e ∷ []))) (open_scope_push past e t) ∙ by_kind e.kind
     where
       later : (o : Option OpenScope) → option_map (counts_from script (past ++ e ∷ [])) o
-          ≡ option_map (at_moment (now_of (past ++ e ∷ []))) (option_map (counts_from script past) o)
+          ≡ option_map (once_come (now_of (past ++ e ∷ []))) (option_map (counts_from script past) o)
       later None = refl
       later (Some o) = ap Some (counts_later o)
 
@@ -115,13 +105,13 @@ module _ (script : Plan) (past : List Entry) (e : Entry) (rises : now_of past �
           by_test : (b : Bool) → option_map (counts_from script (past ++ e ∷ [])) (cond b (Some (record { scope = scope; since = now_of past }))
               (open_scope past t))
               ≡ cond b (Some (cond (has_come scope (now_of past + script.threshold) (now_of (past ++ e ∷ []))) 0 (now_of past + script.threshold)))
-              (option_map (at_moment (now_of (past ++ e ∷ []))) (scope_from script past t))
+              (option_map (once_come (now_of (past ++ e ∷ []))) (scope_from script past t))
           by_test true = refl
           by_test false = later (open_scope past t)
       by_kind (kinds.Leave task) = by_test (eqb task t)
         where
           by_test : (b : Bool) → option_map (counts_from script (past ++ e ∷ [])) (cond b None (open_scope past t))
-              ≡ cond b None (option_map (at_moment (now_of (past ++ e ∷ []))) (scope_from script past t))
+              ≡ cond b None (option_map (once_come (now_of (past ++ e ∷ []))) (scope_from script past t))
           by_test true = refl
           by_test false = later (open_scope past t)
       by_kind kind = later (open_scope past t)
@@ -136,7 +126,7 @@ rises_at script past e may = subst (λ n. now_of past ≤ n) (sym (now_of_push p
     by_kind kind h = omega arith
 
 -- a task that a seat takes now has no open scope
-no_scope : (script : Plan) (past : List Entry) → IsSound script → is_pool_script script ≡ true → IsLegal script past → (t : ℕ) → is_taken past t ≡ false
+pub no_scope : (script : Plan) (past : List Entry) → IsSound script → is_pool_script script ≡ true → IsLegal script past → (t : ℕ) → is_taken past t ≡ false
     → scope_from script past t ≡ None
 no_scope script past sound pool legal t untaken =
     ap (option_map (counts_from script past)) ((legal_rises script past legal).scopes_of_taken t untaken (none_main_taken script past sound pool legal t))

@@ -64,18 +64,18 @@ in_order_found (q ∷ qs) p order among = by_cases (contains_cases q qs p among)
     by_cases (inr there) rest =
         rw (ne_eqb q.task p.task (AllByRecursion-contains (Before q) qs p order.0 there).another) (rest there)
 
-accepted_post : (script : Plan) (past : List Entry) → IsSound script → IsLegal script past → (p : Posted) → Contains (posts past) p
+pub accepted_post : (script : Plan) (past : List Entry) → IsSound script → IsLegal script past → (p : Posted) → Contains (posts past) p
     → post_of past p.task ≡ Some p
 accepted_post script past sound legal p among = in_order_found (posts past) p (each_is_accepted_once script past sound.once.posted_once legal).pool among
 
 -- the behaviour in effect of an accepted task
-abbrev effective_now : Plan → List Entry → ℕ → Option Behaviour
+abbrev pub effective_now : Plan → List Entry → ℕ → Option Behaviour
 effective_now script past t = option_map (λ p. effective_at script p.home p.delay) (post_of past t)
 
-abbrev effective_added : Plan → List Entry → ℕ → Kind → Option Behaviour
+abbrev pub effective_added : Plan → List Entry → ℕ → Kind → Option Behaviour
 effective_added script past t kind = option_map (λ p. effective_at script p.home p.delay) (find (λ p. eqb p.task t) (posted_by past kind))
 
-effective_push : (script : Plan) (past : List Entry) (e : Entry) (t : ℕ)
+pub effective_push : (script : Plan) (past : List Entry) (e : Entry) (t : ℕ)
     → effective_now script (past ++ e ∷ []) t ≡ option_or (effective_now script past t) (effective_added script past t e.kind)
 effective_push script past e t = ap (option_map (λ (p : Posted). effective_at script p.home p.delay)) (post_of_grows past e t)
     ∙ option_map-or (λ (p : Posted). effective_at script p.home p.delay) (post_of past t) (find (λ p. eqb p.task t) (posted_by past e.kind))

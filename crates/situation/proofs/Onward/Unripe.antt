@@ -14,7 +14,6 @@ use Rattle.task_base.specs.declared.entry.Entry.{Entry}
 use Rattle.task_base.specs.declared.entry.Kind.{Kind}
 use Rattle.task_base.specs.declared.entry.Kind.TheVariants as kinds
 use Rattle.task_traits.specs.Behaviour.{forbids}
-use Rattle.task_traits.specs.declared.phase.Phase.{Phase}
 use Rattle.list_laws.specs.Sorts.{insert_by, sort_by}
 use Rattle.list_laws.proofs.Elements.{AllByRecursion-map, AllByRecursion-filter}
 use Rattle.list_laws.proofs.Filters.{filter_congr, filter-filter, filter-map}
@@ -29,28 +28,9 @@ use Rattle.task_model.proofs.Growth.{is_taken_push, posts_push}
 use Rattle.pool_laws.specs.Keys.{NoTickAhead, tick_by}
 use Rattle.pool_laws.proofs.Keys.Arrivals.{ranks_ripens, posts_differ, one_ripens_first}
 use Rattle.pool_laws.proofs.Keys.Ready.{tick_from_push, posts_within}
-use Rattle.situation.specs.Situation.{Unripe, is_unripe, without_place, unripe_of}
-use Rattle.situation.proofs.Onward.Line.{task_stays, may_start_push}
-
--- a task that stays unripe at an entry
-abbrev pub unripe_stays : Plan → Phase → Kind → Unripe → Bool
-unripe_stays script phase kind u = not (is_tick_from u.ripe kind) && task_stays script phase kind u.task u.home u.delay
-
--- the first becomes ripe at the moment of the second, or before
-abbrev pub not_later : Unripe → Unripe → Bool
-not_later u v = nat_le u.ripe v.ripe
-
--- with one more in its place
-abbrev pub put_in : Option Unripe → List Unripe → List Unripe
-put_in None us = us
-put_in (Some u) us = insert_by not_later u us
-
--- the delayed task that an entry posts, by the moment and the phase
-abbrev pub new_unripe : Plan → ℕ → Phase → Kind → Option Unripe
-new_unripe script now phase (kinds.Post task runner delay true) =
-    cond (nat_lt 0 delay && not (forbids phase (effective_at script runner delay)))
-    (Some (record { task = task; home = runner; delay = delay; ripe = now + delay })) None
-new_unripe script now phase kind = None
+use Rattle.situation.specs.Situation.{is_unripe, without_place, unripe_of}
+use Rattle.situation.specs.Onward.{task_stays, unripe_stays, not_later, put_in, new_unripe}
+use Rattle.situation.proofs.Onward.Line.{may_start_push}
 
 map_insert_in : {A B : Type 0} (below : A → A → Bool) (above : B → B → Bool) (f : A → B) (x : A) (ys : List A)
     → AllByRecursion (λ y. below y x ≡ above (f y) (f x)) ys → map f (insert_by below x ys) ≡ insert_by above (f x) (map f ys)

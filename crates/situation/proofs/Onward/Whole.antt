@@ -37,8 +37,9 @@ use Rattle.situation.proofs.Told.{same_told, by_jobs, takes_told, cancels_told}
 use Rattle.situation.proofs.Onward.Folds.{driver_on, now_on, phase_on, policy_on, priorities_on, runs_on, held_on, acts_on, taken_on, replies_on, cancels_on}
 use Rattle.situation.proofs.Onward.Folds.{claims_on, cells_on}
 use Rattle.situation.proofs.Onward.Scopes.{scopes_on}
-use Rattle.situation.proofs.Onward.Line.{waiter_of_unripe, coming, line_push, newcomers, newcomers_are, stays}
-use Rattle.situation.proofs.Onward.Unripe.{new_unripe, put_in, unripe_push, unripe_stays}
+use Rattle.situation.specs.Onward.{waiter_of_unripe, coming, stays, new_unripe, put_in, unripe_stays}
+use Rattle.situation.proofs.Onward.Line.{line_push, newcomers, newcomers_are}
+use Rattle.situation.proofs.Onward.Unripe.{unripe_push}
 use Rattle.situation.proofs.Onward.Tasks.{behaviours_on, blocks_on, skips_on, new_here, new_there}
 
 module _ (script : Plan) (past other : List Entry) (sound : IsSound script) (pool : is_pool_script script ≡ true) (legal : IsLegal script past)
@@ -165,7 +166,7 @@ module _ (script : Plan) (past other : List Entry) (sound : IsSound script) (poo
 
 -- ---- pasts that are the same notion by notion are in the same situation
 
-seat_is : (a b : SeatAt) → a.runs ≡ b.runs → a.acts ≡ b.acts → a.taken ≡ b.taken → a.scope ≡ b.scope → a.behaviour ≡ b.behaviour → a.job ≡ b.job → a ≡ b
+pub seat_is : (a b : SeatAt) → a.runs ≡ b.runs → a.acts ≡ b.acts → a.taken ≡ b.taken → a.scope ≡ b.scope → a.behaviour ≡ b.behaviour → a.job ≡ b.job → a ≡ b
 seat_is a b e1 e2 e3 e4 e5 e6 =
     ap (λ x. record { runs = x; acts = a.acts; taken = a.taken; scope = a.scope; behaviour = a.behaviour; job = a.job }) e1
     ∙ ap (λ x. record { runs = b.runs; acts = x; taken = a.taken; scope = a.scope; behaviour = a.behaviour; job = a.job }) e2
@@ -174,7 +175,7 @@ seat_is a b e1 e2 e3 e4 e5 e6 =
     ∙ ap (λ x. record { runs = b.runs; acts = b.acts; taken = b.taken; scope = b.scope; behaviour = x; job = a.job }) e5
     ∙ ap (λ x. record { runs = b.runs; acts = b.acts; taken = b.taken; scope = b.scope; behaviour = b.behaviour; job = x }) e6
 
-driver_is : (a b : DriverAt) → a.left ≡ b.left → a.made ≡ b.made → a ≡ b
+pub driver_is : (a b : DriverAt) → a.left ≡ b.left → a.made ≡ b.made → a ≡ b
 driver_is a b e1 e2 = ap (λ x. record { left = x; made = a.made }) e1 ∙ ap (λ x. record { left = b.left; made = x }) e2
 
 -- a situation of its parts
@@ -194,7 +195,7 @@ made_of driver now phase policy priorities seats line unripe jobs cells blocks s
   skips = skips;
 }
 
-situation_is : (a b : Situation) → a.driver ≡ b.driver → a.now ≡ b.now → a.phase ≡ b.phase → a.policy ≡ b.policy → a.priorities ≡ b.priorities
+pub situation_is : (a b : Situation) → a.driver ≡ b.driver → a.now ≡ b.now → a.phase ≡ b.phase → a.policy ≡ b.policy → a.priorities ≡ b.priorities
     → a.seats ≡ b.seats → a.line ≡ b.line → a.unripe ≡ b.unripe → a.jobs ≡ b.jobs → a.cells ≡ b.cells → a.blocks ≡ b.blocks → a.skips ≡ b.skips → a ≡ b
 situation_is a b e1 e2 e3 e4 e5 e6 e7 e8 e9 e10 e11 e12 =
     ap (λ x. made_of x a.now a.phase a.policy a.priorities a.seats a.line a.unripe a.jobs a.cells a.blocks a.skips) e1

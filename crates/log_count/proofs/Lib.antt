@@ -1,0 +1,10 @@
+pub mod Shows
+pub mod Sources
+pub mod Ways
+pub mod After
+pub mod Alike
+pub mod Promised
+pub mod Equal
+pub mod Layers
+pub mod Once
+pub mod Worked
