@@ -1,5 +1,5 @@
 -- Which scripts are those of an open plan (this project's own rule).
-use Rattle.std.specs.Prelude.{◌≡◌, ℕ, ◌+◌, not, List, [], ◌∷◌, ◌++◌, codes, decimal, Option, Some}
+use Rattle.std.specs.Prelude.{◌≡◌, ℕ, List, [], ◌∷◌, ◌++◌, codes, decimal, Option, Some}
 use Rattle.std.specs.Option.{option_map}
 use Rattle.task_base.specs.Plan.{Plan}
 use Rattle.task_base.specs.declared.script.Action.{Action}

@@ -35,7 +35,7 @@ pub fn follow_all(live: &mut LiveCore, log: &[Entry]) -> Result<(), Stop>
 {
     let mut place = 0;
     for entry in log {
-        if let Some(against) = follow(live, *entry) {
+        if let Some(against) = follow_entry(live, *entry) {
             return Err(Stop { place, against });
         }
         place += 1;
@@ -43,8 +43,8 @@ pub fn follow_all(live: &mut LiveCore, log: &[Entry]) -> Result<(), Stop>
     Ok(())
 }
 
-/// Makes an entry, where it may come. Else answers what is against it.
-fn follow(live: &mut LiveCore, entry: Entry) -> Option<Against>
+/// Makes an entry, where it may come. Else answers what is against it; then the core may have made another entry in its place.
+pub fn follow_entry(live: &mut LiveCore, entry: Entry) -> Option<Against>
     requires { (plan : Plan) × (past : List AnyEntry) × StandsFor plan past live.old × (length past < u32.MAX) }
     ensures { (plan : Plan) (past : List AnyEntry) → StandsFor plan past live.old → length past < u32.MAX → Follows plan past entry live.new result }
 {

@@ -7,5 +7,5 @@ mod follow;
 mod plan;
 
 pub use check::{check_open, check_open_prefix};
-pub use follow::{Against, Stop, follow_all};
-pub use plan::{BadPlan, PlanFault, open_plan};
+pub use follow::{Against, Stop, follow_all, follow_entry};
+pub use plan::{BadPlan, PlanFault, core_of, open_plan};

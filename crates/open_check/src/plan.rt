@@ -2,6 +2,7 @@ ghost use Rattle.std.specs.Prelude.{◌≡◌, ◌+◌, ◌≤◌, ◌++◌, [],
 ghost use Rattle.task_base.specs.Plan.{opened};
 ghost use Rattle.task_base.specs.declared.limits.TheConstants.{MOST_BYTES};
 ghost use Rattle.script_model.specs.Laws.Sound.{IsSound};
+ghost use Rattle.live_core.specs.Opening.{guest_runner};
 ghost use Rattle.live_core.specs.StandsFor.{StandsFor};
 ghost use Rattle.open_check.specs.Plans.{IsNoPlan, plan_fault, plan_note};
 
@@ -76,5 +77,19 @@ pub fn open_plan(alloc: Global, script: Script, text: &[u8]) -> Result<LiveCore,
         Err(OpenError::GuestRunner { runner }) => {
             Err(PlanFault::Bad(BadPlan::GuestRunner { runner }))
         }
+    }
+}
+
+/// The environment of the open plan of a script that has no runner of the guest's seat, before anything is done. The error is out of
+/// memory.
+pub fn core_of(alloc: Global, script: &Script) -> Result<LiveCore, AllocError>
+    requires sound { IsSound script.now }
+    requires guest { guest_runner script.now ≡ None }
+    ensures { IfOk result (λ live. StandsFor (opened script.now) [] live) }
+{
+    match LiveCore::open(alloc, script.copy(alloc)?) {
+        Ok(live) => Ok(live),
+        Err(OpenError::OutOfMemory(error)) => Err(error),
+        Err(OpenError::GuestRunner { .. }) => unreachable!(),
     }
 }

@@ -9,7 +9,7 @@ returns-in-Some c = λ plan stands.
     let stood = c.loop-entry.invariant.0 plan stands in
     let within = c.loop-entry-test.true in
     let short = length-take-le i c.args.log.now (omega (arith, within)) in
-    rw c.loop-entry.invariant.1 (stops_at plan c.args.log.now c.follow.new.live i _ c.in-Some.against stood.legal within
+    rw c.loop-entry.invariant.1 (stops_at plan c.args.log.now c.follow_entry.new.live i _ c.in-Some.against stood.legal within
     (c.in-Some.ensures plan _ stood (omega (arith, short, within, c.requires.few))))
 
 pub loop-entry-preserved : goal.loop-entry-preserved
@@ -19,7 +19,7 @@ loop-entry-preserved c = (
       let stood = c.loop-entry.invariant.0 plan stands in
       let within = c.loop-entry-test.true in
       let short = length-take-le i c.args.log.now (omega (arith, within)) in
-      goes_on_at plan c.args.log.now c.follow.new.live i _ within (c.in_default.ensures plan _ stood (omega (arith, short, within, c.requires.few))),
+      goes_on_at plan c.args.log.now c.follow_entry.new.live i _ within (c.in_default.ensures plan _ stood (omega (arith, short, within, c.requires.few))),
   ap (λ (n : ℕ). n + 1) c.loop-entry.invariant.1,
 )
 

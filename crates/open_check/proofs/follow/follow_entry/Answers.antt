@@ -4,7 +4,7 @@ use Rattle.std.proofs.lemmas.Bool.{both_ways}
 use Rattle.live_core.specs.Answers.{Gives}
 use Rattle.live_core.specs.Calls.{seat_of}
 use Rattle.open_check.proofs.Following.{follows_not, follows_other, follows_same, follows_unmade}
-use Rattle.open_check.proofs.follow.follow.Goals as goal
+use Rattle.open_check.proofs.follow.follow_entry.Goals as goal
 
 pub returns-then-seat-entry : goal.returns-then-seat-entry
 returns-then-seat-entry c = λ plan past stands few. follows_not plan past c.args.entry c.args.live.now stands
