@@ -1,5 +1,5 @@
 -- Where a worker may take nothing, and nothing else is against a source, there is no room for it.
--- Cited by `task_bar`, `next_of_worker`.
+-- Cited by `next_of_worker`, `open_explain`.
 use Rattle.std.proofs.Common.{◌≡◌, ℕ, ◌+◌, ◌<◌, Bool, true, false, cond, List, [], length, refl, sym, ap, subst, ◌∙◌, Option, Some, None, arith}
 use Rattle.std.proofs.lemmas.Bool.{eqb-true}
 use Rattle.std.proofs.lemmas.List.Elements.{All-contains}
@@ -70,13 +70,10 @@ are_declared script past sound = legal_induction script (λ before. AllByRecursi
     (λ before e legal allowed all. subst (AllByRecursion (IsDeclared script)) (sym (posts_push before e))
     (AllByRecursion-append (IsDeclared script) (posts before) (posted_by before e.kind) all (added script before e.seat e.kind sound legal allowed))) past
 
-module _ (script : Plan) (past : List Entry) (sound : IsSound script) (legal : IsLegal script past) where
+-- Each accepted task was posted once, and is declared, as is its runner.
+module _ (script : Plan) (past : List Entry) (in_order : InOrder (posts past)) (all : AllByRecursion (IsDeclared script) (posts past)) where
   declared : (p : Posted) → Contains (posts past) p → IsDeclared script p
-  declared p among = AllByRecursion-contains (IsDeclared script) (posts past) p (are_declared script past sound legal) among
-
-  -- the post of a task is an accepted one, of what is declared
-  pub post_is_declared : (t : ℕ) (p : Posted) → post_of past t ≡ Some p → IsDeclared script p
-  post_is_declared t p is = declared p (find_contains (λ q. q.task == t) (posts past) p is)
+  declared p among = AllByRecursion-contains (IsDeclared script) (posts past) p all among
 
   -- tasks of one sequence are of one runner
   one_home : (p q : Posted) → Contains (posts past) p → Contains (posts past) q
@@ -89,9 +86,6 @@ module _ (script : Plan) (past : List Entry) (sound : IsSound script) (legal : I
 
       q_there : q.home < length script.runners
       q_there = (declared q second).0
-
-      in_order : InOrder (posts past)
-      in_order = (each_is_accepted_once script past sound.once.posted_once legal).pool
 
       of_one : p.task ≡ q.task → p.home ≡ q.home
       of_one is = ap (λ (x : Posted). x.home) (same_Some p q (sym (one_post past p in_order first) ∙ ap (post_of past) is ∙ one_post past q in_order second))
@@ -132,6 +126,32 @@ module _ (script : Plan) (past : List Entry) (sound : IsSound script) (legal : I
       by_taken false false false false false false ta fo ri id ot he is =
           record { not_taken = ta; allowed = fo; ripe = ri; idle = id; not_others = ot; not_held = he }
 
+-- none of the causes before the limits is against a job
+pub record IsFreeJob (script : Plan) (past : List Entry) (j : ℕ) : Type 0 where
+  pub accepted : is_job_accepted past j ≡ true
+  pub some : has_unclaimed script past j ≡ true
+  pub not_held : is_held past (priority_of_job script j) ≡ false
+  pub may : may_enter script past j ≡ true
+
+pub job_is_free : (script : Plan) (past : List Entry) (j : ℕ) → job_bar script past j ≡ bars.Limit → IsFreeJob script past j
+unfolding may_enter
+job_is_free script past j is = by_job_accepted (is_job_accepted past j) (is_cancelled past j) (is_job_forbidden script past j) (has_unclaimed script past j)
+    (has_place script past j) (is_held past (priority_of_job script j)) refl refl refl refl refl refl is
+  where
+    by_job_accepted : (a b c d e f : Bool) → is_job_accepted past j ≡ a → is_cancelled past j ≡ b → is_job_forbidden script past j ≡ c
+        → has_unclaimed script past j ≡ d → has_place script past j ≡ e → is_held past (priority_of_job script j) ≡ f
+        → cond (not a) bars.Unaccepted (cond b bars.Cancelled (cond c bars.Forbidden
+        (cond (not d) bars.Claimed (cond (not e) bars.Full (cond f bars.Held bars.Limit))))) ≡ bars.Limit
+        → IsFreeJob script past j
+    by_job_accepted false b c d e f ac ca fo un fu he is = absurd cc
+    by_job_accepted true true c d e f ac ca fo un fu he is = absurd cc
+    by_job_accepted true false true d e f ac ca fo un fu he is = absurd cc
+    by_job_accepted true false false false e f ac ca fo un fu he is = absurd cc
+    by_job_accepted true false false true false f ac ca fo un fu he is = absurd cc
+    by_job_accepted true false false true true true ac ca fo un fu he is = absurd cc
+    by_job_accepted true false false true true false ac ca fo un fu he is =
+        record { accepted = ac; some = un; not_held = he; may = rw (ac, ca, fo, un) fu }
+
 -- a test and another that holds fail together by the first
 first_fails : (a b : Bool) → (a && b) ≡ false → b ≡ true → a ≡ false
 first_fails true b fails holds = sym holds ∙ fails
@@ -146,7 +166,7 @@ ones_own seat (Some s) is = by_seat (s == seat) is
     by_seat true is = refl
     by_seat false is = absurd cc
 
-module _ (script : Plan) (past : List Entry) (sound : IsSound script) (legal : IsLegal script past) (seat : ℕ)
+module _ (script : Plan) (past : List Entry) (in_order : InOrder (posts past)) (all : AllByRecursion (IsDeclared script) (posts past)) (seat : ℕ)
     (none : best_of script past seat ≡ None) where
   -- what would wait, is not held back and is no other seat's finds no room
   no_room_for : (c : Candidate) → source_waiting script past c.source ≡ Some c → is_held past c.priority ≡ false
@@ -156,15 +176,15 @@ module _ (script : Plan) (past : List Entry) (sound : IsSound script) (legal : I
       (free_is_waiting script past c (record { candidate = waits; not_held = free }))) own
 
   -- of a sequence with this head
-  by_head : (p : Posted) → Contains (posts past) p → IsFree script past sound legal seat p → (head : Ready)
+  by_head : (p : Posted) → Contains (posts past) p → IsFree script past in_order all seat p → (head : Ready)
       → head_of script past (sequence_of script p.home p.task) ≡ Some head → has_room script past (priority_of script past p.home) ≡ false
   by_head p among free head head_is_it =
       let s = sequence_of script p.home p.task in
       let is : IsHead script past s head = head_is script past s head head_is_it in
-      let home : head.posted.home ≡ p.home = one_home script past sound legal head.posted p is.accepted among
+      let home : head.posted.home ≡ p.home = one_home script past in_order all head.posted p is.accepted among
       (eqb-true (sequence_of script head.posted.home head.posted.task) s is.of_sequence) in
       let c : Candidate = sequence_candidate script past s head in
-      let known = declared script past sound legal p among in
+      let known = declared script past in_order all p among in
       let waits : source_waiting script past (Sequence s) ≡ Some c =
       sequence_in script past s (sequence_there script p.home p.task known.0 known.1) ∙ rw (free.idle, head_is_it) refl in
       ap (λ h. has_room script past (priority_of script past h)) (sym home)
@@ -172,7 +192,7 @@ module _ (script : Plan) (past : List Entry) (sound : IsSound script) (legal : I
       (ap (λ h. option_map_or (λ s. s == seat) (seat_of script h) true) home ∙ ones_own seat (seat_of script p.home) free.not_others)
 
   -- of the sequence of such a task
-  no_room_posted : (p : Posted) → Contains (posts past) p → IsFree script past sound legal seat p
+  no_room_posted : (p : Posted) → Contains (posts past) p → IsFree script past in_order all seat p
       → has_room script past (priority_of script past p.home) ≡ false
   no_room_posted p among free = keyed (key_of past p) refl free.ripe
     where
@@ -195,7 +215,7 @@ module _ (script : Plan) (past : List Entry) (sound : IsSound script) (legal : I
       at_home : (p : Posted) → post_of past task ≡ Some p → (b : Bool) → (p.home == runner) ≡ b
           → cond b (posted_bar script past seat p) bars.Unaccepted ≡ bars.Limit → has_room script past (priority_of script past runner) ≡ false
       at_home p posted true same is = ap (λ r. has_room script past (priority_of script past r)) (sym (eqb-true p.home runner same))
-          ∙ no_room_posted p (find_contains (λ q. q.task == task) (posts past) p posted) (is_free script past sound legal seat p is)
+          ∙ no_room_posted p (find_contains (λ q. q.task == task) (posts past) p posted) (is_free script past in_order all seat p is)
       at_home p posted false same is = absurd cc
 
       by_post : (o : Option Posted) → post_of past task ≡ o
@@ -222,28 +242,9 @@ module _ (script : Plan) (past : List Entry) (sound : IsSound script) (legal : I
   no_room_job j may some free (Some p) is ok =
       no_room_for (job_candidate script past j p) (job_in script past j (job_there j some) ∙ rw (may, is) refl) free refl
 
-  may_be_entered : (j : ℕ) → is_job_accepted past j ≡ true → is_cancelled past j ≡ false → is_job_forbidden script past j ≡ false
-      → has_unclaimed script past j ≡ true → has_place script past j ≡ true → may_enter script past j ≡ true
-  unfolding may_enter
-  may_be_entered j accepted going allowed some place = rw (accepted, going, allowed, some) place
-
   no_room_at_job : (j : ℕ) → job_bar script past j ≡ bars.Limit → has_room script past (priority_of_job script j) ≡ false
-  no_room_at_job j is = by_job_accepted (is_job_accepted past j) (is_cancelled past j) (is_job_forbidden script past j) (has_unclaimed script past j)
-      (has_place script past j) (is_held past (priority_of_job script j)) refl refl refl refl refl refl is
-    where
-      by_job_accepted : (a b c d e f : Bool) → is_job_accepted past j ≡ a → is_cancelled past j ≡ b → is_job_forbidden script past j ≡ c
-          → has_unclaimed script past j ≡ d → has_place script past j ≡ e → is_held past (priority_of_job script j) ≡ f
-          → cond (not a) bars.Unaccepted (cond b bars.Cancelled (cond c bars.Forbidden
-          (cond (not d) bars.Claimed (cond (not e) bars.Full (cond f bars.Held bars.Limit))))) ≡ bars.Limit
-          → has_room script past (priority_of_job script j) ≡ false
-      by_job_accepted false b c d e f ac ca fo un fu he is = absurd cc
-      by_job_accepted true true c d e f ac ca fo un fu he is = absurd cc
-      by_job_accepted true false true d e f ac ca fo un fu he is = absurd cc
-      by_job_accepted true false false false e f ac ca fo un fu he is = absurd cc
-      by_job_accepted true false false true false f ac ca fo un fu he is = absurd cc
-      by_job_accepted true false false true true true ac ca fo un fu he is = absurd cc
-      by_job_accepted true false false true true false ac ca fo un fu he is =
-          no_room_job j (may_be_entered j ac ca fo un fu) un he (job_post_of past j) refl ac
+  no_room_at_job j is =
+      let free = job_is_free script past j is in no_room_job j free.may free.some free.not_held (job_post_of past j) refl free.accepted
 
   no_room : (kind : Kind) → bar_of script past seat kind ≡ bars.Limit → is_room_for script past kind ≡ false
   no_room (kinds.Take task runner found) is = no_room_task task runner is
@@ -251,8 +252,14 @@ module _ (script : Plan) (past : List Entry) (sound : IsSound script) (legal : I
   no_room kind is = absurd cc
 
   -- so what is found to be against an entry's take is so
-  pub barred : (kind : Kind) (bar : Bar) → bar ≡ bar_of script past seat kind → IsBarred script past seat (Some kind) bar
-  barred kind bar is = record {
+  pub barred_there : (kind : Kind) (bar : Bar) → bar ≡ bar_of script past seat kind → IsBarred script past seat (Some kind) bar
+  barred_there kind bar is = record {
     first = ap (λ (b : Bar). Some b) (sym is);
     no_room = λ limit. no_room kind (sym is ∙ limit);
   }
+
+-- the same of a sound script after a legal past
+pub barred : (script : Plan) (past : List Entry) → IsSound script → IsLegal script past → (seat : ℕ) → best_of script past seat ≡ None
+    → (kind : Kind) (bar : Bar) → bar ≡ bar_of script past seat kind → IsBarred script past seat (Some kind) bar
+barred script past sound legal seat none =
+    barred_there script past (each_is_accepted_once script past sound.once.posted_once legal).pool (are_declared script past sound legal) seat none

@@ -1,3 +1,4 @@
 pub mod Ranks
 pub mod Bars
 pub mod Causes
+pub mod Seats

@@ -81,3 +81,8 @@ abbrev pub is_item_of : ℕ → Hand → Bool
 is_item_of j hands.Free = false
 is_item_of j (hands.Task at) = false
 is_item_of j (hands.Item pass) = pass.job == j
+
+-- how many seats are inside the job of which an entry takes an item; of another entry none
+abbrev pub inside_of : Plan → List Entry → Kind → ℕ
+inside_of script past (JobTake job id item) = length (inside script past job)
+inside_of script past kind = 0

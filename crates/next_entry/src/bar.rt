@@ -1,69 +1,42 @@
 ghost use Rattle.std.specs.Prelude.{◌≡◌, ◌<◌, ◌^◌, length};
-ghost use Rattle.script_model.specs.Laws.Sound.{IsSound};
-ghost use Rattle.task_base.specs.Runners.{sequence_of};
-ghost use Rattle.task_model.specs.Seats.{runs_sequence};
 ghost use Rattle.past_lookup.specs.Posts.{posted};
-ghost use Rattle.env_step.specs.Hands.{AreInHand};
+ghost use Rattle.task_model.specs.Seats.{inside};
 ghost use Rattle.next_entry.specs.Bars.{bar_of, has_place, job_bar, posted_bar, task_bar};
+ghost use Rattle.next_entry.specs.Ranks.{inside_of};
 
 use crate::cause::Bar;
-use crate::rank::seats_inside;
-use env_core::Env;
-use env_step::Hand;
+use crate::seats::runs_sequence;
 use past_lookup::{
     Post, concurrency, has_unclaimed, is_cancelled, is_forbidden, is_held, is_job_accepted,
     is_job_forbidden, is_others, is_taken, job_priority, key_of, post_of, priority_of,
 };
 use task_base::{Entry, JobId, Kind, RunnerId, Script, SeatNo, TaskId};
-use task_body::ScriptBody;
 
-/// What is against the take of the source that an entry takes.
-pub fn bar_of(
-    env: &Env<ScriptBody>,
-    hands: &[Hand],
-    script: &Script,
-    past: &[Entry],
-    entry: &Entry,
-) -> Bar
-    requires plan { IsSound env.now.script }
-    requires hands { AreInHand env.now hands.now }
-    requires script { script.now ≡ env.now.script }
-    requires past { past.now ≡ env.now.history }
+/// What is against the take of the source that an entry takes, where so many seats are inside its job.
+pub fn bar_of(script: &Script, past: &[Entry], entry: &Entry, seats: usize) -> Bar
     requires few { length past.now < 2 ^ 32 }
-    ensures { result ≡ bar_of env.now.script env.now.history entry.now.seat entry.now.kind }
+    requires workers { script.now.workers < u32.MAX }
+    requires seats { seats ≡ inside_of script.now past.now entry.now.kind }
+    ensures { result ≡ bar_of script.now past.now entry.now.seat entry.now.kind }
 {
     match entry.kind {
-        Kind::Take { task, runner, .. } => {
-            task_bar(env, hands, script, past, entry.seat, task, runner)
-        }
-        Kind::JobTake { job, .. } => job_bar(script, past, hands, job),
+        Kind::Take { task, runner, .. } => task_bar(script, past, entry.seat, task, runner),
+        Kind::JobTake { job, .. } => job_bar(script, past, job, seats),
         _ => Bar::Unaccepted,
     }
 }
 
 /// What is against the take of a task of a runner.
-fn task_bar(
-    env: &Env<ScriptBody>,
-    hands: &[Hand],
-    script: &Script,
-    past: &[Entry],
-    seat: SeatNo,
-    task: TaskId,
-    runner: RunnerId,
-) -> Bar
-    requires plan { IsSound env.now.script }
-    requires hands { AreInHand env.now hands.now }
-    requires script { script.now ≡ env.now.script }
-    requires past { past.now ≡ env.now.history }
+fn task_bar(script: &Script, past: &[Entry], seat: SeatNo, task: TaskId, runner: RunnerId) -> Bar
     requires few { length past.now < 2 ^ 32 }
-    ensures { result ≡ task_bar env.now.script env.now.history seat task runner }
+    requires workers { script.now.workers < u32.MAX }
+    ensures { result ≡ task_bar script.now past.now seat task runner }
 {
     match post_of(past, task) {
         None => Bar::Unaccepted,
         Some(post) => {
             if post.runner == runner {
-                let busy = env.is_cell_out(post.runner, post.task);
-                posted_bar(script, past, seat, &post, busy)
+                posted_bar(script, past, seat, &post)
             } else {
                 Bar::Unaccepted
             }
@@ -71,10 +44,10 @@ fn task_bar(
     }
 }
 
-/// What is against the take of a task that was accepted, whose sequence runs or does not.
-fn posted_bar(script: &Script, past: &[Entry], seat: SeatNo, post: &Post, busy: bool) -> Bar
+/// What is against the take of a task that was accepted.
+fn posted_bar(script: &Script, past: &[Entry], seat: SeatNo, post: &Post) -> Bar
     requires few { length past.now < 2 ^ 32 }
-    requires busy { busy ≡ runs_sequence script.now past.now (sequence_of script.now post.now.runner post.now.task) }
+    requires workers { script.now.workers < u32.MAX }
     ensures { result ≡ posted_bar script.now past.now seat (posted post.now) }
 {
     if is_taken(past, post.task) {
@@ -86,7 +59,7 @@ fn posted_bar(script: &Script, past: &[Entry], seat: SeatNo, post: &Post, busy: 
     if key_of(past, post).is_none() {
         return Bar::Unripe;
     }
-    if busy {
+    if runs_sequence(script, past, post.runner, post.task) {
         return Bar::Busy;
     }
     if is_others(script, seat, post.runner) {
@@ -98,10 +71,10 @@ fn posted_bar(script: &Script, past: &[Entry], seat: SeatNo, post: &Post, busy: 
     Bar::Limit
 }
 
-/// What is against the take of an item of a job.
-fn job_bar(script: &Script, past: &[Entry], hands: &[Hand], job: JobId) -> Bar
+/// What is against the take of an item of a job, where so many seats are inside.
+fn job_bar(script: &Script, past: &[Entry], job: JobId, seats: usize) -> Bar
     requires few { length past.now < 2 ^ 32 }
-    requires hands { AreInHand (record { script = script.now; history = past.now }) hands.now }
+    requires seats { seats ≡ length (inside script.now past.now job) }
     ensures { result ≡ job_bar script.now past.now job }
 {
     if !is_job_accepted(past, job) {
@@ -116,7 +89,7 @@ fn job_bar(script: &Script, past: &[Entry], hands: &[Hand], job: JobId) -> Bar
     if !has_unclaimed(script, past, job) {
         return Bar::Claimed;
     }
-    if !has_place(script, past, hands, job) {
+    if !has_place(script, past, job, seats) {
         return Bar::Full;
     }
     if is_held(past, job_priority(script, job)) {
@@ -125,10 +98,10 @@ fn job_bar(script: &Script, past: &[Entry], hands: &[Hand], job: JobId) -> Bar
     Bar::Limit
 }
 
-/// Whether one more seat may go inside a job.
-fn has_place(script: &Script, past: &[Entry], hands: &[Hand], job: JobId) -> bool
-    requires { AreInHand (record { script = script.now; history = past.now }) hands.now }
+/// Whether one more seat may go inside a job, where so many are.
+fn has_place(script: &Script, past: &[Entry], job: JobId, seats: usize) -> bool
+    requires { seats ≡ length (inside script.now past.now job) }
     ensures { result ≡ has_place script.now past.now job }
 {
-    seats_inside(hands, job) < concurrency(script, past, job)
+    seats < concurrency(script, past, job)
 }

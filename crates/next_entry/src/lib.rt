@@ -5,7 +5,13 @@
 mod bar;
 mod cause;
 mod next;
+mod open_cause;
 mod rank;
+mod seats;
 
+pub use bar::bar_of;
 pub use cause::{Bar, Busy, Cause, Edge, Explanation, Work};
 pub use next::next_of_worker;
+pub use open_cause::{OpenCause, OpenTold, Part};
+pub use rank::edge_of;
+pub use seats::{Held, Runs, holding, running};

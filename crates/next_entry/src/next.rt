@@ -4,10 +4,11 @@ ghost use Rattle.task_model.specs.Seats.{is_free};
 ghost use Rattle.env_core.specs.Calls.{IsFreeWorker};
 ghost use Rattle.env_step.specs.Hands.{AreInHand};
 ghost use Rattle.next_entry.specs.Causes.{Explains};
+ghost use Rattle.next_entry.specs.Ranks.{edge_of};
 
 use crate::bar::bar_of;
-use crate::cause::Cause;
-use crate::rank::edge_of;
+use crate::cause::{Cause, Edge};
+use crate::rank::{edge_of, inside_of};
 use env_core::Env;
 use env_step::{Hand, do_rest};
 use task_base::{Entry, Kind, Script};
@@ -33,7 +34,7 @@ pub fn next_of_worker(
     match env.take(entry.seat) {
         Taken::Over => Cause::Finished,
         Taken::Nothing => Cause::NoSource {
-            bar: bar_of(env, hands, script, past, entry),
+            bar: bar_of(script, past, entry, inside_of(hands, &entry.kind)),
         },
         Taken::Item(pass) => {
             let next = Kind::JobTake {
@@ -43,7 +44,7 @@ pub fn next_of_worker(
             };
             Cause::Best {
                 next,
-                edge: edge_of(script, past, hands, &next, &entry.kind),
+                edge: edge_in_hand(script, past, hands, &next, &entry.kind),
             }
         }
         Taken::Task(work) => {
@@ -55,8 +56,18 @@ pub fn next_of_worker(
             let _ = do_rest(work);
             Cause::Best {
                 next,
-                edge: edge_of(script, past, hands, &next, &entry.kind),
+                edge: edge_in_hand(script, past, hands, &next, &entry.kind),
             }
         }
     }
+}
+
+/// What the source that an entry takes has over the one that another entry takes, where the seats have this in hand.
+fn edge_in_hand(script: &Script, past: &[Entry], hands: &[Hand], next: &Kind, kind: &Kind) -> Edge
+    requires few { length past.now < 2 ^ 32 }
+    requires hands { AreInHand (record { script = script.now; history = past.now }) hands.now }
+    ensures { result ≡ edge_of script.now past.now next.now kind.now }
+{
+    let seats = (inside_of(hands, next), inside_of(hands, kind));
+    edge_of(script, past, next, kind, seats)
 }

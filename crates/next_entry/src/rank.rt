@@ -3,7 +3,7 @@ ghost use Rattle.list_laws.specs.Lists.{count};
 ghost use Rattle.task_model.specs.Seats.{inside};
 ghost use Rattle.env_core.specs.Views.{EnvView};
 ghost use Rattle.env_step.specs.Hands.{AreInHand};
-ghost use Rattle.next_entry.specs.Ranks.{edge_between, edge_of, edge_over, is_item_of, is_same_source, job_rank, rank_of, task_rank};
+ghost use Rattle.next_entry.specs.Ranks.{edge_between, edge_of, edge_over, inside_of, is_item_of, is_same_source, job_rank, rank_of, task_rank};
 
 use crate::cause::Edge;
 use env_step::Hand;
@@ -19,18 +19,25 @@ pub struct Rank {
     pub key: Key,
 }
 
-/// What the source that an entry takes has over the one that another entry takes.
-pub fn edge_of(script: &Script, past: &[Entry], hands: &[Hand], next: &Kind, kind: &Kind) -> Edge
+/// What the source that an entry takes has over the one that another entry takes, where so many seats are inside the jobs of the two.
+pub fn edge_of(
+    script: &Script,
+    past: &[Entry],
+    next: &Kind,
+    kind: &Kind,
+    seats: (usize, usize),
+) -> Edge
     requires few { length past.now < 2 ^ 32 }
-    requires hands { AreInHand (record { script = script.now; history = past.now }) hands.now }
+    requires seats_next { seats.0 ≡ inside_of script.now past.now next.now }
+    requires seats_kind { seats.1 ≡ inside_of script.now past.now kind.now }
     ensures { result ≡ edge_of script.now past.now next.now kind.now }
 {
     if is_same_source(script, next, kind) {
         return Edge::Same;
     }
     edge_between(
-        rank_of(script, past, hands, next),
-        rank_of(script, past, hands, kind),
+        rank_of(script, past, next, seats.0),
+        rank_of(script, past, kind, seats.1),
     )
 }
 
@@ -84,15 +91,15 @@ fn edge_over(best: &Rank, other: &Rank) -> Edge
     Edge::Barred
 }
 
-/// By what the source that an entry takes is compared.
-fn rank_of(script: &Script, past: &[Entry], hands: &[Hand], kind: &Kind) -> Option<Rank>
+/// By what the source that an entry takes is compared, where so many seats are inside its job.
+fn rank_of(script: &Script, past: &[Entry], kind: &Kind, seats: usize) -> Option<Rank>
     requires few { length past.now < 2 ^ 32 }
-    requires hands { AreInHand (record { script = script.now; history = past.now }) hands.now }
+    requires seats { seats ≡ inside_of script.now past.now kind.now }
     ensures { result ≡ rank_of script.now past.now kind.now }
 {
     match *kind {
         Kind::Take { task, runner, .. } => task_rank(script, past, task, runner),
-        Kind::JobTake { job, .. } => job_rank(script, past, hands, job),
+        Kind::JobTake { job, .. } => job_rank(script, past, job, seats),
         _ => None,
     }
 }
@@ -114,10 +121,10 @@ fn task_rank(script: &Script, past: &[Entry], task: TaskId, runner: RunnerId) ->
     })
 }
 
-/// By what a job is compared.
-fn job_rank(script: &Script, past: &[Entry], hands: &[Hand], job: JobId) -> Option<Rank>
+/// By what a job is compared, where so many seats are inside.
+fn job_rank(script: &Script, past: &[Entry], job: JobId, seats: usize) -> Option<Rank>
     requires few { length past.now < 2 ^ 32 }
-    requires hands { AreInHand (record { script = script.now; history = past.now }) hands.now }
+    requires seats { seats ≡ length (inside script.now past.now job) }
     ensures { result ≡ job_rank script.now past.now job }
 {
     let post = job_post_of(past, job)?;
@@ -126,13 +133,23 @@ fn job_rank(script: &Script, past: &[Entry], hands: &[Hand], job: JobId) -> Opti
     }
     Some(Rank {
         priority: job_priority(script, job),
-        inside: seats_inside(hands, job),
+        inside: seats,
         key: key_at(post.place),
     })
 }
 
+/// How many seats are inside the job of which the entry takes an item.
+pub fn inside_of(hands: &[Hand], kind: &Kind) -> usize
+    ensures { (view : EnvView) → AreInHand view hands.now → result ≡ inside_of view.script view.history kind.now }
+{
+    match *kind {
+        Kind::JobTake { job, .. } => seats_inside(hands, job),
+        _ => 0,
+    }
+}
+
 /// How many seats are inside a job.
-pub fn seats_inside(hands: &[Hand], job: JobId) -> usize
+fn seats_inside(hands: &[Hand], job: JobId) -> usize
     ensures { (view : EnvView) → AreInHand view hands.now → result ≡ length (inside view.script view.history job) }
 {
     items_in_hand(hands, job)

@@ -18,18 +18,6 @@ edge_told s script p past next kind edge script_is past_is is = ap (λ (x : Edge
 pub take-requires : goal.take-requires
 take-requires c = c.requires.worker
 
-pub bar_of-requires-clause-plan : goal.bar_of-requires-clause-plan
-bar_of-requires-clause-plan c = rw c.in-Nothing.ensures.kept c.requires.plan
-
-pub bar_of-requires-clause-hands : goal.bar_of-requires-clause-hands
-bar_of-requires-clause-hands c = rw c.in-Nothing.ensures.kept c.requires.hands
-
-pub bar_of-requires-clause-script : goal.bar_of-requires-clause-script
-bar_of-requires-clause-script c = rw c.in-Nothing.ensures.kept c.requires.script
-
-pub bar_of-requires-clause-past : goal.bar_of-requires-clause-past
-bar_of-requires-clause-past c = rw c.in-Nothing.ensures.kept c.requires.past
-
 pub returns-in-Over : goal.returns-in-Over
 returns-in-Over c = (c.requires.free, c.in-Over.ensures.finished)
 
@@ -37,7 +25,7 @@ pub returns-in-Nothing : goal.returns-in-Nothing
 returns-in-Nothing c = (
   ((c.requires.worker.worker, c.requires.free), c.in-Nothing.ensures.unfinished, c.in-Nothing.ensures.none),
   barred c.args.env.now.script c.args.env.now.history c.requires.plan c.requires.hands.legal c.args.entry.now.seat c.in-Nothing.ensures.none
-      c.args.entry.now.kind c.bar_of.result (rw c.in-Nothing.ensures.kept at c.bar_of.ensures),
+      c.args.entry.now.kind c.bar_of.result (rw (c.requires.script, c.requires.past) at c.bar_of.ensures),
 )
 
 pub returns-in-Item : goal.returns-in-Item
@@ -46,7 +34,7 @@ returns-in-Item c = (
   refl,
   rw (c.job.ensures, c.id.ensures, c.item.ensures) c.in-Item.ensures.goes_in.enters.allowed,
   edge_told c.args.script.now c.args.env.now.script c.args.past.now c.args.env.now.history (kinds.JobTake c.job.result c.id.result c.item.result)
-      c.args.entry.now.kind c.edge_of.result c.requires.script c.requires.past c.edge_of.ensures,
+      c.args.entry.now.kind c.edge_in_hand.result c.requires.script c.requires.past c.edge_in_hand.ensures,
 )
 
 pub returns-in-Task : goal.returns-in-Task
@@ -55,5 +43,5 @@ returns-in-Task c = (
   refl,
   rw (c.task.ensures, c.home.ensures, c.found.ensures) c.in-Task.ensures.enters.allowed,
   edge_told c.args.script.now c.args.env.now.script c.args.past.now c.args.env.now.history (kinds.Take c.task.result c.home.result c.found.result)
-      c.args.entry.now.kind c.edge_of-in-Task.result c.requires.script c.requires.past c.edge_of-in-Task.ensures,
+      c.args.entry.now.kind c.edge_in_hand-in-Task.result c.requires.script c.requires.past c.edge_in_hand-in-Task.ensures,
 )

@@ -32,4 +32,4 @@ rank_told script past j post priority n key is ok p i k =
 pub returns : goal.returns
 returns c = rank_told c.args.script.now c.args.past.now c.args.job c.in_ok-post.post _ _ _ c.in_ok-post.ensures
     (not_not c.in_ok-post.post.ok c.if-not-post.false) c.job_priority.ensures
-    (c.seats_inside.ensures (record { script = c.args.script.now; history = c.args.past.now }) c.requires.hands) c.key_at.ensures
+    c.requires.seats c.key_at.ensures

@@ -1,0 +1,3 @@
+pub mod AtWork
+pub mod Causes
+pub mod Fitting
