@@ -1,3 +1,5 @@
 pub mod Plain
 pub mod Json
 pub mod Mistakes
+pub mod OpenPlain
+pub mod OpenJson

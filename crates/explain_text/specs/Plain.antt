@@ -87,13 +87,13 @@ busy_words busy = around (codes "; seat ") busy.seat (work_words busy.work)
 abbrev pub more_words : ℕ → List ℕ
 more_words count = if nat_lt 0 count then around (codes "; and ") count (codes " more\n") else codes "\n"
 
--- the first four seats that run or hold something, and how many more there are
-abbrev pub at_work_line : List Busy → List ℕ
-at_work_line busy = codes "unfinished: the script is finished" ++ flat_map busy_words (take 4 busy) ++ more_words (length busy - 4)
+-- these words, the first four seats that run or hold something, and how many more there are
+abbrev pub at_work_after : List ℕ → List Busy → List ℕ
+at_work_after words busy = words ++ flat_map busy_words (take 4 busy) ++ more_words (length busy - 4)
 
 -- what is said of a log; of a legal one nothing
 abbrev pub told_text : List Entry → Explanation → List ℕ
 told_text log explanations.Legal = []
 told_text log (explanations.Barred place cause) = cause_line place (seat_of (slice_get log place)) cause
 told_text log (explanations.Unfinished place seat cause) = codes "unfinished: " ++ cause_line place seat cause
-told_text log (explanations.AtWork place busy) = at_work_line busy.items
+told_text log (explanations.AtWork place busy) = at_work_after (codes "unfinished: the script is finished") busy.items

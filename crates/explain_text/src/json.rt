@@ -32,7 +32,7 @@ pub fn told_json(
 }
 
 /// The object of a cause that holds of a seat at a place. The error is want of memory.
-fn cause_object(
+pub(crate) fn cause_object(
     alloc: Global,
     line: u32,
     place: Place,
@@ -55,7 +55,7 @@ fn cause_object(
 }
 
 /// The object that names the seats that run or hold something. The error is want of memory.
-fn at_work_object(alloc: Global, line: u32, busy: &[Busy]) -> Result<Vec<u8>, AllocError>
+pub(crate) fn at_work_object(alloc: Global, line: u32, busy: &[Busy]) -> Result<Vec<u8>, AllocError>
     ensures { IfOk result (λ text. text.items ≡ at_work_object line busy.now) }
 {
     let mut text = Vec::new(alloc);

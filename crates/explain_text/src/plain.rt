@@ -1,6 +1,6 @@
 ghost use Rattle.std.specs.Prelude.{◌≡◌, ◌+◌, ◌≤◌, ◌++◌, [], if◌then◌else◌, codes, decimal, flat_map, length, slice_get};
 ghost use Rattle.next_entry.specs.Causes.{named_by};
-ghost use Rattle.explain_text.specs.Plain.{around, at_work_line, bar_words, busy_words, cause_line, cause_words, edge_words, more_words, seat_of, told_text};
+ghost use Rattle.explain_text.specs.Plain.{around, at_work_after, bar_words, busy_words, cause_line, cause_words, edge_words, more_words, seat_of, told_text};
 
 use itoa::Buffer;
 use line_text::{Line, add, add_decimal};
@@ -27,7 +27,9 @@ pub fn told_text(log: &[Entry], told: &Explanation) -> Line
             add(&mut line, b"unfinished: ");
             add_cause(&mut line, *place, *seat, cause);
         }
-        Explanation::AtWork { busy, .. } => add_at_work(&mut line, busy),
+        Explanation::AtWork { busy, .. } => {
+            add_at_work(&mut line, b"unfinished: the script is finished", busy);
+        }
     }
     line
 }
@@ -64,12 +66,13 @@ pub(crate) fn named_by(cause: &Cause) -> Option<Kind>
     }
 }
 
-/// Adds the first seats that run or hold something, and how many more there are.
-fn add_at_work(line: &mut Line, busy: &[Busy])
-    requires { line.old.items ≡ [] }
-    ensures { line.new.items ≡ at_work_line busy.now }
+/// Adds these words, the first seats that run or hold something, and how many more there are.
+pub(crate) fn add_at_work(line: &mut Line, words: &[u8], busy: &[Busy])
+    requires line { line.old.items ≡ [] }
+    requires words { length words.now ≤ 34 }
+    ensures { line.new.items ≡ at_work_after words.now busy.now }
 {
-    add(line, b"unfinished: the script is finished");
+    add(line, words);
     let shown = SHOWN.min(busy.len());
     add_seats(line, &busy[..shown]);
     add_more(line, busy.len().saturating_sub(SHOWN));

@@ -1,5 +1,5 @@
 -- Each entry that a fact shows stands in the log at its place.
--- Cited by `facts_there`, `known_at`.
+-- Cited by `open_facts_there`, `facts_there`, `known_at`.
 use Rattle.std.proofs.Common.{◌≡◌, ℕ, ◌+◌, zero, suc, List, [], ◌∷◌, ◌++◌, Option, Some, None, IfSome, get_or, refl, take, ◌∙◌}
 use Rattle.std.proofs.lemmas.List.Elements.{All-append, All-cons, All-nil}
 use Rattle.std.proofs.lemmas.Option.{none-some}

@@ -2,8 +2,10 @@
 //! where else in the log it might have come; and which seats may take what the driver waits for.
 #![tactic(auto)]
 
+mod open_told;
 mod takers;
 mod told;
 
+pub use open_told::open_facts_of;
 pub use takers::TAKERS_SHOWN;
 pub use told::{FACTS_SHOWN, facts_of};

@@ -38,7 +38,7 @@ pub fn facts_of(
 }
 
 /// Who is at work at the log's end. The error is out of memory.
-fn facts_at_end(alloc: Global, log: &[Entry]) -> Result<Vec<Fact>, AllocError>
+pub(crate) fn facts_at_end(alloc: Global, log: &[Entry]) -> Result<Vec<Fact>, AllocError>
     requires few { length log.now < 2 ^ 32 }
     ensures exact { IfOk result (λ facts. facts.items ≡ take FACTS_SHOWN (at_work log.now)) }
     ensures stand { IfOk result (λ facts. All (StandsIn log.now) facts.items) }
@@ -155,7 +155,7 @@ fn add_takers(facts: &mut Vec<Fact>, place: usize, takers: &[Entry]) -> Result<(
 
 /// The first facts of a list, at most this many. The error is out of memory.
 #[tactic(auto, using(std::proofs::lemmas::List::take_all))]
-fn first_of(alloc: Global, known: &[Fact], most: usize) -> Result<Vec<Fact>, AllocError>
+pub(crate) fn first_of(alloc: Global, known: &[Fact], most: usize) -> Result<Vec<Fact>, AllocError>
     ensures { IfOk result (λ facts. facts.items ≡ take most known.now) }
 {
     let mut facts = Vec::new(alloc);
@@ -225,7 +225,7 @@ fn waits_for(cause: &Cause) -> Waits
 }
 
 /// What an entry waits for, by what is against its source.
-fn waits_by(bar: Bar) -> Waits
+pub(crate) fn waits_by(bar: Bar) -> Waits
     ensures { result ≡ waits_by bar }
 {
     match bar {

@@ -7,7 +7,7 @@ returns c = rw (
   c.add_more.ensures,
   c.add_seats.ensures.items,
   c.add.ensures,
-  c.requires,
+  c.requires.line,
   c.min-shown.ensures,
   take_min,
   c.saturating_sub.ensures,
