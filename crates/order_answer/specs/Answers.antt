@@ -1,10 +1,12 @@
 -- What is answered to the text of events (this project's own rule).
 use Rattle.std.specs.Prelude.{◌≡◌, ◌≤◌, ◌⊎◌, ℕ, Bool, true, List, [], codes, length}
 use Rattle.task_base.specs.Plan.{Plan}
-use Rattle.task_base.specs.declared.limits.TheConstants.{MOST_EVENTS}
+use Rattle.task_base.specs.declared.limits.TheConstants.{MOST_BYTES, MOST_EVENTS}
 use Rattle.event_text.specs.Mistakes.{are_right}
 use Rattle.order_model.specs.declared.event.Event.{Event}
 use Rattle.order_model.specs.Orders.{IsBeginning, IsOrder, entries_of}
+use Rattle.order_model.specs.declared.plan_kind.PlanKind.{PlanKind}
+use Rattle.order_model.specs.declared.plan_kind.PlanKind.TheVariants.{Closed, Open}
 use Rattle.order_search.specs.Arranged.{IsWithout}
 use Rattle.order_answer.specs.declared.answer.Answer.{Answer}
 use Rattle.order_answer.specs.declared.answer.Answer.TheVariants.{Order, NoOrder, GaveUp, Bad}
@@ -48,10 +50,15 @@ abbrev pub IsRefusalOf : Plan → List ℕ → Answer → Type 0
 IsRefusalOf script text (Bad bad) = IsBad script text bad
 IsRefusalOf script text answer = ⊥
 
--- a log in the answer has no more entries than a run may have
-abbrev pub HasFew : Answer → Type 0
-HasFew (Order log) = length log.items ≤ MOST_EVENTS
-HasFew answer = Unit {0}
+-- how many entries a log in the answer has at most: as many as a run may have, or of an open plan as many as a text may have bytes
+abbrev pub most_entries : PlanKind → ℕ
+most_entries Closed = MOST_EVENTS
+most_entries Open = MOST_BYTES
+
+-- a log in the answer has no more
+abbrev pub HasFew : PlanKind → Answer → Type 0
+HasFew kind (Order log) = length log.items ≤ most_entries kind
+HasFew kind answer = Unit {0}
 
 -- one of the two
 abbrev pub IsAnswer : Plan → Bool → List ℕ → Answer → Type 0

@@ -1,12 +1,16 @@
 -- What is said of events of which no order was found (this project's own words).
-use Rattle.std.specs.Prelude.{◌≡◌, ℕ, ◌+◌, ◌==◌, List, [], ◌∷◌, ◌++◌, codes, decimal, find, flat_map, length, Option}
+use Rattle.std.specs.Prelude.{◌≡◌, ℕ, ◌+◌, ◌==◌, Bool, true, false, List, [], ◌∷◌, ◌++◌, codes, decimal, find, flat_map, length, Option}
 use Rattle.std.specs.List.{range_with_len}
 use Rattle.std.specs.Option.{option_to_list}
 use Rattle.task_base.specs.Plan.{Plan}
+use Rattle.task_base.specs.declared.entry.Entry.{Entry}
 use Rattle.log_model.specs.declared.version.Version.TheVariants.{Two}
 use Rattle.log_model.specs.LogText.{head_of, text_from}
 use Rattle.next_entry.specs.declared.cause.Explanation.{Explanation}
+use Rattle.next_entry.specs.declared.open_cause.OpenTold.{OpenTold}
 use Rattle.env_explain.specs.Explained.{IsExplained}
+use Rattle.open_explain.specs.Told.{IsTold}
+use Rattle.explain_text.specs.OpenPlain.{open_text}
 use Rattle.explain_text.specs.Plain.{told_text}
 use Rattle.order_model.specs.declared.event.Event.{Event}
 use Rattle.order_model.specs.Orders.{entries_of}
@@ -29,10 +33,14 @@ AreAgainst script events rest (e ∷ next) lines =
     (stuck : Stuck) × (others : List ℕ) × IsStuck script events rest e stuck × AreAgainst script events rest next others
     × (lines ≡ stuck_text (length events) e stuck ++ others)
 
--- these lines say what stands against going on after the events: of the next event of each seat, or where none is left what is left to
--- be done
+-- the line says what is left to be done after the entries; or of an open plan, who is at work
+abbrev pub IsEndSaid : Bool → Plan → List Entry → List ℕ → Type 0
+IsEndSaid false script log line = (told : Explanation) × IsExplained script log told × (line ≡ told_text log told)
+IsEndSaid true plan log line = (told : OpenTold) × IsTold plan log told × (line ≡ open_text log told)
+
+-- these lines say what stands against going on after the events: of the next event of each seat, or where none is left, after all
 abbrev pub IsAgainst : Plan → List Event → List Event → List ℕ → Type 0
-IsAgainst script events [] lines = (told : Explanation) × IsExplained script (entries_of events) told × (lines ≡ told_text (entries_of events) told)
+IsAgainst script events [] lines = IsEndSaid script.is_open script (entries_of events) lines
 IsAgainst script events (e ∷ rest) lines = AreAgainst script events (e ∷ rest) (next_events script.workers (e ∷ rest)) lines
 
 -- how many of all events can be arranged

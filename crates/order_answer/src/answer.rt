@@ -1,13 +1,15 @@
-ghost use Rattle.std.specs.Prelude.{◌≡◌, ◌≤◌, ◌<◌, ◌^◌, [], IfOk, length, true};
+ghost use Rattle.std.specs.Prelude.{◌≡◌, ◌≤◌, [], IfOk, None, length, true};
 ghost use Rattle.task_base.specs.declared.limits.TheConstants.{MOST_BYTES};
 ghost use Rattle.script_model.specs.Laws.Sound.{IsSound};
+ghost use Rattle.live_core.specs.Opening.{guest_runner};
 ghost use Rattle.event_text.specs.Mistakes.{are_right};
+ghost use Rattle.order_model.specs.Plans.{plan_of};
 ghost use Rattle.order_answer.specs.Answers.{HasFew, IsAnswer, IsAnswerTo};
 
 use crate::bad::{BadEvents, bad_of};
 use crate::said::{log_of, said_of};
 use event_text::{EventFault, mistake_of, read_events};
-use order_model::Event;
+use order_model::{Event, PlanKind};
 use order_search::{Arranged, arrange};
 use std::alloc::{AllocError, Global};
 use task_base::{Entry, Rows, Script};
@@ -25,19 +27,22 @@ pub enum Answer {
     Bad { bad: BadEvents },
 }
 
-/// Looks for an order of the events of a text, in which they may have come in a run of the script, or where a prefix is asked for, in
-/// the beginning of one. It takes so many steps at most; a step is one try of an event. The error is out of memory.
+/// Looks for an order of the events of a text, in which they may have come in a run of the script, or of its open plan, or where a
+/// prefix is asked for, in the beginning of one. It takes so many steps at most; a step is one try of an event. The error is out of
+/// memory.
 pub fn answer_events(
     alloc: Global,
     script: &Script,
+    kind: PlanKind,
     prefix: bool,
     most: u64,
     text: &[u8],
 ) -> Result<Answer, AllocError>
     requires plan { IsSound script.now }
+    requires guest { kind ≡ PlanKind.Open → guest_runner script.now ≡ None }
     requires short { length text.now ≤ MOST_BYTES }
-    ensures answer { IfOk result (IsAnswer script.now prefix text.now) }
-    ensures few { IfOk result HasFew }
+    ensures answer { IfOk result (IsAnswer (plan_of kind script.now) prefix text.now) }
+    ensures few { IfOk result (HasFew kind) }
 {
     let seen = match read_events(alloc, text) {
         Ok(seen) => seen,
@@ -51,34 +56,38 @@ pub fn answer_events(
         let bad = bad_of(mistake);
         return Ok(Answer::Bad { bad });
     }
-    answer_to(alloc, script, prefix, most, &seen)
+    answer_to(alloc, script, kind, prefix, most, &seen)
 }
 
 /// Looks for an order of these events. The error is out of memory.
 fn answer_to(
     alloc: Global,
     script: &Script,
+    kind: PlanKind,
     prefix: bool,
     most: u64,
     seen: &[Event],
 ) -> Result<Answer, AllocError>
     requires plan { IsSound script.now }
-    requires few { length seen.now < 2 ^ 32 }
+    requires guest { kind ≡ PlanKind.Open → guest_runner script.now ≡ None }
+    requires few { length seen.now ≤ MOST_BYTES }
     requires right { are_right script.now.workers [] seen.now ≡ true }
-    ensures answer { IfOk result (IsAnswerTo script.now prefix seen.now) }
-    ensures few { IfOk result HasFew }
+    ensures answer { IfOk result (IsAnswerTo (plan_of kind script.now) prefix seen.now) }
+    ensures few { IfOk result (HasFew kind) }
 {
-    match arrange(alloc, script, prefix, seen, most)? {
+    match arrange(alloc, script, kind, prefix, seen, most)? {
         Arranged::Order { events } => {
             let log = log_of(alloc, &events)?;
             Ok(Answer::Order { log })
         }
         Arranged::NoOrder { events, rest } => {
-            let said = said_of(alloc, script, b"no order\n", seen.len(), &events, &rest)?;
+            let head = b"no order\n";
+            let said = said_of(alloc, script, kind, head, seen.len(), &events, &rest)?;
             Ok(Answer::NoOrder { said })
         }
         Arranged::GaveUp { events, rest } => {
-            let said = said_of(alloc, script, b"gave up\n", seen.len(), &events, &rest)?;
+            let head = b"gave up\n";
+            let said = said_of(alloc, script, kind, head, seen.len(), &events, &rest)?;
             Ok(Answer::GaveUp { said })
         }
     }

@@ -1,15 +1,18 @@
-ghost use Rattle.std.specs.Prelude.{◌≡◌, ◌++◌, ◌<◌, ◌^◌, ℕ, List, decimal, length, IfOk, OnOk};
+ghost use Rattle.std.specs.Prelude.{◌≡◌, ◌++◌, ◌<◌, ◌≤◌, ◌^◌, ℕ, List, None, decimal, length, IfOk, OnOk};
+ghost use Rattle.task_base.specs.declared.limits.TheConstants.{MOST_BYTES};
 ghost use Rattle.script_model.specs.Laws.Sound.{IsSound};
 ghost use Rattle.log_model.specs.LogText.{text_from};
 ghost use Rattle.hist_model.specs.Legal.{IsLegal};
+ghost use Rattle.live_core.specs.Opening.{guest_runner};
 ghost use Rattle.order_model.specs.Orders.{entries_of};
+ghost use Rattle.order_model.specs.Plans.{plan_of};
 ghost use Rattle.order_answer.specs.Said.{IsAgainst, beginning_text, count_text, found_text};
 
 use crate::against::add_against;
 use entry_lines::line;
 use itoa::Buffer;
 use log_model::Version;
-use order_model::Event;
+use order_model::{Event, PlanKind};
 use run_log::head_of;
 use std::alloc::{AllocError, Global};
 use task_base::{Entry, Place, Rows, Script};
@@ -19,20 +22,23 @@ use task_base::{Entry, Place, Rows, Script};
 pub(crate) fn said_of(
     alloc: Global,
     script: &Script,
+    kind: PlanKind,
     head: &[u8],
     all: usize,
     events: &[Event],
     rest: &[Event],
 ) -> Result<Vec<u8>, AllocError>
     requires plan { IsSound script.now }
-    requires legal { IsLegal script.now (entries_of events.now) }
-    requires few { length events.now < 2 ^ 32 }
-    ensures { IfOk result (λ said. (lines : List ℕ) × IsAgainst script.now events.now rest.now lines × (said.items ≡ found_text head.now events.now all lines)) }
+    requires guest { kind ≡ PlanKind.Open → guest_runner script.now ≡ None }
+    requires legal { IsLegal (plan_of kind script.now) (entries_of events.now) }
+    requires few { length events.now ≤ MOST_BYTES }
+    ensures { IfOk result (λ said. (lines : List ℕ) × IsAgainst (plan_of kind script.now) events.now rest.now lines
+        × (said.items ≡ found_text head.now events.now all lines)) }
 {
     let mut said = Vec::new(alloc);
     said.extend_from_slice(head)?;
     add_count(&mut said, events.len(), all)?;
-    add_against(alloc, &mut said, script, events, rest)?;
+    add_against(alloc, &mut said, script, kind, events, rest)?;
     add_beginning(alloc, &mut said, events)?;
     Ok(said)
 }

@@ -1,12 +1,16 @@
-ghost use Rattle.std.specs.Prelude.{◌≡◌, ◌++◌, ◌∷◌, [], Contains, IfOk, IfSome, None, true};
+ghost use Rattle.std.specs.Prelude.{◌≡◌, ◌+◌, ◌<◌, ◌++◌, ◌∷◌, [], Contains, IfOk, IfSome, None, length, true};
 ghost use Rattle.script_model.specs.Laws.Sound.{IsSound};
 ghost use Rattle.hist_model.specs.Legal.{IsLegal};
+ghost use Rattle.live_core.specs.Opening.{guest_runner};
 ghost use Rattle.order_model.specs.Orders.{entries_of, is_before, may_precede};
-ghost use Rattle.order_explain.specs.Stuck.{IsStuck, stuck_told};
+ghost use Rattle.order_model.specs.Plans.{plan_of};
+ghost use Rattle.order_explain.specs.Stuck.{IsStuck, stuck_open, stuck_told};
 
 use env_explain::explain_prefix;
-use next_entry::{Cause, Explanation};
-use order_model::Event;
+use next_entry::{Cause, Explanation, OpenCause, OpenTold};
+use open_check::core_of;
+use open_explain::explain_open_prefix;
+use order_model::{Event, PlanKind};
 use std::alloc::{AllocError, Global};
 use task_base::{Entry, Rows, Script};
 
@@ -17,6 +21,8 @@ pub enum Stuck {
     Waits { other: Event },
     /// The times allow it, and the rules don't, for this cause.
     Barred { cause: Cause },
+    /// The times allow it, and the rules of an open plan don't, for this cause.
+    OpenBarred { cause: OpenCause },
     /// Nothing stands against it.
     Free,
 }
@@ -26,20 +32,32 @@ pub enum Stuck {
 pub fn stuck_at(
     alloc: Global,
     script: &Script,
+    kind: PlanKind,
     events: &[Event],
     rest: &[Event],
     event: &Event,
 ) -> Result<Stuck, AllocError>
     requires plan { IsSound script.now }
-    requires legal { IsLegal script.now (entries_of events.now) }
-    ensures { IfOk result (IsStuck script.now events.now rest.now event.now) }
+    requires guest { kind ≡ PlanKind.Open → guest_runner script.now ≡ None }
+    requires legal { IsLegal (plan_of kind script.now) (entries_of events.now) }
+    requires few { kind ≡ PlanKind.Open → length events.now + 1 < u32.MAX }
+    ensures { IfOk result (IsStuck (plan_of kind script.now) events.now rest.now event.now) }
 {
     if let Some(other) = first_before(rest, event) {
         return Ok(Stuck::Waits { other });
     }
     let log = log_with(alloc, events, event)?;
-    let told = explain_prefix(alloc, script, &log)?;
-    Ok(stuck_told(&told))
+    match kind {
+        PlanKind::Closed => {
+            let told = explain_prefix(alloc, script, &log)?;
+            Ok(stuck_told(&told))
+        }
+        PlanKind::Open => {
+            let mut live = core_of(alloc, script)?;
+            let told = explain_open_prefix(script, &mut live, log.as_slice());
+            Ok(stuck_open(&told))
+        }
+    }
 }
 
 // What is said of the last entry of a log, whose entries before it are legal.
@@ -48,6 +66,16 @@ fn stuck_told(told: &Explanation) -> Stuck
 {
     match told {
         Explanation::Barred { cause, .. } => Stuck::Barred { cause: *cause },
+        _ => Stuck::Free,
+    }
+}
+
+// The same of a log of an open plan.
+fn stuck_open(told: &OpenTold) -> Stuck
+    ensures { result ≡ stuck_open told.now }
+{
+    match told {
+        OpenTold::Barred { cause, .. } => Stuck::OpenBarred { cause: *cause },
         _ => Stuck::Free,
     }
 }

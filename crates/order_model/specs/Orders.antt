@@ -1,10 +1,11 @@
 -- What an order of events is that each seat saw for itself, and a beginning of one (this project's own rule).
-use Rattle.std.specs.Prelude.{◌≡◌, ℕ, ◌==◌, Bool, true, false, not, nat_lt, ◌&&◌, List, [], ◌∷◌, ◌++◌, filter, map, Option, Some, None}
+use Rattle.std.specs.Prelude.{◌≡◌, ℕ, ◌==◌, Bool, true, false, not, nat_lt, ◌&&◌, if◌then◌else◌, IsTrue, List, [], ◌∷◌, ◌++◌, filter, map, Option, Some}
 use Rattle.std.specs.List.{list_any}
 use Rattle.task_base.specs.Plan.{Plan}
 use Rattle.task_base.specs.declared.entry.Entry.{Entry}
+use Rattle.task_model.specs.Seats.{is_quiet}
 use Rattle.hist_model.specs.Legal.{IsLegal}
-use Rattle.hist_model.specs.Script.{IsWhole}
+use Rattle.hist_model.specs.Script.{is_whole}
 use Rattle.order_model.specs.declared.event.Event.{Event}
 use Rattle.order_model.specs.declared.event.Span.{Span}
 
@@ -41,8 +42,12 @@ pub record IsBeginning (script : Plan) (seen events rest : List Event) : Type 0 
   pub times : in_time rest events ≡ true
   pub legal : IsLegal script (entries_of events)
 
--- the events that were seen, in an order that their seats and times allow, and whose entries are those of a whole run; of a beginning
--- of one where that will do
+-- the past may end here: nothing of the script is left to be done; or of an open plan, no seat runs a task, and none holds an item
+abbrev pub is_ended : Plan → List Entry → Bool
+is_ended script past = if script.is_open then is_quiet script past else is_whole script past
+
+-- the events that were seen, in an order that their seats and times allow, and whose entries are those of a whole run, which may end
+-- there; of a beginning of one where that will do
 pub record IsOrder (script : Plan) (prefix : Bool) (seen events : List Event) : Type 0 where
   pub begins : IsBeginning script seen events []
-  pub whole : prefix ≡ false → IsWhole script (entries_of events)
+  pub ended : prefix ≡ false → IsTrue (is_ended script (entries_of events))

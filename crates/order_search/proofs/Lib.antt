@@ -1,11 +1,14 @@
 pub mod Places
 pub mod Own
+pub mod Shares
 pub mod Times
 pub mod Ruled
 pub mod Linked
+pub mod Following
 pub mod Steps
 pub mod Tried
 pub mod Turned
 pub mod Merged
 pub mod Seated
+pub mod EachKind
 pub mod Worked

@@ -4,8 +4,8 @@ use Rattle.std.proofs.Common.{◌≡◌, ℕ, ◌<◌, ◌≤◌, Bool, false, e
 use Rattle.std.specs.Prelude.{◌⊎◌, All}
 use Rattle.std.specs.List.{AllByRecursion}
 use Rattle.std.proofs.lemmas.Bool.{cases_eq, cases_lt, ne_eqb}
-use Rattle.std.proofs.lemmas.List.{get_or_read, length-append, nil_from_length}
-use Rattle.std.proofs.lemmas.List.Elements.{All-from_recursion, filter-append, recursion_from_All}
+use Rattle.std.proofs.lemmas.List.{get_or_read, nil_from_length}
+use Rattle.std.proofs.lemmas.List.Elements.{All-from_recursion, recursion_from_All}
 use Rattle.list_laws.proofs.Elements.{AllByRecursion-map}
 use Rattle.list_laws.proofs.Filters.{filter_none}
 use Rattle.task_base.specs.Plan.{Plan}
@@ -19,65 +19,18 @@ use Rattle.order_search.specs.Walk.{IsTask, Task}
 use Rattle.order_search.proofs.Places.{at_read}
 use Rattle.order_search.proofs.Own.{own_of_other, own_of_seat}
 use Rattle.order_search.proofs.Ruled.{IsParted, parted_next}
+use Rattle.order_search.proofs.Shares.{FirstOf, each_without, first_among, joined, one_fewer}
 use Rattle.order_search.proofs.Steps.{AreAtEnd, none_left}
-
--- where the first event of a seat stands
-record FirstOf (seat : ℕ) (events : List Event) (e : Event) : Type 0 where
-  front : List Event
-  back : List Event
-  parts : events ≡ front ++ e ∷ back
-  none : own_events seat front ≡ []
-
-first_of : (seat : ℕ) (events : List Event) (e : Event) (rest : List Event) → own_events seat events ≡ e ∷ rest → FirstOf seat events e
-first_of seat [] e rest is = absurd cc
-first_of seat (x ∷ events) e rest is = by_seat (cases_eq x.entry.seat seat) (first_of seat events e rest)
-  where
-    by_seat : (x.entry.seat ≡ seat) ⊎ (x.entry.seat ≡ seat → ⊥) → (own_events seat events ≡ e ∷ rest → FirstOf seat events e) → FirstOf seat (x ∷ events) e
-    by_seat (inl same) later =
-        let first = own_of_seat seat x events same in
-        let x_is : x ≡ e = cc in
-        record { front = []; back = events; parts = ap (λ (y : Event). y ∷ events) x_is; none = refl }
-    by_seat (inr other) later =
-        let found = later (sym (own_of_other seat x events other) ∙ is) in
-        record {
-          front = x ∷ found.front;
-          back = found.back;
-          parts = ap (λ l. x ∷ l) found.parts;
-          none = own_of_other seat x found.front other ∙ found.none;
-        }
 
 -- what has a beginning of each seat's events, and as many in all, has all of them
 pub all_of_each : (xs ys : List Event) (rest : ℕ → List Event) → ((seat : ℕ) → own_events seat xs ++ rest seat ≡ own_events seat ys)
     → length ys ≤ length xs → (seat : ℕ) → own_events seat xs ≡ own_events seat ys
 all_of_each [] ys rest each few seat = sym (ap (own_events seat) (nil_from_length ys (omega (arith, few))))
 all_of_each (x ∷ xs) ys rest each few seat =
-    let found = first_of x.entry.seat ys x (own_events x.entry.seat xs ++ rest x.entry.seat) first in
-    let others : (other : ℕ) → own_events other xs ++ rest other ≡ own_events other (found.front ++ found.back) =
-    λ other. without found other (cases_eq x.entry.seat other) in
-    let fewer : length (found.front ++ found.back) ≤ length xs =
-    omega (arith, few, ap length found.parts, length-append found.front (x ∷ found.back), length-append found.front found.back) in
-    with_first found (all_of_each xs (found.front ++ found.back) rest others fewer seat) (cases_eq x.entry.seat seat)
+    let found = first_among x xs ys rest each in
+    let fewer : length (found.front ++ found.back) ≤ length xs = omega (arith, few, one_fewer x xs ys rest each) in
+    with_first found (all_of_each xs (found.front ++ found.back) rest (each_without x xs ys rest each) fewer seat) (cases_eq x.entry.seat seat)
   where
-    first : own_events x.entry.seat ys ≡ x ∷ (own_events x.entry.seat xs ++ rest x.entry.seat)
-    first = sym (each x.entry.seat) ∙ ap (λ l. l ++ rest x.entry.seat) (own_of_seat x.entry.seat x xs refl)
-
-    joined : (other : ℕ) (front back : List Event) → own_events other (front ++ back) ≡ own_events other front ++ own_events other back
-    joined other front back = filter-append (λ (y : Event). eqb y.entry.seat other) front back
-
-    without : (found : FirstOf x.entry.seat ys x) (other : ℕ) → (x.entry.seat ≡ other) ⊎ (x.entry.seat ≡ other → ⊥)
-        → own_events other xs ++ rest other ≡ own_events other (found.front ++ found.back)
-    without found other (inl same) =
-        let none : own_events other found.front ≡ [] = subst (λ s. own_events s found.front ≡ []) same found.none in
-        let all = ap (own_events other) found.parts ∙ joined other found.front (x ∷ found.back)
-        ∙ ap (λ l. l ++ own_events other (x ∷ found.back)) none ∙ own_of_seat other x found.back same in
-        let mine = ap (λ l. l ++ rest other) (sym (own_of_seat other x xs same)) ∙ each other in
-        let now = joined other found.front found.back ∙ ap (λ l. l ++ own_events other found.back) none in
-        cc
-    without found other (inr apart) =
-        ap (λ l. l ++ rest other) (sym (own_of_other other x xs apart)) ∙ each other ∙ ap (own_events other) found.parts
-        ∙ joined other found.front (x ∷ found.back) ∙ ap (λ l. own_events other found.front ++ l) (own_of_other other x found.back apart)
-        ∙ sym (joined other found.front found.back)
-
     with_first : (found : FirstOf x.entry.seat ys x) → own_events seat xs ≡ own_events seat (found.front ++ found.back)
         → (x.entry.seat ≡ seat) ⊎ (x.entry.seat ≡ seat → ⊥) → own_events seat (x ∷ xs) ≡ own_events seat ys
     with_first found same_rest (inl same) =
@@ -114,7 +67,7 @@ begins_other script tries seen events rest same begins = record {
 
 order_other : (script : Plan) (prefix : Bool) (tries seen events : List Event) → ((seat : ℕ) → own_events seat tries ≡ own_events seat seen)
     → IsOrder script prefix tries events → IsOrder script prefix seen events
-order_other script prefix tries seen events same order = record { begins = begins_other script tries seen events [] same order.begins; whole = order.whole }
+order_other script prefix tries seen events same order = record { begins = begins_other script tries seen events [] same order.begins; ended = order.ended }
 
 -- what the search found of the merged events it found of those that were seen
 pub arranged_other : (script : Plan) (prefix : Bool) (tries seen : List Event) (found : Arranged) → ((seat : ℕ) → own_events seat tries ≡ own_events seat seen)

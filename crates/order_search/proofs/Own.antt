@@ -1,5 +1,5 @@
 -- The events of each seat among others, and those that a beginning has and leaves.
--- Cited by `Linked`, `Merged`, `Ruled`, `Steps`.
+-- Cited by `Linked`, `Merged`, `Ruled`, `Shares`, `Steps`.
 use Rattle.std.proofs.Common.{◌≡◌, ℕ, Bool, true, false, eqb, List, [], ◌∷◌, ◌++◌, refl, sym, ap, ◌∙◌, append_assoc}
 use Rattle.std.specs.List.{list_any}
 use Rattle.std.proofs.lemmas.Bool.{and_parts, eq-eqb, eqb-true, ne_eqb, not-true, or_from, or_parts}

@@ -1,5 +1,5 @@
 -- Each event of an order is of a seat of the script.
--- Cited by `are_seated`.
+-- Cited by `are_seated`, `EachKind`.
 use Rattle.std.proofs.Common.{◌≡◌, ℕ, ◌+◌, ◌<◌, ◌≤◌, Bool, true, false, eqb, List, [], get_or, sym, ◌∙◌, append-nil, arith}
 use Rattle.std.specs.Prelude.{All, nat_le}
 use Rattle.std.specs.List.{AllByRecursion, list_all}

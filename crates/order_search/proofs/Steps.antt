@@ -1,33 +1,32 @@
 -- The steps of a search: where it stands after an event is placed, passed by or taken off, and what it may answer.
--- Cited by `Walk::back`, `Walk::is_order`, `go_on`, `search`, `follow_anew`, `Merged`, `Tried`, `Turned`.
+-- Cited by `Walk::back`, `Walk::is_order`, `Walk::try_head`, `go_on`, `search`, `follow_anew`, `Merged`, `Tried`, `Turned`.
 use Rattle.std.proofs.Common.{◌≡◌, ℕ, ◌+◌, ◌-◌, ◌^◌, ◌<◌, ◌≤◌, Bool, true, false, eqb, List, [], ◌∷◌, ◌++◌, length, drop, take, get_or, set, refl, sym, ap, subst, ◌∙◌, append_assoc, inl, inr, arith}
-use Rattle.std.specs.Prelude.{◌⊎◌, nat_le, reverse}
+use Rattle.std.specs.Prelude.{◌⊎◌, IsTrue, nat_le, reverse}
 use Rattle.std.specs.List.{list_all, list_any}
 use Rattle.std.proofs.lemmas.Bool.{cases_eq, cases_lt, leb-true, le-leb, ne_eqb, not_from_false, true_from_ne_false, true≢false}
-use Rattle.std.proofs.lemmas.List.{append_cancel_left, drop_all, get_or-set_other, get_or-set_same, get_or_default, get_or_past, length-drop, length-set, map-append, map_push, reverse-append, set-get_or, set-set, take-append-drop, take_more}
+use Rattle.std.proofs.lemmas.List.{append_cancel_left, drop_all, get_or-set_other, get_or-set_same, get_or_default, get_or_past, length-append, length-drop, length-map, length-set, length-take-le, map-append, map_push, reverse-append, set-get_or, set-set, take-append-drop, take_more}
 use Rattle.std.proofs.lemmas.List.Elements.{recursion_from_All}
 use Rattle.std.proofs.lemmas.List.Folds.{list_all_at}
 use Rattle.list_laws.proofs.Tests.{list_all-from_recursion}
 use Rattle.list_laws.proofs.Elements.{AllByRecursion-from_index, AllByRecursion-map, push_induction}
 use Rattle.list_laws.proofs.Filters.{filter_none}
 use Rattle.task_base.specs.Plan.{Plan}
-use Rattle.task_base.specs.declared.entry.Entry.{Entry}
 use Rattle.hist_model.specs.Allowed.{is_allowed}
 use Rattle.hist_model.specs.Legal.{IsLegal}
-use Rattle.hist_model.specs.Script.{IsWhole}
 use Rattle.hist_model.proofs.Laws.Legal.{each_is_allowed, front_is_legal, legal_next}
 use Rattle.order_model.specs.declared.event.Event.{Event}
-use Rattle.order_model.specs.Orders.{IsBeginning, IsOrder, entries_of, in_time, is_before, may_precede, own_events}
+use Rattle.order_model.specs.Orders.{IsBeginning, IsOrder, entries_of, is_ended, in_time, is_before, may_precede, own_events}
 use Rattle.order_search.specs.Places.{IsAt}
 use Rattle.order_search.specs.Seats.{earliest}
 use Rattle.order_search.specs.Walk.{AllTried, AreLeft, AreTried, IsDead, IsPlaced, IsRuledOut, IsTask, Stands, Task, events_in, events_under}
-use Rattle.env_core.specs.Views.{EnvView}
-use Rattle.log_replay.specs.Follows.{Follows}
+use Rattle.order_search.specs.Following.{Follows, GoesOn}
 use Rattle.order_search.specs.Search.{IsNext, IsWalkAt, Known}
+use Rattle.order_search.specs.declared.follower.Follower.{Follower}
 use Rattle.order_search.specs.declared.placed.Placed.{Placed}
 use Rattle.order_search.proofs.Places.{at_index, at_within}
 use Rattle.order_search.proofs.Own.{in_time_push, none_own, own_of_other, own_of_seat}
 use Rattle.order_search.proofs.Times.{none_over}
+use Rattle.order_search.proofs.Shares.{few_of_each}
 use Rattle.order_search.proofs.Linked.{soonest_at}
 use Rattle.order_search.proofs.Ruled.{AreLater, IsParted, dead, longer_ruled_out, parted, parted_next, ruled_out_more, tried_back}
 
@@ -66,16 +65,15 @@ stands_more task shorter longer more (placed ∷ below) heads stands = record {
 }
 
 -- the search stands where it stood
-pub walk_more : (task : Task) (shorter longer : ℕ) (heads : List ℕ) (path : List Placed) (start : ℕ) (script : Plan) (history : List Entry) → shorter ≤ longer
-    → IsWalkAt (record { task = task; longest = shorter }) heads path start script history
-    → IsWalkAt (record { task = task; longest = longer }) heads path start script history
-walk_more task shorter longer heads path start script history more walk = record {
+pub walk_more : (task : Task) (shorter longer : ℕ) (heads : List ℕ) (path : List Placed) (start : ℕ) (follower : Follower) → shorter ≤ longer
+    → IsWalkAt (record { task = task; longest = shorter }) heads path start follower
+    → IsWalkAt (record { task = task; longest = longer }) heads path start follower
+walk_more task shorter longer heads path start follower more walk = record {
   is = walk.is;
   stands = stands_more task shorter longer more (reverse path) heads walk.stands;
   tried = tried_more task shorter longer (events_in path) heads start more walk.tried;
   legal = walk.legal;
-  script_is = walk.script_is;
-  history_is = walk.history_is;
+  follows = walk.follows;
 }
 
 -- ---- what is placed is a beginning
@@ -87,14 +85,23 @@ times_here task longest [] heads rest stands left = refl
 times_here task longest (placed ∷ below) heads rest stands left = stands.times rest left
 
 -- what the seats have
-pub parted_here : {known : Known} {heads : List ℕ} {path : List Placed} {start : ℕ} {script : Plan} {history : List Entry}
-    → IsWalkAt known heads path start script history → IsParted known.task (events_in path) heads
+pub parted_here : {known : Known} {heads : List ℕ} {path : List Placed} {start : ℕ} {follower : Follower}
+    → IsWalkAt known heads path start follower → IsParted known.task (events_in path) heads
 parted_here {known} {heads} {path} walk =
     subst (λ l. IsParted known.task l heads) (same_events path) (parted known.task known.longest (reverse path) heads walk.is walk.stands)
 
+-- no more events are placed than there are
+pub few_here : {known : Known} {heads : List ℕ} {path : List Placed} {start : ℕ} {follower : Follower}
+    → IsWalkAt known heads path start follower → length path ≤ length known.task.tries
+few_here {known} {heads} {path} walk = omega (
+  arith,
+  few_of_each (events_in path) known.task.tries (λ seat. own_events seat (drop (get_or heads seat 0) known.task.tries)) (parted_here walk).parts,
+  length-map path (λ (p : Placed). p.event),
+)
+
 -- so it is a beginning, and this is its rest
-pub begins_here : {known : Known} {heads : List ℕ} {path : List Placed} {start : ℕ} {script : Plan} {history : List Entry} (rest : List Event)
-    → IsWalkAt known heads path start script history → AreLeft known.task heads rest
+pub begins_here : {known : Known} {heads : List ℕ} {path : List Placed} {start : ℕ} {follower : Follower} (rest : List Event)
+    → IsWalkAt known heads path start follower → AreLeft known.task heads rest
     → IsBeginning known.task.script known.task.tries (events_in path) rest
 begins_here {known} {heads} {path} rest walk left = record {
   own = λ seat. ap (λ l. own_events seat (events_in path) ++ l) (left seat) ∙ (parted_here walk).parts seat;
@@ -126,19 +133,19 @@ none_left task events heads is parts ends seat = by_seat (cases_lt seat (task.sc
     by_seat (inr past) =
         sym (ap (λ i. own_events seat (drop i task.tries)) (head_past task events heads seat parts past) ∙ own_none task seat is past)
 
--- and what is placed is an order, where it is whole or need not be
-pub order_here : {known : Known} {heads : List ℕ} {path : List Placed} {start : ℕ} {script : Plan} {history : List Entry}
-    → IsWalkAt known heads path start script history → AreAtEnd known.task heads
-    → (known.task.prefix ≡ false → IsWhole known.task.script (entries_of (events_in path)))
+-- and what is placed is an order, where it may end here or need not
+pub order_here : {known : Known} {heads : List ℕ} {path : List Placed} {start : ℕ} {follower : Follower}
+    → IsWalkAt known heads path start follower → AreAtEnd known.task heads
+    → (known.task.prefix ≡ false → IsTrue (is_ended known.task.script (entries_of (events_in path))))
     → IsOrder known.task.script known.task.prefix known.task.tries (events_in path)
-order_here {known} {heads} {path} walk ends whole = record {
+order_here {known} {heads} {path} walk ends ended = record {
   begins = begins_here [] walk (none_left known.task (events_in path) heads walk.is (parted_here walk) ends);
-  whole = whole;
+  ended = ended;
 }
 
 -- an order has all the events
-pub ends_at_order : {known : Known} {heads : List ℕ} {path : List Placed} {start : ℕ} {script : Plan} {history : List Entry}
-    → IsWalkAt known heads path start script history → IsOrder known.task.script known.task.prefix known.task.tries (events_in path)
+pub ends_at_order : {known : Known} {heads : List ℕ} {path : List Placed} {start : ℕ} {follower : Follower}
+    → IsWalkAt known heads path start follower → IsOrder known.task.script known.task.prefix known.task.tries (events_in path)
     → AreAtEnd known.task heads
 ends_at_order {known} {heads} {path} walk order seat within = by_order (cases_lt (get_or heads seat 0) (length known.task.tries))
   where
@@ -171,20 +178,20 @@ all_pass p heads each = list_all-from_recursion p heads (AllByRecursion-from_ind
     (λ i d within. subst (λ x. p x ≡ true) (get_or_default heads i 0 d within) (each i within)))
 
 -- all heads stand past the end exactly where the test says so
-pub at_end_by_test : {known : Known} {heads : List ℕ} {path : List Placed} {start : ℕ} {script : Plan} {history : List Entry} (end : ℕ)
-    → IsWalkAt known heads path start script history → end ≡ length known.task.tries → list_all (λ head. nat_le end head) heads ≡ true → AreAtEnd known.task heads
+pub at_end_by_test : {known : Known} {heads : List ℕ} {path : List Placed} {start : ℕ} {follower : Follower} (end : ℕ)
+    → IsWalkAt known heads path start follower → end ≡ length known.task.tries → list_all (λ head. nat_le end head) heads ≡ true → AreAtEnd known.task heads
 at_end_by_test {known} {heads} end walk end_is all seat within =
     omega (arith, end_is, leb-true end (get_or heads seat 0) (each_passes (λ head. nat_le end head) heads all seat (omega (arith, within, (parted_here walk).count))))
 
-pub at_end_passes : {known : Known} {heads : List ℕ} {path : List Placed} {start : ℕ} {script : Plan} {history : List Entry} (end : ℕ)
-    → IsWalkAt known heads path start script history → end ≡ length known.task.tries → AreAtEnd known.task heads → list_all (λ head. nat_le end head) heads ≡ true
+pub at_end_passes : {known : Known} {heads : List ℕ} {path : List Placed} {start : ℕ} {follower : Follower} (end : ℕ)
+    → IsWalkAt known heads path start follower → end ≡ length known.task.tries → AreAtEnd known.task heads → list_all (λ head. nat_le end head) heads ≡ true
 at_end_passes {known} {heads} end walk end_is ends = all_pass (λ head. nat_le end head) heads (λ seat within.
     le-leb end (get_or heads seat 0) (omega (arith, end_is, ends seat (omega (arith, within, (parted_here walk).count)))))
 
 -- ---- an event is tried
 
-module _ {known : Known} {heads : List ℕ} {path : List Placed} {start : ℕ} {script : Plan} {history : List Entry} (seat i : ℕ) (e : Event)
-    (walk : IsWalkAt known heads path start script history) (within : seat < length heads) (head : get_or heads seat 0 ≡ i)
+module _ {known : Known} {heads : List ℕ} {path : List Placed} {start : ℕ} {follower : Follower} (seat i : ℕ) (e : Event)
+    (walk : IsWalkAt known heads path start follower) (within : seat < length heads) (head : get_or heads seat 0 ≡ i)
     (next : IsNext heads start (length known.task.tries) seat) (at : IsAt known.task.tries i e) where
   -- it is the next one of its seat
   pub its_seat : e.entry.seat ≡ seat
@@ -199,6 +206,17 @@ module _ {known : Known} {heads : List ℕ} {path : List Placed} {start : ℕ} {
   -- what the seats have once it is placed
   parted_on : IsParted known.task (events_in path ++ e ∷ []) (set heads e.entry.seat (get_or known.task.after i 0))
   parted_on = parted_next known.task (events_in path) heads i e walk.is (parted_here walk) at its_within its_head
+
+  -- fewer are placed than there are
+  pub few_before : length (entries_of (events_in path)) < 4294967295
+  few_before = omega (
+    arith,
+    walk.is.few,
+    few_of_each (events_in path ++ e ∷ []) known.task.tries
+        (λ s. own_events s (drop (get_or (set heads e.entry.seat (get_or known.task.after i 0)) s 0) known.task.tries)) parted_on.parts,
+    length-append (events_in path) (e ∷ []),
+    length-map (events_in path) (λ (x : Event). x.entry),
+  )
 
   -- the test by the least latest times says whether all that is left may come later
   pub tests_later : earliest e.span ≤ 2 ^ 64 - 1 → AreLater known.task (set heads e.entry.seat (get_or known.task.after i 0)) e
@@ -260,14 +278,13 @@ module _ {known : Known} {heads : List ℕ} {path : List Placed} {start : ℕ} {
   pub passed_by : (later : List ℕ) → later ≡ heads
       → (is_allowed known.task.script (entries_of (events_in path)) e.entry ≡ true
       → AreLater known.task (set heads e.entry.seat (get_or known.task.after i 0)) e → ⊥)
-      → (after : List Entry) → after ≡ entries_of (events_in path) → IsWalkAt known later path (i + 1) known.task.script after
-  passed_by later same barred after after_is = subst (λ l. IsWalkAt known l path (i + 1) known.task.script after) (sym same) (record {
+      → (after : Follower) → Follows known.task.script (entries_of (events_in path)) after → IsWalkAt known later path (i + 1) after
+  passed_by later same barred after follows = subst (λ l. IsWalkAt known l path (i + 1) after) (sym same) (record {
     is = walk.is;
     stands = walk.stands;
     tried = λ other inside early. by_place other inside early (cases_lt (get_or heads other 0) i);
     legal = walk.legal;
-    script_is = refl;
-    history_is = after_is;
+    follows = follows;
   })
     where
       by_place : (other : ℕ) → other < known.task.script.workers + 1 → get_or heads other 0 < i + 1
@@ -314,9 +331,8 @@ module _ {known : Known} {heads : List ℕ} {path : List Placed} {start : ℕ} {
   pub placed_on : AreLater known.task (set heads e.entry.seat (get_or known.task.after i 0)) e
       → is_allowed known.task.script (entries_of (events_in path)) e.entry ≡ true
       → (longer : List Placed) → longer ≡ path ++ (record { index = i; event = e }) ∷ [] → (later : List ℕ) → later ≡ set heads seat (get_or known.task.after i 0)
-      → (script' : Plan) (after : List Entry) → script' ≡ known.task.script → after ≡ entries_of (events_in path) ++ e.entry ∷ []
-      → IsWalkAt known later longer 0 script' after
-  placed_on later allowed longer longer_is moved moved_is script' after same after_is =
+      → (after : Follower) → Follows known.task.script (entries_of (events_in path) ++ e.entry ∷ []) after → IsWalkAt known later longer 0 after
+  placed_on later allowed longer longer_is moved moved_is after follows =
       let placed : Placed = record { index = i; event = e } in
       let moved_same : moved ≡ set heads e.entry.seat (get_or known.task.after i 0) = moved_is ∙ ap (λ s. set heads s (get_or known.task.after i 0)) (sym its_seat) in
       let events_are : events_in longer ≡ events_in path ++ e ∷ [] = ap events_in longer_is ∙ map_push (λ (p : Placed). p.event) path placed in
@@ -339,14 +355,13 @@ module _ {known : Known} {heads : List ℕ} {path : List Placed} {start : ℕ} {
         });
         tried = λ other inside early. absurd (omega (arith, early));
         legal = subst (IsLegal known.task.script) (sym entries_are) (legal_next known.task.script (entries_of (events_in path)) e.entry walk.legal allowed);
-        script_is = same;
-        history_is = after_is ∙ sym entries_are;
+        follows = subst (λ l. Follows known.task.script l after) (sym entries_are) follows;
       }
 
 -- ---- an event is taken off
 
-module _ {known : Known} {heads : List ℕ} {path : List Placed} {start : ℕ} {script : Plan} {history : List Entry} (shorter : List Placed) (placed : Placed)
-    (walk : IsWalkAt known heads path start script history) (parts : path ≡ shorter ++ placed ∷ []) where
+module _ {known : Known} {heads : List ℕ} {path : List Placed} {start : ℕ} {follower : Follower} (shorter : List Placed) (placed : Placed)
+    (walk : IsWalkAt known heads path start follower) (parts : path ≡ shorter ++ placed ∷ []) where
   on_top : IsPlaced known.task known.longest placed (reverse shorter) heads (Stands known.task known.longest (reverse shorter))
   on_top = subst (λ stack. Stands known.task known.longest stack heads) (ap reverse parts ∙ reverse_push shorter placed) walk.stands
 
@@ -368,9 +383,9 @@ module _ {known : Known} {heads : List ℕ} {path : List Placed} {start : ℕ} {
 
   -- and the search stands where it stood before it, with it ruled out
   pub taken_off : AllTried known.task heads start → IsRuledOut known.task known.longest (events_in path) → (before : List ℕ)
-      → before ≡ set heads placed.event.entry.seat placed.index → (script' : Plan) (after : List Entry) → script' ≡ known.task.script
-      → after ≡ entries_of (events_in shorter) → IsWalkAt known before shorter (placed.index + 1) script' after
-  taken_off all ruled before before_is script' after same after_is =
+      → before ≡ set heads placed.event.entry.seat placed.index → (after : Follower) → Follows known.task.script (entries_of (events_in shorter)) after
+      → IsWalkAt known before shorter (placed.index + 1) after
+  taken_off all ruled before before_is after follows =
       let events_are : events_under (placed ∷ reverse shorter) ≡ events_in path =
       ap events_under (sym (ap reverse parts ∙ reverse_push shorter placed)) ∙ same_events path in
       let back : AreTried known.task known.longest (events_under (reverse shorter)) on_top.before (placed.index + 1) =
@@ -382,39 +397,32 @@ module _ {known : Known} {heads : List ℕ} {path : List Placed} {start : ℕ} {
       before_is ∙ ap (λ l. set l seat placed.index) on_top.moved
       ∙ set-set on_top.before seat (get_or known.task.after placed.index 0) placed.index
       ∙ ap (set on_top.before seat) (sym on_top.head) ∙ set-get_or on_top.before seat 0 in
-      subst (λ l. IsWalkAt known l shorter (placed.index + 1) script' after) (sym restored) (record {
+      subst (λ l. IsWalkAt known l shorter (placed.index + 1) after) (sym restored) (record {
         is = walk.is;
         stands = on_top.stood;
         tried = subst (λ l. AreTried known.task known.longest l on_top.before (placed.index + 1)) (same_events shorter) back;
         legal = legal_taken_off;
-        script_is = same;
-        history_is = after_is;
+        follows = follows;
       })
 
 -- where none is placed, all is ruled out
-pub all_ruled_out : {known : Known} {heads : List ℕ} {path : List Placed} {start : ℕ} {script : Plan} {history : List Entry}
-    → IsWalkAt known heads path start script history → path ≡ [] → AllTried known.task heads start → IsRuledOut known.task known.longest (events_in path)
+pub all_ruled_out : {known : Known} {heads : List ℕ} {path : List Placed} {start : ℕ} {follower : Follower}
+    → IsWalkAt known heads path start follower → path ≡ [] → AllTried known.task heads start → IsRuledOut known.task known.longest (events_in path)
     → (others left : List Event) → IsBeginning known.task.script known.task.tries others left → IsRuledOut known.task known.longest others
 all_ruled_out {known} {heads} {path} {start} walk none all ruled others left begins =
     let empty : events_in path ≡ [] = ap events_in none in
     longer_ruled_out known.task known.longest [] heads start (subst (λ l. IsParted known.task l heads) empty (parted_here walk))
     (subst (λ l. AreTried known.task known.longest l heads start) empty walk.tried) all (subst (IsRuledOut known.task known.longest) empty ruled) others left begins
 
--- ---- a replay
+-- ---- what has followed
 
 -- one event more of a path was followed
-pub followed_more : (script : Plan) (path : List Placed) (k : ℕ) (d : Placed) (before after : EnvView) (answer : Bool) → IsLegal script (entries_of (events_in path))
-    → k < length path → before.script ≡ script → before.history ≡ entries_of (events_in (take k path))
-    → Follows before after (get_or path k d).event.entry answer
-    → (after.script ≡ script) × (after.history ≡ entries_of (events_in (take (k + 1) path)))
-followed_more script path k d before after answer legal within script_is history_is follows = (
-  ap (λ (v : EnvView). v.script) next ∙ script_is,
-  ap (λ (v : EnvView). v.history) next ∙ ap (λ l. l ++ placed.event.entry ∷ []) history_is ∙ sym longer,
-)
+pub followed_more : (plan : Plan) (path : List Placed) (k : ℕ) (d : Placed) (after : Follower) (answer : Bool) → IsLegal plan (entries_of (events_in path))
+    → k < length path → GoesOn plan (entries_of (events_in (take k path))) (get_or path k d).event.entry after answer
+    → Follows plan (entries_of (events_in (take (k + 1) path))) after
+followed_more plan path k d after answer legal within on =
+    subst (λ l. Follows plan l after) (sym longer) (on.followed (on.judged ∙ allowed))
   where
-    placed : Placed
-    placed = get_or path k d
-
     parts : path ≡ take k path ++ get_or path k d ∷ drop (k + 1) path
     parts = sym (take-append-drop (k + 1) path) ∙ ap (λ l. l ++ drop (k + 1) path) (take_more path k d within)
         ∙ append_assoc (take k path) (get_or path k d ∷ []) (drop (k + 1) path)
@@ -427,9 +435,17 @@ followed_more script path k d before after answer legal within script_is history
     longer = ap (λ l. entries_of (events_in l)) (take_more path k d within) ∙ ap entries_of (map_push (λ (p : Placed). p.event) (take k path) (get_or path k d))
         ∙ map_push (λ (x : Event). x.entry) (events_in (take k path)) (get_or path k d).event
 
-    allowed : is_allowed script (entries_of (events_in (take k path))) (get_or path k d).event.entry ≡ true
-    allowed = each_is_allowed script (entries_of (events_in (take k path))) (get_or path k d).event.entry (entries_of (events_in (drop (k + 1) path)))
-        (subst (IsLegal script) entries_are legal)
+    allowed : is_allowed plan (entries_of (events_in (take k path))) (get_or path k d).event.entry ≡ true
+    allowed = each_is_allowed plan (entries_of (events_in (take k path))) (get_or path k d).event.entry (entries_of (events_in (drop (k + 1) path)))
+        (subst (IsLegal plan) entries_are legal)
 
-    next : after ≡ record before { history = before.history ++ (get_or path k d).event.entry ∷ [] }
-    next = follows.goes_on (follows.judged ∙ rw (script_is, history_is) allowed)
+-- so many entries it has followed as are in the path before its end
+pub few_followed : (path : List Placed) (k : ℕ) → k < length path → length path < 2 ^ 32 → length (entries_of (events_in (take k path))) < 4294967295
+few_followed path k within few = omega (
+  arith,
+  within,
+  few,
+  length-map (events_in (take k path)) (λ (x : Event). x.entry),
+  length-map (take k path) (λ (p : Placed). p.event),
+  length-take-le k path (omega (arith, within)),
+)

@@ -4,37 +4,36 @@ use Rattle.std.proofs.Common.{◌≡◌, ℕ, ◌<◌, ◌≤◌, Bool, true, fa
 use Rattle.std.specs.Prelude.{◌⊎◌}
 use Rattle.std.proofs.lemmas.Bool.{cases_lt}
 use Rattle.std.proofs.lemmas.List.{length-map}
-use Rattle.task_base.specs.Plan.{Plan}
-use Rattle.task_base.specs.declared.entry.Entry.{Entry}
 use Rattle.hist_model.proofs.Laws.Legal.{nothing_is_legal}
 use Rattle.order_model.specs.declared.event.Event.{Event}
 use Rattle.order_model.specs.Orders.{IsBeginning, IsOrder, own_events}
 use Rattle.order_search.specs.Arranged.{IsWithout}
+use Rattle.order_search.specs.Following.{Follows}
 use Rattle.order_search.specs.Search.{GoesBack, IsNext, IsWalk, IsWalkAt, Keeps, Known, Stood}
 use Rattle.order_search.specs.Walk.{AllTried, IsRuledOut, IsTask, Task, events_in}
 use Rattle.order_search.specs.declared.best.Best.{Best}
+use Rattle.order_search.specs.declared.follower.Follower.{Follower}
 use Rattle.order_search.specs.declared.placed.Placed.{Placed}
 use Rattle.order_search.specs.declared.walk.Walk.{Walk}
 use Rattle.order_search.proofs.Steps.{begins_here, parted_here}
 
 -- the search stands before its first step
 pub stood_first : (task : Task) (walk : Walk) → IsTask task → walk.heads.items ≡ task.heads → walk.path.items ≡ [] → walk.start ≡ 0
-    → walk.best.events.items ≡ [] → walk.best.rest.items ≡ task.tries → walk.replay.script ≡ task.script → walk.replay.history ≡ [] → Stood task walk
-stood_first task walk is heads path start best rest script history = record {
-  walk_is = rw (path, start, history) (record {
+    → walk.best.events.items ≡ [] → walk.best.rest.items ≡ task.tries → Follows task.script [] walk.follower → Stood task walk
+stood_first task walk is heads path start best rest follows = record {
+  walk_is = rw (path, start) (record {
     is = is;
     stands = heads;
     tried = λ seat within early. absurd (omega (arith, early));
     legal = nothing_is_legal task.script;
-    script_is = script;
-    history_is = refl;
+    follows = follows;
   });
   best_is = rw (best, rest) (record { own = λ seat. refl; times = refl; legal = nothing_is_legal task.script });
 }
 
 -- where the search finds no seat to try, all were tried
-pub all_tried : {known : Known} {heads : List ℕ} {path : List Placed} {start : ℕ} {script : Plan} {history : List Entry} (end seat : ℕ)
-    → IsWalkAt known heads path start script history → IsNext heads start end seat → length heads ≤ seat → end ≡ length known.task.tries
+pub all_tried : {known : Known} {heads : List ℕ} {path : List Placed} {start : ℕ} {follower : Follower} (end seat : ℕ)
+    → IsWalkAt known heads path start follower → IsNext heads start end seat → length heads ≤ seat → end ≡ length known.task.tries
     → AllTried known.task heads start
 all_tried {known} {heads} {path} {start} end seat walk next none end_is other within = by_start (cases_lt (get_or heads other 0) start)
   where
@@ -49,8 +48,8 @@ all_tried {known} {heads} {path} {start} end seat walk next none end_is other wi
     by_start (inr later) = by_end later (cases_lt (get_or heads other 0) end)
 
 -- the best one that is kept is a beginning
-pub best_kept : {known : Known} {heads : List ℕ} {path : List Placed} {start : ℕ} {script : Plan} {history : List Entry} (tries : List Event) (before after : Best)
-    → IsWalkAt known heads path start script history → tries ≡ known.task.tries → Keeps tries path heads before after
+pub best_kept : {known : Known} {heads : List ℕ} {path : List Placed} {start : ℕ} {follower : Follower} (tries : List Event) (before after : Best)
+    → IsWalkAt known heads path start follower → tries ≡ known.task.tries → Keeps tries path heads before after
     → IsBeginning known.task.script known.task.tries before.events.items before.rest.items
     → IsBeginning known.task.script known.task.tries after.events.items after.rest.items
 best_kept {known} {heads} {path} tries before after walk tries_are keeps begins = by_length (cases_lt (length before.events.items) (length path))

@@ -1,8 +1,12 @@
 -- Events and times that were worked out by hand, checked by computing.
-use Rattle.std.proofs.Common.{◌≡◌, ℕ, ◌-◌, ◌^◌, true, false, [], ◌∷◌, Some, None, refl}
+use Rattle.std.proofs.Common.{◌≡◌, ℕ, Bool, ◌-◌, ◌^◌, true, false, [], ◌∷◌, Some, None, refl}
+use Rattle.task_base.specs.Plan.{Plan}
+use Rattle.task_base.specs.declared.entry.Entry.{Entry}
 use Rattle.task_base.specs.declared.entry.Kind.TheVariants as kinds
+use Rattle.task_model.specs.Seats.{holding, is_quiet, running}
+use Rattle.hist_model.specs.Script.{current, is_finished}
 use Rattle.order_model.specs.declared.event.Event.{Event}
-use Rattle.order_model.specs.Orders.{in_time, is_before, may_precede, own_events}
+use Rattle.order_model.specs.Orders.{in_time, is_before, is_ended, may_precede, own_events}
 use Rattle.order_search.specs.Seats.{earliest, known_time, latest, least_latest}
 
 -- an event of a seat, between two times
@@ -64,3 +68,45 @@ earliest_of_untimed = refl
 
 untimed_first : known_time (untimed 0).span ≡ 0
 untimed_first = refl
+
+-- ---- where a log may end
+
+-- a plan of two workers and one task
+abbrev two_workers : Bool → Plan
+two_workers is_open = record {
+  workers = 2;
+  foreground = 2;
+  foreground_best = 1;
+  background = 0;
+  threshold = 0;
+  runners = [];
+  queues = [];
+  tasks = [] ∷ [];
+  jobs = [];
+  actions = [];
+  is_open = is_open;
+}
+
+abbrev taken : Entry
+taken = record { seat = 1; kind = kinds.Take 0 0 0 }
+
+abbrev done_with : Entry
+done_with = record { seat = 1; kind = kinds.End 0 0 }
+
+-- of an open plan, at once; but not while seat 1 runs a task
+ends_at_once : is_ended (two_workers true) [] ≡ true
+unfolding is_quiet running holding
+ends_at_once = refl
+
+ends_not_amid_work : is_ended (two_workers true) (taken ∷ []) ≡ false
+unfolding is_quiet running holding
+ends_not_amid_work = refl
+
+ends_after_work : is_ended (two_workers true) (taken ∷ done_with ∷ []) ≡ true
+unfolding is_quiet running holding
+ends_after_work = refl
+
+-- of a script, where its actions are done too
+script_ends_not_amid_work : is_ended (two_workers false) (taken ∷ []) ≡ false
+unfolding is_quiet running holding is_finished current
+script_ends_not_amid_work = refl

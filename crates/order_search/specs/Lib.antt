@@ -2,4 +2,5 @@ pub mod Arranged
 pub mod Places
 pub mod Seats
 pub mod Walk
+pub mod Following
 pub mod Search

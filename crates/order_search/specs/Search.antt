@@ -1,13 +1,14 @@
 -- What holds of a search at each step.
 use Rattle.std.specs.Prelude.{◌≡◌, ℕ, ◌<◌, ◌≤◌, Bool, true, false, List, length, drop, get_or, reverse}
 use Rattle.task_base.specs.Plan.{Plan}
-use Rattle.task_base.specs.declared.entry.Entry.{Entry}
 use Rattle.hist_model.specs.Legal.{IsLegal}
 use Rattle.order_model.specs.declared.event.Event.{Event}
 use Rattle.order_model.specs.Orders.{IsBeginning, IsOrder, entries_of, own_events}
 use Rattle.order_search.specs.Arranged.{HasNoOrder, IsWithout}
+use Rattle.order_search.specs.Following.{Follows}
 use Rattle.order_search.specs.Walk.{AreTried, IsTask, Stands, Task, events_in}
 use Rattle.order_search.specs.declared.best.Best.{Best}
+use Rattle.order_search.specs.declared.follower.Follower.{Follower}
 use Rattle.order_search.specs.declared.tries.Tries.{Tries}
 use Rattle.order_search.specs.declared.placed.Placed.{Placed}
 use Rattle.order_search.specs.declared.search.Step.{Step}
@@ -34,17 +35,16 @@ pub record Known : Type 0 where
 abbrev pub known_of : Task → Walk → Known
 known_of task walk = record { task = task; longest = length walk.best.events.items }
 
--- the search stands at its path: all that it has passed by is ruled out, and a replay has followed what it has placed
-pub record IsWalkAt (known : Known) (heads : List ℕ) (path : List Placed) (start : ℕ) (script : Plan) (history : List Entry) : Type 0 where
+-- the search stands at its path: all that it has passed by is ruled out, and what it has placed was followed
+pub record IsWalkAt (known : Known) (heads : List ℕ) (path : List Placed) (start : ℕ) (follower : Follower) : Type 0 where
   pub is : IsTask known.task
   pub stands : Stands known.task known.longest (reverse path) heads
   pub tried : AreTried known.task known.longest (events_in path) heads start
   pub legal : IsLegal known.task.script (entries_of (events_in path))
-  pub script_is : script ≡ known.task.script
-  pub history_is : history ≡ entries_of (events_in path)
+  pub follows : Follows known.task.script (entries_of (events_in path)) follower
 
 abbrev pub IsWalk : Known → Walk → Type 0
-IsWalk known walk = IsWalkAt known walk.heads.items walk.path.items walk.start walk.replay.script walk.replay.history
+IsWalk known walk = IsWalkAt known walk.heads.items walk.path.items walk.start walk.follower
 
 -- of the seats whose heads stand from the start on, and before the end, this is the one whose head comes first; the number of seats
 -- where there is none

@@ -1,9 +1,10 @@
 //! A search for an order of events that each seat of a pool saw for itself: one that their seats and their times allow, and whose
-//! entries are a run of the script.
+//! entries are a run of the script, or a log of its open plan.
 #![tactic(auto)]
 
 mod arranged;
 mod best;
+mod follower;
 mod merge;
 mod orders;
 mod placed;

@@ -1,5 +1,7 @@
-ghost use Rattle.std.specs.Prelude.{◌≡◌, IfOk};
+ghost use Rattle.std.specs.Prelude.{◌≡◌, None, IfOk};
 ghost use Rattle.script_model.specs.Laws.Sound.{IsSound};
+ghost use Rattle.live_core.specs.Opening.{guest_runner};
+ghost use Rattle.order_model.specs.Plans.{plan_of};
 ghost use Rattle.order_search.specs.Arranged.{IsArranged};
 ghost use Rattle.order_search.specs.Search.{IsStep, Stood, task_of};
 ghost use Rattle.order_search.specs.Walk.{IsTask, Task};
@@ -8,6 +10,7 @@ use crate::arranged::Arranged;
 use crate::best::{Best, events_of};
 use crate::tries::Tries;
 use crate::walk::{Walk, next_seat};
+use order_model::PlanKind;
 use std::alloc::{AllocError, Global};
 use task_base::Script;
 
@@ -26,17 +29,19 @@ pub(crate) enum Step {
 pub(crate) fn search(
     alloc: Global,
     script: &Script,
+    kind: PlanKind,
     prefix: bool,
     tries: &Tries,
     most: u64,
 ) -> Result<Arranged, AllocError>
     requires plan { IsSound script.now }
-    requires task { IsTask (task_of script.now prefix tries.now) }
-    ensures { IfOk result (λ found. IsArranged script.now prefix tries.now.events.items found) }
+    requires guest { kind ≡ PlanKind.Open → guest_runner script.now ≡ None }
+    requires task { IsTask (task_of (plan_of kind script.now) prefix tries.now) }
+    ensures { IfOk result (λ found. IsArranged (plan_of kind script.now) prefix tries.now.events.items found) }
 {
-    let mut walk = Walk::open(alloc, script, tries)?;
+    let mut walk = Walk::open(alloc, script, kind, tries)?;
     for _ in 0..most {
-        match go_on(alloc, script, prefix, tries, &mut walk)? {
+        match go_on(alloc, script, kind, prefix, tries, &mut walk)? {
             Step::Goes => {}
             Step::Order => {
                 let events = events_of(alloc, &walk.path)?;
@@ -58,13 +63,15 @@ pub(crate) fn search(
 fn go_on(
     alloc: Global,
     script: &Script,
+    kind: PlanKind,
     prefix: bool,
     tries: &Tries,
     walk: &mut Walk,
 ) -> Result<Step, AllocError>
     ghost task: { Task }
     requires plan { IsSound script.now }
-    requires task { task ≡ task_of script.now prefix tries.now }
+    requires guest { kind ≡ PlanKind.Open → guest_runner script.now ≡ None }
+    requires task { task ≡ task_of (plan_of kind script.now) prefix tries.now }
     requires stood { Stood task walk.old }
     ensures { IfOk result (λ step. IsStep task walk.new step) }
 {
@@ -73,12 +80,12 @@ fn go_on(
     }
     let seat = next_seat(&walk.heads, walk.start, tries.events.len());
     if seat < walk.heads.len() {
-        walk.try_head(alloc, script, tries, seat)?;
+        walk.try_head(alloc, script, kind, tries, seat)?;
         return Ok(Step::Goes);
     }
     walk.best
         .keep(alloc, &tries.events, &walk.path, &walk.heads)?;
-    if walk.back(alloc, script)? {
+    if walk.back(alloc, script, kind)? {
         return Ok(Step::Goes);
     }
     Ok(Step::NoOrder)

@@ -3,7 +3,7 @@ ghost use Rattle.order_text.specs.Plain.{against_line, stuck_text};
 
 use arrayvec::ArrayVec;
 use event_text::event_line;
-use explain_text::cause_text;
+use explain_text::{cause_text, open_cause_text};
 use order_explain::Stuck;
 use order_model::Event;
 use std::alloc::AllocError;
@@ -51,6 +51,10 @@ fn add_against(lines: &mut Lines, place: Place, seat: SeatNo, stuck: &Stuck)
         Stuck::Barred { cause } => {
             add(lines, b"  ");
             add(lines, &cause_text(place, seat, cause));
+        }
+        Stuck::OpenBarred { cause } => {
+            add(lines, b"  ");
+            add(lines, &open_cause_text(place, seat, cause));
         }
         Stuck::Free => add(lines, b"  it may come\n"),
     }

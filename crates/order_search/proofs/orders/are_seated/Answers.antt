@@ -3,7 +3,8 @@ use Rattle.std.specs.Prelude.{nat_le}
 use Rattle.std.specs.List.{list_all}
 use Rattle.task_base.specs.Plan.{Plan}
 use Rattle.order_model.specs.declared.event.Event.{Event}
-use Rattle.order_search.proofs.Seated.{none_unseated, seated_by_test}
+use Rattle.order_search.proofs.EachKind.{none_of_kind}
+use Rattle.order_search.proofs.Seated.{seated_by_test}
 use Rattle.order_search.proofs.orders.are_seated.Goals as goal
 
 pub returns : goal.returns
@@ -14,5 +15,5 @@ returns c =
     record {
       tells = tells;
       seated = λ is. seated_by_test c.args.script.now.workers c.args.seen.now (sym tells ∙ is);
-      none = λ is prefix. none_unseated c.args.script.now prefix c.args.seen.now (sym tells ∙ is);
+      none = λ is kind prefix. none_of_kind kind c.args.script.now prefix c.args.seen.now (sym tells ∙ is);
     }

@@ -1,4 +1,5 @@
 use Rattle.std.proofs.Common.{◌≡◌, ◌+◌, ◌<◌, ◌≤◌, get_or, length, arith, refl, subst, sym, ap, ◌∙◌}
+use Rattle.order_model.specs.Plans.{plan_of}
 use Rattle.order_search.specs.Search.{IsNext, Keeps, Stood, task_of}
 use Rattle.order_search.specs.Walk.{Task}
 use Rattle.order_search.proofs.Steps.{parted_here, walk_more}
@@ -7,8 +8,8 @@ use Rattle.order_search.proofs.search.go_on.Goals as goal
 
 pub keep-requires : goal.keep-requires
 keep-requires g c =
-    let task : g.task ≡ task_of c.args.script.now c.args.prefix c.args.tries.now = c.requires.1.0 in
-    let stood : Stood g.task c.args.walk.now = c.requires.1.1 in
+    let task : g.task ≡ task_of (plan_of c.args.kind c.args.script.now) c.args.prefix c.args.tries.now = c.requires.1.1.0 in
+    let stood : Stood g.task c.args.walk.now = c.requires.1.1.1 in
     record {
       seated = λ k d within.
           let tries : c.deref-2.result.now ≡ g.task.tries = c.deref-2.ensures.value ∙ sym (ap (λ (t : Task). t.tries) task) in
@@ -19,8 +20,8 @@ keep-requires g c =
 
 pub back-requires : goal.back-requires
 back-requires g c =
-    let task : g.task ≡ task_of c.args.script.now c.args.prefix c.args.tries.now = c.requires.1.0 in
-    let stood : Stood g.task c.args.walk.now = c.requires.1.1 in
+    let task : g.task ≡ task_of (plan_of c.args.kind c.args.script.now) c.args.prefix c.args.tries.now = c.requires.1.1.0 in
+    let stood : Stood g.task c.args.walk.now = c.requires.1.1.1 in
     let keeps : Keeps c.deref-2.result.now c.deref-3.result.now c.deref-4.result.now c.args.walk.now.best c.keep.new.self = c.in_ok-keep.ensures in
     let path : c.deref-3.result.now ≡ c.args.walk.now.path.items = c.deref-3.ensures.value in
     let longer : length c.args.walk.now.path.items ≤ length c.keep.new.self.events.items = omega (arith, keeps.longer, ap length path) in
@@ -31,12 +32,15 @@ back-requires g c =
     let end : c.len.result ≡ length g.task.tries = omega (arith, c.len.ensures, c.args.tries.now.events.ok.0, ap (λ (t : Task). length t.tries) task) in (
       c.requires.0,
       (
-        ap (λ (t : Task). t.script) task,
+        c.requires.1.0,
         (
-          walk_more g.task _ _ _ _ _ _ _ keeps.no_less stood.walk_is,
+          ap (λ (t : Task). t.script) task,
           (
-            all_tried c.len.result c.next_seat-seat.result stood.walk_is next_here none end,
-            itself_ruled_out g.task _ _ longer (c.is_order.ensures.none c.if-is_order.false),
+            walk_more g.task _ _ _ _ _ _ keeps.no_less stood.walk_is,
+            (
+              all_tried c.len.result c.next_seat-seat.result stood.walk_is next_here none end,
+              itself_ruled_out g.task _ _ longer (c.is_order.ensures.none c.if-is_order.false),
+            ),
           ),
         ),
       ),
@@ -44,8 +48,8 @@ back-requires g c =
 
 pub returns-then-branch : goal.returns-then-branch
 returns-then-branch g c =
-    let task : g.task ≡ task_of c.args.script.now c.args.prefix c.args.tries.now = c.requires.1.0 in
-    let stood : Stood g.task c.args.walk.now = c.requires.1.1 in
+    let task : g.task ≡ task_of (plan_of c.args.kind c.args.script.now) c.args.prefix c.args.tries.now = c.requires.1.1.0 in
+    let stood : Stood g.task c.args.walk.now = c.requires.1.1.1 in
     let keeps : Keeps c.deref-2.result.now c.deref-3.result.now c.deref-4.result.now c.args.walk.now.best c.keep.new.self = c.in_ok-keep.ensures in
     let tries : c.deref-2.result.now ≡ g.task.tries = c.deref-2.ensures.value ∙ sym (ap (λ (t : Task). t.tries) task) in
     let here : Keeps c.deref-2.result.now c.args.walk.now.path.items c.args.walk.now.heads.items c.args.walk.now.best c.keep.new.self =
@@ -56,8 +60,8 @@ returns-then-branch g c =
 
 pub returns : goal.returns
 returns g c =
-    let task : g.task ≡ task_of c.args.script.now c.args.prefix c.args.tries.now = c.requires.1.0 in
-    let stood : Stood g.task c.args.walk.now = c.requires.1.1 in
+    let task : g.task ≡ task_of (plan_of c.args.kind c.args.script.now) c.args.prefix c.args.tries.now = c.requires.1.1.0 in
+    let stood : Stood g.task c.args.walk.now = c.requires.1.1.1 in
     let keeps : Keeps c.deref-2.result.now c.deref-3.result.now c.deref-4.result.now c.args.walk.now.best c.keep.new.self = c.in_ok-keep.ensures in
     let tries : c.deref-2.result.now ≡ g.task.tries = c.deref-2.ensures.value ∙ sym (ap (λ (t : Task). t.tries) task) in
     let here : Keeps c.deref-2.result.now c.args.walk.now.path.items c.args.walk.now.heads.items c.args.walk.now.best c.keep.new.self =
