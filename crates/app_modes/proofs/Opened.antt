@@ -1,5 +1,5 @@
 -- A verdict on a log of an open plan, and how a command ends that wrote one.
--- Cited by `find_open`, `judge_open`.
+-- Cited by `judge_open`, `explain_open`, `judge_open_log`, `ExplainedOpen`.
 use Rattle.std.proofs.Common.{rules, tests, ◌≡◌, ◌≢◌, ◌≤◌, ℕ, Bool, true, false, List, length, refl, Option, Some, None}
 use Rattle.std.specs.Prelude.{IfErr, Result, Ok, Err}
 use Rattle.task_base.specs.Plan.{Plan, opened}

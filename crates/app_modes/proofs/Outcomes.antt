@@ -1,5 +1,6 @@
 -- What the answers of the parts of a command say together.
--- Cited by `judge`, `execute`, `explain`, `write_generated`, `judge_open`, `run_replies`, `run_script`, `simulate_script`.
+-- Cited by `arrange_open`, `judge`, `judge_open`, `execute`, `explain`, `explain_open`, `write_generated`, `run_replies`, `run_script`,
+-- `simulate_script`.
 use Rattle.std.proofs.Common.{◌≡◌, ℕ, List, Option, Some, refl, sym, ap, inl, inr}
 use Rattle.std.specs.Prelude.{Result, Ok, Err}
 use Rattle.task_base.specs.declared.fault.Fault.{Fault}

@@ -1,5 +1,5 @@
 -- What a verdict on a log says of the text that the log has.
--- Cited by `why`, `judge_log`, `find_open`, `Explained`, `Opened`.
+-- Cited by `why`, `why`, `judge_log`, `judge_open_log`, `Explained`, `Opened`.
 use Rattle.std.proofs.Common.{rules, tests, ◌≡◌, ◌≤◌, ◌+◌, ℕ, Bool, true, false, List, [], ◌∷◌, ◌++◌, length, refl}
 use Rattle.std.proofs.Common.{ap, length-append, Option, Some, None, arith}
 use Rattle.task_base.specs.Plan.{Plan}

@@ -3,6 +3,7 @@ pub mod Failures
 pub mod Judged
 pub mod Opened
 pub mod Explained
+pub mod ExplainedOpen
 pub mod Linted
 pub mod Totals
 pub mod Outcome

@@ -22,7 +22,8 @@ use Rattle.nested_loop.specs.NestText.{nest_text}
 use Rattle.nested_loop.specs.Nest.{IsLegalNest}
 use Rattle.nested_loop.specs.declared.event.Event.{Event}
 use Rattle.command_line.specs.declared.words.Command.{Command}
-use Rattle.command_line.specs.declared.words.Command.TheVariants.{Run, Simulate, Check, CheckOpen, Explain, Arrange, Reply, Trace, Nest, Lint, Generate, Bench}
+use Rattle.command_line.specs.declared.words.Command.TheVariants.{Run, Simulate, Check, CheckOpen, Explain, ExplainOpen, Arrange, ArrangeOpen}
+use Rattle.command_line.specs.declared.words.Command.TheVariants.{Reply, Trace, TraceOpen, Nest, Lint, Generate, Bench}
 use Rattle.command_line.specs.declared.options.Favour.{Favour}
 use Rattle.command_line.specs.declared.options.Favour.TheVariants as favours
 use Rattle.command_line.specs.declared.options.Wide.{Wide}
@@ -32,11 +33,12 @@ use Rattle.app_streams.specs.Taken.{IsReadToEnd, OfBytes, OfTaken}
 use Rattle.app_streams.specs.Written.{WroteAll, WroteFront, output_of}
 use Rattle.app_modes.specs.declared.failure.Failure.{Failure}
 use Rattle.app_modes.specs.declared.failure.Failure.TheVariants.{Common, Linted, NoOrder, GaveUp, BadEvents, BadPlan, NotTraced, BadReplies, BadNest}
-use Rattle.command_line.specs.CommandLine.{IsArrange, IsLint, IsOpenJudge, IsTrace, TakesInput, WritesVerdict, takes_prefix}
+use Rattle.command_line.specs.CommandLine.{IsArrange, IsLint, IsTrace, TakesInput, TakesPlan, WritesVerdict, takes_prefix}
 use Rattle.app_modes.specs.Arranged.{HasArranged, HasBadEvents}
 use Rattle.app_modes.specs.Judged.{HasChecked, HasTraced, IsFoundIn}
 use Rattle.app_modes.specs.Explained.{HasExplained}
-use Rattle.app_modes.specs.Opened.{HasCheckedOpen}
+use Rattle.app_modes.specs.ExplainedOpen.{HasExplainedOpen}
+use Rattle.app_modes.specs.Opened.{HasArrangedOpen, HasCheckedOpen, HasTracedOpen, IsFoundOpen}
 use Rattle.app_modes.specs.Linted.{IsSaid, lint_said}
 use Rattle.app_modes.specs.Totals.{summary_text}
 use Rattle.run_summary.specs.Summary.{generated_totals}
@@ -139,9 +141,12 @@ refusal_of (Some (Simulate seed favour step json)) bytes = script_refusal bytes
 refusal_of (Some (Check prefix)) bytes = script_refusal (script_part bytes)
 refusal_of (Some (CheckOpen prefix)) bytes = plan_refusal (script_read (script_part bytes)) (script_part bytes)
 refusal_of (Some (Explain json prefix)) bytes = script_refusal (script_part bytes)
+refusal_of (Some (ExplainOpen json prefix)) bytes = plan_refusal (script_read (script_part bytes)) (script_part bytes)
 refusal_of (Some (Arrange prefix most)) bytes = script_refusal (script_part bytes)
+refusal_of (Some (ArrangeOpen prefix most)) bytes = plan_refusal (script_read (script_part bytes)) (script_part bytes)
 refusal_of (Some Reply) bytes = reply_refusal (script_read (script_part bytes)) (part_behind bytes)
 refusal_of (Some (Trace full prefix)) bytes = script_refusal (script_part bytes)
+refusal_of (Some (TraceOpen full prefix)) bytes = plan_refusal (script_read (script_part bytes)) (script_part bytes)
 refusal_of (Some Nest) bytes = option_map (λ at. BadNest at.0 at.1) (nest_fault bytes)
 refusal_of (Some (Lint input)) bytes = None
 refusal_of (Some (Generate number size wide)) bytes = None
@@ -165,9 +170,12 @@ Does (Some (Simulate seed favour step json)) told source Holds = OfTaken source 
 Does (Some (Check prefix)) told source Holds = OfTaken source (λ bytes. HasChecked prefix bytes Holds)
 Does (Some (CheckOpen prefix)) told source Holds = OfTaken source (λ bytes. HasCheckedOpen prefix bytes Holds)
 Does (Some (Explain json prefix)) told source Holds = OfTaken source (λ bytes. HasExplained json prefix bytes Holds)
+Does (Some (ExplainOpen json prefix)) told source Holds = OfTaken source (λ bytes. HasExplainedOpen json prefix bytes Holds)
 Does (Some (Arrange prefix most)) told source Holds = OfTaken source (λ bytes. HasArranged prefix bytes Holds)
+Does (Some (ArrangeOpen prefix most)) told source Holds = OfTaken source (λ bytes. HasArrangedOpen prefix bytes Holds)
 Does (Some Reply) told source Holds = OfTaken source (λ bytes. HasReplied bytes told (Holds 0))
 Does (Some (Trace full prefix)) told source Holds = OfTaken source (λ bytes. HasTraced full prefix bytes Holds)
+Does (Some (TraceOpen full prefix)) told source Holds = OfTaken source (λ bytes. HasTracedOpen full prefix bytes Holds)
 Does (Some Nest) told source Holds = OfTaken source (λ bytes. HasNested bytes (Holds 0))
 Does (Some (Lint input)) told source Holds = OfTaken source (λ bytes. IsSaid (lint_said input bytes) Holds)
 Does (Some (Generate number size wide)) told source Holds = Holds 0 (canonical (made number size wide))
@@ -211,6 +219,11 @@ abbrev pub in_common : Result (Unit {0}) Fault → Result (Unit {0}) Failure
 in_common (Ok done) = Ok done
 in_common (Err fault) = Err (Common fault)
 
+-- the log after the script is found wrong at this line, or nowhere, by the rules that the command asks for
+abbrev pub IsFoundBy : Option Command → List ℕ → Option ℕ → Type 0
+IsFoundBy (Some (TraceOpen full prefix)) bytes line = IsFoundOpen prefix bytes line
+IsFoundBy command bytes line = IsFoundIn (takes_prefix command) bytes line
+
 -- the same, where the command may also end in a failure of its own
 abbrev pub EndsIn : Option Command → (ℕ → Option ℕ) → Ends → Ends → Result (Unit {0}) Failure → Type 0
 EndsIn command told source sink (Ok done) = RunsTo command told source sink (Ok done)
@@ -220,9 +233,8 @@ EndsIn command told source sink (Err NoOrder) = IsArrange command × IsReadToEnd
 EndsIn command told source sink (Err GaveUp) = IsArrange command × IsReadToEnd source × Does command told source (IsWritten sink 8)
 EndsIn command told source sink (Err (BadEvents bad)) =
     IsArrange command × IsReadToEnd source × Does command told source (IsWritten sink 3) × OfTaken source (λ bytes. HasBadEvents bytes bad)
-EndsIn command told source sink (Err (BadPlan bad)) = IsOpenJudge command × IsRefused command source (BadPlan bad)
+EndsIn command told source sink (Err (BadPlan bad)) = TakesPlan command × IsRefused command source (BadPlan bad)
 EndsIn command told source sink (Err (NotTraced line)) =
-    IsTrace command × IsReadToEnd source × Does command told source (IsWritten sink 1)
-    × OfTaken source (λ bytes. IsFoundIn (takes_prefix command) bytes (Some line))
+    IsTrace command × IsReadToEnd source × Does command told source (IsWritten sink 1) × OfTaken source (λ bytes. IsFoundBy command bytes (Some line))
 EndsIn command told source sink (Err (BadReplies line reason)) = (command ≡ Some Reply) × IsRefused command source (BadReplies line reason)
 EndsIn command told source sink (Err (BadNest line reason)) = (command ≡ Some Nest) × IsRefused command source (BadNest line reason)

@@ -10,6 +10,7 @@ use crate::failure::Failure;
 use app_streams::{parts_of, script_of, take_all, write, write_text};
 use env_io::{Sink, Source};
 use order_answer::{Answer, answer_events};
+use order_model::PlanKind;
 use std::alloc::Global;
 use task_base::Fault;
 
@@ -36,7 +37,7 @@ pub fn arrange<S: Source, K: Sink>(
     let bytes = take_all(alloc, source)?;
     let (text, events) = parts_of(&bytes);
     let script = script_of(alloc, text)?;
-    match answer_events(alloc, &script, prefix, most, events) {
+    match answer_events(alloc, &script, PlanKind::Closed, prefix, most, events) {
         Ok(Answer::Order { log }) => Ok(write(alloc, sink, &log, false)?),
         Ok(Answer::NoOrder { said }) => {
             write_text(sink, &said)?;

@@ -7,18 +7,21 @@ ghost use Rattle.app_streams.specs.Taken.{TookMore, TookWithin};
 ghost use Rattle.app_modes.specs.Outcome.{EndsIn};
 
 use crate::arrange::arrange;
+use crate::arrange_open::arrange_open;
 use crate::bench::run_generated;
 use crate::check::judge;
+use crate::check_open::judge_open;
 use crate::explain::explain;
+use crate::explain_open::explain_open;
 use crate::failure::{Failure, common};
 use crate::generate::write_generated;
 use crate::lint::lint;
 use crate::nests::run_nest_script;
-use crate::open::judge_open;
 use crate::replies::run_replies;
 use crate::runs::run_script;
 use crate::simulate::simulate_script;
 use crate::trace::trace;
+use crate::trace_open::trace_open;
 use command_line::{Command, command_of};
 use env_io::{Clock, Gate, Sink, Source};
 use std::alloc::Global;
@@ -71,9 +74,12 @@ pub fn execute<R: Threads + Wait + Sync + rt::Clock, S: Source, K: Sink, C: Cloc
         Command::Check { prefix } => common(judge(alloc, prefix, source, sink)),
         Command::CheckOpen { prefix } => judge_open(alloc, prefix, source, sink),
         Command::Explain { json, prefix } => { common(explain(alloc, json, prefix, source, sink)) }
+        Command::ExplainOpen { json, prefix } => explain_open(alloc, json, prefix, source, sink),
         Command::Arrange { prefix, most } => arrange(alloc, prefix, most, source, sink),
+        Command::ArrangeOpen { prefix, most } => arrange_open(alloc, prefix, most, source, sink),
         Command::Reply => run_replies(rt, alloc, source, sink, clock, gate),
         Command::Trace { full, prefix } => trace(alloc, full, prefix, source, sink),
+        Command::TraceOpen { full, prefix } => trace_open(alloc, full, prefix, source, sink),
         Command::Nest => run_nest_script(alloc, source, sink),
         Command::Lint { input } => lint(alloc, input, source, sink),
         Command::Generate { number, size, wide } => {

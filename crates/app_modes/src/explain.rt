@@ -30,10 +30,10 @@ use told_context::facts_of;
 
 /// What is said of the text of a log.
 #[derive(Drop)]
-struct Said {
-    /// The line at which it is found to be no log of a whole run, if there is one.
-    line: Option<u32>,
-    text: Vec<u8>,
+pub(crate) struct Said {
+    /// The line at which it is found to be none that is asked for, if there is one.
+    pub(crate) line: Option<u32>,
+    pub(crate) text: Vec<u8>,
 }
 
 /// Reads a script from the source, to its end, and the log after it, and writes what `judge` writes, and after it why the
@@ -76,6 +76,14 @@ fn all_said(
     ensures { IfOk result (λ all. (said : List ℕ) × IsSaidAt json prefix script.now text.now all.line said × (all.text.items ≡ verdict_text all.line ++ said)) }
 {
     let said = why(alloc, json, prefix, script, text)?;
+    with_verdict(alloc, said)
+}
+
+/// The verdict at its line, and what is said after it. The error is out of memory.
+pub(crate) fn with_verdict(alloc: Global, said: Said) -> Result<Said, AllocError>
+    ensures line { IfOk result (λ all. all.line ≡ said.line) }
+    ensures text { IfOk result (λ all. all.text.items ≡ verdict_text said.line ++ said.text.items) }
+{
     let mut all = Vec::new(alloc);
     all.extend_from_slice(&verdict_text(said.line))?;
     all.extend_from_slice(&said.text)?;
@@ -171,7 +179,12 @@ fn said_of(
 }
 
 /// What is said of a line that is none of a log at its place. The error is out of memory.
-fn said_of_bad(alloc: Global, json: bool, text: &[u8], line: u32) -> Result<Vec<u8>, AllocError>
+pub(crate) fn said_of_bad(
+    alloc: Global,
+    json: bool,
+    text: &[u8],
+    line: u32,
+) -> Result<Vec<u8>, AllocError>
     requires { IsBadLine text.now line }
     ensures { IfOk result (λ said. said.items ≡ said_of_bad json (version_of text.now) line (mistake_at text.now line)) }
 {
@@ -184,8 +197,8 @@ fn said_of_bad(alloc: Global, json: bool, text: &[u8], line: u32) -> Result<Vec<
     }
 }
 
-/// A copy of the bytes. The error is want of memory.
-fn bytes_of(alloc: Global, bytes: &[u8]) -> Result<Vec<u8>, AllocError>
+/// A copy of the bytes. The error is out of memory.
+pub(crate) fn bytes_of(alloc: Global, bytes: &[u8]) -> Result<Vec<u8>, AllocError>
     ensures { IfOk result (λ copy. copy.items ≡ bytes.now) }
 {
     let mut copy = Vec::new(alloc);

@@ -7,11 +7,14 @@
 #![tactic(auto)]
 
 mod arrange;
+mod arrange_open;
 mod bench;
 mod bodies;
 mod check;
+mod check_open;
 mod commands;
 mod explain;
+mod explain_open;
 mod failure;
 mod generate;
 mod judged;
@@ -22,6 +25,7 @@ mod replies;
 mod runs;
 mod simulate;
 mod trace;
+mod trace_open;
 
 pub use commands::execute;
 pub use failure::Failure;

@@ -1,103 +1,61 @@
-//! The mode `check` with `--open`.
-ghost use Rattle.std.specs.Prelude.{◌≡◌, ◌≢◌, ◌≤◌, [], ℕ, Option, Some, None, Err, IfOk, IfErr, false, length};
+//! What the modes with `--open` share: the environment of the open plan of a script, and what a log of it is found to be.
+ghost use Rattle.std.specs.Prelude.{◌≡◌, ◌≤◌, [], None, IfOk, IfErr, length};
 ghost use Rattle.task_base.specs.Plan.{Plan, opened};
 ghost use Rattle.task_base.specs.declared.limits.TheConstants.{MOST_BYTES};
 ghost use Rattle.script_model.specs.Laws.Sound.{IsSound};
 ghost use Rattle.live_core.specs.StandsFor.{StandsFor};
 ghost use Rattle.open_check.specs.Plans.{plan_fault};
-ghost use Rattle.app_modes.specs.Failures.{failure_status, is_verdict};
-ghost use Rattle.app_modes.specs.Opened.{IsOpenAt, open_verdict_on};
-ghost use Rattle.command_line.specs.declared.words.Command.TheVariants.{CheckOpen};
-ghost use Rattle.app_streams.specs.Ends.{ends};
-ghost use Rattle.app_streams.specs.Taken.{TookMore, TookWithin};
-ghost use Rattle.app_modes.specs.Outcome.{EndsIn, IsNotOpened};
+ghost use Rattle.app_modes.specs.Opened.{IsJudgedOpen, open_verdict_on};
+ghost use Rattle.app_modes.specs.Outcome.{IsNotOpened};
 
-use crate::check::{Found, cut_text, verdict_text, write_said};
-use crate::failure::{Failure, common};
-use crate::judged::{Taken, take_text};
-use app_streams::{parts_of, script_of, take_all};
+use crate::failure::Failure;
+use crate::judged::{Judged, Taken, take_text};
 use env_check::Verdict;
-use env_io::{Sink, Source};
-use line_text::add;
 use live_core::LiveCore;
 use open_check::{PlanFault, check_open, check_open_prefix, open_plan};
 use run_log::{lines_before, version_of};
 use std::alloc::{AllocError, Global};
 use task_base::{Entry, Fault, Script};
 
-/// Reads the script of an open plan from the source, to its end, and the log after it, and writes whether the log is one that an
-/// environment of the plan may write, at whose end nobody is at work, or where a prefix is asked for, the beginning of one: what `judge`
-/// writes of a log. That line is in `NotLegal` too. `BadPlan` says why the script is not that of an open plan.
-pub fn judge_open<S: Source, K: Sink>(
-    alloc: Global,
-    prefix: bool,
-    source: &mut S,
-    sink: &mut K,
-) -> Result<(), Failure>
-    ensures outcome { (told : ℕ → Option ℕ) → EndsIn (Some (CheckOpen prefix)) told
-        (ends (S.left source.old) (S.left source.new) (S.faults source.old) (S.faults source.new))
-        (ends (K.holds sink.old) (K.holds sink.new) (K.faults sink.old) (K.faults sink.new)) result }
-    ensures sink_kept { IfErr result (λ failure. is_verdict failure ≡ false → failure_status failure ≢ 5 → sink.new ≡ sink.old) }
-    ensures took_more { result ≡ Err (Failure.Common Fault.TooLarge)
-        → TookMore (ends (S.left source.old) (S.left source.new) (S.faults source.old) (S.faults source.new)) }
-    ensures took_within { result ≢ Err (Failure.Common Fault.TooLarge)
-        → TookWithin (ends (S.left source.old) (S.left source.new) (S.faults source.old) (S.faults source.new)) }
-    ensures source_steady { result ≢ Err (Failure.Common Fault.ReadFault) → S.faults source.new ≡ S.faults source.old }
-    ensures sink_steady { result ≢ Err (Failure.Common Fault.WriteFault) → K.faults sink.new ≡ K.faults sink.old }
+/// The environment of the open plan of a script that was read from the text.
+pub(crate) fn core_of(alloc: Global, script: &Script, text: &[u8]) -> Result<LiveCore, Failure>
+    requires sound { IsSound script.now }
+    requires short { length text.now ≤ MOST_BYTES }
+    ensures stands { IfOk result (λ live. StandsFor (opened script.now) [] live) }
+    ensures right { IfOk result (λ live. plan_fault script.now text.now ≡ None) }
+    ensures bad { IfErr result (IsNotOpened script.now text.now) }
 {
-    let bytes = take_all(alloc, source)?;
-    let (text, log) = parts_of(&bytes);
-    let script = script_of(alloc, text)?;
-    let mut live = core_of(alloc, script, text)?;
-    let found = match find_open(alloc, prefix, &mut live, log) {
-        Ok(found) => found,
+    let copy = match script.copy(alloc) {
+        Ok(copy) => copy,
         Err(error) => return Err(Failure::Common(Fault::NoMemory(error))),
     };
-    let mut said = verdict_text(found.line);
-    add(&mut said, &cut_text(false, found.line, found.cut));
-    common(write_said(sink, found.line, &said))
-}
-
-/// The environment of the open plan of a script that was read from the text.
-fn core_of(alloc: Global, script: Script, text: &[u8]) -> Result<LiveCore, Failure>
-    requires sound { IsSound script }
-    requires short { length text.now ≤ MOST_BYTES }
-    ensures stands { IfOk result (λ live. StandsFor (opened script) [] live) }
-    ensures right { IfOk result (λ live. plan_fault script text.now ≡ None) }
-    ensures bad { IfErr result (IsNotOpened script text.now) }
-{
-    match open_plan(alloc, script, text) {
+    match open_plan(alloc, copy, text) {
         Ok(live) => Ok(live),
         Err(PlanFault::Bad(bad)) => Err(Failure::BadPlan(bad)),
         Err(PlanFault::Memory(error)) => Err(Failure::Common(Fault::NoMemory(error))),
     }
 }
 
-/// Finds whether the text is that of a log which an environment of a plan may write, by one that has done nothing. The error is out of
+/// Judges whether the text is that of a log which an environment of a plan may write, by one that has done nothing. The error is out of
 /// memory.
-fn find_open(
+pub(crate) fn judge_open_log(
     alloc: Global,
     prefix: bool,
     live: &mut LiveCore,
     text: &[u8],
-) -> Result<Found, AllocError>
+) -> Result<Judged, AllocError>
     requires fresh { (plan : Plan) × StandsFor (opened plan) [] live.old }
     requires short { length text.now ≤ MOST_BYTES }
-    ensures { IfOk result (λ found. (plan : Plan) → StandsFor (opened plan) [] live.old → IsOpenAt prefix plan text.now found.line found.cut) }
+    ensures { IfOk result (λ judged. (plan : Plan) → StandsFor (opened plan) [] live.old → IsJudgedOpen prefix plan text.now judged) }
 {
     let (log, cut) = match take_text(alloc, prefix, text)? {
         Taken::Log { log, cut } => (log, cut),
-        Taken::Bad { line } => {
-            return Ok(Found {
-                line: Some(line),
-                cut: None,
-            });
-        }
+        Taken::Bad { line } => return Ok(Judged::Wrong { line, cut: None }),
     };
     match open_verdict_on(prefix, live, log.as_slice()) {
-        Verdict::Legal => Ok(Found { line: None, cut }),
-        Verdict::Illegal { place } => Ok(Found {
-            line: Some(place + 1 + lines_before(version_of(text))),
+        Verdict::Legal => Ok(Judged::Right { log, cut }),
+        Verdict::Illegal { place } => Ok(Judged::Wrong {
+            line: place + 1 + lines_before(version_of(text)),
             cut,
         }),
     }

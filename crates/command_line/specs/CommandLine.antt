@@ -7,7 +7,8 @@ use Rattle.clap.specs.Kinds.{Kinds}
 use Rattle.clap.specs.Faults.{fault_of}
 use Rattle.clap.specs.declared.builder.action.ArgAction.TheVariants.{SetTrue}
 use Rattle.command_line.specs.declared.words.Command.{Command}
-use Rattle.command_line.specs.declared.words.Command.TheVariants.{Run, Simulate, Check, CheckOpen, Explain, Arrange, Reply, Trace, Nest, Lint, Generate, Bench}
+use Rattle.command_line.specs.declared.words.Command.TheVariants.{Run, Simulate, Check, CheckOpen, Explain, ExplainOpen, Arrange, ArrangeOpen}
+use Rattle.command_line.specs.declared.words.Command.TheVariants.{Reply, Trace, TraceOpen, Nest, Lint, Generate, Bench}
 use Rattle.command_line.specs.declared.words.Linted.TheVariants as linted
 use Rattle.command_line.specs.declared.words.Mode.{Mode}
 use Rattle.command_line.specs.declared.words.Mode.TheVariants as modes
@@ -81,18 +82,18 @@ mode_named word =
     else None))))))))))
 
 -- the options that the mode does not take: `run` takes `--step`, `--json`, `--shake` and `--seed`, `simulate` takes `--seed`, `--favour`,
--- `--step`, `--jump` and `--json`, `check` takes `--open` and `--prefix`, `explain` takes `--json` and `--prefix`,
--- `arrange` takes `--prefix` and `--most`, `trace` takes `--full` and `--prefix`, `lint` takes
+-- `--step`, `--jump` and `--json`, `check` takes `--open` and `--prefix`, `explain` takes `--open`, `--json` and `--prefix`,
+-- `arrange` takes `--open`, `--prefix` and `--most`, `trace` takes `--open`, `--full` and `--prefix`, `lint` takes
 -- `--replies` and `--nest`, `gen` takes `--number`, `--size`, `--wide` and the flags that leave something out,
 -- `bench` takes `--number`, `--size` and `--work`, and the others take none (this project's own rule)
 abbrev pub others_than : Mode → Options → Options
 others_than modes.Run o = record o { step = None; json = false; shake = None; seed = None }
 others_than modes.Simulate o = record o { seed = None; favour = None; step = None; jump = false; json = false }
 others_than modes.Check o = record o { is_open = false; prefix = false }
-others_than modes.Explain o = record o { json = false; prefix = false }
-others_than modes.Arrange o = record o { prefix = false; most = None }
+others_than modes.Explain o = record o { is_open = false; json = false; prefix = false }
+others_than modes.Arrange o = record o { is_open = false; prefix = false; most = None }
 others_than modes.Reply o = o
-others_than modes.Trace o = record o { full = false; prefix = false }
+others_than modes.Trace o = record o { is_open = false; full = false; prefix = false }
 others_than modes.Nest o = o
 others_than modes.Lint o = record o { replies = false; nest = false }
 others_than modes.Generate o = record o { number = None; size = None; wide = false; parts = everything }
@@ -120,11 +121,26 @@ abbrev pub check_with : Bool → Bool → Command
 check_with false prefix = Check prefix
 check_with true prefix = CheckOpen prefix
 
+-- the command of the mode `explain`
+abbrev pub explain_with : Bool → Bool → Bool → Command
+explain_with false json prefix = Explain json prefix
+explain_with true json prefix = ExplainOpen json prefix
+
+-- the command of the mode `arrange`, with that many steps
+abbrev pub arrange_by : Bool → Bool → ℕ → Command
+arrange_by false prefix most = Arrange prefix most
+arrange_by true prefix most = ArrangeOpen prefix most
+
 -- the command of the mode `arrange`
 abbrev pub arrange_with : Options → Option Command
 arrange_with o = do
   most ← steps_given o.most
-  Some (Arrange o.prefix most)
+  Some (arrange_by o.is_open o.prefix most)
+
+-- the command of the mode `trace`
+abbrev pub trace_with : Bool → Bool → Bool → Command
+trace_with false full prefix = Trace full prefix
+trace_with true full prefix = TraceOpen full prefix
 
 -- the command of the mode `lint`, whose two flags are not both there (this project's own rule)
 abbrev pub lint_with : Bool → Bool → Option Command
@@ -154,10 +170,10 @@ abbrev pub command_with : Mode → Options → Option Command
 command_with modes.Run o = run_with o
 command_with modes.Simulate o = simulate_with o
 command_with modes.Check o = Some (check_with o.is_open o.prefix)
-command_with modes.Explain o = Some (Explain o.json o.prefix)
+command_with modes.Explain o = Some (explain_with o.is_open o.json o.prefix)
 command_with modes.Arrange o = arrange_with o
 command_with modes.Reply o = Some Reply
-command_with modes.Trace o = Some (Trace o.full o.prefix)
+command_with modes.Trace o = Some (trace_with o.is_open o.full o.prefix)
 command_with modes.Nest o = Some Nest
 command_with modes.Lint o = lint_with o.replies o.nest
 command_with modes.Generate o = generate_with o
@@ -192,9 +208,12 @@ IsInRange (Simulate seed favour step json) = Unit {0}
 IsInRange (Check prefix) = Unit {0}
 IsInRange (CheckOpen prefix) = Unit {0}
 IsInRange (Explain json prefix) = Unit {0}
+IsInRange (ExplainOpen json prefix) = Unit {0}
 IsInRange (Arrange prefix most) = (1 ≤ most) × (most ≤ MOST_STEPS)
+IsInRange (ArrangeOpen prefix most) = (1 ≤ most) × (most ≤ MOST_STEPS)
 IsInRange Reply = Unit {0}
 IsInRange (Trace full prefix) = Unit {0}
+IsInRange (TraceOpen full prefix) = Unit {0}
 IsInRange Nest = Unit {0}
 IsInRange (Lint input) = Unit {0}
 IsInRange (Generate number size wide) = (1 ≤ size) × (size ≤ MOST_SIZE)
@@ -209,9 +228,12 @@ TakesInput (Some (Simulate seed favour step json)) = Unit {0}
 TakesInput (Some (Check prefix)) = Unit {0}
 TakesInput (Some (CheckOpen prefix)) = Unit {0}
 TakesInput (Some (Explain json prefix)) = Unit {0}
+TakesInput (Some (ExplainOpen json prefix)) = Unit {0}
 TakesInput (Some (Arrange prefix most)) = Unit {0}
+TakesInput (Some (ArrangeOpen prefix most)) = Unit {0}
 TakesInput (Some Reply) = Unit {0}
 TakesInput (Some (Trace full prefix)) = Unit {0}
+TakesInput (Some (TraceOpen full prefix)) = Unit {0}
 TakesInput (Some Nest) = Unit {0}
 TakesInput (Some (Lint input)) = Unit {0}
 TakesInput (Some (Generate number size wide)) = ⊥
@@ -226,9 +248,12 @@ ReadsClock (Some (Simulate seed favour step json)) = ⊥
 ReadsClock (Some (Check prefix)) = ⊥
 ReadsClock (Some (CheckOpen prefix)) = ⊥
 ReadsClock (Some (Explain json prefix)) = ⊥
+ReadsClock (Some (ExplainOpen json prefix)) = ⊥
 ReadsClock (Some (Arrange prefix most)) = ⊥
+ReadsClock (Some (ArrangeOpen prefix most)) = ⊥
 ReadsClock (Some Reply) = Unit {0}
 ReadsClock (Some (Trace full prefix)) = ⊥
+ReadsClock (Some (TraceOpen full prefix)) = ⊥
 ReadsClock (Some Nest) = ⊥
 ReadsClock (Some (Lint input)) = ⊥
 ReadsClock (Some (Generate number size wide)) = ⊥
@@ -244,9 +269,12 @@ WritesJson (Some (Simulate seed favour step false)) = ⊥
 WritesJson (Some (Check prefix)) = ⊥
 WritesJson (Some (CheckOpen prefix)) = ⊥
 WritesJson (Some (Explain json prefix)) = ⊥
+WritesJson (Some (ExplainOpen json prefix)) = ⊥
 WritesJson (Some (Arrange prefix most)) = ⊥
+WritesJson (Some (ArrangeOpen prefix most)) = ⊥
 WritesJson (Some Reply) = ⊥
 WritesJson (Some (Trace full prefix)) = ⊥
+WritesJson (Some (TraceOpen full prefix)) = ⊥
 WritesJson (Some Nest) = ⊥
 WritesJson (Some (Lint input)) = ⊥
 WritesJson (Some (Generate number size wide)) = ⊥
@@ -260,9 +288,12 @@ IsJudge (Some (Simulate seed favour step json)) = ⊥
 IsJudge (Some (Check prefix)) = Unit {0}
 IsJudge (Some (CheckOpen prefix)) = ⊥
 IsJudge (Some (Explain json prefix)) = Unit {0}
+IsJudge (Some (ExplainOpen json prefix)) = ⊥
 IsJudge (Some (Arrange prefix most)) = ⊥
+IsJudge (Some (ArrangeOpen prefix most)) = ⊥
 IsJudge (Some Reply) = ⊥
 IsJudge (Some (Trace full prefix)) = Unit {0}
+IsJudge (Some (TraceOpen full prefix)) = ⊥
 IsJudge (Some Nest) = ⊥
 IsJudge (Some (Lint input)) = ⊥
 IsJudge (Some (Generate number size wide)) = ⊥
@@ -271,7 +302,17 @@ IsJudge (Some (Bench number size work)) = ⊥
 -- the command judges a log of an open plan
 abbrev pub IsOpenJudge : Option Command → Type 0
 IsOpenJudge (Some (CheckOpen prefix)) = Unit {0}
+IsOpenJudge (Some (ExplainOpen json prefix)) = Unit {0}
+IsOpenJudge (Some (TraceOpen full prefix)) = Unit {0}
 IsOpenJudge command = ⊥
+
+-- the command takes the script of an open plan
+abbrev pub TakesPlan : Option Command → Type 0
+TakesPlan (Some (CheckOpen prefix)) = Unit {0}
+TakesPlan (Some (ExplainOpen json prefix)) = Unit {0}
+TakesPlan (Some (ArrangeOpen prefix most)) = Unit {0}
+TakesPlan (Some (TraceOpen full prefix)) = Unit {0}
+TakesPlan command = ⊥
 
 -- the command writes its verdict on a log
 abbrev pub WritesVerdict : Option Command → Type 0
@@ -281,9 +322,12 @@ WritesVerdict (Some (Simulate seed favour step json)) = ⊥
 WritesVerdict (Some (Check prefix)) = Unit {0}
 WritesVerdict (Some (CheckOpen prefix)) = Unit {0}
 WritesVerdict (Some (Explain json prefix)) = Unit {0}
+WritesVerdict (Some (ExplainOpen json prefix)) = Unit {0}
 WritesVerdict (Some (Arrange prefix most)) = ⊥
+WritesVerdict (Some (ArrangeOpen prefix most)) = ⊥
 WritesVerdict (Some Reply) = ⊥
 WritesVerdict (Some (Trace full prefix)) = ⊥
+WritesVerdict (Some (TraceOpen full prefix)) = ⊥
 WritesVerdict (Some Nest) = ⊥
 WritesVerdict (Some (Lint input)) = ⊥
 WritesVerdict (Some (Generate number size wide)) = ⊥
@@ -297,11 +341,13 @@ IsLint command = ⊥
 -- the command writes the trace of a log
 abbrev pub IsTrace : Option Command → Type 0
 IsTrace (Some (Trace full prefix)) = Unit {0}
+IsTrace (Some (TraceOpen full prefix)) = Unit {0}
 IsTrace command = ⊥
 
 -- the command looks for an order of events
 abbrev pub IsArrange : Option Command → Type 0
 IsArrange (Some (Arrange prefix most)) = Unit {0}
+IsArrange (Some (ArrangeOpen prefix most)) = Unit {0}
 IsArrange command = ⊥
 
 -- the command takes a log as legal that ends before the script is done, or where somebody is at work
@@ -309,5 +355,7 @@ abbrev pub takes_prefix : Option Command → Bool
 takes_prefix (Some (Check prefix)) = prefix
 takes_prefix (Some (CheckOpen prefix)) = prefix
 takes_prefix (Some (Explain json prefix)) = prefix
+takes_prefix (Some (ExplainOpen json prefix)) = prefix
 takes_prefix (Some (Trace full prefix)) = prefix
+takes_prefix (Some (TraceOpen full prefix)) = prefix
 takes_prefix command = false

@@ -1,11 +1,13 @@
-ghost use Rattle.std.specs.Prelude.{◌≡◌, ◌≢◌, false, None, map, string_bytes, IfOk, IfSome, option_map};
+ghost use Rattle.std.specs.Prelude.{◌≡◌, ◌≢◌, ◌≤◌, false, None, map, string_bytes, IfOk, IfSome, option_map};
 ghost use Rattle.clap.specs.Matches.{found_of, first_value};
 ghost use Rattle.clap.specs.Simple.{app_of, with_rule};
 ghost use Rattle.clap.specs.Values.{kind_of};
 ghost use Rattle.clap.specs.Walk.{rule_of};
 ghost use Rattle.command_line.specs.Options.{options_by, options_of, parts_by};
-ghost use Rattle.command_line.specs.CommandLine.{IsInRange, arrange_with, bench_with, check_with, command_by, command_of, command_with, flag_argument, lint_with};
-ghost use Rattle.command_line.specs.CommandLine.{generate_with, mode_argument, mode_named, others_than, run_with, simulate_with, taskenv, value_argument};
+ghost use Rattle.command_line.specs.CommandLine.{IsInRange, arrange_by, arrange_with, bench_with, check_with, command_by, command_of, command_with};
+ghost use Rattle.command_line.specs.CommandLine.{explain_with, flag_argument, generate_with, lint_with, mode_argument, mode_named, others_than, run_with};
+ghost use Rattle.command_line.specs.CommandLine.{simulate_with, taskenv, trace_with, value_argument};
+ghost use Rattle.command_line.specs.declared.options.TheConstants.{MOST_STEPS};
 
 use crate::options::{
     Favour, Given, Shake, Wide, favour_given, is_bare, is_set, pace_given, seed_given, shake_given,
@@ -55,9 +57,23 @@ pub enum Command {
         /// Whether the log may also end before the script is done.
         prefix: bool,
     },
+    /// Judges the log of the open plan of the script before it, and says why it is illegal.
+    ExplainOpen {
+        /// Whether that is said in JSON, and not in words.
+        json: bool,
+        /// Whether the log may also end where somebody is at work.
+        prefix: bool,
+    },
     /// Looks for an order of what each seat saw of a run of a script, and writes the log that it makes.
     Arrange {
         /// Whether the log may also end before the script is done.
+        prefix: bool,
+        /// How many steps the search takes at most: 1 to 1,000,000,000,000.
+        most: u64,
+    },
+    /// The same of what each seat saw of an environment of the open plan of a script.
+    ArrangeOpen {
+        /// Whether the log may also end where somebody is at work.
         prefix: bool,
         /// How many steps the search takes at most: 1 to 1,000,000,000,000.
         most: u64,
@@ -69,6 +85,13 @@ pub enum Command {
         /// Whether the trace says all that the log and the script tell.
         full: bool,
         /// Whether the log may also end before the script is done.
+        prefix: bool,
+    },
+    /// Writes the trace of the log of the open plan of the script before it.
+    TraceOpen {
+        /// Whether the trace says all that the log and the script tell.
+        full: bool,
+        /// Whether the log may also end where somebody is at work.
         prefix: bool,
     },
     /// Runs a nest script, and writes its log.
@@ -308,17 +331,20 @@ fn others_than<'a>(mode: Mode, given: Given<'a>) -> Given<'a>
             ..given
         },
         Mode::Explain => Given {
+            is_open: false,
             json: false,
             prefix: false,
             ..given
         },
         Mode::Arrange => Given {
+            is_open: false,
             prefix: false,
             most: None,
             ..given
         },
         Mode::Reply | Mode::Nest => given,
         Mode::Trace => Given {
+            is_open: false,
             full: false,
             prefix: false,
             ..given
@@ -359,16 +385,10 @@ fn command_with(mode: Mode, given: Given<'_>) -> Option<Command>
         Mode::Run => run_with(given),
         Mode::Simulate => simulate_with(given),
         Mode::Check => Some(check_with(given.is_open, given.prefix)),
-        Mode::Explain => Some(Command::Explain {
-            json: given.json,
-            prefix: given.prefix,
-        }),
+        Mode::Explain => Some(explain_with(given.is_open, given.json, given.prefix)),
         Mode::Arrange => arrange_with(given),
         Mode::Reply => Some(Command::Reply),
-        Mode::Trace => Some(Command::Trace {
-            full: given.full,
-            prefix: given.prefix,
-        }),
+        Mode::Trace => Some(trace_with(given.is_open, given.full, given.prefix)),
         Mode::Nest => Some(Command::Nest),
         Mode::Lint => lint_with(given.replies, given.nest),
         Mode::Generate => generate_with(given),
@@ -413,15 +433,50 @@ fn check_with(is_open: bool, prefix: bool) -> Command
     }
 }
 
+/// The command of the mode `explain`.
+fn explain_with(is_open: bool, json: bool, prefix: bool) -> Command
+    ensures command { result ≡ explain_with is_open json prefix }
+    ensures in_range { IsInRange result }
+{
+    if is_open {
+        Command::ExplainOpen { json, prefix }
+    } else {
+        Command::Explain { json, prefix }
+    }
+}
+
 /// The command of the mode `arrange`.
 fn arrange_with(given: Given<'_>) -> Option<Command>
     ensures command { result ≡ arrange_with (options_of given.entry) }
     ensures in_range { IfSome result IsInRange }
 {
-    Some(Command::Arrange {
-        prefix: given.prefix,
-        most: steps_given(given.most)?,
-    })
+    let most = steps_given(given.most)?;
+    Some(arrange_by(given.is_open, given.prefix, most))
+}
+
+/// The command of the mode `arrange`, with that many steps.
+fn arrange_by(is_open: bool, prefix: bool, most: u64) -> Command
+    requires { (1 ≤ most) × (most ≤ MOST_STEPS) }
+    ensures command { result ≡ arrange_by is_open prefix most }
+    ensures in_range { IsInRange result }
+{
+    if is_open {
+        Command::ArrangeOpen { prefix, most }
+    } else {
+        Command::Arrange { prefix, most }
+    }
+}
+
+/// The command of the mode `trace`.
+fn trace_with(is_open: bool, full: bool, prefix: bool) -> Command
+    ensures command { result ≡ trace_with is_open full prefix }
+    ensures in_range { IsInRange result }
+{
+    if is_open {
+        Command::TraceOpen { full, prefix }
+    } else {
+        Command::Trace { full, prefix }
+    }
 }
 
 /// The command of the mode `lint`.

@@ -16,7 +16,8 @@ use Rattle.open_check.specs.Plans.{plan_fault}
 use Rattle.open_check.specs.Verdicts.{open_verdict_at, open_verdict_of}
 use Rattle.app_streams.specs.Parts.{part_behind, script_part}
 use Rattle.app_modes.specs.Judged.{line_in, verdict_status}
-use Rattle.app_modes.specs.Opened.{HasCheckedOpen, HasLegalOpenLog, IsLegalOpenLog, IsOpenAt, open_verdict_on}
+use Rattle.app_modes.specs.ExplainedOpen.{HasExplainedOpen, IsSaidOpenAt}
+use Rattle.app_modes.specs.Opened.{HasCheckedOpen, HasLegalOpenLog, HasTracedOpen, IsFoundOpen, IsLegalOpenLog, IsOpenAt, IsTracedOpen, open_verdict_on}
 use Rattle.app_streams.specs.Ends.{Ends}
 use Rattle.app_modes.specs.Outcome.{IsWritten}
 use Rattle.env_app.proofs.LegalLogs.{no_line, none_from, same_text}
@@ -50,14 +51,6 @@ legal_from_verdict true script log verdict = by_first_illegal (first_illegal (op
     by_first_illegal None found is = (sym (first_illegal_none (opened script) log) ∙ ap is_none found, λ other. absurd cc)
 
 -- ---- what was found
-
--- the input begins with the script of an open plan, and the log after it is found wrong at this line, or nowhere
-record IsFoundOpen (prefix : Bool) (bytes : List ℕ) (line : Option ℕ) : Type 0 where
-  script : Plan
-  cut : Option ℕ
-  reads : Reads (script_part bytes) script
-  plan : plan_fault script (script_part bytes) ≡ None
-  found : IsOpenAt prefix script (part_behind bytes) line cut
 
 -- where no line is wrong, the log is such a one
 is_legal_log : (prefix : Bool) (bytes : List ℕ) → IsFoundOpen prefix bytes None → HasLegalOpenLog prefix bytes
@@ -112,3 +105,25 @@ pub check_open_says : (prefix : Bool) (bytes : List ℕ) (sink : Ends) (status :
     → SaysLegalOpen prefix bytes status
 check_open_says prefix bytes sink status h =
     says_of prefix bytes status h.line (record { script = h.script; cut = h.cut; reads = h.reads; plan = h.plan; found = h.found }) h.holds.0
+
+-- what is said of a text goes with the line at which it is found wrong
+found_as_said : (json prefix : Bool) (script : Plan) (text said : List ℕ) (line : Option ℕ) → IsSaidOpenAt json prefix script text line said
+    → (cut : Option ℕ) × IsOpenAt prefix script text line cut
+found_as_said json prefix script text said line (inl h) = (h.cut, inl (h.log, h.of, h.line_is))
+found_as_said json prefix script text said line (inr h) = (None, inr (h.bad, h.is, h.line_is))
+
+pub explain_open_says : (json prefix : Bool) (bytes : List ℕ) (sink : Ends) (status : ℕ) → HasExplainedOpen json prefix bytes (IsWritten sink status)
+    → SaysLegalOpen prefix bytes status
+explain_open_says json prefix bytes sink status h =
+    let found = found_as_said json prefix h.script (part_behind bytes) h.said h.line h.found in
+    says_of prefix bytes status h.line (record { script = h.script; cut = found.0; reads = h.reads; plan = h.plan; found = found.1 }) h.holds.0
+
+traced_status : (full prefix : Bool) (script : Plan) (text : List ℕ) (sink : Ends) (status : ℕ) (line : Option ℕ)
+    → IsTracedOpen full prefix script text (IsWritten sink status) line → status ≡ verdict_status line
+traced_status full prefix script text sink status None traced = traced.3.0
+traced_status full prefix script text sink status (Some line) traced = traced.0
+
+pub trace_open_says : (full prefix : Bool) (bytes : List ℕ) (sink : Ends) (status : ℕ) → HasTracedOpen full prefix bytes (IsWritten sink status)
+    → SaysLegalOpen prefix bytes status
+trace_open_says full prefix bytes sink status h =
+    says_of prefix bytes status h.line h.found (traced_status full prefix h.found.script (part_behind bytes) sink status h.line h.holds)

@@ -3,16 +3,16 @@ use Rattle.std.specs.Prelude.{◌≡◌, ◌≢◌, ◌⊎◌, ◌<◌, ◌≤�
 use Rattle.task_base.specs.declared.limits.TheConstants.{MOST_BYTES}
 use Rattle.task_base.specs.declared.fault.Fault.TheVariants.{NotLegal, BadScript}
 use Rattle.command_line.specs.declared.words.Command.{Command}
-use Rattle.command_line.specs.declared.words.Command.TheVariants.{Run, Simulate, Check, CheckOpen, Explain, Arrange, Reply, Trace, Nest, Lint, Generate, Bench}
+use Rattle.command_line.specs.declared.words.Command.TheVariants.{Run, Simulate, Check, CheckOpen, Explain, ExplainOpen, Arrange, ArrangeOpen}
+use Rattle.command_line.specs.declared.words.Command.TheVariants.{Reply, Trace, TraceOpen, Nest, Lint, Generate, Bench}
 use Rattle.app_streams.specs.Ends.{Ends, Failed, IsSteady}
 use Rattle.app_streams.specs.Taken.{IsReadToEnd, OfBytes, IsWithin, TookMore, TookWithin, OfTaken}
 use Rattle.app_modes.specs.declared.failure.Failure.{Failure}
 use Rattle.app_modes.specs.declared.failure.Failure.TheVariants.{Common, Linted, NoOrder, GaveUp, BadEvents, BadPlan, NotTraced, BadReplies, BadNest}
 use Rattle.app_modes.specs.Failures.{failure_status}
-use Rattle.command_line.specs.CommandLine.{IsArrange, IsJudge, IsLint, IsOpenJudge, IsTrace, TakesInput, WritesVerdict, takes_prefix}
+use Rattle.command_line.specs.CommandLine.{IsArrange, IsJudge, IsLint, IsOpenJudge, IsTrace, TakesInput, TakesPlan, WritesVerdict}
 use Rattle.app_modes.specs.Arranged.{HasBadEvents}
-use Rattle.app_modes.specs.Judged.{IsFoundIn}
-use Rattle.app_modes.specs.Outcome.{Does, IsRefused, IsWritten, IsCutOff, refusal_of}
+use Rattle.app_modes.specs.Outcome.{Does, IsFoundBy, IsRefused, IsWritten, IsCutOff, refusal_of}
 
 -- the status says that the command did its work: 0, and 1 too where a log is judged, or an input, or an order is looked for; then also 8,
 -- where the search gave up, and 3, where there are no events to be ordered
@@ -23,9 +23,12 @@ IsDone (Some (Simulate seed favour step json)) status = status ≡ 0
 IsDone (Some (Check prefix)) status = (status ≡ 0) ⊎ (status ≡ 1)
 IsDone (Some (CheckOpen prefix)) status = (status ≡ 0) ⊎ (status ≡ 1)
 IsDone (Some (Explain json prefix)) status = (status ≡ 0) ⊎ (status ≡ 1)
+IsDone (Some (ExplainOpen json prefix)) status = (status ≡ 0) ⊎ (status ≡ 1)
 IsDone (Some (Arrange prefix most)) status = (status ≡ 0) ⊎ (status ≡ 1) ⊎ (status ≡ 3) ⊎ (status ≡ 8)
+IsDone (Some (ArrangeOpen prefix most)) status = (status ≡ 0) ⊎ (status ≡ 1) ⊎ (status ≡ 3) ⊎ (status ≡ 8)
 IsDone (Some Reply) status = status ≡ 0
 IsDone (Some (Trace full prefix)) status = (status ≡ 0) ⊎ (status ≡ 1)
+IsDone (Some (TraceOpen full prefix)) status = (status ≡ 0) ⊎ (status ≡ 1)
 IsDone (Some Nest) status = status ≡ 0
 IsDone (Some (Lint input)) status = (status ≡ 0) ⊎ (status ≡ 1)
 IsDone (Some (Generate number size wide)) status = status ≡ 0
@@ -88,7 +91,7 @@ IsFailureOf command Linted = IsLint command
 IsFailureOf command NoOrder = IsArrange command
 IsFailureOf command GaveUp = IsArrange command
 IsFailureOf command (BadEvents bad) = IsArrange command
-IsFailureOf command (BadPlan bad) = IsOpenJudge command
+IsFailureOf command (BadPlan bad) = TakesPlan command
 IsFailureOf command (NotTraced line) = IsTrace command
 IsFailureOf command (BadReplies line reason) = command ≡ Some Reply
 IsFailureOf command (BadNest line reason) = command ≡ Some Nest
@@ -103,7 +106,7 @@ IsOfBytes command source NoOrder = Unit {0}
 IsOfBytes command source GaveUp = Unit {0}
 IsOfBytes command source (BadEvents bad) = OfTaken source (λ bytes. HasBadEvents bytes bad)
 IsOfBytes command source (BadPlan bad) = IsRefused command source (BadPlan bad)
-IsOfBytes command source (NotTraced line) = OfTaken source (λ bytes. IsFoundIn (takes_prefix command) bytes (Some line))
+IsOfBytes command source (NotTraced line) = OfTaken source (λ bytes. IsFoundBy command bytes (Some line))
 IsOfBytes command source (BadReplies line reason) = IsRefused command source (BadReplies line reason)
 IsOfBytes command source (BadNest line reason) = IsRefused command source (BadNest line reason)
 

@@ -4,7 +4,8 @@ ghost use Rattle.task_base.specs.declared.entry.Entry.{Entry};
 ghost use Rattle.script_model.specs.Canonical.{canonical};
 ghost use Rattle.run_summary.specs.Summary.{generated_totals};
 ghost use Rattle.env_io.specs.Bytes.{Gains, Rose};
-ghost use Rattle.command_line.specs.declared.words.Command.TheVariants.{Run, Simulate, Check, CheckOpen, Explain, Arrange, Reply, Trace, Nest, Lint, Generate, Bench};
+ghost use Rattle.command_line.specs.declared.words.Command.TheVariants.{Run, Simulate, Check, CheckOpen, Explain, ExplainOpen, Arrange, ArrangeOpen};
+ghost use Rattle.command_line.specs.declared.words.Command.TheVariants.{Reply, Trace, TraceOpen, Nest, Lint, Generate, Bench};
 ghost use Rattle.command_line.specs.declared.options.Favour.{Favour};
 ghost use Rattle.command_line.specs.declared.options.Shake.{Shake};
 ghost use Rattle.command_line.specs.declared.options.Wide.{Wide};
@@ -16,7 +17,8 @@ ghost use Rattle.app_modes.specs.Failures.{note_line};
 ghost use Rattle.app_modes.specs.Arranged.{HasArranged};
 ghost use Rattle.app_modes.specs.Judged.{HasChecked, HasLegalLog, HasTraced, IsLegalLog};
 ghost use Rattle.app_modes.specs.Explained.{HasExplained};
-ghost use Rattle.app_modes.specs.Opened.{HasCheckedOpen, HasLegalOpenLog, IsLegalOpenLog};
+ghost use Rattle.app_modes.specs.ExplainedOpen.{HasExplainedOpen};
+ghost use Rattle.app_modes.specs.Opened.{HasArrangedOpen, HasCheckedOpen, HasLegalOpenLog, HasTracedOpen, IsLegalOpenLog};
 ghost use Rattle.app_modes.specs.Linted.{IsSaid, lint_said};
 ghost use Rattle.app_modes.specs.Totals.{summary_text};
 ghost use Rattle.script_lint.specs.Lint.{fault_line};
@@ -52,12 +54,14 @@ use std::thread::Threads;
 ///   what `run` does of its log, which is the same whenever it is asked for.
 /// - `check` reads a script, the line `%%` and a log from the source, to its end, and writes whether the log is that of a
 ///   whole run of the script, which is status 0, or at which line it is not, which is status 1. With `--prefix` the log may
-///   also end before the script is done. With `--open` the script only declares, and the log is that of whatever an environment of its
-///   open plan did, at whose end nobody is at work, or with `--prefix` it may end anywhere; a script of no open plan is status 3.
+///   also end before the script is done. With `--open`, here and in `explain`, `arrange` and `trace`, the script only declares, and the
+///   log is that of whatever an environment of its open plan did, at whose end nobody is at work, or with `--prefix` it may end anywhere; a
+///   script of no open plan is status 3.
 /// - `explain` does what `check` does, and writes behind the line at which a log is wrong why, in words or with `--json` in JSON.
 /// - `arrange` reads a script, the line `%%` and what each seat saw from the source, to its end, and writes the log of an order of it that
 ///   may have come, which is status 0; or that there is none, which is status 1, or that `--most` steps found none, which is status 8,
-///   and how far an order goes. Where the text is that of no events which seats of the script may have seen, that is status 3. With `--prefix` the log may also end before the script is done.
+///   and how far an order goes. Where the text is that of no events which seats of the script may have seen, that is status 3. With
+///   `--prefix` the log may also end before the script is done.
 /// - `reply` reads a script, the line `%%` and replies from the source, to its end, and does what `run` does of the script
 ///   whose tasks post their replies.
 /// - `trace` reads what `check` reads, and writes the log as trace events, which is status 0, where it is that of a whole
@@ -119,8 +123,9 @@ pub fn run_words<
     ensures verdict { (prefix : Bool) → command_of (map string_bytes words.now) ≡ Some (Check prefix) → (result ≡ 0) ⊎ (result ≡ 1)
         → OfTaken (ends (S.left source.old) (S.left source.new) (S.faults source.old) (S.faults source.new))
         (λ bytes. HasChecked prefix bytes (λ status text. (result ≡ status) × WroteAll (K.holds sink.old) (K.holds sink.new) text)) }
-    // `check --open` answers and writes the same of a log of the script's open plan. 0 comes only where the log is legal for the plan, its
-    // numbers fit, and nobody runs or holds anything at its end, and 1 only where there is none; with `--prefix` nothing is asked of its end.
+    // `check --open` answers and writes the same of a log of the script's open plan, as do `explain --open` and `trace --open`. 0 comes only
+    // where the log is legal for the plan, its numbers fit, and nobody runs or holds anything at its end, and 1 only where there is none;
+    // with `--prefix` nothing is asked of its end.
     ensures open_verdict { (prefix : Bool) → command_of (map string_bytes words.now) ≡ Some (CheckOpen prefix) → (result ≡ 0) ⊎ (result ≡ 1)
         → OfTaken (ends (S.left source.old) (S.left source.new) (S.faults source.old) (S.faults source.new))
         (λ bytes. HasCheckedOpen prefix bytes (λ status text. (result ≡ status) × WroteAll (K.holds sink.old) (K.holds sink.new) text)) }
@@ -135,15 +140,25 @@ pub fn run_words<
     ensures explained { (json prefix : Bool) → command_of (map string_bytes words.now) ≡ Some (Explain json prefix) → (result ≡ 0) ⊎ (result ≡ 1)
         → OfTaken (ends (S.left source.old) (S.left source.new) (S.faults source.old) (S.faults source.new))
         (λ bytes. HasExplained json prefix bytes (λ status text. (result ≡ status) × WroteAll (K.holds sink.old) (K.holds sink.new) text)) }
+    ensures open_explained { (json prefix : Bool) → command_of (map string_bytes words.now) ≡ Some (ExplainOpen json prefix) → (result ≡ 0) ⊎ (result ≡ 1)
+        → OfTaken (ends (S.left source.old) (S.left source.new) (S.faults source.old) (S.faults source.new))
+        (λ bytes. HasExplainedOpen json prefix bytes (λ status text. (result ≡ status) × WroteAll (K.holds sink.old) (K.holds sink.new) text)) }
     // `arrange` writes the log of an order of the events behind the script, with 0; 1 comes only where there is none, and 8 where none
-    // was found.
+    // was found. `arrange --open` does so by the rules of the script's open plan.
     ensures arranged { (prefix : Bool) (most : ℕ) → command_of (map string_bytes words.now) ≡ Some (Arrange prefix most)
         → (result ≡ 0) ⊎ (result ≡ 1) ⊎ (result ≡ 8)
         → OfTaken (ends (S.left source.old) (S.left source.new) (S.faults source.old) (S.faults source.new))
         (λ bytes. HasArranged prefix bytes (λ status text. (result ≡ status) × WroteAll (K.holds sink.old) (K.holds sink.new) text)) }
+    ensures open_arranged { (prefix : Bool) (most : ℕ) → command_of (map string_bytes words.now) ≡ Some (ArrangeOpen prefix most)
+        → (result ≡ 0) ⊎ (result ≡ 1) ⊎ (result ≡ 8)
+        → OfTaken (ends (S.left source.old) (S.left source.new) (S.faults source.old) (S.faults source.new))
+        (λ bytes. HasArrangedOpen prefix bytes (λ status text. (result ≡ status) × WroteAll (K.holds sink.old) (K.holds sink.new) text)) }
     ensures traced { (full prefix : Bool) → command_of (map string_bytes words.now) ≡ Some (Trace full prefix) → (result ≡ 0) ⊎ (result ≡ 1)
         → OfTaken (ends (S.left source.old) (S.left source.new) (S.faults source.old) (S.faults source.new))
         (λ bytes. HasTraced full prefix bytes (λ status text. (result ≡ status) × WroteAll (K.holds sink.old) (K.holds sink.new) text)) }
+    ensures open_traced { (full prefix : Bool) → command_of (map string_bytes words.now) ≡ Some (TraceOpen full prefix) → (result ≡ 0) ⊎ (result ≡ 1)
+        → OfTaken (ends (S.left source.old) (S.left source.new) (S.faults source.old) (S.faults source.new))
+        (λ bytes. HasTracedOpen full prefix bytes (λ status text. (result ≡ status) × WroteAll (K.holds sink.old) (K.holds sink.new) text)) }
     ensures legal_log { IsJudge (command_of (map string_bytes words.now)) → result ≡ 0
         → OfTaken (ends (S.left source.old) (S.left source.new) (S.faults source.old) (S.faults source.new))
         (HasLegalLog (takes_prefix (command_of (map string_bytes words.now)))) }

@@ -3,7 +3,8 @@ use Rattle.std.proofs.Common.{◌≡◌, ℕ, true, false, List, [], ◌∷◌, 
 use Rattle.std.specs.Fmt.{digits}
 use Rattle.clap.proofs.OnLiterals.{clap_on_literals}
 use Rattle.command_line.specs.declared.words.Command.{Command}
-use Rattle.command_line.specs.declared.words.Command.TheVariants.{Run, Simulate, Check, CheckOpen, Explain, Arrange, Reply, Trace, Nest, Lint, Generate, Bench}
+use Rattle.command_line.specs.declared.words.Command.TheVariants.{Run, Simulate, Check, CheckOpen, Explain, ExplainOpen, Arrange, ArrangeOpen}
+use Rattle.command_line.specs.declared.words.Command.TheVariants.{Reply, Trace, TraceOpen, Nest, Lint, Generate, Bench}
 use Rattle.command_line.specs.declared.options.Favour.TheVariants as favours
 use Rattle.command_line.specs.declared.words.Linted.TheVariants as linted
 use Rattle.command_line.specs.Options.{everything, number_named}
@@ -39,6 +40,10 @@ commands =
     ∷ good (codes "--prefix" ∷ codes "check" ∷ []) (Check true)  -- before the mode
     ∷ good (codes "check" ∷ codes "--open" ∷ []) (CheckOpen false)
     ∷ good (codes "--open" ∷ codes "check" ∷ codes "--prefix" ∷ []) (CheckOpen true)
+    ∷ good (codes "explain" ∷ codes "--open" ∷ []) (ExplainOpen false false)
+    ∷ good (codes "explain" ∷ codes "--json" ∷ codes "--open" ∷ codes "--prefix" ∷ []) (ExplainOpen true true)
+    ∷ good (codes "arrange" ∷ codes "--open" ∷ codes "--most" ∷ codes "5" ∷ []) (ArrangeOpen false 5)
+    ∷ good (codes "trace" ∷ codes "--open" ∷ codes "--full" ∷ []) (TraceOpen true false)
     ∷ good (codes "explain" ∷ []) (Explain false false)
     ∷ good (codes "explain" ∷ codes "--json" ∷ []) (Explain true false)
     ∷ good (codes "explain" ∷ codes "--prefix" ∷ []) (Explain false true)
@@ -314,8 +319,10 @@ others_newer_options =
     ∷ bad (codes "arrange" ∷ codes "--most" ∷ codes "0" ∷ [])
     ∷ bad (codes "arrange" ∷ codes "--most" ∷ codes "1000000000001" ∷ [])  -- one more than the greatest
     ∷ bad (codes "run" ∷ codes "--open" ∷ [])
-    ∷ bad (codes "arrange" ∷ codes "--open" ∷ [])
-    ∷ bad (codes "trace" ∷ codes "--open" ∷ [])
+    ∷ bad (codes "simulate" ∷ codes "--open" ∷ [])
+    ∷ bad (codes "reply" ∷ codes "--open" ∷ [])
+    ∷ bad (codes "nest" ∷ codes "--open" ∷ [])
+    ∷ bad (codes "arrange" ∷ codes "--open" ∷ codes "--most" ∷ codes "0" ∷ [])
     ∷ bad (codes "lint" ∷ codes "--open" ∷ [])
     ∷ bad (codes "bench" ∷ codes "--open" ∷ [])
     ∷ []

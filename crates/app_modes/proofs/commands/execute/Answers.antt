@@ -1,5 +1,6 @@
 use Rattle.std.proofs.Common.{Some, ap, sym, ◌∙◌}
-use Rattle.command_line.specs.declared.words.Command.TheVariants.{Simulate, Check, CheckOpen, Explain, Arrange, Trace, Nest, Lint, Generate, Bench}
+use Rattle.command_line.specs.declared.words.Command.TheVariants.{Simulate, Check, CheckOpen, Explain, ExplainOpen}
+use Rattle.command_line.specs.declared.words.Command.TheVariants.{Arrange, ArrangeOpen, Trace, TraceOpen, Nest, Lint, Generate, Bench}
 use Rattle.app_modes.proofs.Outcomes.{ends_asked, ends_in_common}
 use Rattle.app_modes.proofs.commands.execute.Goals as goal
 
@@ -54,3 +55,18 @@ returns-in-Bench-clause-outcome g c =
     ends_in_common _ (Bench c.in-Bench.number c.in-Bench.size c.in-Bench.work) _ _ _ c.run_generated.result _
     (sym c.in-Ok-Some.ensures.command ∙ c.in-Ok-Some.field-0-is ∙ ap Some c.in-Bench.is) c.common-in-Bench.ensures
     (λ told. c.run_generated.ensures.outcome told _)
+
+pub returns-in-ExplainOpen-clause-outcome : goal.returns-in-ExplainOpen-clause-outcome
+returns-in-ExplainOpen-clause-outcome g c =
+    ends_asked _ (ExplainOpen c.in-ExplainOpen.json c.in-ExplainOpen.prefix) _ _ _ _
+    (sym c.in-Ok-Some.ensures.command ∙ c.in-Ok-Some.field-0-is ∙ ap Some c.in-ExplainOpen.is) c.explain_open.ensures.outcome
+
+pub returns-in-ArrangeOpen-clause-outcome : goal.returns-in-ArrangeOpen-clause-outcome
+returns-in-ArrangeOpen-clause-outcome g c =
+    ends_asked _ (ArrangeOpen c.in-ArrangeOpen.prefix c.in-ArrangeOpen.most) _ _ _ _
+    (sym c.in-Ok-Some.ensures.command ∙ c.in-Ok-Some.field-0-is ∙ ap Some c.in-ArrangeOpen.is) c.arrange_open.ensures.outcome
+
+pub returns-in-TraceOpen-clause-outcome : goal.returns-in-TraceOpen-clause-outcome
+returns-in-TraceOpen-clause-outcome g c =
+    ends_asked _ (TraceOpen c.in-TraceOpen.full c.in-TraceOpen.prefix) _ _ _ _
+    (sym c.in-Ok-Some.ensures.command ∙ c.in-Ok-Some.field-0-is ∙ ap Some c.in-TraceOpen.is) c.trace_open.ensures.outcome

@@ -59,3 +59,19 @@ returns-in-Err-clause-arranged g c prefix most arranges status =
       | inl zero ↦ rw arranges at (cause.done (inl zero))
       | inr other ↦ elim other [ inl one ↦ rw arranges at (cause.done (inr one)) | inr eight ↦ rw arranges at (cause.gave_up eight).2 ]
     ]
+
+pub returns-in-Err-clause-open_explained : goal.returns-in-Err-clause-open_explained
+returns-in-Err-clause-open_explained g c json prefix explains status =
+    let cause = returns-in-Err-clause-cause g c in rw explains at (cause.done status)
+
+pub returns-in-Err-clause-open_arranged : goal.returns-in-Err-clause-open_arranged
+returns-in-Err-clause-open_arranged g c prefix most arranges status =
+    let cause = returns-in-Err-clause-cause g c in
+    elim status [
+      | inl zero ↦ rw arranges at (cause.done (inl zero))
+      | inr other ↦ elim other [ inl one ↦ rw arranges at (cause.done (inr one)) | inr eight ↦ rw arranges at (cause.gave_up eight).2 ]
+    ]
+
+pub returns-in-Err-clause-open_traced : goal.returns-in-Err-clause-open_traced
+returns-in-Err-clause-open_traced g c full prefix traces status =
+    let cause = returns-in-Err-clause-cause g c in rw traces at (cause.done status)

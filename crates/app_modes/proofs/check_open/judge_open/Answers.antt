@@ -8,7 +8,7 @@ use Rattle.app_modes.specs.Opened.{IsOpenAt}
 use Rattle.app_modes.specs.Outcome.{in_common}
 use Rattle.app_modes.proofs.Opened.{said_kept, said_not_large}
 use Rattle.app_modes.proofs.Outcomes.{ends_in_common, said_ends}
-use Rattle.app_modes.proofs.open.judge_open.Goals as goal
+use Rattle.app_modes.proofs.check_open.judge_open.Goals as goal
 
 pub returns-clause-outcome : goal.returns-clause-outcome
 returns-clause-outcome g c told =

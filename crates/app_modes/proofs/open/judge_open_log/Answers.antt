@@ -1,7 +1,7 @@
 use Rattle.std.proofs.Common.{arith, ap, length, sym, ◌∙◌}
 use Rattle.app_modes.proofs.Opened.{open_place_within}
 use Rattle.app_modes.proofs.Verdicts.{few_entries, one_before}
-use Rattle.app_modes.proofs.open.find_open.Goals as goal
+use Rattle.app_modes.proofs.open.judge_open_log.Goals as goal
 
 pub open_verdict_on-requires-clause-few : goal.open_verdict_on-requires-clause-few
 open_verdict_on-requires-clause-few c =
