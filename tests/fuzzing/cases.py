@@ -164,8 +164,9 @@ class EditedLog(Case):
 
 class OpenLog(Case):
     """The log of a simulated run is one of the open plan that its script declares, with one worker seat more, the guest's: up to the first
-    entry of the driver after shutdown is done that is no post. What the guest posts next is accepted or refused, and not both; and an
-    edited log is illegal at the edit or later, or legal."""
+    entry of the driver after shutdown is done that is no post. What the guest posts next is accepted or refused, and not both. What the
+    seats saw of it, with times, is arranged again. An edited log is illegal at the edit or later, or legal; where the explanation names an
+    entry, the log goes on past that line with this one."""
 
     def judge(self, lines):
         rng = self.choices()
@@ -180,6 +181,7 @@ class OpenLog(Case):
         begun = entries[: rng.randint(0, len(entries) if late is None else late)]
         want(self.program.run(["check", "--open", "--prefix"], plan + MARK + logs.text_of(begun)), 0, b"legal\n")
         self.judge_guest(rng, plan, guest, begun)
+        self.judge_events(rng, plan, begun)
         busy = logs.busy_seats(entries)
         for edit in rng.sample(logs.EXACT + logs.EARLIEST, 3):
             places = [edit(rng, entries, place, busy) for place in range(len(begun))]
@@ -205,6 +207,15 @@ class OpenLog(Case):
             if entry[1] in ("take", "jobtake") and self.judged(plan, [*begun, [str(guest), *entry[1:]]]) == 0:
                 raise Wrong("the guest takes something", entry)
 
+    def judge_events(self, rng, plan, begun):
+        """The order of what the seats saw, each for itself, at such times."""
+        timed = [(entry[0], f"[{10 * place} {10 * place + rng.randint(0, 15)}] {' '.join(entry)}\n") for place, entry in enumerate(begun)]
+        events = "".join(event for _, event in sorted(timed, key=lambda it: it[0])).encode()
+        told = self.program.run(["arrange", "--open", "--prefix"], plan + MARK + events)
+        if told.status != 0 or sorted(logs.entries_of(told.output)) != sorted(begun):
+            raise Wrong("the events of an open log are not arranged", f"{told.status}, {told.output[:200]}\n{events.decode()}")
+        want(self.program.run(["check", "--open", "--prefix"], plan + MARK + told.output), 0, b"legal\n")
+
     def judged(self, plan, entries):
         return self.program.run(["check", "--open", "--prefix"], plan + MARK + logs.text_of(entries)).status
 
@@ -213,6 +224,20 @@ class OpenLog(Case):
         told = self.program.run(["check", "--open"], plan + MARK + log)
         if told.status not in (0, 1) or told.status == 1 and int(told.output.split()[1]) < place + 1:
             raise Wrong("an open log is illegal before its edit", f"line {place + 1}, {told.output}\n{log.decode()}")
+        if self.program.run(["trace", "--open"], plan + MARK + log).status != told.status:
+            raise Wrong("another verdict of the trace of an open log", told.output)
+        if told.status == 1:
+            self.judge_explanation(plan, edited, told.output)
+
+    def judge_explanation(self, plan, edited, verdict):
+        log = "".join(line + "\n" for line in edited).encode()
+        first, reason, *facts = self.program.run(["explain", "--open"], plan + MARK + log).output.splitlines(keepends=True)
+        if first != verdict or len(reason) > 256 or len(facts) > 10:
+            raise Wrong("another verdict on an open log, or a long explanation", f"{verdict}, {reason}")
+        named = re.search(rb": (\d+ \d+ [a-z].*\n)$", reason)
+        if named and not reason.startswith(b"line "):
+            begun = "".join(line + "\n" for line in edited[: int(verdict.split()[1]) - 1]).encode() + named[1]
+            want(self.program.run(["check", "--open", "--prefix"], plan + MARK + begun), 0, b"legal\n")
 
 
 class DamagedScript(Case):

@@ -20,6 +20,9 @@ NOTES = {
     7: b"too large\n",
 }
 SILENT = {2, 3, 4, 6, 7}
+# A verdict of status 1, and what stands in its place where `trace` finds a log wrong.
+VERDICT = rb"illegal [1-9]\d*\n([^\n]+\n){0,11}|line [1-9]\d*, word [1-9]\d*: [^\n]+\n"
+NOT_TRACED = rb"not legal: line [1-9]\d*\n"
 
 
 class Wrong(Exception):
@@ -43,18 +46,19 @@ def clipped(text):
     return text if len(text) <= 200 else text[:200] + b".."
 
 
-def look_at(told):
-    """Refuses a status outside 0 to 7, and output or notes beside what its status allows."""
+def look_at(told, mode):
+    """Refuses a status outside 0 to 7, and output or notes beside what its status allows in this mode."""
     if told.status not in NOTES:
         raise Wrong(f"status {told.status}", clipped(told.notes))
-    notes = re.fullmatch(NOTES[told.status], told.notes)
+    not_traced = mode == "trace" and told.status == 1
+    notes = re.fullmatch(NOT_TRACED if not_traced else NOTES[told.status], told.notes)
     if not notes:
         raise Wrong(f"notes under status {told.status}", clipped(told.notes))
     if told.status == 3 and REASONS[int(notes[1]) - 1 :][:1] != [notes[2].decode()]:
         raise Wrong("a reason of another name", told.notes)
-    if told.status in SILENT and told.output:
+    if (not_traced or told.status in SILENT) and told.output:
         raise Wrong(f"output under status {told.status}", clipped(told.output))
-    if told.status == 1 and not re.fullmatch(rb"illegal [1-9]\d*\n([^\n]+\n){0,11}|line [1-9]\d*, word [1-9]\d*: [^\n]+\n", told.output):
+    if told.status == 1 and not not_traced and not re.fullmatch(VERDICT, told.output):
         raise Wrong("a verdict of another form", clipped(told.output))
 
 
@@ -76,5 +80,5 @@ class Program:
         except subprocess.TimeoutExpired:
             raise Wrong(f"more than {self.seconds} seconds", " ".join(words)) from None
         told = Told(ran.returncode, ran.stdout or b"", ran.stderr)
-        look_at(told)
+        look_at(told, words[0] if words else "")
         return told
