@@ -11,6 +11,7 @@ import words
 from programs import CannotBuild, Program
 from running import Ran, say
 
+NOT_LEGAL = 1
 BAD_WORDS = 2
 BAD_SCRIPT = 3
 WRITE_FAULT = 5
@@ -92,9 +93,10 @@ def _picture(program: Program, request: words.Request, _launcher: str, home: str
     import picture
 
     logs = inputs.gather_logs(request.files)
-    told = picture.stories(logs, lambda asked, data: running.ask([program.file, *asked], data, 1))
+    by = ["--open"] if "--open" in request.options else []
+    told = picture.stories(logs, lambda asked, data: running.ask([program.file, *asked, *by], data, 1))
     if not told:
-        return _done_plainly(program, request, ["check"], logs[-1][1] if logs else None, home)
+        return _done_plainly(program, request, ["check", *by], logs[-1][1] if logs else None, home)
     import page
 
     is_written = running.write(1, page.page(told))
@@ -184,9 +186,12 @@ def _hints(program: Program, request: words.Request, given: inputs.Given, ran: R
     """What is said behind a run."""
     if ran.status == BAD_WORDS:
         return [words.bad_words_line(request)]
-    data = given.again() if ran.status in (0, BAD_SCRIPT) and program.is_kept else None
+    may_be_open = ran.status == NOT_LEGAL and "--open" in words.MODES[request.mode].options and "--open" not in request.words
+    data = given.again() if (ran.status in (0, BAD_SCRIPT) or may_be_open) and program.is_kept else None
     if data is None:
         return []
+    if may_be_open:
+        return ["the script has no actions: what a process did is judged with --open"] if inputs.only_declares(data) else []
     if ran.status == BAD_SCRIPT:
         import faults
 

@@ -11,6 +11,8 @@ MOST = 33_554_433
 # What fills the place of a file.
 WHAT = {"SCRIPT": "a script", "NEST": "a nest script", "LOG": "a log", "REPLIES": "replies", "EVENTS": "events"}
 MISSING = {"LOG": "a log is missing", "REPLIES": "replies are missing", "EVENTS": "events are missing"}
+# How the lines of a script begin that are no actions.
+DECLARATIONS = ("workers", "groups", "threshold", "runner", "queue", "task", "job")
 # Of what the words in a log are made that are no numbers.
 LETTERS = set("abcdefghijklmnopqrstuvwxyz_-")
 # How events begin, which no log does, nor one in JSON: with two times in brackets, or with a seat and a word.
@@ -58,6 +60,13 @@ def gather(files: list[str], places: list[str]) -> Given:
     if places[1] == "LOG":
         behind = log_text(names[1], behind)
     return Given(script + (b"" if script.endswith(b"\n") or not script else b"\n") + b"%%\n" + behind)
+
+
+def only_declares(data: bytes) -> bool:
+    """Whether the script has no actions, and something stands after it."""
+    script, log = parted(data)
+    words = [line.split() for line in script.decode("latin-1").split("\n")]
+    return bool(log.strip()) and all(it[0] in DECLARATIONS for it in words if it and not it[0].startswith("#"))
 
 
 def parted(data: bytes) -> tuple[bytes, bytes]:

@@ -139,7 +139,7 @@ def case_refused(room: str, home: str, program: str) -> bool:
     return is_same and process.returncode == 5 and words == [
         (2, b"", "taskenv: picture takes SCRIPT, LOG and [LOG]: a.log is one file too many"),
         (2, b"", "taskenv: no such file: b.log; did you mean a.log?"),
-        (2, b"", "taskenv: picture takes no options, and so no --json"),
+        (2, b"", "taskenv: picture takes --open, and no --json"),
     ]
 
 
