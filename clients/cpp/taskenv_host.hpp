@@ -290,7 +290,7 @@ public:
         Held(const Held&) = delete;
         ~Held() {
             lock.unlock();
-            if (seen) host.events->note(seen_by, begun, *seen);
+            if (seen) host.events->note(seen_by, begun, seen_at, *seen);
             for (std::size_t seat = 0; named.any(); named.reset(seat++))
                 if (named.test(seat)) host.parkers[seat].unpark();
         }
@@ -347,9 +347,10 @@ public:
         }
         // Notes an event: at once where it is the driver's or the guest's; and that of this thread's worker once the lock is free.
         void see(std::uint32_t seat, const live_answer& event) {
-            if (seat == 0 || seat == host.guest()) return host.events->note(seat, begun, event);
-            if (seen) host.events->note(seen_by, begun, *seen);
-            seen = event, seen_by = seat;
+            const std::uint64_t now = host.events->now();
+            if (seat == 0 || seat == host.guest()) return host.events->note(seat, begun, now, event);
+            if (seen) host.events->note(seen_by, begun, seen_at, *seen);
+            seen = event, seen_by = seat, seen_at = now;
         }
         void make(const live_request& wanted) {
             must(wanted);
@@ -362,6 +363,7 @@ public:
         const std::uint64_t begun;        // of `events`: a time before all that comes
         std::optional<live_answer> seen;  // what this thread's worker did, to be noted once the lock is free
         std::uint32_t seen_by = 0;
+        std::uint64_t seen_at = 0;        // of `events`: the time after it
         std::unique_lock<std::mutex> lock;
     };
 

@@ -93,9 +93,9 @@ private:
     bool is_cut = false;
 };
 
-// Keeps what each seat saw, a list for each, with two times of each event: it came between them. A worker's events are noted by its own
-// thread, when the lock is free. The driver's seat and the guest's are acted for by several threads, so theirs are noted under the
-// environment's lock, which each of these threads holds as its event comes: that is their order.
+// Keeps what each seat saw, a list for each, with two times of each event: the first from before the lock, the second from right after the
+// event. A worker's events are noted by its own thread, when the lock is free. The driver's seat and the guest's are acted for by several
+// threads, so theirs are noted under the environment's lock, which each of these threads holds as its event comes: that is their order.
 class Events {
 public:
     explicit Events(std::uint32_t seats) : lists(seats) {}
@@ -103,12 +103,12 @@ public:
     std::uint64_t now() const {
         return std::uint64_t(std::chrono::duration_cast<std::chrono::nanoseconds>(std::chrono::steady_clock::now() - beginning).count());
     }
-    // Notes an event that came after this time, and before now.
-    void note(std::uint32_t seat, std::uint64_t from, const live_answer& what) noexcept {
+    // Notes an event that came after the one time, and before the other.
+    void note(std::uint32_t seat, std::uint64_t from, std::uint64_t to, const live_answer& what) noexcept {
         List& list = lists[seat];
         if (list.is_cut) return;
         try {
-            list.events.push_back({from, now(), what});
+            list.events.push_back({from, to, what});
         } catch (const std::bad_alloc&) {
             list.is_cut = true;
         }
