@@ -177,11 +177,12 @@ def _merge(work: Work, kit: str, archives: list[str], merged: str) -> None:
 
 
 def _proved_so_far(sizes: dict[str, int], work: Work, all_minutes: int = MINUTES) -> tuple[int, str]:
-    """How many crates are proved, and that in words. How long the rest takes is told from the sizes of their sources."""
+    """How many crates are proved, and that in words. How long the rest takes is told from the sizes of their sources, and until a twentieth
+    of them is proved from what all usually take."""
     done = sizes.keys() & set(re.findall(r"(?m)^== (\w+)$", work.log().decode("utf-8", "replace")))
     share = sum(sizes[crate] for crate in done) / sum(sizes.values())
     minutes = work.seconds() / 60
-    left = minutes * (1 - share) / share if share else all_minutes
+    left = minutes * (1 - share) / share if share > 0.05 else all_minutes * (1 - share)
     return len(done), f"{len(done)} of {len(sizes)} crates proved after {minutes:.0f} min, some {left:.0f} min left"
 
 
