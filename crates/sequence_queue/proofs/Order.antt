@@ -87,10 +87,10 @@ risen f g n k p loose high child lt goes exchanged = (record { elsewhere = elsew
     around i c up below less =
         grind (arith, exchanged.others c, exchanged.others i, loose.elsewhere i p up, loose.elsewhere p c below less, through (f c) (f p) (f i))
 
--- an exchange with the place below that goes before the other
-pub sunk : (f g : ℕ → Option Rank) (n k b : ℕ) → IsLoosely f n k → IsBelow f k → IsChild b k → b < n
-    → ((d : ℕ) → IsChild d k → d < n → before (f d) (f b) ≡ false) → before (f b) (f k) ≡ true → Exchanged f g k b → IsLoosely g n b × IsBelow g b
-sunk f g n k b loose low child lt least goes exchanged = (record { elsewhere = elsewhere; around = around }, below_it)
+-- an exchange with the first of the places below
+pub lowered : (f g : ℕ → Option Rank) (n k b : ℕ) → IsLoosely f n k → IsChild b k → b < n
+    → ((d : ℕ) → IsChild d k → d < n → before (f d) (f b) ≡ false) → Exchanged f g k b → IsLoosely g n b
+lowered f g n k b loose child lt least exchanged = record { elsewhere = elsewhere; around = around }
   where
     elsewhere : (i c : ℕ) → IsChild c i → c < n → c ≢ b → i ≢ b → before (g c) (g i) ≡ false
     elsewhere i c below less other up =
@@ -99,8 +99,9 @@ sunk f g n k b loose low child lt least goes exchanged = (record { elsewhere = e
     around : (i c : ℕ) → IsChild b i → IsChild c b → c < n → before (g c) (g i) ≡ false
     around i c up below less = rw (one_above b i k up child) (grind (arith, exchanged.others c, loose.elsewhere b c below less))
 
-    below_it : IsBelow g b
-    below_it i up = rw (one_above b i k up child, exchanged.first, exchanged.second) (one_way (f b) (f k) goes)
+-- an exchange with a place below that goes before it
+pub sunk : (f g : ℕ → Option Rank) (k b : ℕ) → IsChild b k → before (f b) (f k) ≡ true → Exchanged f g k b → IsBelow g b
+sunk f g k b child goes exchanged i up = rw (one_above b i k up child, exchanged.first, exchanged.second) (one_way (f b) (f k) goes)
 
 -- an exchange among the first places
 pub first_exchanged : (f g : ℕ → Option Rank) (n m p q : ℕ) → HasFirst f n m → n ≤ m → p < n → q < n → Exchanged f g p q → HasFirst g n m

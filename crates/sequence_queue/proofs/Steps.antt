@@ -1,5 +1,5 @@
 -- What the steps of a heap's methods keep.
--- Cited by 10 functions of `Heap`.
+-- Cited by 11 functions of `Heap`.
 use Rattle.std.proofs.Common.{◌≡◌, ℕ, zero, suc, ◌+◌, ◌-◌, ◌*◌, ◌<◌, ◌≤◌, Bool, true, false, length, Option}
 use Rattle.std.proofs.Common.{Some, None, refl, sym, ap, subst, ◌∙◌, get_or, inl, inr, arith}
 use Rattle.std.specs.Prelude.{◌&&◌, nat_lt, slice_index, slice_index_or, replicate, is_some}
@@ -12,7 +12,7 @@ use Rattle.sequence_queue.specs.declared.rank.Rank.{Rank}
 use Rattle.sequence_queue.specs.Heap.{before, Changed, CountsUp, HasFirst, rank_at, rank_of_number, size, ranks_first, IsChild, IsExchanged, HasPlaces}
 use Rattle.sequence_queue.specs.Heap.{IsPlaced, IsLoosely, IsOrdered, IsAbove, IsBelow, IsFirst, IsFirstBelow, IsHeap, IsHeapBut}
 use Rattle.sequence_queue.proofs.Order.{among, behind, end_is_loose, end_is_whole, first_changed, first_exchanged, first_is_least, gap_is_loose, inserted}
-use Rattle.sequence_queue.proofs.Order.{is_above, is_none, itself, loosened, one_above, one_way, parent, removed, risen, sunk, through, whole}
+use Rattle.sequence_queue.proofs.Order.{is_above, is_none, itself, loosened, lowered, one_above, one_way, parent, removed, risen, sunk, through, whole}
 
 -- behind an exchange of two that are held
 exchanged_placed : (h g : Heap) (p q : ℕ) → IsPlaced h → p < h.held → q < h.held → IsExchanged h g p q → IsPlaced g
@@ -46,20 +46,24 @@ pub climb_ends : (h : Heap) (k : ℕ) (up : Bool) → IsHeapBut h k → IsAbove 
 climb_ends h k up but high says not_up =
     record { placed = but.placed; ordered = whole (rank_at h) h.held k but.loose high (λ i child. sym (says i child) ∙ not_up) }
 
--- behind an exchange with the first of the places below
+-- behind an exchange with the first of the places below, whatever that is
+pub refill_step : (h g : Heap) (k b : ℕ) → IsHeapBut h k → IsFirstBelow h k b → b < h.held → IsExchanged h g k b → IsHeapBut g b
+refill_step h g k b but first within exchange = record {
+  placed = exchanged_placed h g k b but.placed but.within within exchange;
+  loose = subst (λ (n : ℕ). IsLoosely (rank_at g) n b) (sym exchange.held)
+      (lowered (rank_at h) (rank_at g) h.held k b but.loose first.child within (λ d child lt. (first.least d child lt).1) exchange.exchanged);
+  within = rw exchange.held within;
+}
+
+-- where there is none below
+pub refill_ends : (h : Heap) (k b : ℕ) → IsFirstBelow h k b → h.held ≤ b → IsAbove (rank_at h) h.held k
+refill_ends h k b first end c child lt = absurd (omega (arith, end, (first.least c child lt).0))
+
+-- behind an exchange with the first of the places below, where that goes before it
 pub sink_step : (h g : Heap) (k b : ℕ) → IsHeapBut h k → IsBelow (rank_at h) k → IsFirstBelow h k b → (nat_lt b h.held && ranks_first h b k) ≡ true
     → IsExchanged h g k b → IsHeapBut g b × IsBelow (rank_at g) b
 sink_step h g k b but low first goes exchange =
-    let within : b < h.held = grind arith in
-    let step = sunk (rank_at h) (rank_at g) h.held k b but.loose low first.child within (λ d child lt. (first.least d child lt).1) (grind arith)
-    exchange.exchanged in (
-      record {
-        placed = exchanged_placed h g k b but.placed but.within within exchange;
-        loose = subst (λ (n : ℕ). IsLoosely (rank_at g) n b) (sym exchange.held) step.0;
-        within = rw exchange.held within;
-      },
-      step.1,
-    )
+    (refill_step h g k b but first (grind arith) exchange, sunk (rank_at h) (rank_at g) k b first.child (grind arith) exchange.exchanged)
 
 -- of the two places below one, the one at the right where its number goes before that at the left
 pub right_first : (h : Heap) (k : ℕ) → (nat_lt (2 * k + 1 + 1) h.held && ranks_first h (2 * k + 1 + 1) (2 * k + 1)) ≡ true

@@ -85,7 +85,7 @@ impl Heap {
         self.exchange(place, last);
         self.held = last;
         if place < last {
-            self.settle(place);
+            self.refill(place);
         }
     }
 
@@ -140,6 +140,22 @@ impl Heap {
         if self.goes_before(below, place) {
             self.exchange(place, below);
             self.sink(below);
+        }
+    }
+
+    // Moves the number at a place to where its rank belongs: down to the end of the heap first, and up from there. One that comes
+    // from the end mostly belongs there, and on the way down only those below are compared.
+    fn refill(&mut self, place: usize)
+        requires { IsHeapBut self.old place }
+        ensures heap { IsHeap self.new }
+        ensures ranks { self.new.ranks ≡ self.old.ranks }
+    {
+        let below = self.first_below(place);
+        if below < self.held {
+            self.exchange(place, below);
+            self.refill(below);
+        } else {
+            self.climb(place);
         }
     }
 
